@@ -1,0 +1,4 @@
+pub mod LittleEndian
+pub mod Images
+pub mod Records
+pub mod OperationTable

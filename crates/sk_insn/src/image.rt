@@ -1,0 +1,99 @@
+ghost use Rattle.std.specs.Prelude.{◌≡◌, ◌*◌, ◌^◌, ◌<◌, ◌≤◌, length, IfOk, vec_len};
+ghost use Rattle.sk_insn.specs.Instructions.{instruction_of, instructions_in, instructions_of, image_of, Answers};
+
+use crate::Insn;
+use byteorder::{ByteOrder, LittleEndian};
+use std::alloc::{AllocError, Global};
+
+/// The most instructions that a filter may have.
+pub const MOST_INSNS: usize = 4096;
+
+/// Why bytes are no image of a filter, in the order in which it is looked for.
+#[derive(Clone, Copy, Debug, PartialEq, Eq)]
+pub enum ImageFault {
+    /// The length is no multiple of 8.
+    Ragged,
+    /// There is no instruction.
+    Empty,
+    /// There are more than 4096 instructions.
+    TooLong,
+    /// No memory for the instructions.
+    Memory,
+}
+
+impl From<AllocError> for ImageFault {
+    ghost use Rattle.std.specs.Prelude.{◌≡◌};
+    ghost use Rattle.sk_insn.specs.declared.image.ImageFault.TheVariants.{Memory};
+
+    ghost from_gives = { λ _ fault. fault ≡ Memory };
+
+    fn from(_refused: AllocError) -> ImageFault {
+        ImageFault::Memory
+    }
+}
+
+/// The instructions of an image, as seccomp(2) takes them.
+pub fn read_insns(alloc: Global, image: &[u8]) -> Result<Vec<Insn>, ImageFault>
+    ensures exact { Answers (λ insns. insns.items) result (instructions_of image.now) }
+    ensures size { IfOk result (λ insns. (1 ≤ vec_len insns) × (vec_len insns ≤ 4096)) }
+    ensures spelled { IfOk result (λ insns. image_of insns.items ≡ image.now) }
+{
+    if image.len() % 8 != 0 {
+        return Err(ImageFault::Ragged);
+    }
+    let count = image.len() / 8;
+    if count == 0 {
+        return Err(ImageFault::Empty);
+    }
+    if count > MOST_INSNS {
+        return Err(ImageFault::TooLong);
+    }
+    match insns_in(alloc, image, count) {
+        Ok(insns) => Ok(insns),
+        Err(_) => Err(ImageFault::Memory),
+    }
+}
+
+fn insns_in(alloc: Global, image: &[u8], count: usize) -> Result<Vec<Insn>, AllocError>
+    requires { 8 * count ≡ length image.now }
+    ensures insns { IfOk result (λ insns. insns.items ≡ instructions_in count image.now) }
+    ensures count { IfOk result (λ insns. vec_len insns ≡ count) }
+    ensures spelled { IfOk result (λ insns. image_of insns.items ≡ image.now) }
+{
+    let mut insns = Vec::with_capacity(alloc, count)?;
+    let mut rest = image;
+    for _place in 0..count {
+        insns.push(insn_at(rest))?;
+        let (_, after) = rest.split_at(8);
+        rest = after;
+    }
+    Ok(insns)
+}
+
+fn insn_at(bytes: &[u8]) -> Insn
+    requires { 8 ≤ length bytes.now }
+    ensures { result ≡ instruction_of bytes.now }
+{
+    Insn {
+        code: LittleEndian::read_u16(bytes),
+        jt: bytes[2],
+        jf: bytes[3],
+        k: LittleEndian::read_u32(&bytes[4..]),
+    }
+}
+
+/// The image of these instructions.
+pub fn write_insns(alloc: Global, insns: &[Insn]) -> Result<Vec<u8>, AllocError>
+    ensures image { IfOk result (λ image. image.items ≡ image_of insns.now) }
+{
+    let mut image = Vec::with_capacity(alloc, 8 * insns.len())?;
+    for insn in insns {
+        let mut cell = [0u8; 8];
+        LittleEndian::write_u16(&mut cell, insn.code);
+        cell[2] = insn.jt;
+        cell[3] = insn.jf;
+        LittleEndian::write_u32(&mut cell[4..], insn.k);
+        image.extend_from_slice(&cell)?;
+    }
+    Ok(image)
+}

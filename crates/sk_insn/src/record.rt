@@ -1,0 +1,94 @@
+ghost use Rattle.std.specs.Prelude.{◌≡◌, ℕ, ◌+◌, ◌%◌, ◌<◌, ◌≤◌, ◌↔◌, length, drop, take, IsSome, IfSome};
+ghost use Rattle.byteorder.specs.Endian.{little_number};
+
+use byteorder::{ByteOrder, LittleEndian};
+
+/// The bytes of a record.
+pub const RECORD_LEN: usize = 64;
+
+/// What a filter sees of a call: `struct seccomp_data` of seccomp(2). Its architecture is always x86-64.
+#[derive(Clone, Copy, Debug, PartialEq, Eq)]
+pub struct Record {
+    /// The call's number.
+    pub nr: u32,
+    /// The instruction pointer.
+    pub ip: u64,
+    /// The six registers.
+    pub args: [u64; 6],
+}
+
+const ARCHITECTURE: u32 = 0xC000_003E;
+
+impl Record {
+    ghost use Rattle.sk_insn.specs.Record.{record_bytes, word_of, IsRecord};
+
+    /// Its bytes, as `struct seccomp_data` lies in memory.
+    pub fn bytes(&self) -> [u8; 64]
+        ensures bytes { result ≡ record_bytes self.now }
+    {
+        let mut bytes = [0u8; 64];
+        LittleEndian::write_u32(&mut bytes, self.nr);
+        LittleEndian::write_u32(&mut bytes[4..], ARCHITECTURE);
+        LittleEndian::write_u64(&mut bytes[8..], self.ip);
+        LittleEndian::write_u64(&mut bytes[16..], self.args[0]);
+        LittleEndian::write_u64(&mut bytes[24..], self.args[1]);
+        LittleEndian::write_u64(&mut bytes[32..], self.args[2]);
+        LittleEndian::write_u64(&mut bytes[40..], self.args[3]);
+        LittleEndian::write_u64(&mut bytes[48..], self.args[4]);
+        LittleEndian::write_u64(&mut bytes[56..], self.args[5]);
+        bytes
+    }
+
+    /// The word that a filter loads from place `k`.
+    pub fn word(&self, k: u8) -> u32
+        requires aligned { k % 4 ≡ 0 }
+        requires inside { k < 64 }
+        ensures word { word_of self.now k ≡ Some result }
+    {
+        LittleEndian::read_u32(&self.bytes()[k as usize..])
+    }
+
+    /// The record that these bytes are; none where bytes 4 to 7 are not x86-64's.
+    pub fn of(bytes: &[u8; 64]) -> Option<Record>
+        ensures found { IfSome result (λ call. record_bytes call ≡ bytes.now) }
+        ensures only { IsSome result ↔ IsRecord bytes.now }
+    {
+        if u32_at(bytes, 4) != ARCHITECTURE {
+            return None;
+        }
+        Some(Record::read(bytes))
+    }
+
+    fn read(bytes: &[u8; 64]) -> Record
+        requires { little_number 4 (drop 4 bytes.now) ≡ ARCHITECTURE }
+        ensures bytes { record_bytes result ≡ bytes.now }
+        ensures architecture { IsRecord bytes.now }
+    {
+        Record {
+            nr: u32_at(bytes, 0),
+            ip: u64_at(bytes, 8),
+            args: [
+                u64_at(bytes, 16),
+                u64_at(bytes, 24),
+                u64_at(bytes, 32),
+                u64_at(bytes, 40),
+                u64_at(bytes, 48),
+                u64_at(bytes, 56),
+            ],
+        }
+    }
+}
+
+fn u32_at(bytes: &[u8], at: usize) -> u32
+    requires { at + 4 ≤ length bytes.now }
+    ensures { result ≡ little_number 4 (drop at bytes.now) }
+{
+    LittleEndian::read_u32(&bytes[at..])
+}
+
+fn u64_at(bytes: &[u8], at: usize) -> u64
+    requires { at + 8 ≤ length bytes.now }
+    ensures { result ≡ little_number 8 (drop at bytes.now) }
+{
+    LittleEndian::read_u64(&bytes[at..])
+}
