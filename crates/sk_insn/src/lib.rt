@@ -10,3 +10,6 @@ pub use image::{ImageFault, MOST_INSNS, read_insns, write_insns};
 pub use insn::Insn;
 pub use operation::{Arithmetic, Comparison, Operand, Operation, Register, decode};
 pub use record::{RECORD_LEN, Record};
+
+#[cfg(test)]
+mod tests;

@@ -1,0 +1,135 @@
+use crate::{
+    Arithmetic, Comparison, ImageFault, Insn, Operand, Operation, Record, Register, decode,
+    read_insns, write_insns,
+};
+use std::test::Fail;
+
+const RETURN_ALLOW: [u8; 8] = [0x06, 0, 0, 0, 0, 0, 0xff, 0x7f];
+
+/// `ldabs 0`, `jeq 110 +0 +1`, `ret errno/1`, `ret allow`.
+const REFUSES_GETPPID: [u8; 32] = [
+    0x20, 0, 0, 0, 0, 0, 0, 0, 0x15, 0, 0, 1, 0x6e, 0, 0, 0, 0x06, 0, 0, 0, 1, 0, 5, 0, 0x06, 0, 0,
+    0, 0, 0, 0xff, 0x7f,
+];
+
+#[test]
+fn an_image_is_read_and_written(rt: HostRuntime) -> Result<(), Fail> {
+    let alloc = rt.alloc();
+    let Ok(insns) = read_insns(alloc, &REFUSES_GETPPID) else {
+        return Err(Fail::from("no image"));
+    };
+    let wanted = [
+        Insn {
+            code: 0x20,
+            jt: 0,
+            jf: 0,
+            k: 0,
+        },
+        Insn {
+            code: 0x15,
+            jt: 0,
+            jf: 1,
+            k: 110,
+        },
+        Insn {
+            code: 0x06,
+            jt: 0,
+            jf: 0,
+            k: 0x0005_0001,
+        },
+        Insn {
+            code: 0x06,
+            jt: 0,
+            jf: 0,
+            k: 0x7fff_0000,
+        },
+    ];
+    assert_eq!(rt; insns.as_slice(), wanted.as_slice());
+    let image = write_insns(alloc, insns.as_slice())?;
+    assert_eq!(rt; image.as_slice(), REFUSES_GETPPID.as_slice());
+    Ok(())
+}
+
+#[test]
+fn images_are_refused(rt: HostRuntime) -> Result<(), Fail> {
+    let alloc = rt.alloc();
+    let mut long = Vec::new(alloc);
+    for _ in 0..4096 {
+        long.extend_from_slice(&RETURN_ALLOW)?;
+    }
+    assert_eq!(rt; read_insns(alloc, long.as_slice()).is_ok(), true);
+    long.extend_from_slice(&RETURN_ALLOW)?;
+    assert_eq!(rt;
+        read_insns(alloc, long.as_slice()).err(),
+        Some(ImageFault::TooLong)
+    );
+    assert_eq!(rt; read_insns(alloc, &[]).err(), Some(ImageFault::Empty));
+    assert_eq!(rt; read_insns(alloc, &[0; 7]).err(), Some(ImageFault::Ragged));
+    Ok(())
+}
+
+#[test]
+fn a_record_is_its_64_bytes(rt: HostRuntime) -> Result<(), Fail> {
+    let mut bytes = [0u8; 64];
+    bytes[0] = 0x27;
+    bytes[4] = 0x3e;
+    bytes[7] = 0xc0;
+    bytes[16] = 0x11;
+    bytes[20] = 0x22;
+    bytes[63] = 0x33;
+    let call = Record::of(&bytes).ok_or("no record")?;
+    assert_eq!(rt;
+        call,
+        Record {
+            nr: 39,
+            ip: 0,
+            args: [0x22_0000_0011, 0, 0, 0, 0, 0x33 << 56]
+        }
+    );
+    assert_eq!(rt; call.bytes().as_slice(), bytes.as_slice());
+    assert_eq!(rt;
+        [
+            call.word(0),
+            call.word(4),
+            call.word(16),
+            call.word(20),
+            call.word(60)
+        ],
+        [39, 0xC000_003E, 0x11, 0x22, 0x3300_0000]
+    );
+    bytes[7] = 0x40;
+    assert_eq!(rt; Record::of(&bytes), None);
+    Ok(())
+}
+
+#[test]
+fn operations_stand_in_the_table(rt: HostRuntime) {
+    let rows = [
+        (0x20, "ldabs", Operation::LoadRecord),
+        (0x61, "ldxmem", Operation::LoadScratch(Register::Index)),
+        (
+            0x7c,
+            "rshx",
+            Operation::Compute(Arithmetic::ShiftRight, Operand::IndexRegister),
+        ),
+        (
+            0x45,
+            "jset",
+            Operation::Branch(Comparison::CommonBits, Operand::Constant),
+        ),
+        (0x87, "txa", Operation::CopyToAccumulator),
+    ];
+    for (code, name, operation) in rows {
+        assert_eq!(rt; decode(code), Some(operation), "at {name}");
+        assert_eq!(rt;
+            Operation::named(name.as_bytes()),
+            Some(operation),
+            "at {name}"
+        );
+        assert_eq!(rt; operation.code(), code, "at {name}");
+        assert_eq!(rt; operation.name().as_bytes(), name.as_bytes(), "at {name}");
+    }
+    let permitted = (0..=u16::MAX).filter(|code| decode(*code).is_some()).count();
+    assert_eq!(rt; permitted, 41);
+    assert_eq!(rt; Operation::named(b"mod"), None);
+}
