@@ -20,7 +20,7 @@ pub struct Record {
 const ARCHITECTURE: u32 = 0xC000_003E;
 
 impl Record {
-    ghost use Rattle.sk_insn.specs.Record.{record_bytes, word_of, IsRecord};
+    ghost use Rattle.sk_insn.specs.Record.{record_bytes, record_in, record_of, word_of, IsRecord};
 
     /// Its bytes, as `struct seccomp_data` lies in memory.
     pub fn bytes(&self) -> [u8; 64]
@@ -49,7 +49,9 @@ impl Record {
     }
 
     /// The record that these bytes are; none where bytes 4 to 7 are not x86-64's.
+    #[tactic(auto, unfolding(crate::specs::Record::record_of))]
     pub fn of(bytes: &[u8; 64]) -> Option<Record>
+        ensures exact { result ≡ record_of bytes.now }
         ensures found { IfSome result (λ call. record_bytes call ≡ bytes.now) }
         ensures only { IsSome result ↔ IsRecord bytes.now }
     {
@@ -61,6 +63,7 @@ impl Record {
 
     fn read(bytes: &[u8; 64]) -> Record
         requires { little_number 4 (drop 4 bytes.now) ≡ ARCHITECTURE }
+        ensures numbers { result ≡ record_in bytes.now }
         ensures bytes { record_bytes result ≡ bytes.now }
         ensures architecture { IsRecord bytes.now }
     {

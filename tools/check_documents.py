@@ -1,0 +1,99 @@
+#!/usr/bin/env python3
+"""Checks what no prover sees: that the repository stands alone, that each path and command that its
+documents name is there, and that each example in them prints what they say.
+
+Prints each problem, and at last 'N passed, M failed'."""
+import glob
+import os
+import re
+import subprocess
+import sys
+
+ROOT = os.path.dirname(os.path.dirname(os.path.abspath(__file__)))
+COMMANDS = {"run", "check", "eval", "asm", "list"}
+# A rule is said where it is used, in words: no number of a paper stands in for it.
+CITED = re.compile(r"\b(T[1-5]|D([1-9]|1[0-9]|2[01])|W([1-9]|1[0-9]|2[0-7])|R([1-9]|1[0-6])|row [0-9]+)\b|[Dd]ocument 0[0-9]|0[1-4]-(scope|theorems|requests|tables)")
+MACHINE = re.compile(r"(^|[\s'\"`(=])/(work|opt|root|home|tmp)/")
+PATH = re.compile(r"^[A-Za-z0-9_.-]+(/[A-Za-z0-9_.-]+)+/?$|^[A-Za-z0-9_-]+\.(md|txt|rt|antt|sh|py|hex|scenario|asm|bpf|1)$")
+results = {"passed": 0, "failed": 0}
+
+
+def judge(problems, what):
+    results["failed" if problems else "passed"] += 1
+    for problem in problems:
+        print(f"{what}: {problem}")
+
+
+def read(path):
+    with open(os.path.join(ROOT, path), encoding="utf-8", errors="replace") as file:
+        return file.read()
+
+
+def tracked():
+    listed = subprocess.run(["git", "ls-files", "-co", "--exclude-standard"], cwd=ROOT, capture_output=True, text=True, check=True)
+    return [path for path in listed.stdout.splitlines() if os.path.isfile(os.path.join(ROOT, path))]
+
+
+def citations(paths):
+    for path in paths:
+        if os.path.basename(path) == os.path.basename(__file__):
+            continue
+        for number, line in enumerate(read(path).splitlines(), 1):
+            if CITED.search(line):
+                yield f"{path}:{number}: cites a paper by number: {line.strip()[:100]}"
+            if MACHINE.search(line):
+                yield f"{path}:{number}: names a path of a machine: {line.strip()[:100]}"
+
+
+def is_there(path, document):
+    folders = [ROOT, os.path.join(ROOT, os.path.dirname(document)), os.path.join(ROOT, "crates")]
+    return any(glob.glob(os.path.join(folder, path.rstrip("/"))) for folder in folders)
+
+
+def paths_named(document, text):
+    for token in re.findall(r"`([^`\n]+)`", text) + re.findall(r"\]\(([^)#\s]+)\)", text):
+        if PATH.match(token) and "://" not in token and not is_there(token, document):
+            yield f"{document}: names {token}, which is not there"
+
+
+def blocks(text, kind):
+    return re.findall(rf"^```{kind}\n(.*?)^```$", text, re.M | re.S)
+
+
+def commands_named(document, text):
+    for block in blocks(text, "console") + blocks(text, "sh"):
+        for line in block.splitlines():
+            for word, argument in re.findall(r"(?<![\w/.])\./([\w.-]+(?:/[\w.-]+)*)(?: +(\w+))?", line):
+                if not os.access(os.path.join(ROOT, word), os.X_OK):
+                    yield f"{document}: names ./{word}, which is no command"
+                elif word == "skern" and argument and argument not in COMMANDS:
+                    yield f"{document}: names ./skern {argument}, which is no command"
+
+
+def examples(document, text):
+    """Each '$ command' of a console block, with the lines that it is to print."""
+    for block in blocks(text, "console"):
+        for piece in re.split(r"^\$ ", block, flags=re.M)[1:]:
+            command, _, wanted = piece.partition("\n")
+            while command.endswith("\\"):
+                more, _, wanted = wanted.partition("\n")
+                command = command[:-1] + more.lstrip("> ")
+            ran = subprocess.run(["bash", "-c", command], cwd=ROOT, stdin=subprocess.DEVNULL, capture_output=True, text=True, timeout=3000)
+            problems = [] if ran.stdout == wanted else [f"`{command}` prints\n{ran.stdout}and not\n{wanted}{ran.stderr[-400:]}"]
+            judge(problems, f"{document}: example")
+
+
+def main():
+    paths = tracked()
+    judge(list(citations(paths)), "the repository stands alone")
+    for document in (path for path in paths if path.endswith(".md")):
+        text = read(document)
+        judge(list(paths_named(document, text)), "paths")
+        judge(list(commands_named(document, text)), "commands")
+        examples(document, text)
+    print(f"{results['passed']} passed, {results['failed']} failed")
+    return 1 if results["failed"] else 0
+
+
+if __name__ == "__main__":
+    sys.exit(main())
