@@ -1,0 +1,83 @@
+//! Any reader or writer of std, with a count of its failures.
+ghost use Rattle.std.specs.Prelude.{◌≡◌};
+ghost use Rattle.sk_ends.specs.Failures.{count_after};
+
+use crate::sink::Sink;
+use crate::source::Source;
+use std::io;
+use std::io::{ErrorKind, Read, Write};
+
+/// A reader or a writer, and how many of its calls have failed.
+#[derive(Drop)]
+pub struct Counted<T> {
+    inner: T,
+    failures: u64,
+}
+
+impl<T> Counted<T> {
+    ghost use Rattle.sk_ends.specs.Counted.{inner_of, failures_of};
+
+    /// The same end, of which no failure is counted yet.
+    pub fn new(inner: T) -> Self
+        ensures same { inner_of result ≡ inner }
+        ensures none { failures_of result ≡ 0 }
+    {
+        Counted { inner, failures: 0 }
+    }
+
+    /// The end itself, without its count.
+    pub fn into_inner(self) -> T
+        ensures same { result ≡ inner_of self }
+    {
+        self.inner
+    }
+}
+
+impl<T: Read> Source for Counted<T> {
+    ghost use Rattle.sk_ends.specs.Counted.{inner_of, failures_of};
+
+    ghost remaining = { λ c. T.remaining (inner_of c) };
+
+    ghost failed = { λ c. failures_of c };
+
+    fn read(&mut self, buffer: &mut [u8]) -> io::Result<usize> {
+        let answer = self.inner.read(buffer);
+        self.failures = noted(self.failures, &answer);
+        answer
+    }
+
+    fn failures(&self) -> u64 {
+        self.failures
+    }
+}
+
+impl<T: Write> Sink for Counted<T> {
+    ghost use Rattle.sk_ends.specs.Counted.{inner_of, failures_of};
+
+    ghost contents = { λ c. T.contents (inner_of c) };
+
+    ghost failed = { λ c. failures_of c };
+
+    fn write(&mut self, bytes: &[u8]) -> io::Result<usize> {
+        let answer = match self.inner.write(bytes) {
+            Ok(0) if !bytes.is_empty() => Err(io::Error::from(ErrorKind::WriteZero)),
+            answer => answer,
+        };
+        self.failures = noted(self.failures, &answer);
+        answer
+    }
+
+    fn failures(&self) -> u64 {
+        self.failures
+    }
+}
+
+// The count of failures after one more answer.
+fn noted(failures: u64, answer: &io::Result<usize>) -> u64
+    ensures counted { result ≡ count_after failures answer.now }
+{
+    match answer {
+        Ok(_) => failures,
+        Err(_) => failures.saturating_add(1),
+    }
+}
