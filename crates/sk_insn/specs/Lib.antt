@@ -1,3 +1,4 @@
+pub mod Actions
 pub mod Operations
 pub mod Instructions
 pub mod Record

@@ -1,11 +1,13 @@
 //! Instructions of classic BPF, the table of their operations, their images as bytes, and call records.
 #![tactic(auto)]
 
+mod action;
 mod image;
 mod insn;
 mod operation;
 mod record;
 
+pub use action::Action;
 pub use image::{ImageFault, MOST_INSNS, read_insns, write_insns};
 pub use insn::Insn;
 pub use operation::{Arithmetic, Comparison, Operand, Operation, Register, decode};

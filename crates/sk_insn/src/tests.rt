@@ -1,5 +1,5 @@
 use crate::{
-    Arithmetic, Comparison, ImageFault, Insn, Operand, Operation, Record, Register, decode,
+    Action, Arithmetic, Comparison, ImageFault, Insn, Operand, Operation, Record, Register, decode,
     read_insns, write_insns,
 };
 use std::test::Fail;
@@ -129,7 +129,37 @@ fn operations_stand_in_the_table(rt: HostRuntime) {
         assert_eq!(rt; operation.code(), code, "at {name}");
         assert_eq!(rt; operation.name().as_bytes(), name.as_bytes(), "at {name}");
     }
-    let permitted = (0..=u16::MAX).filter(|code| decode(*code).is_some()).count();
+    let permitted = (0..=u16::MAX)
+        .filter(|code| decode(*code).is_some())
+        .count();
     assert_eq!(rt; permitted, 41);
     assert_eq!(rt; Operation::named(b"mod"), None);
+}
+
+#[test]
+fn values_ask_for_actions(rt: HostRuntime) {
+    let rows = [
+        (0x8000_0000, "kill_process", Action::KillProcess, false),
+        (0x0000_0000, "kill_thread", Action::KillThread, false),
+        (0x0003_0000, "trap", Action::Trap, false),
+        (0x0005_0000, "errno", Action::Errno, false),
+        (0x7fc0_0000, "user_notif", Action::UserNotif, false),
+        (0x7ff0_0000, "trace", Action::Trace, false),
+        (0x7ffc_0000, "log", Action::Log, true),
+        (0x7fff_0000, "allow", Action::Allow, true),
+    ];
+    for (value, name, action, performs) in rows {
+        assert_eq!(rt; Action::of(value), action, "at {name}");
+        assert_eq!(rt; Action::of(value + 0xffff), action, "at {name}");
+        assert_eq!(rt; action.value(), Some(value), "at {name}");
+        assert_eq!(rt; action.name().as_bytes(), name.as_bytes(), "at {name}");
+        assert_eq!(rt; Action::named(name.as_bytes()), Some(action), "at {name}");
+        assert_eq!(rt; action.performs(), performs, "at {name}");
+    }
+    for value in [0x0006_0000, 0x7ffd_0000, 0x7ffe_0000, 0xffff_0000] {
+        assert_eq!(rt; Action::of(value), Action::Unknown);
+    }
+    assert_eq!(rt; Action::named(b"unknown"), None);
+    assert_eq!(rt; Action::Unknown.value(), None);
+    assert_eq!(rt; Action::Unknown.performs(), false);
 }

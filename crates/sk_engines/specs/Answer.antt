@@ -1,0 +1,25 @@
+-- What a command answers: a text and an exit status.
+use Rattle.std.specs.Prelude.{ℕ, ◌++◌, nat_lt, if◌then◌else◌, List, [], ◌∷◌, length, codes}
+use Rattle.std.specs.Fmt.{decimal}
+
+pub record Answer : Type 0 where
+  pub text : List ℕ
+  pub status : ℕ
+
+-- a text with status 0: the command did its work
+abbrev pub done : List ℕ → Answer
+done text = record { text = text; status = 0 }
+
+-- a text with status 1: the input is refused
+abbrev pub refused : List ℕ → Answer
+refused text = record { text = text; status = 1 }
+
+-- what is wrong with a line; 0 stands for the whole input
+abbrev pub at_line : ℕ → List ℕ → Answer
+at_line number what =
+    refused (codes "skern: line " ++ (decimal number ++ (codes ": " ++ (what ++ (10 ∷ [])))))
+
+-- a command takes inputs of at most 1,048,576 bytes
+unfoldable pub within_limit : (List ℕ → Answer) → List ℕ → Answer
+within_limit answer input =
+    if nat_lt 1048576 (length input) then at_line 0 (codes "over the limit") else answer input
