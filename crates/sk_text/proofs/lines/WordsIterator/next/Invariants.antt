@@ -1,0 +1,10 @@
+use Rattle.std.proofs.Common.{◌≡◌, length}
+use Rattle.sk_text.specs.Lines.{words_of}
+use Rattle.sk_text.proofs.lines.WordsIterator.next.Given as goal
+
+-- only spaces were passed
+abbrev pub invariant-loop-word : goal.invariant-loop-word
+invariant-loop-word l = words_of l.self.0.now ≡ words_of l.initial.self.0.now
+
+abbrev pub decreases-loop-word : goal.decreases-loop-word
+decreases-loop-word l = length l.self.0.now

@@ -1,0 +1,73 @@
+//! Hexadecimal input: pairs of digits that are bytes.
+ghost use Rattle.std.specs.Prelude.{◌≡◌, IfOk, OnErr, filter, not};
+ghost use Rattle.std.specs.List.{concat};
+ghost use Rattle.sk_text.specs.Lines.{words_of};
+ghost use Rattle.sk_text.specs.Hexadecimal.{Decodes, bytes_in, hex_bytes, hex_text_bytes, is_blank};
+ghost use Rattle.sk_text.specs.declared.hexadecimal.HexFault.TheVariants.{Memory};
+
+use crate::lines::Words;
+use hex::FromHexError;
+use std::alloc::{AllocError, Global};
+
+/// Why digits are no bytes.
+#[derive(Clone, Copy, Debug, PartialEq, Eq)]
+pub enum HexFault {
+    /// A byte is no digit, or their number is odd.
+    NotHexadecimal,
+    /// Memory was refused.
+    Memory,
+}
+
+impl From<AllocError> for HexFault {
+    ghost from_gives = { λ _ fault. fault ≡ Memory };
+
+    fn from(_refused: AllocError) -> HexFault {
+        HexFault::Memory
+    }
+}
+
+/// The bytes that the digits of these words are, joined.
+pub fn bytes_of(alloc: Global, words: Words<'_>) -> Result<Vec<u8>, HexFault>
+    ensures exact { Decodes (λ bytes. bytes.items) result (hex_bytes (words_of words.entry.0.now)) }
+{
+    let digits = joined(alloc, words)?;
+    decoded(alloc, digits.as_slice())
+}
+
+/// The bytes that the digits of a text are, wherever spaces and line ends part them.
+pub fn bytes_of_text(alloc: Global, text: &[u8]) -> Result<Vec<u8>, HexFault>
+    ensures exact { Decodes (λ bytes. bytes.items) result (hex_text_bytes text.now) }
+{
+    let digits = without_blanks(alloc, text)?;
+    decoded(alloc, digits.as_slice())
+}
+
+fn joined(alloc: Global, words: Words<'_>) -> Result<Vec<u8>, AllocError>
+    ensures all { IfOk result (λ digits. digits.items ≡ concat (words_of words.entry.0.now)) }
+{
+    let mut digits = Vec::new(alloc);
+    for word in words {
+        digits.extend_from_slice(word)?;
+    }
+    Ok(digits)
+}
+
+fn without_blanks(alloc: Global, text: &[u8]) -> Result<Vec<u8>, AllocError>
+    ensures rest { IfOk result (λ digits. digits.items ≡ filter (λ byte. not (is_blank byte)) text.now) }
+{
+    text.iter()
+        .copied()
+        .filter(|byte| !matches!(*byte, b' ' | b'\n'))
+        .collect(alloc)
+}
+
+#[tactic(auto, unfolding(crate::specs::Hexadecimal::bytes_in))]
+fn decoded(alloc: Global, digits: &[u8]) -> Result<Vec<u8>, HexFault>
+    ensures exact { Decodes (λ bytes. bytes.items) result (bytes_in digits.now) }
+{
+    match hex::decode(alloc, digits) {
+        Ok(bytes) => Ok(bytes),
+        Err(FromHexError::OutOfMemory) => Err(HexFault::Memory),
+        Err(_) => Err(HexFault::NotHexadecimal),
+    }
+}

@@ -1,0 +1,15 @@
+//! Input texts as bytes: their lines and words, and the numbers, names and hexadecimal digits that
+//! a word may be; and the digits that an output text shows.
+#![tactic(auto)]
+
+mod digits;
+mod hexadecimal;
+mod lines;
+mod numbers;
+mod words;
+
+pub use digits::{HexDigits, hex_half, hex_word};
+pub use hexadecimal::{HexFault, bytes_of, bytes_of_text};
+pub use lines::{Lines, Words, is_passed_over, is_printable};
+pub use numbers::{is_number, number_up_to};
+pub use words::{four_words, is_name, is_word, no_word, one_word, three_words, two_words};
