@@ -1,4 +1,3 @@
-
 use sk_ends::{ReadFault, WriteFault};
 use std::alloc::AllocError;
 

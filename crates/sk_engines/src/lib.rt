@@ -2,8 +2,12 @@
 //! reader and a writer.
 #![tactic(auto)]
 
+mod check;
 mod engine;
+mod eval_input;
 mod fault;
+mod text;
 mod told;
 
+pub use check::check_engine;
 pub use fault::CommandFault;

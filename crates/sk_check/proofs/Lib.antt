@@ -1,0 +1,5 @@
+pub mod Sets
+pub mod PlaceFaults
+pub mod ForwardPass
+pub mod Stages
+pub mod ValidPrograms

@@ -1,0 +1,3 @@
+pub mod LineCount
+pub mod Judgements
+pub mod Ending

@@ -1,0 +1,35 @@
+-- Why an image is refused, and the texts of the refusals.
+use Rattle.std.specs.Prelude.{ℕ, ◌++◌, List, codes, Option, Some, None}
+use Rattle.std.specs.Fmt.{decimal}
+use Rattle.sk_insn.specs.declared.insn.Insn.{Insn}
+use Rattle.sk_insn.specs.declared.image.ImageFault.{ImageFault}
+use Rattle.sk_insn.specs.declared.image.ImageFault.TheVariants.{Ragged, Empty as EmptyImage, TooLong as LongImage, Memory}
+use Rattle.sk_check.specs.declared.fault.CheckFault.{CheckFault}
+use Rattle.sk_check.specs.declared.fault.CheckFault.TheVariants.{Empty, TooLong, Code, Load, DivZero, Shift, Word, Jump, NoReturn, Unstored}
+use Rattle.sk_check.specs.Valid.{IsValid, IsFirstFault}
+
+-- a program is valid, or this is its first fault
+abbrev pub Judges : List Insn → Option CheckFault → Type 0
+Judges program None = IsValid program
+Judges program (Some fault) = IsFirstFault program fault
+
+-- bytes that are no image
+abbrev pub image_fault_text : ImageFault → List ℕ
+image_fault_text Ragged = codes "refused image ragged"
+image_fault_text EmptyImage = codes "refused image empty"
+image_fault_text LongImage = codes "refused image too long"
+image_fault_text Memory = codes "out of memory"
+
+-- a program that is not valid
+abbrev pub check_fault_text : CheckFault → List ℕ
+check_fault_text Empty = codes "refused 1 empty"
+check_fault_text TooLong = codes "refused 2 too long"
+check_fault_text (Code place) = codes "refused 3 code at " ++ decimal place
+check_fault_text (Load place) = codes "refused 4 load at " ++ decimal place
+check_fault_text (DivZero place) = codes "refused 5 divzero at " ++ decimal place
+check_fault_text (Shift place) = codes "refused 6 shift at " ++ decimal place
+check_fault_text (Word place) = codes "refused 7 word at " ++ decimal place
+check_fault_text (Jump place) = codes "refused 8 jump at " ++ decimal place
+check_fault_text NoReturn = codes "refused 9 no return"
+check_fault_text (Unstored place word) =
+    codes "refused 10 unstored at " ++ (decimal place ++ (codes " word " ++ decimal word))

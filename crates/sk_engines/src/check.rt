@@ -1,0 +1,114 @@
+//! `skern check`: whether an image is a valid program, and its first fault where it is not.
+ghost use Rattle.std.specs.Prelude.{◌≡◌, ◌++◌, IfOk, IfSome, Option, codes, length};
+ghost use Rattle.std.specs.Fmt.{decimal};
+ghost use Rattle.sk_check.specs.declared.fault.CheckFault.{CheckFault};
+ghost use Rattle.sk_engines.specs.Answer.{done, refused, line};
+ghost use Rattle.sk_engines.specs.Judging.{Judges, image_fault_text, check_fault_text};
+ghost use Rattle.sk_engines.specs.CheckCommand.{IsCheckAnswer, AnswersDigits, AnswersImage, judged_answer};
+ghost use Rattle.sk_engines.specs.Engine.{Ends, CountsReads, CountsWrites};
+ghost use Rattle.sk_engines.specs.Told.{answer_of};
+
+use crate::engine::{MOST_BYTES, deliver, input};
+use crate::fault::CommandFault;
+use crate::text::{push_check_fault, push_image_fault};
+use crate::told::Told;
+use sk_check::{CheckFault, check};
+use sk_ends::{Sink, Source};
+use sk_insn::{ImageFault, Insn, read_insns};
+use sk_text::{HexFault, bytes_of_text};
+use std::alloc::{AllocError, Global};
+
+/// Runs `skern check` over a reader and a writer. Nothing goes out before the input was read whole.
+pub fn check_engine<R: Source, W: Sink>(
+    alloc: Global,
+    reader: &mut R,
+    writer: &mut W,
+) -> Result<u8, CommandFault>
+    ensures told { IfSome (R.remaining reader.old) (λ input.
+        Ends (IsCheckAnswer input) result (W.contents writer.old) (W.contents writer.new)) }
+    ensures reads { CountsReads result (R.failed reader.old) (R.failed reader.new) }
+    ensures writes { CountsWrites result (W.failed writer.old) (W.failed writer.new) }
+{
+    let input = input(alloc, reader)?;
+    let told = check_answer(alloc, &input)?;
+    deliver(writer, &told)
+}
+
+#[tactic(auto, unfolding(crate::specs::Answer::WithinLimit))]
+fn check_answer(alloc: Global, input: &[u8]) -> Result<Told, AllocError>
+    ensures answer { IfOk result (λ told. IsCheckAnswer input.now (answer_of told)) }
+{
+    if input.len() > MOST_BYTES {
+        return Told::at_line(alloc, 0, "over the limit");
+    }
+    digits_answer(alloc, input)
+}
+
+fn digits_answer(alloc: Global, input: &[u8]) -> Result<Told, AllocError>
+    ensures answer { IfOk result (λ told. AnswersDigits input.now (answer_of told)) }
+{
+    match bytes_of_text(alloc, input) {
+        Ok(image) => image_answer(alloc, &image),
+        Err(HexFault::NotHexadecimal) => Told::refused(alloc, "skern: not hexadecimal"),
+        Err(HexFault::Memory) => Err(AllocError),
+    }
+}
+
+fn image_answer(alloc: Global, image: &[u8]) -> Result<Told, AllocError>
+    ensures answer { IfOk result (λ told. AnswersImage image.now (answer_of told)) }
+{
+    match read_insns(alloc, image) {
+        Ok(insns) => program_answer(alloc, insns),
+        Err(ImageFault::Memory) => Err(AllocError),
+        Err(fault) => image_refused(alloc, fault),
+    }
+}
+
+/// The line that refuses bytes that are no image.
+pub fn image_refused(alloc: Global, fault: ImageFault) -> Result<Told, AllocError>
+    ensures answer { IfOk result (λ told. answer_of told ≡ refused (line (image_fault_text fault))) }
+{
+    let mut text = String::new(alloc);
+    push_image_fault(&mut text, fault)?;
+    text.push_str("\n")?;
+    Ok(Told { text, status: 1 })
+}
+
+#[tactic(auto, using(crate::proofs::Judgements::judged_so))]
+fn program_answer(alloc: Global, insns: Vec<Insn>) -> Result<Told, AllocError>
+    ensures answer { IfOk result (λ told. (fault : Option CheckFault) ×
+        Judges insns.items fault × (answer_of told ≡ judged_answer (length insns.items) fault)) }
+{
+    let count = insns.len();
+    let fault = judged(insns);
+    match fault {
+        None => accepted(alloc, count),
+        Some(fault) => program_refused(alloc, fault),
+    }
+}
+
+/// The first fault of a program, if it has one.
+pub fn judged(insns: Vec<Insn>) -> Option<CheckFault>
+    ensures judged { Judges insns.items result }
+{
+    match check(insns) {
+        Ok(_) => None,
+        Err((_, fault)) => Some(fault),
+    }
+}
+
+fn accepted(alloc: Global, count: usize) -> Result<Told, AllocError>
+    ensures answer { IfOk result (λ told. answer_of told ≡ done (line (codes "ok " ++ decimal count))) }
+{
+    let text = format!(in alloc; "ok {count}\n")?;
+    Ok(Told::done(text))
+}
+
+fn program_refused(alloc: Global, fault: CheckFault) -> Result<Told, AllocError>
+    ensures answer { IfOk result (λ told. answer_of told ≡ refused (line (check_fault_text fault))) }
+{
+    let mut text = String::new(alloc);
+    push_check_fault(&mut text, fault)?;
+    text.push_str("\n")?;
+    Ok(Told { text, status: 1 })
+}
