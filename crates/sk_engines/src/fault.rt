@@ -1,14 +1,18 @@
 use sk_ends::{ReadFault, WriteFault};
 use std::alloc::AllocError;
+use thiserror::Error;
 
-/// Why a command could not end.
-#[derive(Clone, Copy, Debug, PartialEq, Eq)]
+/// Why a command could not end. Its display text is the line that the program writes.
+#[derive(Clone, Copy, Debug, PartialEq, Eq, Error)]
 pub enum CommandFault {
     /// A read failed.
+    #[error("skern: reading failed")]
     Read,
     /// A write failed, or took no byte.
+    #[error("skern: writing failed")]
     Write,
     /// Memory was refused.
+    #[error("skern: out of memory")]
     Memory,
 }
 

@@ -1,0 +1,56 @@
+//! The program over any reader and writer.
+ghost use Rattle.std.specs.Prelude.{◌≡◌};
+
+use crate::word::{Word, word_in};
+use arrayvec::ArrayString;
+use sk_ends::{Sink, Source, send};
+use sk_engines::{CommandFault, check_engine};
+use std::alloc::Global;
+use std::fmt::Write;
+
+const USAGE: &str = "usage: skern run|check|eval|asm|list\n";
+
+const REFUSED: u8 = 2;
+
+const FAILED: u8 = 3;
+
+/// Does what the words say, which leave out the program's name, and gives the exit status: 0 where
+/// the work is done, 1 where the input is refused, 2 for words that say nothing, 3 where memory or a
+/// device failed. Every text goes to the writer.
+pub fn command<R: Source, W: Sink>(
+    alloc: Global,
+    words: &[String],
+    reader: &mut R,
+    writer: &mut W,
+) -> u8 {
+    match done(alloc, words, reader, writer) {
+        Ok(status) => status,
+        Err(fault) => failed(writer, fault),
+    }
+}
+
+/// Writes the fault's text once, without memory, and gives its exit status. Where this write fails
+/// too, nothing more can be said.
+pub fn failed<W: Sink>(writer: &mut W, fault: CommandFault) -> u8
+    ensures status { result ≡ 3 }
+{
+    let mut line = ArrayString::<64>::new();
+    let _ = writeln!(line, "{fault}");
+    let _ = send(writer, line.as_bytes());
+    FAILED
+}
+
+fn done<R: Source, W: Sink>(
+    alloc: Global,
+    words: &[String],
+    reader: &mut R,
+    writer: &mut W,
+) -> Result<u8, CommandFault> {
+    match word_in(alloc, words)? {
+        Some(Word::Check) => check_engine(alloc, reader, writer),
+        None => {
+            send(writer, USAGE.as_bytes())?;
+            Ok(REFUSED)
+        }
+    }
+}

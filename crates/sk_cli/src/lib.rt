@@ -1,0 +1,11 @@
+//! The program `skern` as a function of its words, a reader and a writer.
+#![tactic(auto)]
+
+mod cli;
+mod word;
+
+pub use cli::{command, failed};
+pub use sk_engines::{CommandFault, check_engine};
+
+#[cfg(test)]
+mod tests;

@@ -1,0 +1,34 @@
+//! The one word that says what the program does.
+use clap::Command;
+use clap::error::ErrorKind;
+use std::alloc::{AllocError, Global};
+
+/// What the program does.
+#[derive(Clone, Copy, Debug, PartialEq, Eq)]
+pub enum Word {
+    Check,
+}
+
+/// What these words say, or none where they are not one word that says something.
+pub fn word_in(alloc: Global, words: &[String]) -> Result<Option<Word>, AllocError> {
+    if words.len() != 1 {
+        return Ok(None);
+    }
+    let parser = Command::new(alloc, "skern")
+        .no_binary_name(true)
+        .subcommand(Command::new(alloc, "check"))?;
+    match parser.try_get_matches_from(words) {
+        Ok(matches) => Ok(named(matches.subcommand_name())),
+        Err(error) => match error.kind() {
+            ErrorKind::OutOfMemory => Err(AllocError),
+            _ => Ok(None),
+        },
+    }
+}
+
+fn named(name: Option<&str>) -> Option<Word> {
+    match name {
+        Some("check") => Some(Word::Check),
+        _ => None,
+    }
+}

@@ -1,0 +1,34 @@
+//! The program `skern`, over the standard streams.
+#![tactic(auto)]
+
+use sk_cli::{CommandFault, command, failed};
+use sk_ends::Counted;
+use std::env::Env;
+use std::io::ErrorKind;
+use std::process::ExitCode;
+use std::{env, io};
+
+fn main(rt: HostRuntime) -> ExitCode {
+    let alloc = rt.alloc();
+    let mut reader = Counted::new(rt.reader());
+    let mut writer = Counted::new(io::writer(&rt));
+    let status = match words(&rt) {
+        Ok(words) => command(alloc, words.as_slice(), &mut reader, &mut writer),
+        Err(error) if error.kind() == ErrorKind::OutOfMemory => failed(
+            &mut writer,
+            CommandFault::Memory,
+        ),
+        // A word that is no text says nothing.
+        Err(_) => command(alloc, &[], &mut reader, &mut writer),
+    };
+    ExitCode::from(status)
+}
+
+// The words behind the program's name.
+fn words<R: Env + AllocGlobal>(rt: &R) -> io::Result<Vec<String>> {
+    let mut words = Vec::new(rt.alloc());
+    for word in env::args(rt)?.skip(1) {
+        words.push(word)?;
+    }
+    Ok(words)
+}
