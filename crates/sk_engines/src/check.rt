@@ -1,5 +1,5 @@
 //! `skern check`: whether an image is a valid program, and its first fault where it is not.
-ghost use Rattle.std.specs.Prelude.{◌≡◌, ◌++◌, IfOk, IfSome, Option, codes, length};
+ghost use Rattle.std.specs.Prelude.{◌≡◌, ◌≤◌, ◌++◌, IfOk, IfSome, Option, codes, length};
 ghost use Rattle.std.specs.Fmt.{decimal};
 ghost use Rattle.sk_check.specs.declared.fault.CheckFault.{CheckFault};
 ghost use Rattle.sk_engines.specs.Answer.{done, refused, line};
@@ -26,6 +26,7 @@ pub fn check_engine<R: Source, W: Sink>(
 ) -> Result<u8, CommandFault>
     ensures told { IfSome (R.remaining reader.old) (λ input.
         Ends (IsCheckAnswer input) result (W.contents writer.old) (W.contents writer.new)) }
+    ensures status { IfOk result (λ status. status ≤ 1) }
     ensures reads { CountsReads result (R.failed reader.old) (R.failed reader.new) }
     ensures writes { CountsWrites result (W.failed writer.old) (W.failed writer.new) }
 {

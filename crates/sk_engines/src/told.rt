@@ -1,3 +1,5 @@
+ghost use Rattle.std.specs.Prelude.{◌≤◌};
+
 use std::alloc::{AllocError, Global};
 
 /// What a command answers: a text, and its exit status.
@@ -5,6 +7,7 @@ use std::alloc::{AllocError, Global};
 pub struct Told {
     pub text: String,
     pub status: u8,
+    pub ghost known: { status ≤ 1 },
 }
 
 impl Told {

@@ -1,0 +1,12 @@
+//! Worked examples that cross the crates: the commands over readers and writers in memory, which
+//! give and take as few bytes as they like and fail where they are told to.
+#![tactic(auto)]
+
+mod ends;
+
+pub use ends::{Reader, Trouble, Writer};
+
+#[cfg(test)]
+mod check_rows;
+#[cfg(test)]
+mod commands;
