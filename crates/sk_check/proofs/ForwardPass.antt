@@ -25,11 +25,11 @@ abbrev pub IsBare : List Insn → ℕ → ℕ → ℕ → Type 0
 IsBare insns n place word =
     (before : List ℕ) × IsPath insns place before × NoneStores insns word before × ComesFromBelow n before
 
-at_only : (insns : List Insn) (place : ℕ) (insn : Insn) (P : Option Operation → Insn → Type 0) → slice_get insns place ≡ Some insn → At insns place P → P (operation_of insn.code) insn
+pub at_only : (insns : List Insn) (place : ℕ) (insn : Insn) (P : Option Operation → Insn → Type 0) → slice_get insns place ≡ Some insn → At insns place P → P (operation_of insn.code) insn
 at_only insns place insn P here (other, there, holds) =
     let same : other ≡ insn = cc in subst (λ i. P (operation_of i.code) i) same holds
 
-forwards : (place next : ℕ) (insn : Insn) (o : Option Operation) → LeadsTo place next o insn → place < next
+pub forwards : (place next : ℕ) (insn : Insn) (o : Option Operation) → LeadsTo place next o insn → place < next
 forwards place next insn (Some Jump) leads = omega arith
 forwards place next insn (Some (Branch comparison operand)) (inl leads) = omega arith
 forwards place next insn (Some (Branch comparison operand)) (inr leads) = omega arith

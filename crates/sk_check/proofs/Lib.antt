@@ -3,3 +3,4 @@ pub mod PlaceFaults
 pub mod ForwardPass
 pub mod Stages
 pub mod ValidPrograms
+pub mod Decisions

@@ -1,4 +1,5 @@
 pub mod Paths
 pub mod Valid
 pub mod Places
+pub mod FirstFault
 pub use Rattle.sk_insn.specs.Operations

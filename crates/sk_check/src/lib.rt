@@ -5,6 +5,8 @@ mod checked;
 mod fault;
 mod pass;
 mod places;
+#[cfg(test)]
+mod tests;
 mod words;
 
 pub use checked::{Checked, check};

@@ -4,6 +4,7 @@ ghost use Rattle.sk_check.specs.Valid.{IsFirstFault};
 ghost use Rattle.sk_check.specs.Places.{fault_of, NoFaultBefore};
 
 use crate::CheckFault;
+use crate::words::WORDS;
 use sk_insn::{Arithmetic, Insn, Operand, Operation, decode};
 
 /// The first fault of a single instruction.
@@ -30,7 +31,7 @@ fn place_fault(insn: &Insn, at: usize, count: usize) -> Option<CheckFault>
         None => (false, CheckFault::Code { at }),
         Some(Operation::LoadRecord) => (insn.k % 4 == 0 && insn.k < 64, CheckFault::Load { at }),
         Some(Operation::LoadScratch(_) | Operation::StoreScratch(_)) => (
-            insn.k < 16,
+            insn.k < WORDS,
             CheckFault::Word { at },
         ),
         Some(Operation::Compute(Arithmetic::Divide, Operand::Constant)) => (

@@ -1,0 +1,141 @@
+-- The first fault as a function is the first fault: its tests decide what the rules say.
+use Rattle.std.proofs.Common.{ℕ, zero, suc, ◌≡◌, ◌≢◌, ◌+◌, ◌-◌, ◌<◌, ◌≤◌, ◌⊎◌, inl, inr, Bool, true, false, not, ◌&&◌, ◌||◌, List, [], ◌∷◌, Option, Some, None, length, refl, sym, subst, ap, ◌∙◌, arith}
+use Rattle.std.specs.Prelude.{slice_get, nat_lt, nat_le, ◌==◌}
+use Rattle.std.proofs.lemmas.Bool.{cases_eq, eqb-true, eq-eqb, ltb-true, ltb-false}
+use Rattle.std.proofs.lemmas.Option.{slice_get_within}
+use Rattle.sk_insn.specs.declared.insn.Insn.{Insn}
+use Rattle.sk_insn.specs.declared.operation.Operation.{Operation}
+use Rattle.sk_insn.specs.declared.operation.Operation.TheVariants.{LoadScratch, StoreScratch, Jump, Branch, ReturnConstant, ReturnAccumulator}
+use Rattle.sk_insn.specs.Operations.{operation_of}
+use Rattle.sk_check.specs.declared.fault.CheckFault.{CheckFault}
+use Rattle.sk_check.specs.declared.fault.CheckFault.TheVariants.{Empty, TooLong, NoReturn, Unstored}
+use Rattle.sk_check.specs.Paths.{At, Returns, LeadsTo, Loads, Stores, IsPath, NoneStores, IsUnstored}
+use Rattle.sk_check.specs.Valid.{HasFault, IsValid, IsFirstFault, stage_of, place_of}
+use Rattle.sk_check.specs.Places.{unless, fault_of, NoFaultBefore}
+use Rattle.sk_check.proofs.PlaceFaults.{IsFaultAt, FitsAt, fault_of-is_fault, fits_here}
+use Rattle.sk_check.proofs.ForwardPass.{at_only, forwards, NoneUnstored}
+use Rattle.sk_check.proofs.Stages.{first_at, all_fit, first_unstored_at, all_stored}
+use Rattle.sk_check.specs.FirstFault.{or_else, first_of, first_below, any_below, of_insn, returns, leads_to, stores, is_bare, unstored_of, first_fault}
+
+-- ---- tests
+
+both : (a b : Bool) → (a && b) ≡ true → (a ≡ true) × (b ≡ true)
+both true b e = (refl, e)
+both false b e = cc
+
+either : (a b : Bool) → (a || b) ≡ true → (a ≡ true) ⊎ (b ≡ true)
+either true b e = inl refl
+either false b e = inr e
+
+both_true : (a b : Bool) → a ≡ true → b ≡ true → (a && b) ≡ true
+both_true true b e h = h
+both_true false b e h = cc
+
+or_left : (a b : Bool) → a ≡ true → (a || b) ≡ true
+or_left true b e = refl
+or_left false b e = cc
+
+or_right : (a b : Bool) → b ≡ true → (a || b) ≡ true
+or_right true b e = refl
+or_right false b e = e
+
+not_true : (a : Bool) → not a ≡ true → a ≡ true → ⊥
+not_true true e h = cc
+not_true false e h = cc
+
+if_not : (a : Bool) → (a ≡ true → ⊥) → not a ≡ true
+if_not true h = absurd (h refl)
+if_not false h = refl
+
+true_or_not : (a : Bool) → (a ≡ true) ⊎ (a ≡ true → ⊥)
+true_or_not true = inl refl
+true_or_not false = inr (λ e. cc)
+
+-- an instruction passes a test of it
+at_test : (insns : List Insn) (place : ℕ) (test : Option Operation → Insn → Bool) → of_insn false (slice_get insns place) test ≡ true → At insns place (λ o insn. test o insn ≡ true)
+at_test insns place test e = go (slice_get insns place) refl e
+  where
+    go : (o : Option Insn) → slice_get insns place ≡ o → of_insn false o test ≡ true → At insns place (λ o insn. test o insn ≡ true)
+    go None here e = cc
+    go (Some insn) here e = (insn, here, e)
+
+test_at : (insns : List Insn) (place : ℕ) (test : Option Operation → Insn → Bool) → At insns place (λ o insn. test o insn ≡ true) → of_insn false (slice_get insns place) test ≡ true
+test_at insns place test (insn, here, e) = subst (λ o. of_insn false o test ≡ true) (sym here) e
+
+any_below-true : (n : ℕ) (test : ℕ → Bool) → any_below n test ≡ true → (k : ℕ) × (k < n) × (test k ≡ true)
+any_below-true zero test e = cc
+any_below-true (suc n) test e =
+    elim (either (test n) (any_below n test) e) [
+      | inl here ↦ (n, omega arith, here)
+      | inr below ↦ let found = any_below-true n test below in let less : found.0 < n = found.1 in (found.0, omega arith, found.2)
+    ]
+
+true-any_below : (n : ℕ) (test : ℕ → Bool) (k : ℕ) → k < n → test k ≡ true → any_below n test ≡ true
+true-any_below zero test k less e = absurd (omega arith)
+true-any_below (suc n) test k less e =
+    elim (cases_eq k n) [
+      | inl same ↦ let here : test n ≡ true = subst (λ i. test i ≡ true) same e in ap (λ b. b || any_below n test) here
+      | inr other ↦ or_right (test n) (any_below n test) (true-any_below n test k (omega arith) e)
+    ]
+
+-- ---- operations
+
+returns-true : (insn : Insn) (o : Option Operation) → returns o insn ≡ true → Returns o insn
+returns-true insn (Some ReturnConstant) e = tt
+returns-true insn (Some ReturnAccumulator) e = tt
+returns-true insn o e = cc
+
+true-returns : (insn : Insn) (o : Option Operation) → Returns o insn → returns o insn ≡ true
+true-returns insn (Some ReturnConstant) h = refl
+true-returns insn (Some ReturnAccumulator) h = refl
+true-returns insn o h = absurd h
+
+leads_to-true : (place next : ℕ) (insn : Insn) (o : Option Operation) → leads_to place next o insn ≡ true → LeadsTo place next o insn
+leads_to-true place next insn (Some Jump) e = eqb-true _ _ e
+leads_to-true place next insn (Some (Branch comparison operand)) e =
+    elim (either (next == place + 1 + insn.jt) (next == place + 1 + insn.jf) e) [ inl a ↦ inl (eqb-true _ _ a) | inr b ↦ inr (eqb-true _ _ b) ]
+leads_to-true place next insn (Some ReturnConstant) e = cc
+leads_to-true place next insn (Some ReturnAccumulator) e = cc
+leads_to-true place next insn o e = eqb-true _ _ e
+
+true-leads_to : (place next : ℕ) (insn : Insn) (o : Option Operation) → LeadsTo place next o insn → leads_to place next o insn ≡ true
+true-leads_to place next insn (Some Jump) h = eq-eqb _ _ h
+true-leads_to place next insn (Some (Branch comparison operand)) (inl h) =
+    ap (λ b. b || (next == place + 1 + insn.jf)) (eq-eqb _ _ h)
+true-leads_to place next insn (Some (Branch comparison operand)) (inr h) =
+    or_right (next == place + 1 + insn.jt) (next == place + 1 + insn.jf) (eq-eqb _ _ h)
+true-leads_to place next insn (Some ReturnConstant) h = absurd h
+true-leads_to place next insn (Some ReturnAccumulator) h = absurd h
+true-leads_to place next insn o h = eq-eqb _ _ h
+
+stores-true : (word : ℕ) (insn : Insn) (o : Option Operation) → stores word o insn ≡ true → Stores word o insn
+stores-true word insn (Some (StoreScratch register)) e = eqb-true _ _ e
+stores-true word insn o e = cc
+
+true-stores : (word : ℕ) (insn : Insn) (o : Option Operation) → Stores word o insn → stores word o insn ≡ true
+true-stores word insn (Some (StoreScratch register)) h = eq-eqb _ _ h
+true-stores word insn o h = absurd h
+
+-- ---- paths
+
+bare_path : (insns : List Insn) (word steps place : ℕ) → is_bare insns word steps place ≡ true → (before : List ℕ) × IsPath insns place before × NoneStores insns word before
+bare_path insns word zero place e = ([], eqb-true _ _ e, tt)
+bare_path insns word (suc steps) place e =
+    elim (either (place == 0) _ e) [
+      | inl start ↦ ([], eqb-true _ _ start, tt)
+      | inr some ↦ let found = any_below-true place _ some in let k = found.0 in let parts = both _ _ found.2 in let at = at_test insns k _ parts.0 in let insn = at.0 in let goes = both _ _ at.2 in let earlier = bare_path insns word steps k parts.1 in (k ∷ earlier.0, ((insn, at.1, leads_to-true k place insn (operation_of insn.code) goes.0), earlier.1), (λ store. not_true _ goes.1 (true-stores word insn (operation_of insn.code) (at_only insns k insn (Stores word) at.1 store)), earlier.2))
+    ]
+
+path_bare : (insns : List Insn) (word steps place : ℕ) (before : List ℕ) → IsPath insns place before → NoneStores insns word before → length before ≤ steps → is_bare insns word steps place ≡ true
+path_bare insns word zero place [] path none most = eq-eqb _ _ path
+path_bare insns word zero place (k ∷ earlier) path none most = absurd (omega arith)
+path_bare insns word (suc steps) place [] path none most = or_left _ _ (eq-eqb _ _ path)
+path_bare insns word (suc steps) place (k ∷ earlier) ((insn, here, leads), path) (no_store, none) most =
+    or_right _ _ (true-any_below place _ k (forwards k place insn (operation_of insn.code) leads) (both_true _ _ (test_at insns k _ (insn, here, both_true _ _ (true-leads_to k place insn (operation_of insn.code) leads) (if_not _ (λ store. no_store (insn, here, stores-true word insn (operation_of insn.code) store))))) (path_bare insns word steps k earlier path none (omega arith))))
+
+path_length : (insns : List Insn) (place : ℕ) (before : List ℕ) → IsPath insns place before → length before ≤ place
+path_length insns place [] path = omega arith
+path_length insns place (k ∷ earlier) ((insn, here, leads), path) =
+    let less : k < place = forwards k place insn (operation_of insn.code) leads in
+    let short : length earlier ≤ k = path_length insns k earlier path in
+    omega arith

@@ -1,0 +1,74 @@
+-- The first fault of a program as a function, for definitions that go on with its answer. Valid says
+-- what it means: it is none exactly where IsValid holds, and else the fault of which IsFirstFault holds.
+use Rattle.std.specs.Prelude.{ℕ, zero, suc, ◌+◌, ◌-◌, ◌==◌, nat_lt, nat_le, Bool, true, false, not, ◌&&◌, ◌||◌, List, [], ◌∷◌, Option, Some, None, length, slice_get}
+use Rattle.sk_insn.specs.declared.insn.Insn.{Insn}
+use Rattle.sk_insn.specs.declared.operation.Operation.{Operation}
+use Rattle.sk_insn.specs.declared.operation.Operation.TheVariants.{LoadScratch, StoreScratch, Jump, Branch, ReturnConstant, ReturnAccumulator}
+use Rattle.sk_insn.specs.Operations.{operation_of}
+use Rattle.sk_check.specs.declared.fault.CheckFault.{CheckFault}
+use Rattle.sk_check.specs.declared.fault.CheckFault.TheVariants.{Empty, TooLong, NoReturn, Unstored}
+use Rattle.sk_check.specs.Places.{unless, fault_of}
+
+-- the first answer if there is one, else the second
+abbrev pub or_else : Option CheckFault → Option CheckFault → Option CheckFault
+or_else (Some fault) other = Some fault
+or_else None other = other
+
+-- the first answer that there is
+abbrev pub first_of : List (Option CheckFault) → Option CheckFault
+first_of [] = None
+first_of (answer ∷ answers) = or_else answer (first_of answers)
+
+-- the first answer for a place below n
+abbrev pub first_below : ℕ → (ℕ → Option CheckFault) → Option CheckFault
+first_below zero fault_at = None
+first_below (suc n) fault_at = or_else (first_below n fault_at) (fault_at n)
+
+-- some place below n passes the test
+abbrev pub any_below : ℕ → (ℕ → Bool) → Bool
+any_below zero test = false
+any_below (suc n) test = test n || any_below n test
+
+-- what a function says of an instruction, if there is one
+abbrev pub of_insn : {X : Type 0} → X → Option Insn → (Option Operation → Insn → X) → X
+of_insn absent None says = absent
+of_insn absent (Some insn) says = says (operation_of insn.code) insn
+
+abbrev pub returns : Option Operation → Insn → Bool
+returns (Some ReturnConstant) insn = true
+returns (Some ReturnAccumulator) insn = true
+returns operation insn = false
+
+abbrev pub leads_to : ℕ → ℕ → Option Operation → Insn → Bool
+leads_to place next (Some Jump) insn = next == place + 1 + insn.k
+leads_to place next (Some (Branch comparison operand)) insn =
+    (next == place + 1 + insn.jt) || (next == place + 1 + insn.jf)
+leads_to place next (Some ReturnConstant) insn = false
+leads_to place next (Some ReturnAccumulator) insn = false
+leads_to place next operation insn = next == place + 1
+
+abbrev pub stores : ℕ → Option Operation → Insn → Bool
+stores word (Some (StoreScratch register)) insn = insn.k == word
+stores word operation insn = false
+
+-- some path of at most so many steps to the place stores no such word
+abbrev pub is_bare : List Insn → ℕ → ℕ → ℕ → Bool
+is_bare insns word zero place = place == 0
+is_bare insns word (suc steps) place =
+    (place == 0) || any_below place (λ before. of_insn false (slice_get insns before) (λ operation insn. leads_to before place operation insn && not (stores word operation insn)) && is_bare insns word steps before)
+
+-- a load of a word that is missing: a path to a place has no more steps than there are places before it
+abbrev pub unstored_of : List Insn → ℕ → Option Operation → Insn → Option CheckFault
+unstored_of insns place (Some (LoadScratch register)) insn =
+    unless (not (is_bare insns insn.k place place)) (Unstored place insn.k)
+unstored_of insns place operation insn = None
+
+-- stage by stage: its length, its instructions one by one, its end, its paths
+unfoldable pub first_fault : List Insn → Option CheckFault
+first_fault insns =
+    first_of (unless (nat_lt 0 (length insns)) Empty ∷
+    unless (nat_le (length insns) 4096) TooLong ∷
+    first_below (length insns) (λ place. of_insn None (slice_get insns place) (fault_of place (length insns))) ∷
+    unless (of_insn false (slice_get insns (length insns - 1)) returns) NoReturn ∷
+    first_below (length insns) (λ place. of_insn None (slice_get insns place) (unstored_of insns place)) ∷
+    [])
