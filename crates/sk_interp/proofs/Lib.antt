@@ -1,0 +1,6 @@
+pub mod Meanings
+pub mod Rows
+pub mod ScratchWords
+pub mod ValidSteps
+pub mod Walks
+pub mod ValidMeanings

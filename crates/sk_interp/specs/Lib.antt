@@ -1,0 +1,7 @@
+pub mod Meaning
+pub mod MeaningLaws
+pub mod WorkedMeanings
+pub mod Walk
+pub mod MachineState
+pub mod Strides
+pub use Rattle.sk_check.specs.Valid

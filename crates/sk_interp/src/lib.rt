@@ -1,0 +1,12 @@
+//! The machine of classic BPF, which runs a checked filter on a call record.
+#![tactic(auto)]
+
+mod interpreter;
+pub mod laws;
+mod machine;
+#[cfg(test)]
+mod tests;
+mod walker;
+
+pub use interpreter::{Ran, run};
+pub use walker::walk;

@@ -1,0 +1,263 @@
+use crate::{Ran, run, walk};
+use sk_check::{Checked, check};
+use sk_insn::{Insn, Record};
+use std::alloc::Global;
+use std::test::Fail;
+
+/// The action that lets a call through.
+const ALLOW: u32 = 0x7fff_0000;
+
+/// The action that refuses a call by error 1.
+const ERRNO_1: u32 = 0x0005_0001;
+
+fn branch(code: u16, k: u32, jt: u8, jf: u8) -> Insn {
+    Insn { code, jt, jf, k }
+}
+
+fn with_k(code: u16, k: u32) -> Insn {
+    branch(code, k, 0, 0)
+}
+
+fn ldabs(k: u32) -> Insn {
+    with_k(0x20, k)
+}
+
+fn ldimm(k: u32) -> Insn {
+    with_k(0x00, k)
+}
+
+fn ldximm(k: u32) -> Insn {
+    with_k(0x01, k)
+}
+
+fn ldmem(k: u32) -> Insn {
+    with_k(0x60, k)
+}
+
+fn st(k: u32) -> Insn {
+    with_k(0x02, k)
+}
+
+fn jeq(k: u32, jt: u8, jf: u8) -> Insn {
+    branch(0x15, k, jt, jf)
+}
+
+fn ret(k: u32) -> Insn {
+    with_k(0x06, k)
+}
+
+fn reta() -> Insn {
+    with_k(0x16, 0)
+}
+
+fn call(nr: u32) -> Record {
+    Record {
+        nr,
+        ip: 0x1122_3344_5566_7788,
+        args: [0x99aa_bbcc_ddee_ff00, 1, 2, 3, 4, 5],
+    }
+}
+
+fn checked(alloc: Global, program: &[Insn]) -> Result<Checked, Fail> {
+    let mut insns = Vec::new(alloc);
+    insns.extend_from_slice(program)?;
+    match check(insns) {
+        Ok(checked) => Ok(checked),
+        Err((_, fault)) => Err(Fail::from(fault)),
+    }
+}
+
+#[test]
+fn filters(rt: HostRuntime) -> Result<(), Fail> {
+    let refuses_getppid = [ldabs(0), jeq(110, 0, 1), ret(ERRNO_1), ret(ALLOW)];
+    let rows: [(&[Insn], u32, u32, u16); 12] = [
+        (&[ret(ALLOW)], 39, ALLOW, 1),
+        (&refuses_getppid, 110, ERRNO_1, 3),
+        (&refuses_getppid, 39, ALLOW, 3),
+        (
+            &[ldximm(0), ldimm(5), with_k(0x3c, 0), ret(ALLOW)],
+            39,
+            0,
+            3,
+        ),
+        (&[ldximm(33), ldimm(1), with_k(0x6c, 0), reta()], 39, 2, 4),
+        (&[ldimm(1), with_k(0x84, 0), reta()], 39, 0xffff_ffff, 3),
+        (
+            &[ldimm(7), st(0), jeq(7, 1, 0), ret(0), ldmem(0), reta()],
+            39,
+            7,
+            5,
+        ),
+        (&[ret(ALLOW), ldmem(3), ret(ALLOW)], 39, ALLOW, 1),
+        (&[with_k(0x03, 15), ldmem(15), reta()], 39, 0, 3),
+        (&[st(0), ret(ALLOW)], 39, ALLOW, 2),
+        (
+            &[
+                ldimm(1),
+                st(0),
+                with_k(0x05, 1),
+                with_k(0x05, 0),
+                ldmem(0),
+                reta(),
+            ],
+            39,
+            1,
+            5,
+        ),
+        (
+            &[ldimm(9), with_k(0x07, 0), with_k(0x87, 0), reta()],
+            39,
+            9,
+            4,
+        ),
+    ];
+    for (program, nr, value, steps) in rows {
+        let filter = checked(rt.alloc(), program)?;
+        assert_eq!(rt; run(&filter, &call(nr)), Ran { value, steps });
+    }
+    Ok(())
+}
+
+#[test]
+fn loads(rt: HostRuntime) -> Result<(), Fail> {
+    let rows = [
+        (0x20, 0, 39),
+        (0x20, 4, 0xC000_003E),
+        (0x20, 8, 0x5566_7788),
+        (0x20, 12, 0x1122_3344),
+        (0x20, 16, 0xddee_ff00),
+        (0x20, 20, 0x99aa_bbcc),
+        (0x20, 56, 5),
+        (0x20, 60, 0),
+        (0x80, 0, 64),
+    ];
+    for (code, k, value) in rows {
+        let filter = checked(rt.alloc(), &[with_k(code, k), reta()])?;
+        assert_eq!(rt; run(&filter, &call(39)), Ran { value, steps: 2 });
+    }
+    Ok(())
+}
+
+#[test]
+fn calculations(rt: HostRuntime) -> Result<(), Fail> {
+    let rows = [
+        (0x04, 0xffff_ffff, 2, 1),
+        (0x14, 1, 2, 0xffff_ffff),
+        (0x24, 0x1_0001, 0x1_0001, 0x2_0001),
+        (0x34, 7, 2, 3),
+        (0x44, 0b1100, 0b1010, 0b1110),
+        (0x54, 0b1100, 0b1010, 0b1000),
+        (0x64, 0x8000_0001, 1, 2),
+        (0x74, 0x8000_0001, 31, 1),
+        (0xa4, 0b1100, 0b1010, 0b0110),
+    ];
+    for (code, a, b, value) in rows {
+        let constant = checked(rt.alloc(), &[ldimm(a), with_k(code, b), reta()])?;
+        assert_eq!(rt; run(&constant, &call(39)), Ran { value, steps: 3 });
+        let index = checked(
+            rt.alloc(),
+            &[ldximm(b), ldimm(a), with_k(code | 8, 0), reta()],
+        )?;
+        assert_eq!(rt; run(&index, &call(39)), Ran { value, steps: 4 });
+    }
+    Ok(())
+}
+
+#[test]
+fn comparisons(rt: HostRuntime) -> Result<(), Fail> {
+    let rows = [
+        (0x15, 5, 5, 1),
+        (0x15, 5, 6, 0),
+        (0x25, 0x8000_0000, 1, 1),
+        (0x25, 5, 5, 0),
+        (0x35, 5, 5, 1),
+        (0x35, 5, 6, 0),
+        (0x45, 0b1100, 0b0100, 1),
+        (0x45, 0b1100, 0b0011, 0),
+    ];
+    for (code, a, b, value) in rows {
+        let constant = checked(
+            rt.alloc(),
+            &[ldimm(a), branch(code, b, 1, 0), ret(0), ret(1)],
+        )?;
+        assert_eq!(rt; run(&constant, &call(39)), Ran { value, steps: 3 });
+        let index = checked(
+            rt.alloc(),
+            &[
+                ldximm(b),
+                ldimm(a),
+                branch(code | 8, 0, 1, 0),
+                ret(0),
+                ret(1),
+            ],
+        )?;
+        assert_eq!(rt; run(&index, &call(39)), Ran { value, steps: 4 });
+    }
+    Ok(())
+}
+
+#[test]
+fn longest_filter(rt: HostRuntime) -> Result<(), Fail> {
+    let mut insns = Vec::new(rt.alloc());
+    insns.push(st(0))?;
+    for _load in 0..4094 {
+        insns.push(ldmem(0))?;
+    }
+    insns.push(reta())?;
+    let filter = checked(rt.alloc(), &insns)?;
+    assert_eq!(rt;
+        run(&filter, &call(39)),
+        Ran {
+            value: 0,
+            steps: 4096
+        }
+    );
+    Ok(())
+}
+
+#[test]
+fn walks(rt: HostRuntime) -> Result<(), Fail> {
+    let by_architecture = [
+        ldabs(4),
+        jeq(0xC000_003E, 1, 0),
+        ret(0x8000_0000),
+        ldabs(0),
+        jeq(57, 0, 1),
+        ret(ERRNO_1),
+        ret(ALLOW),
+    ];
+    let even = [
+        ldabs(0),
+        with_k(0x54, 1),
+        jeq(0, 0, 1),
+        ret(ALLOW),
+        ret(0x7ffc_0000),
+    ];
+    let rows: [(&[Insn], u32, bool); 12] = [
+        (&[ret(ALLOW)], 0, true),
+        (&[ret(ALLOW)], u32::MAX, true),
+        (
+            &[ldabs(0), jeq(110, 0, 1), ret(ERRNO_1), ret(ALLOW)],
+            39,
+            true,
+        ),
+        (
+            &[ldabs(0), jeq(110, 0, 1), ret(ERRNO_1), ret(ALLOW)],
+            110,
+            false,
+        ),
+        (&by_architecture, 57, false),
+        (&by_architecture, 39, true),
+        (&even, 38, true),
+        (&even, 39, false),
+        (&[ret(0x7ffc_0000)], 39, false),
+        (&[ret(0x7fff_0001)], 39, false),
+        (&[st(0), ret(ALLOW)], 39, false),
+        (&[ldabs(16), ret(ALLOW)], 39, false),
+    ];
+    for (program, nr, allowed) in rows {
+        let filter = checked(rt.alloc(), program)?;
+        assert_eq!(rt; walk(&filter, nr), allowed, "call {nr}");
+    }
+    Ok(())
+}
