@@ -1,21 +1,17 @@
 -- The first fault as a function is the first fault: its tests decide what the rules say.
-use Rattle.std.proofs.Common.{ℕ, zero, suc, ◌≡◌, ◌≢◌, ◌+◌, ◌-◌, ◌<◌, ◌≤◌, ◌⊎◌, inl, inr, Bool, true, false, not, ◌&&◌, ◌||◌, List, [], ◌∷◌, Option, Some, None, length, refl, sym, subst, ap, ◌∙◌, arith}
-use Rattle.std.specs.Prelude.{slice_get, nat_lt, nat_le, ◌==◌}
-use Rattle.std.proofs.lemmas.Bool.{cases_eq, eqb-true, eq-eqb, ltb-true, ltb-false}
-use Rattle.std.proofs.lemmas.Option.{slice_get_within}
+use Rattle.std.proofs.Common.{ℕ, zero, suc, ◌≡◌, ◌+◌, ◌<◌, ◌≤◌, ◌⊎◌, inl, inr, Bool, true, false, not, ◌&&◌, ◌||◌, List, [], ◌∷◌, Option, Some, None, length, refl, sym, subst, ap, arith}
+use Rattle.std.specs.Prelude.{slice_get, ◌==◌}
+use Rattle.std.proofs.lemmas.Bool.{cases_eq, eqb-true, eq-eqb}
 use Rattle.sk_insn.specs.declared.insn.Insn.{Insn}
 use Rattle.sk_insn.specs.declared.operation.Operation.{Operation}
 use Rattle.sk_insn.specs.declared.operation.Operation.TheVariants.{LoadScratch, StoreScratch, Jump, Branch, ReturnConstant, ReturnAccumulator}
 use Rattle.sk_insn.specs.Operations.{operation_of}
 use Rattle.sk_check.specs.declared.fault.CheckFault.{CheckFault}
-use Rattle.sk_check.specs.declared.fault.CheckFault.TheVariants.{Empty, TooLong, NoReturn, Unstored}
+use Rattle.sk_check.specs.declared.fault.CheckFault.TheVariants.{Unstored}
 use Rattle.sk_check.specs.Paths.{At, Returns, LeadsTo, Loads, Stores, IsPath, NoneStores, IsUnstored}
-use Rattle.sk_check.specs.Valid.{HasFault, IsValid, IsFirstFault, stage_of, place_of}
-use Rattle.sk_check.specs.Places.{unless, fault_of, NoFaultBefore}
-use Rattle.sk_check.proofs.PlaceFaults.{IsFaultAt, FitsAt, fault_of-is_fault, fits_here}
-use Rattle.sk_check.proofs.ForwardPass.{at_only, forwards, NoneUnstored}
-use Rattle.sk_check.proofs.Stages.{first_at, all_fit, first_unstored_at, all_stored}
-use Rattle.sk_check.specs.FirstFault.{or_else, first_of, first_below, any_below, of_insn, returns, leads_to, stores, is_bare, unstored_of, first_fault}
+use Rattle.sk_check.specs.Places.{unless}
+use Rattle.sk_check.proofs.ForwardPass.{at_only, forwards}
+use Rattle.sk_check.specs.FirstFault.{or_else, first_below, any_below, of_insn, returns, leads_to, stores, is_bare, unstored_of}
 
 -- ---- tests
 
@@ -43,6 +39,10 @@ not_true : (a : Bool) → not a ≡ true → a ≡ true → ⊥
 not_true true e h = cc
 not_true false e h = cc
 
+not_false : (a : Bool) → not a ≡ false → a ≡ true
+not_false true e = refl
+not_false false e = cc
+
 if_not : (a : Bool) → (a ≡ true → ⊥) → not a ≡ true
 if_not true h = absurd (h refl)
 if_not false h = refl
@@ -52,14 +52,14 @@ true_or_not true = inl refl
 true_or_not false = inr (λ e. cc)
 
 -- an instruction passes a test of it
-at_test : (insns : List Insn) (place : ℕ) (test : Option Operation → Insn → Bool) → of_insn false (slice_get insns place) test ≡ true → At insns place (λ o insn. test o insn ≡ true)
+pub at_test : (insns : List Insn) (place : ℕ) (test : Option Operation → Insn → Bool) → of_insn false (slice_get insns place) test ≡ true → At insns place (λ o insn. test o insn ≡ true)
 at_test insns place test e = go (slice_get insns place) refl e
   where
     go : (o : Option Insn) → slice_get insns place ≡ o → of_insn false o test ≡ true → At insns place (λ o insn. test o insn ≡ true)
     go None here e = cc
     go (Some insn) here e = (insn, here, e)
 
-test_at : (insns : List Insn) (place : ℕ) (test : Option Operation → Insn → Bool) → At insns place (λ o insn. test o insn ≡ true) → of_insn false (slice_get insns place) test ≡ true
+pub test_at : (insns : List Insn) (place : ℕ) (test : Option Operation → Insn → Bool) → At insns place (λ o insn. test o insn ≡ true) → of_insn false (slice_get insns place) test ≡ true
 test_at insns place test (insn, here, e) = subst (λ o. of_insn false o test ≡ true) (sym here) e
 
 any_below-true : (n : ℕ) (test : ℕ → Bool) → any_below n test ≡ true → (k : ℕ) × (k < n) × (test k ≡ true)
@@ -80,12 +80,12 @@ true-any_below (suc n) test k less e =
 
 -- ---- operations
 
-returns-true : (insn : Insn) (o : Option Operation) → returns o insn ≡ true → Returns o insn
+pub returns-true : (insn : Insn) (o : Option Operation) → returns o insn ≡ true → Returns o insn
 returns-true insn (Some ReturnConstant) e = tt
 returns-true insn (Some ReturnAccumulator) e = tt
 returns-true insn o e = cc
 
-true-returns : (insn : Insn) (o : Option Operation) → Returns o insn → returns o insn ≡ true
+pub true-returns : (insn : Insn) (o : Option Operation) → Returns o insn → returns o insn ≡ true
 true-returns insn (Some ReturnConstant) h = refl
 true-returns insn (Some ReturnAccumulator) h = refl
 true-returns insn o h = absurd h
@@ -139,3 +139,68 @@ path_length insns place (k ∷ earlier) ((insn, here, leads), path) =
     let less : k < place = forwards k place insn (operation_of insn.code) leads in
     let short : length earlier ≤ k = path_length insns k earlier path in
     omega arith
+
+-- ---- answers for a place
+
+or_else-None : (a b : Option CheckFault) → or_else a b ≡ None → (a ≡ None) × (b ≡ None)
+or_else-None (Some fault) b e = cc
+or_else-None None b e = (refl, e)
+
+or_else-Some : (a b : Option CheckFault) (fault : CheckFault) → or_else a b ≡ Some fault → (a ≡ Some fault) ⊎ ((a ≡ None) × (b ≡ Some fault))
+or_else-Some (Some other) b fault e = inl e
+or_else-Some None b fault e = inr (refl, e)
+
+pub first_below-None : (n : ℕ) (answer : ℕ → Option CheckFault) → first_below n answer ≡ None → (k : ℕ) → k < n → answer k ≡ None
+first_below-None zero answer e k less = absurd (omega arith)
+first_below-None (suc n) answer e k less =
+    let parts = or_else-None (first_below n answer) (answer n) e in
+    elim (cases_eq k n) [
+      | inl here ↦ subst (λ i. answer i ≡ None) (sym here) parts.1
+      | inr other ↦ first_below-None n answer parts.0 k (omega arith)
+    ]
+
+-- the answer for a place, and none for the places before it
+pub record IsFirstBelow (n : ℕ) (answer : ℕ → Option CheckFault) (fault : CheckFault) : Type 0 where
+  pub place : ℕ
+  pub below : place < n
+  pub here : answer place ≡ Some fault
+  pub before : (k : ℕ) → k < place → answer k ≡ None
+
+pub first_below-Some : (n : ℕ) (answer : ℕ → Option CheckFault) (fault : CheckFault) → first_below n answer ≡ Some fault → IsFirstBelow n answer fault
+first_below-Some zero answer fault e = cc
+first_below-Some (suc n) answer fault e =
+    elim (or_else-Some (first_below n answer) (answer n) fault e) [
+      | inl before ↦ let found = first_below-Some n answer fault before in let less : found.place < n = found.below in record { place = found.place; below = omega arith; here = found.here; before = found.before }
+      | inr here ↦ record { place = n; below = omega arith; here = here.1; before = first_below-None n answer here.0 }
+    ]
+
+pub unless-Some : (test : Bool) (fault told : CheckFault) → unless test fault ≡ Some told → (test ≡ false) × (fault ≡ told)
+unless-Some true fault told e = cc
+unless-Some false fault told e = (refl, (let same : fault ≡ told = cc in same))
+
+pub unless-None : (test : Bool) (fault : CheckFault) → unless test fault ≡ None → test ≡ true
+unless-None true fault e = refl
+unless-None false fault e = cc
+
+pub of_insn-None : (insns : List Insn) (place : ℕ) (says : Option Operation → Insn → Option CheckFault) → of_insn None (slice_get insns place) says ≡ None → (insn : Insn) → slice_get insns place ≡ Some insn → says (operation_of insn.code) insn ≡ None
+of_insn-None insns place says e insn here = subst (λ o. of_insn None o says ≡ None) here e
+
+loads_k : (insns : List Insn) (place : ℕ) (insn : Insn) (o : Option Operation) (fault : CheckFault) → unstored_of insns place o insn ≡ Some fault → Loads insn.k o insn × (is_bare insns insn.k place place ≡ true) × (Unstored place insn.k ≡ fault)
+loads_k insns place insn (Some (LoadScratch register)) fault e =
+    let told = unless-Some _ _ _ e in (refl, not_false _ told.0, told.1)
+loads_k insns place insn o fault e = cc
+
+pub unstored_of-Some : (insns : List Insn) (place : ℕ) (fault : CheckFault) → At insns place (λ o insn. unstored_of insns place o insn ≡ Some fault) → (word : ℕ) × (Unstored place word ≡ fault) × IsUnstored insns place word
+unstored_of-Some insns place fault (insn, here, e) =
+    let told = loads_k insns place insn (operation_of insn.code) fault e in
+    (insn.k, told.2, ((insn, here, told.0), bare_path insns insn.k place place told.1))
+
+never_none : (insns : List Insn) (place word : ℕ) (insn : Insn) (o : Option Operation) → Loads word o insn → is_bare insns word place place ≡ true → unstored_of insns place o insn ≡ None → ⊥
+never_none insns place word insn (Some (LoadScratch register)) loads bare e =
+    let stored : not (is_bare insns insn.k place place) ≡ true = unless-None _ _ e in
+    not_true _ stored (subst (λ w. is_bare insns w place place ≡ true) (sym loads) bare)
+never_none insns place word insn o loads bare e = absurd loads
+
+pub unstored_of-None : (insns : List Insn) (place : ℕ) → of_insn None (slice_get insns place) (unstored_of insns place) ≡ None → (word : ℕ) → IsUnstored insns place word → ⊥
+unstored_of-None insns place e word ((insn, here, loads), (before, path, none)) =
+    never_none insns place word insn (operation_of insn.code) loads (path_bare insns word place place before path none (path_length insns place before path)) (of_insn-None insns place (unstored_of insns place) e insn here)

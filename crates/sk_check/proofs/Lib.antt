@@ -4,3 +4,4 @@ pub mod ForwardPass
 pub mod Stages
 pub mod ValidPrograms
 pub mod Decisions
+pub mod FirstFaults

@@ -1,7 +1,7 @@
 -- An instruction's own fault is a fault of its program, and one without such a fault fits its place.
-use Rattle.std.proofs.Common.{ℕ, ◌≡◌, ◌≢◌, ◌+◌, ◌%◌, ◌<◌, ◌≤◌, ◌⊎◌, inl, inr, Bool, true, false, ◌&&◌, List, Option, Some, None, length, refl, sym, subst, arith}
+use Rattle.std.proofs.Common.{ℕ, ◌≡◌, ◌≢◌, ◌+◌, ◌%◌, ◌<◌, ◌≤◌, ◌⊎◌, inl, inr, Bool, true, false, ◌&&◌, List, Option, Some, None, length, refl, sym, subst, ap, ◌∙◌, arith}
 use Rattle.std.specs.Prelude.{slice_get, nat_lt, ◌==◌}
-use Rattle.std.proofs.lemmas.Bool.{ltb-true, ltb-false, eqb-true, eqb-false}
+use Rattle.std.proofs.lemmas.Bool.{ltb-true, ltb-false, eqb-true, eqb-false, le-ltb, ne_eqb}
 use Rattle.sk_insn.specs.declared.insn.Insn.{Insn}
 use Rattle.sk_insn.specs.declared.operation.Operand.TheVariants.{Constant}
 use Rattle.sk_insn.specs.declared.operation.Arithmetic.TheVariants.{Divide, ShiftLeft, ShiftRight}
@@ -10,8 +10,9 @@ use Rattle.sk_insn.specs.declared.operation.Operation.TheVariants.{LoadRecord, L
 use Rattle.sk_insn.specs.Operations.{operation_of}
 use Rattle.sk_check.specs.declared.fault.CheckFault.{CheckFault}
 use Rattle.sk_check.specs.declared.fault.CheckFault.TheVariants.{Empty, TooLong, NoReturn, Unstored, Code, Load, DivZero, Shift, Word, Jump as JumpOut}
-use Rattle.sk_check.specs.Paths.{Returns, JumpsTo, Loads, Stores}
+use Rattle.sk_check.specs.Paths.{At, Returns, JumpsTo, Loads, Stores}
 use Rattle.sk_check.specs.Valid.{HasFault, stage_of, place_of}
+use Rattle.sk_check.specs.FirstFault.{of_insn, own_fault}
 use Rattle.sk_check.specs.Places.{unless, fault_of, Fits, NamesWord, StaysInside}
 
 -- the program has this fault of a single instruction, at this place
@@ -96,59 +97,77 @@ loads_below place count word insn None loads fits = absurd loads
 loads_below place count word insn (Some (LoadScratch register)) loads fits = omega arith
 loads_below place count word insn (Some operation) loads fits = absurd loads
 
-stores_below : (place count word : ℕ) (insn : Insn) (o : Option Operation) → Stores word o insn → Fits place count o insn → word < 16
-stores_below place count word insn None stores fits = absurd stores
-stores_below place count word insn (Some (StoreScratch register)) stores fits = omega arith
-stores_below place count word insn (Some operation) stores fits = absurd stores
+false_left : (a b : Bool) → a ≡ false → (a && b) ≡ false
+false_left true b e = cc
+false_left false b e = refl
 
-jumps_inside : (place count target : ℕ) (insn : Insn) (o : Option Operation) → JumpsTo place target o insn → Fits place count o insn → target < count
-jumps_inside place count target insn None jumps fits = absurd jumps
-jumps_inside place count target insn (Some Jump) jumps fits = omega arith
-jumps_inside place count target insn (Some (Branch comparison operand)) (inl jumps) fits = omega arith
-jumps_inside place count target insn (Some (Branch comparison operand)) (inr jumps) fits = omega arith
-jumps_inside place count target insn (Some operation) jumps fits = absurd jumps
+false_right : (a b : Bool) → b ≡ false → (a && b) ≡ false
+false_right true b e = e
+false_right false b e = refl
+
+told : (test : Bool) (fault : CheckFault) → test ≡ false → unless test fault ≡ Some fault
+told true fault e = cc
+told false fault e = refl
+
+loads_told : (place count word : ℕ) (insn : Insn) (o : Option Operation) → Loads word o insn → 16 ≤ word → fault_of place count o insn ≡ Some (Word place)
+loads_told place count word insn (Some (LoadScratch register)) loads out = told _ _ (le-ltb _ _ (omega arith))
+loads_told place count word insn o loads out = absurd loads
+
+stores_told : (place count word : ℕ) (insn : Insn) (o : Option Operation) → Stores word o insn → 16 ≤ word → fault_of place count o insn ≡ Some (Word place)
+stores_told place count word insn (Some (StoreScratch register)) stores out = told _ _ (le-ltb _ _ (omega arith))
+stores_told place count word insn o stores out = absurd stores
+
+jumps_told : (place count target : ℕ) (insn : Insn) (o : Option Operation) → JumpsTo place target o insn → count ≤ target → fault_of place count o insn ≡ Some (JumpOut place)
+jumps_told place count target insn (Some Jump) jumps out = told _ _ (le-ltb _ _ (omega arith))
+jumps_told place count target insn (Some (Branch comparison operand)) (inl jumps) out =
+    told _ _ (false_left _ (nat_lt (place + 1 + insn.jf) count) (le-ltb (place + 1 + insn.jt) count (omega arith)))
+jumps_told place count target insn (Some (Branch comparison operand)) (inr jumps) out =
+    told _ _ (false_right (nat_lt (place + 1 + insn.jt) count) _ (le-ltb (place + 1 + insn.jf) count (omega arith)))
+jumps_told place count target insn o jumps out = absurd jumps
+
+pub own_fault_here : (insns : List Insn) (place : ℕ) (insn : Insn) → slice_get insns place ≡ Some insn → own_fault insns place ≡ fault_of place (length insns) (operation_of insn.code) insn
+own_fault_here insns place insn here = ap (λ o. of_insn None o (fault_of place (length insns))) here
+
+-- a fault of a single instruction is the one that is told of it
+pub own_fault_told : (insns : List Insn) (fault : CheckFault) → stage_of fault ≡ 3 → HasFault insns fault → own_fault insns (place_of fault) ≡ Some fault
+own_fault_told insns Empty stage has = absurd (omega arith)
+own_fault_told insns TooLong stage has = absurd (omega arith)
+own_fault_told insns NoReturn stage has = absurd (omega arith)
+own_fault_told insns (Unstored place word) stage has = absurd (omega arith)
+own_fault_told insns (Code place) stage (insn, here, e) =
+    own_fault_here insns place insn here ∙ ap (λ o. fault_of place (length insns) o insn) e
+own_fault_told insns (Load place) stage (insn, here, (e, wrong)) =
+    let test : ((insn.k % 4 == 0) && nat_lt insn.k 64) ≡ false = elim wrong [ inl ragged ↦ false_left _ _ (ne_eqb _ _ ragged) | inr out ↦ false_right (insn.k % 4 == 0) _ (le-ltb _ _ out) ] in
+    own_fault_here insns place insn here ∙ (ap (λ o. fault_of place (length insns) o insn) e ∙ told _ _ test)
+own_fault_told insns (DivZero place) stage (insn, here, (e, none)) =
+    own_fault_here insns place insn here ∙ (ap (λ o. fault_of place (length insns) o insn) e ∙ told _ _ (le-ltb 0 insn.k (omega arith)))
+own_fault_told insns (Shift place) stage (insn, here, (inl e, out)) =
+    own_fault_here insns place insn here ∙ (ap (λ o. fault_of place (length insns) o insn) e ∙ told _ _ (le-ltb _ _ out))
+own_fault_told insns (Shift place) stage (insn, here, (inr e, out)) =
+    own_fault_here insns place insn here ∙ (ap (λ o. fault_of place (length insns) o insn) e ∙ told _ _ (le-ltb _ _ out))
+own_fault_told insns (Word place) stage (word, inl (insn, here, loads), out) =
+    own_fault_here insns place insn here ∙ loads_told place (length insns) word insn (operation_of insn.code) loads out
+own_fault_told insns (Word place) stage (word, inr (insn, here, stores), out) =
+    own_fault_here insns place insn here ∙ stores_told place (length insns) word insn (operation_of insn.code) stores out
+own_fault_told insns (JumpOut place) stage (target, (insn, here, jumps), out) =
+    own_fault_here insns place insn here ∙ jumps_told place (length insns) target insn (operation_of insn.code) jumps out
+
+-- an answer of the instruction at a place
+pub of_insn-Some : (insns : List Insn) (place : ℕ) (says : Option Operation → Insn → Option CheckFault) (fault : CheckFault) → of_insn None (slice_get insns place) says ≡ Some fault → At insns place (λ o insn. says o insn ≡ Some fault)
+of_insn-Some insns place says fault e = go (slice_get insns place) refl e
+  where
+    go : (o : Option Insn) → slice_get insns place ≡ o → of_insn None o says ≡ Some fault → At insns place (λ o insn. says o insn ≡ Some fault)
+    go None here e = cc
+    go (Some insn) here e = (insn, here, e)
 
 -- the instruction at a place, if there is one, fits there
 abbrev pub FitsAt : List Insn → ℕ → Type 0
 FitsAt insns place =
     (insn : Insn) → slice_get insns place ≡ Some insn → Fits place (length insns) (operation_of insn.code) insn
 
--- a fault of a single instruction is at a place where the instruction does not fit
-pub no_fault_where_fits : (insns : List Insn) (fault : CheckFault) → stage_of fault ≡ 3 → FitsAt insns (place_of fault) → HasFault insns fault → ⊥
-no_fault_where_fits insns Empty stage fits h = omega arith
-no_fault_where_fits insns TooLong stage fits h = omega arith
-no_fault_where_fits insns NoReturn stage fits h = omega arith
-no_fault_where_fits insns (Unstored place word) stage fits h = omega arith
-no_fault_where_fits insns (Code place) stage fits (insn, here, e) =
-    subst (λ o. Fits place (length insns) o insn) e (fits insn here)
-no_fault_where_fits insns (Load place) stage fits (insn, here, (e, wrong)) =
-    let fine : (insn.k % 4 ≡ 0) × (insn.k < 64) = subst (λ o. Fits place (length insns) o insn) e (fits insn here) in
-    elim wrong [ inl ragged ↦ ragged fine.0 | inr out ↦ omega arith ]
-no_fault_where_fits insns (DivZero place) stage fits (insn, here, (e, zeroed)) =
-    let fine : 0 < insn.k = subst (λ o. Fits place (length insns) o insn) e (fits insn here) in
-    omega arith
-no_fault_where_fits insns (Shift place) stage fits (insn, here, (inl e, out)) =
-    let fine : insn.k < 32 = subst (λ o. Fits place (length insns) o insn) e (fits insn here) in
-    omega arith
-no_fault_where_fits insns (Shift place) stage fits (insn, here, (inr e, out)) =
-    let fine : insn.k < 32 = subst (λ o. Fits place (length insns) o insn) e (fits insn here) in
-    omega arith
-no_fault_where_fits insns (Word place) stage fits (word, inl (insn, here, loads), out) =
-    let below : word < 16 = loads_below place (length insns) word insn _ loads (fits insn here) in omega arith
-no_fault_where_fits insns (Word place) stage fits (word, inr (insn, here, stores), out) =
-    let below : word < 16 = stores_below place (length insns) word insn _ stores (fits insn here) in omega arith
-no_fault_where_fits insns (JumpOut place) stage fits (target, (insn, here, jumps), out) =
-    let inside : target < length insns = jumps_inside place (length insns) target insn _ jumps (fits insn here) in
-    omega arith
-
 -- the instruction where an index past the end would read one
 abbrev pub no_insn : Insn
 no_insn = record { code = 0; jt = 0; jf = 0; k = 0 }
-
-pub fits_here : (insns : List Insn) (place : ℕ) (insn : Insn) → slice_get insns place ≡ Some insn → fault_of place (length insns) (operation_of insn.code) insn ≡ None → FitsAt insns place
-fits_here insns place insn here none other there =
-    let same : insn ≡ other = cc in
-    subst (λ i. Fits place (length insns) (operation_of i.code) i) same (fits_if_none place (length insns) insn (operation_of insn.code) none)
 
 -- what an instruction that fits and does not lead out asks of the sets of scratch words
 pub names_word : (place count : ℕ) (insn : Insn) (o : Option Operation) → Fits place count o insn → NamesWord o insn

@@ -11,8 +11,9 @@ use Rattle.sk_check.specs.declared.fault.CheckFault.TheVariants.{Empty, TooLong,
 use Rattle.sk_check.specs.Paths.{At, LeadsTo, Returns, IsUnstored}
 use Rattle.sk_check.specs.Valid.{HasFault, IsValid, IsFirstFault, stage_of, place_of}
 use Rattle.sk_check.specs.Places.{fault_of, Fits, NoFaultBefore}
+use Rattle.sk_check.specs.FirstFault.{own_fault}
 use Rattle.sk_check.proofs.ForwardPass.{NoneUnstored}
-use Rattle.sk_check.proofs.PlaceFaults.{IsFaultAt, fault_of-is_fault, fits_if_none, FitsAt, no_fault_where_fits}
+use Rattle.sk_check.proofs.PlaceFaults.{IsFaultAt, fault_of-is_fault, fits_if_none, FitsAt, own_fault_told, of_insn-Some}
 
 none_or_some : {A : Type 0} (o : Option A) → (o ≡ None) ⊎ ((x : A) × (o ≡ Some x))
 none_or_some None = inl refl
@@ -26,21 +27,27 @@ length_bounds insns clear =
 
 -- ---- single instructions
 
-pub first_at : (insns : List Insn) (at : ℕ) (fault : CheckFault) → NoFaultBefore insns 3 → ((place : ℕ) → place < at → FitsAt insns place) → IsFaultAt insns at fault → IsFirstFault insns fault
-first_at insns at fault clear fits is_fault =
+pub first_at : (insns : List Insn) (at : ℕ) (fault : CheckFault) → NoFaultBefore insns 3 → ((place : ℕ) → place < at → own_fault insns place ≡ None) → IsFaultAt insns at fault → IsFirstFault insns fault
+first_at insns at fault clear fine is_fault =
     let stage : stage_of fault ≡ 3 = is_fault.stage in
     let place : place_of fault ≡ at = is_fault.at in (
       is_fault.has,
       λ other before has. elim before [
         | inl earlier ↦ clear other (omega arith) has
-        | inr same ↦ no_fault_where_fits insns other (omega arith) (fits (place_of other) (omega arith)) has
+        | inr same ↦ let none = fine (place_of other) (omega arith) in let some = own_fault_told insns other (omega arith) has in cc
       ],
     )
 
-pub all_fit : (insns : List Insn) → NoFaultBefore insns 3 → ((place : ℕ) → place < length insns → FitsAt insns place) → NoFaultBefore insns 4
-all_fit insns clear fits fault early has =
-    let single : (stage_of fault ≡ 3) → ⊥ = λ stage. no_fault_where_fits insns fault stage (λ insn here. fits (place_of fault) (slice_get_within insns (place_of fault) insn here) insn here) has in
+pub all_fine : (insns : List Insn) → NoFaultBefore insns 3 → ((place : ℕ) → place < length insns → own_fault insns place ≡ None) → NoFaultBefore insns 4
+all_fine insns clear fine fault early has =
+    let single : (stage_of fault ≡ 3) → ⊥ = λ stage. told_inside fault (own_fault_told insns fault stage has) in
     clear fault (omega arith) has
+  where
+    told_inside : (fault : CheckFault) → own_fault insns (place_of fault) ≡ Some fault → ⊥
+    told_inside fault some =
+        let at = of_insn-Some insns (place_of fault) (fault_of (place_of fault) (length insns)) fault some in
+        let none = fine (place_of fault) (slice_get_within insns (place_of fault) at.0 at.1) in
+        cc
 
 pub fits_at : (insns : List Insn) → NoFaultBefore insns 4 → (place : ℕ) → FitsAt insns place
 fits_at insns clear place insn here =

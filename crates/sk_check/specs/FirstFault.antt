@@ -63,12 +63,20 @@ unstored_of insns place (Some (LoadScratch register)) insn =
     unless (not (is_bare insns insn.k place place)) (Unstored place insn.k)
 unstored_of insns place operation insn = None
 
+-- the fault of the instruction at a place by itself
+abbrev pub own_fault : List Insn → ℕ → Option CheckFault
+own_fault insns place = of_insn None (slice_get insns place) (fault_of place (length insns))
+
+-- the fault of the load at a place
+abbrev pub path_fault : List Insn → ℕ → Option CheckFault
+path_fault insns place = of_insn None (slice_get insns place) (unstored_of insns place)
+
 -- stage by stage: its length, its instructions one by one, its end, its paths
 unfoldable pub first_fault : List Insn → Option CheckFault
 first_fault insns =
     first_of (unless (nat_lt 0 (length insns)) Empty ∷
     unless (nat_le (length insns) 4096) TooLong ∷
-    first_below (length insns) (λ place. of_insn None (slice_get insns place) (fault_of place (length insns))) ∷
+    first_below (length insns) (own_fault insns) ∷
     unless (of_insn false (slice_get insns (length insns - 1)) returns) NoReturn ∷
-    first_below (length insns) (λ place. of_insn None (slice_get insns place) (unstored_of insns place)) ∷
+    first_below (length insns) (path_fault insns) ∷
     [])

@@ -1,4 +1,5 @@
-ghost use Rattle.std.specs.Prelude.{◌≡◌, ◌↔◌, IsOk, IfOk, IfErr, IfNone, IfSome};
+ghost use Rattle.std.specs.Prelude.{◌≡◌, ◌↔◌, IsOk, IfOk, IfErr, IfNone, IfSome, MatchResult};
+ghost use Rattle.sk_check.specs.FirstFault.{first_fault};
 ghost use Rattle.sk_check.specs.Valid.{IsValid, IsFirstFault};
 
 use crate::CheckFault;
@@ -44,6 +45,9 @@ pub fn check(insns: Vec<Insn>) -> Result<Checked, (Vec<Insn>, CheckFault)>
     ensures value { IfOk result (λ checked. checked ≡ insns.items) }
     ensures given_back { IfErr result (λ refused. refused.0 ≡ insns) }
     ensures first { IfErr result (λ refused. IsFirstFault insns.items refused.1) }
+
+    // The same as a function of the instructions.
+    ensures told { MatchResult result (λ _. first_fault insns.items ≡ None) (λ refused. first_fault insns.items ≡ Some refused.1) }
 {
     match first_fault(&insns) {
         None => Ok(Checked { items: insns }),

@@ -3,6 +3,7 @@
 
 mod checked;
 mod fault;
+pub mod laws;
 mod pass;
 mod places;
 #[cfg(test)]

@@ -1,3 +1,2 @@
 pub mod LineCount
-pub mod Judgements
 pub mod Ending

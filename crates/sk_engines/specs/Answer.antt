@@ -1,5 +1,5 @@
 -- What a command answers: a text and an exit status.
-use Rattle.std.specs.Prelude.{ℕ, ◌≡◌, ◌++◌, nat_lt, List, [], ◌∷◌, length, codes, MatchBool}
+use Rattle.std.specs.Prelude.{ℕ, ◌++◌, nat_lt, if◌then◌else◌, List, [], ◌∷◌, length, codes}
 use Rattle.std.specs.Fmt.{decimal}
 
 pub record Answer : Type 0 where
@@ -23,6 +23,6 @@ abbrev pub at_line : ℕ → List ℕ → Answer
 at_line number what = refused (codes "skern: line " ++ (decimal number ++ (codes ": " ++ line what)))
 
 -- a command takes inputs of at most 1,048,576 bytes, and answers as it says on these
-unfoldable pub WithinLimit : (List ℕ → Answer → Type 0) → List ℕ → Answer → Type 0
-WithinLimit Answers input answer =
-    MatchBool (nat_lt 1048576 (length input)) (answer ≡ at_line 0 (codes "over the limit")) (Answers input answer)
+unfoldable pub within_limit : (List ℕ → Answer) → List ℕ → Answer
+within_limit answer input =
+    if nat_lt 1048576 (length input) then at_line 0 (codes "over the limit") else answer input

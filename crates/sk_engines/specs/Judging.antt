@@ -1,17 +1,10 @@
--- Why an image is refused, and the texts of the refusals.
-use Rattle.std.specs.Prelude.{ℕ, ◌++◌, List, codes, Option, Some, None}
+-- The texts of images and programs that are refused.
+use Rattle.std.specs.Prelude.{ℕ, ◌++◌, List, codes}
 use Rattle.std.specs.Fmt.{decimal}
-use Rattle.sk_insn.specs.declared.insn.Insn.{Insn}
 use Rattle.sk_insn.specs.declared.image.ImageFault.{ImageFault}
 use Rattle.sk_insn.specs.declared.image.ImageFault.TheVariants.{Ragged, Empty as EmptyImage, TooLong as LongImage, Memory}
 use Rattle.sk_check.specs.declared.fault.CheckFault.{CheckFault}
 use Rattle.sk_check.specs.declared.fault.CheckFault.TheVariants.{Empty, TooLong, Code, Load, DivZero, Shift, Word, Jump, NoReturn, Unstored}
-use Rattle.sk_check.specs.Valid.{IsValid, IsFirstFault}
-
--- a program is valid, or this is its first fault
-abbrev pub Judges : List Insn → Option CheckFault → Type 0
-Judges program None = IsValid program
-Judges program (Some fault) = IsFirstFault program fault
 
 -- bytes that are no image
 abbrev pub image_fault_text : ImageFault → List ℕ

@@ -1,11 +1,13 @@
 //! `skern check`: whether an image is a valid program, and its first fault where it is not.
-ghost use Rattle.std.specs.Prelude.{◌≡◌, ◌≤◌, ◌++◌, IfOk, IfSome, Option, codes, length};
+ghost use Rattle.std.specs.Prelude.{◌≡◌, ◌≤◌, ◌++◌, IfOk, IfSome, codes, length};
 ghost use Rattle.std.specs.Fmt.{decimal};
-ghost use Rattle.sk_check.specs.declared.fault.CheckFault.{CheckFault};
 ghost use Rattle.sk_engines.specs.Answer.{done, refused, line};
-ghost use Rattle.sk_engines.specs.Judging.{Judges, image_fault_text, check_fault_text};
-ghost use Rattle.sk_engines.specs.CheckCommand.{IsCheckAnswer, AnswersDigits, AnswersImage, judged_answer};
-ghost use Rattle.sk_engines.specs.Engine.{Ends, CountsReads, CountsWrites};
+ghost use Rattle.sk_engines.specs.Judging.{image_fault_text, check_fault_text};
+ghost use Rattle.sk_text.specs.Hexadecimal.{hex_text_bytes};
+ghost use Rattle.sk_insn.specs.Instructions.{instructions_of};
+ghost use Rattle.sk_check.specs.FirstFault.{first_fault};
+ghost use Rattle.sk_engines.specs.CheckCommand.{check_answer, digits_answer, image_answer, judged_answer};
+ghost use Rattle.sk_engines.specs.Engine.{Delivers, CountsReads, CountsWrites};
 ghost use Rattle.sk_engines.specs.Told.{answer_of};
 
 use crate::engine::{MOST_BYTES, deliver, input};
@@ -25,7 +27,7 @@ pub fn check_engine<R: Source, W: Sink>(
     writer: &mut W,
 ) -> Result<u8, CommandFault>
     ensures told { IfSome (R.remaining reader.old) (λ input.
-        Ends (IsCheckAnswer input) result (W.contents writer.old) (W.contents writer.new)) }
+        Delivers (check_answer input) result (W.contents writer.old) (W.contents writer.new)) }
     ensures status { IfOk result (λ status. status ≤ 1) }
     ensures reads { CountsReads result (R.failed reader.old) (R.failed reader.new) }
     ensures writes { CountsWrites result (W.failed writer.old) (W.failed writer.new) }
@@ -35,9 +37,9 @@ pub fn check_engine<R: Source, W: Sink>(
     deliver(writer, &told)
 }
 
-#[tactic(auto, unfolding(crate::specs::Answer::WithinLimit))]
+#[tactic(auto, unfolding(crate::specs::Answer::within_limit))]
 fn check_answer(alloc: Global, input: &[u8]) -> Result<Told, AllocError>
-    ensures answer { IfOk result (λ told. IsCheckAnswer input.now (answer_of told)) }
+    ensures answer { IfOk result (λ told. answer_of told ≡ check_answer input.now) }
 {
     if input.len() > MOST_BYTES {
         return Told::at_line(alloc, 0, "over the limit");
@@ -46,7 +48,7 @@ fn check_answer(alloc: Global, input: &[u8]) -> Result<Told, AllocError>
 }
 
 fn digits_answer(alloc: Global, input: &[u8]) -> Result<Told, AllocError>
-    ensures answer { IfOk result (λ told. AnswersDigits input.now (answer_of told)) }
+    ensures answer { IfOk result (λ told. answer_of told ≡ digits_answer (hex_text_bytes input.now)) }
 {
     match bytes_of_text(alloc, input) {
         Ok(image) => image_answer(alloc, &image),
@@ -56,7 +58,7 @@ fn digits_answer(alloc: Global, input: &[u8]) -> Result<Told, AllocError>
 }
 
 fn image_answer(alloc: Global, image: &[u8]) -> Result<Told, AllocError>
-    ensures answer { IfOk result (λ told. AnswersImage image.now (answer_of told)) }
+    ensures answer { IfOk result (λ told. answer_of told ≡ image_answer (instructions_of image.now)) }
 {
     match read_insns(alloc, image) {
         Ok(insns) => program_answer(alloc, insns),
@@ -75,10 +77,9 @@ pub fn image_refused(alloc: Global, fault: ImageFault) -> Result<Told, AllocErro
     Ok(Told { text, status: 1 })
 }
 
-#[tactic(auto, using(crate::proofs::Judgements::judged_so))]
 fn program_answer(alloc: Global, insns: Vec<Insn>) -> Result<Told, AllocError>
-    ensures answer { IfOk result (λ told. (fault : Option CheckFault) ×
-        Judges insns.items fault × (answer_of told ≡ judged_answer (length insns.items) fault)) }
+    ensures answer { IfOk result (λ told.
+        answer_of told ≡ judged_answer (length insns.items) (first_fault insns.items)) }
 {
     let count = insns.len();
     let fault = judged(insns);
@@ -90,7 +91,7 @@ fn program_answer(alloc: Global, insns: Vec<Insn>) -> Result<Told, AllocError>
 
 /// The first fault of a program, if it has one.
 pub fn judged(insns: Vec<Insn>) -> Option<CheckFault>
-    ensures judged { Judges insns.items result }
+    ensures judged { result ≡ first_fault insns.items }
 {
     match check(insns) {
         Ok(_) => None,

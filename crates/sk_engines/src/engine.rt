@@ -26,7 +26,7 @@ pub fn input<R: Source>(alloc: Global, reader: &mut R) -> Result<Vec<u8>, Comman
 
 /// Sends the answer's text, and tells its status.
 pub fn deliver<W: Sink>(writer: &mut W, told: &Told) -> Result<u8, CommandFault>
-    ensures told { Delivers result (answer_of told.now) (W.contents writer.old) (W.contents writer.new) }
+    ensures told { Delivers (answer_of told.now) result (W.contents writer.old) (W.contents writer.new) }
     ensures status { IfOk result (λ status. status ≤ 1) }
     ensures writes { CountsWrites result (W.failed writer.old) (W.failed writer.new) }
     ensures no_read { result ≢ Err CommandFault.Read }

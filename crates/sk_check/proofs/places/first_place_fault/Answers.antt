@@ -1,9 +1,10 @@
-use Rattle.std.proofs.Common.{◌≡◌, Some, slice_index_or, refl, sym, below_more, arith}
+use Rattle.std.proofs.Common.{◌≡◌, ◌∙◌, Some, None, slice_index_or, refl, sym, below_more, arith}
 use Rattle.std.specs.Prelude.{slice_get}
 use Rattle.std.proofs.lemmas.Option.{slice_get-get_or}
 use Rattle.sk_insn.specs.Operations.{operation_of}
-use Rattle.sk_check.proofs.PlaceFaults.{FitsAt, no_insn, fault_of-is_fault, fits_here}
-use Rattle.sk_check.proofs.Stages.{length_bounds, first_at, all_fit}
+use Rattle.sk_check.specs.FirstFault.{own_fault}
+use Rattle.sk_check.proofs.PlaceFaults.{no_insn, fault_of-is_fault, own_fault_here}
+use Rattle.sk_check.proofs.Stages.{length_bounds, first_at, all_fine}
 use Rattle.sk_check.proofs.places.first_place_fault.Goals as goal
 
 pub place_fault-requires-clause-count : goal.place_fault-requires-clause-count
@@ -21,9 +22,10 @@ pub loop-at-preserved : goal.loop-at-preserved
 loop-at-preserved c =
     let insns = c.args.insns.now in
     let at = c.loop-at.at in
-    let here : slice_get insns at ≡ Some (slice_index_or insns at no_insn) = slice_get-get_or insns at no_insn c.loop-at-test.true in
-    below_more (FitsAt insns) at c.loop-at.invariant (fits_here insns at (slice_index_or insns at no_insn) here (sym c.in_default.ensures))
+    let insn = slice_index_or insns at no_insn in
+    let here : slice_get insns at ≡ Some insn = slice_get-get_or insns at no_insn c.loop-at-test.true in
+    below_more (λ place. own_fault insns place ≡ None) at c.loop-at.invariant (own_fault_here insns at insn here ∙ sym c.in_default.ensures)
 
 pub returns-clause-none : goal.returns-clause-none
 returns-clause-none c =
-    all_fit c.args.insns.now c.requires (λ place inside. c.loop-at.invariant place (omega arith))
+    all_fine c.args.insns.now c.requires (λ place inside. c.loop-at.invariant place (omega arith))
