@@ -2,10 +2,10 @@
 ghost use Rattle.std.specs.Prelude.{◌≡◌};
 ghost use Rattle.sk_ends.specs.Failures.{count_after};
 
-use crate::sink::Sink;
-use crate::source::Source;
+mod reading;
+mod writing;
+
 use std::io;
-use std::io::{ErrorKind, Read, Write};
 
 /// A reader or a writer, and how many of its calls have failed.
 #[derive(Drop)]
@@ -30,45 +30,6 @@ impl<T> Counted<T> {
         ensures same { result ≡ inner_of self }
     {
         self.inner
-    }
-}
-
-impl<T: Read> Source for Counted<T> {
-    ghost use Rattle.sk_ends.specs.Counted.{inner_of, failures_of};
-
-    ghost remaining = { λ c. T.remaining (inner_of c) };
-
-    ghost failed = { λ c. failures_of c };
-
-    fn read(&mut self, buffer: &mut [u8]) -> io::Result<usize> {
-        let answer = self.inner.read(buffer);
-        self.failures = noted(self.failures, &answer);
-        answer
-    }
-
-    fn failures(&self) -> u64 {
-        self.failures
-    }
-}
-
-impl<T: Write> Sink for Counted<T> {
-    ghost use Rattle.sk_ends.specs.Counted.{inner_of, failures_of};
-
-    ghost contents = { λ c. T.contents (inner_of c) };
-
-    ghost failed = { λ c. failures_of c };
-
-    fn write(&mut self, bytes: &[u8]) -> io::Result<usize> {
-        let answer = match self.inner.write(bytes) {
-            Ok(0) if !bytes.is_empty() => Err(io::Error::from(ErrorKind::WriteZero)),
-            answer => answer,
-        };
-        self.failures = noted(self.failures, &answer);
-        answer
-    }
-
-    fn failures(&self) -> u64 {
-        self.failures
     }
 }
 

@@ -88,12 +88,7 @@ pub fn write_insns(alloc: Global, insns: &[Insn]) -> Result<Vec<u8>, AllocError>
 {
     let mut image = Vec::with_capacity(alloc, 8 * insns.len())?;
     for insn in insns {
-        let mut cell = [0u8; 8];
-        LittleEndian::write_u16(&mut cell, insn.code);
-        cell[2] = insn.jt;
-        cell[3] = insn.jf;
-        LittleEndian::write_u32(&mut cell[4..], insn.k);
-        image.extend_from_slice(&cell)?;
+        image.extend_from_slice(&insn.bytes())?;
     }
     Ok(image)
 }

@@ -50,16 +50,16 @@ impl<const N: usize> fmt::Display for HexDigits<N> {
 
 /// A number of 32 bits in 8 digits.
 #[tactic(auto, unfolding(crate::specs::Hexadecimal::hex_word))]
-pub fn hex_word(value: u32) -> HexDigits<8>
-    ensures digits { result ≡ hex_word value }
+pub fn hex_word(word: u32) -> HexDigits<8>
+    ensures digits { result ≡ hex_word word }
 {
-    HexDigits::of(&value.to_be_bytes())
+    HexDigits::of(&word.to_be_bytes())
 }
 
 /// A number of 16 bits in 4 digits.
 #[tactic(auto, unfolding(crate::specs::Hexadecimal::hex_half))]
-pub fn hex_half(value: u16) -> HexDigits<4>
-    ensures digits { result ≡ hex_half value }
+pub fn hex_half(half: u16) -> HexDigits<4>
+    ensures digits { result ≡ hex_half half }
 {
-    HexDigits::of(&value.to_be_bytes())
+    HexDigits::of(&half.to_be_bytes())
 }

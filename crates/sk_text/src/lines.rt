@@ -50,8 +50,9 @@ impl<'a> Iterator for Words<'a> {
     }
 }
 
-// What stands before the first such byte, and what stands after it.
-fn cut(text: &[u8], byte: u8) -> (&[u8], &[u8])
+/// What stands before the first such byte, and what stands after it; all and nothing where there is
+/// none.
+pub fn cut(text: &[u8], byte: u8) -> (&[u8], &[u8])
     ensures front { result.0.now ≡ before_first (λ b. b == byte) text.now }
     ensures back { result.1.now ≡ after_first (λ b. b == byte) text.now }
 {

@@ -1,5 +1,5 @@
 //! Words that are numbers.
-ghost use Rattle.std.specs.Prelude.{◌≡◌, ◌≤◌, ◌+◌, ◌*◌, ◌&&◌, is_some};
+ghost use Rattle.std.specs.Prelude.{◌≡◌, ◌≤◌, ◌+◌, ◌*◌, ◌&&◌, is_some, IfSome};
 ghost use Rattle.std.specs.Option.{SomeIff};
 ghost use Rattle.std.specs.List.{list_all};
 ghost use Rattle.sk_text.specs.Lines.{has_bytes};
@@ -8,6 +8,7 @@ ghost use Rattle.sk_text.specs.Numbers.{is_digit_in, number_in, number_of, up_to
 /// The number that a word is, where it is one and at most `most`. It may have any number of digits.
 pub fn number_up_to(word: &[u8], most: u64) -> Option<u64>
     ensures value { result ≡ up_to most (number_of word.now) }
+    ensures bound { IfSome result (λ number. number ≤ most) }
 {
     let (digits, radix) = digits_of(word);
     digits_up_to(digits, radix, most)
@@ -58,6 +59,7 @@ fn digits_up_to(digits: &[u8], radix: u32, most: u64) -> Option<u64>
     requires low { 2 ≤ radix }
     requires high { radix ≤ 36 }
     ensures value { result ≡ up_to most (number_in radix digits.now) }
+    ensures bound { IfSome result (λ number. number ≤ most) }
 {
     if digits.is_empty() {
         return None;

@@ -1,0 +1,6 @@
+pub mod Block
+pub mod Faults
+pub mod Grammar
+pub mod Labels
+pub mod Passes
+pub mod Views

@@ -1,0 +1,26 @@
+-- The code's values as the definitions see them.
+use Rattle.std.specs.Prelude.{ℕ, List, map}
+use Rattle.std.specs.declared.hash.FoldHasher.{FoldHasher}
+use Rattle.std.specs.declared.hash.BuildHasherDefault.{BuildHasherDefault}
+use Rattle.indexmap.specs.IndexMap.{IndexMap}
+use Rattle.std.proofs.Common.{Bor}
+use Rattle.sk_asm.specs.declared.statement.Target.{Target}
+use Rattle.sk_asm.specs.declared.statement.Parsed.{Parsed}
+use Rattle.sk_asm.specs.declared.statement.Target.TheVariants as targets
+use Rattle.sk_asm.specs.declared.statement.Parsed.TheVariants as parsed
+use Rattle.sk_asm.specs.Grammar.{Destination, Further, Labelled, Statement, Silent, Marks, Plain, Jumps, Branches}
+use Rattle.sk_asm.specs.Labels.{Labels}
+
+abbrev pub destination : Target ℕ → Destination
+destination (targets.Further count) = Further count
+destination (targets.Labelled name) = Labelled name.now
+
+abbrev pub statement : Parsed → Statement
+statement parsed.Silent = Silent
+statement (parsed.Label name) = Marks name.now
+statement (parsed.Plain given) = Plain given
+statement (parsed.Jump code to) = Jumps code (destination to)
+statement (parsed.Branch code k jt jf) = Branches code k (destination jt) (destination jf)
+
+abbrev pub labels_in : IndexMap (Bor (List ℕ)) ℕ (BuildHasherDefault FoldHasher) → Labels
+labels_in labels = map (λ entry. (entry.0.now, entry.1)) labels.entries

@@ -1,0 +1,15 @@
+//! The assembler: texts with one instruction or label a line, as instructions.
+#![tactic(auto)]
+
+mod block;
+mod fault;
+mod parse;
+mod passes;
+mod shape;
+mod statement;
+mod value;
+
+pub use block::is_end;
+pub use fault::AsmFault;
+pub use passes::{assemble, assemble_block};
+pub use shape::Shape;

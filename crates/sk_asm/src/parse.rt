@@ -1,0 +1,139 @@
+//! Lines as statements.
+ghost use Rattle.std.specs.Prelude.{◌≡◌};
+ghost use Rattle.std.specs.Option.{option_map};
+ghost use Rattle.sk_text.specs.Lines.{words_of};
+ghost use Rattle.sk_asm.specs.Grammar.{Plain, insn, shaped, branching, raw, instruction_of, spoken, statement_of};
+ghost use Rattle.sk_asm.specs.Passes.{checked};
+ghost use Rattle.sk_asm.specs.Faults.{Answers};
+ghost use Rattle.sk_asm.specs.Views.{statement};
+
+use crate::fault::AsmFault;
+use crate::shape::Shape;
+use crate::statement::Parsed;
+use crate::value::{byte, far, half, label, near, returned, word};
+use sk_insn::{Insn, Operation};
+use sk_text::{
+    Words, four_words, is_passed_over, is_printable, is_word, no_word, one_word, three_words,
+    two_words,
+};
+
+// The most bytes that a line may have.
+const LONGEST_LINE: usize = 255;
+
+// What line `n` says, if nothing is wrong with it by itself.
+#[tactic(auto, unfolding(crate::specs::Passes::checked))]
+pub(crate) fn check_line(n: usize, line: &[u8]) -> Result<Parsed<'_>, AsmFault>
+    ensures exact { Answers statement result (checked n line.now) }
+{
+    if line.len() > LONGEST_LINE {
+        return Err(AsmFault::TooLong { n });
+    }
+    if !is_printable(line) {
+        return Err(AsmFault::Line { n });
+    }
+    match parse_line(line) {
+        Some(parsed) => Ok(parsed),
+        None => Err(AsmFault::Line { n }),
+    }
+}
+
+#[tactic(auto, unfolding(crate::specs::Grammar::statement_of))]
+fn parse_line(line: &[u8]) -> Option<Parsed<'_>>
+    ensures exact { option_map statement result ≡ statement_of line.now }
+{
+    if is_passed_over(line) {
+        return Some(Parsed::Silent);
+    }
+    parse_words(Words(line))
+}
+
+#[tactic(auto, unfolding(crate::specs::Grammar::spoken))]
+fn parse_words(mut words: Words<'_>) -> Option<Parsed<'_>>
+    ensures exact { option_map statement result ≡ spoken (words_of words.entry.0.now) }
+{
+    let Some(first) = words.next() else {
+        return Some(Parsed::Silent);
+    };
+    match label(first) {
+        Some(name) => {
+            no_word(words)?;
+            Some(Parsed::Label(name))
+        }
+        None => parse_instruction(first, words),
+    }
+}
+
+#[tactic(auto, unfolding(crate::specs::Grammar::instruction_of))]
+fn parse_instruction<'a>(first: &'a [u8], words: Words<'a>) -> Option<Parsed<'a>>
+    ensures exact { option_map statement result ≡ instruction_of first.now (words_of words.entry.0.now) }
+{
+    if is_word(first, b".insn") {
+        return parse_fields(words);
+    }
+    let operation = Operation::named(first)?;
+    parse_form(Shape::of(operation), operation.code(), words)
+}
+
+#[tactic(auto, unfolding(crate::specs::Grammar::shaped))]
+fn parse_form<'a>(shape: Shape, code: u16, words: Words<'a>) -> Option<Parsed<'a>>
+    ensures exact { option_map statement result ≡ shaped shape code (words_of words.entry.0.now) }
+{
+    match shape {
+        Shape::Bare => {
+            no_word(words)?;
+            Some(plain(code, 0))
+        }
+        Shape::Number => {
+            let k = word(one_word(words)?)?;
+            Some(plain(code, k))
+        }
+        Shape::Action => {
+            let k = returned(one_word(words)?)?;
+            Some(plain(code, k))
+        }
+        Shape::Target => {
+            let to = far(one_word(words)?)?;
+            Some(Parsed::Jump { code, to })
+        }
+        Shape::Compare => {
+            let (k, jt, jf) = three_words(words)?;
+            branch(code, word(k)?, jt, jf)
+        }
+        Shape::CompareIndex => {
+            let (jt, jf) = two_words(words)?;
+            branch(code, 0, jt, jf)
+        }
+    }
+}
+
+fn plain<'a>(code: u16, k: u32) -> Parsed<'a>
+    ensures exact { statement result ≡ Plain (insn code 0 0 k) }
+{
+    Parsed::Plain(Insn {
+        code,
+        jt: 0,
+        jf: 0,
+        k,
+    })
+}
+
+#[tactic(auto, unfolding(crate::specs::Grammar::branching))]
+fn branch<'a>(code: u16, k: u32, jt: &'a [u8], jf: &'a [u8]) -> Option<Parsed<'a>>
+    ensures exact { option_map statement result ≡ branching code k jt.now jf.now }
+{
+    let jt = near(jt)?;
+    let jf = near(jf)?;
+    Some(Parsed::Branch { code, k, jt, jf })
+}
+
+#[tactic(auto, unfolding(crate::specs::Grammar::raw))]
+fn parse_fields<'a>(words: Words<'a>) -> Option<Parsed<'a>>
+    ensures exact { option_map statement result ≡ raw (words_of words.entry.0.now) }
+{
+    let (code, jt, jf, k) = four_words(words)?;
+    let code = half(code)?;
+    let jt = byte(jt)?;
+    let jf = byte(jf)?;
+    let k = word(k)?;
+    Some(Parsed::Plain(Insn { code, jt, jf, k }))
+}

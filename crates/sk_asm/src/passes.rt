@@ -1,0 +1,246 @@
+//! The two passes over the lines: one for the labels, and one for the instructions.
+ghost use Rattle.std.specs.Prelude.{◌≡◌, ◌+◌, ◌-◌, ◌≤◌, ◌<◌, ◌^◌, ◌++◌, length, IfOk, MatchResult, OnOk, Ok, [], true, false, vec_len};
+ghost use Rattle.std.specs.Option.{option_map};
+ghost use Rattle.sk_asm.specs.Block.{lines_in, until_end};
+ghost use Rattle.sk_asm.specs.Faults.{Answers, IsFaultOf};
+ghost use Rattle.sk_asm.specs.Labels.{Labels as Places, place_of};
+ghost use Rattle.sk_asm.specs.Passes.{noted, counted, marked, labelled, landed, distance, resolved, emitted, assembled, assembled_lines, in_front};
+ghost use Rattle.sk_asm.specs.Views.{destination, statement, labels_in};
+ghost use Rattle.sk_text.specs.Lines.{lines_of};
+
+use crate::block::BlockLines;
+use crate::fault::AsmFault;
+use crate::parse::check_line;
+use crate::statement::{Parsed, Target};
+use indexmap::IndexMap;
+use sk_insn::{Insn, MOST_INSNS};
+use sk_text::Lines;
+use std::alloc::{AllocError, Global};
+
+// The most bytes that a text may have.
+const LONGEST_TEXT: usize = 1_048_576;
+
+type Labels<'a> = IndexMap<&'a [u8], usize>;
+
+/// The instructions that a text stands for.
+#[tactic(auto, unfolding(crate::specs::Passes::assembled))]
+pub fn assemble(alloc: Global, text: &[u8]) -> Result<Vec<Insn>, AsmFault>
+    ensures exact { Answers (λ insns. insns.items) result (assembled text.now) }
+{
+    if text.len() > LONGEST_TEXT {
+        return Err(AsmFault::TooLong { n: 0 });
+    }
+    assemble_lines(alloc, 0, text, false)
+}
+
+/// The instructions that the lines of a block stand for, up to the first line `end` or to the end of
+/// the text. Before the first of them stand `before` lines.
+pub fn assemble_block(alloc: Global, before: usize, text: &[u8]) -> Result<Vec<Insn>, AsmFault>
+    requires numbers { before + length text.now < 2 ^ 64 }
+    ensures exact { Answers (λ insns. insns.items) result (assembled_lines (before + 1) (until_end (lines_of text.now))) }
+{
+    assemble_lines(alloc, before, text, true)
+}
+
+#[tactic(auto, unfolding(crate::specs::Passes::assembled_lines))]
+fn assemble_lines(
+    alloc: Global,
+    before: usize,
+    text: &[u8],
+    is_block: bool,
+) -> Result<Vec<Insn>, AsmFault>
+    requires numbers { before + length text.now < 2 ^ 64 }
+    ensures exact { Answers (λ insns. insns.items) result (assembled_lines (before + 1) (lines_in is_block text.now)) }
+{
+    let labels = find_labels(alloc, before, text, is_block)?;
+    emit(alloc, &labels, before, text, is_block)
+}
+
+// The labels of the lines, with their places.
+fn find_labels<'a>(
+    alloc: Global,
+    before: usize,
+    text: &'a [u8],
+    is_block: bool,
+) -> Result<Labels<'a>, AsmFault>
+    requires numbers { before + length text.now < 2 ^ 64 }
+    ensures exact { Answers labels_in result (labelled (before + 1) [] 0 (lines_in is_block text.now)) }
+{
+    let rest = Lines(text);
+    let mut labels = IndexMap::new(alloc);
+    let mut at = 0;
+    let mut n = before;
+    for line in (BlockLines { rest, is_block }) {
+        n += 1;
+        let parsed = check_line(n, line)?;
+        at = note(&mut labels, n, at, parsed)?;
+    }
+    Ok(labels)
+}
+
+// Notes the statement of line `n`, and gives the place of the next instruction.
+#[tactic(auto, unfolding(crate::specs::Passes::noted))]
+fn note<'a>(
+    labels: &mut Labels<'a>,
+    n: usize,
+    at: usize,
+    parsed: Parsed<'a>,
+) -> Result<usize, AsmFault>
+    ensures exact { MatchResult result
+        (λ next. noted n (labels_in labels.old) at (statement parsed.entry) ≡ Ok (labels_in labels.new, next))
+        (λ fault. IsFaultOf fault (noted n (labels_in labels.old) at (statement parsed.entry))) }
+{
+    match parsed {
+        Parsed::Silent => Ok(at),
+        Parsed::Label(name) => mark(labels, n, at, name),
+        Parsed::Plain(_) | Parsed::Jump { .. } | Parsed::Branch { .. } => count(n, at),
+    }
+}
+
+// The place after one more instruction.
+fn count(n: usize, at: usize) -> Result<usize, AsmFault>
+    ensures exact { (labels : Places) → Answers (λ next. (labels, next)) result (counted n labels at) }
+{
+    if at < MOST_INSNS {
+        Ok(at + 1)
+    } else {
+        Err(AsmFault::TooLong { n })
+    }
+}
+
+// Gives a label the place.
+fn mark<'a>(labels: &mut Labels<'a>, n: usize, at: usize, name: &'a [u8]) -> Result<usize, AsmFault>
+    ensures exact { MatchResult result
+        (λ next. marked n (labels_in labels.old) at name.now ≡ Ok (labels_in labels.new, next))
+        (λ fault. IsFaultOf fault (marked n (labels_in labels.old) at name.now)) }
+{
+    if labels.contains_key(name) {
+        return Err(AsmFault::Twice { n });
+    }
+    labels.insert(name, at)?;
+    Ok(at)
+}
+
+// The instructions of the lines, with the distances of their jumps.
+fn emit(
+    alloc: Global,
+    labels: &Labels<'_>,
+    before: usize,
+    text: &[u8],
+    is_block: bool,
+) -> Result<Vec<Insn>, AsmFault>
+    requires numbers { before + length text.now < 2 ^ 64 }
+    ensures exact { Answers (λ insns. insns.items) result
+        (emitted (labels_in labels.now) (before + 1) 0 (lines_in is_block text.now)) }
+{
+    let rest = Lines(text);
+    let mut insns = Vec::new(alloc);
+    let mut n = before;
+    for line in (BlockLines { rest, is_block }) {
+        n += 1;
+        let parsed = check_line(n, line)?;
+        let given = resolve(labels, n, insns.len(), parsed)?;
+        push_some(&mut insns, given)?;
+    }
+    Ok(insns)
+}
+
+fn push_some(insns: &mut Vec<Insn>, given: Option<Insn>) -> Result<(), AllocError>
+    ensures pushed { OnOk result (insns.new.items ≡ insns.old.items ++ in_front given []) }
+{
+    match given {
+        Some(insn) => Ok(insns.push(insn)?),
+        None => Ok(()),
+    }
+}
+
+// The instruction of line `n` at a place, if its statement is one.
+#[tactic(auto, unfolding(crate::specs::Passes::resolved))]
+fn resolve(
+    labels: &Labels<'_>,
+    n: usize,
+    at: usize,
+    parsed: Parsed<'_>,
+) -> Result<Option<Insn>, AsmFault>
+    ensures exact { Answers (λ given. given) result (resolved (labels_in labels.now) n at (statement parsed.entry)) }
+{
+    match parsed {
+        Parsed::Silent | Parsed::Label(_) => Ok(None),
+        Parsed::Plain(insn) => Ok(Some(insn)),
+        Parsed::Jump { code, to } => {
+            let k = far_distance(labels, n, at, to)?;
+            Ok(Some(Insn {
+                code,
+                jt: 0,
+                jf: 0,
+                k,
+            }))
+        }
+        Parsed::Branch { code, k, jt, jf } => {
+            let jt = near_distance(labels, n, at, jt)?;
+            let jf = near_distance(labels, n, at, jf)?;
+            Ok(Some(Insn { code, jt, jf, k }))
+        }
+    }
+}
+
+#[tactic(auto, unfolding(crate::specs::Passes::distance))]
+fn near_distance(
+    labels: &Labels<'_>,
+    n: usize,
+    at: usize,
+    to: Target<'_, u8>,
+) -> Result<u8, AsmFault>
+    ensures exact { Answers (λ count. count) result (distance (labels_in labels.now) n at 255 (destination to.entry)) }
+{
+    match to {
+        Target::Further(count) => Ok(count),
+        Target::Labelled(name) => {
+            let count = landing(labels, n, at, 255, name)?;
+            Ok(count as u8)
+        }
+    }
+}
+
+#[tactic(auto, unfolding(crate::specs::Passes::distance))]
+fn far_distance(
+    labels: &Labels<'_>,
+    n: usize,
+    at: usize,
+    to: Target<'_, u32>,
+) -> Result<u32, AsmFault>
+    ensures exact { Answers (λ count. count) result (distance (labels_in labels.now) n at (2 ^ 32 - 1) (destination to.entry)) }
+{
+    match to {
+        Target::Further(count) => Ok(count),
+        Target::Labelled(name) => {
+            let count = landing(labels, n, at, 0xffff_ffff, name)?;
+            Ok(count as u32)
+        }
+    }
+}
+
+// How many instructions stand between a place and the label's.
+fn landing(
+    labels: &Labels<'_>,
+    n: usize,
+    at: usize,
+    most: usize,
+    name: &[u8],
+) -> Result<usize, AsmFault>
+    ensures exact { Answers (λ count. count) result (landed n at most (place_of (labels_in labels.now) name.now)) }
+    ensures bound { IfOk result (λ count. count ≤ most) }
+{
+    match place(labels, name) {
+        None => Err(AsmFault::Label { n }),
+        Some(place) if place <= at => Err(AsmFault::Back { n }),
+        Some(place) if most < place - at - 1 => Err(AsmFault::Far { n }),
+        Some(place) => Ok(place - at - 1),
+    }
+}
+
+fn place(labels: &Labels<'_>, name: &[u8]) -> Option<usize>
+    ensures place { result ≡ place_of (labels_in labels.now) name.now }
+{
+    labels.get(name).copied()
+}

@@ -1,0 +1,133 @@
+//! Each public function at words and texts whose answers the grammar gives.
+use super::*;
+use std::test::Fail;
+
+#[test]
+fn cuts_lines_and_words(rt: HostRuntime) {
+    let mut lines = Lines(b"a  bc\n\n ;d\ne");
+    assert_eq!(rt; lines.next(), Some(b"a  bc".as_slice()));
+    assert_eq!(rt; lines.next(), Some(b"".as_slice()));
+    assert_eq!(rt; lines.next(), Some(b" ;d".as_slice()));
+    assert_eq!(rt; lines.next(), Some(b"e".as_slice()));
+    assert!(rt; lines.next().is_none());
+    assert_eq!(rt; Lines(b"").count(), 0);
+    assert_eq!(rt; Lines(b"\n").count(), 1);
+    let mut words = Words(b"  ja\t top ");
+    assert_eq!(rt; words.next(), Some(b"ja\t".as_slice()));
+    assert_eq!(rt; words.next(), Some(b"top".as_slice()));
+    assert!(rt; words.next().is_none());
+}
+
+#[test]
+fn judges_lines(rt: HostRuntime) {
+    for (line, printable, passed_over) in [
+        (b"".as_slice(), true, true),
+        (b"   ", true, true),
+        (b" ; a ~", true, true),
+        (b";\x7f", false, true),
+        (b"a ; b", true, false),
+        (b"a\t", false, false),
+        (b"\x1f", false, false),
+    ] {
+        assert_eq!(rt; is_printable(line), printable);
+        assert_eq!(rt; is_passed_over(line), passed_over);
+    }
+}
+
+#[test]
+fn reads_numbers(rt: HostRuntime) {
+    let most = u64::MAX;
+    for (word, most, number) in [
+        (b"0".as_slice(), most, Some(0)),
+        (b"00255", 255, Some(255)),
+        (b"256", 255, None),
+        (b"0xfFFf", most, Some(65535)),
+        (b"0x0000000000000000001", 1, Some(1)),
+        (b"18446744073709551615", most, Some(most)),
+        (b"18446744073709551616", most, None),
+        (b"0x10000000000000000", most, None),
+    ] {
+        assert_eq!(rt; number_up_to(word, most), number);
+        assert!(rt; is_number(word));
+    }
+    for word in [
+        b"".as_slice(),
+        b"0x",
+        b"0X1",
+        b"+1",
+        b"-1",
+        b"1a",
+        b"0xg",
+        b"1 ",
+    ] {
+        assert_eq!(rt; number_up_to(word, most), None);
+        assert!(rt; !is_number(word));
+    }
+}
+
+#[test]
+fn knows_names_and_words(rt: HostRuntime) {
+    for (word, name) in [
+        (b"a".as_slice(), true),
+        (b"z09_-", true),
+        (b"abcdefghijklmnopqrstuvwxyz012345", true),
+        (b"abcdefghijklmnopqrstuvwxyz0123456", false),
+        (b"", false),
+        (b"9a", false),
+        (b"_a", false),
+        (b"aB", false),
+        (b"a.", false),
+    ] {
+        assert_eq!(rt; is_name(word), name);
+    }
+    assert!(rt; is_word(b"end", b"end"));
+    assert!(rt; !is_word(b"ends", b"end"));
+}
+
+#[test]
+fn counts_words(rt: HostRuntime) {
+    assert_eq!(rt; no_word(Words(b" ")), Some(()));
+    assert_eq!(rt; no_word(Words(b"a")), None);
+    assert_eq!(rt; one_word(Words(b" a ")), Some(b"a".as_slice()));
+    assert_eq!(rt; one_word(Words(b"a b")), None);
+    assert_eq!(rt;
+        two_words(Words(b"a b")),
+        Some((b"a".as_slice(), b"b".as_slice()))
+    );
+    assert!(rt; three_words(Words(b"a b c")).is_some());
+    assert!(rt; three_words(Words(b"a b")).is_none());
+    assert!(rt; four_words(Words(b"a b c d")).is_some());
+    assert!(rt; four_words(Words(b"a b c d e")).is_none());
+}
+
+#[test]
+fn reads_hexadecimal(rt: HostRuntime) -> Result<(), Fail> {
+    let alloc = rt.alloc();
+    let bytes = bytes_of(alloc, Words(b"0 aF f"))?;
+    assert_eq!(rt; bytes.as_slice(), [0x0a, 0xff].as_slice());
+    assert!(rt; bytes_of(alloc, Words(b""))?.is_empty());
+    let bytes = bytes_of_text(alloc, b"06 0\n0\n\n7F ")?;
+    assert_eq!(rt; bytes.as_slice(), [0x06, 0x00, 0x7f].as_slice());
+    for text in [b"0".as_slice(), b"0g", b"00\t", b"0x00"] {
+        assert_eq!(rt;
+            bytes_of(alloc, Words(text)).err(),
+            Some(HexFault::NotHexadecimal)
+        );
+        assert_eq!(rt;
+            bytes_of_text(alloc, text).err(),
+            Some(HexFault::NotHexadecimal)
+        );
+    }
+    Ok(())
+}
+
+#[test]
+fn shows_hexadecimal(rt: HostRuntime) -> Result<(), Fail> {
+    let word = hex_word(0x7fff_00ab);
+    let half = hex_half(0x1f);
+    let bytes = HexDigits::<4>::of(b"\x06\xff");
+    assert_eq!(rt; word.as_str(), "7fff00ab");
+    let text = format!(in rt.alloc(); "0x{word} {half} {bytes}")?;
+    assert_eq!(rt; text.as_str(), "0x7fff00ab 001f 06ff");
+    Ok(())
+}
