@@ -1,3 +1,4 @@
+pub mod AsmCommand
 pub mod Answer
 pub mod CheckCommand
 pub mod EvalInput

@@ -2,6 +2,7 @@
 //! reader and a writer.
 #![tactic(auto)]
 
+mod asm;
 mod check;
 mod engine;
 mod eval_input;
@@ -9,5 +10,6 @@ mod fault;
 mod text;
 mod told;
 
+pub use asm::asm_engine;
 pub use check::check_engine;
 pub use fault::CommandFault;
