@@ -1,2 +1,3 @@
 pub mod LineCount
 pub mod Ending
+pub mod Chaining

@@ -1,6 +1,7 @@
 pub mod AsmCommand
 pub mod Answer
 pub mod CheckCommand
+pub mod EvalCommand
 pub mod EvalInput
 pub mod Gathering
 pub mod Judging

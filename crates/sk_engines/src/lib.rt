@@ -5,6 +5,7 @@
 mod asm;
 mod check;
 mod engine;
+mod eval;
 mod eval_input;
 mod fault;
 mod text;
@@ -12,4 +13,5 @@ mod told;
 
 pub use asm::asm_engine;
 pub use check::check_engine;
+pub use eval::eval_engine;
 pub use fault::CommandFault;

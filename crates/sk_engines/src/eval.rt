@@ -1,0 +1,181 @@
+//! `skern eval`: what filters answer on a call, each by itself and all together.
+ghost use Rattle.std.specs.Prelude.{◌≡◌, ◌≤◌, ◌++◌, IfOk, IfSome, OnOk, [], map, length, string_bytes};
+ghost use Rattle.sk_insn.specs.Instructions.{instructions_of};
+ghost use Rattle.sk_check.specs.FirstFault.{first_fault};
+ghost use Rattle.sk_interp.specs.Meaning.{Returned};
+ghost use Rattle.sk_text.specs.Lines.{lines_of};
+ghost use Rattle.sk_engines.specs.EvalInput.{gathered, nothing_yet};
+ghost use Rattle.sk_engines.specs.Gathering.{asked_of};
+ghost use Rattle.sk_engines.specs.EvalCommand.{eval_answer, asked_answer, chained_answer, refusal_answer, chained, image_attached, program_attached, chain_text, meaning_line, verdict_line, value_text, refusal_text};
+ghost use Rattle.sk_engines.specs.Engine.{Delivers, CountsReads, CountsWrites};
+ghost use Rattle.sk_engines.specs.Told.{answer_of};
+
+use crate::engine::{MOST_BYTES, deliver, input};
+use crate::eval_input::{Asked, InputFault, gather};
+use crate::fault::CommandFault;
+use crate::text::{push_check_fault, push_image_fault};
+use crate::told::Told;
+use sk_chain::{Chain, ChainFault};
+use sk_check::{CheckFault, Checked, check};
+use sk_ends::{Sink, Source};
+use sk_insn::{Action, ImageFault, Record, read_insns};
+use sk_interp::{Ran, run};
+use sk_text::hex_word;
+use std::alloc::{AllocError, Global};
+use std::fmt::Write;
+
+/// Why a filter is not attached.
+#[derive(Clone, Copy, Debug, PartialEq, Eq)]
+pub enum Refusal {
+    /// Its bytes are no image.
+    Image(ImageFault),
+    /// Its program is not valid.
+    Program(CheckFault),
+    /// The chain has no room for it.
+    PathLimit,
+}
+
+/// Runs `skern eval` over a reader and a writer. Nothing goes out before the input was read whole.
+pub fn eval_engine<R: Source, W: Sink>(
+    alloc: Global,
+    reader: &mut R,
+    writer: &mut W,
+) -> Result<u8, CommandFault>
+    ensures told { IfSome (R.remaining reader.old) (λ input.
+        Delivers (eval_answer input) result (W.contents writer.old) (W.contents writer.new)) }
+    ensures status { IfOk result (λ status. status ≤ 1) }
+    ensures reads { CountsReads result (R.failed reader.old) (R.failed reader.new) }
+    ensures writes { CountsWrites result (W.failed writer.old) (W.failed writer.new) }
+{
+    let input = input(alloc, reader)?;
+    let told = eval_answer(alloc, &input)?;
+    deliver(writer, &told)
+}
+
+#[tactic(auto, unfolding(crate::specs::Answer::within_limit))]
+fn eval_answer(alloc: Global, input: &[u8]) -> Result<Told, AllocError>
+    ensures answer { IfOk result (λ told. answer_of told ≡ eval_answer input.now) }
+{
+    if input.len() > MOST_BYTES {
+        return Told::at_line(alloc, 0, "over the limit");
+    }
+    text_answer(alloc, input)
+}
+
+fn text_answer(alloc: Global, text: &[u8]) -> Result<Told, AllocError>
+    ensures answer { IfOk result (λ told. answer_of told ≡ asked_answer (gathered 1 nothing_yet (lines_of text.now))) }
+{
+    match gather(alloc, text) {
+        Ok(asked) => asked_answer(alloc, &asked),
+        Err(InputFault::NotUnderstood { line }) => Told::at_line(alloc, line, "not understood"),
+        Err(InputFault::Memory) => Err(AllocError),
+    }
+}
+
+fn asked_answer(alloc: Global, asked: &Asked) -> Result<Told, AllocError>
+    ensures answer { IfOk result (λ told.
+        answer_of told ≡ chained_answer asked.now.call (chained 0 [] (map (λ image. image.items) asked.now.images.items))) }
+{
+    match chain_of(alloc, &asked.images)? {
+        Ok(chain) => Ok(Told::done(chain_text(alloc, &asked.call, &chain)?)),
+        Err((number, refusal)) => refusal_answer(alloc, number, refusal),
+    }
+}
+
+fn chain_of(alloc: Global, images: &[Vec<u8>]) -> Result<Result<Chain, (usize, Refusal)>, AllocError>
+    ensures chain { IfOk result (λ chain. chain ≡ chained 0 [] (map (λ image. image.items) images.now)) }
+{
+    let mut chain = Chain::empty(alloc);
+    for (number, image) in images.iter().enumerate() {
+        chain = match attach_image(alloc, chain, image.as_slice())? {
+            Ok(chain) => chain,
+            Err(refusal) => return Ok(Err((number, refusal))),
+        };
+    }
+    Ok(Ok(chain))
+}
+
+fn attach_image(alloc: Global, chain: Chain, image: &[u8]) -> Result<Result<Chain, Refusal>, AllocError>
+    ensures chain { IfOk result (λ attached. attached ≡ image_attached chain (instructions_of image.now)) }
+{
+    let insns = match read_insns(alloc, image) {
+        Ok(insns) => insns,
+        Err(ImageFault::Memory) => return Err(AllocError),
+        Err(fault) => return Ok(Err(Refusal::Image(fault))),
+    };
+    match check(insns) {
+        Ok(program) => attach(chain, program),
+        Err((_, fault)) => Ok(Err(Refusal::Program(fault))),
+    }
+}
+
+fn attach(chain: Chain, program: Checked) -> Result<Result<Chain, Refusal>, AllocError>
+    ensures chain { IfOk result (λ attached. attached ≡ program_attached chain program None) }
+{
+    match chain.attach(program) {
+        Ok(chain) => Ok(Ok(chain)),
+        Err((_, _, ChainFault::PathLimit)) => Ok(Err(Refusal::PathLimit)),
+        Err((_, _, ChainFault::Memory)) => Err(AllocError),
+    }
+}
+
+fn chain_text(alloc: Global, call: &Record, chain: &Chain) -> Result<String, AllocError>
+    ensures text { IfOk result (λ text. string_bytes text ≡ chain_text call.now chain.now) }
+{
+    let mut text = String::new(alloc);
+    for program in chain.programs() {
+        push_ran(&mut text, run(program, call))?;
+    }
+    push_verdict(&mut text, chain.len(), chain.verdict(call))?;
+    Ok(text)
+}
+
+fn push_ran(text: &mut String, ran: Ran) -> Result<(), AllocError>
+    ensures text { OnOk result (string_bytes text.new ≡
+        string_bytes text.old ++ meaning_line (Returned ran.value ran.steps)) }
+{
+    let steps = ran.steps;
+    text.push_str("return 0x")?;
+    push_value(text, ran.value)?;
+    writeln!(text, " steps {steps}")
+}
+
+fn push_verdict(text: &mut String, count: usize, value: u32) -> Result<(), AllocError>
+    ensures text { OnOk result (string_bytes text.new ≡ string_bytes text.old ++ verdict_line count value) }
+{
+    if count == 1 {
+        return Ok(());
+    }
+    text.push_str("verdict 0x")?;
+    push_value(text, value)?;
+    text.push_str("\n")
+}
+
+#[tactic(auto, unfolding(crate::specs::EvalCommand::value_text))]
+fn push_value(text: &mut String, value: u32) -> Result<(), AllocError>
+    ensures text { OnOk result (string_bytes text.new ≡ string_bytes text.old ++ value_text value) }
+{
+    let digits = hex_word(value);
+    let name = Action::of(value).name();
+    let given = value % 0x1_0000;
+    write!(text, "{digits} {name} data {given}")
+}
+
+fn refusal_answer(alloc: Global, number: usize, refusal: Refusal) -> Result<Told, AllocError>
+    ensures answer { IfOk result (λ told. answer_of told ≡ refusal_answer (number, refusal)) }
+{
+    let mut text = format!(in alloc; "filter {number} ")?;
+    push_refusal(&mut text, refusal)?;
+    text.push_str("\n")?;
+    Ok(Told { text, status: 1 })
+}
+
+fn push_refusal(text: &mut String, refusal: Refusal) -> Result<(), AllocError>
+    ensures text { OnOk result (string_bytes text.new ≡ string_bytes text.old ++ refusal_text refusal) }
+{
+    match refusal {
+        Refusal::Image(fault) => push_image_fault(text, fault),
+        Refusal::Program(fault) => push_check_fault(text, fault),
+        Refusal::PathLimit => text.push_str("refused path limit"),
+    }
+}
