@@ -1,3 +1,6 @@
 pub mod Blocks
+pub mod Distinct
 pub mod Marks
+pub mod Meaning
+pub mod Relation
 pub mod Turns

@@ -1,3 +1,4 @@
+pub mod Assembly
 pub mod Block
 pub mod Faults
 pub mod Grammar

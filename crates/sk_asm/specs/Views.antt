@@ -1,9 +1,9 @@
 -- The code's values as the definitions see them.
 use Rattle.std.specs.Prelude.{ℕ, List, map}
+use Rattle.std.specs.Borrow.{Bor}
 use Rattle.std.specs.declared.hash.FoldHasher.{FoldHasher}
 use Rattle.std.specs.declared.hash.BuildHasherDefault.{BuildHasherDefault}
 use Rattle.indexmap.specs.IndexMap.{IndexMap}
-use Rattle.std.proofs.Common.{Bor}
 use Rattle.sk_asm.specs.declared.statement.Target.{Target}
 use Rattle.sk_asm.specs.declared.statement.Parsed.{Parsed}
 use Rattle.sk_asm.specs.declared.statement.Target.TheVariants as targets

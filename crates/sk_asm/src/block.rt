@@ -4,6 +4,7 @@ ghost use Rattle.std.specs.Iterator.{YieldsFirstRef, item_count};
 ghost use Rattle.sk_asm.specs.Block.{are_end, is_end, lines_in};
 ghost use Rattle.sk_text.specs.Lines.{words_of};
 
+use crate::parse::LONGEST_LINE;
 use sk_text::{Lines, Words, is_word};
 
 // The lines of a block, or of a whole text.
@@ -35,7 +36,7 @@ impl<'a> Iterator for BlockLines<'a> {
 pub fn is_end(line: &[u8]) -> bool
     ensures end { result ≡ is_end line.now }
 {
-    line.len() <= 255 && are_end(Words(line))
+    line.len() <= LONGEST_LINE && are_end(Words(line))
 }
 
 fn are_end(mut words: Words<'_>) -> bool

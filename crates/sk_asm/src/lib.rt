@@ -13,3 +13,6 @@ pub use block::is_end;
 pub use fault::AsmFault;
 pub use passes::{assemble, assemble_block};
 pub use shape::Shape;
+
+#[cfg(test)]
+mod tests;

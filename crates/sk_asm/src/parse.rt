@@ -18,7 +18,7 @@ use sk_text::{
 };
 
 // The most bytes that a line may have.
-const LONGEST_LINE: usize = 255;
+pub(crate) const LONGEST_LINE: usize = 255;
 
 // What line `n` says, if nothing is wrong with it by itself.
 #[tactic(auto, unfolding(crate::specs::Passes::checked))]

@@ -1,7 +1,9 @@
 //! The two passes over the lines: one for the labels, and one for the instructions.
-ghost use Rattle.std.specs.Prelude.{◌≡◌, ◌+◌, ◌-◌, ◌≤◌, ◌<◌, ◌^◌, ◌++◌, length, IfOk, MatchResult, OnOk, Ok, [], true, false, vec_len};
+ghost use Rattle.std.specs.Prelude.{◌≡◌, ◌+◌, ◌-◌, ◌≤◌, ◌<◌, ◌^◌, ◌++◌, length, IfOk, MatchResult, OnOk, Ok, List, [], true, false, vec_len};
 ghost use Rattle.std.specs.Option.{option_map};
+ghost use Rattle.sk_asm.specs.Assembly.{Assembles, AssemblesText, Finds};
 ghost use Rattle.sk_asm.specs.Block.{lines_in, until_end};
+ghost use Rattle.sk_insn.specs.declared.insn.Insn.{Insn};
 ghost use Rattle.sk_asm.specs.Faults.{Answers, IsFaultOf};
 ghost use Rattle.sk_asm.specs.Labels.{Labels as Places, place_of};
 ghost use Rattle.sk_asm.specs.Passes.{noted, counted, marked, labelled, landed, distance, resolved, emitted, assembled, assembled_lines, in_front};
@@ -22,10 +24,12 @@ const LONGEST_TEXT: usize = 1_048_576;
 
 type Labels<'a> = IndexMap<&'a [u8], usize>;
 
-/// The instructions that a text stands for.
+/// The instructions that a text stands for, or the first of its faults.
 #[tactic(auto, unfolding(crate::specs::Passes::assembled))]
 pub fn assemble(alloc: Global, text: &[u8]) -> Result<Vec<Insn>, AsmFault>
     ensures exact { Answers (λ insns. insns.items) result (assembled text.now) }
+    ensures stands { IfOk result (λ insns. AssemblesText text.now insns.items) }
+    ensures only { (insns : List Insn) → AssemblesText text.now insns → Finds (λ found. found.items) result insns }
 {
     if text.len() > LONGEST_TEXT {
         return Err(AsmFault::TooLong { n: 0 });
@@ -34,10 +38,14 @@ pub fn assemble(alloc: Global, text: &[u8]) -> Result<Vec<Insn>, AsmFault>
 }
 
 /// The instructions that the lines of a block stand for, up to the first line `end` or to the end of
-/// the text. Before the first of them stand `before` lines.
+/// the text, or the first of their faults. Before the first of them stand `before` lines.
 pub fn assemble_block(alloc: Global, before: usize, text: &[u8]) -> Result<Vec<Insn>, AsmFault>
     requires numbers { before + length text.now < 2 ^ 64 }
-    ensures exact { Answers (λ insns. insns.items) result (assembled_lines (before + 1) (until_end (lines_of text.now))) }
+    ensures exact { Answers (λ insns. insns.items) result
+        (assembled_lines (before + 1) (until_end (lines_of text.now))) }
+    ensures stands { IfOk result (λ insns. Assembles (until_end (lines_of text.now)) insns.items) }
+    ensures only { (insns : List Insn) →
+        Assembles (until_end (lines_of text.now)) insns → Finds (λ found. found.items) result insns }
 {
     assemble_lines(alloc, before, text, true)
 }

@@ -1,7 +1,7 @@
 -- The first fault as a function is the first fault: its tests decide what the rules say.
-use Rattle.std.proofs.Common.{ℕ, zero, suc, ◌≡◌, ◌+◌, ◌<◌, ◌≤◌, ◌⊎◌, inl, inr, Bool, true, false, not, ◌&&◌, ◌||◌, List, [], ◌∷◌, Option, Some, None, length, refl, sym, subst, ap, arith}
+use Rattle.std.proofs.Common.{ℕ, zero, suc, ◌≡◌, ◌+◌, ◌<◌, ◌≤◌, ◌⊎◌, inl, inr, Bool, true, false, not, ◌||◌, List, [], ◌∷◌, Option, Some, None, length, refl, sym, subst, ap, ◌∙◌, arith}
 use Rattle.std.specs.Prelude.{slice_get, ◌==◌}
-use Rattle.std.proofs.lemmas.Bool.{cases_eq, eqb-true, eq-eqb}
+use Rattle.std.proofs.lemmas.Bool.{cases_eq, eqb-true, eq-eqb, and_parts, and_from, or_cases, or_left, or_right, not-true, not-false, not_from_false, false_from_ne_true, true≢false}
 use Rattle.sk_insn.specs.declared.insn.Insn.{Insn}
 use Rattle.sk_insn.specs.declared.operation.Operation.{Operation}
 use Rattle.sk_insn.specs.declared.operation.Operation.TheVariants.{LoadScratch, StoreScratch, Jump, Branch, ReturnConstant, ReturnAccumulator}
@@ -9,47 +9,11 @@ use Rattle.sk_insn.specs.Operations.{operation_of}
 use Rattle.sk_check.specs.declared.fault.CheckFault.{CheckFault}
 use Rattle.sk_check.specs.declared.fault.CheckFault.TheVariants.{Unstored}
 use Rattle.sk_check.specs.Paths.{At, Returns, LeadsTo, Loads, Stores, IsPath, NoneStores, IsUnstored}
-use Rattle.sk_check.specs.Places.{unless}
+use Rattle.sk_check.proofs.Told.{unless-Some, unless-None}
 use Rattle.sk_check.proofs.ForwardPass.{at_only, forwards}
 use Rattle.sk_check.specs.FirstFault.{or_else, first_below, any_below, of_insn, returns, leads_to, stores, is_bare, unstored_of}
 
 -- ---- tests
-
-both : (a b : Bool) → (a && b) ≡ true → (a ≡ true) × (b ≡ true)
-both true b e = (refl, e)
-both false b e = cc
-
-either : (a b : Bool) → (a || b) ≡ true → (a ≡ true) ⊎ (b ≡ true)
-either true b e = inl refl
-either false b e = inr e
-
-both_true : (a b : Bool) → a ≡ true → b ≡ true → (a && b) ≡ true
-both_true true b e h = h
-both_true false b e h = cc
-
-or_left : (a b : Bool) → a ≡ true → (a || b) ≡ true
-or_left true b e = refl
-or_left false b e = cc
-
-or_right : (a b : Bool) → b ≡ true → (a || b) ≡ true
-or_right true b e = refl
-or_right false b e = e
-
-not_true : (a : Bool) → not a ≡ true → a ≡ true → ⊥
-not_true true e h = cc
-not_true false e h = cc
-
-not_false : (a : Bool) → not a ≡ false → a ≡ true
-not_false true e = refl
-not_false false e = cc
-
-if_not : (a : Bool) → (a ≡ true → ⊥) → not a ≡ true
-if_not true h = absurd (h refl)
-if_not false h = refl
-
-true_or_not : (a : Bool) → (a ≡ true) ⊎ (a ≡ true → ⊥)
-true_or_not true = inl refl
-true_or_not false = inr (λ e. cc)
 
 -- an instruction passes a test of it
 pub at_test : (insns : List Insn) (place : ℕ) (test : Option Operation → Insn → Bool) → of_insn false (slice_get insns place) test ≡ true → At insns place (λ o insn. test o insn ≡ true)
@@ -65,7 +29,7 @@ test_at insns place test (insn, here, e) = subst (λ o. of_insn false o test ≡
 any_below-true : (n : ℕ) (test : ℕ → Bool) → any_below n test ≡ true → (k : ℕ) × (k < n) × (test k ≡ true)
 any_below-true zero test e = cc
 any_below-true (suc n) test e =
-    elim (either (test n) (any_below n test) e) [
+    elim (or_cases (test n) (any_below n test) e) [
       | inl here ↦ (n, omega arith, here)
       | inr below ↦ let found = any_below-true n test below in let less : found.0 < n = found.1 in (found.0, omega arith, found.2)
     ]
@@ -93,7 +57,7 @@ true-returns insn o h = absurd h
 leads_to-true : (place next : ℕ) (insn : Insn) (o : Option Operation) → leads_to place next o insn ≡ true → LeadsTo place next o insn
 leads_to-true place next insn (Some Jump) e = eqb-true _ _ e
 leads_to-true place next insn (Some (Branch comparison operand)) e =
-    elim (either (next == place + 1 + insn.jt) (next == place + 1 + insn.jf) e) [ inl a ↦ inl (eqb-true _ _ a) | inr b ↦ inr (eqb-true _ _ b) ]
+    elim (or_cases (next == place + 1 + insn.jt) (next == place + 1 + insn.jf) e) [ inl a ↦ inl (eqb-true _ _ a) | inr b ↦ inr (eqb-true _ _ b) ]
 leads_to-true place next insn (Some ReturnConstant) e = cc
 leads_to-true place next insn (Some ReturnAccumulator) e = cc
 leads_to-true place next insn o e = eqb-true _ _ e
@@ -121,9 +85,9 @@ true-stores word insn o h = absurd h
 bare_path : (insns : List Insn) (word steps place : ℕ) → is_bare insns word steps place ≡ true → (before : List ℕ) × IsPath insns place before × NoneStores insns word before
 bare_path insns word zero place e = ([], eqb-true _ _ e, tt)
 bare_path insns word (suc steps) place e =
-    elim (either (place == 0) _ e) [
+    elim (or_cases (place == 0) _ e) [
       | inl start ↦ ([], eqb-true _ _ start, tt)
-      | inr some ↦ let found = any_below-true place _ some in let k = found.0 in let parts = both _ _ found.2 in let at = at_test insns k _ parts.0 in let insn = at.0 in let goes = both _ _ at.2 in let earlier = bare_path insns word steps k parts.1 in (k ∷ earlier.0, ((insn, at.1, leads_to-true k place insn (operation_of insn.code) goes.0), earlier.1), (λ store. not_true _ goes.1 (true-stores word insn (operation_of insn.code) (at_only insns k insn (Stores word) at.1 store)), earlier.2))
+      | inr some ↦ let found = any_below-true place _ some in let k = found.0 in let parts = and_parts _ _ found.2 in let at = at_test insns k _ parts.0 in let insn = at.0 in let goes = and_parts _ _ at.2 in let earlier = bare_path insns word steps k parts.1 in (k ∷ earlier.0, ((insn, at.1, leads_to-true k place insn (operation_of insn.code) goes.0), earlier.1), (λ store. true≢false (sym (true-stores word insn (operation_of insn.code) (at_only insns k insn (Stores word) at.1 store)) ∙ not-true _ goes.1), earlier.2))
     ]
 
 path_bare : (insns : List Insn) (word steps place : ℕ) (before : List ℕ) → IsPath insns place before → NoneStores insns word before → length before ≤ steps → is_bare insns word steps place ≡ true
@@ -131,7 +95,7 @@ path_bare insns word zero place [] path none most = eq-eqb _ _ path
 path_bare insns word zero place (k ∷ earlier) path none most = absurd (omega arith)
 path_bare insns word (suc steps) place [] path none most = or_left _ _ (eq-eqb _ _ path)
 path_bare insns word (suc steps) place (k ∷ earlier) ((insn, here, leads), path) (no_store, none) most =
-    or_right _ _ (true-any_below place _ k (forwards k place insn (operation_of insn.code) leads) (both_true _ _ (test_at insns k _ (insn, here, both_true _ _ (true-leads_to k place insn (operation_of insn.code) leads) (if_not _ (λ store. no_store (insn, here, stores-true word insn (operation_of insn.code) store))))) (path_bare insns word steps k earlier path none (omega arith))))
+    or_right _ _ (true-any_below place _ k (forwards k place insn (operation_of insn.code) leads) (and_from _ _ (test_at insns k _ (insn, here, and_from _ _ (true-leads_to k place insn (operation_of insn.code) leads) (not_from_false _ (false_from_ne_true _ (λ store. no_store (insn, here, stores-true word insn (operation_of insn.code) store)))))) (path_bare insns word steps k earlier path none (omega arith))))
 
 path_length : (insns : List Insn) (place : ℕ) (before : List ℕ) → IsPath insns place before → length before ≤ place
 path_length insns place [] path = omega arith
@@ -174,20 +138,12 @@ first_below-Some (suc n) answer fault e =
       | inr here ↦ record { place = n; below = omega arith; here = here.1; before = first_below-None n answer here.0 }
     ]
 
-pub unless-Some : (test : Bool) (fault told : CheckFault) → unless test fault ≡ Some told → (test ≡ false) × (fault ≡ told)
-unless-Some true fault told e = cc
-unless-Some false fault told e = (refl, (let same : fault ≡ told = cc in same))
-
-pub unless-None : (test : Bool) (fault : CheckFault) → unless test fault ≡ None → test ≡ true
-unless-None true fault e = refl
-unless-None false fault e = cc
-
 pub of_insn-None : (insns : List Insn) (place : ℕ) (says : Option Operation → Insn → Option CheckFault) → of_insn None (slice_get insns place) says ≡ None → (insn : Insn) → slice_get insns place ≡ Some insn → says (operation_of insn.code) insn ≡ None
 of_insn-None insns place says e insn here = subst (λ o. of_insn None o says ≡ None) here e
 
 loads_k : (insns : List Insn) (place : ℕ) (insn : Insn) (o : Option Operation) (fault : CheckFault) → unstored_of insns place o insn ≡ Some fault → Loads insn.k o insn × (is_bare insns insn.k place place ≡ true) × (Unstored place insn.k ≡ fault)
 loads_k insns place insn (Some (LoadScratch register)) fault e =
-    let told = unless-Some _ _ _ e in (refl, not_false _ told.0, told.1)
+    let told = unless-Some _ _ _ e in (refl, not-false _ told.0, told.1)
 loads_k insns place insn o fault e = cc
 
 pub unstored_of-Some : (insns : List Insn) (place : ℕ) (fault : CheckFault) → At insns place (λ o insn. unstored_of insns place o insn ≡ Some fault) → (word : ℕ) × (Unstored place word ≡ fault) × IsUnstored insns place word
@@ -198,7 +154,7 @@ unstored_of-Some insns place fault (insn, here, e) =
 never_none : (insns : List Insn) (place word : ℕ) (insn : Insn) (o : Option Operation) → Loads word o insn → is_bare insns word place place ≡ true → unstored_of insns place o insn ≡ None → ⊥
 never_none insns place word insn (Some (LoadScratch register)) loads bare e =
     let stored : not (is_bare insns insn.k place place) ≡ true = unless-None _ _ e in
-    not_true _ stored (subst (λ w. is_bare insns w place place ≡ true) (sym loads) bare)
+    true≢false (sym (subst (λ w. is_bare insns w place place ≡ true) (sym loads) bare) ∙ not-true _ stored)
 never_none insns place word insn o loads bare e = absurd loads
 
 pub unstored_of-None : (insns : List Insn) (place : ℕ) → of_insn None (slice_get insns place) (unstored_of insns place) ≡ None → (word : ℕ) → IsUnstored insns place word → ⊥

@@ -13,10 +13,11 @@ use Rattle.sk_check.specs.Paths.{At, Returns, Loads}
 use Rattle.sk_check.specs.Valid.{HasFault, IsValid, IsFirstFault, stage_of, place_of}
 use Rattle.sk_check.specs.Places.{unless, fault_of, NoFaultBefore}
 use Rattle.sk_check.specs.FirstFault.{or_else, first_below, of_insn, returns, unstored_of, own_fault, path_fault, first_fault}
+use Rattle.sk_check.proofs.Told.{unless-Some, unless-None}
 use Rattle.sk_check.proofs.PlaceFaults.{no_insn, of_insn-Some, own_fault_told, fault_of-is_fault}
 use Rattle.sk_check.proofs.ForwardPass.{at_only}
 use Rattle.sk_check.proofs.Stages.{length_bounds, first_at, all_fine, first_unstored_at, all_stored}
-use Rattle.sk_check.proofs.Decisions.{unless-Some, unless-None, unstored_of-Some, unstored_of-None, first_below-None, first_below-Some, at_test, test_at, returns-true, true-returns}
+use Rattle.sk_check.proofs.Decisions.{unstored_of-Some, unstored_of-None, first_below-None, first_below-Some, at_test, test_at, returns-true, true-returns}
 
 -- an answer that tells the first fault of a stage, if the earlier stages have none
 pub record TellsStage (insns : List Insn) (stage : ℕ) (answer : Option CheckFault) : Type 0 where

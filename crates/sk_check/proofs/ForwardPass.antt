@@ -1,6 +1,6 @@
 -- One pass forwards finds what all paths say: after the places below n, a set lacks a word exactly where
 -- some path, whose last step is from below n, stores none there.
-use Rattle.std.proofs.Common.{ℕ, ◌≡◌, ◌≢◌, ◌+◌, ◌<◌, ◌⊎◌, ◌↔◌, inl, inr, List, [], ◌∷◌, Option, Some, replicate, sym, subst, ◌∙◌, arith}
+use Rattle.std.proofs.Common.{ℕ, ◌≡◌, ◌≢◌, ◌+◌, ◌<◌, ◌⊎◌, ◌↔◌, inl, inr, List, [], ◌∷◌, Option, Some, length, replicate, sym, subst, ◌∙◌, arith}
 use Rattle.std.specs.Prelude.{slice_get, slice_index, slice_set}
 use Rattle.std.specs.Int.{bit_at}
 use Rattle.std.proofs.lemmas.Bool.{cases_eq}
@@ -11,7 +11,7 @@ use Rattle.sk_insn.specs.declared.operation.Operation.{Operation}
 use Rattle.sk_insn.specs.declared.operation.Operation.TheVariants.{Jump, Branch, ReturnConstant, ReturnAccumulator}
 use Rattle.sk_insn.specs.Operations.{operation_of}
 use Rattle.sk_check.specs.Paths.{At, LeadsTo, Loads, Stores, IsPath, NoneStores, IsUnstored}
-use Rattle.sk_check.specs.Places.{Lacks}
+use Rattle.sk_check.specs.Sets.{Lacks, Spreads}
 
 -- ---- paths
 
@@ -80,14 +80,9 @@ counts_start insns place word inside below =
     elsewhere ([], start, none, below) other = other start
     elsewhere (last ∷ earlier, path, none, below) other = omega arith
 
--- what the sets are after one place more
-abbrev pub Spreads : ℕ → Insn → List ℕ → List ℕ → Type 0
-Spreads n insn old new =
-    (place word : ℕ) → place < 4096 → Lacks (slice_index new place) word ↔ (Lacks (slice_index old place) word ⊎ (LeadsTo n place (operation_of insn.code) insn × Lacks (slice_index old n) word × (Stores word (operation_of insn.code) insn → ⊥)))
-
-pub counts_more : (insns : List Insn) (n : ℕ) (insn : Insn) (old new : List ℕ) → slice_get insns n ≡ Some insn → n < 4096 → Counts insns n old → Spreads n insn old new → Counts insns (n + 1) new
-counts_more insns n insn old new here short counts spreads place word inside below =
-    let spread = spreads place word inside in
+pub counts_more : (insns : List Insn) (n : ℕ) (insn : Insn) (old new : List ℕ) → slice_get insns n ≡ Some insn → n < 4096 → length old ≡ 4096 → Counts insns n old → Spreads n insn old new → Counts insns (n + 1) new
+counts_more insns n insn old new here short room counts spreads place word inside below =
+    let spread = spreads place word (omega arith) in
     let count = counts place word inside below in
     let count_n = counts n word short below in (
       λ lacks. elim (spread.0 lacks) [

@@ -1,3 +1,4 @@
+pub mod Told
 pub mod Sets
 pub mod PlaceFaults
 pub mod ForwardPass

@@ -1,7 +1,7 @@
 -- An instruction's own fault is a fault of its program, and one without such a fault fits its place.
-use Rattle.std.proofs.Common.{ℕ, ◌≡◌, ◌≢◌, ◌+◌, ◌%◌, ◌<◌, ◌≤◌, ◌⊎◌, inl, inr, Bool, true, false, ◌&&◌, List, Option, Some, None, length, refl, sym, subst, ap, ◌∙◌, arith}
+use Rattle.std.proofs.Common.{ℕ, ◌≡◌, ◌≢◌, ◌+◌, ◌%◌, ◌<◌, ◌≤◌, ◌⊎◌, inl, inr, Bool, false, ◌&&◌, List, Option, Some, None, length, refl, sym, subst, ap, ◌∙◌, arith}
 use Rattle.std.specs.Prelude.{slice_get, nat_lt, ◌==◌}
-use Rattle.std.proofs.lemmas.Bool.{ltb-true, ltb-false, eqb-true, eqb-false, le-ltb, ne_eqb}
+use Rattle.std.proofs.lemmas.Bool.{ltb-true, ltb-false, eqb-true, eqb-false, le-ltb, ne_eqb, and_parts, and_cases, and_left, and_right}
 use Rattle.sk_insn.specs.declared.insn.Insn.{Insn}
 use Rattle.sk_insn.specs.declared.operation.Operand.TheVariants.{Constant}
 use Rattle.sk_insn.specs.declared.operation.Arithmetic.TheVariants.{Divide, ShiftLeft, ShiftRight}
@@ -13,7 +13,9 @@ use Rattle.sk_check.specs.declared.fault.CheckFault.TheVariants.{Empty, TooLong,
 use Rattle.sk_check.specs.Paths.{At, Returns, JumpsTo, Loads, Stores}
 use Rattle.sk_check.specs.Valid.{HasFault, stage_of, place_of}
 use Rattle.sk_check.specs.FirstFault.{of_insn, own_fault}
-use Rattle.sk_check.specs.Places.{unless, fault_of, Fits, NamesWord, StaysInside}
+use Rattle.sk_check.specs.Places.{unless, fault_of, Fits}
+use Rattle.sk_check.specs.Sets.{NamesWord, StaysInside}
+use Rattle.sk_check.proofs.Told.{unless-Some, unless-None, false-unless}
 
 -- the program has this fault of a single instruction, at this place
 pub record IsFaultAt (insns : List Insn) (place : ℕ) (fault : CheckFault) : Type 0 where
@@ -21,14 +23,9 @@ pub record IsFaultAt (insns : List Insn) (place : ℕ) (fault : CheckFault) : Ty
   pub stage : stage_of fault ≡ 3
   pub at : place_of fault ≡ place
 
-either_false : (a b : Bool) → (a && b) ≡ false → (a ≡ false) ⊎ (b ≡ false)
-either_false true b e = inr e
-either_false false b e = inl refl
-
 is_fault : (insns : List Insn) (place : ℕ) (test : Bool) (fault told : CheckFault) → (test ≡ false → IsFaultAt insns place fault) → unless test fault ≡ Some told → IsFaultAt insns place told
-is_fault insns place true fault told has e = cc
-is_fault insns place false fault told has e =
-    let same : fault ≡ told = cc in subst (IsFaultAt insns place) same (has refl)
+is_fault insns place test fault told has e =
+    let parts = unless-Some test fault told e in subst (IsFaultAt insns place) parts.1 (has parts.0)
 
 loads_k : (insn : Insn) (o : Option Operation) → operation_of insn.code ≡ o → Loads insn.k o insn → Loads insn.k (operation_of insn.code) insn
 loads_k insn o e loads = subst (λ o. Loads insn.k o insn) (sym e) loads
@@ -45,7 +42,7 @@ fault_of-is_fault insns place insn None told here e h =
     let same : Code place ≡ told = cc in
     subst (IsFaultAt insns place) same (record { has = (insn, here, e); stage = refl; at = refl })
 fault_of-is_fault insns place insn (Some LoadRecord) told here e h =
-    let wrong = λ (f : ((insn.k % 4 == 0) && nat_lt insn.k 64) ≡ false). elim (either_false (insn.k % 4 == 0) (nat_lt insn.k 64) f) as (λ _. (insn.k % 4 ≢ 0) ⊎ (64 ≤ insn.k)) [ inl a ↦ inl (eqb-false _ _ a) | inr b ↦ inr (ltb-false _ _ b) ] in
+    let wrong = λ (f : ((insn.k % 4 == 0) && nat_lt insn.k 64) ≡ false). elim (and_cases (insn.k % 4 == 0) (nat_lt insn.k 64) f) as (λ _. (insn.k % 4 ≢ 0) ⊎ (64 ≤ insn.k)) [ inl a ↦ inl (eqb-false _ _ a) | inr b ↦ inr (ltb-false _ _ b) ] in
     is_fault insns place ((insn.k % 4 == 0) && nat_lt insn.k 64) (Load place) told (λ f. record { has = (insn, here, (e, wrong f)); stage = refl; at = refl }) h
 fault_of-is_fault insns place insn (Some (LoadScratch register)) told here e h =
     is_fault insns place (nat_lt insn.k 16) (Word place) told (λ f. record { has = (insn.k, inl (insn, here, loads_k insn _ e refl), ltb-false _ _ f); stage = refl; at = refl }) h
@@ -60,35 +57,27 @@ fault_of-is_fault insns place insn (Some (Compute ShiftRight Constant)) told her
 fault_of-is_fault insns place insn (Some Jump) told here e h =
     is_fault insns place (nat_lt (place + 1 + insn.k) (length insns)) (JumpOut place) told (λ f. record { has = (place + 1 + insn.k, (insn, here, jumps_to place _ insn _ e refl), ltb-false _ _ f); stage = refl; at = refl }) h
 fault_of-is_fault insns place insn (Some (Branch comparison operand)) told here e h =
-    let out = λ (f : (nat_lt (place + 1 + insn.jt) (length insns) && nat_lt (place + 1 + insn.jf) (length insns)) ≡ false). elim (either_false (nat_lt (place + 1 + insn.jt) (length insns)) (nat_lt (place + 1 + insn.jf) (length insns)) f) as (λ _. HasFault insns (JumpOut place)) [
+    let out = λ (f : (nat_lt (place + 1 + insn.jt) (length insns) && nat_lt (place + 1 + insn.jf) (length insns)) ≡ false). elim (and_cases (nat_lt (place + 1 + insn.jt) (length insns)) (nat_lt (place + 1 + insn.jf) (length insns)) f) as (λ _. HasFault insns (JumpOut place)) [
       | inl a ↦ (place + 1 + insn.jt, (insn, here, jumps_to place _ insn _ e (inl refl)), ltb-false _ _ a)
       | inr b ↦ (place + 1 + insn.jf, (insn, here, jumps_to place _ insn _ e (inr refl)), ltb-false _ _ b)
     ] in
     is_fault insns place (nat_lt (place + 1 + insn.jt) (length insns) && nat_lt (place + 1 + insn.jf) (length insns)) (JumpOut place) told (λ f. record { has = out f; stage = refl; at = refl }) h
 fault_of-is_fault insns place insn (Some operation) told here e h = cc
 
-unless_none : (test : Bool) (fault : CheckFault) → unless test fault ≡ None → test ≡ true
-unless_none true fault e = refl
-unless_none false fault e = cc
-
-both_true : (a b : Bool) → (a && b) ≡ true → (a ≡ true) × (b ≡ true)
-both_true true b e = (refl, e)
-both_true false b e = cc
-
 -- an instruction of which nothing is told fits its place
 pub fits_if_none : (place count : ℕ) (insn : Insn) (o : Option Operation) → fault_of place count o insn ≡ None → Fits place count o insn
 fits_if_none place count insn None h = cc
 fits_if_none place count insn (Some LoadRecord) h =
-    let both = both_true (insn.k % 4 == 0) (nat_lt insn.k 64) (unless_none _ _ h) in
+    let both = and_parts (insn.k % 4 == 0) (nat_lt insn.k 64) (unless-None _ _ h) in
     (eqb-true _ _ both.0, ltb-true _ _ both.1)
-fits_if_none place count insn (Some (LoadScratch register)) h = ltb-true _ _ (unless_none _ _ h)
-fits_if_none place count insn (Some (StoreScratch register)) h = ltb-true _ _ (unless_none _ _ h)
-fits_if_none place count insn (Some (Compute Divide Constant)) h = ltb-true _ _ (unless_none _ _ h)
-fits_if_none place count insn (Some (Compute ShiftLeft Constant)) h = ltb-true _ _ (unless_none _ _ h)
-fits_if_none place count insn (Some (Compute ShiftRight Constant)) h = ltb-true _ _ (unless_none _ _ h)
-fits_if_none place count insn (Some Jump) h = ltb-true _ _ (unless_none _ _ h)
+fits_if_none place count insn (Some (LoadScratch register)) h = ltb-true _ _ (unless-None _ _ h)
+fits_if_none place count insn (Some (StoreScratch register)) h = ltb-true _ _ (unless-None _ _ h)
+fits_if_none place count insn (Some (Compute Divide Constant)) h = ltb-true _ _ (unless-None _ _ h)
+fits_if_none place count insn (Some (Compute ShiftLeft Constant)) h = ltb-true _ _ (unless-None _ _ h)
+fits_if_none place count insn (Some (Compute ShiftRight Constant)) h = ltb-true _ _ (unless-None _ _ h)
+fits_if_none place count insn (Some Jump) h = ltb-true _ _ (unless-None _ _ h)
 fits_if_none place count insn (Some (Branch comparison operand)) h =
-    let both = both_true (nat_lt (place + 1 + insn.jt) count) (nat_lt (place + 1 + insn.jf) count) (unless_none _ _ h) in
+    let both = and_parts (nat_lt (place + 1 + insn.jt) count) (nat_lt (place + 1 + insn.jf) count) (unless-None _ _ h) in
     (ltb-true _ _ both.0, ltb-true _ _ both.1)
 fits_if_none place count insn (Some operation) h = tt
 
@@ -97,32 +86,20 @@ loads_below place count word insn None loads fits = absurd loads
 loads_below place count word insn (Some (LoadScratch register)) loads fits = omega arith
 loads_below place count word insn (Some operation) loads fits = absurd loads
 
-false_left : (a b : Bool) → a ≡ false → (a && b) ≡ false
-false_left true b e = cc
-false_left false b e = refl
-
-false_right : (a b : Bool) → b ≡ false → (a && b) ≡ false
-false_right true b e = e
-false_right false b e = refl
-
-told : (test : Bool) (fault : CheckFault) → test ≡ false → unless test fault ≡ Some fault
-told true fault e = cc
-told false fault e = refl
-
 loads_told : (place count word : ℕ) (insn : Insn) (o : Option Operation) → Loads word o insn → 16 ≤ word → fault_of place count o insn ≡ Some (Word place)
-loads_told place count word insn (Some (LoadScratch register)) loads out = told _ _ (le-ltb _ _ (omega arith))
+loads_told place count word insn (Some (LoadScratch register)) loads out = false-unless _ _ (le-ltb _ _ (omega arith))
 loads_told place count word insn o loads out = absurd loads
 
 stores_told : (place count word : ℕ) (insn : Insn) (o : Option Operation) → Stores word o insn → 16 ≤ word → fault_of place count o insn ≡ Some (Word place)
-stores_told place count word insn (Some (StoreScratch register)) stores out = told _ _ (le-ltb _ _ (omega arith))
+stores_told place count word insn (Some (StoreScratch register)) stores out = false-unless _ _ (le-ltb _ _ (omega arith))
 stores_told place count word insn o stores out = absurd stores
 
 jumps_told : (place count target : ℕ) (insn : Insn) (o : Option Operation) → JumpsTo place target o insn → count ≤ target → fault_of place count o insn ≡ Some (JumpOut place)
-jumps_told place count target insn (Some Jump) jumps out = told _ _ (le-ltb _ _ (omega arith))
+jumps_told place count target insn (Some Jump) jumps out = false-unless _ _ (le-ltb _ _ (omega arith))
 jumps_told place count target insn (Some (Branch comparison operand)) (inl jumps) out =
-    told _ _ (false_left _ (nat_lt (place + 1 + insn.jf) count) (le-ltb (place + 1 + insn.jt) count (omega arith)))
+    false-unless _ _ (and_left _ (nat_lt (place + 1 + insn.jf) count) (le-ltb (place + 1 + insn.jt) count (omega arith)))
 jumps_told place count target insn (Some (Branch comparison operand)) (inr jumps) out =
-    told _ _ (false_right (nat_lt (place + 1 + insn.jt) count) _ (le-ltb (place + 1 + insn.jf) count (omega arith)))
+    false-unless _ _ (and_right (nat_lt (place + 1 + insn.jt) count) _ (le-ltb (place + 1 + insn.jf) count (omega arith)))
 jumps_told place count target insn o jumps out = absurd jumps
 
 pub own_fault_here : (insns : List Insn) (place : ℕ) (insn : Insn) → slice_get insns place ≡ Some insn → own_fault insns place ≡ fault_of place (length insns) (operation_of insn.code) insn
@@ -137,14 +114,14 @@ own_fault_told insns (Unstored place word) stage has = absurd (omega arith)
 own_fault_told insns (Code place) stage (insn, here, e) =
     own_fault_here insns place insn here ∙ ap (λ o. fault_of place (length insns) o insn) e
 own_fault_told insns (Load place) stage (insn, here, (e, wrong)) =
-    let test : ((insn.k % 4 == 0) && nat_lt insn.k 64) ≡ false = elim wrong [ inl ragged ↦ false_left _ _ (ne_eqb _ _ ragged) | inr out ↦ false_right (insn.k % 4 == 0) _ (le-ltb _ _ out) ] in
-    own_fault_here insns place insn here ∙ (ap (λ o. fault_of place (length insns) o insn) e ∙ told _ _ test)
+    let test : ((insn.k % 4 == 0) && nat_lt insn.k 64) ≡ false = elim wrong [ inl ragged ↦ and_left _ _ (ne_eqb _ _ ragged) | inr out ↦ and_right (insn.k % 4 == 0) _ (le-ltb _ _ out) ] in
+    own_fault_here insns place insn here ∙ (ap (λ o. fault_of place (length insns) o insn) e ∙ false-unless _ _ test)
 own_fault_told insns (DivZero place) stage (insn, here, (e, none)) =
-    own_fault_here insns place insn here ∙ (ap (λ o. fault_of place (length insns) o insn) e ∙ told _ _ (le-ltb 0 insn.k (omega arith)))
+    own_fault_here insns place insn here ∙ (ap (λ o. fault_of place (length insns) o insn) e ∙ false-unless _ _ (le-ltb 0 insn.k (omega arith)))
 own_fault_told insns (Shift place) stage (insn, here, (inl e, out)) =
-    own_fault_here insns place insn here ∙ (ap (λ o. fault_of place (length insns) o insn) e ∙ told _ _ (le-ltb _ _ out))
+    own_fault_here insns place insn here ∙ (ap (λ o. fault_of place (length insns) o insn) e ∙ false-unless _ _ (le-ltb _ _ out))
 own_fault_told insns (Shift place) stage (insn, here, (inr e, out)) =
-    own_fault_here insns place insn here ∙ (ap (λ o. fault_of place (length insns) o insn) e ∙ told _ _ (le-ltb _ _ out))
+    own_fault_here insns place insn here ∙ (ap (λ o. fault_of place (length insns) o insn) e ∙ false-unless _ _ (le-ltb _ _ out))
 own_fault_told insns (Word place) stage (word, inl (insn, here, loads), out) =
     own_fault_here insns place insn here ∙ loads_told place (length insns) word insn (operation_of insn.code) loads out
 own_fault_told insns (Word place) stage (word, inr (insn, here, stores), out) =
@@ -169,7 +146,7 @@ FitsAt insns place =
 abbrev pub no_insn : Insn
 no_insn = record { code = 0; jt = 0; jf = 0; k = 0 }
 
--- what an instruction that fits and does not lead out asks of the sets of scratch words
+-- an instruction that fits, with another after it unless it is a return, is one that the pass can go over
 pub names_word : (place count : ℕ) (insn : Insn) (o : Option Operation) → Fits place count o insn → NamesWord o insn
 names_word place count insn None fits = absurd fits
 names_word place count insn (Some (LoadScratch register)) fits = fits

@@ -5,7 +5,7 @@ use Rattle.std.specs.Prelude.{slice_index, slice_set, bit_and, bit_or, ◌*◌, 
 use Rattle.std.proofs.lemmas.Bool.{cases_eq}
 use Rattle.std.proofs.lemmas.List.{get_or-set_same, get_or-set_other}
 use Rattle.std.proofs.lemmas.Nat.Bits.{bit_at_and, bit_at_set_same, bit_at_set_other, bit_at-lt}
-use Rattle.sk_check.specs.Places.{Lacks}
+use Rattle.sk_check.specs.Sets.{Lacks}
 
 -- the words that both sets have
 lacks_and : (a b m : ℕ) → Lacks (bit_and a b) m ↔ (Lacks a m ⊎ Lacks b m)

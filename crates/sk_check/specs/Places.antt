@@ -1,12 +1,11 @@
 -- The faults of single instructions as functions of the operation. The checker's private functions
 -- cite them; the rules themselves stand in Valid.
-use Rattle.std.specs.Int.{bit_at}
 use Rattle.std.specs.Prelude.{List, ℕ, ◌+◌, ◌%◌, ◌≡◌, ◌<◌, ◌==◌, nat_lt, Bool, true, false, ◌&&◌, Option, Some, None}
 use Rattle.sk_insn.specs.declared.insn.Insn.{Insn}
 use Rattle.sk_insn.specs.declared.operation.Operand.TheVariants.{Constant}
 use Rattle.sk_insn.specs.declared.operation.Arithmetic.TheVariants.{Divide, ShiftLeft, ShiftRight}
 use Rattle.sk_insn.specs.declared.operation.Operation.{Operation}
-use Rattle.sk_insn.specs.declared.operation.Operation.TheVariants.{LoadRecord, LoadScratch, StoreScratch, Compute, Jump, Branch, ReturnConstant, ReturnAccumulator}
+use Rattle.sk_insn.specs.declared.operation.Operation.TheVariants.{LoadRecord, LoadScratch, StoreScratch, Compute, Jump, Branch}
 use Rattle.sk_check.specs.declared.fault.CheckFault.{CheckFault}
 use Rattle.sk_check.specs.declared.fault.CheckFault.TheVariants.{Code, Load, DivZero, Shift, Word, Jump as JumpOut}
 use Rattle.sk_check.specs.Valid.{HasFault, stage_of}
@@ -44,26 +43,6 @@ Fits place count (Some (Branch comparison operand)) insn =
     (place + 1 + insn.jt < count) × (place + 1 + insn.jf < count)
 Fits place count (Some operation) insn = Unit {0}
 
--- the scratch word that it names, if any, is there
-abbrev pub NamesWord : Option Operation → Insn → Type 0
-NamesWord (Some (LoadScratch register)) insn = insn.k < 16
-NamesWord (Some (StoreScratch register)) insn = insn.k < 16
-NamesWord operation insn = Unit {0}
-
--- wherever it leads to is one of so many places, and the scratch word that it stores is there
-abbrev pub StaysInside : ℕ → ℕ → Option Operation → Insn → Type 0
-StaysInside place count (Some Jump) insn = place + 1 + insn.k < count
-StaysInside place count (Some (Branch comparison operand)) insn =
-    (place + 1 + insn.jt < count) × (place + 1 + insn.jf < count)
-StaysInside place count (Some ReturnConstant) insn = Unit {0}
-StaysInside place count (Some ReturnAccumulator) insn = Unit {0}
-StaysInside place count (Some (StoreScratch register)) insn = (place + 1 < count) × (insn.k < 16)
-StaysInside place count operation insn = place + 1 < count
-
 -- the program has no fault of an earlier stage
 abbrev pub NoFaultBefore : List Insn → ℕ → Type 0
 NoFaultBefore insns stage = (fault : CheckFault) → stage_of fault < stage → HasFault insns fault → ⊥
-
--- the word is not in the set of bits
-abbrev pub Lacks : ℕ → ℕ → Type 0
-Lacks set word = bit_at set word ≡ 0

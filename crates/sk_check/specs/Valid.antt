@@ -1,5 +1,6 @@
 -- Which programs are valid: the rules of seccomp(2) and of the Linux kernel's socket filters, where a
--- scratch word is loaded only after each path to the load has stored it.
+-- scratch word is loaded only after each path to the load has stored it. That rule asks nothing of an
+-- instruction that no path reaches; every other fault counts at every place, reached or not.
 use Rattle.std.specs.Prelude.{ℕ, ◌≡◌, ◌≢◌, ◌-◌, ◌%◌, ◌<◌, ◌≤◌, ◌⊎◌, List, Some, None, length}
 use Rattle.sk_insn.specs.declared.insn.Insn.{Insn}
 use Rattle.sk_insn.specs.declared.operation.Operand.TheVariants.{Constant}
@@ -30,7 +31,8 @@ HasFault insns (Unstored place word) = IsUnstored insns place word
 abbrev pub IsValid : List Insn → Type 0
 IsValid insns = (fault : CheckFault) → HasFault insns fault → ⊥
 
--- the order in which faults are told: its length, its instructions one by one, its end, its paths
+-- the order in which faults are told: first its length, then its instructions one by one (3), its end,
+-- and its paths
 abbrev pub stage_of : CheckFault → ℕ
 stage_of Empty = 1
 stage_of TooLong = 2

@@ -8,7 +8,7 @@ use crate::places::{end_fault, first_place_fault};
 use sk_insn::{Insn, MOST_INSNS};
 use std::marker::Model;
 
-/// A program that was found valid. It never changes.
+/// A program that `check` found valid. It never changes.
 #[derive(Debug, Drop)]
 pub struct Checked {
     items: Vec<Insn>,
@@ -47,7 +47,8 @@ pub fn check(insns: Vec<Insn>) -> Result<Checked, (Vec<Insn>, CheckFault)>
     ensures first { IfErr result (λ refused. IsFirstFault insns.items refused.1) }
 
     // The same as a function of the instructions.
-    ensures told { MatchResult result (λ _. first_fault insns.items ≡ None) (λ refused. first_fault insns.items ≡ Some refused.1) }
+    ensures told { MatchResult result (λ _. first_fault insns.items ≡ None)
+        (λ refused. first_fault insns.items ≡ Some refused.1) }
 {
     match first_fault(&insns) {
         None => Ok(Checked { items: insns }),

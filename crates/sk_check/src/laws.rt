@@ -9,7 +9,8 @@ ghost use Rattle.sk_check.specs.Examples.{WorkedPrograms};
 /// The first fault as a function is the first fault, and no program has two.
 pub fn one_first_fault()
     ensures valid { (insns : List Insn) → (first_fault insns ≡ None) ↔ IsValid insns }
-    ensures first { (insns : List Insn) (fault : CheckFault) → (first_fault insns ≡ Some fault) ↔ IsFirstFault insns fault }
+    ensures first { (insns : List Insn) (fault : CheckFault) →
+        (first_fault insns ≡ Some fault) ↔ IsFirstFault insns fault }
 {}
 
 /// What the definitions say of worked programs.

@@ -1,8 +1,9 @@
-ghost use Rattle.std.specs.Prelude.{ℕ, ◌≡◌, ◌<◌, ◌≤◌, ◌⊎◌, ◌↔◌, length, slice_index, IfNone, IfSome};
+ghost use Rattle.std.specs.Prelude.{ℕ, ◌<◌, ◌≤◌, length, IfNone, IfSome};
 ghost use Rattle.sk_insn.specs.Operations.{operation_of};
-ghost use Rattle.sk_check.specs.Paths.{LeadsTo, Loads, Stores};
+ghost use Rattle.sk_check.specs.Paths.{Loads};
 ghost use Rattle.sk_check.specs.Valid.{IsFirstFault, IsValid};
-ghost use Rattle.sk_check.specs.Places.{Lacks, NamesWord, NoFaultBefore, StaysInside};
+ghost use Rattle.sk_check.specs.Places.{NoFaultBefore};
+ghost use Rattle.sk_check.specs.Sets.{Lacks, NamesWord, Spreads, StaysInside};
 
 use crate::CheckFault;
 use crate::words::{WordSet, has_word, meet, with_word};
@@ -31,7 +32,8 @@ pub(crate) fn first_unstored(insns: &[Insn]) -> Option<CheckFault>
 /// The word that the instruction loads and the set lacks.
 fn missing_word(insn: &Insn, stored: WordSet) -> Option<u32>
     requires { NamesWord (operation_of insn.now.code) insn.now }
-    ensures none { IfNone result ((word : ℕ) → Loads word (operation_of insn.now.code) insn.now → Lacks stored word → ⊥) }
+    ensures none { IfNone result
+        ((word : ℕ) → Loads word (operation_of insn.now.code) insn.now → Lacks stored word → ⊥) }
     ensures some { IfSome result (λ word. Loads word (operation_of insn.now.code) insn.now × Lacks stored word) }
 {
     match decode(insn.code) {
@@ -45,8 +47,7 @@ fn spread(stored: &mut [WordSet], at: usize, insn: &Insn)
     requires at { at < length stored.old }
     requires short { length stored.old ≤ 4096 }
     requires inside { StaysInside at (length stored.old) (operation_of insn.now.code) insn.now }
-    ensures { (j m : ℕ) → j < length stored.old →
-        Lacks (slice_index stored.new j) m ↔ (Lacks (slice_index stored.old j) m ⊎ (LeadsTo at j (operation_of insn.now.code) insn.now × Lacks (slice_index stored.old at) m × (Stores m (operation_of insn.now.code) insn.now → ⊥))) }
+    ensures { Spreads at insn.now stored.old stored.new }
 {
     let here = stored[at];
     match decode(insn.code) {

@@ -1,5 +1,5 @@
-ghost use Rattle.std.specs.Prelude.{ℕ, ◌≡◌, ◌<◌, ◌⊎◌, ◌↔◌, length, slice_index, IsTrue};
-ghost use Rattle.sk_check.specs.Places.{Lacks};
+ghost use Rattle.std.specs.Prelude.{ℕ, ◌≡◌, ◌<◌, ◌↔◌, length, IsTrue};
+ghost use Rattle.sk_check.specs.Sets.{Lacks, Meets};
 
 /// A set of scratch words: bit m is word m.
 pub(crate) type WordSet = u16;
@@ -18,7 +18,7 @@ pub(crate) fn has_word(set: WordSet, word: u32) -> bool
 /// The set with one word more.
 pub(crate) fn with_word(set: WordSet, word: u32) -> WordSet
     requires { word < WORDS }
-    ensures { (m : ℕ) → Lacks result m ↔ (Lacks set m × (word ≡ m → ⊥)) }
+    ensures { (other : ℕ) → Lacks result other ↔ (Lacks set other × (word ≡ other → ⊥)) }
 {
     set | 1 << word
 }
@@ -26,7 +26,7 @@ pub(crate) fn with_word(set: WordSet, word: u32) -> WordSet
 /// Leaves in one of the sets the words that are in the given set too.
 pub(crate) fn meet(sets: &mut [WordSet], at: usize, set: WordSet)
     requires { at < length sets.old }
-    ensures { (j m : ℕ) → j < length sets.old → Lacks (slice_index sets.new j) m ↔ (Lacks (slice_index sets.old j) m ⊎ ((j ≡ at) × Lacks set m)) }
+    ensures { Meets at set sets.old sets.new }
 {
     sets[at] &= set;
 }

@@ -81,7 +81,7 @@ loop-at-preserved c =
     let none = c.in_default.ensures.none in
     record {
       room = omega arith;
-      counts = counts_more insns at insn c.loop-at.stored c.spread.new.stored here below c.loop-at.invariant.counts (λ place word inside. c.spread.ensures place word (omega arith));
+      counts = counts_more insns at insn c.loop-at.stored c.spread.new.stored here below room c.loop-at.invariant.counts c.spread.ensures;
       stored = below_more (λ place. (word : ℕ) → IsUnstored insns place word → ⊥) at c.loop-at.invariant.stored (λ word unstored. let both = unstored_lacks insns at word insn c.loop-at.stored here below (λ loads. loads_below at (length insns) word insn (operation_of insn.code) loads (fits insns c.requires at insn here)) c.loop-at.invariant.counts unstored in none word both.0 both.1);
     }
 

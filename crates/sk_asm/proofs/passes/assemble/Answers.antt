@@ -1,0 +1,17 @@
+use Rattle.std.proofs.Common.{arith, length}
+use Rattle.std.proofs.lemmas.Bool.{le-ltb}
+use Rattle.sk_asm.specs.Faults.{Answers}
+use Rattle.sk_asm.specs.Passes.{assembled}
+use Rattle.sk_asm.proofs.Relation.{text-stands, text-only}
+use Rattle.sk_asm.proofs.passes.assemble.Goals as goal
+
+-- the text is short enough, so its lines decide
+exact : (c : goal.After-assemble_lines) → Answers (λ insns. insns.items) c.assemble_lines.result (assembled c.args.text.now)
+unfolding assembled
+exact c = let short = le-ltb 1048576 (length c.args.text.now) (omega arith) in rw short c.assemble_lines.ensures.exact
+
+pub returns-clause-stands : goal.returns-clause-stands
+returns-clause-stands c = text-stands (λ insns. insns.items) c.assemble_lines.result c.args.text.now (exact c)
+
+pub returns-clause-only : goal.returns-clause-only
+returns-clause-only c insns h = text-only (λ found. found.items) c.assemble_lines.result c.args.text.now insns (exact c) h

@@ -1,0 +1,182 @@
+//! Texts whose instructions or faults the grammar gives.
+use super::*;
+use sk_insn::Insn;
+use std::alloc::{AllocError, Global};
+use std::test::Fail;
+
+fn insn(code: u16, jt: u8, jf: u8, k: u32) -> Insn {
+    Insn { code, jt, jf, k }
+}
+
+// The first line, then so many times the second one, then the last ones.
+fn repeated(alloc: Global, first: &[u8], times: usize, last: &[u8]) -> Result<Vec<u8>, AllocError> {
+    let mut text = first.to_vec(alloc)?;
+    for _ in 0..times {
+        text.extend_from_slice(b"ret allow\n")?;
+    }
+    text.extend_from_slice(last)?;
+    Ok(text)
+}
+
+#[test]
+fn assembles_each_form(rt: HostRuntime) -> Result<(), Fail> {
+    for (line, expected) in [
+        (b"ldabs 0x10".as_slice(), insn(0x20, 0, 0, 16)),
+        (b"ldimm 4294967295", insn(0x00, 0, 0, 0xffff_ffff)),
+        (b"ldximm 007", insn(0x01, 0, 0, 7)),
+        (b"ldmem 15", insn(0x60, 0, 0, 15)),
+        (b"ldxmem 1", insn(0x61, 0, 0, 1)),
+        (b"ldlen", insn(0x80, 0, 0, 0)),
+        (b"ldxlen", insn(0x81, 0, 0, 0)),
+        (b"st 3", insn(0x02, 0, 0, 3)),
+        (b"stx 3", insn(0x03, 0, 0, 3)),
+        (b"add 1", insn(0x04, 0, 0, 1)),
+        (b"addx", insn(0x0c, 0, 0, 0)),
+        (b"sub 1", insn(0x14, 0, 0, 1)),
+        (b"subx", insn(0x1c, 0, 0, 0)),
+        (b"mul 1", insn(0x24, 0, 0, 1)),
+        (b"mulx", insn(0x2c, 0, 0, 0)),
+        (b"div 1", insn(0x34, 0, 0, 1)),
+        (b"divx", insn(0x3c, 0, 0, 0)),
+        (b"or 1", insn(0x44, 0, 0, 1)),
+        (b"orx", insn(0x4c, 0, 0, 0)),
+        (b"and 1", insn(0x54, 0, 0, 1)),
+        (b"andx", insn(0x5c, 0, 0, 0)),
+        (b"lsh 1", insn(0x64, 0, 0, 1)),
+        (b"lshx", insn(0x6c, 0, 0, 0)),
+        (b"rsh 1", insn(0x74, 0, 0, 1)),
+        (b"rshx", insn(0x7c, 0, 0, 0)),
+        (b"xor 1", insn(0xa4, 0, 0, 1)),
+        (b"xorx", insn(0xac, 0, 0, 0)),
+        (b"neg", insn(0x84, 0, 0, 0)),
+        (b"ja +4294967295", insn(0x05, 0, 0, 0xffff_ffff)),
+        (b"jeq 1 +2 +3", insn(0x15, 2, 3, 1)),
+        (b"jeqx +2 +3", insn(0x1d, 2, 3, 0)),
+        (b"jgt 1 +2 +3", insn(0x25, 2, 3, 1)),
+        (b"jgtx +2 +3", insn(0x2d, 2, 3, 0)),
+        (b"jge 1 +2 +3", insn(0x35, 2, 3, 1)),
+        (b"jgex +2 +3", insn(0x3d, 2, 3, 0)),
+        (b"jset 1 +0x1F +255", insn(0x45, 31, 255, 1)),
+        (b"jsetx +2 +3", insn(0x4d, 2, 3, 0)),
+        (b"ret 5", insn(0x06, 0, 0, 5)),
+        (b"reta", insn(0x16, 0, 0, 0)),
+        (b"tax", insn(0x07, 0, 0, 0)),
+        (b"txa", insn(0x87, 0, 0, 0)),
+        (b"ret kill_thread", insn(0x06, 0, 0, 0)),
+        (b" ret  errno/0x10 ", insn(0x06, 0, 0, 0x0005_0010)),
+        (b"ret allow/65535", insn(0x06, 0, 0, 0x7fff_ffff)),
+        (b".insn 0x30 0 0 12", insn(0x30, 0, 0, 12)),
+        (
+            b".insn 65535 255 254 0xffffffff",
+            insn(0xffff, 255, 254, 0xffff_ffff),
+        ),
+    ] {
+        let insns = assemble(rt.alloc(), line)?;
+        assert_eq!(rt; insns.as_slice(), [expected].as_slice());
+    }
+    Ok(())
+}
+
+#[test]
+fn assembles_labels(rt: HostRuntime) -> Result<(), Fail> {
+    let alloc = rt.alloc();
+    let insns = assemble(alloc, b"; a jump\nja out\n\nret allow\nout:")?;
+    let expected = [insn(0x05, 0, 0, 1), insn(0x06, 0, 0, 0x7fff_0000)];
+    assert_eq!(rt; insns.as_slice(), expected.as_slice());
+    let text = repeated(alloc, b"jeq 1 far +0\n", 255, b"far:\nret allow")?;
+    let insns = assemble(alloc, text.as_slice())?;
+    assert_eq!(rt; insns.len(), 257);
+    assert_eq!(rt; insns.first().copied(), Some(insn(0x15, 255, 0, 1)));
+    let text = repeated(alloc, b"", 4096, b"end:")?;
+    assert_eq!(rt; assemble(alloc, text.as_slice())?.len(), 4096);
+    assert!(rt; assemble(alloc, b"")?.is_empty());
+    Ok(())
+}
+
+#[test]
+fn answers_the_first_fault(rt: HostRuntime) {
+    for (text, fault) in [
+        (b"top:\nja top".as_slice(), AsmFault::Back { n: 2 }),
+        (b"a:\na:\nret allow", AsmFault::Twice { n: 2 }),
+        (b"jeq 1 x +0\nret allow", AsmFault::Label { n: 1 }),
+        (b"jeq 1 x +0\nbogus", AsmFault::Line { n: 2 }),
+        (b"a:\njeq 1 a x", AsmFault::Back { n: 2 }),
+        (b"a:\njeq 1 x a", AsmFault::Label { n: 2 }),
+        (b"ret errno/65536", AsmFault::Line { n: 1 }),
+        (b"ret unknown", AsmFault::Line { n: 1 }),
+        (b"ret 5/3", AsmFault::Line { n: 1 }),
+        (b"ret allow/", AsmFault::Line { n: 1 }),
+        (b"ret 4294967296", AsmFault::Line { n: 1 }),
+        (b"jeq allow +0 +0", AsmFault::Line { n: 1 }),
+        (b"jeq 1 +256 +0", AsmFault::Line { n: 1 }),
+        (b"ja +", AsmFault::Line { n: 1 }),
+        (b"ja + 1", AsmFault::Line { n: 1 }),
+        (b"a :", AsmFault::Line { n: 1 }),
+        (b"a: ret allow", AsmFault::Line { n: 1 }),
+        (b":", AsmFault::Line { n: 1 }),
+        (b"LDABS 0", AsmFault::Line { n: 1 }),
+        (b"ldlen 0", AsmFault::Line { n: 1 }),
+        (b"ret", AsmFault::Line { n: 1 }),
+        (b".insn 65536 0 0 0", AsmFault::Line { n: 1 }),
+        (b".insn 0 256 0 0", AsmFault::Line { n: 1 }),
+        (b".insn 6 0 0 allow", AsmFault::Line { n: 1 }),
+        (b"; a\ttab", AsmFault::Line { n: 1 }),
+        (b"ret allow\r\n", AsmFault::Line { n: 1 }),
+    ] {
+        assert_eq!(rt; assemble(rt.alloc(), text).err(), Some(fault));
+    }
+}
+
+#[test]
+fn keeps_the_limits(rt: HostRuntime) -> Result<(), Fail> {
+    let alloc = rt.alloc();
+    let text = repeated(alloc, b"jeq 1 far +0\n", 256, b"far:\nret allow")?;
+    assert_eq!(rt;
+        assemble(alloc, text.as_slice()).err(),
+        Some(AsmFault::Far { n: 1 })
+    );
+    let text = repeated(alloc, b"", 4097, b"")?;
+    assert_eq!(rt;
+        assemble(alloc, text.as_slice()).err(),
+        Some(AsmFault::TooLong { n: 4097 })
+    );
+    let spaces = [b' '; 256];
+    assert!(rt; assemble(alloc, &spaces[..255])?.is_empty());
+    assert_eq!(rt;
+        assemble(alloc, &spaces).err(),
+        Some(AsmFault::TooLong { n: 1 })
+    );
+    let ends = vec![in alloc; b'\n'; 1_048_577]?;
+    assert_eq!(rt;
+        assemble(alloc, ends.as_slice()).err(),
+        Some(AsmFault::TooLong { n: 0 })
+    );
+    assert!(rt; assemble(alloc, &ends.as_slice()[1..])?.is_empty());
+    Ok(())
+}
+
+#[test]
+fn assembles_blocks(rt: HostRuntime) -> Result<(), Fail> {
+    let alloc = rt.alloc();
+    let insns = assemble_block(alloc, 1, b"ja end\nend:\n end \nbogus")?;
+    assert_eq!(rt; insns.as_slice(), [insn(0x05, 0, 0, 0)].as_slice());
+    for (text, fault) in [
+        (b"ja x\nend".as_slice(), AsmFault::Label { n: 2 }),
+        (b"a:\nja a\nend x", AsmFault::Line { n: 4 }),
+        (b"a:\nja a", AsmFault::Back { n: 3 }),
+    ] {
+        assert_eq!(rt; assemble_block(alloc, 1, text).err(), Some(fault));
+    }
+    for (line, ends) in [
+        (b"end".as_slice(), true),
+        (b"  end ", true),
+        (b"end x", false),
+        (b"end:", false),
+        (b"end\t", false),
+        (b"", false),
+    ] {
+        assert_eq!(rt; is_end(line), ends);
+    }
+    assert_eq!(rt; Shape::of(sk_insn::Operation::Jump), Shape::Target);
+    Ok(())
+}
