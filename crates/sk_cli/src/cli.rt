@@ -1,10 +1,10 @@
 //! The program over any reader and writer.
-ghost use Rattle.std.specs.Prelude.{◌≡◌};
+ghost use Rattle.std.specs.Prelude.{◌≡◌, ◌≤◌, IfOk};
 
 use crate::word::{Word, word_in};
 use arrayvec::ArrayString;
 use sk_ends::{Sink, Source, send};
-use sk_engines::{CommandFault, check_engine};
+use sk_engines::{CommandFault, asm_engine, check_engine, eval_engine};
 use std::alloc::Global;
 use std::fmt::Write;
 
@@ -22,7 +22,9 @@ pub fn command<R: Source, W: Sink>(
     words: &[String],
     reader: &mut R,
     writer: &mut W,
-) -> u8 {
+) -> u8
+    ensures status { result ≤ 3 }
+{
     match done(alloc, words, reader, writer) {
         Ok(status) => status,
         Err(fault) => failed(writer, fault),
@@ -45,9 +47,13 @@ fn done<R: Source, W: Sink>(
     words: &[String],
     reader: &mut R,
     writer: &mut W,
-) -> Result<u8, CommandFault> {
+) -> Result<u8, CommandFault>
+    ensures status { IfOk result (λ status. status ≤ 2) }
+{
     match word_in(alloc, words)? {
         Some(Word::Check) => check_engine(alloc, reader, writer),
+        Some(Word::Eval) => eval_engine(alloc, reader, writer),
+        Some(Word::Asm) => asm_engine(alloc, reader, writer),
         None => {
             send(writer, USAGE.as_bytes())?;
             Ok(REFUSED)

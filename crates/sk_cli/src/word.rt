@@ -7,6 +7,8 @@ use std::alloc::{AllocError, Global};
 #[derive(Clone, Copy, Debug, PartialEq, Eq)]
 pub enum Word {
     Check,
+    Eval,
+    Asm,
 }
 
 /// What these words say, or none where they are not one word that says something.
@@ -16,7 +18,9 @@ pub fn word_in(alloc: Global, words: &[String]) -> Result<Option<Word>, AllocErr
     }
     let parser = Command::new(alloc, "skern")
         .no_binary_name(true)
-        .subcommand(Command::new(alloc, "check"))?;
+        .subcommand(Command::new(alloc, "check"))?
+        .subcommand(Command::new(alloc, "eval"))?
+        .subcommand(Command::new(alloc, "asm"))?;
     match parser.try_get_matches_from(words) {
         Ok(matches) => Ok(named(matches.subcommand_name())),
         Err(error) => match error.kind() {
@@ -29,6 +33,8 @@ pub fn word_in(alloc: Global, words: &[String]) -> Result<Option<Word>, AllocErr
 fn named(name: Option<&str>) -> Option<Word> {
     match name {
         Some("check") => Some(Word::Check),
+        Some("eval") => Some(Word::Eval),
+        Some("asm") => Some(Word::Asm),
         _ => None,
     }
 }
