@@ -1,27 +1,37 @@
 //! The commands by name, so that a table of rows can say which one it is about.
 use crate::{Reader, Writer};
-use sk_ends::Counted;
-use sk_engines::{CommandFault, check_engine};
+use sk_ends::{Sink, Source};
+use sk_engines::{CommandFault, asm_engine, check_engine, eval_engine};
 use std::alloc::Global;
 
+/// A command of the program.
 #[derive(Clone, Copy, Debug, PartialEq, Eq)]
 pub enum Command {
+    Asm,
     Check,
+    Eval,
 }
 
 impl Command {
-    /// Runs the command, and gives what it answered and the bytes that went out.
-    pub fn run(
+    /// Runs the command.
+    pub fn run<R: Source, W: Sink>(
         self,
         alloc: Global,
-        reader: Reader<'_>,
-        writer: Writer,
-    ) -> (Result<u8, CommandFault>, Vec<u8>) {
-        let mut reader = Counted::new(reader);
-        let mut writer = Counted::new(writer);
-        let answer = match self {
-            Command::Check => check_engine(alloc, &mut reader, &mut writer),
-        };
+        reader: &mut R,
+        writer: &mut W,
+    ) -> Result<u8, CommandFault> {
+        match self {
+            Command::Asm => asm_engine(alloc, reader, writer),
+            Command::Check => check_engine(alloc, reader, writer),
+            Command::Eval => eval_engine(alloc, reader, writer),
+        }
+    }
+
+    /// Runs the command on a text, and gives what it answered and what it wrote.
+    pub fn on(self, alloc: Global, text: &[u8]) -> (Result<u8, CommandFault>, Vec<u8>) {
+        let mut reader = sk_ends::Counted::new(Reader::new(text));
+        let mut writer = sk_ends::Counted::new(Writer::new(alloc));
+        let answer = self.run(alloc, &mut reader, &mut writer);
         (answer, writer.into_inner().held)
     }
 }

@@ -21,6 +21,17 @@ pub struct Reader<'a> {
     pub good: u64,
 }
 
+impl<'a> Reader<'a> {
+    /// A reader that gives as much as it is asked for.
+    pub fn new(text: &'a [u8]) -> Reader<'a> {
+        Reader {
+            left: text,
+            step: usize::MAX,
+            good: u64::MAX,
+        }
+    }
+}
+
 impl Read for Reader<'_> {
     fn read(&mut self, buffer: &mut [u8]) -> io::Result<usize> {
         if self.good == 0 {

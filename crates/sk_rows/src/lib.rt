@@ -2,11 +2,15 @@
 //! give and take as few bytes as they like and fail where they are told to.
 #![tactic(auto)]
 
+mod commands;
 mod ends;
 
+pub use commands::Command;
 pub use ends::{Reader, Trouble, Writer};
 
 #[cfg(test)]
-mod check_rows;
+mod command_rows;
 #[cfg(test)]
-mod commands;
+mod eval_rows;
+#[cfg(test)]
+mod failing_ends;

@@ -1,0 +1,237 @@
+use crate::Command;
+use std::test::Fail;
+
+/// Jumps to a label behind 255 or 256 instructions.
+fn far_jump(rt: &HostRuntime, between: usize) -> Result<Vec<u8>, Fail> {
+    let mut text = Vec::new(rt.alloc());
+    text.extend_from_slice(b"jeq 1 far +0\n")?;
+    for _ in 0..between {
+        text.extend_from_slice(b"ret allow\n")?;
+    }
+    text.extend_from_slice(b"far:\nret allow\n")?;
+    Ok(text)
+}
+
+#[test]
+fn commands_answer_worked_rows(rt: HostRuntime) {
+    let rows = [
+        (Command::Check, "", 1, "refused image empty\n"),
+        (
+            Command::Check,
+            "06 00 00 00 00 00 ff",
+            1,
+            "refused image ragged\n",
+        ),
+        (Command::Check, "0g", 1, "skern: not hexadecimal\n"),
+        (Command::Check, "0", 1, "skern: not hexadecimal\n"),
+        (
+            Command::Check,
+            "0600\r000000 00ff7f",
+            1,
+            "skern: not hexadecimal\n",
+        ),
+        (Command::Check, "0 6000000\n0000FF7f", 0, "ok 1\n"),
+        (
+            Command::Check,
+            "200000003c000000 060000000000ff7f",
+            0,
+            "ok 2\n",
+        ),
+        (
+            Command::Check,
+            "200000003e000000 060000000000ff7f",
+            1,
+            "refused 4 load at 0\n",
+        ),
+        (
+            Command::Check,
+            "2000000040000000 060000000000ff7f",
+            1,
+            "refused 4 load at 0\n",
+        ),
+        (
+            Command::Check,
+            "1500000000000000 060000000000ff7f",
+            0,
+            "ok 2\n",
+        ),
+        (
+            Command::Check,
+            "1500000100000000 060000000000ff7f",
+            1,
+            "refused 8 jump at 0\n",
+        ),
+        (
+            Command::Check,
+            "05000000ffffffff 060000000000ff7f",
+            1,
+            "refused 8 jump at 0\n",
+        ),
+        (
+            Command::Check,
+            "060000000000ff7f\n0700000000000000\n",
+            1,
+            "refused 9 no return\n",
+        ),
+        (
+            Command::Check,
+            "3400000000000000 1600000000000000",
+            1,
+            "refused 5 divzero at 0\n",
+        ),
+        (
+            Command::Check,
+            "6400000020000000 1600000000000000",
+            1,
+            "refused 6 shift at 0\n",
+        ),
+        (
+            Command::Check,
+            "0200000010000000 1600000000000000",
+            1,
+            "refused 7 word at 0\n",
+        ),
+        (
+            Command::Check,
+            "4000000000000000 1600000000000000",
+            1,
+            "refused 3 code at 0\n",
+        ),
+        (
+            Command::Check,
+            "6000000003000000 1600000000000000",
+            1,
+            "refused 10 unstored at 0 word 3\n",
+        ),
+        (Command::Asm, "", 0, ""),
+        (Command::Asm, "; nothing\n\n", 0, ""),
+        (
+            Command::Asm,
+            "ldabs 0\njeq 110 +0 +1\nret errno/1\nret allow\n",
+            0,
+            "2000000000000000\n150000016e000000\n0600000001000500\n060000000000ff7f\n",
+        ),
+        (
+            Command::Asm,
+            "top:\nja top",
+            1,
+            "skern: line 2: jump backwards\n",
+        ),
+        (
+            Command::Asm,
+            "a:\na:\nret allow",
+            1,
+            "skern: line 2: name given twice\n",
+        ),
+        (
+            Command::Asm,
+            "jeq 1 x +0\nret allow",
+            1,
+            "skern: line 1: no such name\n",
+        ),
+        (
+            Command::Asm,
+            "ja out\nret allow\nout:",
+            0,
+            "0500000001000000\n060000000000ff7f\n",
+        ),
+        (
+            Command::Asm,
+            "ret errno/65536",
+            1,
+            "skern: line 1: not understood\n",
+        ),
+        (Command::Asm, ".insn 0x30 0 0 12", 0, "300000000c000000\n"),
+        (
+            Command::Asm,
+            "ret allow\t",
+            1,
+            "skern: line 1: not understood\n",
+        ),
+    ];
+    for (command, input, status, output) in rows {
+        let (answer, held) = command.on(rt.alloc(), input.as_bytes());
+        assert_eq!(rt;
+            held.as_slice(),
+            output.as_bytes(),
+            "{command:?} at {input}"
+        );
+        assert_eq!(rt; answer, Ok(status), "{command:?} at {input}");
+    }
+}
+
+#[test]
+fn labels_lie_at_most_255_instructions_ahead(rt: HostRuntime) -> Result<(), Fail> {
+    let near = far_jump(&rt, 255)?;
+    let (answer, held) = Command::Asm.on(rt.alloc(), near.as_slice());
+    assert_eq!(rt; answer, Ok(0));
+    assert_eq!(rt; held.len(), 257 * 17);
+    assert!(rt; held.starts_with(b"1500ff0001000000\n"));
+    let far = far_jump(&rt, 256)?;
+    let (answer, held) = Command::Asm.on(rt.alloc(), far.as_slice());
+    assert_eq!(rt; answer, Ok(1));
+    assert_eq!(rt;
+        held.as_slice(),
+        b"skern: line 1: jump too far\n".as_slice()
+    );
+    Ok(())
+}
+
+#[test]
+fn limits_hold(rt: HostRuntime) -> Result<(), Fail> {
+    let mut text = Vec::new(rt.alloc());
+    for _ in 0..4096 {
+        text.extend_from_slice(b"ret allow\n")?;
+    }
+    let (answer, held) = Command::Asm.on(rt.alloc(), text.as_slice());
+    assert_eq!(rt; answer, Ok(0));
+    assert_eq!(rt; held.len(), 4096 * 17);
+    let (answer, checked) = Command::Check.on(rt.alloc(), held.as_slice());
+    assert_eq!(rt; answer, Ok(0));
+    assert_eq!(rt; checked.as_slice(), b"ok 4096\n".as_slice());
+    text.extend_from_slice(b"ret allow\n")?;
+    let (answer, held) = Command::Asm.on(rt.alloc(), text.as_slice());
+    assert_eq!(rt; answer, Ok(1));
+    assert_eq!(rt;
+        held.as_slice(),
+        b"skern: line 4097: over the limit\n".as_slice()
+    );
+    let spaces = [b' '; 256];
+    let (answer, held) = Command::Asm.on(rt.alloc(), &spaces[..255]);
+    assert_eq!(rt; (answer, held.len()), (Ok(0), 0));
+    let (answer, held) = Command::Asm.on(rt.alloc(), &spaces);
+    assert_eq!(rt; answer, Ok(1));
+    assert_eq!(rt;
+        held.as_slice(),
+        b"skern: line 1: over the limit\n".as_slice()
+    );
+    Ok(())
+}
+
+/// As many line feeds as an input may have, and one more.
+#[test]
+fn one_byte_too_many_decides(rt: HostRuntime) -> Result<(), Fail> {
+    let mut text = Vec::new(rt.alloc());
+    text.resize(1_048_576, b'\n')?;
+    let rows = [
+        (Command::Asm, 0, ""),
+        (Command::Check, 1, "refused image empty\n"),
+        (Command::Eval, 1, "skern: line 1048577: not understood\n"),
+    ];
+    for (command, status, output) in rows {
+        let (answer, held) = command.on(rt.alloc(), text.as_slice());
+        assert_eq!(rt; held.as_slice(), output.as_bytes(), "{command:?}");
+        assert_eq!(rt; answer, Ok(status), "{command:?}");
+    }
+    text.push(b'\n')?;
+    for command in [Command::Asm, Command::Check, Command::Eval] {
+        let (answer, held) = command.on(rt.alloc(), text.as_slice());
+        assert_eq!(rt;
+            held.as_slice(),
+            b"skern: line 0: over the limit\n".as_slice(),
+            "{command:?}"
+        );
+        assert_eq!(rt; answer, Ok(1), "{command:?}");
+    }
+    Ok(())
+}
