@@ -2,6 +2,7 @@
 #![tactic(auto)]
 
 mod block;
+mod examples;
 mod fault;
 mod parse;
 mod passes;
@@ -10,6 +11,7 @@ mod statement;
 mod value;
 
 pub use block::is_end;
+pub use examples::{example_faults, example_texts};
 pub use fault::AsmFault;
 pub use passes::{assemble, assemble_block};
 pub use shape::Shape;

@@ -1,4 +1,4 @@
-pub mod Action
+pub mod Precedence
 pub mod Verdict
 pub mod Chains
 pub mod Nodes
@@ -6,3 +6,4 @@ pub mod ChainLaws
 pub mod WorkedVerdicts
 pub use Rattle.sk_interp.specs.Meaning
 pub use Rattle.sk_interp.specs.Walk
+pub use Rattle.sk_insn.specs.Actions

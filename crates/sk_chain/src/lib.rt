@@ -1,12 +1,12 @@
-//! Chains of filters, and the actions that they answer.
+//! Chains of filters, and their verdict on a call.
 #![tactic(auto)]
 
-mod action;
 mod chain;
 pub mod laws;
 mod node;
 mod numbers;
+mod precedence;
 
-pub use action::Action;
 pub use chain::{Chain, ChainFault};
 pub use node::Programs;
+pub use sk_insn::Action;

@@ -30,7 +30,7 @@ impl<'a> Programs<'a> {
     ghost use Rattle.sk_chain.specs.Nodes.{programs_of};
 
     /// Those of this node, and behind it.
-    pub fn of(rest: &'a Option<Rc<Node>>) -> Programs<'a>
+    pub(crate) fn of(rest: &'a Option<Rc<Node>>) -> Programs<'a>
         ensures programs { result ≡ programs_of rest.now }
     {
         Programs { rest }

@@ -1,5 +1,5 @@
 //! Hexadecimal input: pairs of digits that are bytes.
-ghost use Rattle.std.specs.Prelude.{◌≡◌, IfOk, OnErr, filter, not};
+ghost use Rattle.std.specs.Prelude.{◌≡◌, IfOk, filter, not};
 ghost use Rattle.std.specs.List.{concat};
 ghost use Rattle.sk_text.specs.Lines.{words_of};
 ghost use Rattle.sk_text.specs.Hexadecimal.{Decodes, bytes_in, hex_bytes, hex_text_bytes, is_blank};

@@ -3,12 +3,14 @@
 #![tactic(auto)]
 
 mod digits;
+mod examples;
 mod hexadecimal;
 mod lines;
 mod numbers;
 mod words;
 
 pub use digits::{HexDigits, hex_half, hex_word};
+pub use examples::{example_cuts, example_digits, example_words};
 pub use hexadecimal::{HexFault, bytes_of, bytes_of_text};
 pub use lines::{Lines, Words, cut, is_passed_over, is_printable};
 pub use numbers::{is_number, number_up_to};

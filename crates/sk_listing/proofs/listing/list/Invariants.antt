@@ -1,0 +1,7 @@
+use Rattle.std.proofs.Common.{◌≡◌, take, string_bytes}
+use Rattle.sk_listing.specs.Listing.{listing_of}
+use Rattle.sk_listing.proofs.listing.list.Given as goal
+
+-- the lines of the instructions before this one are written
+abbrev pub invariant-loop-insn : goal.invariant-loop-insn
+invariant-loop-insn l = string_bytes l.text ≡ listing_of (take l.insn-index l.insns)
