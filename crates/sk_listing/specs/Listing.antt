@@ -27,13 +27,13 @@ half_digits value = codes "0x" ++ hex_half value
 -- ---- one instruction
 
 -- the fields that a shape has no words for are 0
-abbrev pub is_shaped : Shape → Insn → Bool
-is_shaped Bare insn = insn.jt == 0 && insn.jf == 0 && insn.k == 0
-is_shaped Number insn = insn.jt == 0 && insn.jf == 0
-is_shaped Action insn = insn.jt == 0 && insn.jf == 0
-is_shaped Target insn = insn.jt == 0 && insn.jf == 0
-is_shaped Compare insn = true
-is_shaped CompareIndex insn = insn.k == 0
+abbrev pub unused_are_zero : Shape → Insn → Bool
+unused_are_zero Bare insn = insn.jt == 0 && insn.jf == 0 && insn.k == 0
+unused_are_zero Number insn = insn.jt == 0 && insn.jf == 0
+unused_are_zero Action insn = insn.jt == 0 && insn.jf == 0
+unused_are_zero Target insn = insn.jt == 0 && insn.jf == 0
+unused_are_zero Compare insn = true
+unused_are_zero CompareIndex insn = insn.k == 0
 
 -- the words that follow an operation's name
 abbrev pub operands_of : Shape → Insn → List (List ℕ)
@@ -53,7 +53,7 @@ field_words insn =
 abbrev pub words_as : Option Operation → Insn → List (List ℕ)
 words_as None insn = field_words insn
 words_as (Some operation) insn =
-    if is_shaped (shape_of operation) insn then name_of operation ∷ operands_of (shape_of operation) insn
+    if unused_are_zero (shape_of operation) insn then name_of operation ∷ operands_of (shape_of operation) insn
     else field_words insn
 
 unfoldable pub words_for : Insn → List (List ℕ)

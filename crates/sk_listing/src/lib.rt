@@ -1,7 +1,11 @@
 //! The lister: instructions as a text that assembles to them again.
 #![tactic(auto)]
 
+pub mod laws;
 mod line;
 mod listing;
 
 pub use listing::list;
+
+#[cfg(test)]
+mod tests;

@@ -3,7 +3,8 @@ ghost use Rattle.std.specs.Prelude.{◌≡◌, ◌++◌, OnOk, ◌∷◌, string
 ghost use Rattle.std.specs.List.{join_with_byte};
 ghost use Rattle.sk_insn.specs.Operations.{name_of};
 ghost use Rattle.sk_asm.specs.Grammar.{shape_of};
-ghost use Rattle.sk_listing.specs.Listing.{is_shaped, operands_of, field_words, words_for, line_for};
+ghost use Rattle.sk_listing.specs.RoundTrip.{IsInRange};
+ghost use Rattle.sk_listing.specs.Listing.{unused_are_zero, operands_of, field_words, words_for, line_for};
 
 use sk_asm::Shape;
 use sk_insn::{Insn, Operation, decode};
@@ -14,6 +15,7 @@ use std::fmt::Write;
 // Writes an instruction's line.
 pub(crate) fn push_line(text: &mut String, insn: Insn) -> Result<(), AllocError>
     ensures line { OnOk result (string_bytes text.new ≡ string_bytes text.old ++ line_for insn) }
+    ensures range { IsInRange insn }
 {
     push_words(text, insn)?;
     text.push_str("\n")
@@ -25,7 +27,7 @@ fn push_words(text: &mut String, insn: Insn) -> Result<(), AllocError>
     ensures words { OnOk result (string_bytes text.new ≡ string_bytes text.old ++ join_with_byte 32 (words_for insn)) }
 {
     match decode(insn.code) {
-        Some(operation) if is_shaped(Shape::of(operation), insn) => {
+        Some(operation) if unused_are_zero(Shape::of(operation), insn) => {
             push_form(text, operation, insn)
         }
         _ => push_fields(text, insn),
@@ -33,8 +35,8 @@ fn push_words(text: &mut String, insn: Insn) -> Result<(), AllocError>
 }
 
 // Whether the fields that a shape has no words for are 0.
-fn is_shaped(shape: Shape, insn: Insn) -> bool
-    ensures unused { result ≡ is_shaped shape insn }
+fn unused_are_zero(shape: Shape, insn: Insn) -> bool
+    ensures unused { result ≡ unused_are_zero shape insn }
 {
     match shape {
         Shape::Bare => insn.jt == 0 && insn.jf == 0 && insn.k == 0,

@@ -1,7 +1,12 @@
 use Rattle.std.proofs.Common.{◌≡◌, take, string_bytes}
+use Rattle.std.specs.List.{All}
 use Rattle.sk_listing.specs.Listing.{listing_of}
+use Rattle.sk_listing.specs.RoundTrip.{IsInRange}
 use Rattle.sk_listing.proofs.listing.list.Given as goal
 
--- the lines of the instructions before this one are written
+-- the lines of the instructions before this one are written, and the fields of these are in range
 abbrev pub invariant-loop-insn : goal.invariant-loop-insn
-invariant-loop-insn l = string_bytes l.text ≡ listing_of (take l.insn-index l.insns)
+invariant-loop-insn l = record {
+  text : string_bytes l.text ≡ listing_of (take l.insn-index l.insns);
+  ranges : All IsInRange (take l.insn-index l.insns);
+}

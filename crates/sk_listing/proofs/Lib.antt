@@ -1,0 +1,5 @@
+pub mod Words
+pub mod Numerals
+pub mod Lines
+pub mod Listings
+pub mod Examples

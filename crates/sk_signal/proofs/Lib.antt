@@ -1,0 +1,5 @@
+pub mod SignalSets
+pub mod SetLaws
+pub mod Frames
+pub mod Ready
+pub mod SignalLaws

@@ -1,0 +1,15 @@
+use Rattle.std.proofs.Common.{◌∙◌, ap, arith}
+use Rattle.std.proofs.lemmas.Nat.{and_le_l}
+use Rattle.std.specs.FinSet as set
+use Rattle.sk_signal.specs.SignalSet.{signals_of}
+use Rattle.sk_signal.proofs.SignalSets.{signals_of-without}
+use Rattle.sk_signal.proofs.set.SigSet.difference.Goals as goal
+
+pub invariant_of-result : goal.invariant_of-result
+invariant_of-result c = omega (arith, c.difference.ensures tt, and_le_l)
+
+pub returns : goal.returns
+returns c =
+    ap signals_of (c.difference.ensures tt)
+    ∙ signals_of-without c.self.inside.flags.0 c.other.inside.flags.0 (omega (arith, c.other.invariant))
+    ∙ (λ i. set.difference (c.self.view_is i) (c.other.view_is i))

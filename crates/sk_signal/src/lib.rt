@@ -1,0 +1,15 @@
+//! Signals of one process: signal sets, dispositions, and the mask, the pending set and the handler
+//! frames, with the rules of signal(7), sigaction(2), sigprocmask(2) and sigreturn(2) on them.
+#![tactic(auto)]
+
+mod disposition;
+pub mod number;
+mod set;
+mod state;
+
+pub use disposition::{DefaultAction, Disposition, default_action};
+pub use set::SigSet;
+pub use state::{FRAMES, SigState};
+
+#[cfg(test)]
+mod tests;
