@@ -4,7 +4,7 @@ ghost use Rattle.std.specs.Prelude.{◌≡◌, ◌≤◌, IfOk};
 use crate::word::{Word, word_in};
 use arrayvec::ArrayString;
 use sk_ends::{Sink, Source, send};
-use sk_engines::{CommandFault, asm_engine, check_engine, eval_engine};
+use sk_engines::{CommandFault, asm_engine, check_engine, eval_engine, list_engine};
 use std::alloc::Global;
 use std::fmt::Write;
 
@@ -54,6 +54,7 @@ fn done<R: Source, W: Sink>(
         Some(Word::Check) => check_engine(alloc, reader, writer),
         Some(Word::Eval) => eval_engine(alloc, reader, writer),
         Some(Word::Asm) => asm_engine(alloc, reader, writer),
+        Some(Word::List) => list_engine(alloc, reader, writer),
         None => {
             send(writer, USAGE.as_bytes())?;
             Ok(REFUSED)

@@ -5,7 +5,7 @@ mod cli;
 mod word;
 
 pub use cli::{command, failed};
-pub use sk_engines::{CommandFault, asm_engine, check_engine, eval_engine};
+pub use sk_engines::{CommandFault, asm_engine, check_engine, eval_engine, list_engine};
 
 #[cfg(test)]
 mod tests;

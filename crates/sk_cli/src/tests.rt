@@ -46,10 +46,11 @@ const ALLOW: &[u8] = b"060000000000ff7f";
 #[test]
 fn words_say_what_to_do(rt: HostRuntime) -> Result<(), Fail> {
     let alloc = rt.alloc();
-    let rows: [(&[&str], u8, &[u8]); 12] = [
+    let rows: [(&[&str], u8, &[u8]); 13] = [
         (&[], 2, USAGE),
         (&["check"], 0, b"ok 1\n"),
         (&["asm"], 1, b"skern: line 1: not understood\n"),
+        (&["list"], 0, b"ret 0x7fff0000\n"),
         (&["eval"], 1, b"skern: line 1: not understood\n"),
         (&["run"], 2, USAGE),
         (&["check", "check"], 2, USAGE),

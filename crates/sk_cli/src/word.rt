@@ -9,6 +9,7 @@ pub enum Word {
     Check,
     Eval,
     Asm,
+    List,
 }
 
 /// What these words say, or none where they are not one word that says something.
@@ -20,7 +21,8 @@ pub fn word_in(alloc: Global, words: &[String]) -> Result<Option<Word>, AllocErr
         .no_binary_name(true)
         .subcommand(Command::new(alloc, "check"))?
         .subcommand(Command::new(alloc, "eval"))?
-        .subcommand(Command::new(alloc, "asm"))?;
+        .subcommand(Command::new(alloc, "asm"))?
+        .subcommand(Command::new(alloc, "list"))?;
     match parser.try_get_matches_from(words) {
         Ok(matches) => Ok(named(matches.subcommand_name())),
         Err(error) => match error.kind() {
@@ -35,6 +37,7 @@ fn named(name: Option<&str>) -> Option<Word> {
         Some("check") => Some(Word::Check),
         Some("eval") => Some(Word::Eval),
         Some("asm") => Some(Word::Asm),
+        Some("list") => Some(Word::List),
         _ => None,
     }
 }

@@ -7,4 +7,5 @@ pub mod Gathering
 pub mod Judging
 pub mod Faults
 pub mod Engine
+pub mod ListCommand
 pub mod Told

@@ -8,6 +8,7 @@ mod engine;
 mod eval;
 mod eval_input;
 mod fault;
+mod list;
 mod text;
 mod told;
 
@@ -15,3 +16,4 @@ pub use asm::asm_engine;
 pub use check::check_engine;
 pub use eval::eval_engine;
 pub use fault::CommandFault;
+pub use list::list_engine;

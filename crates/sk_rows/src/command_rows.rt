@@ -142,6 +142,17 @@ fn commands_answer_worked_rows(rt: HostRuntime) {
             "skern: line 1: not understood\n",
         ),
         (Command::Asm, ".insn 0x30 0 0 12", 0, "300000000c000000\n"),
+        (Command::List, "0g", 1, "skern: not hexadecimal\n"),
+        (Command::List, "", 1, "refused image empty\n"),
+        (Command::List, "06", 1, "refused image ragged\n"),
+        (Command::List, "300000000c000000", 0, ".insn 0x0030 0 0 0x0000000c\n"),
+        (Command::List, "060001000000ff7f", 0, ".insn 0x0006 1 0 0x7fff0000\n"),
+        (
+            Command::List,
+            "2000000000000000 150000016e000000 0600000001000500 060000000000ff7f",
+            0,
+            "ldabs 0\njeq 110 +0 +1\nret 0x00050001\nret 0x7fff0000\n",
+        ),
         (
             Command::Asm,
             "ret allow\t",
@@ -217,6 +228,7 @@ fn one_byte_too_many_decides(rt: HostRuntime) -> Result<(), Fail> {
         (Command::Asm, 0, ""),
         (Command::Check, 1, "refused image empty\n"),
         (Command::Eval, 1, "skern: line 1048577: not understood\n"),
+        (Command::List, 1, "refused image empty\n"),
     ];
     for (command, status, output) in rows {
         let (answer, held) = command.on(rt.alloc(), text.as_slice());
@@ -224,7 +236,7 @@ fn one_byte_too_many_decides(rt: HostRuntime) -> Result<(), Fail> {
         assert_eq!(rt; answer, Ok(status), "{command:?}");
     }
     text.push(b'\n')?;
-    for command in [Command::Asm, Command::Check, Command::Eval] {
+    for command in [Command::Asm, Command::Check, Command::Eval, Command::List] {
         let (answer, held) = command.on(rt.alloc(), text.as_slice());
         assert_eq!(rt;
             held.as_slice(),

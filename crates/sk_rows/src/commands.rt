@@ -1,7 +1,7 @@
 //! The commands by name, so that a table of rows can say which one it is about.
 use crate::{Reader, Writer};
 use sk_ends::{Sink, Source};
-use sk_engines::{CommandFault, asm_engine, check_engine, eval_engine};
+use sk_engines::{CommandFault, asm_engine, check_engine, eval_engine, list_engine};
 use std::alloc::Global;
 
 /// A command of the program.
@@ -10,6 +10,7 @@ pub enum Command {
     Asm,
     Check,
     Eval,
+    List,
 }
 
 impl Command {
@@ -24,6 +25,7 @@ impl Command {
             Command::Asm => asm_engine(alloc, reader, writer),
             Command::Check => check_engine(alloc, reader, writer),
             Command::Eval => eval_engine(alloc, reader, writer),
+            Command::List => list_engine(alloc, reader, writer),
         }
     }
 

@@ -3,7 +3,7 @@ use sk_ends::{Counted, Sink, Source};
 use sk_engines::CommandFault;
 
 /// Each command with an input and its whole answer.
-const ANSWERS: [(Command, &str, u8, &str); 3] = [
+const ANSWERS: [(Command, &str, u8, &str); 4] = [
     (
         Command::Eval,
         "record 270000003e0000c0 0000000000000000 0000000000000000 0000000000000000 0000000000000000 0000000000000000 0000000000000000 0000000000000000\nfilter 060000000000ff7f\n",
@@ -16,6 +16,7 @@ const ANSWERS: [(Command, &str, u8, &str); 3] = [
         1,
         "refused 10 unstored at 0 word 3\n",
     ),
+    (Command::List, "060000000000ff7f 1600000000000000", 0, "ret 0x7fff0000\nreta\n"),
     (
         Command::Asm,
         "ldabs 0\nret allow\n",
@@ -121,7 +122,7 @@ fn failing_writes_are_told(rt: HostRuntime) {
 /// A reader that never ends: one byte more than the limit decides.
 #[test]
 fn endless_readers_are_refused(rt: HostRuntime) {
-    for command in [Command::Asm, Command::Check, Command::Eval] {
+    for command in [Command::Asm, Command::Check, Command::Eval, Command::List] {
         let mut reader = Counted::new(Endless { taken: 0 });
         let mut writer = Counted::new(Writer::new(rt.alloc()));
         assert_eq!(rt;
