@@ -5,7 +5,7 @@ use Rattle.sk_ends.specs.Failures.{one_more}
 use Rattle.sk_ends.specs.Writing.{AppendsBeginning}
 use Rattle.sk_engines.specs.Answer.{Answer}
 use Rattle.sk_engines.specs.declared.fault.CommandFault.{CommandFault}
-use Rattle.sk_engines.specs.declared.fault.CommandFault.TheVariants.{Read, Write, Memory}
+use Rattle.sk_engines.specs.declared.fault.CommandFault.TheVariants.{Read, Write}
 
 -- the status is the answer's, and its text went out; where a write failed a beginning of it did, and where a read
 -- failed or memory was refused nothing

@@ -36,9 +36,9 @@ image_attached chain (Ok program) = program_attached chain program (first_fault 
 abbrev pub chained : ℕ → List (List Insn) → List (List ℕ) → Result (List (List Insn)) (ℕ × Refusal)
 chained number chain [] = Ok chain
 chained number chain (image ∷ images) = elim (image_attached chain (instructions_of image)) [
-    Err refusal ↦ Err (number, refusal)
+  | Err refusal ↦ Err (number, refusal)
   | Ok next ↦ chained (number + 1) next images
-  ]
+]
 
 -- ---- the texts
 

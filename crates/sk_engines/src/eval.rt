@@ -82,7 +82,10 @@ fn asked_answer(alloc: Global, asked: &Asked) -> Result<Told, AllocError>
     }
 }
 
-fn chain_of(alloc: Global, images: &[Vec<u8>]) -> Result<Result<Chain, (usize, Refusal)>, AllocError>
+fn chain_of(
+    alloc: Global,
+    images: &[Vec<u8>],
+) -> Result<Result<Chain, (usize, Refusal)>, AllocError>
     ensures chain { IfOk result (λ chain. chain ≡ chained 0 [] (map (λ image. image.items) images.now)) }
 {
     let mut chain = Chain::empty(alloc);
@@ -95,7 +98,11 @@ fn chain_of(alloc: Global, images: &[Vec<u8>]) -> Result<Result<Chain, (usize, R
     Ok(Ok(chain))
 }
 
-fn attach_image(alloc: Global, chain: Chain, image: &[u8]) -> Result<Result<Chain, Refusal>, AllocError>
+fn attach_image(
+    alloc: Global,
+    chain: Chain,
+    image: &[u8],
+) -> Result<Result<Chain, Refusal>, AllocError>
     ensures chain { IfOk result (λ attached. attached ≡ image_attached chain (instructions_of image.now)) }
 {
     let insns = match read_insns(alloc, image) {

@@ -145,8 +145,18 @@ fn commands_answer_worked_rows(rt: HostRuntime) {
         (Command::List, "0g", 1, "skern: not hexadecimal\n"),
         (Command::List, "", 1, "refused image empty\n"),
         (Command::List, "06", 1, "refused image ragged\n"),
-        (Command::List, "300000000c000000", 0, ".insn 0x0030 0 0 0x0000000c\n"),
-        (Command::List, "060001000000ff7f", 0, ".insn 0x0006 1 0 0x7fff0000\n"),
+        (
+            Command::List,
+            "300000000c000000",
+            0,
+            ".insn 0x0030 0 0 0x0000000c\n",
+        ),
+        (
+            Command::List,
+            "060001000000ff7f",
+            0,
+            ".insn 0x0006 1 0 0x7fff0000\n",
+        ),
         (
             Command::List,
             "2000000000000000 150000016e000000 0600000001000500 060000000000ff7f",

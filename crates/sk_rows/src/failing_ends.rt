@@ -16,7 +16,12 @@ const ANSWERS: [(Command, &str, u8, &str); 4] = [
         1,
         "refused 10 unstored at 0 word 3\n",
     ),
-    (Command::List, "060000000000ff7f 1600000000000000", 0, "ret 0x7fff0000\nreta\n"),
+    (
+        Command::List,
+        "060000000000ff7f 1600000000000000",
+        0,
+        "ret 0x7fff0000\nreta\n",
+    ),
     (
         Command::Asm,
         "ldabs 0\nret allow\n",

@@ -1,4 +1,4 @@
-use Rattle.std.proofs.Common.{sym, ◌∙◌, ap, arith}
+use Rattle.std.proofs.Common.{sym, ◌∙◌, ap}
 use Rattle.sk_insn.specs.Instructions.{instructions_of}
 use Rattle.sk_engines.specs.EvalCommand.{image_attached}
 use Rattle.sk_engines.proofs.Chaining.{bytes_of, chained_at}
