@@ -3,7 +3,6 @@
 documents name is there, and that each example in them prints what they say.
 
 Prints each problem, and at last 'N passed, M failed'."""
-import glob
 import os
 import re
 import subprocess
@@ -45,15 +44,24 @@ def citations(paths):
                 yield f"{path}:{number}: names a path of a machine: {line.strip()[:100]}"
 
 
-def is_there(path, document):
-    folders = [ROOT, os.path.join(ROOT, os.path.dirname(document)), os.path.join(ROOT, "crates")]
-    return any(glob.glob(os.path.join(folder, path.rstrip("/"))) for folder in folders)
+def is_there(path, paths):
+    """A document may leave out the folders that it speaks of."""
+    wanted = path.removeprefix("./").rstrip("/")
+    return any(f"/{it}".endswith(f"/{wanted}") or f"/{wanted}/" in f"/{it}" for it in paths)
 
 
-def paths_named(document, text):
+def paths_named(document, text, paths):
     for token in re.findall(r"`([^`\n]+)`", text) + re.findall(r"\]\(([^)#\s]+)\)", text):
-        if PATH.match(token) and "://" not in token and not is_there(token, document):
+        if PATH.match(token) and "://" not in token and not is_there(token, paths):
             yield f"{document}: names {token}, which is not there"
+
+
+def words_named(document, text, known):
+    """A document that says what is proved names functions, clauses and definitions that are there."""
+    for token in re.findall(r"`([A-Za-z_]\w*(?:::\w+)*)`", text):
+        for word in token.split("::"):
+            if word not in known:
+                yield f"{document}: names {token}, and no crate has {word}"
 
 
 def blocks(text, kind):
@@ -86,9 +94,12 @@ def examples(document, text):
 def main():
     paths = tracked()
     judge(list(citations(paths)), "the repository stands alone")
+    known = {word for path in paths if path.startswith("crates") for word in re.findall(r"[A-Za-z_]\w*", read(path) + path)}
+    for document in ("README.md", "docs/DEFINITIONS.md", "docs/MAP.md", "docs/DECISIONS.md"):
+        judge(list(words_named(document, read(document), known)), "names")
     for document in (path for path in paths if path.endswith(".md")):
         text = read(document)
-        judge(list(paths_named(document, text)), "paths")
+        judge(list(paths_named(document, text, paths)), "paths")
         judge(list(commands_named(document, text)), "commands")
         examples(document, text)
     print(f"{results['passed']} passed, {results['failed']} failed")
