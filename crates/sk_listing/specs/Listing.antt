@@ -1,5 +1,6 @@
--- The text that lists instructions, one line for each: in the assembler's form where the code is
--- permitted and the form has a word for each field that is not 0, and else by the four fields.
+-- The text that lists instructions, one line for each: in the form of its operation, after McCanne and
+-- Jacobson (1993), where the code is permitted by seccomp(2) and the form has a word for each field that
+-- is not 0, and else by the four fields of `struct sock_filter`.
 use Rattle.std.specs.Prelude.{ℕ, ◌==◌, ◌&&◌, Bool, true, if◌then◌else◌, List, [], ◌∷◌, ◌++◌, flat_map, codes, Option, Some, None}
 use Rattle.std.specs.Fmt.{decimal}
 use Rattle.std.specs.List.{join_with_byte}
@@ -49,13 +50,14 @@ abbrev pub field_words : Insn → List (List ℕ)
 field_words insn =
     codes ".insn" ∷ half_digits insn.code ∷ decimal insn.jt ∷ decimal insn.jf ∷ word_digits insn.k ∷ []
 
--- in the form of its operation, if it has one
+-- in the form of its operation, if it has one and the form shows all
 abbrev pub words_as : Option Operation → Insn → List (List ℕ)
 words_as None insn = field_words insn
 words_as (Some operation) insn =
     if unused_are_zero (shape_of operation) insn then name_of operation ∷ operands_of (shape_of operation) insn
     else field_words insn
 
+-- the operation is that of the code
 unfoldable pub words_for : Insn → List (List ℕ)
 words_for insn = words_as (operation_of insn.code) insn
 

@@ -15,6 +15,7 @@ use std::fmt::Write;
 // Writes an instruction's line.
 pub(crate) fn push_line(text: &mut String, insn: Insn) -> Result<(), AllocError>
     ensures line { OnOk result (string_bytes text.new ≡ string_bytes text.old ++ line_for insn) }
+    // what the type says of its fields
     ensures range { IsInRange insn }
 {
     push_words(text, insn)?;

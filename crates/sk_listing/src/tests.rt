@@ -83,8 +83,8 @@ fn lists_filters(rt: HostRuntime) -> Result<(), Fail> {
         text.as_str(),
         "ldabs 0\njeq 110 +0 +1\nret 0x00050001\nret 0x7fff0000\n"
     );
-    let insns = assemble(rt.alloc(), text.as_bytes())?;
-    assert_eq!(rt; insns.as_slice(), filter.as_slice());
+    let again = laws::assemble_listing(rt.alloc(), &filter)?;
+    assert_eq!(rt; again.as_slice(), filter.as_slice());
     assert_eq!(rt; list(rt.alloc(), &[])?.as_str(), "");
     Ok(())
 }
