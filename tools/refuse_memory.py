@@ -11,13 +11,16 @@ import tempfile
 HERE = os.path.dirname(os.path.abspath(__file__))
 RECORD = "record 270000003e0000c0" + "0" * 112 + "\n"
 REFUSES_GETPPID = "2000000000000000\n150000016e000000\n0600000001000500\n060000000000ff7f\n"
+# The word, the input, the whole answer and its status.
 RUNS = [
-    ("eval", RECORD + "filter 060000000000ff7f\n"),
-    ("eval", RECORD + "filter 0600000002000500\nfilter 0600000001000500\n"),
-    ("check", "200000003e000000 060000000000ff7f"),
-    ("asm", "ldabs 0\njeq 110 here +1\nhere:\nret errno/1\nret allow\n"),
-    ("list", REFUSES_GETPPID),
+    ("eval", RECORD + "filter 060000000000ff7f\n", "return 0x7fff0000 allow data 0 steps 1\n", 0),
+    ("eval", RECORD + "filter 0600000002000500\nfilter 0600000001000500\n",
+     "return 0x00050001 errno data 1 steps 1\nreturn 0x00050002 errno data 2 steps 1\nverdict 0x00050001 errno data 1\n", 0),
+    ("check", "200000003e000000 060000000000ff7f", "refused 4 load at 0\n", 1),
+    ("asm", "ldabs 0\njeq 110 here +1\nhere:\nret errno/1\nret allow\n", REFUSES_GETPPID, 0),
+    ("list", REFUSES_GETPPID, "ldabs 0\njeq 110 +0 +1\nret 0x00050001\nret 0x7fff0000\n", 0),
 ]
+MOST_ALLOCATIONS = 2000
 
 
 def main():
@@ -34,22 +37,25 @@ def main():
             ran = subprocess.run([program, word], input=text.encode(), capture_output=True, env=env, timeout=60)
             return ran.stdout, ran.returncode
 
-        for word, text in RUNS:
-            whole = run(word, text, 0)
-            refusals, count = 0, 0
-            while True:
-                count += 1
+        for word, text, output, status in RUNS:
+            whole = (output.encode(), status)
+            refusals = 0
+            for count in range(MOST_ALLOCATIONS):
+                # The first run refuses nothing.
                 answer = run(word, text, count)
-                if answer == (b"skern: out of memory\n", 3):
+                if count > 0 and answer == (b"skern: out of memory\n", 3):
                     refusals += 1
                 elif answer != whole:
                     failed += 1
                     print(f"{word}: with allocation {count} refused it gives {answer}")
                     continue
                 passed += 1
-                # no allocation is left to refuse
-                if answer == whole and refusals < count - 8:
+                # No allocation is left to refuse.
+                if count > refusals + 8:
                     break
+            else:
+                failed += 1
+                print(f"{word}: {MOST_ALLOCATIONS} allocations did not do")
     print(f"{passed} passed, {failed} failed")
     return 1 if failed else 0
 

@@ -36,14 +36,14 @@ module _ {T : Type 0} (view : T → List Insn) (answer : Result T AsmFault) wher
   lines-only n lines insns h a = Finds-answers view insns answer (assembled_lines n lines) h (assembled_lines-only n lines insns a)
 
 -- a text, which has a limit
-assembled-stands : (text : List ℕ) (insns : List Insn) → assembled text ≡ Ok insns → AssemblesText text insns
+pub assembled-stands : (text : List ℕ) (insns : List Insn) → assembled text ≡ Ok insns → AssemblesText text insns
 unfolding assembled
 assembled-stands text insns h = elim (cases_lt 1048576 (length text)) [
   | inl long ↦ let t = lt-ltb 1048576 (length text) long in let e = rw t at h in cc
   | inr short ↦ let f = le-ltb 1048576 (length text) short in (short, assembled_lines-stands 1 (lines_of text) insns (rw f at h))
 ]
 
-assembled-only : (text : List ℕ) (insns : List Insn) → AssemblesText text insns → assembled text ≡ Ok insns
+pub assembled-only : (text : List ℕ) (insns : List Insn) → AssemblesText text insns → assembled text ≡ Ok insns
 unfolding assembled
 assembled-only text insns h = let f = le-ltb 1048576 (length text) h.0 in rw f (assembled_lines-only 1 (lines_of text) insns h.1)
 

@@ -4,6 +4,7 @@
 mod block;
 mod examples;
 mod fault;
+pub mod laws;
 mod parse;
 mod passes;
 mod shape;

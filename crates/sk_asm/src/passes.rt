@@ -1,5 +1,5 @@
 //! The two passes over the lines: one for the labels, and one for the instructions.
-ghost use Rattle.std.specs.Prelude.{◌≡◌, ◌+◌, ◌-◌, ◌≤◌, ◌<◌, ◌^◌, ◌++◌, length, IfOk, MatchResult, OnOk, Ok, List, []};
+ghost use Rattle.std.specs.Prelude.{Err, ◌≡◌, ◌+◌, ◌-◌, ◌≤◌, ◌<◌, ◌^◌, ◌++◌, length, IfOk, MatchResult, OnOk, Ok, List, []};
 ghost use Rattle.sk_asm.specs.Assembly.{Assembles, AssemblesText, Finds};
 ghost use Rattle.sk_asm.specs.Block.{lines_in, until_end};
 ghost use Rattle.sk_insn.specs.declared.insn.Insn.{Insn};
@@ -29,6 +29,7 @@ pub fn assemble(alloc: Global, text: &[u8]) -> Result<Vec<Insn>, AsmFault>
     ensures exact { Answers (λ insns. insns.items) result (assembled text.now) }
     ensures stands { IfOk result (λ insns. AssemblesText text.now insns.items) }
     ensures only { (insns : List Insn) → AssemblesText text.now insns → Finds (λ found. found.items) result insns }
+    ensures limit { 1048576 < length text.now → result ≡ Err (AsmFault.TooLong 0) }
 {
     if text.len() > LONGEST_TEXT {
         return Err(AsmFault::TooLong { n: 0 });

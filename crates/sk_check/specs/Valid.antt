@@ -1,5 +1,5 @@
--- Which programs are valid: the rules of seccomp(2) and of the Linux kernel's socket filters, where a
--- scratch word is loaded only after each path to the load has stored it. That rule asks nothing of an
+-- Which programs are valid: the rules of seccomp(2), with a rule of this project's own on scratch words: a word is
+-- loaded only after each path to the load has stored it. (Linux is stricter there; docs/LINUX.md says how.) That rule asks nothing of an
 -- instruction that no path reaches; every other fault counts at every place, reached or not.
 use Rattle.std.specs.Prelude.{ℕ, ◌≡◌, ◌≢◌, ◌-◌, ◌%◌, ◌<◌, ◌≤◌, ◌⊎◌, List, Some, None, length}
 use Rattle.sk_insn.specs.declared.insn.Insn.{Insn}

@@ -2,6 +2,7 @@
 ghost use Rattle.std.specs.Prelude.{◌≡◌, ◌≤◌, ◌++◌, IfOk, IfSome, OnOk, Err, flat_map, string_bytes};
 ghost use Rattle.sk_asm.specs.Passes.{assembled};
 ghost use Rattle.sk_engines.specs.AsmCommand.{asm_answer, assembled_answer, digits_line};
+ghost use Rattle.sk_ends.specs.Reading.{ConsumesUpTo};
 ghost use Rattle.sk_engines.specs.Engine.{Delivers, CountsReads, CountsWrites};
 ghost use Rattle.sk_engines.specs.Told.{answer_of};
 
@@ -24,6 +25,7 @@ pub fn asm_engine<R: Source, W: Sink>(
     ensures told { IfSome (R.remaining reader.old) (λ input.
         Delivers (asm_answer input) result (W.contents writer.old) (W.contents writer.new)) }
     ensures status { IfOk result (λ status. status ≤ 1) }
+    ensures limit { ConsumesUpTo 1048577 (R.remaining reader.old) (R.remaining reader.new) }
     ensures reads { CountsReads result (R.failed reader.old) (R.failed reader.new) }
     ensures writes { CountsWrites result (W.failed writer.old) (W.failed writer.new) }
 {

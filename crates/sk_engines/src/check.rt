@@ -7,6 +7,7 @@ ghost use Rattle.sk_text.specs.Hexadecimal.{hex_text_bytes};
 ghost use Rattle.sk_insn.specs.Instructions.{instructions_of};
 ghost use Rattle.sk_check.specs.FirstFault.{first_fault};
 ghost use Rattle.sk_engines.specs.CheckCommand.{check_answer, digits_answer, image_answer, judged_answer};
+ghost use Rattle.sk_ends.specs.Reading.{ConsumesUpTo};
 ghost use Rattle.sk_engines.specs.Engine.{Delivers, CountsReads, CountsWrites};
 ghost use Rattle.sk_engines.specs.Told.{answer_of};
 
@@ -29,6 +30,7 @@ pub fn check_engine<R: Source, W: Sink>(
     ensures told { IfSome (R.remaining reader.old) (λ input.
         Delivers (check_answer input) result (W.contents writer.old) (W.contents writer.new)) }
     ensures status { IfOk result (λ status. status ≤ 1) }
+    ensures limit { ConsumesUpTo 1048577 (R.remaining reader.old) (R.remaining reader.new) }
     ensures reads { CountsReads result (R.failed reader.old) (R.failed reader.new) }
     ensures writes { CountsWrites result (W.failed writer.old) (W.failed writer.new) }
 {

@@ -1,5 +1,6 @@
 //! What all engines do alike: they read the input, and send the answer.
 ghost use Rattle.std.specs.Prelude.{◌≡◌, ◌≢◌, ◌≤◌, take, IfOk, IfSome, Err};
+ghost use Rattle.sk_ends.specs.Reading.{ConsumesUpTo};
 ghost use Rattle.sk_engines.specs.Engine.{Delivers, CountsReads, CountsWrites};
 ghost use Rattle.sk_engines.specs.Told.{answer_of};
 
@@ -15,6 +16,7 @@ pub const MOST_BYTES: usize = 1_048_576;
 pub fn input<R: Source>(alloc: Global, reader: &mut R) -> Result<Vec<u8>, CommandFault>
     ensures first { IfOk result (λ bytes.
         IfSome (R.remaining reader.old) (λ left. bytes.items ≡ take 1048577 left)) }
+    ensures limit { ConsumesUpTo 1048577 (R.remaining reader.old) (R.remaining reader.new) }
     ensures reads { CountsReads result (R.failed reader.old) (R.failed reader.new) }
     ensures no_write { result ≢ Err CommandFault.Write }
 {

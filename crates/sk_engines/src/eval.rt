@@ -7,6 +7,7 @@ ghost use Rattle.sk_text.specs.Lines.{lines_of};
 ghost use Rattle.sk_engines.specs.EvalInput.{gathered, nothing_yet};
 ghost use Rattle.sk_engines.specs.Gathering.{asked_of};
 ghost use Rattle.sk_engines.specs.EvalCommand.{eval_answer, asked_answer, chained_answer, refusal_answer, chained, image_attached, program_attached, chain_text, meaning_line, verdict_line, value_text, refusal_text};
+ghost use Rattle.sk_ends.specs.Reading.{ConsumesUpTo};
 ghost use Rattle.sk_engines.specs.Engine.{Delivers, CountsReads, CountsWrites};
 ghost use Rattle.sk_engines.specs.Told.{answer_of};
 
@@ -44,6 +45,7 @@ pub fn eval_engine<R: Source, W: Sink>(
     ensures told { IfSome (R.remaining reader.old) (λ input.
         Delivers (eval_answer input) result (W.contents writer.old) (W.contents writer.new)) }
     ensures status { IfOk result (λ status. status ≤ 1) }
+    ensures limit { ConsumesUpTo 1048577 (R.remaining reader.old) (R.remaining reader.new) }
     ensures reads { CountsReads result (R.failed reader.old) (R.failed reader.new) }
     ensures writes { CountsWrites result (W.failed writer.old) (W.failed writer.new) }
 {

@@ -3,6 +3,7 @@ ghost use Rattle.std.specs.Prelude.{◌≡◌, ◌≤◌, IfOk, IfSome};
 ghost use Rattle.sk_insn.specs.Instructions.{instructions_of};
 ghost use Rattle.sk_text.specs.Hexadecimal.{hex_text_bytes};
 ghost use Rattle.sk_engines.specs.ListCommand.{list_answer, listed_digits_answer, listed_answer};
+ghost use Rattle.sk_ends.specs.Reading.{ConsumesUpTo};
 ghost use Rattle.sk_engines.specs.Engine.{Delivers, CountsReads, CountsWrites};
 ghost use Rattle.sk_engines.specs.Told.{answer_of};
 
@@ -25,6 +26,7 @@ pub fn list_engine<R: Source, W: Sink>(
     ensures told { IfSome (R.remaining reader.old) (λ input.
         Delivers (list_answer input) result (W.contents writer.old) (W.contents writer.new)) }
     ensures status { IfOk result (λ status. status ≤ 1) }
+    ensures limit { ConsumesUpTo 1048577 (R.remaining reader.old) (R.remaining reader.new) }
     ensures reads { CountsReads result (R.failed reader.old) (R.failed reader.new) }
     ensures writes { CountsWrites result (W.failed writer.old) (W.failed writer.new) }
 {

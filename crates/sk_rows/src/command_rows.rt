@@ -103,6 +103,36 @@ fn commands_answer_worked_rows(rt: HostRuntime) {
             1,
             "refused 10 unstored at 0 word 3\n",
         ),
+        (
+            Command::Check,
+            "2000000000000000 1500000127000000 0200000004000000 6000000004000000 1600000000000000",
+            1,
+            "refused 10 unstored at 3 word 4\n",
+        ),
+        (
+            Command::Check,
+            "2000000000000000 1500000227000000 0200000004000000 0500000001000000 0200000004000000 6000000004000000 1600000000000000",
+            0,
+            "ok 7\n",
+        ),
+        (
+            Command::Check,
+            "0000000001000000 1500000101000000 0200000000000000 6000000000000000 1600000000000000",
+            1,
+            "refused 10 unstored at 3 word 0\n",
+        ),
+        (
+            Command::Check,
+            "0000000007000000 0200000000000000 1500010007000000 0600000000000000 6000000000000000 1600000000000000",
+            0,
+            "ok 6\n",
+        ),
+        (
+            Command::Check,
+            "060000000000ff7f 6000000003000000 060000000000ff7f",
+            0,
+            "ok 3\n",
+        ),
         (Command::Asm, "", 0, ""),
         (Command::Asm, "; nothing\n\n", 0, ""),
         (
@@ -217,6 +247,15 @@ fn limits_hold(rt: HostRuntime) -> Result<(), Fail> {
         held.as_slice(),
         b"skern: line 4097: over the limit\n".as_slice()
     );
+    let mut image = Vec::new(rt.alloc());
+    for _ in 0..4097 {
+        image.extend_from_slice(b"060000000000ff7f")?;
+    }
+    for command in [Command::Check, Command::List] {
+        let (answer, held) = command.on(rt.alloc(), image.as_slice());
+        assert_eq!(rt; answer, Ok(1));
+        assert_eq!(rt; held.as_slice(), b"refused image too long\n".as_slice());
+    }
     let spaces = [b' '; 256];
     let (answer, held) = Command::Asm.on(rt.alloc(), &spaces[..255]);
     assert_eq!(rt; (answer, held.len()), (Ok(0), 0));
