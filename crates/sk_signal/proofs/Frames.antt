@@ -1,7 +1,7 @@
 -- What keeps SIGKILL and SIGSTOP out of every mask, and a frame on top of the others.
 use Rattle.std.proofs.Common.{[], ◌≡◌, ◌≢◌, ◌∙◌, ◌+◌, ◌<◌, ◌≤◌, ◌==◌, ℕ, zero, suc, arith, ap, sym, refl, true, not, List, ◌∷◌, length, get_or-set_same, get_or-set_other}
 use Rattle.std.specs.Prelude.{slice_set}
-use Rattle.std.specs.FinSet as set
+use Rattle.sk_signal.specs.Sets as set
 use Rattle.std.proofs.lemmas.Bool.Decides.{nat_tests}
 use Rattle.sk_signal.specs.SignalSet.{Signals, blockable}
 use Rattle.sk_signal.specs.SignalState.{AllBlockable}

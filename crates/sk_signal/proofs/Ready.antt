@@ -1,7 +1,7 @@
 -- What a signal that is ready for delivery is: pending, and not blocked.
 use Rattle.std.proofs.Common.{◌≡◌, ◌∙◌, ap, sym, ℕ, arith, true, false, Option, Some, None}
 use Rattle.std.specs.Prelude.{IsTrue, IsFalse, IfSome}
-use Rattle.std.specs.FinSet as set
+use Rattle.sk_signal.specs.Sets as set
 use Rattle.std.proofs.lemmas.Bool.Decides.{nat_tests}
 use Rattle.sk_signal.specs.SignalSet.{Signals, IsLeast}
 use Rattle.sk_signal.proofs.SetLaws.{sets, none_in_empty}

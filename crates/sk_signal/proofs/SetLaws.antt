@@ -3,35 +3,33 @@ use Rattle.std.proofs.Common.{◌≡◌, ◌∙◌, ◌≤◌, ◌<◌, ◌==◌
 use Rattle.std.specs.List.{find}
 use Rattle.std.specs.Option.{option_or}
 use Rattle.std.proofs.lemmas.List.Folds.{find-append}
-use Rattle.std.specs.Cmp.{nat_cmp_total, unsigned_tied}
-use Rattle.std.specs.Ordering.{nat_cmp}
-use Rattle.std.specs.FinSet as set
-use Rattle.std.specs.FinSet.{same_set, nat_cmp-IsAntisymmetric, contains-empty, contains-insert, contains-remove, contains-union, contains-difference}
+use Rattle.sk_signal.specs.Sets as set
+use Rattle.sk_signal.specs.Sets.{same_set, contains-empty, contains-insert, contains-remove, contains-union, contains-difference}
 use Rattle.std.proofs.lemmas.Bool.Decides.{nat_tests, leb_tells}
 use Rattle.sk_signal.specs.SignalSet.{Signals, IsSignal, IsLeast, signals_to, lowest}
 
 -- ---- membership
-pub none_in_empty : (q : ℕ) → set.contains {R = nat_cmp} set.empty q ≡ false
-none_in_empty q = contains-empty nat_cmp q
+pub none_in_empty : (q : ℕ) → set.contains set.empty q ≡ false
+none_in_empty q = contains-empty q
 
 pub in_insert : (s : Signals) (n q : ℕ) → set.contains (set.insert s n) q ≡ ((q == n) || set.contains s q)
-in_insert s n q = contains-insert nat_cmp_total s n q ∙ ap (λ b. b || set.contains s q) (unsigned_tied q n)
+in_insert s n q = contains-insert s n q
 
 pub in_remove : (s : Signals) (n q : ℕ) → set.contains (set.remove s n) q ≡ (not (q == n) && set.contains s q)
-in_remove s n q = contains-remove nat_cmp_total s n q ∙ ap (λ b. not b && set.contains s q) (unsigned_tied q n)
+in_remove s n q = contains-remove s n q
 
 pub in_union : (s t : Signals) (q : ℕ) → set.contains (set.union s t) q ≡ (set.contains s q || set.contains t q)
-in_union s t q = contains-union nat_cmp_total s t q
+in_union s t q = contains-union s t q
 
 pub in_difference : (s t : Signals) (q : ℕ) → set.contains (set.difference s t) q ≡ (set.contains s q && not (set.contains t q))
-in_difference s t q = contains-difference nat_cmp_total s t q
+in_difference s t q = contains-difference s t q
 
 -- what the membership tests of the operations compute, for `grind`
 pub ruleset sets = (none_in_empty, in_insert, in_remove, in_union, in_difference)
 
 -- sets with the same members are equal
 pub same_members : (s t : Signals) → ((q : ℕ) → set.contains s q ≡ set.contains t q) → s ≡ t
-same_members s t each = same_set nat_cmp_total nat_cmp-IsAntisymmetric s t each
+same_members s t each = same_set s t each
 
 -- ---- one member
 pub insert_twice : (s : Signals) (n : ℕ) → set.insert (set.insert s n) n ≡ set.insert s n

@@ -1,9 +1,8 @@
 -- What an operation on the bits of a set does to the set.
 use Rattle.std.proofs.Common.{◌≡◌, ◌∙◌, ◌+◌, ◌-◌, ◌*◌, ◌^◌, ◌<◌, ◌≤◌, ◌==◌, ◌||◌, ◌&&◌, ℕ, zero, suc, arith, ap, sym, subst, refl, Bool, true, false, not, nat_le, min, max, bit_and, bit_or, w32}
 use Rattle.std.specs.Int.{bit_at, bit_not, trailing_zeros}
-use Rattle.std.specs.Cmp.{nat_cmp_total}
-use Rattle.std.specs.FinSet as set
-use Rattle.std.specs.FinSet.{same_set, nat_cmp-IsAntisymmetric}
+use Rattle.sk_signal.specs.Sets as set
+use Rattle.sk_signal.specs.Sets.{same_set}
 use Rattle.std.proofs.lemmas.Bool.Decides.{nat_tests}
 use Rattle.std.proofs.lemmas.Nat.{pow_pos, pow_below}
 use Rattle.std.proofs.lemmas.Nat.Bits.{bit_at_or, bit_at_and, bit_at_not, bit_at-lt, bit_at-zero, bit_at-pow_same, bit_at-pow_other, bit_at_ones, bit_at_above, bit_at-trailing_zeros, and_pow}
@@ -13,7 +12,7 @@ use Rattle.sk_signal.specs.SignalBits.{contains-signals_of, number_of-signals_of
 
 -- the signals of a number's bits are this set, where the members are those that have their bits set
 signals_are : (b : ℕ) (s : Signals) → ((q : ℕ) → set.contains s q ≡ (nat_le 1 q && (nat_le q 31 && has_bit b q))) → signals_of b ≡ s
-signals_are b s each = same_set nat_cmp_total nat_cmp-IsAntisymmetric (signals_of b) s (λ q. contains-signals_of b q ∙ sym (each q))
+signals_are b s each = same_set (signals_of b) s (λ q. contains-signals_of b q ∙ sym (each q))
 
 max_test : (x y : ℕ) → x < 2 → y < 2 → (max x y == 1) ≡ ((x == 1) || (y == 1))
 max_test x y h k = grind (arith, nat_tests)

@@ -1,7 +1,7 @@
 -- How a pending signal is delivered, and how its handler runs: signal(7), "Execution of signal
 -- handlers", and sigreturn(2).
 use Rattle.std.specs.Prelude.{ℕ, if◌then◌else◌, List, [], ◌∷◌, Option, Some}
-use Rattle.std.specs.FinSet as set
+use Rattle.sk_signal.specs.Sets as set
 use Rattle.sk_signal.specs.declared.number.TheConstants.{SIGKILL}
 use Rattle.sk_signal.specs.SignalSet.{Signals, lowest, blockable}
 use Rattle.sk_signal.specs.SignalState.{SignalState}

@@ -1,6 +1,6 @@
 -- How a signal becomes pending: signal(7), and POSIX.1-2017, 2.4.1 "Signal Generation and Delivery".
 use Rattle.std.specs.Prelude.{ℕ, ◌-◌, ◌==◌, Bool, not, ◌&&◌, ◌||◌, if◌then◌else◌, slice_set}
-use Rattle.std.specs.FinSet as set
+use Rattle.sk_signal.specs.Sets as set
 use Rattle.sk_signal.specs.declared.number.TheConstants.{SIGCONT, SIGSTOP, SIGTSTP, SIGTTIN, SIGTTOU, SIGSYS}
 use Rattle.sk_signal.specs.declared.disposition.Disposition.TheVariants.{Default}
 use Rattle.sk_signal.specs.SignalSet.{Signals}

@@ -1,3 +1,4 @@
+pub mod Sets
 pub mod SignalSet
 pub mod SignalBits
 pub mod Actions

@@ -1,8 +1,7 @@
 -- Sets of signals: sigsetops(3) and the table of standard signals in signal(7).
 use Rattle.std.specs.Prelude.{ℕ, zero, suc, ◌-◌, ◌^◌, ◌≤◌, ◌==◌, Bool, IsTrue, if◌then◌else◌, List, [], ◌∷◌, ◌++◌, filter, sum_by, find, Option}
-use Rattle.std.specs.Ordering.{nat_cmp}
 use Rattle.std.specs.Int.{bit_at}
-use Rattle.std.specs.FinSet as set
+use Rattle.sk_signal.specs.Sets as set
 use Rattle.sk_signal.specs.declared.number.TheConstants.{SIGKILL, SIGSTOP}
 
 -- the standard signals are the numbers 1 to 31: signal(7)
@@ -11,7 +10,7 @@ IsSignal n = (1 ≤ n) × (n ≤ 31)
 
 -- a set of signals, by its members
 abbrev pub Signals : Type 0
-Signals = set.FinSet nat_cmp
+Signals = set.NumberSet
 
 -- the signals from 1 to n, in rising order
 unfoldable pub signals_to : ℕ → List ℕ

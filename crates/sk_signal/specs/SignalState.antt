@@ -1,7 +1,7 @@
 -- What a process keeps about signals: signal(7).
 use Rattle.std.specs.Prelude.{ℕ, ◌-◌, Bool, IsTrue, List, slice_index_or, not, ◌&&◌}
 use Rattle.std.specs.List.{list_all}
-use Rattle.std.specs.FinSet as set
+use Rattle.sk_signal.specs.Sets as set
 use Rattle.sk_signal.specs.SignalSet.{Signals}
 use Rattle.sk_signal.specs.declared.number.TheConstants.{SIGKILL, SIGSTOP}
 use Rattle.sk_signal.specs.declared.disposition.Disposition.{Disposition}

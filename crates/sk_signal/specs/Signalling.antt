@@ -1,6 +1,6 @@
 -- The calls that change the signals of a process, and its signals at its start, execve, fork and end.
 use Rattle.std.specs.Prelude.{ℕ, ◌-◌, Bool, if◌then◌else◌, [], slice_set, map, replicate}
-use Rattle.std.specs.FinSet as set
+use Rattle.sk_signal.specs.Sets as set
 use Rattle.sk_signal.specs.declared.disposition.Disposition.{Disposition}
 use Rattle.sk_signal.specs.declared.disposition.Disposition.TheVariants.{Default}
 use Rattle.sk_signal.specs.SignalSet.{Signals, blockable}

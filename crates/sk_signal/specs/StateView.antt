@@ -1,7 +1,7 @@
 -- How the fields of a `SigState` stand for a `SignalState`.
 use Rattle.std.specs.Prelude.{ℕ, zero, suc, List, [], ◌∷◌, slice_index_or, refl}
-use Rattle.std.specs.Coded.{Coded, code_by, coded×, coded_list, coded_ℕ}
-use Rattle.std.specs.FinSet as set
+use Rattle.std.specs.Coded.{Coded, code_by, coded×, coded_list}
+use Rattle.sk_signal.specs.Sets as set
 use Rattle.sk_signal.specs.SignalSet.{Signals}
 use Rattle.sk_signal.specs.SignalState.{SignalState}
 use Rattle.sk_signal.specs.declared.disposition.Disposition.{Disposition}
@@ -12,8 +12,9 @@ abbrev pub frames_of : ℕ → List Signals → List Signals
 frames_of zero masks = []
 frames_of (suc n) masks = slice_index_or masks n set.empty ∷ frames_of n masks
 
+-- a set of signals is stored as its members
 abbrev pub signals_code : Coded Signals
-signals_code = set.code coded_ℕ
+signals_code = set.code
 
 -- a state is stored as the tuple of its fields
 abbrev pub state_code : Coded SignalState

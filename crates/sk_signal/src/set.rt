@@ -1,5 +1,5 @@
 ghost use Rattle.std.specs.Prelude.{⊤, ◌≡◌, ◌≢◌, ◌+◌, ◌-◌, ◌*◌, ◌^◌, ◌<◌, ◌≤◌, ◌↔◌, IsSome, IsNone, IfSome, [], ◌∷◌, codes};
-ghost use Rattle.std.specs.FinSet as set;
+ghost use Rattle.sk_signal.specs.Sets as set;
 ghost use Rattle.sk_signal.specs.SignalSet.{IsSignal, IsLeast, signals_of, number_of, lowest, blockable};
 
 use crate::number::{SIGKILL, SIGSTOP};
@@ -83,13 +83,13 @@ pub struct SigSet {
 
 impl Model for SigSet {
     ghost use Rattle.std.specs.Prelude.{◌<◌, ◌^◌};
-    ghost use Rattle.std.specs.FinSet as set;
+    ghost use Rattle.sk_signal.specs.Sets as set;
     ghost use Rattle.std.specs.Ordering.{nat_cmp};
     ghost use Rattle.std.specs.Coded.{coded_ℕ};
 
-    ghost Value = { set.FinSet nat_cmp };
+    ghost Value = { set.NumberSet };
 
-    ghost coded = { set.code coded_ℕ };
+    ghost coded = { set.code };
 
     ghost use Rattle.sk_signal.specs.SignalSet.{signals_of, number_of};
     ghost use Rattle.sk_signal.specs.SignalBits.{number_of-signals_of};

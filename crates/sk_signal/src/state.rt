@@ -1,6 +1,6 @@
 ghost use Rattle.std.specs.Prelude.{◌≡◌, ◌≢◌, ◌==◌, ◌||◌, ◌↔◌, not, if◌then◌else◌, length, IsTrue, IsFalse, IsNone, IfSome};
 ghost use Rattle.std.specs.Bool.{OnTrue};
-ghost use Rattle.std.specs.FinSet as set;
+ghost use Rattle.sk_signal.specs.Sets as set;
 ghost use Rattle.sk_signal.specs.declared.number.TheConstants.{SIGKILL, SIGSTOP, SIGSYS};
 ghost use Rattle.sk_signal.specs.declared.state.TheConstants.{FRAMES};
 ghost use Rattle.sk_signal.specs.SignalSet.{IsSignal};

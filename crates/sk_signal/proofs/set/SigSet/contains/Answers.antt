@@ -1,5 +1,5 @@
 use Rattle.std.proofs.Common.{◌∙◌, ap}
-use Rattle.std.specs.FinSet as set
+use Rattle.sk_signal.specs.Sets as set
 use Rattle.sk_signal.proofs.SignalSets.{contains_is}
 use Rattle.sk_signal.proofs.set.SigSet.contains.Goals as goal
 

@@ -1,5 +1,5 @@
 use Rattle.std.proofs.Common.{◌∙◌, ap, sym, refl}
-use Rattle.std.specs.FinSet as set
+use Rattle.sk_signal.specs.Sets as set
 use Rattle.sk_signal.specs.SignalSet.{lowest}
 use Rattle.sk_signal.proofs.SetLaws.{lowest_is, lowest_none, none_in_empty}
 use Rattle.sk_signal.proofs.SignalSets.{least_of, none_of_zero, not_empty}

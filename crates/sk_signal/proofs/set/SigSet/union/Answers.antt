@@ -1,6 +1,6 @@
 use Rattle.std.proofs.Common.{◌∙◌, ap, arith}
 use Rattle.std.proofs.lemmas.Nat.{or_lt}
-use Rattle.std.specs.FinSet as set
+use Rattle.sk_signal.specs.Sets as set
 use Rattle.sk_signal.specs.SignalSet.{signals_of}
 use Rattle.sk_signal.proofs.SignalSets.{signals_of-or}
 use Rattle.sk_signal.proofs.set.SigSet.union.Goals as goal

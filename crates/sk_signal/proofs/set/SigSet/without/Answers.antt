@@ -1,6 +1,6 @@
 use Rattle.std.proofs.Common.{◌∙◌, ap, arith}
 use Rattle.std.proofs.lemmas.Nat.{and_le_l}
-use Rattle.std.specs.FinSet as set
+use Rattle.sk_signal.specs.Sets as set
 use Rattle.sk_signal.specs.SignalSet.{signals_of}
 use Rattle.sk_signal.proofs.SignalSets.{without_is}
 use Rattle.sk_signal.proofs.set.SigSet.without.Goals as goal

@@ -1,5 +1,5 @@
 use Rattle.std.proofs.Common.{◌∙◌, ap, sym}
-use Rattle.std.specs.FinSet as set
+use Rattle.sk_signal.specs.Sets as set
 use Rattle.sk_signal.proofs.Ready.{ready_is, least_is_ready, some_member}
 use Rattle.sk_signal.proofs.state.SigState.deliverable.Goals as goal
 
