@@ -6,7 +6,9 @@ pub mod laws;
 mod machine;
 #[cfg(test)]
 mod tests;
+mod together;
 mod walker;
 
-pub use interpreter::{Ran, run};
+pub use interpreter::{Ran, run, run_on};
+pub use together::walk_together;
 pub use walker::walk;

@@ -1,4 +1,4 @@
-use crate::{Ran, run, walk};
+use crate::{Ran, run, run_on, walk, walk_together};
 use sk_check::{Checked, check};
 use sk_insn::{Insn, Record};
 use std::alloc::Global;
@@ -114,6 +114,7 @@ fn filters(rt: HostRuntime) -> Result<(), Fail> {
     for (program, nr, value, steps) in rows {
         let filter = checked(rt.alloc(), program)?;
         assert_eq!(rt; run(&filter, &call(nr)), Ran { value, steps });
+        assert_eq!(rt; run_on(&filter, &call(nr).bytes()), Ran { value, steps });
     }
     Ok(())
 }
@@ -258,6 +259,40 @@ fn walks(rt: HostRuntime) -> Result<(), Fail> {
     for (program, nr, allowed) in rows {
         let filter = checked(rt.alloc(), program)?;
         assert_eq!(rt; walk(&filter, nr), allowed, "call {nr}");
+    }
+    Ok(())
+}
+
+#[test]
+fn walks_together(rt: HostRuntime) -> Result<(), Fail> {
+    let by_each_test = [
+        ldabs(4),
+        jeq(0xC000_003E, 1, 0),
+        ret(0x8000_0000),
+        ldabs(0),
+        branch(0x35, 0x4000_0000, 10, 0),
+        branch(0x25, 130, 4, 0),
+        jeq(3, 8, 0),
+        branch(0x45, 6, 1, 0),
+        ret(ALLOW),
+        jeq(77, 6, 5),
+        with_k(0x54, 0xfe),
+        branch(0x35, 200, 1, 0),
+        branch(0x45, 12, 2, 3),
+        with_k(0x54, 5),
+        jeq(4, 1, 0),
+        ret(ERRNO_1),
+        ret(ALLOW),
+    ];
+    let filter = checked(rt.alloc(), &by_each_test)?;
+    for first in [0, 64, 100, 128, 192, 448, 0x3fff_ffe0, 0xffff_ffc0] {
+        for numbers in [u64::MAX, 0x0f0f_5555_3333_00ff, 0] {
+            let allowed = walk_together(&filter, first, numbers);
+            for n in 0..64 {
+                let one = numbers >> n & 1 == 1 && walk(&filter, first + n);
+                assert_eq!(rt; allowed >> n & 1 == 1, one, "call {first} + {n}");
+            }
+        }
     }
     Ok(())
 }
