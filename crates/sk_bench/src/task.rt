@@ -1,5 +1,8 @@
 //! The text of a task: a line with the work's name and the number of rounds, then `record` and
 //! `filter` lines as `skern eval` takes them.
+ghost use Rattle.std.specs.Prelude.{◌≡◌};
+ghost use Rattle.sk_insn.specs.Record.{record_of};
+
 use crate::fault::Fault;
 use sk_insn::{RECORD_LEN, Record};
 use sk_text::{Lines, Words, bytes_of, number_up_to};
@@ -85,7 +88,10 @@ impl Task {
     }
 }
 
-fn call_of(bytes: &[u8]) -> Option<Record> {
+#[tactic(auto, unfolding(sk_insn::specs::Record::record_of))]
+fn call_of(bytes: &[u8]) -> Option<Record>
+    ensures call { result ≡ record_of bytes.now }
+{
     if bytes.len() != RECORD_LEN {
         return None;
     }

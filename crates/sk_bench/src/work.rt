@@ -1,4 +1,8 @@
 //! The work itself. In each round the calls come from another address, so that no round is another's.
+ghost use Rattle.std.specs.Prelude.{◌≡◌, ◌++◌, List, [], ◌∷◌, Ok, length, vec_len, IfOk};
+ghost use Rattle.sk_insn.specs.declared.insn.Insn.{Insn};
+ghost use Rattle.sk_insn.specs.Instructions.{instructions_of};
+
 use crate::fault::Fault;
 use crate::task::{Task, Work};
 use crate::total::Total;
@@ -56,7 +60,10 @@ fn images_checked(alloc: Global, images: &[Vec<u8>], rounds: u32) -> Result<Tota
     Ok(total)
 }
 
-fn last_constant(insns: &[Insn]) -> u32 {
+fn last_constant(insns: &[Insn]) -> u32
+    ensures none { insns.now ≡ [] → result ≡ 0 }
+    ensures last { (front : List Insn) (last : Insn) → insns.now ≡ front ++ last ∷ [] → result ≡ last.k }
+{
     match insns.last() {
         Some(insn) => insn.k,
         None => 0,
@@ -106,7 +113,9 @@ fn move_to(calls: &mut [Record], address: u32) {
     }
 }
 
-fn programs_of(alloc: Global, images: &[Vec<u8>]) -> Result<Vec<Checked>, Fault> {
+fn programs_of(alloc: Global, images: &[Vec<u8>]) -> Result<Vec<Checked>, Fault>
+    ensures count { IfOk result (λ programs. vec_len programs ≡ length images.now) }
+{
     let mut programs = Vec::new(alloc);
     for image in images {
         programs
@@ -116,7 +125,9 @@ fn programs_of(alloc: Global, images: &[Vec<u8>]) -> Result<Vec<Checked>, Fault>
     Ok(programs)
 }
 
-fn chain_of(alloc: Global, images: &[Vec<u8>]) -> Result<Chain, Fault> {
+fn chain_of(alloc: Global, images: &[Vec<u8>]) -> Result<Chain, Fault>
+    ensures count { IfOk result (λ chain. length chain ≡ length images.now) }
+{
     let mut chain = Chain::empty(alloc);
     for image in images {
         chain = match chain.attach(program_of(alloc, image)?) {
@@ -128,7 +139,9 @@ fn chain_of(alloc: Global, images: &[Vec<u8>]) -> Result<Chain, Fault> {
     Ok(chain)
 }
 
-fn program_of(alloc: Global, image: &[u8]) -> Result<Checked, Fault> {
+fn program_of(alloc: Global, image: &[u8]) -> Result<Checked, Fault>
+    ensures program { IfOk result (λ program. instructions_of image.now ≡ Ok program) }
+{
     match check(read_insns(alloc, image)?) {
         Ok(program) => Ok(program),
         Err(_) => Err(Fault::Refused),
