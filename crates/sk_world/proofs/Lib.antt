@@ -1,0 +1,14 @@
+pub mod Maps
+pub mod Fresh
+pub mod Children
+pub mod Stored
+pub mod Kept
+pub mod KeptFork
+pub mod KeptEnd
+pub mod KeptTold
+pub mod Locality
+pub mod Telling
+pub mod Numbering
+pub mod Rights
+pub mod WorkedWorlds
+pub mod Handing

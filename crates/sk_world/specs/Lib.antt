@@ -1,0 +1,12 @@
+pub mod Processes
+pub mod World
+pub mod WorldCode
+pub mod Rules
+pub mod Sending
+pub mod Numbers
+pub mod Forking
+pub mod Ending
+pub mod Waits
+pub mod WorldLaws
+pub mod ChangeLaws
+pub mod WorkedWorlds

@@ -1,0 +1,33 @@
+ghost use Rattle.std.specs.Prelude.{◌≡◌, IsTrue, IfOk, OnOk, OnErr};
+ghost use Rattle.sk_world.specs.World.{at, is_alive};
+ghost use Rattle.sk_world.specs.Rules.{IsWorld};
+ghost use Rattle.sk_world.specs.Forking.{fork_answer, forked, has_room, has_filters};
+
+use crate::process::PROCESSES;
+use crate::store::ProcStore;
+use sk_creds::Errno;
+use std::alloc::AllocError;
+
+/// Forks a process: fork(2). The child shares the filters, so no memory is taken, and it fails only where they have
+/// as many owners as can be counted.
+pub fn fork<S: ProcStore>(store: &mut S, caller: u32) -> Result<Result<u32, Errno>, AllocError>
+    requires world { IsWorld (S.contents store.old) }
+    requires alive { IsTrue (is_alive (at (S.contents store.old) caller)) }
+    ensures answer { IfOk result (λ answer. answer ≡ fork_answer (S.contents store.old)) }
+    ensures world { OnOk result (S.contents store.new ≡ forked (S.contents store.old) caller) }
+    ensures rules { IsWorld (S.contents store.new) }
+    ensures refused { OnErr result (S.contents store.new ≡ S.contents store.old) }
+    ensures room { OnErr result (IsTrue (has_room (S.contents store.old))) }
+    ensures filtered { OnErr result (IsTrue (has_filters (at (S.contents store.old) caller))) }
+{
+    if store.count() >= PROCESSES {
+        return Ok(Err(Errno::Eagain));
+    }
+    let child = match store.get(caller) {
+        Some(parent) => parent.child(caller)?,
+        None => unreachable!(),
+    };
+    let pid = store.fresh();
+    store.insert(pid, child);
+    Ok(Ok(pid))
+}

@@ -1,0 +1,17 @@
+//! Processes, the world that they make up with the rules of fork(2), kill(2), exit(2) and wait(2) on
+//! it, and the trait of a store that keeps them.
+#![tactic(auto)]
+
+mod forking;
+pub mod laws;
+mod process;
+mod request;
+mod store;
+
+pub use forking::fork;
+pub use process::{Body, INIT, LAST_PID, Life, Links, Note, PROCESSES, Proc, Waiting};
+pub use request::{Poll, Request, WaitOptions, Who};
+pub use store::ProcStore;
+
+#[cfg(test)]
+mod tests;

@@ -1,0 +1,114 @@
+ghost use Rattle.std.specs.Prelude.{◌≡◌, [], IfOk, IsOk};
+
+use crate::request::Request;
+use sk_chain::Chain;
+use sk_creds::Creds;
+use sk_signal::SigState;
+use std::alloc::AllocError;
+
+/// The process that the system starts with.
+pub const INIT: u32 = 1;
+
+/// The largest pid, and the largest number of a group or session.
+pub const LAST_PID: u32 = 32767;
+
+/// The most processes that there are at a time, zombies counted.
+pub const PROCESSES: usize = 1024;
+
+/// The numbers that tie a process to others: its parent, its process group and its session,
+/// credentials(7).
+#[derive(Clone, Copy, PartialEq, Eq, Debug)]
+pub struct Links {
+    pub parent: u32,
+    pub group: u32,
+    pub session: u32,
+}
+
+/// Whether a process runs, is stopped by a signal, or has ended and is not yet waited for.
+#[derive(Clone, Copy, PartialEq, Eq, Debug)]
+pub enum Life {
+    Running,
+    Stopped,
+    /// Has ended with this status, as wait(2) tells it.
+    Zombie(u32),
+}
+
+/// The call that a process waits in.
+#[derive(Clone, Copy, PartialEq, Eq, Debug)]
+pub enum Waiting {
+    Nothing,
+    Pause,
+    /// A wait4(2) with this request.
+    Asks(Request),
+}
+
+/// What wait(2) can tell of a process that has not ended.
+#[derive(Clone, Copy, PartialEq, Eq, Debug)]
+pub enum Note {
+    Nothing,
+    /// It was stopped by this signal.
+    Stopped(u8),
+    /// It was stopped, and runs again since SIGCONT.
+    Continued,
+}
+
+/// What belongs to a process alone.
+#[derive(Drop)]
+pub struct Body {
+    pub life: Life,
+    pub creds: Creds,
+    pub chain: Chain,
+    pub signals: SigState,
+    /// It has called execve(2) since it was forked.
+    pub executed: bool,
+    pub waiting: Waiting,
+    pub note: Note,
+}
+
+/// A process.
+#[derive(Drop)]
+pub struct Proc {
+    pub links: Links,
+    pub body: Body,
+}
+
+impl Body {
+    ghost use Rattle.sk_world.specs.Forking.{child_body};
+
+    /// What the child has that a process with this body forks: fork(2). It shares the filters. The contract
+    /// lets a refusal through wherever there are filters; the run of `sk_forks`, 1000 forks of a process with
+    /// 6554 filters, shows that none comes.
+    pub fn child(&self) -> Result<Body, AllocError>
+        ensures child { IfOk result (λ child. child ≡ child_body self.now) }
+        ensures unfiltered { self.now.chain ≡ [] → IsOk result }
+    {
+        Ok(Body {
+            life: Life::Running,
+            creds: self.creds,
+            chain: self.chain.share()?,
+            signals: self.signals.forked(),
+            executed: false,
+            waiting: Waiting::Nothing,
+            note: Note::Nothing,
+        })
+    }
+}
+
+impl Proc {
+    ghost use Rattle.sk_world.specs.Forking.{child_of};
+
+    /// The child that the process forks, whose pid is `caller`: fork(2). It shares the filters.
+    pub fn child(&self, caller: u32) -> Result<Proc, AllocError>
+        ensures child { IfOk result (λ child. child ≡ child_of caller self.now) }
+        ensures unfiltered { self.now.body.chain ≡ [] → IsOk result }
+    {
+        Ok(Proc {
+            links: Links {
+                parent: caller,
+                group: self.links.group,
+                session: self.links.session,
+            },
+            body: self.body.child()?,
+        })
+    }
+}
