@@ -1,0 +1,113 @@
+-- Every filter in force was accepted by the rules.
+use Rattle.std.proofs.Common.{◌≡◌, ℕ, ◌+◌, ◌==◌, ◌&&◌, arith, sym, refl, subst, not, true, false, nat_lt, length, IfOk, List, [], ◌∷◌, Option, None, Some, Result, Ok, Err}
+use Rattle.std.specs.Option.{is_some}
+use Rattle.std.specs.Result.{result_unwrap_or}
+use Rattle.std.proofs.lemmas.Bool.{true≢false, cond_both, ltb-false}
+use Rattle.sk_insn.specs.declared.insn.Insn.{Insn}
+use Rattle.sk_insn.specs.declared.record.Record.{Record}
+use Rattle.sk_check.specs.declared.fault.CheckFault.{CheckFault}
+use Rattle.sk_check.specs.FirstFault.{first_fault}
+use Rattle.sk_check.proofs.FirstFaults.{first_fault-None}
+use Rattle.sk_chain.specs.Chains.{cost_of}
+use Rattle.sk_chain.proofs.Bounds.{bounded}
+use Rattle.sk_creds.specs.declared.errno.Errno.{Errno}
+use Rattle.sk_creds.specs.declared.errno.Errno.TheVariants.{Enomem, Eacces, Einval}
+use Rattle.sk_creds.specs.declared.creds.Creds.{Creds}
+use Rattle.sk_creds.specs.Creds.{is_privileged, after_setuid, after_setresuid}
+use Rattle.sk_world.specs.declared.process.TheConstants.{INIT}
+use Rattle.sk_world.specs.World.{opening}
+use Rattle.sk_machine.specs.declared.images.Mark.{Mark}
+use Rattle.sk_machine.specs.declared.syscall.Syscall.{Syscall}
+use Rattle.sk_machine.specs.declared.syscall.Syscall.TheVariants as syscall
+use Rattle.sk_machine.specs.Given.{GivenImages, filter_image, mark_of}
+use Rattle.sk_machine.specs.Syscalls.{register, low, syscall_of}
+use Rattle.sk_machine.specs.Authority.{Authority, program_of, filtered, after_attach, with_creds, after_execve, after_no_new_privs, after_prctl, after_seccomp, authority_after, authority_after_call}
+use Rattle.sk_machine.specs.Performed.{authority_at}
+use Rattle.sk_machine.specs.Machine.{world_after}
+use Rattle.sk_machine.specs.Lines.{Line, authority_after_calls}
+use Rattle.sk_machine.specs.LineLaws.{line_after}
+use Rattle.sk_machine.specs.FilterLaws.{AreAccepted, FiltersInForceAreAccepted, StepsInForceAreBounded}
+use Rattle.sk_machine.proofs.LineSteps.{authority_is_of_line, line_comes_from_init}
+
+-- accepted filters stay so
+abbrev Keeps : Authority → Authority → Type 0
+Keeps old new = AreAccepted old.programs → AreAccepted new.programs
+
+no_fault : (o : Option CheckFault) → is_some o ≡ false → o ≡ None
+no_fault None is = refl
+no_fault (Some fault) is = absurd (true≢false is)
+
+with_newest : (a : Authority) (insns : List Insn) → is_some (first_fault insns) ≡ false → nat_lt 32768 (length insns + cost_of a.programs) ≡ false
+    → Keeps a (record a { programs = insns ∷ a.programs })
+with_newest a insns sound fits accepted =
+    let limit = ltb-false 32768 (length insns + cost_of a.programs) fits in
+    record {
+      valid = (first_fault-None insns (no_fault (first_fault insns) sound), accepted.valid);
+      limited = omega arith;
+    }
+
+keeps_creds : (a : Authority) (r : Result Creds Errno) → IfOk (with_creds a r) (Keeps a)
+keeps_creds a (Ok c) = λ accepted. accepted
+keeps_creds a (Err e) = tt
+
+keeps_filtered : (a : Authority) (r : Result (List Insn) Errno) → IfOk (filtered a r) (Keeps a)
+keeps_filtered a (Ok insns) =
+    cond_both (not (is_privileged a.creds) && not a.creds.no_new_privs) (Err Eacces) _ (λ r. IfOk r (Keeps a)) (λ _. tt)
+    (λ _. cond_both (is_some (first_fault insns)) (Err Einval) _ (λ r. IfOk r (Keeps a)) (λ _. tt)
+    (λ sound. cond_both (nat_lt 32768 (length insns + cost_of a.programs)) (Err Enomem) (Ok (record a { programs = insns ∷ a.programs })) (λ r. IfOk r (Keeps a)) (λ _. tt)
+    (λ fits. with_newest a insns sound fits)))
+keeps_filtered a (Err e) = tt
+
+keeps_attach : (images : GivenImages) (flags image : ℕ) (a : Authority) → IfOk (after_attach images flags image a) (Keeps a)
+keeps_attach images flags image a =
+    cond_both (not (flags == 0)) (Err Einval) _ (λ r. IfOk r (Keeps a)) (λ _. tt) (λ _. keeps_filtered a (program_of (filter_image images image)))
+
+keeps_execve : (a : Authority) (o : Option Mark) → IfOk (after_execve a o) (Keeps a)
+keeps_execve a None = tt
+keeps_execve a (Some mark) = λ accepted. accepted
+
+keeps_prctl : (images : GivenImages) (call : Record) (a : Authority) → IfOk (after_prctl images call a) (Keeps a)
+keeps_prctl images call a =
+    cond_both (low call 0 == 38) (after_no_new_privs call a) _ (λ r. IfOk r (Keeps a))
+    (λ _. cond_both ((register call 1 == 1) && (register call 2 == 0) && (register call 3 == 0) && (register call 4 == 0)) (Ok (record a { creds = record a.creds { no_new_privs = true } })) (Err Einval) (λ r. IfOk r (Keeps a))
+    (λ _ accepted. accepted) (λ _. tt))
+    (λ _. cond_both (low call 0 == 22) _ (Ok a) (λ r. IfOk r (Keeps a))
+    (λ _. cond_both (register call 1 == 2) (after_attach images 0 (register call 2) a) (Err Einval) (λ r. IfOk r (Keeps a)) (λ _. keeps_attach images 0 (register call 2) a) (λ _. tt))
+    (λ _ accepted. accepted))
+
+keeps_seccomp : (images : GivenImages) (call : Record) (a : Authority) → IfOk (after_seccomp images call a) (Keeps a)
+keeps_seccomp images call a =
+    cond_both (low call 0 == 1) (after_attach images (low call 1) (register call 2) a) (Ok a) (λ r. IfOk r (Keeps a))
+    (λ _. keeps_attach images (low call 1) (register call 2) a) (λ _ accepted. accepted)
+
+keeps_row : (images : GivenImages) (which : Option Syscall) (call : Record) (a : Authority) → IfOk (authority_after images which call a) (Keeps a)
+keeps_row images (Some syscall.Setuid) call a = keeps_creds a (after_setuid (low call 0) a.creds)
+keeps_row images (Some syscall.Setresuid) call a = keeps_creds a (after_setresuid (low call 0) (low call 1) (low call 2) a.creds)
+keeps_row images (Some syscall.Execve) call a = keeps_execve a (mark_of images (register call 0))
+keeps_row images (Some syscall.Prctl) call a = keeps_prctl images call a
+keeps_row images (Some syscall.Seccomp) call a = keeps_seccomp images call a
+keeps_row images other call a = λ accepted. accepted
+
+keeps_or_stays : (a : Authority) (r : Result Authority Errno) → IfOk r (Keeps a) → Keeps a (result_unwrap_or r a)
+keeps_or_stays a (Ok b) keeps = keeps
+keeps_or_stays a (Err e) keeps = λ accepted. accepted
+
+keeps_calls : (images : GivenImages) (calls : List Record) (a : Authority) → Keeps a (authority_after_calls images calls a)
+keeps_calls images [] a accepted = accepted
+keeps_calls images (call ∷ calls) a accepted =
+    let next : Authority = result_unwrap_or (authority_after_call images call a) a in
+    keeps_calls images calls next (keeps_or_stays a (authority_after_call images call a) (keeps_row images (syscall_of call.nr) call a) accepted)
+
+-- process 1 starts without filters
+none_at_opening : AreAccepted (authority_at opening INIT).programs
+none_at_opening = record { valid = tt; limited = omega arith }
+
+pub filters_in_force_are_accepted : FiltersInForceAreAccepted
+filters_in_force_are_accepted images events pid there =
+    let line : Line = line_after images opening events pid in
+    let root = subst (λ q. AreAccepted (authority_at opening q).programs) (sym (line_comes_from_init images events pid there)) none_at_opening in
+    subst (λ (a : Authority). AreAccepted a.programs) (sym (authority_is_of_line images opening events pid there).1) (keeps_calls images line.calls (authority_at opening line.root) root)
+
+pub steps_in_force_are_bounded : StepsInForceAreBounded
+steps_in_force_are_bounded images events pid there =
+    bounded (authority_at (world_after images opening events) pid).programs (filters_in_force_are_accepted images events pid there).limited

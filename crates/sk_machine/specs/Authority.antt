@@ -1,0 +1,103 @@
+-- What a process may do, and the calls that change it: seccomp(2), prctl(2), setuid(2), setresuid(2) and
+-- execve(2). They look at the images, the call and the authority, and at nothing else.
+use Rattle.std.specs.Prelude.{ℕ, ◌+◌, ◌==◌, true, not, ◌&&◌, nat_lt, if◌then◌else◌, List, ◌∷◌, length, Option, Some, None, Result, Ok, Err}
+use Rattle.std.specs.Option.{is_some}
+use Rattle.sk_insn.specs.declared.insn.Insn.{Insn}
+use Rattle.sk_insn.specs.declared.image.ImageFault.{ImageFault}
+use Rattle.sk_insn.specs.declared.record.Record.{Record}
+use Rattle.sk_insn.specs.Instructions.{instructions_of}
+use Rattle.sk_check.specs.FirstFault.{first_fault}
+use Rattle.sk_chain.specs.Chains.{cost_of}
+use Rattle.sk_creds.specs.declared.errno.Errno.{Errno}
+use Rattle.sk_creds.specs.declared.errno.Errno.TheVariants.{Enoent, Enomem, Eacces, Efault, Einval}
+use Rattle.sk_creds.specs.declared.creds.Creds.{Creds}
+use Rattle.sk_creds.specs.Creds.{is_privileged, after_setuid, after_setresuid, after_exec}
+use Rattle.sk_world.specs.declared.process.Body.{Body}
+use Rattle.sk_machine.specs.declared.images.Mark.{Mark}
+use Rattle.sk_machine.specs.declared.syscall.Syscall.{Syscall}
+use Rattle.sk_machine.specs.declared.syscall.Syscall.TheVariants as syscall
+use Rattle.sk_machine.specs.Given.{GivenImages, filter_image, mark_of}
+use Rattle.sk_machine.specs.Syscalls.{register, low, syscall_of}
+
+-- its filters, the newest first, and its user ids with no_new_privs
+pub record Authority : Type 0 where
+  pub programs : List (List Insn)
+  pub creds : Creds
+
+-- the authority that a process has
+abbrev pub authority_of : Body → Authority
+authority_of body = record { programs = body.chain; creds = body.creds }
+
+-- a process with another authority, and all else as it was
+abbrev pub with_authority : Authority → Body → Body
+with_authority a body = record body { chain = a.programs; creds = a.creds }
+
+-- the program that an image's bytes are: EINVAL where they are none
+abbrev pub program_in : Result (List Insn) ImageFault → Result (List Insn) Errno
+program_in (Ok insns) = Ok insns
+program_in (Err fault) = Err Einval
+
+-- the program of an image that a call names: EFAULT where none is declared
+abbrev pub program_of : Option (List ℕ) → Result (List Insn) Errno
+program_of None = Err Efault
+program_of (Some image) = program_in (instructions_of image)
+
+-- a filter is attached: the caller is privileged or has no_new_privs, the filter is valid, and the path
+-- limit holds
+abbrev pub filtered : Authority → Result (List Insn) Errno → Result Authority Errno
+filtered a (Ok insns) =
+    if not (is_privileged a.creds) && not a.creds.no_new_privs then Err Eacces
+    else if is_some (first_fault insns) then Err Einval
+    else if nat_lt 32768 (length insns + cost_of a.programs) then Err Enomem
+    else Ok (record a { programs = insns ∷ a.programs })
+filtered a (Err e) = Err e
+
+-- seccomp(2), SECCOMP_SET_MODE_FILTER, and prctl(2), PR_SET_SECCOMP
+abbrev pub after_attach : GivenImages → ℕ → ℕ → Authority → Result Authority Errno
+after_attach images flags image a =
+    if not (flags == 0) then Err Einval else filtered a (program_of (filter_image images image))
+
+-- other ids, or the error
+abbrev pub with_creds : Authority → Result Creds Errno → Result Authority Errno
+with_creds a (Ok creds) = Ok (record a { creds = creds })
+with_creds a (Err e) = Err e
+
+-- execve(2): ENOENT where no such program is declared
+abbrev pub after_execve : Authority → Option Mark → Result Authority Errno
+after_execve a None = Err Enoent
+after_execve a (Some mark) = Ok (record a { creds = after_exec mark.owner mark.setuid a.creds })
+
+-- prctl(2), PR_SET_NO_NEW_PRIVS: it is set, and never cleared
+abbrev pub after_no_new_privs : Record → Authority → Result Authority Errno
+after_no_new_privs call a =
+    if (register call 1 == 1) && (register call 2 == 0) && (register call 3 == 0) && (register call 4 == 0)
+    then Ok (record a { creds = record a.creds { no_new_privs = true } })
+    else Err Einval
+
+-- prctl(2): 38 is PR_SET_NO_NEW_PRIVS, 22 PR_SET_SECCOMP, whose mode 2 is SECCOMP_MODE_FILTER
+abbrev pub after_prctl : GivenImages → Record → Authority → Result Authority Errno
+after_prctl images call a =
+    if low call 0 == 38 then after_no_new_privs call a
+    else if low call 0 == 22 then (if register call 1 == 2 then after_attach images 0 (register call 2) a else Err Einval)
+    else Ok a
+
+-- seccomp(2): operation 1 is SECCOMP_SET_MODE_FILTER
+abbrev pub after_seccomp : GivenImages → Record → Authority → Result Authority Errno
+after_seccomp images call a =
+    if low call 0 == 1 then after_attach images (low call 1) (register call 2) a else Ok a
+
+-- the authority after a performed call, or the error of a call that would change it. Every other call
+-- leaves it as it is, and so does an operation of prctl(2) or seccomp(2) that changes no authority, though
+-- the call itself may fail
+abbrev pub authority_after : GivenImages → Option Syscall → Record → Authority → Result Authority Errno
+authority_after images (Some syscall.Setuid) call a = with_creds a (after_setuid (low call 0) a.creds)
+authority_after images (Some syscall.Setresuid) call a =
+    with_creds a (after_setresuid (low call 0) (low call 1) (low call 2) a.creds)
+authority_after images (Some syscall.Execve) call a = after_execve a (mark_of images (register call 0))
+authority_after images (Some syscall.Prctl) call a = after_prctl images call a
+authority_after images (Some syscall.Seccomp) call a = after_seccomp images call a
+authority_after images other call a = Ok a
+
+-- the same of a call by its number
+abbrev pub authority_after_call : GivenImages → Record → Authority → Result Authority Errno
+authority_after_call images call a = authority_after images (syscall_of call.nr) call a

@@ -1,0 +1,108 @@
+-- How a signal is delivered: signal(7).
+use Rattle.std.specs.Prelude.{ℕ, ◌==◌, Bool, true, false, not, ◌&&◌, if◌then◌else◌, length, Option, None, Some}
+use Rattle.std.specs.Option.{option_and_then}
+use Rattle.sk_signal.specs.Sets as set
+use Rattle.sk_signal.specs.declared.number.TheConstants.{SIGKILL, SIGSEGV, SIGCHLD, SIGSYS}
+use Rattle.sk_signal.specs.declared.state.TheConstants.{FRAMES}
+use Rattle.sk_signal.specs.declared.disposition.DefaultAction.{DefaultAction}
+use Rattle.sk_signal.specs.declared.disposition.DefaultAction.TheVariants as action
+use Rattle.sk_signal.specs.declared.disposition.Disposition.{Disposition}
+use Rattle.sk_signal.specs.declared.disposition.Disposition.TheVariants as disposition
+use Rattle.sk_signal.specs.SignalSet.{Signals}
+use Rattle.sk_signal.specs.Actions.{default_action}
+use Rattle.sk_signal.specs.SignalState.{disposition_of}
+use Rattle.sk_signal.specs.Delivery.{deliverable, taken, pushed}
+use Rattle.sk_world.specs.declared.process.TheConstants.{INIT}
+use Rattle.sk_world.specs.declared.process.Life.TheVariants as life
+use Rattle.sk_world.specs.declared.process.Waiting.{Waiting}
+use Rattle.sk_world.specs.declared.process.Waiting.TheVariants as waiting
+use Rattle.sk_world.specs.declared.process.Note.TheVariants as note
+use Rattle.sk_world.specs.declared.process.Body.{Body}
+use Rattle.sk_world.specs.declared.process.Proc.{Proc}
+use Rattle.sk_world.specs.World.{World, at, has_stopped, parent_of, changed}
+use Rattle.sk_world.specs.Sending.{sent}
+use Rattle.sk_world.specs.Ending.{ended}
+use Rattle.sk_machine.specs.declared.answer.Effect.{Effect}
+use Rattle.sk_machine.specs.declared.answer.Effect.TheVariants.{Ignored, Stopped, Ended, Handler}
+use Rattle.sk_machine.specs.Performed.{body_of}
+
+-- what a delivery comes to
+pub record Delivered : Type 0 where
+  pub effect : Effect
+  pub world : World
+
+-- the signal that is delivered next: to a process that is stopped SIGKILL alone
+abbrev pub signal_for : Body → Option ℕ
+signal_for body =
+    if has_stopped body.life then (if set.contains body.signals.pending SIGKILL then Some SIGKILL else None)
+    else deliverable body.signals
+
+-- the signal that is delivered next to the process of a pid, if there is one
+abbrev pub signal_due : Option Proc → Option ℕ
+signal_due o = option_and_then (λ p. signal_for p.body) o
+
+-- the process waits in a call
+abbrev pub is_waiting : Waiting → Bool
+is_waiting waiting.Nothing = false
+is_waiting waiting.Pause = true
+is_waiting (waiting.Asks request) = true
+
+-- the signal ends the process with this status
+abbrev pub ended_by : World → ℕ → ℕ → Delivered
+ended_by w pid status = record { effect = Ended status; world = ended w pid status }
+
+-- a handler of signal n begins, and ends a call that the process waits in
+abbrev pub handling : ℕ → Signals → Body → Body
+handling n mask body = record body { signals = pushed n mask body.signals; waiting = waiting.Nothing }
+
+-- SIGSEGV ends a process that has no room for one more frame
+abbrev pub handled : World → ℕ → ℕ → ℕ → Signals → Delivered
+handled w pid n program mask =
+    if length (body_of (at w pid)).signals.frames == FRAMES then ended_by w pid SIGSEGV
+    else record {
+      effect = Handler program (is_waiting (body_of (at w pid)).waiting);
+      world = changed w pid (handling n mask);
+    }
+
+-- signal n stops the process. A call that it waits in goes on waiting
+abbrev pub stopping : ℕ → Body → Body
+stopping n body = record body { life = life.Stopped; note = note.Stopped n }
+
+-- signal n stops the process of a pid, and its parent gets SIGCHLD
+abbrev pub stopped_by : World → ℕ → ℕ → Delivered
+stopped_by w pid n = record {
+  effect = Stopped;
+  world = sent (changed w pid (stopping n)) (parent_of (at w pid)) SIGCHLD;
+}
+
+-- nothing more is done
+abbrev pub ignored : World → Delivered
+ignored w = record { effect = Ignored; world = w }
+
+-- the default action of signal n is taken
+abbrev pub by_default : World → ℕ → ℕ → DefaultAction → Delivered
+by_default w pid n action.Ignore = ignored w
+by_default w pid n action.Continue = ignored w
+by_default w pid n action.Stop = stopped_by w pid n
+by_default w pid n action.Terminate = ended_by w pid n
+
+-- what is done by a disposition. By default process 1 minds only a SIGSYS, which is forced on it
+abbrev pub done_by : World → ℕ → ℕ → Disposition → Delivered
+done_by w pid n disposition.Ignore = ignored w
+done_by w pid n (disposition.Handler program mask) = handled w pid n program mask
+done_by w pid n disposition.Default =
+    if (pid == INIT) && not (n == SIGSYS) then ignored w else by_default w pid n (default_action n)
+
+-- signal n is pending no more
+abbrev pub taking : ℕ → Body → Body
+taking n body = record body { signals = taken n body.signals }
+
+-- what signal n does once it is pending no more. SIGKILL has no disposition: signal(7)
+abbrev pub done : World → ℕ → ℕ → Delivered
+done w pid n =
+    if n == SIGKILL then ended_by w pid SIGKILL
+    else done_by w pid n (disposition_of (body_of (at w pid)).signals n)
+
+-- signal n is delivered to the process
+abbrev pub delivered : World → ℕ → ℕ → Delivered
+delivered w pid n = done (changed w pid (taking n)) pid n

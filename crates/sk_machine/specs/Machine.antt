@@ -1,0 +1,143 @@
+-- The process machine: what every event comes to, and a list of events.
+use Rattle.std.specs.Prelude.{ℕ, Bool, false, not, ◌&&◌, if◌then◌else◌, pos, neg_ℤ, min, List, [], ◌∷◌, Option, None, Some}
+use Rattle.std.specs.Option.{is_some, unwrap_or}
+use Rattle.sk_insn.specs.declared.record.Record.{Record}
+use Rattle.sk_insn.specs.declared.action.Action.{Action}
+use Rattle.sk_insn.specs.declared.action.Action.TheVariants as action
+use Rattle.sk_insn.specs.Actions.{action_of, data_part}
+use Rattle.sk_chain.specs.Verdict.{verdict_of}
+use Rattle.sk_creds.specs.declared.errno.Errno.TheVariants.{Enosys}
+use Rattle.sk_signal.specs.declared.number.TheConstants.{SIGSEGV, SIGSYS}
+use Rattle.sk_world.specs.World.{World, at, is_halted, is_zombie, is_stopped}
+use Rattle.sk_world.specs.Sending.{forced}
+use Rattle.sk_world.specs.Ending.{ended}
+use Rattle.sk_machine.specs.declared.event.Event.{Event}
+use Rattle.sk_machine.specs.declared.event.Event.TheVariants.{Call, Deliver, Resume, Fault}
+use Rattle.sk_machine.specs.declared.answer.Answer.{Answer}
+use Rattle.sk_machine.specs.declared.answer.Answer.TheVariants as answer
+use Rattle.sk_machine.specs.declared.answer.Outcome.TheVariants.{Returned, Trapped}
+use Rattle.sk_machine.specs.declared.answer.Reason.{Reason}
+use Rattle.sk_machine.specs.declared.answer.Reason.TheVariants.{NoProcess, Zombie, Stopped, Waiting, SignalFirst, NothingWaits, Halted}
+use Rattle.sk_machine.specs.Events.{pid_of}
+use Rattle.sk_machine.specs.Given.{GivenImages}
+use Rattle.sk_machine.specs.Performed.{Performed, body_of, fails}
+use Rattle.sk_machine.specs.Performing.{performed, ends}
+use Rattle.sk_machine.specs.WaitCalls.{resumed}
+use Rattle.sk_machine.specs.Delivering.{Delivered, signal_due, is_waiting, delivered}
+
+-- what an event comes to
+pub record Stepped : Type 0 where
+  pub answer : Answer
+  pub world : World
+
+-- a call whose filters answer an errno returns it negated, and at most 4095: seccomp(2)
+abbrev pub refused : World → ℕ → Performed
+refused w errno = record { outcome = Returned (neg_ℤ (pos (min errno 4095))); world = w }
+
+-- SIGSYS is forced on the caller, and nothing else is done: seccomp(2), SECCOMP_RET_TRAP
+abbrev pub trapped : World → ℕ → Performed
+trapped w pid = record { outcome = Trapped; world = forced w pid }
+
+-- what becomes of a call by the action of its verdict, whose data are the error: seccomp(2). Nobody
+-- listens and nobody traces, so SECCOMP_RET_USER_NOTIF and SECCOMP_RET_TRACE answer ENOSYS. A kill ends
+-- the process as SIGSYS does
+abbrev pub judged : GivenImages → World → ℕ → Record → ℕ → Action → Performed
+judged images w pid call errno action.Allow = performed images w pid call
+judged images w pid call errno action.Log = performed images w pid call
+judged images w pid call errno action.Trap = trapped w pid
+judged images w pid call errno action.Errno = refused w errno
+judged images w pid call errno action.UserNotif = fails w Enosys
+judged images w pid call errno action.Trace = fails w Enosys
+judged images w pid call errno action.KillProcess = ends w pid SIGSYS
+judged images w pid call errno action.KillThread = ends w pid SIGSYS
+judged images w pid call errno action.Unknown = ends w pid SIGSYS
+
+-- a call with this verdict has come to this
+abbrev pub call_answered : ℕ → Performed → Stepped
+call_answered verdict p = record { answer = answer.Call verdict p.outcome; world = p.world }
+
+-- a call with a verdict
+abbrev pub called_with : GivenImages → World → ℕ → Record → ℕ → Stepped
+called_with images w pid call verdict =
+    call_answered verdict (judged images w pid call (data_part verdict) (action_of verdict))
+
+-- a call: all filters of the caller judge it
+abbrev pub called : GivenImages → World → ℕ → Record → Stepped
+called images w pid call = called_with images w pid call (verdict_of (body_of (at w pid)).chain call)
+
+-- a delivery has done this
+abbrev pub signal_answered : ℕ → Delivered → Stepped
+signal_answered n d = record { answer = answer.Signal n d.effect; world = d.world }
+
+-- a call that waited has come to this
+abbrev pub resume_answered : Performed → Stepped
+resume_answered p = record { answer = answer.Resumed p.outcome; world = p.world }
+
+-- an event that is possible
+abbrev pub happened : GivenImages → World → Event → Stepped
+happened images w (Call pid ip nr args) = called images w pid (record { nr = nr; ip = ip; args = args })
+happened images w (Deliver pid) =
+    signal_answered (unwrap_or (signal_due (at w pid)) 0) (delivered w pid (unwrap_or (signal_due (at w pid)) 0))
+happened images w (Resume pid) = resume_answered (resumed w pid (body_of (at w pid)).waiting)
+happened images w (Fault pid) = record { answer = answer.Crashed; world = ended w pid SIGSEGV }
+
+-- why a process that runs cannot make a call of its own: it waits in one, or a signal comes first
+abbrev pub call_reason : World → ℕ → Option Reason
+call_reason w pid =
+    if is_waiting (body_of (at w pid)).waiting then Some Waiting
+    else if is_some (signal_due (at w pid)) then Some SignalFirst
+    else None
+
+-- why a process cannot ask again: it waits in no call, or a signal comes first
+abbrev pub resume_reason : World → ℕ → Option Reason
+resume_reason w pid =
+    if not (is_waiting (body_of (at w pid)).waiting) then Some NothingWaits
+    else if is_some (signal_due (at w pid)) then Some SignalFirst
+    else None
+
+-- why no signal can be delivered to it: none is due
+abbrev pub deliver_reason : World → ℕ → Option Reason
+deliver_reason w pid = if is_some (signal_due (at w pid)) then None else Some NothingWaits
+
+-- why an event of a process that lives is not possible
+abbrev pub own_reason : World → Event → Option Reason
+own_reason w (Call pid ip nr args) = call_reason w pid
+own_reason w (Deliver pid) = deliver_reason w pid
+own_reason w (Resume pid) = resume_reason w pid
+own_reason w (Fault pid) = call_reason w pid
+
+-- a stopped process can only be killed
+abbrev pub is_kill : World → Event → Bool
+is_kill w (Deliver pid) = is_some (signal_due (at w pid))
+is_kill w (Call pid ip nr args) = false
+is_kill w (Resume pid) = false
+is_kill w (Fault pid) = false
+
+-- the first reason for which an event is not possible, if there is one
+abbrev pub reason_of : World → Event → Option Reason
+reason_of w event =
+    if is_halted w then Some Halted
+    else if not (is_some (at w (pid_of event))) then Some NoProcess
+    else if is_zombie (at w (pid_of event)) then Some Zombie
+    else if is_stopped (at w (pid_of event)) && not (is_kill w event) then Some Stopped
+    else own_reason w event
+
+-- an event that is not possible changes nothing
+abbrev pub stepped : GivenImages → World → Event → Option Reason → Stepped
+stepped images w event (Some reason) = record { answer = answer.NotNow reason; world = w }
+stepped images w event None = happened images w event
+
+-- one event
+unfoldable pub step_of : GivenImages → World → Event → Stepped
+step_of images w event = stepped images w event (reason_of w event)
+
+-- a list of events: the answers, and the world afterwards
+abbrev pub answers_of : GivenImages → World → List Event → List Answer
+answers_of images w [] = []
+answers_of images w (event ∷ events) =
+    (step_of images w event).answer ∷ answers_of images (step_of images w event).world events
+
+-- the world after a list of events
+abbrev pub world_after : GivenImages → World → List Event → World
+world_after images w [] = w
+world_after images w (event ∷ events) = world_after images (step_of images w event).world events

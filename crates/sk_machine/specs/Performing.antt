@@ -1,0 +1,129 @@
+-- What each call does when it is performed, one row a call, with the errors in the order in which they
+-- are told.
+use Rattle.std.specs.Prelude.{ℕ, ◌*◌, ◌%◌, ◌==◌, Bool, true, not, ◌&&◌, ◌||◌, if◌then◌else◌, List, [], ◌∷◌, Option, None, Some, Result, Ok, Err}
+use Rattle.std.specs.Option.{is_some}
+use Rattle.sk_insn.specs.declared.record.Record.{Record}
+use Rattle.sk_insn.specs.declared.insn.Insn.{Insn}
+use Rattle.sk_insn.specs.Actions.{value_of, action_of, data_part}
+use Rattle.sk_creds.specs.declared.errno.Errno.{Errno}
+use Rattle.sk_creds.specs.declared.errno.Errno.TheVariants.{Einval, Enosys, Eopnotsupp}
+use Rattle.sk_creds.specs.declared.creds.Creds.{Creds}
+use Rattle.sk_signal.specs.SignalSet.{Signals as SignalMembers}
+use Rattle.sk_signal.specs.Signalling.{after_exec}
+use Rattle.sk_world.specs.declared.process.Waiting.TheVariants as waiting
+use Rattle.sk_world.specs.declared.process.Body.{Body}
+use Rattle.sk_world.specs.World.{World, at, parent_of, changed}
+use Rattle.sk_world.specs.Forking.{fork_answer, forked}
+use Rattle.sk_world.specs.Ending.{ended}
+use Rattle.sk_session.specs.Sessions.{group_of, after_setpgid, after_setsid, group_asked, session_asked}
+use Rattle.sk_machine.specs.declared.answer.Outcome.TheVariants.{Ids, Signals, Ended, Executed}
+use Rattle.sk_machine.specs.declared.syscall.Syscall.{Syscall}
+use Rattle.sk_machine.specs.declared.syscall.Syscall.TheVariants as syscall
+use Rattle.sk_machine.specs.Given.{GivenImages}
+use Rattle.sk_machine.specs.Syscalls.{register, low, signed, syscall_of}
+use Rattle.sk_machine.specs.Authority.{Authority, with_authority, authority_after}
+use Rattle.sk_machine.specs.Performed.{Performed, body_of, returns, fails, asked, changes, authority_at, authorises, waits}
+use Rattle.sk_machine.specs.SignalCalls.{resignals, after_sigaction, after_sigprocmask, after_sigreturn}
+use Rattle.sk_machine.specs.Killing.{after_kill}
+use Rattle.sk_machine.specs.WaitCalls.{wait4}
+
+-- the process runs another program: its handlers are gone, and it counts as executed
+abbrev pub executing : Authority → Body → Body
+executing a body = record (with_authority a body) { signals = after_exec body.signals; executed = true }
+
+-- execve(2): all this at once, or the error and nothing
+abbrev pub execve : World → ℕ → Result Authority Errno → Performed
+execve w pid (Ok a) = record { outcome = Executed; world = changed w pid (executing a) }
+execve w pid (Err e) = fails w e
+
+-- fork(2)
+abbrev pub forks : World → ℕ → Result ℕ Errno → Performed
+forks w pid (Ok child) = returns (forked w pid) child
+forks w pid (Err e) = fails w e
+
+-- the status of a process that ends by this code: wait(2), WEXITSTATUS
+abbrev pub exit_status : ℕ → ℕ
+exit_status code = code % 256 * 256
+
+-- a process ends, by a call or by a filter
+abbrev pub ends : World → ℕ → ℕ → Performed
+ends w pid status = record { outcome = Ended status; world = ended w pid status }
+
+-- getresuid(2)
+abbrev pub ids : World → Creds → Performed
+ids w creds = record { outcome = Ids creds.real creds.effective creds.saved; world = w }
+
+-- sigpending(2)
+abbrev pub pending_signals : World → SignalMembers → Performed
+pending_signals w pending = record { outcome = Signals pending; world = w }
+
+-- what the call makes of the caller's authority
+abbrev pub authorised : GivenImages → World → ℕ → Syscall → Record → Result Authority Errno
+authorised images w pid which call = authority_after images (Some which) call (authority_at w pid)
+
+-- prctl(2), PR_GET_SECCOMP: 2 is SECCOMP_MODE_FILTER
+abbrev pub seccomp_mode : List (List Insn) → ℕ
+seccomp_mode [] = 0
+seccomp_mode (newest ∷ older) = 2
+
+-- prctl(2), PR_GET_NO_NEW_PRIVS
+abbrev pub no_new_privs_asked : Record → Bool → Result ℕ Errno
+no_new_privs_asked call is_set =
+    if (register call 1 == 0) && (register call 2 == 0) && (register call 3 == 0) && (register call 4 == 0)
+    then Ok (if is_set then 1 else 0)
+    else Err Einval
+
+-- prctl(2): 38 is PR_SET_NO_NEW_PRIVS, 22 PR_SET_SECCOMP, 21 PR_GET_SECCOMP, 39 PR_GET_NO_NEW_PRIVS
+abbrev pub prctl : GivenImages → World → ℕ → Record → Performed
+prctl images w pid call =
+    if (low call 0 == 38) || (low call 0 == 22) then authorises w pid (authorised images w pid syscall.Prctl call)
+    else if low call 0 == 21 then returns w (seccomp_mode (body_of (at w pid)).chain)
+    else if low call 0 == 39 then asked w (no_new_privs_asked call (body_of (at w pid)).creds.no_new_privs)
+    else fails w Einval
+
+-- seccomp(2), SECCOMP_GET_ACTION_AVAIL: the number is one of the eight actions' values
+abbrev pub action_available : ℕ → Result ℕ Errno
+action_available value = if is_some (value_of (action_of value)) && (data_part value == 0) then Ok 0 else Err Eopnotsupp
+
+-- seccomp(2): operation 1 is SECCOMP_SET_MODE_FILTER, 2 SECCOMP_GET_ACTION_AVAIL
+abbrev pub seccomp : GivenImages → World → ℕ → Record → Performed
+seccomp images w pid call =
+    if low call 0 == 1 then authorises w pid (authorised images w pid syscall.Seccomp call)
+    else if not (low call 0 == 2) then fails w Einval
+    else if not (low call 1 == 0) then fails w Einval
+    else asked w (action_available (low call 2))
+
+-- what the process of a pid comes to when it makes the call, and nothing stands in its way
+abbrev pub row : GivenImages → World → ℕ → Option Syscall → Record → Performed
+row images w pid (Some syscall.RtSigaction) call = resignals w pid (after_sigaction pid call (body_of (at w pid)).signals)
+row images w pid (Some syscall.RtSigprocmask) call = resignals w pid (after_sigprocmask call (body_of (at w pid)).signals)
+row images w pid (Some syscall.RtSigreturn) call =
+    resignals w pid (after_sigreturn (body_of (at w pid)).signals.frames (body_of (at w pid)).signals)
+row images w pid (Some syscall.RtSigpending) call = pending_signals w (body_of (at w pid)).signals.pending
+row images w pid (Some syscall.SchedYield) call = returns w 0
+row images w pid (Some syscall.Pause) call = waits w pid waiting.Pause
+row images w pid (Some syscall.Getpid) call = returns w pid
+row images w pid (Some syscall.Getppid) call = returns w (parent_of (at w pid))
+row images w pid (Some syscall.Fork) call = forks w pid (fork_answer w)
+row images w pid (Some syscall.Execve) call = execve w pid (authorised images w pid syscall.Execve call)
+row images w pid (Some syscall.Exit) call = ends w pid (exit_status (low call 0))
+row images w pid (Some syscall.ExitGroup) call = ends w pid (exit_status (low call 0))
+row images w pid (Some syscall.Wait4) call = wait4 w pid call
+row images w pid (Some syscall.Kill) call = changes w 0 (after_kill w pid (signed call 0) (low call 1))
+row images w pid (Some syscall.Getuid) call = returns w (body_of (at w pid)).creds.real
+row images w pid (Some syscall.Geteuid) call = returns w (body_of (at w pid)).creds.effective
+row images w pid (Some syscall.Setuid) call = authorises w pid (authorised images w pid syscall.Setuid call)
+row images w pid (Some syscall.Setresuid) call = authorises w pid (authorised images w pid syscall.Setresuid call)
+row images w pid (Some syscall.Getresuid) call = ids w (body_of (at w pid)).creds
+row images w pid (Some syscall.Setpgid) call = changes w 0 (after_setpgid w pid (signed call 0) (signed call 1))
+row images w pid (Some syscall.Getpgrp) call = returns w (group_of (at w pid))
+row images w pid (Some syscall.Setsid) call = changes w pid (after_setsid w pid)
+row images w pid (Some syscall.Getpgid) call = asked w (group_asked w pid (signed call 0))
+row images w pid (Some syscall.Getsid) call = asked w (session_asked w pid (signed call 0))
+row images w pid (Some syscall.Prctl) call = prctl images w pid call
+row images w pid (Some syscall.Seccomp) call = seccomp images w pid call
+row images w pid None call = fails w Enosys
+
+-- the same of a call by its number
+abbrev pub performed : GivenImages → World → ℕ → Record → Performed
+performed images w pid call = row images w pid (syscall_of call.nr) call

@@ -1,0 +1,30 @@
+-- Which processes have an event that is possible, and whose turn is next.
+use Rattle.std.specs.Prelude.{ℕ, Bool, true, false, not, ◌&&◌, ◌||◌, nat_lt, find, Option}
+use Rattle.std.specs.Option.{is_some, option_or}
+use Rattle.sk_world.specs.declared.process.Waiting.{Waiting}
+use Rattle.sk_world.specs.declared.process.Waiting.TheVariants.{Nothing, Pause, Asks}
+use Rattle.sk_world.specs.Processes.{pids}
+use Rattle.sk_world.specs.World.{World, at, is_halted, is_stopped, is_alive}
+use Rattle.sk_world.specs.Waits.{is_ready, has_match}
+use Rattle.std.specs.List.{list_any}
+use Rattle.sk_machine.specs.Performed.{body_of}
+use Rattle.sk_machine.specs.Delivering.{signal_due}
+
+-- the call that a process waits in would end now: a wait4(2) whose child is ready, or that no child
+-- matches
+abbrev pub wait_ends : World → ℕ → Waiting → Bool
+wait_ends w pid Nothing = true
+wait_ends w pid Pause = false
+wait_ends w pid (Asks request) = list_any (is_ready w pid request) (pids w.procs) || not (has_match w pid request)
+
+-- a process can run: it lives, and a signal is due, or it is not stopped and its call would not go on
+-- waiting
+abbrev pub is_runnable : World → ℕ → Bool
+is_runnable w pid =
+    not (is_halted w) && is_alive (at w pid)
+    && (is_some (signal_due (at w pid)) || (not (is_stopped (at w pid)) && wait_ends w pid (body_of (at w pid)).waiting))
+
+-- round robin: the first one that can run above the last one that ran, and else the first of all
+abbrev pub next_of : World → ℕ → Option ℕ
+next_of w last =
+    option_or (find (λ pid. nat_lt last pid && is_runnable w pid) (pids w.procs)) (find (is_runnable w) (pids w.procs))

@@ -1,0 +1,40 @@
+ghost use Rattle.std.specs.Prelude.{◌≡◌};
+ghost use Rattle.sk_machine.specs.Events.{pid_of};
+
+/// One event of the kernel, in which it does all that it does at once.
+#[derive(Clone, Copy, PartialEq, Eq, Debug)]
+pub enum Event {
+    /// A process makes a call: its filters judge it, and it is performed or not.
+    Call {
+        pid: u32,
+        ip: u64,
+        nr: u32,
+        args: [u64; 6],
+    },
+    /// A signal is delivered to a process.
+    Deliver {
+        pid: u32,
+    },
+    /// A process that waits in a call asks again.
+    Resume {
+        pid: u32,
+    },
+    /// A process runs into a fault of its own.
+    Fault {
+        pid: u32,
+    },
+}
+
+impl Event {
+    /// The process whose event it is.
+    pub fn pid(&self) -> u32
+        ensures { result ≡ pid_of self.now }
+    {
+        match *self {
+            Event::Call { pid, .. } => pid,
+            Event::Deliver { pid } => pid,
+            Event::Resume { pid } => pid,
+            Event::Fault { pid } => pid,
+        }
+    }
+}

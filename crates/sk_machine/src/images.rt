@@ -1,0 +1,27 @@
+use std::marker::Model;
+
+/// What execve(2) finds of a program: who owns its file, and whether the set-user-ID bit is set.
+#[derive(Clone, Copy, PartialEq, Eq, Debug)]
+pub struct Mark {
+    pub owner: u32,
+    pub setuid: bool,
+}
+
+/// What calls name by numbers: the images of filters, and the programs.
+#[derive(Drop)]
+pub struct Images {
+    pub filters: Vec<Vec<u8>>,
+    pub programs: Vec<Mark>,
+}
+
+impl Model for Images {
+    ghost use Rattle.std.specs.Prelude.{map};
+    ghost use Rattle.std.specs.Vec.{vec_items};
+    ghost use Rattle.sk_machine.specs.Given.{GivenImages, given_code};
+
+    ghost Value = { GivenImages };
+
+    ghost coded = { given_code };
+
+    ghost view = { λ images. record { filters = map vec_items (vec_items images.filters); programs = vec_items images.programs } };
+}

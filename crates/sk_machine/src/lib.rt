@@ -1,0 +1,17 @@
+//! The process machine: the events of the kernel, their answers, and, in `specs/`, what every event does
+//! to the world.
+#![tactic(auto)]
+
+mod answer;
+mod event;
+mod images;
+pub mod laws;
+mod syscall;
+
+pub use answer::{Answer, Effect, Outcome, Reason};
+pub use event::Event;
+pub use images::{Images, Mark};
+pub use syscall::Syscall;
+
+#[cfg(test)]
+mod tests;

@@ -1,0 +1,35 @@
+use crate::{Event, Reason, Syscall};
+
+#[test]
+fn each_event_has_its_process(rt: HostRuntime) {
+    let call = Event::Call {
+        pid: 2,
+        ip: 0,
+        nr: 39,
+        args: [0; 6],
+    };
+    assert_eq!(rt; call.pid(), 2);
+    assert_eq!(rt; Event::Deliver { pid: 3 }.pid(), 3);
+    assert_eq!(rt; Event::Resume { pid: 4 }.pid(), 4);
+    assert_eq!(rt; Event::Fault { pid: 5 }.pid(), 5);
+}
+
+#[test]
+fn reasons_are_numbered(rt: HostRuntime) {
+    assert_eq!(rt; Reason::NoProcess.number(), 1);
+    assert_eq!(rt; Reason::SignalFirst.number(), 5);
+    assert_eq!(rt; Reason::Halted.number(), 7);
+}
+
+#[test]
+fn calls_have_the_numbers_of_x86_64(rt: HostRuntime) {
+    for (nr, call) in [
+        (13, Some(Syscall::RtSigaction)),
+        (57, Some(Syscall::Fork)),
+        (317, Some(Syscall::Seccomp)),
+        (56, None),
+        (0x4000_0027, None),
+    ] {
+        assert_eq!(rt; Syscall::of(nr), call);
+    }
+}

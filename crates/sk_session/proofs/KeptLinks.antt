@@ -1,0 +1,101 @@
+-- A change of group or session keeps the rules of the world.
+use Rattle.std.proofs.Common.{◌≡◌, ◌∙◌, ◌≤◌, ◌==◌, ℕ, ap, sym, refl, subst, Bool, true, false, not, ◌&&◌, ◌||◌, nat_le, List, [], ◌∷◌, IsTrue, IfOk, Option, None, Some, Result, Ok, Err, ◌⊎◌, inl, inr}
+use Rattle.std.specs.Option.{is_some, option_map}
+use Rattle.std.specs.Int.{is_negative}
+use Rattle.std.specs.List.{list_any}
+use Rattle.std.proofs.lemmas.Bool.{false≢true, cond_both, eqb-true, leb-true, le-leb, not-false, and_parts, and_from}
+use Rattle.sk_creds.specs.declared.errno.Errno.{Errno}
+use Rattle.sk_creds.specs.declared.errno.Errno.TheVariants.{Eperm, Esrch, Eacces, Einval}
+use Rattle.sk_world.specs.declared.process.TheConstants.{LAST_PID}
+use Rattle.sk_world.specs.declared.process.Links.{Links}
+use Rattle.sk_world.specs.declared.process.Proc.{Proc}
+use Rattle.sk_world.specs.Processes.{pids}
+use Rattle.sk_world.specs.World.{World, at, parent_of, stored, relinked, is_child_of, is_member_of}
+use Rattle.sk_world.specs.Rules.{IsWorld, is_within, has_links_within}
+use Rattle.sk_world.proofs.Stored.{kept_links}
+use Rattle.sk_session.specs.Sessions.{pid_named, session_of, has_executed, is_group, is_group_of_session, links_in_group, links_of_leader, links_changed, with_changed_links, put_into_group, regrouped}
+use Rattle.sk_session.specs.SessionLaws.{RegroupingKeepsRules, FoundingKeepsRules}
+
+-- a change of links to numbers that can be pids, the parent's kept
+kept_changed_links : (w : World) (pid : ℕ) (f : Links → Links) (o : Option Proc) → at w pid ≡ o → IsWorld w
+    → ((p : Proc) → o ≡ Some p → IsTrue (is_within (f p.links)) × ((f p.links).parent ≡ p.links.parent)) → IsWorld (stored w pid (option_map (links_changed f) o))
+kept_changed_links w pid f None is rules fits =
+    subst (λ o. IsWorld (stored w pid (option_map (relinked (record { parent = 0; group = 0; session = 0 })) o))) is
+    (kept_links w pid (record { parent = 0; group = 0; session = 0 }) rules refl (sym (ap parent_of is)))
+kept_changed_links w pid f (Some p) is rules fits =
+    subst (λ o. IsWorld (stored w pid (option_map (relinked (f p.links)) o))) is
+    (kept_links w pid (f p.links) rules (fits p refl).0 ((fits p refl).1 ∙ sym (ap parent_of is)))
+
+-- the group of a process can be a pid
+within_group : (o : Option Proc) (group : ℕ) → IsTrue (has_links_within o) → IsTrue (is_member_of group o) → group ≤ LAST_PID
+within_group None group within is = absurd (false≢true is)
+within_group (Some p) group within is =
+    let same : p.links.group ≡ group = eqb-true p.links.group group is in
+    subst (λ n. n ≤ LAST_PID) same (leb-true p.links.group LAST_PID (and_parts (nat_le p.links.parent LAST_PID) (nat_le p.links.group LAST_PID) (and_parts _ (nat_le p.links.session LAST_PID) within).0).1)
+
+some_member : (w : World) (session group : ℕ) (ks : List ℕ) → IsWorld w
+    → IsTrue (list_any (λ pid. is_member_of group (at w pid) && (session_of (at w pid) == session)) ks) → group ≤ LAST_PID
+some_member w session group [] rules any = absurd (false≢true any)
+some_member w session group (k ∷ ks) rules any =
+    elim (is_member_of group (at w k) && (session_of (at w k) == session)) as (λ b. (is_member_of group (at w k) && (session_of (at w k) == session)) ≡ b → IsTrue (b || list_any (λ pid. is_member_of group (at w pid) && (session_of (at w pid) == session)) ks) → group ≤ LAST_PID) [
+      | true ↦ λ is _. within_group (at w k) group (rules.links k) (and_parts (is_member_of group (at w k)) (session_of (at w k) == session) is).0
+      | false ↦ λ _ rest. some_member w session group ks rules rest
+    ] refl any
+
+-- one of two tests holds
+either : (a b : Bool) → not (a || b) ≡ false → (a ≡ true) ⊎ (b ≡ true)
+either true b h = inl refl
+either false b h = inr (not-false b h)
+
+either_not : (a b : Bool) → (not a && not b) ≡ false → (a ≡ true) ⊎ (b ≡ true)
+either_not true b h = inl refl
+either_not false b h = inr (not-false b h)
+
+child_is_there : (caller : ℕ) (o : Option Proc) → IsTrue (is_child_of caller o) → IsTrue (is_some o)
+child_is_there caller None is = is
+child_is_there caller (Some p) is = refl
+
+with_group : (group parent old session : ℕ) → group ≤ LAST_PID → IsTrue (nat_le parent LAST_PID && nat_le old LAST_PID && nat_le session LAST_PID)
+    → IsTrue (nat_le parent LAST_PID && nat_le group LAST_PID && nat_le session LAST_PID)
+with_group group parent old session below h =
+    let parts = and_parts (nat_le parent LAST_PID && nat_le old LAST_PID) (nat_le session LAST_PID) h in
+    and_from _ _ (and_from _ _ (and_parts (nat_le parent LAST_PID) (nat_le old LAST_PID) parts.0).0 (le-leb group LAST_PID below)) parts.1
+
+kept_in_group : (w : World) (target group : ℕ) → IsWorld w → group ≤ LAST_PID → IsWorld (with_changed_links w target (links_in_group group))
+kept_in_group w target group rules below =
+    kept_changed_links w target (links_in_group group) (at w target) refl rules
+    (λ p is. (with_group group p.links.parent p.links.group p.links.session below (ap has_links_within (sym is) ∙ rules.links target), refl))
+
+kept_regrouped : (w : World) (caller target group : ℕ) → IsWorld w → IsTrue (is_some (at w caller)) → IfOk (regrouped w caller target group) IsWorld
+kept_regrouped w caller target group rules there =
+    let P : Result (Unit {0}) Errno → Type 0 = λ r. IfOk (put_into_group w target group r) IsWorld in
+    cond_both (not ((target == caller) || is_child_of caller (at w target))) (Err Esrch) _ P (λ _. tt) (λ known.
+    cond_both (not (target == caller) && not (session_of (at w target) == session_of (at w caller))) (Err Eperm) _ P (λ _. tt) (λ _.
+    cond_both (not (target == caller) && has_executed (at w target)) (Err Eacces) _ P (λ _. tt) (λ _.
+    cond_both (session_of (at w target) == target) (Err Eperm) _ P (λ _. tt) (λ _.
+    cond_both (not (group == target) && not (is_group_of_session w (session_of (at w caller)) group)) (Err Eperm) (Ok tt) P (λ _. tt) (λ lawful.
+    kept_in_group w target group rules (elim (either_not _ _ lawful) [
+      | inl own ↦ subst (λ n. n ≤ LAST_PID) (sym (eqb-true group target own)) (rules.pids target (elim (either _ _ known) [
+        | inl mine ↦ subst (λ k. IsTrue (is_some (at w k))) (sym (eqb-true target caller mine)) there
+        | inr child ↦ child_is_there caller (at w target) child
+      ])).1
+      | inr member ↦ some_member w (session_of (at w caller)) group (pids w.procs) rules member
+    ]))))))
+
+pub kept_setpgid : RegroupingKeepsRules
+kept_setpgid w caller pid group rules there =
+    cond_both (is_negative group) (Err Einval) (regrouped w caller (pid_named caller pid) (pid_named (pid_named caller pid) group)) (λ r. IfOk r IsWorld)
+    (λ _. tt) (λ _. kept_regrouped w caller (pid_named caller pid) (pid_named (pid_named caller pid) group) rules there)
+
+leads : (pid parent : ℕ) → pid ≤ LAST_PID → IsTrue (nat_le parent LAST_PID) → IsTrue (nat_le parent LAST_PID && nat_le pid LAST_PID && nat_le pid LAST_PID)
+leads pid parent below h = and_from _ _ (and_from _ _ h (le-leb pid LAST_PID below)) (le-leb pid LAST_PID below)
+
+within_parent : (parent group session : ℕ) → IsTrue (nat_le parent LAST_PID && nat_le group LAST_PID && nat_le session LAST_PID) → IsTrue (nat_le parent LAST_PID)
+within_parent parent group session h = (and_parts (nat_le parent LAST_PID) (nat_le group LAST_PID) (and_parts _ (nat_le session LAST_PID) h).0).0
+
+pub kept_setsid : FoundingKeepsRules
+kept_setsid w caller rules there =
+    cond_both (is_group w caller) (Err Eperm) (Ok (with_changed_links w caller (links_of_leader caller))) (λ r. IfOk r IsWorld)
+    (λ _. tt)
+    (λ _. kept_changed_links w caller (links_of_leader caller) (at w caller) refl rules
+    (λ p is. (leads caller p.links.parent (rules.pids caller there).1 (within_parent p.links.parent p.links.group p.links.session (ap has_links_within (sym is) ∙ rules.links caller)), refl)))

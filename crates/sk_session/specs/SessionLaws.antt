@@ -1,0 +1,15 @@
+-- Laws on groups and sessions.
+use Rattle.std.specs.Prelude.{ℕ, ℤ, IsTrue, IfOk}
+use Rattle.std.specs.Option.{is_some}
+use Rattle.sk_world.specs.World.{World, at}
+use Rattle.sk_world.specs.Rules.{IsWorld}
+use Rattle.sk_session.specs.Sessions.{after_setpgid, after_setsid}
+
+-- setpgid(2) by a process that is there keeps the rules of the world
+abbrev pub RegroupingKeepsRules : Type 0
+RegroupingKeepsRules =
+    (w : World) (caller : ℕ) (pid group : ℤ) → IsWorld w → IsTrue (is_some (at w caller)) → IfOk (after_setpgid w caller pid group) IsWorld
+
+-- so does setsid(2)
+abbrev pub FoundingKeepsRules : Type 0
+FoundingKeepsRules = (w : World) (caller : ℕ) → IsWorld w → IsTrue (is_some (at w caller)) → IfOk (after_setsid w caller) IsWorld
