@@ -1,8 +1,9 @@
 #!/usr/bin/env python3
-"""refuse_memory.py PROGRAM: refuses each allocation of worked runs in turn.
+"""refuse_memory.py PROGRAM FORKS: refuses each allocation of worked runs of PROGRAM in turn.
 
 Each such run is to give the whole answer, or `skern: out of memory` with status 3, and nothing else.
-Prints each run that gives something else, and at last 'N passed, M failed'."""
+FORKS is run with every allocation refused from its first line of output on, and is to give its whole
+answer. Prints each run that gives something else, and at last 'N passed, M failed'."""
 import os
 import subprocess
 import sys
@@ -21,28 +22,39 @@ RUNS = [
     ("list", REFUSES_GETPPID, "ldabs 0\njeq 110 +0 +1\nret 0x00050001\nret 0x7fff0000\n", 0),
 ]
 MOST_ALLOCATIONS = 2000
+# What FORKS writes, with memory and without.
+FORKED = "6554 filters\n1000 forks, pids 501500 in sum\n1000 children with the filters\nmemory is "
 
 
 def main():
-    if len(sys.argv) != 2:
+    if len(sys.argv) != 3:
         sys.exit(__doc__)
-    program = os.path.abspath(sys.argv[1])
+    program, forks = (os.path.abspath(name) for name in sys.argv[1:])
     passed = failed = 0
     with tempfile.TemporaryDirectory() as folder:
         shim = os.path.join(folder, "refuse_memory.so")
         subprocess.run(["gcc", "-O1", "-shared", "-fPIC", "-o", shim, os.path.join(HERE, "refuse_memory.c"), "-ldl"], check=True)
 
-        def run(word, text, refused):
+        def run(words, text, refused):
             env = {"LD_PRELOAD": shim, "REFUSE": str(refused)}
-            ran = subprocess.run([program, word], input=text.encode(), capture_output=True, env=env, timeout=60)
+            ran = subprocess.run(words, input=text.encode(), capture_output=True, env=env, timeout=60)
             return ran.stdout, ran.returncode
+
+        # The last line says that the shim did refuse.
+        for refused, memory in [(0, "there"), ("after-output", "refused")]:
+            answer = run([forks], "", refused)
+            if answer == ((FORKED + memory + "\n").encode(), 0):
+                passed += 1
+            else:
+                failed += 1
+                print(f"forks: where memory is {memory} it gives {answer}")
 
         for word, text, output, status in RUNS:
             whole = (output.encode(), status)
             refusals = 0
             for count in range(MOST_ALLOCATIONS):
                 # The first run refuses nothing.
-                answer = run(word, text, count)
+                answer = run([program, word], text, count)
                 if count > 0 and answer == (b"skern: out of memory\n", 3):
                     refusals += 1
                 elif answer != whole:

@@ -1,0 +1,45 @@
+use sk_insn::ImageFault;
+use std::alloc::AllocError;
+use std::{fmt, io};
+
+/// Why the forks are not done.
+#[derive(Clone, Copy, Debug, PartialEq, Eq)]
+pub enum Fault {
+    /// A filter or a fork is refused.
+    Refused,
+    /// Memory was refused.
+    Memory,
+    /// The output could not be written.
+    Write,
+}
+
+impl fmt::Display for Fault {
+    fn fmt<W: fmt::Write>(&self, f: &mut fmt::Formatter<W>) -> fmt::Result {
+        f.write_str(match self {
+            Fault::Refused => "refused",
+            Fault::Memory => "out of memory",
+            Fault::Write => "writing failed",
+        })
+    }
+}
+
+impl From<AllocError> for Fault {
+    fn from(_refused: AllocError) -> Fault {
+        Fault::Memory
+    }
+}
+
+impl From<ImageFault> for Fault {
+    fn from(fault: ImageFault) -> Fault {
+        match fault {
+            ImageFault::Memory => Fault::Memory,
+            _ => Fault::Refused,
+        }
+    }
+}
+
+impl From<io::Error> for Fault {
+    fn from(_failed: io::Error) -> Fault {
+        Fault::Write
+    }
+}

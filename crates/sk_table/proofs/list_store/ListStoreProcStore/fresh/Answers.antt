@@ -1,0 +1,22 @@
+use Rattle.std.proofs.Common.{◌≡◌, ◌≤◌, None, subst, sym}
+use Rattle.sk_world.specs.declared.process.TheConstants.{LAST_PID}
+use Rattle.sk_world.specs.World.{World, at}
+use Rattle.sk_world.proofs.Fresh.{fresh_absent, fresh_in_range}
+use Rattle.sk_table.proofs.Freeing.{fresh_of_rows}
+use Rattle.sk_table.proofs.list_store.ListStoreProcStore.fresh.Goals as goal
+
+pub returns-clause-fresh : goal.returns-clause-fresh
+returns-clause-fresh c =
+    fresh_of_rows c.self.inside.rows.items _ c.self.inside.last _ _ c.first_free.ensures c.deref.ensures.value c.self.view_is c.self.invariant.distinct
+
+pub returns-clause-free : goal.returns-clause-free
+returns-clause-free c room =
+    let world = c.args.self.now in
+    let given = subst (λ (w : World). 1 ≤ w.last) c.self.view_is c.self.invariant.given in
+    subst (λ n. at world n ≡ None) (sym (returns-clause-fresh c)) (fresh_absent world room given)
+
+pub returns-clause-fits : goal.returns-clause-fits
+returns-clause-fits c =
+    let world = c.args.self.now in
+    let given = subst (λ (w : World). 1 ≤ w.last) c.self.view_is c.self.invariant.given in
+    subst (λ n. (2 ≤ n) × (n ≤ LAST_PID)) (sym (returns-clause-fresh c)) (fresh_in_range world given)

@@ -1,0 +1,34 @@
+use Rattle.std.proofs.Common.{ap, sym, subst, ◌∙◌, arith}
+use Rattle.sk_table.specs.Rows.{Distinct}
+use Rattle.sk_table.proofs.Keeping.{world, placed, without_row, read, unread, nothing_stored}
+use Rattle.sk_table.proofs.list_store.ListStoreProcStore.remove.Goals as goal
+
+pub invariant_of-self : goal.invariant_of-self
+invariant_of-self c =
+    let row = c.remove-proc.result in
+    let here = placed c.args.pid c.self.inside.rows.items _ _ row c.deref.ensures.value c.in-Some.ensures in
+    let gone = without_row _ _ _ _ _ c.self.view_is here c.self.invariant.distinct in
+    record {
+      room = omega (arith, c.remove-proc.ensures.capacity, c.self.invariant.room);
+      distinct = subst Distinct (sym c.remove-proc.ensures.items) gone.1;
+      given = c.self.invariant.given;
+    }
+
+pub returns-in-Some-clause-gone : goal.returns-in-Some-clause-gone
+returns-in-Some-clause-gone c =
+    let row = c.remove-proc.result in
+    let here = placed c.args.pid c.self.inside.rows.items _ _ row c.deref.ensures.value c.in-Some.ensures in
+    sym (read _ _ _ _ _ row c.self.view_is here c.remove-proc.ensures.value)
+
+pub returns-in-Some-clause-rest : goal.returns-in-Some-clause-rest
+returns-in-Some-clause-rest c =
+    let row = c.remove-proc.result in
+    let here = placed c.args.pid c.self.inside.rows.items _ _ row c.deref.ensures.value c.in-Some.ensures in
+    ap (λ rows. world rows c.self.inside.last) c.remove-proc.ensures.items
+    ∙ (without_row _ _ _ _ _ c.self.view_is here c.self.invariant.distinct).0
+
+pub returns-in-None-clause-gone : goal.returns-in-None-clause-gone
+returns-in-None-clause-gone c = sym (unread _ _ _ _ _ c.self.view_is c.deref.ensures.value c.in-None.ensures)
+
+pub returns-in-None-clause-rest : goal.returns-in-None-clause-rest
+returns-in-None-clause-rest c = sym (nothing_stored _ _ _ _ _ c.self.view_is c.deref.ensures.value c.in-None.ensures)

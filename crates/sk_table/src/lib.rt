@@ -1,0 +1,15 @@
+//! The stores of the processes of a world. All of `sk_world` stands here too.
+#![tactic(auto)]
+
+mod first;
+mod list_store;
+mod scan;
+
+pub use list_store::ListStore;
+pub use sk_world::{
+    Body, INIT, LAST_PID, Life, Links, Note, PROCESSES, Poll, Proc, ProcStore, Request,
+    WaitOptions, Waiting, Who, fork, laws,
+};
+
+#[cfg(test)]
+mod tests;
