@@ -6,14 +6,13 @@ use Rattle.sk_world.specs.declared.process.Links.{Links}
 use Rattle.sk_world.specs.declared.process.Body.{Body}
 use Rattle.sk_world.specs.declared.process.Proc.{Proc}
 use Rattle.sk_world.specs.declared.request.Poll.TheVariants as poll
-use Rattle.sk_world.specs.World.{World, at, body_changed, changed}
+use Rattle.sk_world.specs.World.{World, at, body_changed, changed, links_changed, relinked}
 use Rattle.sk_world.specs.Sending.{sent}
 use Rattle.sk_world.specs.Ending.{ended}
 use Rattle.sk_world.specs.Waits.{told}
 use Rattle.sk_world.specs.ChangeLaws.{StaysInRights, KeepsRights}
 use Rattle.sk_world.proofs.Stored.{everywhere, at_here}
 use Rattle.sk_world.proofs.Rights.{sent_rights, told_rights, ended_rights}
-use Rattle.sk_session.specs.Sessions.{links_changed, with_changed_links}
 use Rattle.sk_machine.specs.Authority.{Authority, authority_of}
 use Rattle.sk_machine.proofs.Carrying.{Carries}
 
@@ -75,7 +74,7 @@ keeps_changed w pid g same =
 pub came_at : (w : World) (pid : ℕ) (f : Authority → Authority) (g : Body → Body) → ((p : Proc) → at w pid ≡ Some p → authority_of (g p.body) ≡ f (authority_of p.body)) → CameBy f (at (changed w pid g) pid) (at w pid)
 came_at w pid f g same = subst (λ x. CameBy f x (at w pid)) (sym (at_here w pid (option_map (body_changed g) (at w pid)))) (came_changed f g (at w pid) same)
 
-keeps_links : (w : World) (pid : ℕ) (f : Links → Links) → Keeps w (with_changed_links w pid f)
+keeps_links : (w : World) (pid : ℕ) (f : Links → Links) → Keeps w (relinked w pid f)
 keeps_links w pid f = everywhere w pid (option_map (links_changed f) (at w pid)) (λ k x. Came x (at w k)) (same (at w pid)) (λ q ne. came_still (at w q))
   where
     same : (o : Option Proc) → Came (option_map (links_changed f) o) o

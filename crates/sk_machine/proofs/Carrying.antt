@@ -23,11 +23,11 @@ use Rattle.sk_world.specs.declared.process.Waiting.TheVariants as waiting
 use Rattle.sk_world.specs.declared.request.Request.{Request}
 use Rattle.sk_world.specs.declared.request.Poll.{Poll}
 use Rattle.sk_world.specs.declared.request.Poll.TheVariants as poll
-use Rattle.sk_world.specs.World.{World, at, parent_of, changed}
+use Rattle.sk_world.specs.World.{World, at, parent_of, changed, relinked}
 use Rattle.sk_world.specs.Sending.{sent}
 use Rattle.sk_world.specs.Ending.{ended}
 use Rattle.sk_world.specs.Waits.{is_no_hang, ready_of, told}
-use Rattle.sk_session.specs.Sessions.{pid_named, is_group, links_in_group, links_of_leader, with_changed_links, may_regroup, put_into_group, regrouped, after_setpgid, after_setsid}
+use Rattle.sk_session.specs.Sessions.{pid_named, is_group, links_in_group, links_of_leader, may_regroup, put_into_group, regrouped, after_setpgid, after_setsid}
 use Rattle.sk_machine.specs.Syscalls.{low}
 use Rattle.sk_machine.specs.Authority.{authority_of}
 use Rattle.sk_machine.specs.Performed.{Performed, body_of, returns, fails, asked, changes, waiting_in, waits}
@@ -45,7 +45,7 @@ pub record Carries (R : Option Proc → Option Proc → Type 0) : Type 0 where
   pub still : (w : World) → Over R w w
   pub twice : (v w x : World) → Over R v w → Over R w x → Over R v x
   pub changed : (w : World) (pid : ℕ) (g : Body → Body) → ((body : Body) → authority_of (g body) ≡ authority_of body) → Over R w (changed w pid g)
-  pub links : (w : World) (pid : ℕ) (f : Links → Links) → ((l : Links) → (f l).parent ≡ l.parent) → Over R w (with_changed_links w pid f)
+  pub links : (w : World) (pid : ℕ) (f : Links → Links) → ((l : Links) → (f l).parent ≡ l.parent) → Over R w (relinked w pid f)
   pub sent : (w : World) (pid n : ℕ) → Over R w (sent w pid n)
   pub ended : (w : World) (pid status : ℕ) → Over R w (ended w pid status)
   pub telling : (w : World) (child status : ℕ) → Over R w (told w (poll.Told child status))
@@ -94,7 +94,7 @@ over_setpgid R c w caller pid group =
 
 pub over_setsid : (R : Option Proc → Option Proc → Type 0) (c : Carries R) (w : World) (caller : ℕ) → IfOk (after_setsid w caller) (Over R w)
 over_setsid R c w caller =
-    cond_both (is_group w caller) (Err Eperm) (Ok (with_changed_links w caller (links_of_leader caller))) (λ r. IfOk r (Over R w)) (λ _. tt)
+    cond_both (is_group w caller) (Err Eperm) (Ok (relinked w caller (links_of_leader caller))) (λ r. IfOk r (Over R w)) (λ _. tt)
     (λ _. c.links w caller (links_of_leader caller) (λ l. refl))
 
 pub over_polled : (R : Option Proc → Option Proc → Type 0) (c : Carries R) (w : World) (pid : ℕ) (request : Request) (p : Poll) → Over R w (polled w pid request p).world

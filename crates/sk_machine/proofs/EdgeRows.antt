@@ -6,55 +6,56 @@ use Rattle.sk_check.specs.FirstFault.{first_fault}
 use Rattle.sk_signal.specs.Sets.{empty, contains, insert, retain, remove, difference, union, from_list}
 use Rattle.sk_signal.specs.SignalSet.{lowest, signals_to, signals_of}
 use Rattle.sk_signal.specs.Signalling.{opening as no_signal}
+use Rattle.sk_world.specs.Numbers.{fresh_of}
 use Rattle.sk_machine.specs.Machine.{step_of}
 use Rattle.sk_machine.specs.WorkedEdges.{BlocksWhileHandling, EndsInitBySigsysKept, ForcesSigsysPastHandler, NeverStopsInit, ContinuesThoughBlocked, TellsStopsByChildSignal, KeepsStoppedFromAll, TakesDefaultActions, PutsSignalFirst, WaitsForFirstGroup, KeepsGroupAskedFor, WaitsForOwnChildren, WorkedEdges}
 
 blocks_while_handling : BlocksWhileHandling
-unfolding step_of action_of operation_of first_fault empty contains insert retain remove difference union from_list lowest signals_to signals_of no_signal
+unfolding step_of fresh_of action_of operation_of first_fault empty contains insert retain remove difference union from_list lowest signals_to signals_of no_signal
 blocks_while_handling = refl
 
 ends_init_by_sigsys_kept : EndsInitBySigsysKept
-unfolding step_of action_of operation_of first_fault empty contains insert retain remove difference union from_list lowest signals_to signals_of no_signal
+unfolding step_of fresh_of action_of operation_of first_fault empty contains insert retain remove difference union from_list lowest signals_to signals_of no_signal
 ends_init_by_sigsys_kept = refl
 
 forces_sigsys_past_handler : ForcesSigsysPastHandler
-unfolding step_of action_of operation_of first_fault empty contains insert retain remove difference union from_list lowest signals_to signals_of no_signal
+unfolding step_of fresh_of action_of operation_of first_fault empty contains insert retain remove difference union from_list lowest signals_to signals_of no_signal
 forces_sigsys_past_handler = refl
 
 never_stops_init : NeverStopsInit
-unfolding step_of action_of operation_of first_fault empty contains insert retain remove difference union from_list lowest signals_to signals_of no_signal
+unfolding step_of fresh_of action_of operation_of first_fault empty contains insert retain remove difference union from_list lowest signals_to signals_of no_signal
 never_stops_init = refl
 
 continues_though_blocked : ContinuesThoughBlocked
-unfolding step_of action_of operation_of first_fault empty contains insert retain remove difference union from_list lowest signals_to signals_of no_signal
+unfolding step_of fresh_of action_of operation_of first_fault empty contains insert retain remove difference union from_list lowest signals_to signals_of no_signal
 continues_though_blocked = refl
 
 tells_stops_by_child_signal : TellsStopsByChildSignal
-unfolding step_of action_of operation_of first_fault empty contains insert retain remove difference union from_list lowest signals_to signals_of no_signal
+unfolding step_of fresh_of action_of operation_of first_fault empty contains insert retain remove difference union from_list lowest signals_to signals_of no_signal
 tells_stops_by_child_signal = refl
 
 keeps_stopped_from_all : KeepsStoppedFromAll
-unfolding step_of action_of operation_of first_fault empty contains insert retain remove difference union from_list lowest signals_to signals_of no_signal
+unfolding step_of fresh_of action_of operation_of first_fault empty contains insert retain remove difference union from_list lowest signals_to signals_of no_signal
 keeps_stopped_from_all = refl
 
 takes_default_actions : TakesDefaultActions
-unfolding step_of action_of operation_of first_fault empty contains insert retain remove difference union from_list lowest signals_to signals_of no_signal
+unfolding step_of fresh_of action_of operation_of first_fault empty contains insert retain remove difference union from_list lowest signals_to signals_of no_signal
 takes_default_actions = refl
 
 puts_signal_first : PutsSignalFirst
-unfolding step_of action_of operation_of first_fault empty contains insert retain remove difference union from_list lowest signals_to signals_of no_signal
+unfolding step_of fresh_of action_of operation_of first_fault empty contains insert retain remove difference union from_list lowest signals_to signals_of no_signal
 puts_signal_first = refl
 
 waits_for_first_group : WaitsForFirstGroup
-unfolding step_of action_of operation_of first_fault empty contains insert retain remove difference union from_list lowest signals_to signals_of no_signal
+unfolding step_of fresh_of action_of operation_of first_fault empty contains insert retain remove difference union from_list lowest signals_to signals_of no_signal
 waits_for_first_group = refl
 
 keeps_group_asked_for : KeepsGroupAskedFor
-unfolding step_of action_of operation_of first_fault empty contains insert retain remove difference union from_list lowest signals_to signals_of no_signal
+unfolding step_of fresh_of action_of operation_of first_fault empty contains insert retain remove difference union from_list lowest signals_to signals_of no_signal
 keeps_group_asked_for = refl
 
 waits_for_own_children : WaitsForOwnChildren
-unfolding step_of action_of operation_of first_fault empty contains insert retain remove difference union from_list lowest signals_to signals_of no_signal
+unfolding step_of fresh_of action_of operation_of first_fault empty contains insert retain remove difference union from_list lowest signals_to signals_of no_signal
 waits_for_own_children = refl
 
 pub worked_edges : WorkedEdges

@@ -24,7 +24,7 @@ use Rattle.sk_world.specs.declared.process.Proc.{Proc}
 use Rattle.sk_world.specs.declared.process.Waiting.TheVariants as waiting
 use Rattle.sk_world.specs.declared.request.Poll.TheVariants as poll
 use Rattle.sk_world.specs.Processes.{count}
-use Rattle.sk_world.specs.World.{World, at, is_stopped, is_zombie, is_halted, is_alive, parent_of, stored, body_changed, changed}
+use Rattle.sk_world.specs.World.{World, at, is_stopped, is_zombie, is_halted, is_alive, parent_of, stored, body_changed, changed, links_changed, relinked}
 use Rattle.sk_world.specs.Rules.{IsWorld, is_init}
 use Rattle.sk_world.specs.Numbers.{fresh_of}
 use Rattle.sk_world.specs.Forking.{has_room, forked}
@@ -35,7 +35,7 @@ use Rattle.sk_world.proofs.Stored.{everywhere}
 use Rattle.sk_world.proofs.KeptEnd.{handed_at, handed_parent}
 use Rattle.sk_world.proofs.Locality.{forked_touches, forked_child}
 use Rattle.sk_world.proofs.Fresh.{fresh_in_range, fresh_absent}
-use Rattle.sk_session.specs.Sessions.{links_changed, with_changed_links, after_setpgid, after_setsid, group_asked, session_asked}
+use Rattle.sk_session.specs.Sessions.{after_setpgid, after_setsid, group_asked, session_asked}
 use Rattle.sk_machine.specs.declared.event.Event.{Event}
 use Rattle.sk_machine.specs.declared.event.Event.TheVariants.{Call, Deliver, Resume, Fault}
 use Rattle.sk_machine.specs.declared.answer.Reason.{Reason}
@@ -100,7 +100,7 @@ moved_relinked : (f : Links → Links) → ((l : Links) → (f l).parent ≡ l.p
 moved_relinked f same None = moved_nobody None
 moved_relinked f same (Some p) = λ _. (refl, inl (same p.links))
 
-moved_links : (w : World) (pid : ℕ) (f : Links → Links) → ((l : Links) → (f l).parent ≡ l.parent) → Over Moved w (with_changed_links w pid f)
+moved_links : (w : World) (pid : ℕ) (f : Links → Links) → ((l : Links) → (f l).parent ≡ l.parent) → Over Moved w (relinked w pid f)
 moved_links w pid f same = everywhere w pid (option_map (links_changed f) (at w pid)) (λ k x. Moved x (at w k)) (moved_relinked f same (at w pid)) (λ q ne. moved_still (at w q))
 
 moved_sent : (w : World) (pid n : ℕ) → Over Moved w (sent w pid n)

@@ -6,59 +6,60 @@ use Rattle.sk_check.specs.FirstFault.{first_fault}
 use Rattle.sk_signal.specs.Sets.{empty, contains, insert, retain, remove, difference, union, from_list}
 use Rattle.sk_signal.specs.SignalSet.{lowest, signals_to, signals_of}
 use Rattle.sk_signal.specs.Signalling.{opening as no_signal}
+use Rattle.sk_world.specs.Numbers.{fresh_of}
 use Rattle.sk_machine.specs.Machine.{step_of}
 use Rattle.sk_machine.specs.WorkedTurns.{TellsReasons, EndsSystem, HaltsAll, TurnsWithFilter, TurnsWithoutZombies, TurnsOfCrash, TurnsOfStopAndContinue, TurnsOfOrphan, TurnsOfKills, TurnsOfRegrouping, TurnsOfPause, NobodyRuns, KilledRuns, WorkedTurns}
 
 tells_reasons : TellsReasons
-unfolding step_of action_of operation_of first_fault empty contains insert retain remove difference union from_list lowest signals_to signals_of no_signal
+unfolding step_of fresh_of action_of operation_of first_fault empty contains insert retain remove difference union from_list lowest signals_to signals_of no_signal
 tells_reasons = refl
 
 ends_system : EndsSystem
-unfolding step_of action_of operation_of first_fault empty contains insert retain remove difference union from_list lowest signals_to signals_of no_signal
+unfolding step_of fresh_of action_of operation_of first_fault empty contains insert retain remove difference union from_list lowest signals_to signals_of no_signal
 ends_system = refl
 
 halts_all : HaltsAll
-unfolding step_of action_of operation_of first_fault empty contains insert retain remove difference union from_list lowest signals_to signals_of no_signal
+unfolding step_of fresh_of action_of operation_of first_fault empty contains insert retain remove difference union from_list lowest signals_to signals_of no_signal
 halts_all = refl
 
 turns_with_filter : TurnsWithFilter
-unfolding step_of action_of operation_of first_fault empty contains insert retain remove difference union from_list lowest signals_to signals_of no_signal
+unfolding step_of fresh_of action_of operation_of first_fault empty contains insert retain remove difference union from_list lowest signals_to signals_of no_signal
 turns_with_filter = refl
 
 turns_without_zombies : TurnsWithoutZombies
-unfolding step_of action_of operation_of first_fault empty contains insert retain remove difference union from_list lowest signals_to signals_of no_signal
+unfolding step_of fresh_of action_of operation_of first_fault empty contains insert retain remove difference union from_list lowest signals_to signals_of no_signal
 turns_without_zombies = refl
 
 turns_of_crash : TurnsOfCrash
-unfolding step_of action_of operation_of first_fault empty contains insert retain remove difference union from_list lowest signals_to signals_of no_signal
+unfolding step_of fresh_of action_of operation_of first_fault empty contains insert retain remove difference union from_list lowest signals_to signals_of no_signal
 turns_of_crash = refl
 
 turns_of_stop_and_continue : TurnsOfStopAndContinue
-unfolding step_of action_of operation_of first_fault empty contains insert retain remove difference union from_list lowest signals_to signals_of no_signal
+unfolding step_of fresh_of action_of operation_of first_fault empty contains insert retain remove difference union from_list lowest signals_to signals_of no_signal
 turns_of_stop_and_continue = refl
 
 turns_of_orphan : TurnsOfOrphan
-unfolding step_of action_of operation_of first_fault empty contains insert retain remove difference union from_list lowest signals_to signals_of no_signal
+unfolding step_of fresh_of action_of operation_of first_fault empty contains insert retain remove difference union from_list lowest signals_to signals_of no_signal
 turns_of_orphan = refl
 
 turns_of_kills : TurnsOfKills
-unfolding step_of action_of operation_of first_fault empty contains insert retain remove difference union from_list lowest signals_to signals_of no_signal
+unfolding step_of fresh_of action_of operation_of first_fault empty contains insert retain remove difference union from_list lowest signals_to signals_of no_signal
 turns_of_kills = refl
 
 turns_of_regrouping : TurnsOfRegrouping
-unfolding step_of action_of operation_of first_fault empty contains insert retain remove difference union from_list lowest signals_to signals_of no_signal
+unfolding step_of fresh_of action_of operation_of first_fault empty contains insert retain remove difference union from_list lowest signals_to signals_of no_signal
 turns_of_regrouping = refl
 
 turns_of_pause : TurnsOfPause
-unfolding step_of action_of operation_of first_fault empty contains insert retain remove difference union from_list lowest signals_to signals_of no_signal
+unfolding step_of fresh_of action_of operation_of first_fault empty contains insert retain remove difference union from_list lowest signals_to signals_of no_signal
 turns_of_pause = refl
 
 nobody_runs : NobodyRuns
-unfolding step_of action_of operation_of first_fault empty contains insert retain remove difference union from_list lowest signals_to signals_of no_signal
+unfolding step_of fresh_of action_of operation_of first_fault empty contains insert retain remove difference union from_list lowest signals_to signals_of no_signal
 nobody_runs = refl
 
 killed_runs : KilledRuns
-unfolding step_of action_of operation_of first_fault empty contains insert retain remove difference union from_list lowest signals_to signals_of no_signal
+unfolding step_of fresh_of action_of operation_of first_fault empty contains insert retain remove difference union from_list lowest signals_to signals_of no_signal
 killed_runs = refl
 
 pub worked_turns : WorkedTurns

@@ -1,30 +1,19 @@
 -- A change of group or session keeps the rules of the world.
 use Rattle.std.proofs.Common.{◌≡◌, ◌∙◌, ◌≤◌, ◌==◌, ℕ, ap, sym, refl, subst, Bool, true, false, not, ◌&&◌, ◌||◌, nat_le, List, [], ◌∷◌, IsTrue, IfOk, Option, None, Some, Result, Ok, Err, ◌⊎◌, inl, inr}
-use Rattle.std.specs.Option.{is_some, option_map}
+use Rattle.std.specs.Option.{is_some}
 use Rattle.std.specs.Int.{is_negative}
 use Rattle.std.specs.List.{list_any}
 use Rattle.std.proofs.lemmas.Bool.{false≢true, cond_both, eqb-true, leb-true, le-leb, not-false, and_parts, and_from}
 use Rattle.sk_creds.specs.declared.errno.Errno.{Errno}
 use Rattle.sk_creds.specs.declared.errno.Errno.TheVariants.{Eperm, Esrch, Eacces, Einval}
 use Rattle.sk_world.specs.declared.process.TheConstants.{LAST_PID}
-use Rattle.sk_world.specs.declared.process.Links.{Links}
 use Rattle.sk_world.specs.declared.process.Proc.{Proc}
 use Rattle.sk_world.specs.Processes.{pids}
-use Rattle.sk_world.specs.World.{World, at, parent_of, stored, relinked, is_child_of, is_member_of}
-use Rattle.sk_world.specs.Rules.{IsWorld, is_within, has_links_within}
+use Rattle.sk_world.specs.World.{World, at, relinked, is_child_of, is_member_of}
+use Rattle.sk_world.specs.Rules.{IsWorld, has_links_within}
 use Rattle.sk_world.proofs.Stored.{kept_links}
-use Rattle.sk_session.specs.Sessions.{pid_named, session_of, has_executed, is_group, is_group_of_session, links_in_group, links_of_leader, links_changed, with_changed_links, put_into_group, regrouped}
+use Rattle.sk_session.specs.Sessions.{pid_named, session_of, has_executed, is_group, is_group_of_session, links_in_group, links_of_leader, put_into_group, regrouped}
 use Rattle.sk_session.specs.SessionLaws.{RegroupingKeepsRules, FoundingKeepsRules}
-
--- a change of links to numbers that can be pids, the parent's kept
-kept_changed_links : (w : World) (pid : ℕ) (f : Links → Links) (o : Option Proc) → at w pid ≡ o → IsWorld w
-    → ((p : Proc) → o ≡ Some p → IsTrue (is_within (f p.links)) × ((f p.links).parent ≡ p.links.parent)) → IsWorld (stored w pid (option_map (links_changed f) o))
-kept_changed_links w pid f None is rules fits =
-    subst (λ o. IsWorld (stored w pid (option_map (relinked (record { parent = 0; group = 0; session = 0 })) o))) is
-    (kept_links w pid (record { parent = 0; group = 0; session = 0 }) rules refl (sym (ap parent_of is)))
-kept_changed_links w pid f (Some p) is rules fits =
-    subst (λ o. IsWorld (stored w pid (option_map (relinked (f p.links)) o))) is
-    (kept_links w pid (f p.links) rules (fits p refl).0 ((fits p refl).1 ∙ sym (ap parent_of is)))
 
 -- the group of a process can be a pid
 within_group : (o : Option Proc) (group : ℕ) → IsTrue (has_links_within o) → IsTrue (is_member_of group o) → group ≤ LAST_PID
@@ -61,10 +50,12 @@ with_group group parent old session below h =
     let parts = and_parts (nat_le parent LAST_PID && nat_le old LAST_PID) (nat_le session LAST_PID) h in
     and_from _ _ (and_from _ _ (and_parts (nat_le parent LAST_PID) (nat_le old LAST_PID) parts.0).0 (le-leb group LAST_PID below)) parts.1
 
-kept_in_group : (w : World) (target group : ℕ) → IsWorld w → group ≤ LAST_PID → IsWorld (with_changed_links w target (links_in_group group))
+kept_in_group : (w : World) (target group : ℕ) → IsWorld w → group ≤ LAST_PID → IsWorld (relinked w target (links_in_group group))
 kept_in_group w target group rules below =
-    kept_changed_links w target (links_in_group group) (at w target) refl rules
-    (λ p is. (with_group group p.links.parent p.links.group p.links.session below (ap has_links_within (sym is) ∙ rules.links target), refl))
+    kept_links w target (links_in_group group) rules (λ p is. record {
+      within = with_group group p.links.parent p.links.group p.links.session below (ap has_links_within (sym is) ∙ rules.links target);
+      parent = refl;
+    })
 
 kept_regrouped : (w : World) (caller target group : ℕ) → IsWorld w → IsTrue (is_some (at w caller)) → IfOk (regrouped w caller target group) IsWorld
 kept_regrouped w caller target group rules there =
@@ -95,7 +86,9 @@ within_parent parent group session h = (and_parts (nat_le parent LAST_PID) (nat_
 
 pub kept_setsid : FoundingKeepsRules
 kept_setsid w caller rules there =
-    cond_both (is_group w caller) (Err Eperm) (Ok (with_changed_links w caller (links_of_leader caller))) (λ r. IfOk r IsWorld)
+    cond_both (is_group w caller) (Err Eperm) (Ok (relinked w caller (links_of_leader caller))) (λ r. IfOk r IsWorld)
     (λ _. tt)
-    (λ _. kept_changed_links w caller (links_of_leader caller) (at w caller) refl rules
-    (λ p is. (leads caller p.links.parent (rules.pids caller there).1 (within_parent p.links.parent p.links.group p.links.session (ap has_links_within (sym is) ∙ rules.links caller)), refl)))
+    (λ _. kept_links w caller (links_of_leader caller) rules (λ p is. record {
+      within = leads caller p.links.parent (rules.pids caller there).1 (within_parent p.links.parent p.links.group p.links.session (ap has_links_within (sym is) ∙ rules.links caller));
+      parent = refl;
+    }))

@@ -1,6 +1,6 @@
 -- Process groups and sessions: setpgid(2), setsid(2), getpgid(2), getsid(2) and credentials(7).
 use Rattle.std.specs.Prelude.{ℕ, zero, suc, ℤ, pos, negsuc, ◌==◌, Bool, false, not, ◌&&◌, ◌||◌, if◌then◌else◌, Option, Result, Ok, Err}
-use Rattle.std.specs.Option.{is_some, option_map, option_map_or}
+use Rattle.std.specs.Option.{is_some, option_map_or}
 use Rattle.std.specs.Int.{is_negative}
 use Rattle.std.specs.List.{list_any}
 use Rattle.sk_creds.specs.declared.errno.Errno.{Errno}
@@ -8,7 +8,7 @@ use Rattle.sk_creds.specs.declared.errno.Errno.TheVariants.{Eperm, Esrch, Eacces
 use Rattle.sk_world.specs.declared.process.Links.{Links}
 use Rattle.sk_world.specs.declared.process.Proc.{Proc}
 use Rattle.sk_world.specs.Processes.{pids}
-use Rattle.sk_world.specs.World.{World, at, stored, is_child_of, is_member_of}
+use Rattle.sk_world.specs.World.{World, at, relinked, is_child_of, is_member_of}
 
 -- the pid that an argument names: 0 stands for this one. A negative number names no process, as 0 is
 -- nobody's pid
@@ -46,14 +46,6 @@ links_in_group group links = record links { group = group }
 abbrev pub links_of_leader : ℕ → Links → Links
 links_of_leader pid links = record links { group = pid; session = pid }
 
--- a process with other links
-abbrev pub links_changed : (Links → Links) → Proc → Proc
-links_changed f p = record p { links = f p.links }
-
--- the links of the process of a pid are changed, if there is one
-abbrev pub with_changed_links : World → ℕ → (Links → Links) → World
-with_changed_links w pid f = stored w pid (option_map (links_changed f) (at w pid))
-
 -- setpgid(2): the target is the caller, or a child of its session that has not executed another
 -- program; it leads no session; and the group is its own, or one of the caller's session
 abbrev pub may_regroup : World → ℕ → ℕ → ℕ → Result (Unit {0}) Errno
@@ -67,7 +59,7 @@ may_regroup w caller target group =
 
 -- a process is put into a group, where it may be
 abbrev pub put_into_group : World → ℕ → ℕ → Result (Unit {0}) Errno → Result World Errno
-put_into_group w target group (Ok _) = Ok (with_changed_links w target (links_in_group group))
+put_into_group w target group (Ok _) = Ok (relinked w target (links_in_group group))
 put_into_group w target group (Err e) = Err e
 
 -- the world after a process was put into a group, or why it is not
@@ -83,7 +75,7 @@ after_setpgid w caller pid group =
 -- setsid(2): the world afterwards, or the error. The caller leads a new session, and a new group in it
 abbrev pub after_setsid : World → ℕ → Result World Errno
 after_setsid w caller =
-    if is_group w caller then Err Eperm else Ok (with_changed_links w caller (links_of_leader caller))
+    if is_group w caller then Err Eperm else Ok (relinked w caller (links_of_leader caller))
 
 -- getpgid(2): zombies are there
 abbrev pub group_asked : World → ℕ → ℤ → Result ℕ Errno

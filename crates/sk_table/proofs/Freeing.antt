@@ -56,6 +56,7 @@ free_rows (suc more) rows last n h =
 
 -- the number that a scan of the rows answers
 pub fresh_of_rows : (rows seen : List Row) (last : ℕ) (w : World) (n : ℕ) → n ≡ free_row 32766 seen (next_number last) → seen ≡ rows → world rows last ≡ w → Distinct rows → n ≡ fresh_of w
+unfolding fresh_of
 fresh_of_rows rows seen last w n e these is h =
     e
     ∙ ap (λ rs. free_row 32766 rs (next_number last)) these

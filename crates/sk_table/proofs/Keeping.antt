@@ -10,7 +10,7 @@ use Rattle.sk_world.specs.declared.process.Proc.{Proc}
 use Rattle.sk_world.specs.declared.process.Body.{Body}
 use Rattle.sk_world.specs.declared.process.Links.{Links}
 use Rattle.sk_world.specs.Processes.{Processes, get, store, count}
-use Rattle.sk_world.specs.World.{World, at, stored, body_changed, relinked, with_body, with_links, inserted}
+use Rattle.sk_world.specs.World.{World, at, stored, body_changed, links_changed, with_body, with_links, inserted}
 use Rattle.sk_world.proofs.Maps.{get_store, same_map, count_put, equal_numbers}
 use Rattle.sk_table.specs.declared.scan.Row.{Row}
 use Rattle.sk_table.specs.Rows.{processes_of, proc_of, Distinct}
@@ -142,7 +142,7 @@ module _ (rows : List Row) (last : ℕ) (w : World) (pid i : ℕ) (row : Row) (i
   pub links_replaced : (links : Links) → world (set rows i (record row { proc = record row.proc { links = links } })) last ≡ with_links w pid links
   links_replaced links =
       replaced (record row.proc { links = links })
-      ∙ ap (λ o. stored w pid (option_map (relinked links) o)) (sym read)
+      ∙ ap (λ o. stored w pid (option_map (links_changed (λ old. links)) o)) (sym read)
 
 module _ (rows seen : List Row) (last : ℕ) (w : World) (pid : ℕ) (is : world rows last ≡ w) (same : seen ≡ rows) (nowhere : None ≡ position (λ row. row.pid == pid) seen) where
   pub unread : at w pid ≡ None

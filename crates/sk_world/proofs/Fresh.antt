@@ -162,12 +162,14 @@ from_next last n l1 ll n2 nl = grind (arith, nat_tests, l1, ll, n2, nl)
 
 -- it is a pid
 pub fresh_in_range : (w : World) → 1 ≤ w.last → (2 ≤ fresh_of w) × (fresh_of w ≤ LAST_PID)
+unfolding fresh_of
 fresh_in_range w given =
     let next = next_in_range w.last given in
     within 32766 w (next_number w.last) next.0 next.1
 
 -- while there is room for a process more it is nobody's pid, group or session
 pub fresh_unused : (w : World) → count w.procs < PROCESSES → 1 ≤ w.last → is_used w (fresh_of w) ≡ false
+unfolding fresh_of
 fresh_unused w room given =
     let next = next_in_range w.last given in
     let left = one_left 32766 (numbers_of w.procs.entries) (omega (arith, length-numbers_of w.procs.entries)) in
@@ -190,6 +192,7 @@ fresh_absent w room given = find_unused (fresh_of w) w.procs.entries (fresh_unus
 
 -- every number on the way to it is used
 pub number_next : NumberIsNext
+unfolding fresh_of
 number_next w n l1 ll n2 nl before =
     let next = next_in_range w.last l1 in
     let fresh = fresh_in_range w l1 in

@@ -7,9 +7,9 @@ use Rattle.sk_world.specs.declared.process.Links.{Links}
 use Rattle.sk_world.specs.declared.process.Body.{Body}
 use Rattle.sk_world.specs.declared.process.Proc.{Proc}
 use Rattle.sk_world.specs.Processes.{count, store}
-use Rattle.sk_world.specs.World.{World, at, has_ended, has_stopped, is_zombie, is_alive, is_halted, parent_of, stored, body_changed, changed, relinked}
-use Rattle.sk_world.specs.Rules.{IsWorld, is_init, is_within, has_links_within}
-use Rattle.sk_world.specs.WorldLaws.{KeepsGoing, ChangeKeepsRules, LinksKeepRules, RemovalKeepsRules}
+use Rattle.sk_world.specs.World.{World, at, has_ended, has_stopped, is_zombie, is_alive, is_halted, parent_of, stored, body_changed, changed, links_changed}
+use Rattle.sk_world.specs.Rules.{IsWorld, is_init, has_links_within}
+use Rattle.sk_world.specs.WorldLaws.{KeepsGoing, Regroups, ChangeKeepsRules, LinksKeepRules, RemovalKeepsRules}
 use Rattle.sk_world.proofs.Maps.{get_store, count_put, count_gone}
 
 -- what holds of the process that is put at a pid, and of every other, holds of each
@@ -114,19 +114,21 @@ fits_changed w pid f (Some p) is rules keeps =
 pub kept_changed : ChangeKeepsRules
 kept_changed w pid f rules keeps = kept_stored w pid _ rules (fits_changed w pid f (at w pid) refl rules keeps)
 
-fits_links : (w : World) (pid : ℕ) (links : Links) (o : Option Proc) → at w pid ≡ o → IsWorld w → IsTrue (is_within links) → links.parent ≡ parent_of o → Fits w pid (option_map (relinked links) o)
-fits_links w pid links None is rules within parent = nobody_fits w pid is rules
-fits_links w pid links (Some p) is rules within parent = record {
-  known = λ h. ap is_some is;
-  within = within;
-  parent = λ h. parent ∙ ap parent_of (sym is);
-  init = λ e. ap (λ n. (n == 0) && not (has_stopped p.body.life)) parent ∙ init_is w pid (Some p) is rules e;
-  halted = λ e h. ap (λ k. is_zombie (at w k)) (sym e) ∙ ap is_zombie is ∙ h;
-  children = λ before now. parent_lives w pid (Some p) is rules before;
-}
+fits_links : (w : World) (pid : ℕ) (f : Links → Links) (o : Option Proc) → at w pid ≡ o → IsWorld w → ((p : Proc) → o ≡ Some p → Regroups f p.links) → Fits w pid (option_map (links_changed f) o)
+fits_links w pid f None is rules regroups = nobody_fits w pid is rules
+fits_links w pid f (Some p) is rules regroups =
+    let kept = regroups p refl in
+    record {
+      known = λ h. ap is_some is;
+      within = kept.within;
+      parent = λ h. kept.parent ∙ ap parent_of (sym is);
+      init = λ e. ap (λ n. (n == 0) && not (has_stopped p.body.life)) kept.parent ∙ init_is w pid (Some p) is rules e;
+      halted = λ e h. ap (λ k. is_zombie (at w k)) (sym e) ∙ ap is_zombie is ∙ h;
+      children = λ before now. parent_lives w pid (Some p) is rules before;
+    }
 
 pub kept_links : LinksKeepRules
-kept_links w pid links rules within parent = kept_stored w pid _ rules (fits_links w pid links (at w pid) refl rules within parent)
+kept_links w pid f rules regroups = kept_stored w pid _ rules (fits_links w pid f (at w pid) refl rules regroups)
 
 -- a process that has ended is not alive
 not_alive : (o : Option Proc) → IsTrue (is_zombie o) → IsTrue (is_alive o) → ⊥

@@ -2,10 +2,11 @@
 use Rattle.std.proofs.Common.{refl}
 use Rattle.sk_signal.specs.Sets.{empty, contains, insert, retain, remove, from_list}
 use Rattle.sk_signal.specs.Signalling.{opening as no_signal}
+use Rattle.sk_world.specs.Numbers.{fresh_of}
 use Rattle.sk_world.specs.WorkedWorlds.{WorkedForks, WorkedEnds, WorkedWaits, WorkedSignals}
 
 pub worked_forks : WorkedForks
-unfolding no_signal empty contains insert retain remove from_list
+unfolding fresh_of no_signal empty contains insert retain remove from_list
 worked_forks = record {
   first_number = refl;
   next_number = refl;
@@ -26,7 +27,7 @@ worked_forks = record {
 }
 
 pub worked_ends : WorkedEnds
-unfolding no_signal empty contains insert retain remove from_list
+unfolding fresh_of no_signal empty contains insert retain remove from_list
 worked_ends = record {
   zombie_is_left = refl;
   orphan_is_handed_on = refl;
@@ -47,7 +48,7 @@ worked_ends = record {
 }
 
 pub worked_waits : WorkedWaits
-unfolding no_signal empty contains insert retain remove from_list
+unfolding fresh_of no_signal empty contains insert retain remove from_list
 worked_waits = record {
   no_child = refl;
   nobodys_child = refl;
@@ -67,7 +68,7 @@ worked_waits = record {
 }
 
 pub worked_signals : WorkedSignals
-unfolding no_signal empty contains insert retain remove from_list
+unfolding fresh_of no_signal empty contains insert retain remove from_list
 worked_signals = record {
   pends = refl;
   ignored = refl;

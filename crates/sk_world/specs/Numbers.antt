@@ -28,5 +28,5 @@ free_from zero w n = n
 free_from (suc more) w n = if is_used w n then free_from more w (next_number n) else n
 
 -- the pid of the next child: the first number after the last pid given that nobody has, of all 32766
-abbrev pub fresh_of : World → ℕ
+unfoldable pub fresh_of : World → ℕ
 fresh_of w = free_from 32766 w (next_number w.last)

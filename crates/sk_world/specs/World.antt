@@ -79,12 +79,16 @@ abbrev pub with_body : World → ℕ → Body → World
 with_body w pid body = changed w pid (λ old. body)
 
 -- the parent, group and session of a process are changed
-abbrev pub relinked : Links → Proc → Proc
-relinked links p = record p { links = links }
+abbrev pub links_changed : (Links → Links) → Proc → Proc
+links_changed f p = record p { links = f p.links }
+
+-- the same of the process of a pid, if there is one
+abbrev pub relinked : World → ℕ → (Links → Links) → World
+relinked w pid f = stored w pid (option_map (links_changed f) (at w pid))
 
 -- the process of a pid has these links, if there is one
 abbrev pub with_links : World → ℕ → Links → World
-with_links w pid links = stored w pid (option_map (relinked links) (at w pid))
+with_links w pid links = relinked w pid (λ old. links)
 
 -- a new process, whose pid is the last one given
 abbrev pub inserted : World → ℕ → Proc → World

@@ -5,7 +5,7 @@ use Rattle.sk_world.specs.declared.process.Links.{Links}
 use Rattle.sk_world.specs.declared.process.Body.{Body}
 use Rattle.sk_world.specs.declared.process.Proc.{Proc}
 use Rattle.sk_world.specs.declared.request.Request.{Request}
-use Rattle.sk_world.specs.World.{World, at, has_ended, has_stopped, is_zombie, is_alive, parent_of, stored, changed, with_links, opening}
+use Rattle.sk_world.specs.World.{World, at, has_ended, has_stopped, is_zombie, is_alive, stored, changed, relinked, opening}
 use Rattle.sk_world.specs.Rules.{IsWorld, is_within}
 use Rattle.sk_world.specs.Sending.{sent, forced}
 use Rattle.sk_world.specs.Forking.{forked}
@@ -26,10 +26,15 @@ abbrev pub ChangeKeepsRules : Type 0
 ChangeKeepsRules =
     (w : World) (pid : ℕ) (f : Body → Body) → IsWorld w → ((p : Proc) → at w pid ≡ Some p → KeepsGoing pid f p.body) → IsWorld (changed w pid f)
 
--- so does a change of a group and a session to numbers of at most 32767
+-- a change of a group and a session to numbers of at most 32767, which leaves the parent
+pub record Regroups (f : Links → Links) (links : Links) : Type 0 where
+  pub within : IsTrue (is_within (f links))
+  pub parent : (f links).parent ≡ links.parent
+
+-- such a change keeps the rules
 abbrev pub LinksKeepRules : Type 0
 LinksKeepRules =
-    (w : World) (pid : ℕ) (links : Links) → IsWorld w → IsTrue (is_within links) → links.parent ≡ parent_of (at w pid) → IsWorld (with_links w pid links)
+    (w : World) (pid : ℕ) (f : Links → Links) → IsWorld w → ((p : Proc) → at w pid ≡ Some p → Regroups f p.links) → IsWorld (relinked w pid f)
 
 -- so does the removal of a process that has ended, but for process 1
 abbrev pub RemovalKeepsRules : Type 0

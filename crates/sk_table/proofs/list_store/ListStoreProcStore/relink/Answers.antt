@@ -1,6 +1,6 @@
 use Rattle.std.proofs.Common.{ap, sym, ◌∙◌}
 use Rattle.std.specs.Option.{is_some, option_map}
-use Rattle.sk_world.specs.World.{stored, relinked}
+use Rattle.sk_world.specs.World.{stored, links_changed}
 use Rattle.sk_table.proofs.Keeping.{placed, distinct_replaced, links_replaced, read, unread, nothing_stored}
 use Rattle.sk_table.proofs.list_store.ListStoreProcStore.relink.Goals as goal
 
@@ -33,6 +33,6 @@ pub returns-in-None-clause-links : goal.returns-in-None-clause-links
 returns-in-None-clause-links c =
     sym
     (
-    ap (λ o. stored c.args.self.now c.args.pid (option_map (relinked c.args.links) o)) (unread _ _ _ _ _ c.self.view_is c.deref.ensures.value c.in-None.ensures)
+    ap (λ o. stored c.args.self.now c.args.pid (option_map (links_changed (λ old. c.args.links)) o)) (unread _ _ _ _ _ c.self.view_is c.deref.ensures.value c.in-None.ensures)
     ∙ nothing_stored _ _ _ _ _ c.self.view_is c.deref.ensures.value c.in-None.ensures
     )
