@@ -17,11 +17,15 @@ use Rattle.sk_creds.specs.Creds.{is_privileged, after_setuid, after_setresuid}
 use Rattle.sk_world.specs.declared.process.TheConstants.{INIT}
 use Rattle.sk_world.specs.World.{opening}
 use Rattle.sk_machine.specs.declared.images.Mark.{Mark}
+use Rattle.sk_machine.specs.declared.operation.PrctlOption.{PrctlOption}
+use Rattle.sk_machine.specs.declared.operation.PrctlOption.TheVariants as option
+use Rattle.sk_machine.specs.declared.operation.SeccompOperation.{SeccompOperation}
+use Rattle.sk_machine.specs.declared.operation.SeccompOperation.TheVariants as operation
 use Rattle.sk_machine.specs.declared.syscall.Syscall.{Syscall}
 use Rattle.sk_machine.specs.declared.syscall.Syscall.TheVariants as syscall
 use Rattle.sk_machine.specs.Given.{GivenImages, filter_image, mark_of}
-use Rattle.sk_machine.specs.Syscalls.{register, low, syscall_of}
-use Rattle.sk_machine.specs.Authority.{Authority, program_of, filtered, after_attach, with_creds, after_execve, after_no_new_privs, after_prctl, after_seccomp, authority_after, authority_after_call}
+use Rattle.sk_machine.specs.Syscalls.{register, low, syscall_of, prctl_option_of, seccomp_operation_of}
+use Rattle.sk_machine.specs.Authority.{Authority, program_of, filtered, after_attach, with_creds, after_execve, after_no_new_privs, after_set_seccomp, after_prctl, after_seccomp, authority_after, authority_after_call}
 use Rattle.sk_machine.specs.Performed.{authority_at}
 use Rattle.sk_machine.specs.Machine.{world_after}
 use Rattle.sk_machine.specs.Lines.{Line, authority_after_calls}
@@ -66,26 +70,30 @@ keeps_execve : (a : Authority) (o : Option Mark) → IfOk (after_execve a o) (Ke
 keeps_execve a None = tt
 keeps_execve a (Some mark) = λ accepted. accepted
 
-keeps_prctl : (images : GivenImages) (call : Record) (a : Authority) → IfOk (after_prctl images call a) (Keeps a)
-keeps_prctl images call a =
-    cond_both (low call 0 == 38) (after_no_new_privs call a) _ (λ r. IfOk r (Keeps a))
-    (λ _. cond_both ((register call 1 == 1) && (register call 2 == 0) && (register call 3 == 0) && (register call 4 == 0)) (Ok (record a { creds = record a.creds { no_new_privs = true } })) (Err Einval) (λ r. IfOk r (Keeps a))
-    (λ _ accepted. accepted) (λ _. tt))
-    (λ _. cond_both (low call 0 == 22) _ (Ok a) (λ r. IfOk r (Keeps a))
-    (λ _. cond_both (register call 1 == 2) (after_attach images 0 (register call 2) a) (Err Einval) (λ r. IfOk r (Keeps a)) (λ _. keeps_attach images 0 (register call 2) a) (λ _. tt))
-    (λ _ accepted. accepted))
+keeps_no_new_privs : (call : Record) (a : Authority) → IfOk (after_no_new_privs call a) (Keeps a)
+keeps_no_new_privs call a =
+    cond_both ((register call 1 == 1) && (register call 2 == 0) && (register call 3 == 0) && (register call 4 == 0)) (Ok (record a { creds = record a.creds { no_new_privs = true } })) (Err Einval) (λ r. IfOk r (Keeps a))
+    (λ _ accepted. accepted) (λ _. tt)
 
-keeps_seccomp : (images : GivenImages) (call : Record) (a : Authority) → IfOk (after_seccomp images call a) (Keeps a)
-keeps_seccomp images call a =
-    cond_both (low call 0 == 1) (after_attach images (low call 1) (register call 2) a) (Ok a) (λ r. IfOk r (Keeps a))
-    (λ _. keeps_attach images (low call 1) (register call 2) a) (λ _ accepted. accepted)
+keeps_set_seccomp : (images : GivenImages) (call : Record) (a : Authority) → IfOk (after_set_seccomp images call a) (Keeps a)
+keeps_set_seccomp images call a =
+    cond_both (register call 1 == 2) (after_attach images 0 (register call 2) a) (Err Einval) (λ r. IfOk r (Keeps a)) (λ _. keeps_attach images 0 (register call 2) a) (λ _. tt)
+
+keeps_prctl : (images : GivenImages) (which : Option PrctlOption) (call : Record) (a : Authority) → IfOk (after_prctl images which call a) (Keeps a)
+keeps_prctl images (Some option.SetNoNewPrivs) call a = keeps_no_new_privs call a
+keeps_prctl images (Some option.SetSeccomp) call a = keeps_set_seccomp images call a
+keeps_prctl images other call a = λ accepted. accepted
+
+keeps_seccomp : (images : GivenImages) (which : Option SeccompOperation) (call : Record) (a : Authority) → IfOk (after_seccomp images which call a) (Keeps a)
+keeps_seccomp images (Some operation.SetModeFilter) call a = keeps_attach images (low call 1) (register call 2) a
+keeps_seccomp images other call a = λ accepted. accepted
 
 keeps_row : (images : GivenImages) (which : Option Syscall) (call : Record) (a : Authority) → IfOk (authority_after images which call a) (Keeps a)
 keeps_row images (Some syscall.Setuid) call a = keeps_creds a (after_setuid (low call 0) a.creds)
 keeps_row images (Some syscall.Setresuid) call a = keeps_creds a (after_setresuid (low call 0) (low call 1) (low call 2) a.creds)
 keeps_row images (Some syscall.Execve) call a = keeps_execve a (mark_of images (register call 0))
-keeps_row images (Some syscall.Prctl) call a = keeps_prctl images call a
-keeps_row images (Some syscall.Seccomp) call a = keeps_seccomp images call a
+keeps_row images (Some syscall.Prctl) call a = keeps_prctl images (prctl_option_of (low call 0)) call a
+keeps_row images (Some syscall.Seccomp) call a = keeps_seccomp images (seccomp_operation_of (low call 0)) call a
 keeps_row images other call a = λ accepted. accepted
 
 keeps_or_stays : (a : Authority) (r : Result Authority Errno) → IfOk r (Keeps a) → Keeps a (result_unwrap_or r a)

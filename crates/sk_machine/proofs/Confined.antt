@@ -48,16 +48,20 @@ use Rattle.sk_session.specs.Sessions.{pid_named, session_of, has_executed, is_gr
 use Rattle.sk_machine.specs.declared.event.Event.{Event}
 use Rattle.sk_machine.specs.declared.event.Event.TheVariants.{Call, Deliver, Resume, Fault}
 use Rattle.sk_machine.specs.declared.answer.Reason.{Reason}
+use Rattle.sk_machine.specs.declared.operation.PrctlOption.{PrctlOption}
+use Rattle.sk_machine.specs.declared.operation.PrctlOption.TheVariants as option
+use Rattle.sk_machine.specs.declared.operation.SeccompOperation.{SeccompOperation}
+use Rattle.sk_machine.specs.declared.operation.SeccompOperation.TheVariants as operation
 use Rattle.sk_machine.specs.declared.syscall.Syscall.{Syscall}
 use Rattle.sk_machine.specs.declared.syscall.Syscall.TheVariants as syscall
 use Rattle.sk_machine.specs.Events.{pid_of}
 use Rattle.sk_machine.specs.Given.{GivenImages}
-use Rattle.sk_machine.specs.Syscalls.{low, signed, syscall_of}
-use Rattle.sk_machine.specs.Authority.{Authority, with_authority}
+use Rattle.sk_machine.specs.Syscalls.{low, signed, syscall_of, prctl_option_of, seccomp_operation_of}
+use Rattle.sk_machine.specs.Authority.{Authority, with_authority, after_no_new_privs, after_set_seccomp, after_set_mode_filter}
 use Rattle.sk_machine.specs.Performed.{Performed, body_of, returns, fails, asked, changes, authority_at, authorises, waiting_in, waits}
 use Rattle.sk_machine.specs.SignalCalls.{with_signals, resignals, after_sigaction, after_sigprocmask, after_sigreturn}
 use Rattle.sk_machine.specs.WaitCalls.{are_wait_options, request_of, polled, wait4, polled_again, resumed}
-use Rattle.sk_machine.specs.Performing.{executing, execve, forks, exit_status, authorised, seccomp_mode, no_new_privs_asked, prctl, action_available, seccomp, row}
+use Rattle.sk_machine.specs.Performing.{executing, execve, forks, exit_status, authorised, no_new_privs_asked, prctl, action_available, seccomp, row}
 use Rattle.sk_machine.specs.Delivering.{Delivered, signal_due, ended_by, handling, handled, stopping, ignored, by_default, done_by, taking, done, delivered}
 use Rattle.sk_machine.specs.Machine.{Stepped, judged, happened, reason_of, stepped, step_of}
 use Rattle.sk_machine.specs.ConfinementLaws.{RefusesKill, IsConfined, is_end, is_end_or_stop, ends_or_stops, EventIsConfined}
@@ -255,18 +259,17 @@ spares_setsid : (w : World) (pid q : ℕ) → q ≢ pid → Spares w q (changes 
 spares_setsid w pid q ne =
     cond_both (is_group w pid) (Err Eperm) (Ok _) (λ r. Spares w q (changes w pid r)) (λ _. spares_world w q false) (λ _. untouched q (at w q) false _ (at_other w pid _ q ne))
 
-spares_prctl : (images : GivenImages) (w : World) (pid q : ℕ) (call : Record) → q ≢ pid → Spares w q (prctl images w pid call)
-spares_prctl images w pid q call ne =
-    cond_both ((low call 0 == 38) || (low call 0 == 22)) _ _ (Spares w q) (λ _. spares_authorises w pid q (authorised images w pid syscall.Prctl call) ne)
-    (λ _. cond_both (low call 0 == 21) (returns w (seccomp_mode (body_of (at w pid)).chain)) _ (Spares w q) (λ _. spares_world w q false)
-    (λ _. cond_both (low call 0 == 39) _ (fails w Einval) (Spares w q) (λ _. spares_asked w q (no_new_privs_asked call (body_of (at w pid)).creds.no_new_privs)) (λ _. spares_world w q false)))
+spares_prctl : (images : GivenImages) (w : World) (pid q : ℕ) (which : Option PrctlOption) (call : Record) → q ≢ pid → Spares w q (prctl images w pid which call)
+spares_prctl images w pid q (Some option.SetNoNewPrivs) call ne = spares_authorises w pid q (after_no_new_privs call (authority_at w pid)) ne
+spares_prctl images w pid q (Some option.SetSeccomp) call ne = spares_authorises w pid q (after_set_seccomp images call (authority_at w pid)) ne
+spares_prctl images w pid q (Some option.GetSeccomp) call ne = spares_world w q false
+spares_prctl images w pid q (Some option.GetNoNewPrivs) call ne = spares_asked w q (no_new_privs_asked call (body_of (at w pid)).creds.no_new_privs)
+spares_prctl images w pid q None call ne = spares_world w q false
 
-spares_seccomp : (images : GivenImages) (w : World) (pid q : ℕ) (call : Record) → q ≢ pid → Spares w q (seccomp images w pid call)
-spares_seccomp images w pid q call ne =
-    cond_both (low call 0 == 1) _ _ (Spares w q) (λ _. spares_authorises w pid q (authorised images w pid syscall.Seccomp call) ne)
-    (λ _. cond_both (not (low call 0 == 2)) (fails w Einval) _ (Spares w q) (λ _. spares_world w q false)
-    (λ _. cond_both (not (low call 1 == 0)) (fails w Einval) _ (Spares w q) (λ _. spares_world w q false)
-    (λ _. spares_asked w q (action_available (low call 2)))))
+spares_seccomp : (images : GivenImages) (w : World) (pid q : ℕ) (which : Option SeccompOperation) (call : Record) → q ≢ pid → Spares w q (seccomp images w pid which call)
+spares_seccomp images w pid q (Some operation.SetModeFilter) call ne = spares_authorises w pid q (after_set_mode_filter images call (authority_at w pid)) ne
+spares_seccomp images w pid q (Some operation.GetActionAvail) call ne = spares_asked w q (action_available (low call 1) (low call 2))
+spares_seccomp images w pid q None call ne = spares_world w q false
 
 spares_ends : (w : World) (pid status q : ℕ) → IsApart w pid q → Alone q (at w q) true (at (ended w pid status) q)
 spares_ends w pid status q apart = only_told q (at w q) (at (ended w pid status) q) (ended_told w pid status q apart)
@@ -298,8 +301,8 @@ spares_row images w pid q (Some syscall.Getpgrp) call rules apart there other = 
 spares_row images w pid q (Some syscall.Setsid) call rules apart there other = spares_setsid w pid q apart.other
 spares_row images w pid q (Some syscall.Getpgid) call rules apart there other = spares_asked w q (group_asked w pid (signed call 0))
 spares_row images w pid q (Some syscall.Getsid) call rules apart there other = spares_asked w q (session_asked w pid (signed call 0))
-spares_row images w pid q (Some syscall.Prctl) call rules apart there other = spares_prctl images w pid q call apart.other
-spares_row images w pid q (Some syscall.Seccomp) call rules apart there other = spares_seccomp images w pid q call apart.other
+spares_row images w pid q (Some syscall.Prctl) call rules apart there other = spares_prctl images w pid q (prctl_option_of (low call 0)) call apart.other
+spares_row images w pid q (Some syscall.Seccomp) call rules apart there other = spares_seccomp images w pid q (seccomp_operation_of (low call 0)) call apart.other
 spares_row images w pid q None call rules apart there other = spares_world w q false
 
 spares_judged : (images : GivenImages) (w : World) (pid q : ℕ) (call : Record) (errno : ℕ) (a : Action) → IsWorld w → IsApart w pid q → IsTrue (is_some (at w q))

@@ -27,11 +27,15 @@ use Rattle.sk_machine.specs.declared.answer.Answer.TheVariants as answer
 use Rattle.sk_machine.specs.declared.answer.Outcome.{Outcome}
 use Rattle.sk_machine.specs.declared.answer.Reason.{Reason}
 use Rattle.sk_machine.specs.declared.images.Mark.{Mark}
+use Rattle.sk_machine.specs.declared.operation.PrctlOption.{PrctlOption}
+use Rattle.sk_machine.specs.declared.operation.PrctlOption.TheVariants as option
+use Rattle.sk_machine.specs.declared.operation.SeccompOperation.{SeccompOperation}
+use Rattle.sk_machine.specs.declared.operation.SeccompOperation.TheVariants as operation
 use Rattle.sk_machine.specs.declared.syscall.Syscall.{Syscall}
 use Rattle.sk_machine.specs.declared.syscall.Syscall.TheVariants as syscall
 use Rattle.sk_machine.specs.Given.{GivenImages, filter_image, mark_of}
-use Rattle.sk_machine.specs.Syscalls.{register, low, syscall_of}
-use Rattle.sk_machine.specs.Authority.{Authority, program_of, filtered, after_attach, with_creds, after_execve, after_no_new_privs, after_prctl, after_seccomp, authority_after, authority_after_call}
+use Rattle.sk_machine.specs.Syscalls.{register, low, syscall_of, prctl_option_of, seccomp_operation_of}
+use Rattle.sk_machine.specs.Authority.{Authority, program_of, filtered, after_attach, with_creds, after_execve, after_no_new_privs, after_set_seccomp, after_prctl, after_seccomp, authority_after, authority_after_call}
 use Rattle.sk_machine.specs.Performed.{body_of, authority_at}
 use Rattle.sk_machine.specs.Machine.{reason_of, stepped, step_of, world_after}
 use Rattle.sk_machine.specs.Lines.{authority_after_calls, authority_of_line}
@@ -83,27 +87,31 @@ grows_execve : (a : Authority) (o : Option Mark) → IfOk (after_execve a o) (Gr
 grows_execve a None = tt
 grows_execve a (Some mark) = record { newer = []; programs = refl; no_new_privs = λ set. set }
 
-grows_prctl : (images : GivenImages) (call : Record) (a : Authority) → IfOk (after_prctl images call a) (GrowsFrom a)
-grows_prctl images call a =
-    cond_both (low call 0 == 38) (after_no_new_privs call a) _ (λ r. IfOk r (GrowsFrom a))
-    (λ _. cond_both ((register call 1 == 1) && (register call 2 == 0) && (register call 3 == 0) && (register call 4 == 0)) (Ok (record a { creds = record a.creds { no_new_privs = true } })) (Err Einval) (λ r. IfOk r (GrowsFrom a))
-    (λ _. record { newer = []; programs = refl; no_new_privs = λ _. refl }) (λ _. tt))
-    (λ _. cond_both (low call 0 == 22) _ (Ok a) (λ r. IfOk r (GrowsFrom a))
-    (λ _. cond_both (register call 1 == 2) (after_attach images 0 (register call 2) a) (Err Einval) (λ r. IfOk r (GrowsFrom a)) (λ _. grows_attach images 0 (register call 2) a) (λ _. tt))
-    (λ _. grows_still a))
+grows_no_new_privs : (call : Record) (a : Authority) → IfOk (after_no_new_privs call a) (GrowsFrom a)
+grows_no_new_privs call a =
+    cond_both ((register call 1 == 1) && (register call 2 == 0) && (register call 3 == 0) && (register call 4 == 0)) (Ok (record a { creds = record a.creds { no_new_privs = true } })) (Err Einval) (λ r. IfOk r (GrowsFrom a))
+    (λ _. record { newer = []; programs = refl; no_new_privs = λ _. refl }) (λ _. tt)
 
-grows_seccomp : (images : GivenImages) (call : Record) (a : Authority) → IfOk (after_seccomp images call a) (GrowsFrom a)
-grows_seccomp images call a =
-    cond_both (low call 0 == 1) (after_attach images (low call 1) (register call 2) a) (Ok a) (λ r. IfOk r (GrowsFrom a))
-    (λ _. grows_attach images (low call 1) (register call 2) a) (λ _. grows_still a)
+grows_set_seccomp : (images : GivenImages) (call : Record) (a : Authority) → IfOk (after_set_seccomp images call a) (GrowsFrom a)
+grows_set_seccomp images call a =
+    cond_both (register call 1 == 2) (after_attach images 0 (register call 2) a) (Err Einval) (λ r. IfOk r (GrowsFrom a)) (λ _. grows_attach images 0 (register call 2) a) (λ _. tt)
+
+grows_prctl : (images : GivenImages) (which : Option PrctlOption) (call : Record) (a : Authority) → IfOk (after_prctl images which call a) (GrowsFrom a)
+grows_prctl images (Some option.SetNoNewPrivs) call a = grows_no_new_privs call a
+grows_prctl images (Some option.SetSeccomp) call a = grows_set_seccomp images call a
+grows_prctl images other call a = grows_still a
+
+grows_seccomp : (images : GivenImages) (which : Option SeccompOperation) (call : Record) (a : Authority) → IfOk (after_seccomp images which call a) (GrowsFrom a)
+grows_seccomp images (Some operation.SetModeFilter) call a = grows_attach images (low call 1) (register call 2) a
+grows_seccomp images other call a = grows_still a
 
 grows_row : (images : GivenImages) (which : Option Syscall) (call : Record) (a : Authority) → IfOk (authority_after images which call a) (GrowsFrom a)
 grows_row images (Some syscall.Setuid) call a = grows_creds a (after_setuid (low call 0) a.creds) (setuid_keeps (low call 0) a.creds)
 grows_row images (Some syscall.Setresuid) call a =
     grows_creds a (after_setresuid (low call 0) (low call 1) (low call 2) a.creds) (setresuid_keeps (low call 0) (low call 1) (low call 2) a.creds)
 grows_row images (Some syscall.Execve) call a = grows_execve a (mark_of images (register call 0))
-grows_row images (Some syscall.Prctl) call a = grows_prctl images call a
-grows_row images (Some syscall.Seccomp) call a = grows_seccomp images call a
+grows_row images (Some syscall.Prctl) call a = grows_prctl images (prctl_option_of (low call 0)) call a
+grows_row images (Some syscall.Seccomp) call a = grows_seccomp images (seccomp_operation_of (low call 0)) call a
 grows_row images other call a = grows_still a
 
 grows_or_stays : (a : Authority) (r : Result Authority Errno) → IfOk r (GrowsFrom a) → GrowsFrom a (result_unwrap_or r a)

@@ -1,5 +1,5 @@
 -- Every event keeps the rules of the world.
-use Rattle.std.proofs.Common.{◌≡◌, ◌≢◌, ◌∙◌, ℕ, ◌==◌, ◌||◌, ◌&&◌, ap, sym, refl, subst, cond, not, Bool, true, false, length, nat_le, IsTrue, IfOk, ℤ, List, [], ◌∷◌, ◌⊎◌, inl, inr, Option, None, Some, Result, Ok, Err}
+use Rattle.std.proofs.Common.{◌≡◌, ◌≢◌, ◌∙◌, ℕ, ◌==◌, ◌&&◌, ap, sym, refl, subst, cond, not, Bool, true, false, length, nat_le, IsTrue, IfOk, ℤ, List, [], ◌∷◌, ◌⊎◌, inl, inr, Option, None, Some, Result, Ok, Err}
 use Rattle.std.specs.Option.{is_some, unwrap_or, option_map}
 use Rattle.std.proofs.lemmas.Bool.{cond_both, eqb-true, eqb-false, not-true, not-false}
 use Rattle.sk_insn.specs.declared.record.Record.{Record}
@@ -41,13 +41,17 @@ use Rattle.sk_machine.specs.declared.event.Event.{Event}
 use Rattle.sk_machine.specs.declared.event.Event.TheVariants.{Call, Deliver, Resume, Fault}
 use Rattle.sk_machine.specs.declared.answer.Reason.{Reason}
 use Rattle.sk_machine.specs.declared.answer.Reason.TheVariants.{NoProcess, Zombie, Stopped, Halted}
+use Rattle.sk_machine.specs.declared.operation.PrctlOption.{PrctlOption}
+use Rattle.sk_machine.specs.declared.operation.PrctlOption.TheVariants as option
+use Rattle.sk_machine.specs.declared.operation.SeccompOperation.{SeccompOperation}
+use Rattle.sk_machine.specs.declared.operation.SeccompOperation.TheVariants as operation
 use Rattle.sk_machine.specs.declared.syscall.Syscall.{Syscall}
 use Rattle.sk_machine.specs.declared.syscall.Syscall.TheVariants as syscall
 use Rattle.sk_machine.specs.Events.{pid_of}
 use Rattle.sk_machine.specs.Given.{GivenImages}
-use Rattle.sk_machine.specs.Syscalls.{low, signed, syscall_of}
-use Rattle.sk_machine.specs.Authority.{Authority, with_authority}
-use Rattle.sk_machine.specs.Performed.{Performed, body_of, returns, fails, asked, changes, authorises, waiting_in, waits}
+use Rattle.sk_machine.specs.Syscalls.{low, signed, syscall_of, prctl_option_of, seccomp_operation_of}
+use Rattle.sk_machine.specs.Authority.{Authority, with_authority, after_no_new_privs, after_set_seccomp, after_set_mode_filter}
+use Rattle.sk_machine.specs.Performed.{Performed, body_of, returns, fails, asked, changes, authority_at, authorises, waiting_in, waits}
 use Rattle.sk_machine.specs.SignalCalls.{with_signals, resignals, after_sigaction, after_sigprocmask, after_sigreturn}
 use Rattle.sk_machine.specs.Killing.{targets, permitted, sent_to_each, killed, after_kill}
 use Rattle.sk_machine.specs.WaitCalls.{are_wait_options, request_of, polled, wait4, polled_again}
@@ -113,19 +117,17 @@ kept_wait4 w pid call rules alive =
     (λ _. cond_both (low call 0 == 2147483648) (fails w Esrch) _ (λ (p : Performed). IsWorld p.world) (λ _. rules)
     (λ _. kept_polled w pid (request_of w pid call) (ready_of w pid (request_of w pid call)) rules (kept_told w pid (request_of w pid call) rules alive)))
 
-kept_prctl : (images : GivenImages) (w : World) (pid : ℕ) (call : Record) → IsWorld w → IsWorld (prctl images w pid call).world
-kept_prctl images w pid call rules =
-    cond_both ((low call 0 == 38) || (low call 0 == 22)) _ _ (λ (p : Performed). IsWorld p.world) (λ _. kept_authorises w pid (authorised images w pid syscall.Prctl call) rules)
-    (λ _. cond_both (low call 0 == 21) _ _ (λ (p : Performed). IsWorld p.world) (λ _. rules)
-    (λ _. cond_both (low call 0 == 39) _ _ (λ (p : Performed). IsWorld p.world) (λ _. kept_asked w (no_new_privs_asked call (body_of (at w pid)).creds.no_new_privs) rules)
-    (λ _. rules)))
+kept_prctl : (images : GivenImages) (w : World) (pid : ℕ) (which : Option PrctlOption) (call : Record) → IsWorld w → IsWorld (prctl images w pid which call).world
+kept_prctl images w pid (Some option.SetNoNewPrivs) call rules = kept_authorises w pid (after_no_new_privs call (authority_at w pid)) rules
+kept_prctl images w pid (Some option.SetSeccomp) call rules = kept_authorises w pid (after_set_seccomp images call (authority_at w pid)) rules
+kept_prctl images w pid (Some option.GetSeccomp) call rules = rules
+kept_prctl images w pid (Some option.GetNoNewPrivs) call rules = kept_asked w (no_new_privs_asked call (body_of (at w pid)).creds.no_new_privs) rules
+kept_prctl images w pid None call rules = rules
 
-kept_seccomp : (images : GivenImages) (w : World) (pid : ℕ) (call : Record) → IsWorld w → IsWorld (seccomp images w pid call).world
-kept_seccomp images w pid call rules =
-    cond_both (low call 0 == 1) _ _ (λ (p : Performed). IsWorld p.world) (λ _. kept_authorises w pid (authorised images w pid syscall.Seccomp call) rules)
-    (λ _. cond_both (not (low call 0 == 2)) (fails w Einval) _ (λ (p : Performed). IsWorld p.world) (λ _. rules)
-    (λ _. cond_both (not (low call 1 == 0)) (fails w Einval) _ (λ (p : Performed). IsWorld p.world) (λ _. rules)
-    (λ _. kept_asked w (action_available (low call 2)) rules)))
+kept_seccomp : (images : GivenImages) (w : World) (pid : ℕ) (which : Option SeccompOperation) (call : Record) → IsWorld w → IsWorld (seccomp images w pid which call).world
+kept_seccomp images w pid (Some operation.SetModeFilter) call rules = kept_authorises w pid (after_set_mode_filter images call (authority_at w pid)) rules
+kept_seccomp images w pid (Some operation.GetActionAvail) call rules = kept_asked w (action_available (low call 1) (low call 2)) rules
+kept_seccomp images w pid None call rules = rules
 
 alive_is_there : (o : Option Proc) → IsTrue (is_alive o) → IsTrue (is_some o)
 alive_is_there None alive = alive
@@ -159,8 +161,8 @@ kept_row images w pid (Some syscall.Getpgrp) call rules alive = rules
 kept_row images w pid (Some syscall.Setsid) call rules alive = kept_changes w pid (after_setsid w pid) rules (kept_setsid w pid rules (alive_is_there (at w pid) alive))
 kept_row images w pid (Some syscall.Getpgid) call rules alive = kept_asked w (group_asked w pid (signed call 0)) rules
 kept_row images w pid (Some syscall.Getsid) call rules alive = kept_asked w (session_asked w pid (signed call 0)) rules
-kept_row images w pid (Some syscall.Prctl) call rules alive = kept_prctl images w pid call rules
-kept_row images w pid (Some syscall.Seccomp) call rules alive = kept_seccomp images w pid call rules
+kept_row images w pid (Some syscall.Prctl) call rules alive = kept_prctl images w pid (prctl_option_of (low call 0)) call rules
+kept_row images w pid (Some syscall.Seccomp) call rules alive = kept_seccomp images w pid (seccomp_operation_of (low call 0)) call rules
 kept_row images w pid None call rules alive = rules
 
 pub kept_performed : CallKeepsRules

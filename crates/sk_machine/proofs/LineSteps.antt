@@ -1,5 +1,5 @@
 -- What each event does to authorities, and that they are those of the lines.
-use Rattle.std.proofs.Common.{◌≡◌, ◌≢◌, ◌∙◌, ℕ, ◌==◌, ◌||◌, ◌&&◌, ap, sym, refl, subst, cond, not, Bool, true, false, IsTrue, List, [], ◌∷◌, ◌++◌, Option, None, Some, Result, Ok, Err}
+use Rattle.std.proofs.Common.{◌≡◌, ◌≢◌, ◌∙◌, ℕ, ◌==◌, ◌&&◌, ap, sym, refl, subst, cond, not, Bool, true, false, IsTrue, List, [], ◌∷◌, ◌++◌, Option, None, Some, Result, Ok, Err}
 use Rattle.std.specs.Option.{is_some, unwrap_or, option_to_list}
 use Rattle.std.specs.Result.{result_unwrap_or}
 use Rattle.std.proofs.lemmas.Bool.{false≢true, cond_both, eqb-true, eqb-false}
@@ -9,7 +9,7 @@ use Rattle.sk_insn.specs.declared.action.Action.TheVariants as action
 use Rattle.sk_insn.specs.Actions.{action_of, data_part, performs}
 use Rattle.sk_chain.specs.Verdict.{verdict_of}
 use Rattle.sk_creds.specs.declared.errno.Errno.{Errno}
-use Rattle.sk_creds.specs.declared.errno.Errno.TheVariants.{Einval, Eagain}
+use Rattle.sk_creds.specs.declared.errno.Errno.TheVariants.{Eagain}
 use Rattle.sk_signal.specs.declared.number.TheConstants.{SIGSEGV, SIGSYS}
 use Rattle.sk_world.specs.declared.process.TheConstants.{INIT}
 use Rattle.sk_world.specs.declared.process.Body.{Body}
@@ -26,16 +26,20 @@ use Rattle.sk_session.specs.Sessions.{after_setpgid, after_setsid, group_asked, 
 use Rattle.sk_machine.specs.declared.event.Event.{Event}
 use Rattle.sk_machine.specs.declared.event.Event.TheVariants.{Call, Deliver, Resume, Fault}
 use Rattle.sk_machine.specs.declared.answer.Reason.{Reason}
+use Rattle.sk_machine.specs.declared.operation.PrctlOption.{PrctlOption}
+use Rattle.sk_machine.specs.declared.operation.PrctlOption.TheVariants as option
+use Rattle.sk_machine.specs.declared.operation.SeccompOperation.{SeccompOperation}
+use Rattle.sk_machine.specs.declared.operation.SeccompOperation.TheVariants as operation
 use Rattle.sk_machine.specs.declared.syscall.Syscall.{Syscall}
 use Rattle.sk_machine.specs.declared.syscall.Syscall.TheVariants as syscall
 use Rattle.sk_machine.specs.Events.{pid_of}
 use Rattle.sk_machine.specs.Given.{GivenImages}
-use Rattle.sk_machine.specs.Syscalls.{low, signed, syscall_of}
-use Rattle.sk_machine.specs.Authority.{Authority, authority_of, with_authority, authority_after}
-use Rattle.sk_machine.specs.Performed.{Performed, body_of, returns, fails, authority_at, authorises}
+use Rattle.sk_machine.specs.Syscalls.{low, signed, syscall_of, prctl_option_of, seccomp_operation_of}
+use Rattle.sk_machine.specs.Authority.{Authority, authority_of, with_authority, after_no_new_privs, after_set_seccomp, after_prctl, after_set_mode_filter, after_seccomp, authority_after}
+use Rattle.sk_machine.specs.Performed.{Performed, body_of, authority_at, authorises}
 use Rattle.sk_machine.specs.SignalCalls.{after_sigaction, after_sigprocmask, after_sigreturn}
 use Rattle.sk_machine.specs.Killing.{after_kill}
-use Rattle.sk_machine.specs.Performing.{executing, execve, forks, exit_status, authorised, seccomp_mode, no_new_privs_asked, prctl, action_available, seccomp, row}
+use Rattle.sk_machine.specs.Performing.{executing, execve, forks, exit_status, no_new_privs_asked, prctl, action_available, seccomp, row}
 use Rattle.sk_machine.specs.Delivering.{signal_due}
 use Rattle.sk_machine.specs.Machine.{Stepped, judged, happened, reason_of, stepped, step_of, world_after}
 use Rattle.sk_machine.specs.Lines.{Line, Happening, is_fork, has_returned, line_before, calls_added, line_of, authority_after_calls, history_after}
@@ -147,38 +151,25 @@ step_execve w pid q f =
     subst (λ v. CameBy (cond ((pid == q) && true) (λ a. result_unwrap_or (f a) a) (λ a. a)) (at v q) (at w q)) (execve_world w pid (f (authority_at w pid)))
     (step_authorised w pid q f executing (f (authority_at w pid)) (λ a body. refl) refl)
 
--- a prctl(2) or seccomp(2) that only asks
-asks_two : (b c : Bool) (x y : Result Authority Errno) (a : Authority) → (b || c) ≡ false → result_unwrap_or (cond b x (cond c y (Ok a))) a ≡ a
-asks_two true c x y a h = absurd (false≢true (sym h))
-asks_two false true x y a h = absurd (false≢true (sym h))
-asks_two false false x y a h = refl
+-- a row whose call leaves every authority
+step_quiet : (pid q : ℕ) (now before : Option Proc) → Came now before → CameBy (cond ((pid == q) && true) (λ a. a) (λ a. a)) now before
+step_quiet pid q now before came = leaves ((pid == q) && true) (λ a. a) now before (λ a. refl) came
 
-asks_one : (b : Bool) (x : Result Authority Errno) (a : Authority) → b ≡ false → result_unwrap_or (cond b x (Ok a)) a ≡ a
-asks_one true x a h = absurd (false≢true (sym h))
-asks_one false x a h = refl
+step_prctl : (images : GivenImages) (w : World) (pid q : ℕ) (which : Option PrctlOption) (call : Record)
+    → CameBy (cond ((pid == q) && true) (λ a. result_unwrap_or (after_prctl images which call a) a) (λ a. a)) (at (prctl images w pid which call).world q) (at w q)
+step_prctl images w pid q (Some option.SetNoNewPrivs) call = step_authorises w pid q (after_no_new_privs call)
+step_prctl images w pid q (Some option.SetSeccomp) call = step_authorises w pid q (after_set_seccomp images call)
+step_prctl images w pid q (Some option.GetSeccomp) call = step_quiet pid q _ (at w q) (keeps_still w q)
+step_prctl images w pid q (Some option.GetNoNewPrivs) call =
+    step_quiet pid q _ (at w q) (over_asked Came keeps w (no_new_privs_asked call (body_of (at w pid)).creds.no_new_privs) q)
+step_prctl images w pid q None call = step_quiet pid q _ (at w q) (keeps_still w q)
 
-step_prctl : (images : GivenImages) (w : World) (pid q : ℕ) (call : Record) → RowStep images w pid q call (Some syscall.Prctl) (prctl images w pid call)
-step_prctl images w pid q call =
-    let P : Performed → Type 0 = RowStep images w pid q call (Some syscall.Prctl) in
-    cond_both ((low call 0 == 38) || (low call 0 == 22)) (authorises w pid (authorised images w pid syscall.Prctl call)) _ P
-    (λ _. step_authorises w pid q (authority_after images (Some syscall.Prctl) call))
-    (λ asks.
-    let same : (a : Authority) → result_unwrap_or (authority_after images (Some syscall.Prctl) call a) a ≡ a = λ a. asks_two (low call 0 == 38) (low call 0 == 22) _ _ a asks in
-    cond_both (low call 0 == 21) (returns w (seccomp_mode (body_of (at w pid)).chain)) _ P (λ _. leaves ((pid == q) && true) _ (at w q) (at w q) same (came_still (at w q)))
-    (λ _. cond_both (low call 0 == 39) _ (fails w Einval) P
-    (λ _. leaves ((pid == q) && true) _ _ (at w q) same (over_asked Came keeps w (no_new_privs_asked call (body_of (at w pid)).creds.no_new_privs) q))
-    (λ _. leaves ((pid == q) && true) _ (at w q) (at w q) same (came_still (at w q)))))
-
-step_seccomp : (images : GivenImages) (w : World) (pid q : ℕ) (call : Record) → RowStep images w pid q call (Some syscall.Seccomp) (seccomp images w pid call)
-step_seccomp images w pid q call =
-    let P : Performed → Type 0 = RowStep images w pid q call (Some syscall.Seccomp) in
-    cond_both (low call 0 == 1) (authorises w pid (authorised images w pid syscall.Seccomp call)) _ P
-    (λ _. step_authorises w pid q (authority_after images (Some syscall.Seccomp) call))
-    (λ asks.
-    let same : (a : Authority) → result_unwrap_or (authority_after images (Some syscall.Seccomp) call a) a ≡ a = λ a. asks_one (low call 0 == 1) _ a asks in
-    cond_both (not (low call 0 == 2)) (fails w Einval) _ P (λ _. leaves ((pid == q) && true) _ (at w q) (at w q) same (came_still (at w q)))
-    (λ _. cond_both (not (low call 1 == 0)) (fails w Einval) _ P (λ _. leaves ((pid == q) && true) _ (at w q) (at w q) same (came_still (at w q)))
-    (λ _. leaves ((pid == q) && true) _ _ (at w q) same (over_asked Came keeps w (action_available (low call 2)) q))))
+step_seccomp : (images : GivenImages) (w : World) (pid q : ℕ) (which : Option SeccompOperation) (call : Record)
+    → CameBy (cond ((pid == q) && true) (λ a. result_unwrap_or (after_seccomp images which call a) a) (λ a. a)) (at (seccomp images w pid which call).world q) (at w q)
+step_seccomp images w pid q (Some operation.SetModeFilter) call = step_authorises w pid q (after_set_mode_filter images call)
+step_seccomp images w pid q (Some operation.GetActionAvail) call =
+    step_quiet pid q _ (at w q) (over_asked Came keeps w (action_available (low call 1) (low call 2)) q)
+step_seccomp images w pid q None call = step_quiet pid q _ (at w q) (keeps_still w q)
 
 and_true : (b c : Bool) → c ≡ true → (b && c) ≡ b
 and_true true c is = is
@@ -191,10 +182,6 @@ step_fork images w pid q call true room alive =
     (subst (λ c. Came (at (forked w pid) q) (at w (cond c pid q))) (and_true (q == fresh_of w) (has_room w) room)
     (came_by_rights (at (forked w pid) q) (at w (cond ((q == fresh_of w) && has_room w) pid q)) (forked_rights w pid q alive)))
 step_fork images w pid q call false room alive = leaves ((pid == q) && true) (λ a. a) (at w q) (at w q) (λ a. refl) (came_still (at w q))
-
--- a row that leaves every authority
-step_quiet : (pid q : ℕ) (now before : Option Proc) → Came now before → CameBy (cond ((pid == q) && true) (λ a. a) (λ a. a)) now before
-step_quiet pid q now before came = leaves ((pid == q) && true) (λ a. a) now before (λ a. refl) came
 
 step_row : (images : GivenImages) (w : World) (pid q : ℕ) (which : Option Syscall) (call : Record) → IsTrue (is_alive (at w pid)) → RowStep images w pid q call which (row images w pid which call)
 step_row images w pid q (Some syscall.RtSigaction) call alive = step_quiet pid q _ (at w q) (over_resignals Came keeps w pid (after_sigaction pid call (body_of (at w pid)).signals) q)
@@ -224,8 +211,8 @@ step_row images w pid q (Some syscall.Getpgrp) call alive = step_quiet pid q _ (
 step_row images w pid q (Some syscall.Setsid) call alive = step_quiet pid q _ (at w q) (over_changes Came keeps w pid (after_setsid w pid) (over_setsid Came keeps w pid) q)
 step_row images w pid q (Some syscall.Getpgid) call alive = step_quiet pid q _ (at w q) (over_asked Came keeps w (group_asked w pid (signed call 0)) q)
 step_row images w pid q (Some syscall.Getsid) call alive = step_quiet pid q _ (at w q) (over_asked Came keeps w (session_asked w pid (signed call 0)) q)
-step_row images w pid q (Some syscall.Prctl) call alive = step_prctl images w pid q call
-step_row images w pid q (Some syscall.Seccomp) call alive = step_seccomp images w pid q call
+step_row images w pid q (Some syscall.Prctl) call alive = step_prctl images w pid q (prctl_option_of (low call 0)) call
+step_row images w pid q (Some syscall.Seccomp) call alive = step_seccomp images w pid q (seccomp_operation_of (low call 0)) call
 step_row images w pid q None call alive = step_quiet pid q _ (at w q) (keeps_still w q)
 
 -- ---- one event

@@ -1,5 +1,5 @@
 -- Whose child each process is after an event, and that those who come from confined ones are confined.
-use Rattle.std.proofs.Common.{◌≡◌, ◌≢◌, ◌∙◌, ℕ, ℤ, suc, ◌+◌, ◌≤◌, ◌==◌, ◌||◌, ◌&&◌, ◌⊎◌, ◌<ℤ◌, ◌≤ℤ◌, inl, inr, arith, ap, sym, refl, subst, cond, not, Bool, true, false, length, slice_get, IsTrue, List, [], ◌∷◌, ◌++◌, Option, None, Some, Result, Ok, Err}
+use Rattle.std.proofs.Common.{◌≡◌, ◌≢◌, ◌∙◌, ℕ, ℤ, suc, ◌+◌, ◌≤◌, ◌==◌, ◌&&◌, ◌⊎◌, ◌<ℤ◌, ◌≤ℤ◌, inl, inr, arith, ap, sym, refl, subst, cond, not, Bool, true, false, length, slice_get, IsTrue, List, [], ◌∷◌, ◌++◌, Option, None, Some, Result, Ok, Err}
 use Rattle.std.specs.Option.{is_some, unwrap_or, option_map, option_and_then}
 use Rattle.std.proofs.lemmas.Int.{ints}
 use Rattle.std.proofs.lemmas.Bool.{false≢true, cond_both, cond-true, eqb-true, eqb-false, eq-eqb, ne_eqb, and_parts, ltb-true}
@@ -13,7 +13,7 @@ use Rattle.sk_chain.specs.Precedence.{precedence_of}
 use Rattle.sk_chain.specs.Verdict.{value_of, values_of, first_of, verdict_of, IsAtMost}
 use Rattle.sk_chain.proofs.Verdicts.{first_of-least}
 use Rattle.sk_creds.specs.declared.errno.Errno.{Errno}
-use Rattle.sk_creds.specs.declared.errno.Errno.TheVariants.{Eagain, Einval}
+use Rattle.sk_creds.specs.declared.errno.Errno.TheVariants.{Eagain}
 use Rattle.sk_signal.specs.declared.number.TheConstants.{SIGSEGV, SIGCHLD, SIGCONT, SIGSYS}
 use Rattle.sk_signal.specs.Generation.{forced as sigsys_forced}
 use Rattle.sk_world.specs.declared.process.TheConstants.{INIT, PROCESSES}
@@ -40,16 +40,20 @@ use Rattle.sk_machine.specs.declared.event.Event.{Event}
 use Rattle.sk_machine.specs.declared.event.Event.TheVariants.{Call, Deliver, Resume, Fault}
 use Rattle.sk_machine.specs.declared.answer.Reason.{Reason}
 use Rattle.sk_machine.specs.declared.answer.Reason.TheVariants.{Halted}
+use Rattle.sk_machine.specs.declared.operation.PrctlOption.{PrctlOption}
+use Rattle.sk_machine.specs.declared.operation.PrctlOption.TheVariants as option
+use Rattle.sk_machine.specs.declared.operation.SeccompOperation.{SeccompOperation}
+use Rattle.sk_machine.specs.declared.operation.SeccompOperation.TheVariants as operation
 use Rattle.sk_machine.specs.declared.syscall.Syscall.{Syscall}
 use Rattle.sk_machine.specs.declared.syscall.Syscall.TheVariants as syscall
 use Rattle.sk_machine.specs.Events.{pid_of}
 use Rattle.sk_machine.specs.Given.{GivenImages}
-use Rattle.sk_machine.specs.Syscalls.{low, signed, syscall_of}
-use Rattle.sk_machine.specs.Authority.{Authority, with_authority}
-use Rattle.sk_machine.specs.Performed.{Performed, body_of, returns, fails, authority_at, authorises}
+use Rattle.sk_machine.specs.Syscalls.{low, signed, syscall_of, prctl_option_of, seccomp_operation_of}
+use Rattle.sk_machine.specs.Authority.{Authority, with_authority, after_no_new_privs, after_set_seccomp, after_set_mode_filter}
+use Rattle.sk_machine.specs.Performed.{Performed, body_of, authority_at, authorises}
 use Rattle.sk_machine.specs.SignalCalls.{after_sigaction, after_sigprocmask, after_sigreturn}
 use Rattle.sk_machine.specs.Killing.{after_kill}
-use Rattle.sk_machine.specs.Performing.{executing, execve, forks, exit_status, authorised, seccomp_mode, no_new_privs_asked, prctl, action_available, seccomp, row}
+use Rattle.sk_machine.specs.Performing.{executing, execve, forks, exit_status, authorised, no_new_privs_asked, prctl, action_available, seccomp, row}
 use Rattle.sk_machine.specs.Delivering.{signal_due}
 use Rattle.sk_machine.specs.Machine.{Stepped, judged, happened, reason_of, stepped, step_of, world_after}
 use Rattle.sk_machine.specs.Lines.{Happening, is_fork, has_returned, is_fork_of, line_before, calls_added, line_of, history_after}
@@ -164,19 +168,17 @@ moved_execve : (w : World) (pid : ℕ) (r : Result Authority Errno) → Over Mov
 moved_execve w pid (Ok a) = moved_changed w pid (executing a)
 moved_execve w pid (Err e) = moved_world w
 
-moved_prctl : (images : GivenImages) (w : World) (pid : ℕ) (call : Record) → Over Moved w (prctl images w pid call).world
-moved_prctl images w pid call =
-    cond_both ((low call 0 == 38) || (low call 0 == 22)) _ _ (λ (p : Performed). Over Moved w p.world) (λ _. moved_authorises w pid (authorised images w pid syscall.Prctl call))
-    (λ _. cond_both (low call 0 == 21) (returns w (seccomp_mode (body_of (at w pid)).chain)) _ (λ (p : Performed). Over Moved w p.world) (λ _. moved_world w)
-    (λ _. cond_both (low call 0 == 39) _ (fails w Einval) (λ (p : Performed). Over Moved w p.world)
-    (λ _. over_asked Moved moves w (no_new_privs_asked call (body_of (at w pid)).creds.no_new_privs)) (λ _. moved_world w)))
+moved_prctl : (images : GivenImages) (w : World) (pid : ℕ) (which : Option PrctlOption) (call : Record) → Over Moved w (prctl images w pid which call).world
+moved_prctl images w pid (Some option.SetNoNewPrivs) call = moved_authorises w pid (after_no_new_privs call (authority_at w pid))
+moved_prctl images w pid (Some option.SetSeccomp) call = moved_authorises w pid (after_set_seccomp images call (authority_at w pid))
+moved_prctl images w pid (Some option.GetSeccomp) call = moved_world w
+moved_prctl images w pid (Some option.GetNoNewPrivs) call = over_asked Moved moves w (no_new_privs_asked call (body_of (at w pid)).creds.no_new_privs)
+moved_prctl images w pid None call = moved_world w
 
-moved_seccomp : (images : GivenImages) (w : World) (pid : ℕ) (call : Record) → Over Moved w (seccomp images w pid call).world
-moved_seccomp images w pid call =
-    cond_both (low call 0 == 1) _ _ (λ (p : Performed). Over Moved w p.world) (λ _. moved_authorises w pid (authorised images w pid syscall.Seccomp call))
-    (λ _. cond_both (not (low call 0 == 2)) (fails w Einval) _ (λ (p : Performed). Over Moved w p.world) (λ _. moved_world w)
-    (λ _. cond_both (not (low call 1 == 0)) (fails w Einval) _ (λ (p : Performed). Over Moved w p.world) (λ _. moved_world w)
-    (λ _. over_asked Moved moves w (action_available (low call 2)))))
+moved_seccomp : (images : GivenImages) (w : World) (pid : ℕ) (which : Option SeccompOperation) (call : Record) → Over Moved w (seccomp images w pid which call).world
+moved_seccomp images w pid (Some operation.SetModeFilter) call = moved_authorises w pid (after_set_mode_filter images call (authority_at w pid))
+moved_seccomp images w pid (Some operation.GetActionAvail) call = over_asked Moved moves w (action_available (low call 1) (low call 2))
+moved_seccomp images w pid None call = moved_world w
 
 -- a process that this event has forked
 record IsForked (w after : World) (caller q : ℕ) : Type 0 where
@@ -248,8 +250,8 @@ comes_row images w pid q (Some syscall.Getpgrp) call rules there = comes_moved w
 comes_row images w pid q (Some syscall.Setsid) call rules there = comes_moved w _ pid q (over_changes Moved moves w pid (after_setsid w pid) (over_setsid Moved moves w pid) q)
 comes_row images w pid q (Some syscall.Getpgid) call rules there = comes_moved w _ pid q (over_asked Moved moves w (group_asked w pid (signed call 0)) q)
 comes_row images w pid q (Some syscall.Getsid) call rules there = comes_moved w _ pid q (over_asked Moved moves w (session_asked w pid (signed call 0)) q)
-comes_row images w pid q (Some syscall.Prctl) call rules there = comes_moved w _ pid q (moved_prctl images w pid call q)
-comes_row images w pid q (Some syscall.Seccomp) call rules there = comes_moved w _ pid q (moved_seccomp images w pid call q)
+comes_row images w pid q (Some syscall.Prctl) call rules there = comes_moved w _ pid q (moved_prctl images w pid (prctl_option_of (low call 0)) call q)
+comes_row images w pid q (Some syscall.Seccomp) call rules there = comes_moved w _ pid q (moved_seccomp images w pid (seccomp_operation_of (low call 0)) call q)
 comes_row images w pid q None call rules there = comes_moved w w pid q (moved_still (at w q))
 
 -- ---- events

@@ -1,5 +1,5 @@
 -- Whom wait4(2) tells of, and how often.
-use Rattle.std.proofs.Common.{◌≡◌, ◌∙◌, ℕ, ◌+◌, ◌*◌, ◌==◌, ◌||◌, arith, ap, sym, refl, subst, cond, not, Bool, true, false, IsTrue, List, [], ◌∷◌, Option, None, Some, Result, Ok, Err}
+use Rattle.std.proofs.Common.{◌≡◌, ◌∙◌, ℕ, ◌+◌, ◌*◌, ◌==◌, arith, ap, sym, refl, subst, cond, not, Bool, true, false, IsTrue, List, [], ◌∷◌, Option, None, Some, Result, Ok, Err}
 use Rattle.std.specs.Option.{is_some, unwrap_or, option_map, option_map_or}
 use Rattle.std.specs.List.{list_any, find}
 use Rattle.std.proofs.lemmas.Bool.{false≢true, cond_both, or_parts, and_parts}
@@ -34,17 +34,21 @@ use Rattle.sk_session.specs.Sessions.{after_setpgid, after_setsid, group_asked, 
 use Rattle.sk_machine.specs.declared.event.Event.{Event}
 use Rattle.sk_machine.specs.declared.event.Event.TheVariants.{Call, Deliver, Resume, Fault}
 use Rattle.sk_machine.specs.declared.answer.Reason.{Reason}
+use Rattle.sk_machine.specs.declared.operation.PrctlOption.{PrctlOption}
+use Rattle.sk_machine.specs.declared.operation.PrctlOption.TheVariants as option
+use Rattle.sk_machine.specs.declared.operation.SeccompOperation.{SeccompOperation}
+use Rattle.sk_machine.specs.declared.operation.SeccompOperation.TheVariants as operation
 use Rattle.sk_machine.specs.declared.syscall.Syscall.{Syscall}
 use Rattle.sk_machine.specs.declared.syscall.Syscall.TheVariants as syscall
 use Rattle.sk_machine.specs.Events.{pid_of}
 use Rattle.sk_machine.specs.Given.{GivenImages}
-use Rattle.sk_machine.specs.Syscalls.{low, signed, syscall_of}
-use Rattle.sk_machine.specs.Authority.{Authority}
-use Rattle.sk_machine.specs.Performed.{Performed, body_of, returns, fails, asked, changes, authorises, waiting_in, waits}
+use Rattle.sk_machine.specs.Syscalls.{low, signed, syscall_of, prctl_option_of, seccomp_operation_of}
+use Rattle.sk_machine.specs.Authority.{Authority, after_no_new_privs, after_set_seccomp, after_set_mode_filter}
+use Rattle.sk_machine.specs.Performed.{Performed, body_of, returns, fails, asked, changes, authority_at, authorises, waiting_in, waits}
 use Rattle.sk_machine.specs.SignalCalls.{resignals, after_sigaction, after_sigprocmask, after_sigreturn}
 use Rattle.sk_machine.specs.Killing.{after_kill}
 use Rattle.sk_machine.specs.WaitCalls.{are_wait_options, request_of, polled, wait4, polled_again, resumed}
-use Rattle.sk_machine.specs.Performing.{execve, forks, authorised, seccomp_mode, no_new_privs_asked, prctl, action_available, seccomp, row}
+use Rattle.sk_machine.specs.Performing.{execve, forks, authorised, no_new_privs_asked, prctl, action_available, seccomp, row}
 use Rattle.sk_machine.specs.Machine.{judged, reason_of, stepped, step_of, world_after}
 use Rattle.sk_machine.specs.Lines.{Happening, is_fork_of, line_before, history_after}
 use Rattle.sk_machine.specs.LineLaws.{happening}
@@ -171,19 +175,17 @@ tells_wait4 w pid call =
     (λ _. cond_both (low call 0 == 2147483648) (fails w Esrch) _ (TellsRight w pid) (λ _ child status is. nothing_told w _ pid child status is)
     (λ _. tells_polled w pid (request_of w pid call) (ready_of w pid (request_of w pid call)) refl))
 
-tells_prctl : (images : GivenImages) (w : World) (pid : ℕ) (call : Record) → TellsRight w pid (prctl images w pid call)
-tells_prctl images w pid call =
-    cond_both ((low call 0 == 38) || (low call 0 == 22)) _ _ (TellsRight w pid) (λ _. tells_authorises w pid (authorised images w pid syscall.Prctl call))
-    (λ _. cond_both (low call 0 == 21) (returns w (seccomp_mode (body_of (at w pid)).chain)) _ (TellsRight w pid) (λ _ child status is. nothing_told w _ pid child status is)
-    (λ _. cond_both (low call 0 == 39) _ (fails w Einval) (TellsRight w pid) (λ _. tells_asked w pid (no_new_privs_asked call (body_of (at w pid)).creds.no_new_privs))
-    (λ _ child status is. nothing_told w _ pid child status is)))
+tells_prctl : (images : GivenImages) (w : World) (pid : ℕ) (which : Option PrctlOption) (call : Record) → TellsRight w pid (prctl images w pid which call)
+tells_prctl images w pid (Some option.SetNoNewPrivs) call = tells_authorises w pid (after_no_new_privs call (authority_at w pid))
+tells_prctl images w pid (Some option.SetSeccomp) call = tells_authorises w pid (after_set_seccomp images call (authority_at w pid))
+tells_prctl images w pid (Some option.GetSeccomp) call = λ child status is. nothing_told w _ pid child status is
+tells_prctl images w pid (Some option.GetNoNewPrivs) call = tells_asked w pid (no_new_privs_asked call (body_of (at w pid)).creds.no_new_privs)
+tells_prctl images w pid None call = λ child status is. nothing_told w _ pid child status is
 
-tells_seccomp : (images : GivenImages) (w : World) (pid : ℕ) (call : Record) → TellsRight w pid (seccomp images w pid call)
-tells_seccomp images w pid call =
-    cond_both (low call 0 == 1) _ _ (TellsRight w pid) (λ _. tells_authorises w pid (authorised images w pid syscall.Seccomp call))
-    (λ _. cond_both (not (low call 0 == 2)) (fails w Einval) _ (TellsRight w pid) (λ _ child status is. nothing_told w _ pid child status is)
-    (λ _. cond_both (not (low call 1 == 0)) (fails w Einval) _ (TellsRight w pid) (λ _ child status is. nothing_told w _ pid child status is)
-    (λ _. tells_asked w pid (action_available (low call 2)))))
+tells_seccomp : (images : GivenImages) (w : World) (pid : ℕ) (which : Option SeccompOperation) (call : Record) → TellsRight w pid (seccomp images w pid which call)
+tells_seccomp images w pid (Some operation.SetModeFilter) call = tells_authorises w pid (after_set_mode_filter images call (authority_at w pid))
+tells_seccomp images w pid (Some operation.GetActionAvail) call = tells_asked w pid (action_available (low call 1) (low call 2))
+tells_seccomp images w pid None call = λ child status is. nothing_told w _ pid child status is
 
 tells_row : (images : GivenImages) (w : World) (pid : ℕ) (which : Option Syscall) (call : Record) → TellsRight w pid (row images w pid which call)
 tells_row images w pid (Some syscall.RtSigaction) call = tells_resignals w pid (after_sigaction pid call (body_of (at w pid)).signals)
@@ -211,8 +213,8 @@ tells_row images w pid (Some syscall.Getpgrp) call = λ child status is. nothing
 tells_row images w pid (Some syscall.Setsid) call = tells_changes w pid pid (after_setsid w pid)
 tells_row images w pid (Some syscall.Getpgid) call = tells_asked w pid (group_asked w pid (signed call 0))
 tells_row images w pid (Some syscall.Getsid) call = tells_asked w pid (session_asked w pid (signed call 0))
-tells_row images w pid (Some syscall.Prctl) call = tells_prctl images w pid call
-tells_row images w pid (Some syscall.Seccomp) call = tells_seccomp images w pid call
+tells_row images w pid (Some syscall.Prctl) call = tells_prctl images w pid (prctl_option_of (low call 0)) call
+tells_row images w pid (Some syscall.Seccomp) call = tells_seccomp images w pid (seccomp_operation_of (low call 0)) call
 tells_row images w pid None call = λ child status is. nothing_told w _ pid child status is
 
 tells_judged : (images : GivenImages) (w : World) (pid : ℕ) (call : Record) (errno : ℕ) (a : Action) → TellsRight w pid (judged images w pid call errno a)

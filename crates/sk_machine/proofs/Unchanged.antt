@@ -1,5 +1,5 @@
 -- What leaves the world as it is.
-use Rattle.std.proofs.Common.{◌≡◌, ◌∙◌, ℕ, negsuc, ◌==◌, ◌||◌, ap, sym, refl, subst, not, IsTrue, Option, None, Some, Result, Ok, Err}
+use Rattle.std.proofs.Common.{◌≡◌, ◌∙◌, ℕ, negsuc, ◌==◌, ap, sym, refl, subst, not, IsTrue, Option, None, Some, Result, Ok, Err}
 use Rattle.std.proofs.lemmas.Bool.{false≢true, cond_both}
 use Rattle.sk_insn.specs.declared.record.Record.{Record}
 use Rattle.sk_insn.specs.declared.action.Action.{Action}
@@ -23,12 +23,16 @@ use Rattle.sk_machine.specs.declared.answer.Answer.TheVariants as answer
 use Rattle.sk_machine.specs.declared.answer.Outcome.{Outcome}
 use Rattle.sk_machine.specs.declared.answer.Outcome.TheVariants.{Returned}
 use Rattle.sk_machine.specs.declared.answer.Reason.{Reason}
+use Rattle.sk_machine.specs.declared.operation.PrctlOption.{PrctlOption}
+use Rattle.sk_machine.specs.declared.operation.PrctlOption.TheVariants as option
+use Rattle.sk_machine.specs.declared.operation.SeccompOperation.{SeccompOperation}
+use Rattle.sk_machine.specs.declared.operation.SeccompOperation.TheVariants as operation
 use Rattle.sk_machine.specs.declared.syscall.Syscall.{Syscall}
 use Rattle.sk_machine.specs.declared.syscall.Syscall.TheVariants as syscall
 use Rattle.sk_machine.specs.Given.{GivenImages}
-use Rattle.sk_machine.specs.Syscalls.{low, signed, syscall_of}
-use Rattle.sk_machine.specs.Authority.{Authority}
-use Rattle.sk_machine.specs.Performed.{Performed, body_of, returns, fails, asked, changes, authorises, waits}
+use Rattle.sk_machine.specs.Syscalls.{low, signed, syscall_of, prctl_option_of, seccomp_operation_of}
+use Rattle.sk_machine.specs.Authority.{Authority, after_no_new_privs, after_set_seccomp, after_set_mode_filter}
+use Rattle.sk_machine.specs.Performed.{Performed, body_of, returns, fails, asked, changes, authority_at, authorises, waits}
 use Rattle.sk_machine.specs.SignalCalls.{resignals, after_sigaction, after_sigprocmask, after_sigreturn}
 use Rattle.sk_machine.specs.Killing.{after_kill}
 use Rattle.sk_machine.specs.WaitCalls.{are_wait_options, request_of, polled, wait4}
@@ -127,19 +131,17 @@ clean_wait4 w pid call =
     (λ _. cond_both (low call 0 == 2147483648) (fails w Esrch) _ (FailsClean w) (λ _ n is. refl)
     (λ _. clean_polled w pid (request_of w pid call) (ready_of w pid (request_of w pid call))))
 
-clean_prctl : (images : GivenImages) (w : World) (pid : ℕ) (call : Record) → FailsClean w (prctl images w pid call)
-clean_prctl images w pid call =
-    cond_both ((low call 0 == 38) || (low call 0 == 22)) _ _ (FailsClean w) (λ _. clean_authorises w pid (authorised images w pid syscall.Prctl call))
-    (λ _. cond_both (low call 0 == 21) _ _ (FailsClean w) (λ _. clean_returns w w (seccomp_mode (body_of (at w pid)).chain))
-    (λ _. cond_both (low call 0 == 39) _ _ (FailsClean w) (λ _. clean_asked w (no_new_privs_asked call (body_of (at w pid)).creds.no_new_privs))
-    (λ _ n is. refl)))
+clean_prctl : (images : GivenImages) (w : World) (pid : ℕ) (which : Option PrctlOption) (call : Record) → FailsClean w (prctl images w pid which call)
+clean_prctl images w pid (Some option.SetNoNewPrivs) call = clean_authorises w pid (after_no_new_privs call (authority_at w pid))
+clean_prctl images w pid (Some option.SetSeccomp) call = clean_authorises w pid (after_set_seccomp images call (authority_at w pid))
+clean_prctl images w pid (Some option.GetSeccomp) call = clean_returns w w (seccomp_mode (body_of (at w pid)).chain)
+clean_prctl images w pid (Some option.GetNoNewPrivs) call = clean_asked w (no_new_privs_asked call (body_of (at w pid)).creds.no_new_privs)
+clean_prctl images w pid None call = λ n is. refl
 
-clean_seccomp : (images : GivenImages) (w : World) (pid : ℕ) (call : Record) → FailsClean w (seccomp images w pid call)
-clean_seccomp images w pid call =
-    cond_both (low call 0 == 1) _ _ (FailsClean w) (λ _. clean_authorises w pid (authorised images w pid syscall.Seccomp call))
-    (λ _. cond_both (not (low call 0 == 2)) (fails w Einval) _ (FailsClean w) (λ _ n is. refl)
-    (λ _. cond_both (not (low call 1 == 0)) (fails w Einval) _ (FailsClean w) (λ _ n is. refl)
-    (λ _. clean_asked w (action_available (low call 2)))))
+clean_seccomp : (images : GivenImages) (w : World) (pid : ℕ) (which : Option SeccompOperation) (call : Record) → FailsClean w (seccomp images w pid which call)
+clean_seccomp images w pid (Some operation.SetModeFilter) call = clean_authorises w pid (after_set_mode_filter images call (authority_at w pid))
+clean_seccomp images w pid (Some operation.GetActionAvail) call = clean_asked w (action_available (low call 1) (low call 2))
+clean_seccomp images w pid None call = λ n is. refl
 
 clean_row : (images : GivenImages) (w : World) (pid : ℕ) (which : Option Syscall) (call : Record) → FailsClean w (row images w pid which call)
 clean_row images w pid (Some syscall.RtSigaction) call = clean_resignals w pid (after_sigaction pid call (body_of (at w pid)).signals)
@@ -167,8 +169,8 @@ clean_row images w pid (Some syscall.Getpgrp) call = λ n is. refl
 clean_row images w pid (Some syscall.Setsid) call = clean_changes w pid (after_setsid w pid)
 clean_row images w pid (Some syscall.Getpgid) call = clean_asked w (group_asked w pid (signed call 0))
 clean_row images w pid (Some syscall.Getsid) call = clean_asked w (session_asked w pid (signed call 0))
-clean_row images w pid (Some syscall.Prctl) call = clean_prctl images w pid call
-clean_row images w pid (Some syscall.Seccomp) call = clean_seccomp images w pid call
+clean_row images w pid (Some syscall.Prctl) call = clean_prctl images w pid (prctl_option_of (low call 0)) call
+clean_row images w pid (Some syscall.Seccomp) call = clean_seccomp images w pid (seccomp_operation_of (low call 0)) call
 clean_row images w pid None call = λ n is. refl
 
 clean_judged : (images : GivenImages) (w : World) (pid : ℕ) (call : Record) (errno : ℕ) (a : Action) → FailsClean w (judged images w pid call errno a)

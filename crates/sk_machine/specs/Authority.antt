@@ -14,10 +14,14 @@ use Rattle.sk_creds.specs.declared.creds.Creds.{Creds}
 use Rattle.sk_creds.specs.Creds.{is_privileged, after_setuid, after_setresuid, after_exec}
 use Rattle.sk_world.specs.declared.process.Body.{Body}
 use Rattle.sk_machine.specs.declared.images.Mark.{Mark}
+use Rattle.sk_machine.specs.declared.operation.PrctlOption.{PrctlOption}
+use Rattle.sk_machine.specs.declared.operation.PrctlOption.TheVariants as option
+use Rattle.sk_machine.specs.declared.operation.SeccompOperation.{SeccompOperation}
+use Rattle.sk_machine.specs.declared.operation.SeccompOperation.TheVariants as operation
 use Rattle.sk_machine.specs.declared.syscall.Syscall.{Syscall}
 use Rattle.sk_machine.specs.declared.syscall.Syscall.TheVariants as syscall
 use Rattle.sk_machine.specs.Given.{GivenImages, filter_image, mark_of}
-use Rattle.sk_machine.specs.Syscalls.{register, low, syscall_of}
+use Rattle.sk_machine.specs.Syscalls.{register, low, syscall_of, prctl_option_of, seccomp_operation_of}
 
 -- its filters, the newest first, and its user ids with no_new_privs
 pub record Authority : Type 0 where
@@ -52,7 +56,7 @@ filtered a (Ok insns) =
     else Ok (record a { programs = insns ∷ a.programs })
 filtered a (Err e) = Err e
 
--- seccomp(2), SECCOMP_SET_MODE_FILTER, and prctl(2), PR_SET_SECCOMP
+-- the filter of an image's number is attached: seccomp(2). No flag is taken: EINVAL
 abbrev pub after_attach : GivenImages → ℕ → ℕ → Authority → Result Authority Errno
 after_attach images flags image a =
     if not (flags == 0) then Err Einval else filtered a (program_of (filter_image images image))
@@ -74,17 +78,25 @@ after_no_new_privs call a =
     then Ok (record a { creds = record a.creds { no_new_privs = true } })
     else Err Einval
 
--- prctl(2): 38 is PR_SET_NO_NEW_PRIVS, 22 PR_SET_SECCOMP, whose mode 2 is SECCOMP_MODE_FILTER
-abbrev pub after_prctl : GivenImages → Record → Authority → Result Authority Errno
-after_prctl images call a =
-    if low call 0 == 38 then after_no_new_privs call a
-    else if low call 0 == 22 then (if register call 1 == 2 then after_attach images 0 (register call 2) a else Err Einval)
-    else Ok a
+-- prctl(2), PR_SET_SECCOMP: the only mode is 2, SECCOMP_MODE_FILTER
+abbrev pub after_set_seccomp : GivenImages → Record → Authority → Result Authority Errno
+after_set_seccomp images call a =
+    if register call 1 == 2 then after_attach images 0 (register call 2) a else Err Einval
 
--- seccomp(2): operation 1 is SECCOMP_SET_MODE_FILTER
-abbrev pub after_seccomp : GivenImages → Record → Authority → Result Authority Errno
-after_seccomp images call a =
-    if low call 0 == 1 then after_attach images (low call 1) (register call 2) a else Ok a
+-- prctl(2)
+abbrev pub after_prctl : GivenImages → Option PrctlOption → Record → Authority → Result Authority Errno
+after_prctl images (Some option.SetNoNewPrivs) call a = after_no_new_privs call a
+after_prctl images (Some option.SetSeccomp) call a = after_set_seccomp images call a
+after_prctl images other call a = Ok a
+
+-- seccomp(2), SECCOMP_SET_MODE_FILTER
+abbrev pub after_set_mode_filter : GivenImages → Record → Authority → Result Authority Errno
+after_set_mode_filter images call a = after_attach images (low call 1) (register call 2) a
+
+-- seccomp(2)
+abbrev pub after_seccomp : GivenImages → Option SeccompOperation → Record → Authority → Result Authority Errno
+after_seccomp images (Some operation.SetModeFilter) call a = after_set_mode_filter images call a
+after_seccomp images other call a = Ok a
 
 -- the authority after a performed call, or the error of a call that would change it. Every other call
 -- leaves it as it is, and so does an operation of prctl(2) or seccomp(2) that changes no authority, though
@@ -94,8 +106,9 @@ authority_after images (Some syscall.Setuid) call a = with_creds a (after_setuid
 authority_after images (Some syscall.Setresuid) call a =
     with_creds a (after_setresuid (low call 0) (low call 1) (low call 2) a.creds)
 authority_after images (Some syscall.Execve) call a = after_execve a (mark_of images (register call 0))
-authority_after images (Some syscall.Prctl) call a = after_prctl images call a
-authority_after images (Some syscall.Seccomp) call a = after_seccomp images call a
+authority_after images (Some syscall.Prctl) call a = after_prctl images (prctl_option_of (low call 0)) call a
+authority_after images (Some syscall.Seccomp) call a =
+    after_seccomp images (seccomp_operation_of (low call 0)) call a
 authority_after images other call a = Ok a
 
 -- the same of a call by its number

@@ -1,6 +1,6 @@
 -- What each call does when it is performed, one row a call, with the errors in the order in which they
 -- are told.
-use Rattle.std.specs.Prelude.{ℕ, ◌*◌, ◌%◌, ◌==◌, Bool, true, not, ◌&&◌, ◌||◌, if◌then◌else◌, List, [], ◌∷◌, Option, None, Some, Result, Ok, Err}
+use Rattle.std.specs.Prelude.{ℕ, ◌*◌, ◌%◌, ◌==◌, Bool, true, not, ◌&&◌, if◌then◌else◌, List, [], ◌∷◌, Option, None, Some, Result, Ok, Err}
 use Rattle.std.specs.Option.{is_some}
 use Rattle.sk_insn.specs.declared.record.Record.{Record}
 use Rattle.sk_insn.specs.declared.insn.Insn.{Insn}
@@ -17,11 +17,15 @@ use Rattle.sk_world.specs.Forking.{fork_answer, forked}
 use Rattle.sk_world.specs.Ending.{ended}
 use Rattle.sk_session.specs.Sessions.{group_of, after_setpgid, after_setsid, group_asked, session_asked}
 use Rattle.sk_machine.specs.declared.answer.Outcome.TheVariants.{Ids, Signals, Ended, Executed}
+use Rattle.sk_machine.specs.declared.operation.PrctlOption.{PrctlOption}
+use Rattle.sk_machine.specs.declared.operation.PrctlOption.TheVariants as option
+use Rattle.sk_machine.specs.declared.operation.SeccompOperation.{SeccompOperation}
+use Rattle.sk_machine.specs.declared.operation.SeccompOperation.TheVariants as operation
 use Rattle.sk_machine.specs.declared.syscall.Syscall.{Syscall}
 use Rattle.sk_machine.specs.declared.syscall.Syscall.TheVariants as syscall
 use Rattle.sk_machine.specs.Given.{GivenImages}
-use Rattle.sk_machine.specs.Syscalls.{register, low, signed, syscall_of}
-use Rattle.sk_machine.specs.Authority.{Authority, with_authority, authority_after}
+use Rattle.sk_machine.specs.Syscalls.{register, low, signed, syscall_of, prctl_option_of, seccomp_operation_of}
+use Rattle.sk_machine.specs.Authority.{Authority, with_authority, after_no_new_privs, after_set_seccomp, after_set_mode_filter, authority_after}
 use Rattle.sk_machine.specs.Performed.{Performed, body_of, returns, fails, asked, changes, authority_at, authorises, waits}
 use Rattle.sk_machine.specs.SignalCalls.{resignals, after_sigaction, after_sigprocmask, after_sigreturn}
 use Rattle.sk_machine.specs.Killing.{after_kill}
@@ -73,25 +77,26 @@ no_new_privs_asked call is_set =
     then Ok (if is_set then 1 else 0)
     else Err Einval
 
--- prctl(2): 38 is PR_SET_NO_NEW_PRIVS, 22 PR_SET_SECCOMP, 21 PR_GET_SECCOMP, 39 PR_GET_NO_NEW_PRIVS
-abbrev pub prctl : GivenImages → World → ℕ → Record → Performed
-prctl images w pid call =
-    if (low call 0 == 38) || (low call 0 == 22) then authorises w pid (authorised images w pid syscall.Prctl call)
-    else if low call 0 == 21 then returns w (seccomp_mode (body_of (at w pid)).chain)
-    else if low call 0 == 39 then asked w (no_new_privs_asked call (body_of (at w pid)).creds.no_new_privs)
-    else fails w Einval
+-- prctl(2)
+abbrev pub prctl : GivenImages → World → ℕ → Option PrctlOption → Record → Performed
+prctl images w pid (Some option.SetNoNewPrivs) call = authorises w pid (after_no_new_privs call (authority_at w pid))
+prctl images w pid (Some option.SetSeccomp) call = authorises w pid (after_set_seccomp images call (authority_at w pid))
+prctl images w pid (Some option.GetSeccomp) call = returns w (seccomp_mode (body_of (at w pid)).chain)
+prctl images w pid (Some option.GetNoNewPrivs) call = asked w (no_new_privs_asked call (body_of (at w pid)).creds.no_new_privs)
+prctl images w pid None call = fails w Einval
 
--- seccomp(2), SECCOMP_GET_ACTION_AVAIL: the number is one of the eight actions' values
-abbrev pub action_available : ℕ → Result ℕ Errno
-action_available value = if is_some (value_of (action_of value)) && (data_part value == 0) then Ok 0 else Err Eopnotsupp
+-- seccomp(2), SECCOMP_GET_ACTION_AVAIL: the number is one of the eight actions' values. No flag is taken
+abbrev pub action_available : ℕ → ℕ → Result ℕ Errno
+action_available flags value =
+    if not (flags == 0) then Err Einval
+    else if is_some (value_of (action_of value)) && (data_part value == 0) then Ok 0
+    else Err Eopnotsupp
 
--- seccomp(2): operation 1 is SECCOMP_SET_MODE_FILTER, 2 SECCOMP_GET_ACTION_AVAIL
-abbrev pub seccomp : GivenImages → World → ℕ → Record → Performed
-seccomp images w pid call =
-    if low call 0 == 1 then authorises w pid (authorised images w pid syscall.Seccomp call)
-    else if not (low call 0 == 2) then fails w Einval
-    else if not (low call 1 == 0) then fails w Einval
-    else asked w (action_available (low call 2))
+-- seccomp(2)
+abbrev pub seccomp : GivenImages → World → ℕ → Option SeccompOperation → Record → Performed
+seccomp images w pid (Some operation.SetModeFilter) call = authorises w pid (after_set_mode_filter images call (authority_at w pid))
+seccomp images w pid (Some operation.GetActionAvail) call = asked w (action_available (low call 1) (low call 2))
+seccomp images w pid None call = fails w Einval
 
 -- what the process of a pid comes to when it makes the call, and nothing stands in its way
 abbrev pub row : GivenImages → World → ℕ → Option Syscall → Record → Performed
@@ -120,8 +125,8 @@ row images w pid (Some syscall.Getpgrp) call = returns w (group_of (at w pid))
 row images w pid (Some syscall.Setsid) call = changes w pid (after_setsid w pid)
 row images w pid (Some syscall.Getpgid) call = asked w (group_asked w pid (signed call 0))
 row images w pid (Some syscall.Getsid) call = asked w (session_asked w pid (signed call 0))
-row images w pid (Some syscall.Prctl) call = prctl images w pid call
-row images w pid (Some syscall.Seccomp) call = seccomp images w pid call
+row images w pid (Some syscall.Prctl) call = prctl images w pid (prctl_option_of (low call 0)) call
+row images w pid (Some syscall.Seccomp) call = seccomp images w pid (seccomp_operation_of (low call 0)) call
 row images w pid None call = fails w Enosys
 
 -- the same of a call by its number

@@ -1,7 +1,12 @@
--- The numbers of the calls on x86-64, syscalls(2), and what is in the registers of a call.
+-- The numbers of the calls on x86-64, syscalls(2), what prctl(2) and seccomp(2) are asked, and what is in
+-- the registers of a call.
 use Rattle.std.specs.Prelude.{ℕ, ℤ, ◌%◌, ◌^◌, ◌==◌, if◌then◌else◌, slice_index_or, Option, Some, None}
 use Rattle.std.specs.Int.{cast_signed, w32}
 use Rattle.sk_insn.specs.declared.record.Record.{Record}
+use Rattle.sk_machine.specs.declared.operation.PrctlOption.{PrctlOption}
+use Rattle.sk_machine.specs.declared.operation.PrctlOption.TheVariants as option
+use Rattle.sk_machine.specs.declared.operation.SeccompOperation.{SeccompOperation}
+use Rattle.sk_machine.specs.declared.operation.SeccompOperation.TheVariants as operation
 use Rattle.sk_machine.specs.declared.syscall.Syscall.{Syscall}
 use Rattle.sk_machine.specs.declared.syscall.Syscall.TheVariants as syscall
 
@@ -34,6 +39,22 @@ syscall_of nr =
     else if nr == 157 then Some syscall.Prctl
     else if nr == 231 then Some syscall.ExitGroup
     else if nr == 317 then Some syscall.Seccomp
+    else None
+
+-- the option of prctl(2) that a number stands for
+abbrev pub prctl_option_of : ℕ → Option PrctlOption
+prctl_option_of n =
+    if n == 21 then Some option.GetSeccomp
+    else if n == 22 then Some option.SetSeccomp
+    else if n == 38 then Some option.SetNoNewPrivs
+    else if n == 39 then Some option.GetNoNewPrivs
+    else None
+
+-- the operation of seccomp(2) that a number stands for
+abbrev pub seccomp_operation_of : ℕ → Option SeccompOperation
+seccomp_operation_of n =
+    if n == 1 then Some operation.SetModeFilter
+    else if n == 2 then Some operation.GetActionAvail
     else None
 
 -- register n of a call, all 64 bits of it

@@ -6,11 +6,13 @@ mod answer;
 mod event;
 mod images;
 pub mod laws;
+mod operation;
 mod syscall;
 
 pub use answer::{Answer, Effect, Outcome, Reason};
 pub use event::Event;
 pub use images::{Images, Mark};
+pub use operation::{PrctlOption, SeccompOperation};
 pub use syscall::Syscall;
 
 #[cfg(test)]

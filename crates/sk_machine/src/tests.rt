@@ -1,4 +1,4 @@
-use crate::{Event, Reason, Syscall};
+use crate::{Event, PrctlOption, Reason, SeccompOperation, Syscall};
 
 #[test]
 fn each_event_has_its_process(rt: HostRuntime) {
@@ -31,5 +31,30 @@ fn calls_have_the_numbers_of_x86_64(rt: HostRuntime) {
         (0x4000_0027, None),
     ] {
         assert_eq!(rt; Syscall::of(nr), call);
+    }
+}
+
+#[test]
+fn options_of_prctl_have_the_numbers_of_linux(rt: HostRuntime) {
+    for (number, option) in [
+        (21, Some(PrctlOption::GetSeccomp)),
+        (22, Some(PrctlOption::SetSeccomp)),
+        (38, Some(PrctlOption::SetNoNewPrivs)),
+        (39, Some(PrctlOption::GetNoNewPrivs)),
+        (1, None),
+    ] {
+        assert_eq!(rt; PrctlOption::of(number), option);
+    }
+}
+
+#[test]
+fn operations_of_seccomp_have_the_numbers_of_linux(rt: HostRuntime) {
+    for (number, operation) in [
+        (0, None),
+        (1, Some(SeccompOperation::SetModeFilter)),
+        (2, Some(SeccompOperation::GetActionAvail)),
+        (3, None),
+    ] {
+        assert_eq!(rt; SeccompOperation::of(number), operation);
     }
 }
