@@ -8,7 +8,7 @@ use Rattle.sk_signal.specs.SignalSet.{lowest, signals_to, signals_of}
 use Rattle.sk_signal.specs.Signalling.{opening as no_signal}
 use Rattle.sk_world.specs.Numbers.{fresh_of}
 use Rattle.sk_machine.specs.Machine.{step_of}
-use Rattle.sk_machine.specs.WorkedTurns.{TellsReasons, EndsSystem, HaltsAll, TurnsWithFilter, TurnsWithoutZombies, TurnsOfCrash, TurnsOfStopAndContinue, TurnsOfOrphan, TurnsOfKills, TurnsOfRegrouping, TurnsOfPause, NobodyRuns, KilledRuns, WorkedTurns}
+use Rattle.sk_machine.specs.WorkedTurns.{TellsReasons, EndsSystem, HaltsAll, TurnsWithFilter, TurnsWithoutZombies, TurnsOfCrash, TurnsOfStopAndContinue, TurnsOfOrphan, TurnsOfKills, TurnsOfRegrouping, TurnsOfPause, NobodyRuns, KilledRuns, KilledNeedsDelivery, PausedNeedsResumption, SignalledNeedsDelivery, FirstNeedsCall, WorkedTurns}
 
 tells_reasons : TellsReasons
 unfolding step_of fresh_of action_of operation_of first_fault empty contains insert retain remove difference union from_list lowest signals_to signals_of no_signal
@@ -62,6 +62,22 @@ killed_runs : KilledRuns
 unfolding step_of fresh_of action_of operation_of first_fault empty contains insert retain remove difference union from_list lowest signals_to signals_of no_signal
 killed_runs = refl
 
+killed_needs_delivery : KilledNeedsDelivery
+unfolding step_of fresh_of action_of operation_of first_fault empty contains insert retain remove difference union from_list lowest signals_to signals_of no_signal
+killed_needs_delivery = refl
+
+paused_needs_resumption : PausedNeedsResumption
+unfolding step_of fresh_of action_of operation_of first_fault empty contains insert retain remove difference union from_list lowest signals_to signals_of no_signal
+paused_needs_resumption = refl
+
+signalled_needs_delivery : SignalledNeedsDelivery
+unfolding step_of fresh_of action_of operation_of first_fault empty contains insert retain remove difference union from_list lowest signals_to signals_of no_signal
+signalled_needs_delivery = refl
+
+first_needs_call : FirstNeedsCall
+unfolding step_of fresh_of action_of operation_of first_fault empty contains insert retain remove difference union from_list lowest signals_to signals_of no_signal
+first_needs_call = refl
+
 pub worked_turns : WorkedTurns
 worked_turns = record {
   tells_reasons = tells_reasons;
@@ -77,4 +93,8 @@ worked_turns = record {
   turns_of_pause = turns_of_pause;
   nobody_runs = nobody_runs;
   killed_runs = killed_runs;
+  killed_needs_delivery = killed_needs_delivery;
+  paused_needs_resumption = paused_needs_resumption;
+  signalled_needs_delivery = signalled_needs_delivery;
+  first_needs_call = first_needs_call;
 }

@@ -1,24 +1,36 @@
--- Whose turn it is can run, and who can run has an event that is possible.
-use Rattle.std.proofs.Common.{◌≡◌, ◌∙◌, ℕ, ◌&&◌, ◌||◌, ap, refl, cond, not, nat_lt, Bool, true, false, IsTrue, List, Option, None, Some}
-use Rattle.std.specs.Option.{is_some, option_or}
-use Rattle.std.specs.List.{find}
-use Rattle.std.proofs.lemmas.Bool.{false≢true, not-true, and_parts}
+-- Whose turn it is can run, who can run has the event that it needs, and who cannot does nothing.
+use Rattle.std.proofs.Common.{◌≡◌, ◌∙◌, ◌⊎◌, ◌↔◌, inl, inr, ℕ, ◌==◌, ◌&&◌, ◌||◌, ap, sym, refl, subst, cond, not, nat_lt, map, Bool, true, false, IsTrue, List, [], ◌∷◌, Option, None, Some}
+use Rattle.std.specs.Option.{is_some, option_or, option_map_or, unwrap_or}
+use Rattle.std.specs.List.{find, list_any}
+use Rattle.std.specs.Ordering.{nat_cmp}
+use Rattle.std.specs.FinMap.Entries.{find as entry}
+use Rattle.std.proofs.lemmas.Bool.{false≢true, not-true, not-false, and_parts, or_parts, cond_both, eqb-true}
 use Rattle.sk_world.specs.declared.process.Proc.{Proc}
 use Rattle.sk_world.specs.declared.process.Waiting.{Waiting}
 use Rattle.sk_world.specs.declared.process.Waiting.TheVariants as waiting
+use Rattle.sk_world.specs.declared.request.Poll.{Poll}
+use Rattle.sk_world.specs.declared.request.Poll.TheVariants as poll
 use Rattle.sk_world.specs.Processes.{pids}
 use Rattle.sk_world.specs.World.{World, at, has_ended, is_halted, is_stopped, is_zombie, is_alive}
+use Rattle.sk_world.specs.Waits.{is_ready, has_match, status_of}
+use Rattle.sk_world.proofs.Maps.{same_number}
 use Rattle.sk_world.proofs.KeptTold.{found}
 use Rattle.sk_machine.specs.declared.event.Event.{Event}
-use Rattle.sk_machine.specs.declared.event.Event.TheVariants.{Deliver, Resume, Fault}
+use Rattle.sk_machine.specs.declared.event.Event.TheVariants.{Call, Deliver, Resume, Fault}
+use Rattle.sk_machine.specs.declared.event.Need.{Need}
+use Rattle.sk_machine.specs.declared.event.Need.TheVariants as need
+use Rattle.sk_machine.specs.declared.answer.Answer.TheVariants.{Resumed}
+use Rattle.sk_machine.specs.declared.answer.Outcome.TheVariants.{Waits}
 use Rattle.sk_machine.specs.declared.answer.Reason.{Reason}
 use Rattle.sk_machine.specs.declared.answer.Reason.TheVariants as reason
 use Rattle.sk_machine.specs.Events.{pid_of}
+use Rattle.sk_machine.specs.Given.{GivenImages}
 use Rattle.sk_machine.specs.Performed.{body_of}
+use Rattle.sk_machine.specs.WaitCalls.{polled_again, resumed}
 use Rattle.sk_machine.specs.Delivering.{signal_due, is_waiting}
-use Rattle.sk_machine.specs.Machine.{own_reason, reason_of}
-use Rattle.sk_machine.specs.Turns.{wait_ends, is_runnable}
-use Rattle.sk_machine.specs.TurnLaws.{NextCanRun, RunnableHasEvent}
+use Rattle.sk_machine.specs.Machine.{Stepped, resume_answered, call_reason, own_reason, is_kill, reason_of, stepped, step_of, world_after}
+use Rattle.sk_machine.specs.Turns.{wait_ends, is_runnable, need_of, need_met_by}
+use Rattle.sk_machine.specs.TurnLaws.{NextCanRun, RunnableHasEvent, IdleDoesNothing, EndIsFinal}
 
 -- the one that is found first, or the one that is found then
 first_or_then : (test later : ℕ → Bool) (xs : List ℕ) (pid : ℕ) (o : Option ℕ) → find later xs ≡ o → ((k : ℕ) → IsTrue (later k) → IsTrue (test k))
@@ -31,14 +43,14 @@ next_can_run w last pid is =
     first_or_then (is_runnable w) (λ k. nat_lt last k && is_runnable w k) (pids w.procs) pid (find (λ k. nat_lt last k && is_runnable w k) (pids w.procs)) refl
     (λ k both. (and_parts (nat_lt last k) (is_runnable w k) both).1) is
 
--- nothing stands in the way of a process that runs
-no_reason : (halted nobody zombie stopped : Bool) (own : Option Reason) → halted ≡ false → nobody ≡ false → zombie ≡ false → stopped ≡ false
-    → cond halted (Some reason.Halted) (cond nobody (Some reason.NoProcess) (cond zombie (Some reason.Zombie) (cond stopped (Some reason.Stopped) own))) ≡ own
-no_reason halted nobody zombie stopped own going there living running =
-    ap (λ b. cond b (Some reason.Halted) (cond nobody (Some reason.NoProcess) (cond zombie (Some reason.Zombie) (cond stopped (Some reason.Stopped) own)))) going
-    ∙ ap (λ b. cond b (Some reason.NoProcess) (cond zombie (Some reason.Zombie) (cond stopped (Some reason.Stopped) own))) there
-    ∙ ap (λ b. cond b (Some reason.Zombie) (cond stopped (Some reason.Stopped) own)) living
-    ∙ ap (λ b. cond b (Some reason.Stopped) own) running
+-- ---- who can run
+-- nothing stands in the way of a process that lives
+no_reason : (halted nobody zombie : Bool) (own : Option Reason) → halted ≡ false → nobody ≡ false → zombie ≡ false
+    → cond halted (Some reason.Halted) (cond nobody (Some reason.NoProcess) (cond zombie (Some reason.Zombie) own)) ≡ own
+no_reason halted nobody zombie own going there living =
+    ap (λ b. cond b (Some reason.Halted) (cond nobody (Some reason.NoProcess) (cond zombie (Some reason.Zombie) own))) going
+    ∙ ap (λ b. cond b (Some reason.NoProcess) (cond zombie (Some reason.Zombie) own)) there
+    ∙ ap (λ b. cond b (Some reason.Zombie) own) living
 
 is_there : (o : Option Proc) → IsTrue (is_alive o) → not (is_some o) ≡ false
 is_there None alive = absurd (false≢true alive)
@@ -48,47 +60,180 @@ has_not_ended : (o : Option Proc) → IsTrue (is_alive o) → is_zombie o ≡ fa
 has_not_ended None alive = refl
 has_not_ended (Some p) alive = not-true (has_ended p.body.life) alive
 
-and_false : (b c : Bool) → c ≡ false → (b && c) ≡ false
-and_false true c is = is
-and_false false c is = refl
+-- what is needed of a process that a signal is due to, or not, and that waits, or not
+abbrev needed : Bool → Bool → Need
+needed due waits = cond due need.Deliver (cond waits need.Resume need.Call)
 
--- one that runs, and that no signal is due to, makes a call, or asks again
-runs_on : (w : World) (pid : ℕ) (what : Waiting) → (body_of (at w pid)).waiting ≡ what → is_halted w ≡ false → IsTrue (is_alive (at w pid)) → is_stopped (at w pid) ≡ false
-    → is_some (signal_due (at w pid)) ≡ false → IsTrue (wait_ends w pid what) → (event : Event) × (pid_of event ≡ pid) × (reason_of w event ≡ None)
-runs_on w pid waiting.Pause is going alive running quiet ends = absurd (false≢true ends)
-runs_on w pid waiting.Nothing is going alive running quiet ends = (
-  Fault pid,
-  refl,
-  no_reason (is_halted w) (not (is_some (at w pid))) (is_zombie (at w pid)) (is_stopped (at w pid) && true) (own_reason w (Fault pid)) going (is_there (at w pid) alive) (has_not_ended (at w pid) alive)
-      (ap (λ b. b && true) running)
-      ∙ ap (λ what. cond (is_waiting what) (Some reason.Waiting) (cond (is_some (signal_due (at w pid))) (Some reason.SignalFirst) None)) is
-      ∙ ap (λ b. cond b (Some reason.SignalFirst) None) quiet,
-)
-runs_on w pid (waiting.Asks request) is going alive running quiet ends = (
-  Resume pid,
-  refl,
-  no_reason (is_halted w) (not (is_some (at w pid))) (is_zombie (at w pid)) (is_stopped (at w pid) && true) (own_reason w (Resume pid)) going (is_there (at w pid) alive) (has_not_ended (at w pid) alive)
-      (ap (λ b. b && true) running)
-      ∙ ap (λ what. cond (not (is_waiting what)) (Some reason.NothingWaits) (cond (is_some (signal_due (at w pid))) (Some reason.SignalFirst) None)) is
-      ∙ ap (λ b. cond b (Some reason.SignalFirst) None) quiet,
-)
+-- the answer to an event of a process that is stopped, or not
+abbrev own : Bool → Option Reason → Option Reason
+own stopped r = cond stopped (Some reason.Stopped) r
+
+call_meets : (due stopped waits ends : Bool) → IsTrue (due || (not stopped && ends))
+    → (own (stopped && true) (cond waits (Some reason.Waiting) (cond due (Some reason.SignalFirst) None)) ≡ None) ↔ (need.Call ≡ needed due waits)
+call_meets true true waits ends runs = (λ is. cc, λ is. cc)
+call_meets true false true ends runs = (λ is. cc, λ is. cc)
+call_meets true false false ends runs = (λ is. cc, λ is. cc)
+call_meets false true waits ends runs = absurd (false≢true runs)
+call_meets false false true ends runs = (λ is. cc, λ is. cc)
+call_meets false false false ends runs = (λ is. refl, λ is. refl)
+
+resumption_meets : (due stopped waits ends : Bool) → IsTrue (due || (not stopped && ends))
+    → (own (stopped && true) (cond (not waits) (Some reason.NothingWaits) (cond due (Some reason.SignalFirst) None)) ≡ None) ↔ (need.Resume ≡ needed due waits)
+resumption_meets true true waits ends runs = (λ is. cc, λ is. cc)
+resumption_meets true false true ends runs = (λ is. cc, λ is. cc)
+resumption_meets true false false ends runs = (λ is. cc, λ is. cc)
+resumption_meets false true waits ends runs = absurd (false≢true runs)
+resumption_meets false false true ends runs = (λ is. refl, λ is. refl)
+resumption_meets false false false ends runs = (λ is. cc, λ is. cc)
+
+delivery_meets : (due stopped waits ends : Bool) → IsTrue (due || (not stopped && ends))
+    → (own (stopped && not due) (cond due None (Some reason.NothingWaits)) ≡ None) ↔ (need.Deliver ≡ needed due waits)
+delivery_meets true true waits ends runs = (λ is. refl, λ is. refl)
+delivery_meets true false waits ends runs = (λ is. refl, λ is. refl)
+delivery_meets false true waits ends runs = absurd (false≢true runs)
+delivery_meets false false true ends runs = (λ is. cc, λ is. cc)
+delivery_meets false false false ends runs = (λ is. cc, λ is. cc)
+
+-- the call that the process of a pid waits in would end now, or it waits in none
+abbrev would_end : World → ℕ → Bool
+would_end w pid = wait_ends w pid (body_of (at w pid)).waiting
+
+own_meets : (w : World) (event : Event) → IsTrue (is_some (signal_due (at w (pid_of event))) || (not (is_stopped (at w (pid_of event))) && would_end w (pid_of event)))
+    → (own (is_stopped (at w (pid_of event)) && not (is_kill w event)) (own_reason w event) ≡ None) ↔ (need_met_by event ≡ need_of w (pid_of event))
+own_meets w (Call pid ip nr args) runs = call_meets (is_some (signal_due (at w pid))) (is_stopped (at w pid)) (is_waiting (body_of (at w pid)).waiting) (would_end w pid) runs
+own_meets w (Deliver pid) runs = delivery_meets (is_some (signal_due (at w pid))) (is_stopped (at w pid)) (is_waiting (body_of (at w pid)).waiting) (would_end w pid) runs
+own_meets w (Resume pid) runs = resumption_meets (is_some (signal_due (at w pid))) (is_stopped (at w pid)) (is_waiting (body_of (at w pid)).waiting) (would_end w pid) runs
+own_meets w (Fault pid) runs = call_meets (is_some (signal_due (at w pid))) (is_stopped (at w pid)) (is_waiting (body_of (at w pid)).waiting) (would_end w pid) runs
 
 pub runnable_has_event : RunnableHasEvent
-runnable_has_event w pid runs =
-    let due : Bool = is_some (signal_due (at w pid)) in
-    let free : Bool = not (is_stopped (at w pid)) && wait_ends w pid (body_of (at w pid)).waiting in
-    let both = and_parts (not (is_halted w) && is_alive (at w pid)) (due || free) runs in
-    let lives = and_parts (not (is_halted w)) (is_alive (at w pid)) both.0 in
-    let going : is_halted w ≡ false = not-true (is_halted w) lives.0 in
-    elim due as (λ b. due ≡ b → IsTrue (b || free) → (event : Event) × (pid_of event ≡ pid) × (reason_of w event ≡ None)) [
-      | true ↦ λ is _. (
-        Deliver pid,
-        refl,
-        no_reason (is_halted w) (not (is_some (at w pid))) (is_zombie (at w pid)) (is_stopped (at w pid) && not due) (own_reason w (Deliver pid)) going (is_there (at w pid) lives.1) (has_not_ended (at w pid) lives.1)
-            (and_false (is_stopped (at w pid)) (not due) (ap not is))
-            ∙ ap (λ b. cond b None (Some reason.NothingWaits)) is,
-      )
-      | false ↦ λ quiet is.
-          let rest = and_parts (not (is_stopped (at w pid))) (wait_ends w pid (body_of (at w pid)).waiting) is in
-          runs_on w pid (body_of (at w pid)).waiting refl going lives.1 (not-true (is_stopped (at w pid)) rest.0) quiet rest.1
-    ] refl both.1
+runnable_has_event w event runs =
+    let o : Option Proc = at w (pid_of event) in
+    let both = and_parts (not (is_halted w) && is_alive o) (is_some (signal_due o) || (not (is_stopped o) && would_end w (pid_of event))) runs in
+    let lives = and_parts (not (is_halted w)) (is_alive o) both.0 in
+    let last : Option Reason = own (is_stopped o && not (is_kill w event)) (own_reason w event) in
+    subst (λ r. (r ≡ None) ↔ (need_met_by event ≡ need_of w (pid_of event)))
+    (sym (no_reason (is_halted w) (not (is_some o)) (is_zombie o) last (not-true (is_halted w) lives.0) (is_there o lives.1) (has_not_ended o lives.1)))
+    (own_meets w event both.1)
+
+-- ---- who cannot run
+none_found : (p : ℕ → Bool) (xs : List ℕ) → list_any p xs ≡ false → find p xs ≡ None
+none_found p [] none = refl
+none_found p (x ∷ xs) none =
+    let both = or_parts (p x) (list_any p xs) none in
+    ap (λ b. cond b (Some x) (find p xs)) both.0 ∙ none_found p xs both.1
+
+-- a call that would not end goes on waiting
+goes_on : (w : World) (pid : ℕ) (what : Waiting) → wait_ends w pid what ≡ false → resumed w pid what ≡ record { outcome = Waits; world = w }
+goes_on w pid waiting.Nothing waits = refl
+goes_on w pid waiting.Pause waits = refl
+goes_on w pid (waiting.Asks request) waits =
+    let both = or_parts (list_any (is_ready w pid request) (pids w.procs)) (not (has_match w pid request)) waits in
+    let answer : Option ℕ → Poll → Poll = λ o none. option_map_or (λ k. poll.Told k (unwrap_or (status_of request.options (at w k)) 0)) o none in
+    ap (λ o. polled_again w pid (answer o (cond (has_match w pid request) poll.NotReady poll.NoMatch))) (none_found (is_ready w pid request) (pids w.procs) both.0)
+    ∙ ap (λ b. polled_again w pid (cond b poll.NotReady poll.NoMatch)) (not-false (has_match w pid request) both.1)
+
+-- one that waits in no call would go on
+runs_on : (w : World) (pid : ℕ) (what : Waiting) → is_waiting what ≡ false → wait_ends w pid what ≡ true
+runs_on w pid waiting.Nothing is = refl
+runs_on w pid waiting.Pause is = absurd (false≢true (sym is))
+runs_on w pid (waiting.Asks request) is = absurd (false≢true (sym is))
+
+-- one that lives and cannot run has no signal due, and is stopped or goes on waiting
+idle_parts : (halted : Bool) (o : Option Proc) (b : Bool) → (not halted && is_alive o && b) ≡ false → halted ≡ false → not (is_some o) ≡ false → is_zombie o ≡ false → b ≡ false
+idle_parts true o b idle going there living = absurd (false≢true (sym going))
+idle_parts false None b idle going there living = absurd (false≢true (sym there))
+idle_parts false (Some p) b idle going there living = sym (ap (λ e. not e && b) living) ∙ idle
+
+idle_waits : (due stopped ends : Bool) → (due || (not stopped && ends)) ≡ false → (stopped && true) ≡ false → ends ≡ false
+idle_waits true stopped ends idle moves = absurd (false≢true (sym idle))
+idle_waits false true ends idle moves = absurd (false≢true (sym moves))
+idle_waits false false ends idle moves = idle
+
+-- the event is not possible for this reason, or does nothing
+abbrev Idles : GivenImages → World → Event → Option Reason → Type 0
+Idles images w event o = IsTrue (is_some o) ⊎ (stepped images w event o ≡ record { answer = Resumed Waits; world = w })
+
+idle_call : (images : GivenImages) (w : World) (pid : ℕ) (event : Event) → would_end w pid ≡ false → Idles images w event (call_reason w pid)
+idle_call images w pid event waits =
+    let what : Waiting = (body_of (at w pid)).waiting in
+    cond_both (is_waiting what) (Some reason.Waiting) _ (Idles images w event) (λ _. inl refl)
+    (λ free. absurd (false≢true (sym waits ∙ runs_on w pid what free)))
+
+idle_own : (images : GivenImages) (w : World) (event : Event) → (is_some (signal_due (at w (pid_of event))) || (not (is_stopped (at w (pid_of event))) && would_end w (pid_of event))) ≡ false
+    → (is_stopped (at w (pid_of event)) && not (is_kill w event)) ≡ false → Idles images w event (own_reason w event)
+idle_own images w (Call pid ip nr args) idle moves =
+    idle_call images w pid (Call pid ip nr args) (idle_waits (is_some (signal_due (at w pid))) (is_stopped (at w pid)) (would_end w pid) idle moves)
+idle_own images w (Fault pid) idle moves =
+    idle_call images w pid (Fault pid) (idle_waits (is_some (signal_due (at w pid))) (is_stopped (at w pid)) (would_end w pid) idle moves)
+idle_own images w (Deliver pid) idle moves =
+    let quiet = (or_parts (is_some (signal_due (at w pid))) (not (is_stopped (at w pid)) && would_end w pid) idle).0 in
+    cond_both (is_some (signal_due (at w pid))) None (Some reason.NothingWaits) (Idles images w (Deliver pid)) (λ due. absurd (false≢true (sym quiet ∙ due))) (λ _. inl refl)
+idle_own images w (Resume pid) idle moves =
+    let what : Waiting = (body_of (at w pid)).waiting in
+    let waits : would_end w pid ≡ false = idle_waits (is_some (signal_due (at w pid))) (is_stopped (at w pid)) (would_end w pid) idle moves in
+    cond_both (not (is_waiting what)) (Some reason.NothingWaits) _ (Idles images w (Resume pid)) (λ _. inl refl)
+    (λ _. cond_both (is_some (signal_due (at w pid))) (Some reason.SignalFirst) None (Idles images w (Resume pid)) (λ _. inl refl)
+    (λ _. inr (ap resume_answered (goes_on w pid what waits))))
+
+pub idle_does_nothing : IdleDoesNothing
+unfolding step_of
+idle_does_nothing images w event idle =
+    let o : Option Proc = at w (pid_of event) in
+    let P : Option Reason → Type 0 = Idles images w event in
+    cond_both (is_halted w) (Some reason.Halted) _ P (λ _. inl refl) (λ going.
+    cond_both (not (is_some o)) (Some reason.NoProcess) _ P (λ _. inl refl) (λ there.
+    cond_both (is_zombie o) (Some reason.Zombie) _ P (λ _. inl refl) (λ living.
+    let quiet = idle_parts (is_halted w) o (is_some (signal_due o) || (not (is_stopped o) && would_end w (pid_of event))) idle going there living in
+    cond_both (is_stopped o && not (is_kill w event)) (Some reason.Stopped) (own_reason w event) P (λ _. inl refl)
+    (λ moves. idle_own images w event quiet moves))))
+
+-- ---- where nobody can run
+impossible : (images : GivenImages) (w : World) (event : Event) (o : Option Reason) → IsTrue (is_some o) → (stepped images w event o).world ≡ w
+impossible images w event None there = absurd (false≢true there)
+impossible images w event (Some reason) there = refl
+
+idle_world : (images : GivenImages) (w : World) (event : Event) → is_runnable w (pid_of event) ≡ false → (step_of images w event).world ≡ w
+unfolding step_of
+idle_world images w event idle =
+    elim (idle_does_nothing images w event idle) [
+      | inl is ↦ impossible images w event (reason_of w event) is
+      | inr nothing ↦ ap (λ (s : Stepped). s.world) nothing
+    ]
+
+idle_for_good : (images : GivenImages) (w : World) (events : List Event) → ((q : ℕ) → is_runnable w q ≡ false) → world_after images w events ≡ w
+idle_for_good images w [] idle = refl
+idle_for_good images w (event ∷ events) idle =
+    ap (λ v. world_after images v events) (idle_world images w event (idle (pid_of event))) ∙ idle_for_good images w events idle
+
+-- nobody who is there passes where the search finds nobody
+passed_over : (p : ℕ → Bool) (es : List (ℕ × Proc)) (q : ℕ) → find p (map (λ e. e.0) es) ≡ None → IsTrue (is_some (entry nat_cmp q es)) → p q ≡ false
+passed_over p [] q none there = absurd (false≢true there)
+passed_over p (e ∷ es) q none there =
+    elim (p e.0) as (λ b. p e.0 ≡ b → cond b (Some e.0) (find p (map (λ e. e.0) es)) ≡ None → p q ≡ false) [
+      | true ↦ λ _ none. absurd (false≢true (sym (ap is_some none)))
+      | false ↦ λ fails none.
+          elim (q == e.0) as (λ b. (q == e.0) ≡ b → IsTrue (is_some (cond b (Some e.1) (entry nat_cmp q es))) → p q ≡ false) [
+            | true ↦ λ same _. ap p (eqb-true q e.0 same) ∙ fails
+            | false ↦ λ _ there. passed_over p es q none there
+          ] refl (ap (λ b. is_some (cond b (Some e.1) (entry nat_cmp q es))) (sym (same_number q e.0)) ∙ there)
+    ] refl none
+
+absent : (halted : Bool) (o : Option Proc) (b : Bool) → is_some o ≡ false → (not halted && is_alive o && b) ≡ false
+absent true o b gone = refl
+absent false None b gone = refl
+absent false (Some p) b gone = absurd (false≢true (sym gone))
+
+nobody_runs : (w : World) → find (is_runnable w) (pids w.procs) ≡ None → (q : ℕ) → is_runnable w q ≡ false
+nobody_runs w none q =
+    elim (is_some (at w q)) as (λ b. is_some (at w q) ≡ b → is_runnable w q ≡ false) [
+      | true ↦ λ there. passed_over (is_runnable w) w.procs.entries q none there
+      | false ↦ λ gone. absent (is_halted w) (at w q) (is_some (signal_due (at w q)) || (not (is_stopped (at w q)) && would_end w q)) gone
+    ] refl
+
+neither : (a b : Option ℕ) → option_or a b ≡ None → b ≡ None
+neither None b none = none
+neither (Some k) b none = cc
+
+pub end_is_final : EndIsFinal
+end_is_final images w last events none =
+    idle_for_good images w events (nobody_runs w (neither (find (λ pid. nat_lt last pid && is_runnable w pid) (pids w.procs)) (find (is_runnable w) (pids w.procs)) none))

@@ -83,7 +83,7 @@ abbrev pub after_set_seccomp : GivenImages → Record → Authority → Result A
 after_set_seccomp images call a =
     if register call 1 == 2 then after_attach images 0 (register call 2) a else Err Einval
 
--- prctl(2)
+-- prctl(2), by its option. One that only asks, and a number that is no option, leave the authority
 abbrev pub after_prctl : GivenImages → Option PrctlOption → Record → Authority → Result Authority Errno
 after_prctl images (Some option.SetNoNewPrivs) call a = after_no_new_privs call a
 after_prctl images (Some option.SetSeccomp) call a = after_set_seccomp images call a
@@ -93,7 +93,7 @@ after_prctl images other call a = Ok a
 abbrev pub after_set_mode_filter : GivenImages → Record → Authority → Result Authority Errno
 after_set_mode_filter images call a = after_attach images (low call 1) (register call 2) a
 
--- seccomp(2)
+-- seccomp(2), by its operation, in the same way
 abbrev pub after_seccomp : GivenImages → Option SeccompOperation → Record → Authority → Result Authority Errno
 after_seccomp images (Some operation.SetModeFilter) call a = after_set_mode_filter images call a
 after_seccomp images other call a = Ok a

@@ -77,7 +77,7 @@ no_new_privs_asked call is_set =
     then Ok (if is_set then 1 else 0)
     else Err Einval
 
--- prctl(2)
+-- prctl(2), by its option: EINVAL where the number is none
 abbrev pub prctl : GivenImages → World → ℕ → Option PrctlOption → Record → Performed
 prctl images w pid (Some option.SetNoNewPrivs) call = authorises w pid (after_no_new_privs call (authority_at w pid))
 prctl images w pid (Some option.SetSeccomp) call = authorises w pid (after_set_seccomp images call (authority_at w pid))
@@ -92,7 +92,7 @@ action_available flags value =
     else if is_some (value_of (action_of value)) && (data_part value == 0) then Ok 0
     else Err Eopnotsupp
 
--- seccomp(2)
+-- seccomp(2), by its operation: EINVAL where the number is none
 abbrev pub seccomp : GivenImages → World → ℕ → Option SeccompOperation → Record → Performed
 seccomp images w pid (Some operation.SetModeFilter) call = authorises w pid (after_set_mode_filter images call (authority_at w pid))
 seccomp images w pid (Some operation.GetActionAvail) call = asked w (action_available (low call 1) (low call 2))

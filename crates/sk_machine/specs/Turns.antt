@@ -1,5 +1,5 @@
--- Which processes have an event that is possible, and whose turn is next.
-use Rattle.std.specs.Prelude.{ℕ, Bool, true, false, not, ◌&&◌, ◌||◌, nat_lt, find, Option}
+-- Which processes can run, what they need next, and whose turn is next.
+use Rattle.std.specs.Prelude.{ℕ, Bool, true, false, not, ◌&&◌, ◌||◌, if◌then◌else◌, nat_lt, find, Option}
 use Rattle.std.specs.Option.{is_some, option_or}
 use Rattle.sk_world.specs.declared.process.Waiting.{Waiting}
 use Rattle.sk_world.specs.declared.process.Waiting.TheVariants.{Nothing, Pause, Asks}
@@ -7,8 +7,12 @@ use Rattle.sk_world.specs.Processes.{pids}
 use Rattle.sk_world.specs.World.{World, at, is_halted, is_stopped, is_alive}
 use Rattle.sk_world.specs.Waits.{is_ready, has_match}
 use Rattle.std.specs.List.{list_any}
+use Rattle.sk_machine.specs.declared.event.Event.{Event}
+use Rattle.sk_machine.specs.declared.event.Event.TheVariants.{Call, Deliver, Resume, Fault}
+use Rattle.sk_machine.specs.declared.event.Need.{Need}
+use Rattle.sk_machine.specs.declared.event.Need.TheVariants as need
 use Rattle.sk_machine.specs.Performed.{body_of}
-use Rattle.sk_machine.specs.Delivering.{signal_due}
+use Rattle.sk_machine.specs.Delivering.{signal_due, is_waiting}
 
 -- the call that a process waits in would end now: a wait4(2) whose child is ready, or that no child
 -- matches
@@ -23,6 +27,21 @@ abbrev pub is_runnable : World → ℕ → Bool
 is_runnable w pid =
     not (is_halted w) && is_alive (at w pid)
     && (is_some (signal_due (at w pid)) || (not (is_stopped (at w pid)) && wait_ends w pid (body_of (at w pid)).waiting))
+
+-- what the next event of a process is: a delivery where a signal is due, else a resumption where it waits
+-- in a call, else a call of its own
+abbrev pub need_of : World → ℕ → Need
+need_of w pid =
+    if is_some (signal_due (at w pid)) then need.Deliver
+    else if is_waiting (body_of (at w pid)).waiting then need.Resume
+    else need.Call
+
+-- the need that an event meets: a fault comes in place of a call
+abbrev pub need_met_by : Event → Need
+need_met_by (Call pid ip nr args) = need.Call
+need_met_by (Deliver pid) = need.Deliver
+need_met_by (Resume pid) = need.Resume
+need_met_by (Fault pid) = need.Call
 
 -- round robin: the first one that can run above the last one that ran, and else the first of all
 abbrev pub next_of : World → ℕ → Option ℕ

@@ -1,4 +1,4 @@
--- Runs that are worked out by hand: events that are not possible, and whose turn is next.
+-- Runs that are worked out by hand: events that are not possible, whose turn is next, and what it needs.
 use Rattle.std.specs.Prelude.{ℕ, ◌≡◌, true, [], ◌∷◌, List, Option, Some, None}
 use Rattle.sk_world.specs.declared.process.Life.TheVariants.{Zombie}
 use Rattle.sk_machine.specs.declared.answer.Outcome.TheVariants.{Ended}
@@ -13,9 +13,10 @@ use Rattle.sk_machine.specs.Lines.{Happening}
 use Rattle.sk_machine.specs.Given.{GivenImages}
 use Rattle.sk_machine.specs.Scripts.{nothing_given, given, plain, set_user_id, for_number, pause, getpid, fork, exit, wait4, kill, gives, waits, ends, resumes, delivers, crashes, not_now, events_of, Runs, after}
 use Rattle.sk_machine.specs.declared.event.Event.{Event}
+use Rattle.sk_machine.specs.declared.event.Need.TheVariants as need
 use Rattle.sk_machine.specs.Events.{pid_of}
 use Rattle.sk_machine.specs.Machine.{step_of}
-use Rattle.sk_machine.specs.Turns.{is_runnable, next_of}
+use Rattle.sk_machine.specs.Turns.{is_runnable, need_of, next_of}
 use Rattle.sk_machine.specs.WorkedCalls.{kept_filter}
 use Rattle.sk_machine.specs.WorkedWaits.{no_zombies, crash, stop_and_continue, orphan}
 use Rattle.sk_machine.specs.WorkedGroups.{kills_by_ids, regrouping}
@@ -121,10 +122,31 @@ stopped_child =
 abbrev pub NobodyRuns : Type 0
 NobodyRuns = next_of stopped_child 1 ≡ None
 
--- once SIGKILL is sent to it, the stopped child can
+-- SIGKILL is sent to the stopped child, and the parent waits in pause(2)
+abbrev pub killed_child : World
+killed_child =
+    after nothing_given opening ((fork 1, gives 2) ∷ (kill 1 2 19, gives 0) ∷ (Deliver 2, delivers 19 effect.Stopped) ∷ (kill 1 2 9, gives 0) ∷ (pause 1, waits) ∷ [])
+
+-- the stopped child can run
 abbrev pub KilledRuns : Type 0
-KilledRuns =
-    is_runnable (after nothing_given opening ((fork 1, gives 2) ∷ (kill 1 2 19, gives 0) ∷ (Deliver 2, delivers 19 effect.Stopped) ∷ (kill 1 2 9, gives 0) ∷ (pause 1, waits) ∷ [])) 2 ≡ true
+KilledRuns = is_runnable killed_child 2 ≡ true
+
+-- it needs the delivery of SIGKILL
+abbrev pub KilledNeedsDelivery : Type 0
+KilledNeedsDelivery = need_of killed_child 2 ≡ need.Deliver
+
+-- its parent, which no signal is due to, needs to ask again
+abbrev pub PausedNeedsResumption : Type 0
+PausedNeedsResumption = need_of killed_child 1 ≡ need.Resume
+
+-- where a signal is due to a process that waits, the delivery comes first
+abbrev pub SignalledNeedsDelivery : Type 0
+SignalledNeedsDelivery =
+    need_of (after nothing_given opening ((fork 1, gives 2) ∷ (pause 2, waits) ∷ (kill 1 2 15, gives 0) ∷ [])) 2 ≡ need.Deliver
+
+-- process 1 as the system starts makes a call
+abbrev pub FirstNeedsCall : Type 0
+FirstNeedsCall = need_of opening INIT ≡ need.Call
 
 -- all of these
 pub record WorkedTurns : Type 0 where
@@ -141,3 +163,7 @@ pub record WorkedTurns : Type 0 where
   pub turns_of_pause : TurnsOfPause
   pub nobody_runs : NobodyRuns
   pub killed_runs : KilledRuns
+  pub killed_needs_delivery : KilledNeedsDelivery
+  pub paused_needs_resumption : PausedNeedsResumption
+  pub signalled_needs_delivery : SignalledNeedsDelivery
+  pub first_needs_call : FirstNeedsCall

@@ -25,6 +25,17 @@ pub enum Event {
     },
 }
 
+/// What the next event of a process is.
+#[derive(Clone, Copy, PartialEq, Eq, Debug)]
+pub enum Need {
+    /// The delivery of a signal that is due.
+    Deliver,
+    /// A resumption of the call that it waits in.
+    Resume,
+    /// A call of its own.
+    Call,
+}
+
 impl Event {
     /// The process whose event it is.
     pub fn pid(&self) -> u32

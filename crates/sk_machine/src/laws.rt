@@ -12,7 +12,7 @@ ghost use Rattle.sk_machine.specs.WorkedWidths.{WorkedWidths};
 ghost use Rattle.sk_machine.specs.WorkedLimits.{WorkedLimits};
 ghost use Rattle.sk_machine.specs.MachineLaws.{ImpossibleChangesNothing, PossibleHappens, RefusedChangesNothing, FailedChangesNothing, CallKeepsRules, DeliveryKeepsRules, ResumptionKeepsRules, EventKeepsRules, RunKeepsRules, ReachedHasRules};
 ghost use Rattle.sk_machine.specs.TellingLaws.{EndIsToldToParent, EndIsToldOnce};
-ghost use Rattle.sk_machine.specs.TurnLaws.{NextCanRun, RunnableHasEvent};
+ghost use Rattle.sk_machine.specs.TurnLaws.{NextCanRun, RunnableHasEvent, IdleDoesNothing, EndIsFinal};
 ghost use Rattle.sk_machine.specs.ConfinementLaws.{EventIsConfined, ConfinementStays, LineIsConfined};
 ghost use Rattle.sk_machine.specs.FilterLaws.{FiltersInForceAreAccepted, StepsInForceAreBounded};
 ghost use Rattle.sk_machine.specs.LineLaws.{EventChangesAuthority, AuthorityIsOfLine, LineComesFromInit, LineKeepsFilters, VerdictIsOfLine, PerformedMeetsNoRefusal};
@@ -129,8 +129,11 @@ pub fn confined_lines_leave_others_alone()
     ensures line { LineIsConfined }
 {}
 
-/// Whose turn it is can run, and who can run has an event that is possible.
+/// Whose turn it is can run, the events that meet its need are possible and no others, and where nobody can
+/// run nothing happens any more.
 pub fn turns_go_to_the_runnable()
     ensures next { NextCanRun }
     ensures runnable { RunnableHasEvent }
+    ensures idle { IdleDoesNothing }
+    ensures end { EndIsFinal }
 {}

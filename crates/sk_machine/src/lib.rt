@@ -10,7 +10,7 @@ mod operation;
 mod syscall;
 
 pub use answer::{Answer, Effect, Outcome, Reason};
-pub use event::Event;
+pub use event::{Event, Need};
 pub use images::{Images, Mark};
 pub use operation::{PrctlOption, SeccompOperation};
 pub use syscall::Syscall;
