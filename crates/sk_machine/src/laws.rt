@@ -73,7 +73,6 @@ pub fn worked_widths()
 {}
 
 /// The definitions give what was worked out by hand of the limits on pids, processes and filters.
-#[tactic(auto, using(crate::proofs::LimitRows::worked_limits))]
 pub fn worked_limits()
     ensures law { WorkedLimits }
 {}
