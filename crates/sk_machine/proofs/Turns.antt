@@ -1,10 +1,8 @@
 -- Whose turn it is can run, who can run has the event that it needs, and who cannot does nothing.
-use Rattle.std.proofs.Common.{◌≡◌, ◌∙◌, ◌⊎◌, ◌↔◌, inl, inr, ℕ, ◌==◌, ◌&&◌, ◌||◌, ap, sym, refl, subst, cond, not, nat_lt, map, Bool, true, false, IsTrue, List, [], ◌∷◌, Option, None, Some}
+use Rattle.std.proofs.Common.{◌≡◌, ◌∙◌, ◌⊎◌, ◌↔◌, inl, inr, ℕ, ◌&&◌, ◌||◌, ap, sym, refl, subst, cond, not, nat_lt, Bool, true, false, IsTrue, List, [], ◌∷◌, Option, None, Some}
 use Rattle.std.specs.Option.{is_some, option_or, option_map_or, unwrap_or}
 use Rattle.std.specs.List.{find, list_any}
-use Rattle.std.specs.Ordering.{nat_cmp}
-use Rattle.std.specs.FinMap.Entries.{find as entry}
-use Rattle.std.proofs.lemmas.Bool.{false≢true, not-true, not-false, and_parts, or_parts, cond_both, eqb-true}
+use Rattle.std.proofs.lemmas.Bool.{false≢true, not-true, not-false, and_parts, or_parts, cond_both}
 use Rattle.sk_world.specs.declared.process.Proc.{Proc}
 use Rattle.sk_world.specs.declared.process.Waiting.{Waiting}
 use Rattle.sk_world.specs.declared.process.Waiting.TheVariants as waiting
@@ -13,8 +11,8 @@ use Rattle.sk_world.specs.declared.request.Poll.TheVariants as poll
 use Rattle.sk_world.specs.Processes.{pids}
 use Rattle.sk_world.specs.World.{World, at, has_ended, is_halted, is_stopped, is_zombie, is_alive}
 use Rattle.sk_world.specs.Waits.{is_ready, has_match, status_of}
-use Rattle.sk_world.proofs.Maps.{same_number}
 use Rattle.sk_world.proofs.KeptTold.{found}
+use Rattle.sk_world.proofs.Telling.{none_found as nobody_found}
 use Rattle.sk_machine.specs.declared.event.Event.{Event}
 use Rattle.sk_machine.specs.declared.event.Event.TheVariants.{Call, Deliver, Resume, Fault}
 use Rattle.sk_machine.specs.declared.event.Need.{Need}
@@ -205,19 +203,6 @@ idle_for_good images w [] idle = refl
 idle_for_good images w (event ∷ events) idle =
     ap (λ v. world_after images v events) (idle_world images w event (idle (pid_of event))) ∙ idle_for_good images w events idle
 
--- nobody who is there passes where the search finds nobody
-passed_over : (p : ℕ → Bool) (es : List (ℕ × Proc)) (q : ℕ) → find p (map (λ e. e.0) es) ≡ None → IsTrue (is_some (entry nat_cmp q es)) → p q ≡ false
-passed_over p [] q none there = absurd (false≢true there)
-passed_over p (e ∷ es) q none there =
-    elim (p e.0) as (λ b. p e.0 ≡ b → cond b (Some e.0) (find p (map (λ e. e.0) es)) ≡ None → p q ≡ false) [
-      | true ↦ λ _ none. absurd (false≢true (sym (ap is_some none)))
-      | false ↦ λ fails none.
-          elim (q == e.0) as (λ b. (q == e.0) ≡ b → IsTrue (is_some (cond b (Some e.1) (entry nat_cmp q es))) → p q ≡ false) [
-            | true ↦ λ same _. ap p (eqb-true q e.0 same) ∙ fails
-            | false ↦ λ _ there. passed_over p es q none there
-          ] refl (ap (λ b. is_some (cond b (Some e.1) (entry nat_cmp q es))) (sym (same_number q e.0)) ∙ there)
-    ] refl none
-
 absent : (halted : Bool) (o : Option Proc) (b : Bool) → is_some o ≡ false → (not halted && is_alive o && b) ≡ false
 absent true o b gone = refl
 absent false None b gone = refl
@@ -226,7 +211,7 @@ absent false (Some p) b gone = absurd (false≢true (sym gone))
 nobody_runs : (w : World) → find (is_runnable w) (pids w.procs) ≡ None → (q : ℕ) → is_runnable w q ≡ false
 nobody_runs w none q =
     elim (is_some (at w q)) as (λ b. is_some (at w q) ≡ b → is_runnable w q ≡ false) [
-      | true ↦ λ there. passed_over (is_runnable w) w.procs.entries q none there
+      | true ↦ λ there. nobody_found (is_runnable w) w.procs.entries none q there
       | false ↦ λ gone. absent (is_halted w) (at w q) (is_some (signal_due (at w q)) || (not (is_stopped (at w q)) && would_end w q)) gone
     ] refl
 

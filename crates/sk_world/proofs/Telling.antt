@@ -96,7 +96,7 @@ ready_lowest w caller request pid status is =
     )
 
 -- no pid passes where the search finds none
-none_found : (p : ℕ → Bool) (es : List (ℕ × Proc)) → first p (map (λ e. e.0) es) ≡ None → (q : ℕ) → IsTrue (is_some (find nat_cmp q es)) → p q ≡ false
+pub none_found : (p : ℕ → Bool) (es : List (ℕ × Proc)) → first p (map (λ e. e.0) es) ≡ None → (q : ℕ) → IsTrue (is_some (find nat_cmp q es)) → p q ≡ false
 none_found p [] is q there = absurd (false≢true there)
 none_found p (e ∷ es) is q there =
     elim (p e.0) as (λ b. p e.0 ≡ b → cond b (Some e.0) (first p (map (λ e. e.0) es)) ≡ None → p q ≡ false) [
