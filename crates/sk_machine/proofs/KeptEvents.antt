@@ -33,7 +33,7 @@ use Rattle.sk_world.specs.Waits.{is_no_hang, ready_of, told}
 use Rattle.sk_world.proofs.Stored.{at_here, kept_changed}
 use Rattle.sk_world.proofs.Kept.{kept_opening, kept_sent, kept_forced}
 use Rattle.sk_world.proofs.KeptFork.{kept_forked}
-use Rattle.sk_world.proofs.KeptEnd.{kept_ended}
+use Rattle.sk_world.proofs.KeptEnd.{kept_ended, alive_is_there}
 use Rattle.sk_world.proofs.KeptTold.{kept_told}
 use Rattle.sk_session.specs.Sessions.{after_setpgid, after_setsid, group_asked, session_asked}
 use Rattle.sk_session.proofs.KeptLinks.{kept_setpgid, kept_setsid}
@@ -115,7 +115,7 @@ kept_wait4 : (w : World) (pid : ℕ) (call : Record) → IsWorld w → IsTrue (i
 kept_wait4 w pid call rules alive =
     cond_both (not (are_wait_options (low call 2))) (fails w Einval) _ (λ (p : Performed). IsWorld p.world) (λ _. rules)
     (λ _. cond_both (low call 0 == 2147483648) (fails w Esrch) _ (λ (p : Performed). IsWorld p.world) (λ _. rules)
-    (λ _. kept_polled w pid (request_of w pid call) (ready_of w pid (request_of w pid call)) rules (kept_told w pid (request_of w pid call) rules alive)))
+    (λ _. kept_polled w pid (request_of w pid call) (ready_of w pid (request_of w pid call)) rules (kept_told w pid (request_of w pid call) rules (alive_is_there (at w pid) alive))))
 
 kept_prctl : (images : GivenImages) (w : World) (pid : ℕ) (which : Option PrctlOption) (call : Record) → IsWorld w → IsWorld (prctl images w pid which call).world
 kept_prctl images w pid (Some option.SetNoNewPrivs) call rules = kept_authorises w pid (after_no_new_privs call (authority_at w pid)) rules
@@ -128,10 +128,6 @@ kept_seccomp : (images : GivenImages) (w : World) (pid : ℕ) (which : Option Se
 kept_seccomp images w pid (Some operation.SetModeFilter) call rules = kept_authorises w pid (after_set_mode_filter images call (authority_at w pid)) rules
 kept_seccomp images w pid (Some operation.GetActionAvail) call rules = kept_asked w (action_available (low call 1) (low call 2)) rules
 kept_seccomp images w pid None call rules = rules
-
-alive_is_there : (o : Option Proc) → IsTrue (is_alive o) → IsTrue (is_some o)
-alive_is_there None alive = alive
-alive_is_there (Some p) alive = refl
 
 kept_row : (images : GivenImages) (w : World) (pid : ℕ) (which : Option Syscall) (call : Record) → IsWorld w → IsTrue (is_alive (at w pid)) → IsWorld (row images w pid which call).world
 kept_row images w pid (Some syscall.RtSigaction) call rules alive = kept_resignals w pid (after_sigaction pid call (body_of (at w pid)).signals) rules
@@ -239,7 +235,7 @@ kept_polled_again w pid poll.NoMatch rules kept = kept_body w pid (waiting_in wa
 kept_polled_again w pid poll.NotReady rules kept = rules
 
 pub kept_resumed : ResumptionKeepsRules
-kept_resumed w pid (waiting.Asks request) rules alive = kept_polled_again w pid (ready_of w pid request) rules (kept_told w pid request rules alive)
+kept_resumed w pid (waiting.Asks request) rules alive = kept_polled_again w pid (ready_of w pid request) rules (kept_told w pid request rules (alive_is_there (at w pid) alive))
 kept_resumed w pid waiting.Pause rules alive = rules
 kept_resumed w pid waiting.Nothing rules alive = rules
 

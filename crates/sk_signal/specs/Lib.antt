@@ -7,3 +7,4 @@ pub mod StateView
 pub mod Generation
 pub mod Delivery
 pub mod Signalling
+pub mod SignalNumbers

@@ -3,6 +3,7 @@
 #![tactic(auto)]
 
 mod disposition;
+pub mod laws;
 pub mod number;
 mod set;
 mod state;

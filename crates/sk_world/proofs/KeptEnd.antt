@@ -115,12 +115,12 @@ kept_reparented_from w pid rules low =
     cond_both (has_zombie_child w pid && not (ignores_children (at w INIT))) (sent handed INIT SIGCHLD) handed IsWorld
     (λ _. kept_sent handed INIT SIGCHLD (kept_handed w pid rules low)) (λ _. kept_handed w pid rules low)
 
-alive_is_there : (o : Option Proc) → IsTrue (is_alive o) → IsTrue (is_some o)
+pub alive_is_there : (o : Option Proc) → IsTrue (is_alive o) → IsTrue (is_some o)
 alive_is_there None alive = alive
 alive_is_there (Some p) alive = refl
 
 pub kept_reparented : ReparentKeepsRules
-kept_reparented w pid rules alive = kept_reparented_from w pid rules (rules.pids pid (alive_is_there (at w pid) alive)).0
+kept_reparented w pid rules there = kept_reparented_from w pid rules (rules.pids pid there).0
 
 -- nobody's parent
 unfoldable pub IsAlone : World → ℕ → Type 0
@@ -179,4 +179,4 @@ kept_ended w pid status rules alive =
     (λ _. kept_stored w INIT _ rules (fits_halted w status (at w INIT) refl rules))
     (λ other.
     let ne = eqb-false pid INIT other in
-    kept_died (reparented w pid) pid status (kept_reparented w pid rules alive) ne (alone_reparented w pid ne))
+    kept_died (reparented w pid) pid status (kept_reparented w pid rules (alive_is_there (at w pid) alive)) ne (alone_reparented w pid ne))

@@ -32,14 +32,10 @@ no_parent : (o : Option Proc) → IsTrue (is_init o) → parent_of o ≡ 0
 no_parent None init = refl
 no_parent (Some p) init = eqb-true p.links.parent 0 (and_parts (p.links.parent == 0) _ init).0
 
-alive_is_there : (o : Option Proc) → IsTrue (is_alive o) → IsTrue (is_some o)
-alive_is_there None alive = alive
-alive_is_there (Some p) alive = refl
-
 -- process 1 is nobody's child
-pub not_init : (w : World) (caller : ℕ) (request : Request) (pid : ℕ) → IsWorld w → IsTrue (is_alive (at w caller)) → IsTrue (is_match caller request pid (at w pid)) → pid ≢ INIT
+pub not_init : (w : World) (caller : ℕ) (request : Request) (pid : ℕ) → IsWorld w → IsTrue (is_some (at w caller)) → IsTrue (is_match caller request pid (at w pid)) → pid ≢ INIT
 not_init w caller request pid rules alive is one =
-    let low = (rules.pids caller (alive_is_there (at w caller) alive)).0 in
+    let low = (rules.pids caller alive).0 in
     let parent : 0 ≡ caller = sym (no_parent (at w INIT) rules.init) ∙ ap (λ k. parent_of (at w k)) (sym one) ∙ match_parent caller request pid (at w pid) is in
     absurd (omega arith)
 
@@ -49,7 +45,7 @@ kept_telling w pid status rules ne =
     cond_both (is_zombie (at w pid)) (stored w pid None) (changed w pid without_note) IsWorld (kept_removed w pid rules ne)
     (λ _. kept_changed w pid without_note rules (λ p is. record { ended = refl; init = λ e h. h }))
 
-kept_answer : (w : World) (caller : ℕ) (request : Request) (o : Option ℕ) → find (is_ready w caller request) (pids w.procs) ≡ o → IsWorld w → IsTrue (is_alive (at w caller))
+kept_answer : (w : World) (caller : ℕ) (request : Request) (o : Option ℕ) → find (is_ready w caller request) (pids w.procs) ≡ o → IsWorld w → IsTrue (is_some (at w caller))
     → IsWorld (told w (option_map_or (λ pid. Told pid (unwrap_or (status_of request.options (at w pid)) 0)) o (cond (has_match w caller request) NotReady NoMatch)))
 kept_answer w caller request None is rules alive = cond_both (has_match w caller request) NotReady NoMatch (λ poll. IsWorld (told w poll)) (λ _. rules) (λ _. rules)
 kept_answer w caller request (Some pid) is rules alive =

@@ -86,10 +86,27 @@ match_is_there caller request pid (Some p) is = refl
 ready_is_match : (w : World) (caller : ℕ) (request : Request) (pid : ℕ) → IsTrue (is_ready w caller request pid) → IsTrue (is_match caller request pid (at w pid))
 ready_is_match w caller request pid ready = (and_parts (is_match caller request pid (at w pid)) (is_some (status_of request.options (at w pid))) ready).0
 
+told_status : Poll → ℕ
+told_status (Told pid status) = status
+told_status NoMatch = 0
+told_status NotReady = 0
+
+its_status : (o : Option ℕ) (status : ℕ) → IsTrue (is_some o) → unwrap_or o 0 ≡ status → o ≡ Some status
+its_status None status there is = absurd (false≢true there)
+its_status (Some n) status there is = ap Some is
+
+status_told : (w : World) (caller : ℕ) (request : Request) (pid status : ℕ) → ready_of w caller request ≡ Told pid status → unwrap_or (status_of request.options (at w pid)) 0 ≡ status
+unfolding told_status
+status_told w caller request pid status is =
+    sym (ap (λ o. told_status (option_map_or (λ pid. Told pid (unwrap_or (status_of request.options (at w pid)) 0)) o (cond (has_match w caller request) NotReady NoMatch))) (searched w caller request pid status is))
+    ∙ ap told_status is
+
 pub ready_lowest : ReadyIsLowest
 ready_lowest w caller request pid status is =
-    let search = searched w caller request pid status is in (
-      found (is_ready w caller request) (pids w.procs) pid search,
+    let search = searched w caller request pid status is in
+    let ready = found (is_ready w caller request) (pids w.procs) pid search in (
+      ready,
+      its_status (status_of request.options (at w pid)) status (and_parts (is_match caller request pid (at w pid)) _ ready).1 (status_told w caller request pid status is),
       λ other ready.
           least_found (is_ready w caller request) w.procs.entries w.procs.rising pid search other ready
           (match_is_there caller request other (at w other) (ready_is_match w caller request other ready)),

@@ -12,7 +12,7 @@ use Rattle.sk_world.specs.Numbers.{is_used, distance_from, fresh_of}
 use Rattle.sk_world.specs.Sending.{sent, forced}
 use Rattle.sk_world.specs.Forking.{forked, has_room, child_of}
 use Rattle.sk_world.specs.Ending.{ignores_children, zombie, reparented, ended}
-use Rattle.sk_world.specs.Waits.{is_match, is_ready, ready_of, told}
+use Rattle.sk_world.specs.Waits.{is_match, is_ready, status_of, ready_of, told}
 
 -- signals are not queued: one that is sent again changes nothing. Only SIGCONT may say more, to the
 -- parent: signal(7)
@@ -68,7 +68,7 @@ EndLeavesZombie =
 abbrev pub ReadyIsLowest : Type 0
 ReadyIsLowest =
     (w : World) (caller : ℕ) (request : Request) (pid status : ℕ) → ready_of w caller request ≡ Told pid status
-    → IsTrue (is_ready w caller request pid) × ((other : ℕ) → IsTrue (is_ready w caller request other) → pid ≤ other)
+    → IsTrue (is_ready w caller request pid) × (status_of request.options (at w pid) ≡ Some status) × ((other : ℕ) → IsTrue (is_ready w caller request other) → pid ≤ other)
 
 -- it answers ECHILD only where no child matches: wait(2), "ERRORS"
 abbrev pub NoMatchHasNone : Type 0

@@ -12,8 +12,8 @@ use Rattle.sk_world.specs.declared.process.Waiting.TheVariants as waiting
 use Rattle.sk_world.specs.declared.process.Note.TheVariants as note
 use Rattle.sk_world.specs.declared.process.Body.{Body}
 use Rattle.sk_world.specs.declared.process.Proc.{Proc}
-use Rattle.sk_world.specs.Processes.{each}
-use Rattle.sk_world.specs.World.{World, at, has_ended, parent_of, stored, changed}
+use Rattle.sk_world.specs.Processes.{pids, each}
+use Rattle.sk_world.specs.World.{World, at, has_ended, is_zombie, is_child_of, parent_of, stored, changed}
 use Rattle.sk_world.specs.Sending.{sent}
 
 -- who the children of an ending process are handed to: process 1
@@ -39,7 +39,7 @@ with_children_handed_on w pid =
 
 -- some child of the process is a zombie
 abbrev pub has_zombie_child : World → ℕ → Bool
-has_zombie_child w pid = list_any (λ e. (e.1.links.parent == pid) && has_ended e.1.body.life) w.procs.entries
+has_zombie_child w pid = list_any (λ k. is_child_of pid (at w k) && is_zombie (at w k)) (pids w.procs)
 
 -- the children of a process are handed on, and the zombies among them are announced to the new parent,
 -- where they have not gone

@@ -1,8 +1,7 @@
 -- What wait4(2) tells, and of which child.
-use Rattle.std.specs.Prelude.{ℕ, ◌+◌, ◌*◌, ◌==◌, Bool, true, false, ◌&&◌, if◌then◌else◌, find, Option, None, Some}
+use Rattle.std.specs.Prelude.{ℕ, ◌+◌, ◌*◌, ◌==◌, Bool, true, false, ◌&&◌, if◌then◌else◌, bit_and, find, Option, None, Some}
 use Rattle.std.specs.Option.{is_some, option_map_or, option_and_then, unwrap_or}
 use Rattle.std.specs.List.{list_any}
-use Rattle.std.specs.Int.{bit_at}
 use Rattle.sk_world.specs.declared.process.Life.{Life}
 use Rattle.sk_world.specs.declared.process.Life.TheVariants.{Running, Stopped, Zombie}
 use Rattle.sk_world.specs.declared.process.Note.{Note}
@@ -24,15 +23,15 @@ options_of bits = record { 0 = bits }
 
 -- the call does not wait: wait4(2), WNOHANG
 abbrev pub is_no_hang : WaitOptions → Bool
-is_no_hang options = bit_at options.0 0 == 1
+is_no_hang options = bit_and options.0 1 == 1
 
 -- it asks for stopped children too: WUNTRACED
 abbrev pub is_untraced : WaitOptions → Bool
-is_untraced options = bit_at options.0 1 == 1
+is_untraced options = bit_and options.0 2 == 2
 
 -- it asks for continued children too: WCONTINUED
 abbrev pub is_continued : WaitOptions → Bool
-is_continued options = bit_at options.0 3 == 1
+is_continued options = bit_and options.0 8 == 8
 
 -- the process is one of those that are waited for
 abbrev pub is_asked_for : Who → ℕ → Proc → Bool

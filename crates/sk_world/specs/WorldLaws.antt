@@ -1,5 +1,6 @@
 -- Laws on worlds: the rules of the world hold of the opening, and each change keeps them.
 use Rattle.std.specs.Prelude.{ℕ, ◌≡◌, ◌≢◌, IsTrue, None, Some}
+use Rattle.std.specs.Option.{is_some}
 use Rattle.sk_world.specs.declared.process.TheConstants.{INIT}
 use Rattle.sk_world.specs.declared.process.Links.{Links}
 use Rattle.sk_world.specs.declared.process.Body.{Body}
@@ -54,7 +55,7 @@ ForkKeepsRules = (w : World) (caller : ℕ) → IsWorld w → IsTrue (is_alive (
 
 -- so does the handing on of the children of a process
 abbrev pub ReparentKeepsRules : Type 0
-ReparentKeepsRules = (w : World) (pid : ℕ) → IsWorld w → IsTrue (is_alive (at w pid)) → IsWorld (reparented w pid)
+ReparentKeepsRules = (w : World) (pid : ℕ) → IsWorld w → IsTrue (is_some (at w pid)) → IsWorld (reparented w pid)
 
 -- so does the end of a process, also that of process 1, which halts the system
 abbrev pub EndKeepsRules : Type 0
@@ -63,4 +64,4 @@ EndKeepsRules = (w : World) (pid status : ℕ) → IsWorld w → IsTrue (is_aliv
 -- so does what wait4(2) tells
 abbrev pub ToldKeepsRules : Type 0
 ToldKeepsRules =
-    (w : World) (caller : ℕ) (request : Request) → IsWorld w → IsTrue (is_alive (at w caller)) → IsWorld (told w (ready_of w caller request))
+    (w : World) (caller : ℕ) (request : Request) → IsWorld w → IsTrue (is_some (at w caller)) → IsWorld (told w (ready_of w caller request))
