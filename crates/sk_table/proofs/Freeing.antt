@@ -8,6 +8,7 @@ use Rattle.sk_world.specs.declared.process.Proc.{Proc}
 use Rattle.sk_world.specs.World.{World}
 use Rattle.sk_world.specs.Numbers.{has_number, is_used, next_number, free_from, fresh_of}
 use Rattle.sk_table.specs.declared.scan.Row.{Row}
+use Rattle.sk_table.specs.declared.scan.TheConstants.{NUMBERS}
 use Rattle.sk_table.specs.Rows.{processes_of, Distinct, row_has_number, free_row}
 use Rattle.sk_table.proofs.Keeping.{world, get_rows}
 
@@ -55,10 +56,10 @@ free_rows (suc more) rows last n h =
     ∙ ap (λ m. cond (is_used (world rows last) n) m n) (free_rows more rows last (next_number n) h)
 
 -- the number that a scan of the rows answers
-pub fresh_of_rows : (rows seen : List Row) (last : ℕ) (w : World) (n : ℕ) → n ≡ free_row 32766 seen (next_number last) → seen ≡ rows → world rows last ≡ w → Distinct rows → n ≡ fresh_of w
+pub fresh_of_rows : (rows seen : List Row) (last : ℕ) (w : World) (n : ℕ) → n ≡ free_row NUMBERS seen (next_number last) → seen ≡ rows → world rows last ≡ w → Distinct rows → n ≡ fresh_of w
 unfolding fresh_of
 fresh_of_rows rows seen last w n e these is h =
     e
-    ∙ ap (λ rs. free_row 32766 rs (next_number last)) these
-    ∙ free_rows 32766 rows last (next_number last) h
+    ∙ ap (λ rs. free_row NUMBERS rs (next_number last)) these
+    ∙ free_rows NUMBERS rows last (next_number last) h
     ∙ ap (λ (v : World). fresh_of v) is

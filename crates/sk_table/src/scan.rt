@@ -8,7 +8,7 @@ ghost use Rattle.sk_table.specs.Rows.{Distinct, row_has_number, free_row, is_sou
 use sk_world::{LAST_PID, Proc};
 
 // How many numbers there are to be given, from 2 to the last.
-const NUMBERS: u32 = 32766;
+const NUMBERS: u32 = LAST_PID - 1;
 
 /// A process in the list, and its pid.
 #[derive(Drop)]

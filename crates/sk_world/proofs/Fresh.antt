@@ -94,7 +94,7 @@ used_numbers n (e ∷ es) =
 
 -- how many steps of `next_number` lead from k to j
 steps : ℕ → ℕ → ℕ
-steps k j = cond (nat_le k j) (j - k) (j + 32766 - k)
+steps k j = cond (nat_le k j) (j - k) (j + (LAST_PID - 1) - k)
 
 next_in_range : (k : ℕ) → 1 ≤ k → (2 ≤ next_number k) × (next_number k ≤ LAST_PID)
 next_in_range k h = (grind (arith, nat_tests, h), grind (arith, nat_tests, h))
@@ -123,7 +123,7 @@ within (suc n) w k k2 kl =
       | false ↦ (k2, kl)
     ]
 
-steps_within : (k j : ℕ) → 2 ≤ k → k ≤ LAST_PID → 2 ≤ j → j ≤ LAST_PID → steps k j < 32766
+steps_within : (k j : ℕ) → 2 ≤ k → k ≤ LAST_PID → 2 ≤ j → j ≤ LAST_PID → steps k j < LAST_PID - 1
 unfolding steps
 steps_within k j k2 kl j2 jl = grind (arith, nat_tests, k2, kl, j2, jl)
 
@@ -165,16 +165,16 @@ pub fresh_in_range : (w : World) → 1 ≤ w.last → (2 ≤ fresh_of w) × (fre
 unfolding fresh_of
 fresh_in_range w given =
     let next = next_in_range w.last given in
-    within 32766 w (next_number w.last) next.0 next.1
+    within (LAST_PID - 1) w (next_number w.last) next.0 next.1
 
 -- while there is room for a process more it is nobody's pid, group or session
 pub fresh_unused : (w : World) → count w.procs < PROCESSES → 1 ≤ w.last → is_used w (fresh_of w) ≡ false
 unfolding fresh_of
 fresh_unused w room given =
     let next = next_in_range w.last given in
-    let left = one_left 32766 (numbers_of w.procs.entries) (omega (arith, length-numbers_of w.procs.entries)) in
+    let left = one_left (LAST_PID - 1) (numbers_of w.procs.entries) (omega (arith, length-numbers_of w.procs.entries)) in
     let below : left.0 ≤ LAST_PID = omega (arith, left.2) in
-    reached 32766 w (next_number w.last) left.0 next.0 next.1 left.1 below (used_numbers left.0 w.procs.entries ∙ left.3)
+    reached (LAST_PID - 1) w (next_number w.last) left.0 next.0 next.1 left.1 below (used_numbers left.0 w.procs.entries ∙ left.3)
     (steps_within (next_number w.last) left.0 next.0 next.1 left.1 below)
 
 not_first : (n k : ℕ) (b c d : Bool) → ((k == n) || b || c || d) ≡ false → ((n == k) ≡ false) × (d ≡ false)
@@ -196,5 +196,5 @@ unfolding fresh_of
 number_next w n l1 ll n2 nl before =
     let next = next_in_range w.last l1 in
     let fresh = fresh_in_range w l1 in
-    passed 32766 w (next_number w.last) n next.0 next.1 n2 nl
+    passed (LAST_PID - 1) w (next_number w.last) n next.0 next.1 n2 nl
     (omega (arith, before, from_next w.last n l1 ll n2 nl, from_next w.last (fresh_of w) l1 ll fresh.0 fresh.1))

@@ -20,13 +20,13 @@ next_number n = if nat_lt n LAST_PID then n + 1 else 2
 
 -- how many numbers on from `last` a number comes, as they go round: the next one is 1 on
 abbrev pub distance_from : ℕ → ℕ → ℕ
-distance_from last n = if nat_lt last n then n - last else n + 32766 - last
+distance_from last n = if nat_lt last n then n - last else n + (LAST_PID - 1) - last
 
 -- the first number that nobody has, from n on, where at most so many are asked
 abbrev pub free_from : ℕ → World → ℕ → ℕ
 free_from zero w n = n
 free_from (suc more) w n = if is_used w n then free_from more w (next_number n) else n
 
--- the pid of the next child: the first number after the last pid given that nobody has, of all 32766
+-- the pid of the next child: the first number after the last pid given that nobody has, of all that there are
 unfoldable pub fresh_of : World → ℕ
-fresh_of w = free_from 32766 w (next_number w.last)
+fresh_of w = free_from (LAST_PID - 1) w (next_number w.last)
