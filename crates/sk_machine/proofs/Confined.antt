@@ -3,7 +3,7 @@ use Rattle.std.proofs.Common.{◌≡◌, ◌≢◌, ◌∙◌, ℕ, ℤ, ◌==�
 use Rattle.std.specs.Option.{is_some, unwrap_or, option_map, option_and_then}
 use Rattle.std.specs.Int.{is_negative}
 use Rattle.std.proofs.lemmas.Int.{ints}
-use Rattle.std.proofs.lemmas.Bool.{false≢true, cond_both, eqb-true, ne_eqb, not-false, and_parts}
+use Rattle.std.proofs.lemmas.Bool.{false≢true, cond_both, eqb-true, ne_eqb, not-false, and_parts, eqb-false, false_from_ne_true}
 use Rattle.sk_insn.specs.declared.record.Record.{Record}
 use Rattle.sk_insn.specs.declared.action.Action.{Action}
 use Rattle.sk_insn.specs.declared.action.Action.TheVariants as action
@@ -28,7 +28,7 @@ use Rattle.sk_world.specs.declared.process.Waiting.TheVariants as waiting
 use Rattle.sk_world.specs.declared.request.Request.{Request}
 use Rattle.sk_world.specs.declared.request.Poll.{Poll}
 use Rattle.sk_world.specs.declared.request.Poll.TheVariants as poll
-use Rattle.sk_world.specs.World.{World, at, is_alive, is_child_of, parent_of, stored, body_changed, changed}
+use Rattle.sk_world.specs.World.{World, at, is_child_of, parent_of, stored, body_changed, changed}
 use Rattle.sk_world.specs.Rules.{IsWorld}
 use Rattle.sk_world.specs.Numbers.{fresh_of}
 use Rattle.sk_world.specs.Forking.{has_room, forked}
@@ -36,7 +36,7 @@ use Rattle.sk_world.specs.Sending.{signalled, sent}
 use Rattle.sk_world.specs.Ending.{ignores_children, handed_on, with_children_handed_on, has_zombie_child, reparented, zombie, died, ended}
 use Rattle.sk_world.specs.Waits.{is_no_hang, is_match, status_of, ready_of, told}
 use Rattle.sk_world.proofs.Stored.{everywhere, at_here, at_other}
-use Rattle.sk_world.proofs.KeptEnd.{handed_cases, handed_at}
+use Rattle.sk_world.proofs.KeptEnd.{handed_cases, handed_at, alive_is_there}
 use Rattle.sk_world.proofs.KeptTold.{match_parent}
 use Rattle.sk_world.proofs.Locality.{not_queued, forced_touches, told_touches, forked_touches}
 use Rattle.sk_world.proofs.Telling.{ready_lowest}
@@ -65,6 +65,7 @@ use Rattle.sk_machine.specs.Performing.{executing, execve, forks, exit_status, a
 use Rattle.sk_machine.specs.Delivering.{Delivered, signal_due, ended_by, handling, handled, stopping, ignored, by_default, done_by, taking, done, delivered}
 use Rattle.sk_machine.specs.Machine.{Stepped, judged, happened, reason_of, stepped, step_of}
 use Rattle.sk_machine.specs.ConfinementLaws.{RefusesKill, IsConfined, is_end, is_end_or_stop, ends_or_stops, EventIsConfined}
+use Rattle.sk_machine.proofs.CallNumbers.{number_is}
 use Rattle.sk_machine.proofs.Growing.{lets_through}
 use Rattle.sk_machine.proofs.KeptEvents.{possible_is_alive}
 
@@ -73,35 +74,13 @@ abbrev is_kill_row : Option Syscall → Bool
 is_kill_row (Some syscall.Kill) = true
 is_kill_row other = false
 
+only_kill : (o : Option Syscall) → is_kill_row o ≡ true → o ≡ Some syscall.Kill
+only_kill (Some syscall.Kill) is = refl
+only_kill other is = absurd (false≢true is)
+
 kill_number_else : (nr : ℕ) → (nr == 62) ≡ false → is_kill_row (syscall_of nr) ≡ false
 kill_number_else nr other =
-    cond_both (nr == 13) (Some syscall.RtSigaction) _ (λ o. is_kill_row o ≡ false) (λ _. refl)
-    (λ _. cond_both (nr == 14) (Some syscall.RtSigprocmask) _ (λ o. is_kill_row o ≡ false) (λ _. refl)
-    (λ _. cond_both (nr == 15) (Some syscall.RtSigreturn) _ (λ o. is_kill_row o ≡ false) (λ _. refl)
-    (λ _. cond_both (nr == 24) (Some syscall.SchedYield) _ (λ o. is_kill_row o ≡ false) (λ _. refl)
-    (λ _. cond_both (nr == 34) (Some syscall.Pause) _ (λ o. is_kill_row o ≡ false) (λ _. refl)
-    (λ _. cond_both (nr == 39) (Some syscall.Getpid) _ (λ o. is_kill_row o ≡ false) (λ _. refl)
-    (λ _. cond_both (nr == 57) (Some syscall.Fork) _ (λ o. is_kill_row o ≡ false) (λ _. refl)
-    (λ _. cond_both (nr == 59) (Some syscall.Execve) _ (λ o. is_kill_row o ≡ false) (λ _. refl)
-    (λ _. cond_both (nr == 60) (Some syscall.Exit) _ (λ o. is_kill_row o ≡ false) (λ _. refl)
-    (λ _. cond_both (nr == 61) (Some syscall.Wait4) _ (λ o. is_kill_row o ≡ false) (λ _. refl)
-    (λ _. cond_both (nr == 62) (Some syscall.Kill) _ (λ o. is_kill_row o ≡ false) (λ is. absurd (false≢true (sym other ∙ is)))
-    (λ _. cond_both (nr == 102) (Some syscall.Getuid) _ (λ o. is_kill_row o ≡ false) (λ _. refl)
-    (λ _. cond_both (nr == 105) (Some syscall.Setuid) _ (λ o. is_kill_row o ≡ false) (λ _. refl)
-    (λ _. cond_both (nr == 107) (Some syscall.Geteuid) _ (λ o. is_kill_row o ≡ false) (λ _. refl)
-    (λ _. cond_both (nr == 109) (Some syscall.Setpgid) _ (λ o. is_kill_row o ≡ false) (λ _. refl)
-    (λ _. cond_both (nr == 110) (Some syscall.Getppid) _ (λ o. is_kill_row o ≡ false) (λ _. refl)
-    (λ _. cond_both (nr == 111) (Some syscall.Getpgrp) _ (λ o. is_kill_row o ≡ false) (λ _. refl)
-    (λ _. cond_both (nr == 112) (Some syscall.Setsid) _ (λ o. is_kill_row o ≡ false) (λ _. refl)
-    (λ _. cond_both (nr == 117) (Some syscall.Setresuid) _ (λ o. is_kill_row o ≡ false) (λ _. refl)
-    (λ _. cond_both (nr == 118) (Some syscall.Getresuid) _ (λ o. is_kill_row o ≡ false) (λ _. refl)
-    (λ _. cond_both (nr == 121) (Some syscall.Getpgid) _ (λ o. is_kill_row o ≡ false) (λ _. refl)
-    (λ _. cond_both (nr == 124) (Some syscall.Getsid) _ (λ o. is_kill_row o ≡ false) (λ _. refl)
-    (λ _. cond_both (nr == 127) (Some syscall.RtSigpending) _ (λ o. is_kill_row o ≡ false) (λ _. refl)
-    (λ _. cond_both (nr == 157) (Some syscall.Prctl) _ (λ o. is_kill_row o ≡ false) (λ _. refl)
-    (λ _. cond_both (nr == 231) (Some syscall.ExitGroup) _ (λ o. is_kill_row o ≡ false) (λ _. refl)
-    (λ _. cond_both (nr == 317) (Some syscall.Seccomp) _ (λ o. is_kill_row o ≡ false) (λ _. refl)
-    (λ _. refl))))))))))))))))))))))))))
+    false_from_ne_true (is_kill_row (syscall_of nr)) (λ is. eqb-false nr 62 other (number_is nr syscall.Kill (only_kill (syscall_of nr) is)))
 
 kill_number : (nr : ℕ) → is_kill_row (syscall_of nr) ≡ (nr == 62)
 kill_number nr =
@@ -391,10 +370,6 @@ spares_happened images w (Call pid ip nr args) q rules apart there refuses =
 spares_happened images w (Deliver pid) q rules apart there refuses = spares_delivered w pid (unwrap_or (signal_due (at w pid)) 0) q apart
 spares_happened images w (Resume pid) q rules apart there refuses = spares_resumed w pid q (body_of (at w pid)).waiting apart
 spares_happened images w (Fault pid) q rules apart there refuses = spares_ends w pid SIGSEGV q apart
-
-alive_is_there : (o : Option Proc) → IsTrue (is_alive o) → IsTrue (is_some o)
-alive_is_there None alive = alive
-alive_is_there (Some p) alive = refl
 
 apart_of : (w : World) (inside : ℕ → Bool) (pid q : ℕ) → IsConfined w inside → IsTrue (inside pid) → inside q ≡ false → IsTrue (is_some (at w q)) → IsApart w pid q
 apart_of w inside pid q confined within outside there = record {

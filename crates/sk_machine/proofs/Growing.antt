@@ -20,8 +20,8 @@ use Rattle.sk_creds.specs.declared.errno.Errno.TheVariants.{Eperm, Enomem, Eacce
 use Rattle.sk_creds.specs.declared.creds.Creds.{Creds}
 use Rattle.sk_creds.specs.declared.creds.TheConstants.{NO_ID}
 use Rattle.sk_creds.specs.Creds.{is_privileged, is_real_or_saved, may_take, after_setuid, after_setresuid}
-use Rattle.sk_world.specs.declared.process.Proc.{Proc}
-use Rattle.sk_world.specs.World.{World, at, is_alive}
+use Rattle.sk_world.specs.World.{World, at}
+use Rattle.sk_world.proofs.KeptEnd.{alive_is_there}
 use Rattle.sk_machine.specs.declared.event.Event.TheVariants.{Call}
 use Rattle.sk_machine.specs.declared.answer.Answer.TheVariants as answer
 use Rattle.sk_machine.specs.declared.answer.Outcome.{Outcome}
@@ -130,10 +130,6 @@ line_keeps_filters images calls more a =
     subst (GrowsFrom (authority_after_calls images calls a)) (sym (after_more images calls more a)) (grows_calls images more (authority_after_calls images calls a))
 
 -- ---- verdicts
-alive_is_there : (o : Option Proc) → IsTrue (is_alive o) → IsTrue (is_some o)
-alive_is_there None alive = alive
-alive_is_there (Some p) alive = refl
-
 pub judged_by_filters : (images : GivenImages) (w : World) (pid ip nr : ℕ) (args : List ℕ) (verdict : ℕ) (outcome : Outcome) (o : Option Reason)
     → reason_of w (Call pid ip nr args) ≡ o → (stepped images w (Call pid ip nr args) o).answer ≡ answer.Call verdict outcome
     → IsTrue (is_some (at w pid)) × (verdict ≡ verdict_of (authority_at w pid).programs (record { nr = nr; ip = ip; args = args }))

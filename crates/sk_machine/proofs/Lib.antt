@@ -1,3 +1,4 @@
+pub mod CallNumbers
 pub mod CallRows
 pub mod SignalRows
 pub mod WaitRows

@@ -2,7 +2,7 @@
 use Rattle.std.proofs.Common.{◌≡◌, ◌≢◌, ◌∙◌, ℕ, ◌==◌, ◌&&◌, ap, sym, refl, subst, cond, not, Bool, true, false, IsTrue, List, [], ◌∷◌, ◌++◌, Option, None, Some, Result, Ok, Err}
 use Rattle.std.specs.Option.{is_some, unwrap_or, option_to_list}
 use Rattle.std.specs.Result.{result_unwrap_or}
-use Rattle.std.proofs.lemmas.Bool.{false≢true, cond_both, eqb-true, eqb-false}
+use Rattle.std.proofs.lemmas.Bool.{false≢true, eqb-true, eqb-false, false_from_ne_true}
 use Rattle.sk_insn.specs.declared.record.Record.{Record}
 use Rattle.sk_insn.specs.declared.action.Action.{Action}
 use Rattle.sk_insn.specs.declared.action.Action.TheVariants as action
@@ -44,6 +44,7 @@ use Rattle.sk_machine.specs.Delivering.{signal_due}
 use Rattle.sk_machine.specs.Machine.{Stepped, judged, happened, reason_of, stepped, step_of, world_after}
 use Rattle.sk_machine.specs.Lines.{Line, Happening, is_fork, has_returned, line_before, calls_added, line_of, authority_after_calls, history_after}
 use Rattle.sk_machine.specs.LineLaws.{happening, EventChangesAuthority, AuthorityIsOfLine, LineComesFromInit}
+use Rattle.sk_machine.proofs.CallNumbers.{number_is}
 use Rattle.sk_machine.proofs.KeptEvents.{possible_is_alive}
 use Rattle.sk_machine.proofs.Carrying.{over_asked, over_changes, over_resignals, over_waits, over_kill, over_setpgid, over_setsid, over_wait4, over_delivered, over_resumed}
 use Rattle.sk_machine.proofs.Authorities.{CameBy, Came, Keeps, came_still, came_at, came_by_rights, keeps_by_rights, keeps_still, keeps_ended, keeps}
@@ -53,35 +54,13 @@ abbrev pub is_fork_row : Option Syscall → Bool
 is_fork_row (Some syscall.Fork) = true
 is_fork_row other = false
 
+only_fork : (o : Option Syscall) → is_fork_row o ≡ true → o ≡ Some syscall.Fork
+only_fork (Some syscall.Fork) is = refl
+only_fork other is = absurd (false≢true is)
+
 fork_number_else : (nr : ℕ) → (nr == 57) ≡ false → is_fork_row (syscall_of nr) ≡ false
 fork_number_else nr other =
-    cond_both (nr == 13) (Some syscall.RtSigaction) _ (λ o. is_fork_row o ≡ false) (λ _. refl)
-    (λ _. cond_both (nr == 14) (Some syscall.RtSigprocmask) _ (λ o. is_fork_row o ≡ false) (λ _. refl)
-    (λ _. cond_both (nr == 15) (Some syscall.RtSigreturn) _ (λ o. is_fork_row o ≡ false) (λ _. refl)
-    (λ _. cond_both (nr == 24) (Some syscall.SchedYield) _ (λ o. is_fork_row o ≡ false) (λ _. refl)
-    (λ _. cond_both (nr == 34) (Some syscall.Pause) _ (λ o. is_fork_row o ≡ false) (λ _. refl)
-    (λ _. cond_both (nr == 39) (Some syscall.Getpid) _ (λ o. is_fork_row o ≡ false) (λ _. refl)
-    (λ _. cond_both (nr == 57) (Some syscall.Fork) _ (λ o. is_fork_row o ≡ false) (λ is. absurd (false≢true (sym other ∙ is)))
-    (λ _. cond_both (nr == 59) (Some syscall.Execve) _ (λ o. is_fork_row o ≡ false) (λ _. refl)
-    (λ _. cond_both (nr == 60) (Some syscall.Exit) _ (λ o. is_fork_row o ≡ false) (λ _. refl)
-    (λ _. cond_both (nr == 61) (Some syscall.Wait4) _ (λ o. is_fork_row o ≡ false) (λ _. refl)
-    (λ _. cond_both (nr == 62) (Some syscall.Kill) _ (λ o. is_fork_row o ≡ false) (λ _. refl)
-    (λ _. cond_both (nr == 102) (Some syscall.Getuid) _ (λ o. is_fork_row o ≡ false) (λ _. refl)
-    (λ _. cond_both (nr == 105) (Some syscall.Setuid) _ (λ o. is_fork_row o ≡ false) (λ _. refl)
-    (λ _. cond_both (nr == 107) (Some syscall.Geteuid) _ (λ o. is_fork_row o ≡ false) (λ _. refl)
-    (λ _. cond_both (nr == 109) (Some syscall.Setpgid) _ (λ o. is_fork_row o ≡ false) (λ _. refl)
-    (λ _. cond_both (nr == 110) (Some syscall.Getppid) _ (λ o. is_fork_row o ≡ false) (λ _. refl)
-    (λ _. cond_both (nr == 111) (Some syscall.Getpgrp) _ (λ o. is_fork_row o ≡ false) (λ _. refl)
-    (λ _. cond_both (nr == 112) (Some syscall.Setsid) _ (λ o. is_fork_row o ≡ false) (λ _. refl)
-    (λ _. cond_both (nr == 117) (Some syscall.Setresuid) _ (λ o. is_fork_row o ≡ false) (λ _. refl)
-    (λ _. cond_both (nr == 118) (Some syscall.Getresuid) _ (λ o. is_fork_row o ≡ false) (λ _. refl)
-    (λ _. cond_both (nr == 121) (Some syscall.Getpgid) _ (λ o. is_fork_row o ≡ false) (λ _. refl)
-    (λ _. cond_both (nr == 124) (Some syscall.Getsid) _ (λ o. is_fork_row o ≡ false) (λ _. refl)
-    (λ _. cond_both (nr == 127) (Some syscall.RtSigpending) _ (λ o. is_fork_row o ≡ false) (λ _. refl)
-    (λ _. cond_both (nr == 157) (Some syscall.Prctl) _ (λ o. is_fork_row o ≡ false) (λ _. refl)
-    (λ _. cond_both (nr == 231) (Some syscall.ExitGroup) _ (λ o. is_fork_row o ≡ false) (λ _. refl)
-    (λ _. cond_both (nr == 317) (Some syscall.Seccomp) _ (λ o. is_fork_row o ≡ false) (λ _. refl)
-    (λ _. refl))))))))))))))))))))))))))
+    false_from_ne_true (is_fork_row (syscall_of nr)) (λ is. eqb-false nr 57 other (number_is nr syscall.Fork (only_fork (syscall_of nr) is)))
 
 pub fork_number : (nr : ℕ) → is_fork_row (syscall_of nr) ≡ (nr == 57)
 fork_number nr =

@@ -24,7 +24,7 @@ use Rattle.sk_world.specs.declared.process.Proc.{Proc}
 use Rattle.sk_world.specs.declared.process.Waiting.TheVariants as waiting
 use Rattle.sk_world.specs.declared.request.Poll.TheVariants as poll
 use Rattle.sk_world.specs.Processes.{count}
-use Rattle.sk_world.specs.World.{World, at, is_stopped, is_zombie, is_halted, is_alive, parent_of, stored, body_changed, changed, links_changed, relinked}
+use Rattle.sk_world.specs.World.{World, at, is_stopped, is_zombie, is_halted, parent_of, stored, body_changed, changed, links_changed, relinked}
 use Rattle.sk_world.specs.Rules.{IsWorld, is_init}
 use Rattle.sk_world.specs.Numbers.{fresh_of}
 use Rattle.sk_world.specs.Forking.{has_room, forked}
@@ -32,7 +32,7 @@ use Rattle.sk_world.specs.Sending.{generated_at, sent, forced}
 use Rattle.sk_world.specs.Ending.{ignores_children, handed_on, with_children_handed_on, has_zombie_child, reparented, zombie, died, ended}
 use Rattle.sk_world.specs.Waits.{without_note, told}
 use Rattle.sk_world.proofs.Stored.{everywhere}
-use Rattle.sk_world.proofs.KeptEnd.{handed_at, handed_parent}
+use Rattle.sk_world.proofs.KeptEnd.{handed_at, handed_parent, alive_is_there}
 use Rattle.sk_world.proofs.Locality.{forked_touches, forked_child}
 use Rattle.sk_world.proofs.Fresh.{fresh_in_range, fresh_absent}
 use Rattle.sk_session.specs.Sessions.{after_setpgid, after_setsid, group_asked, session_asked}
@@ -193,10 +193,6 @@ Comes w after caller q forks = (forks ≡ true → IsForked w after caller q) ×
 
 comes_moved : (w after : World) (caller q : ℕ) → Moved (at after q) (at w q) → Comes w after caller q false
 comes_moved w after caller q moved = (λ h. absurd (false≢true h), λ _. moved)
-
-alive_is_there : (o : Option Proc) → IsTrue (is_alive o) → IsTrue (is_some o)
-alive_is_there None alive = alive
-alive_is_there (Some p) alive = refl
 
 someone : (o : Option Proc) → IsTrue (is_some o) → (p : Proc) × (o ≡ Some p)
 someone None there = absurd (false≢true there)

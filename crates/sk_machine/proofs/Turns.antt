@@ -13,6 +13,7 @@ use Rattle.sk_world.specs.World.{World, at, has_ended, is_halted, is_stopped, is
 use Rattle.sk_world.specs.Waits.{is_ready, has_match, status_of}
 use Rattle.sk_world.proofs.KeptTold.{found}
 use Rattle.sk_world.proofs.Telling.{none_found as nobody_found}
+use Rattle.sk_world.proofs.KeptEnd.{alive_is_there}
 use Rattle.sk_machine.specs.declared.event.Event.{Event}
 use Rattle.sk_machine.specs.declared.event.Event.TheVariants.{Call, Deliver, Resume, Fault}
 use Rattle.sk_machine.specs.declared.event.Need.{Need}
@@ -49,10 +50,6 @@ no_reason halted nobody zombie own going there living =
     ap (λ b. cond b (Some reason.Halted) (cond nobody (Some reason.NoProcess) (cond zombie (Some reason.Zombie) own))) going
     ∙ ap (λ b. cond b (Some reason.NoProcess) (cond zombie (Some reason.Zombie) own)) there
     ∙ ap (λ b. cond b (Some reason.Zombie) own) living
-
-is_there : (o : Option Proc) → IsTrue (is_alive o) → not (is_some o) ≡ false
-is_there None alive = absurd (false≢true alive)
-is_there (Some p) alive = refl
 
 has_not_ended : (o : Option Proc) → IsTrue (is_alive o) → is_zombie o ≡ false
 has_not_ended None alive = refl
@@ -110,7 +107,7 @@ runnable_has_event w event runs =
     let lives = and_parts (not (is_halted w)) (is_alive o) both.0 in
     let last : Option Reason = own (is_stopped o && not (is_kill w event)) (own_reason w event) in
     subst (λ r. (r ≡ None) ↔ (need_met_by event ≡ need_of w (pid_of event)))
-    (sym (no_reason (is_halted w) (not (is_some o)) (is_zombie o) last (not-true (is_halted w) lives.0) (is_there o lives.1) (has_not_ended o lives.1)))
+    (sym (no_reason (is_halted w) (not (is_some o)) (is_zombie o) last (not-true (is_halted w) lives.0) (ap not (alive_is_there o lives.1)) (has_not_ended o lives.1)))
     (own_meets w event both.1)
 
 -- ---- who cannot run
