@@ -8,7 +8,7 @@ use Rattle.sk_world.specs.declared.process.Proc.{Proc}
 use Rattle.sk_world.specs.declared.request.Request.{Request}
 use Rattle.sk_world.specs.declared.request.Poll.TheVariants.{Told, NoMatch, NotReady}
 use Rattle.sk_world.specs.Processes.{pids}
-use Rattle.sk_world.specs.World.{World, at, is_zombie, is_alive, parent_of, stored, changed}
+use Rattle.sk_world.specs.World.{World, at, is_zombie, parent_of, stored, changed}
 use Rattle.sk_world.specs.Rules.{IsWorld, is_init}
 use Rattle.sk_world.specs.Waits.{is_asked_for, is_match, is_ready, has_match, status_of, without_note, told}
 use Rattle.sk_world.specs.WorldLaws.{ToldKeepsRules}

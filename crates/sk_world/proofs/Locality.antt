@@ -1,24 +1,26 @@
--- Whom a change of the world touches.
+-- Whom a change of the world touches, and what a signal leaves of every process.
 use Rattle.std.proofs.Common.{◌≡◌, ◌≢◌, ◌∙◌, ◌==◌, ℕ, arith, ap, sym, refl, Bool, true, false, cond, not, ◌&&◌, ◌⊎◌, inl, inr, IsTrue, Option, None, Some}
 use Rattle.std.specs.Option.{is_some, option_map, option_map_or, option_and_then}
 use Rattle.std.proofs.lemmas.Bool.{false≢true, eqb-true, ne_eqb, and_parts, cond_both, cond-true, cond-false}
 use Rattle.sk_signal.specs.declared.number.TheConstants.{SIGCHLD, SIGCONT}
-use Rattle.sk_signal.specs.Generation.{generated}
+use Rattle.sk_signal.specs.Generation.{generated, forced as sigsys_forced}
 use Rattle.sk_signal.proofs.SignalLaws.{generated_twice}
 use Rattle.sk_world.specs.declared.process.TheConstants.{INIT}
+use Rattle.sk_world.specs.declared.process.Life.TheVariants.{Running}
+use Rattle.sk_world.specs.declared.process.Note.TheVariants.{Continued}
 use Rattle.sk_world.specs.declared.process.Body.{Body}
 use Rattle.sk_world.specs.declared.process.Proc.{Proc}
 use Rattle.sk_world.specs.Processes.{store}
-use Rattle.sk_world.specs.World.{World, at, has_ended, is_stopped, is_zombie, is_alive, parent_of, stored, body_changed, changed, inserted}
+use Rattle.sk_world.specs.World.{World, at, has_ended, has_stopped, is_stopped, is_zombie, is_alive, parent_of, stored, body_changed, changed, inserted}
 use Rattle.sk_world.specs.Numbers.{fresh_of}
 use Rattle.sk_world.specs.Sending.{continued, signalled, generated_at, sent}
 use Rattle.sk_world.specs.Forking.{has_room, child_of}
 use Rattle.sk_world.specs.Ending.{ignores_children, handed_on, with_children_handed_on, has_zombie_child, reparented, zombie, died}
 use Rattle.sk_world.specs.Waits.{without_note}
-use Rattle.sk_world.specs.ChangeLaws.{SignalIsNotQueued, SignalTouches, ForceTouches, TellingTouches, ForkTouches, EndTouches, EndLeavesNoOrphan, ForkGivesChild}
+use Rattle.sk_world.specs.ChangeLaws.{SignalIsNotQueued, SignalTouches, ForceTouches, without_signals, unsignalled, SignalKeepsAllElse, ForceKeepsAllElse, TellingTouches, ForkTouches, EndTouches, EndLeavesNoOrphan, ForkGivesChild}
 use Rattle.sk_world.proofs.Maps.{get_store, same_map}
 use Rattle.sk_world.proofs.Stored.{everywhere, at_here, at_other}
-use Rattle.sk_world.proofs.KeptEnd.{IsAlone, alone_changed, alone_sent, alone_reparented, handed_cases, handed_at, handed_alive, handed_parent}
+use Rattle.sk_world.proofs.KeptEnd.{IsAlone, alone_changed, alone_sent, alone_reparented, handed_cases, handed_at, handed_alive, handed_parent, alive_is_there}
 
 shadowed : {A : Type 0} (b : Bool) (x y z : A) → cond b x (cond b y z) ≡ cond b x z
 shadowed true x y z = refl
@@ -77,6 +79,38 @@ sent_touches w pid n q ne not_parent =
 pub forced_touches : ForceTouches
 forced_touches w pid q ne = at_other w pid _ q ne
 
+-- all but its signals, its life and its note
+signalled_leaves : (n : ℕ) (init : Bool) (p : Proc) → unsignalled (body_changed (signalled n init) p) ≡ unsignalled p
+signalled_leaves n init p =
+    let after : Body = record p.body { signals = generated n init p.body.signals } in
+    let Same : Body → Type 0 = λ body. unsignalled (record p { body = body }) ≡ unsignalled p in
+    cond_both (has_ended p.body.life) p.body (cond (n == SIGCONT) (continued after) after) Same (λ _. refl)
+    (λ _. cond_both (n == SIGCONT) (continued after) after Same
+    (λ _. cond_both (has_stopped p.body.life) (record after { life = Running; note = Continued }) after Same (λ _. refl) (λ _. refl))
+    (λ _. refl))
+
+-- a change of a body that a view of processes does not show
+changed_leaves : (view : Proc → Proc) (f : Body → Body) → ((p : Proc) → view (body_changed f p) ≡ view p)
+    → (w : World) (pid q : ℕ) → option_map view (at (changed w pid f) q) ≡ option_map view (at w q)
+changed_leaves view f same w pid = everywhere w pid (option_map (body_changed f) (at w pid)) (λ q x. option_map view x ≡ option_map view (at w q)) (here (at w pid)) (λ q ne. refl)
+  where
+    here : (o : Option Proc) → option_map view (option_map (body_changed f) o) ≡ option_map view o
+    here None = refl
+    here (Some p) = ap Some (same p)
+
+generated_leaves : (w : World) (pid n q : ℕ) → option_map unsignalled (at (generated_at w pid n) q) ≡ option_map unsignalled (at w q)
+generated_leaves w pid n = changed_leaves unsignalled (signalled n (pid == INIT)) (signalled_leaves n (pid == INIT)) w pid
+
+pub sent_leaves : SignalKeepsAllElse
+sent_leaves w pid n q =
+    cond_both ((n == SIGCONT) && is_stopped (at w pid)) (generated_at (generated_at w pid n) (parent_of (at w pid)) SIGCHLD) (generated_at w pid n)
+    (λ v. option_map unsignalled (at v q) ≡ option_map unsignalled (at w q))
+    (λ _. generated_leaves (generated_at w pid n) (parent_of (at w pid)) SIGCHLD q ∙ generated_leaves w pid n q)
+    (λ _. generated_leaves w pid n q)
+
+pub forced_leaves : ForceKeepsAllElse
+forced_leaves w pid = changed_leaves without_signals (λ body. record body { signals = sigsys_forced body.signals }) (λ p. refl) w pid
+
 pub told_touches : TellingTouches
 told_touches w pid status q ne =
     cond_both (is_zombie (at w pid)) (stored w pid None) (changed w pid without_note) (λ v. at v q ≡ at w q) (λ _. at_other w pid None q ne) (λ _. at_other w pid _ q ne)
@@ -119,21 +153,12 @@ died_touches w pid status q ne not_parent =
     (λ _. sent_touches (changed w pid (zombie status)) parent SIGCHLD q not_parent sigchld_only ∙ at_other w pid _ q ne)
 
 -- the parent of the process that ends, once its children are handed on: it may have been its own
-looks_changed : (w : World) (k : ℕ) (f : Body → Body) (q : ℕ) → parent_of (at (changed w k f) q) ≡ parent_of (at w q)
-looks_changed w k f = everywhere w k (option_map (body_changed f) (at w k)) (λ q x. parent_of x ≡ parent_of (at w q)) (same (at w k)) (λ q ne. refl)
-  where
-    same : (o : Option Proc) → parent_of (option_map (body_changed f) o) ≡ parent_of o
-    same None = refl
-    same (Some p) = refl
+parent_is : (o : Option Proc) → parent_of o ≡ parent_of (option_map unsignalled o)
+parent_is None = refl
+parent_is (Some p) = refl
 
 looks_sent : (w : World) (k n q : ℕ) → parent_of (at (sent w k n) q) ≡ parent_of (at w q)
-looks_sent w k n q =
-    cond_both ((n == SIGCONT) && is_stopped (at w k)) (generated_at (generated_at w k n) (parent_of (at w k)) SIGCHLD) (generated_at w k n) (λ v. parent_of (at v q) ≡ parent_of (at w q))
-    (λ _. looks_changed (generated_at w k n) (parent_of (at w k)) _ q ∙ looks_changed w k _ q) (λ _. looks_changed w k _ q)
-
-alive_is_there : (o : Option Proc) → IsTrue (is_alive o) → IsTrue (is_some o)
-alive_is_there None alive = alive
-alive_is_there (Some p) alive = refl
+looks_sent w k n q = parent_is (at (sent w k n) q) ∙ ap parent_of (sent_leaves w k n q) ∙ sym (parent_is (at w q))
 
 pub parent_reparented : (w : World) (pid : ℕ) → IsTrue (is_alive (at w pid)) → (parent_of (at (reparented w pid) pid) ≡ parent_of (at w pid)) ⊎ (parent_of (at (reparented w pid) pid) ≡ INIT)
 parent_reparented w pid alive =

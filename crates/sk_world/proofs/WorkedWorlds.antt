@@ -8,7 +8,7 @@ use Rattle.sk_world.specs.WorkedWorlds.{WorkedForks, WorkedEnds, WorkedWaits, Wo
 pub worked_forks : WorkedForks
 unfolding fresh_of no_signal empty contains insert retain remove from_list
 worked_forks = record {
-  limits = (refl, refl, refl, refl, refl);
+  limits = (refl, refl, refl);
   first_number = refl;
   next_number = refl;
   last_number = refl;

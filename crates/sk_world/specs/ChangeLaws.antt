@@ -1,8 +1,11 @@
 -- Laws on the changes of a world: whom they touch, and what they leave as it was.
 use Rattle.std.specs.Prelude.{ℕ, ◌≡◌, ◌≢◌, ◌<◌, ◌≤◌, ◌==◌, ◌&&◌, IsTrue, IsFalse, if◌then◌else◌, Option, None, Some}
-use Rattle.std.specs.Option.{is_some}
+use Rattle.std.specs.Option.{is_some, option_map}
 use Rattle.sk_signal.specs.declared.number.TheConstants.{SIGCONT}
+use Rattle.sk_signal.specs.Signalling.{opening as no_signal}
 use Rattle.sk_world.specs.declared.process.TheConstants.{INIT, LAST_PID}
+use Rattle.sk_world.specs.declared.process.Life.TheVariants.{Running}
+use Rattle.sk_world.specs.declared.process.Note.TheVariants as note
 use Rattle.sk_world.specs.declared.process.Proc.{Proc}
 use Rattle.sk_world.specs.declared.request.Request.{Request}
 use Rattle.sk_world.specs.declared.request.Poll.TheVariants.{Told, NoMatch, NotReady}
@@ -26,6 +29,23 @@ SignalTouches = (w : World) (pid n q : ℕ) → q ≢ pid → (n ≡ SIGCONT →
 -- a forced signal touches nobody else
 abbrev pub ForceTouches : Type 0
 ForceTouches = (w : World) (pid q : ℕ) → q ≢ pid → at (forced w pid) q ≡ at w q
+
+-- a process but for its signals
+abbrev pub without_signals : Proc → Proc
+without_signals p = record p { body = record p.body { signals = no_signal } }
+
+-- a process but for its signals, its life and its note
+abbrev pub unsignalled : Proc → Proc
+unsignalled p = record p { body = record p.body { life = Running; signals = no_signal; note = note.Nothing } }
+
+-- a signal leaves all of every process as it was but its signals, its life and its note, and nobody comes
+-- or goes
+abbrev pub SignalKeepsAllElse : Type 0
+SignalKeepsAllElse = (w : World) (pid n q : ℕ) → option_map unsignalled (at (sent w pid n) q) ≡ option_map unsignalled (at w q)
+
+-- a forced signal leaves all of every process as it was but its signals, and nobody comes or goes
+abbrev pub ForceKeepsAllElse : Type 0
+ForceKeepsAllElse = (w : World) (pid q : ℕ) → option_map without_signals (at (forced w pid) q) ≡ option_map without_signals (at w q)
 
 -- what wait4(2) tells touches only the child that it tells of
 abbrev pub TellingTouches : Type 0

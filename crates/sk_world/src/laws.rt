@@ -2,7 +2,7 @@
 
 ghost use Rattle.sk_world.specs.WorkedWorlds.{WorkedForks, WorkedEnds, WorkedWaits, WorkedSignals};
 ghost use Rattle.sk_world.specs.WorldLaws.{OpeningHasRules, ChangeKeepsRules, LinksKeepRules, RemovalKeepsRules, SignalKeepsRules, ForceKeepsRules, ForkKeepsRules, ReparentKeepsRules, EndKeepsRules, ToldKeepsRules};
-ghost use Rattle.sk_world.specs.ChangeLaws.{SignalIsNotQueued, SignalTouches, ForceTouches, TellingTouches, ForkTouches, EndTouches, EndLeavesNoOrphan, EndHandsChildrenOn, EndLeavesZombie, ReadyIsLowest, NoMatchHasNone, NotReadyHasMatch, ZombieIsToldOnce, ForkGivesChild, NumberIsNew, NumberIsNext, SignalKeepsRights, ForceKeepsRights, ReparentKeepsRights, EndKeepsRights, TellingKeepsRights, ForkKeepsRights};
+ghost use Rattle.sk_world.specs.ChangeLaws.{SignalIsNotQueued, SignalTouches, ForceTouches, SignalKeepsAllElse, ForceKeepsAllElse, TellingTouches, ForkTouches, EndTouches, EndLeavesNoOrphan, EndHandsChildrenOn, EndLeavesZombie, ReadyIsLowest, NoMatchHasNone, NotReadyHasMatch, ZombieIsToldOnce, ForkGivesChild, NumberIsNew, NumberIsNext, SignalKeepsRights, ForceKeepsRights, ReparentKeepsRights, EndKeepsRights, TellingKeepsRights, ForkKeepsRights};
 
 /// The rules of the world hold as the system starts, and each change of the world keeps them.
 pub fn rules_are_kept()
@@ -25,6 +25,13 @@ pub fn changes_are_local()
     ensures telling { TellingTouches }
     ensures fork { ForkTouches }
     ensures end { EndTouches }
+{}
+
+/// A signal leaves every process its links, its ids, its filters and what it waits in: only its signals, its life
+/// and its note may change, and of these a forced signal changes the signals alone. Nobody comes or goes.
+pub fn signals_keep_all_else()
+    ensures signal { SignalKeepsAllElse }
+    ensures force { ForceKeepsAllElse }
 {}
 
 /// A signal that is sent again changes nothing.

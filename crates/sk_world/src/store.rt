@@ -77,9 +77,9 @@ pub trait ProcStore: Drop {
     fn last(&self) -> u32
         ensures last { result ≡ (contents self.now).last };
 
-    /// The pid of the next child: the next number after the last one given, and after 32767 from 2 on
-    /// again, that is not used. So it is too where there is no room for one process more. Were all the
-    /// numbers from 2 on used, it would be the next one after the last one given.
+    /// The pid of the next child, in every case determined by the processes and the last pid given: the next
+    /// number after that one, round in 2 to 32767, that nobody has as a pid, a group or a session. Where there
+    /// is room for one process more, it is free.
     fn fresh(&self) -> u32
         ensures fresh { result ≡ fresh_of (contents self.now) }
         ensures free { count (contents self.now).procs < PROCESSES → at (contents self.now) result ≡ None }

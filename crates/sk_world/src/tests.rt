@@ -1,4 +1,5 @@
-use crate::{Body, INIT, Life, Links, Note, Proc, Waiting};
+use crate::{Body, INIT, Life, Links, Note, Proc, WaitOptions, Waiting};
+use bitflags::Flags;
 use sk_chain::Chain;
 use sk_creds::Creds;
 use sk_signal::number::{SIGTERM, SIGUSR1};
@@ -58,5 +59,21 @@ fn a_child_has_the_rights_and_nothing_that_pends(rt: HostRuntime) -> Result<(), 
     assert!(rt; !body.executed);
     assert_eq!(rt; body.waiting, Waiting::Nothing);
     assert_eq!(rt; body.note, Note::Nothing);
+    Ok(())
+}
+
+#[test]
+fn wait_options_are_three_bits(rt: HostRuntime) -> Result<(), Fail> {
+    assert_eq!(rt; WaitOptions::from_bits(0), Some(WaitOptions::empty()));
+    assert_eq!(rt; WaitOptions::from_bits(1), Some(WaitOptions::WNOHANG));
+    assert_eq!(rt; WaitOptions::from_bits(2), Some(WaitOptions::WUNTRACED));
+    assert_eq!(rt; WaitOptions::from_bits(8), Some(WaitOptions::WCONTINUED));
+    assert_eq!(rt;
+        WaitOptions::from_bits(11),
+        Some(WaitOptions::WNOHANG | WaitOptions::WUNTRACED | WaitOptions::WCONTINUED)
+    );
+    assert_eq!(rt; WaitOptions::from_bits(4), None);
+    assert_eq!(rt; WaitOptions::from_bits(16), None);
+    assert_eq!(rt; WaitOptions::from_bits(2_147_483_648), None);
     Ok(())
 }
