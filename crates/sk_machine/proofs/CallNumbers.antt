@@ -1,12 +1,12 @@
 -- Each call has one number.
 use Rattle.std.proofs.Common.{◌≡◌, ◌∙◌, ℕ, ◌==◌, ap, true, Option, Some}
-use Rattle.std.specs.Option.{option_map_or}
+use Rattle.std.specs.Option.{is_some, option_map_or}
 use Rattle.std.proofs.lemmas.Bool.{false≢true, eqb-true, cond_both}
-use Rattle.std.specs.Option.{is_some}
 use Rattle.sk_machine.specs.declared.syscall.Syscall.{Syscall}
 use Rattle.sk_machine.specs.declared.syscall.Syscall.TheVariants as syscall
 use Rattle.sk_machine.specs.Syscalls.{syscall_of}
 
+-- the number of a call on x86-64: syscalls(2)
 abbrev pub number_of : Syscall → ℕ
 number_of syscall.RtSigaction = 13
 number_of syscall.RtSigprocmask = 14
@@ -42,6 +42,7 @@ HasNumber nr o = (call : Syscall) → o ≡ Some call → nr ≡ number_of call
 row : (nr : ℕ) (found : Syscall) → (nr == number_of found) ≡ true → HasNumber nr (Some found)
 row nr found same call is = eqb-true nr (number_of found) same ∙ ap (λ o. option_map_or number_of o 0) is
 
+-- the number for which a call is found is its own
 pub number_is : (nr : ℕ) (call : Syscall) → syscall_of nr ≡ Some call → nr ≡ number_of call
 number_is nr =
     cond_both (nr == 13) (Some syscall.RtSigaction) _ (HasNumber nr) (row nr syscall.RtSigaction)
