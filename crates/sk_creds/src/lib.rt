@@ -4,6 +4,7 @@
 
 mod creds;
 mod errno;
+pub mod laws;
 
 pub use creds::{Creds, NO_ID};
 pub use errno::Errno;

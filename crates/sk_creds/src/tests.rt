@@ -1,4 +1,4 @@
-use crate::{Creds, Errno, NO_ID};
+use crate::{Creds, Errno};
 
 fn ids(real: u32, effective: u32, saved: u32) -> Creds {
     Creds {
@@ -9,14 +9,14 @@ fn ids(real: u32, effective: u32, saved: u32) -> Creds {
     }
 }
 
-/// The superuser takes three ids, and cannot come back to them all.
+/// The superuser takes three ids, and cannot come back to them all. 4294967295 is `(uid_t) -1`.
 #[test]
 fn ids_given_up_stay_given_up(rt: HostRuntime) {
     let mut creds = ids(0, 0, 0);
-    assert_eq!(rt; creds.setuid(NO_ID), Err(Errno::Einval));
+    assert_eq!(rt; creds.setuid(4294967295), Err(Errno::Einval));
     assert_eq!(rt; creds.setresuid(1000, 1001, 1002), Ok(()));
     assert_eq!(rt; creds, ids(1000, 1001, 1002));
-    assert_eq!(rt; creds.setresuid(1002, 1000, NO_ID), Ok(()));
+    assert_eq!(rt; creds.setresuid(1002, 1000, 4294967295), Ok(()));
     assert_eq!(rt; creds, ids(1002, 1000, 1002));
     assert_eq!(rt; creds.setuid(1001), Err(Errno::Eperm));
     assert_eq!(rt; creds.setresuid(1002, 0, 1002), Err(Errno::Eperm));

@@ -1,0 +1,9 @@
+//! Laws on ids. No program calls these functions: the contract of each is the law.
+
+ghost use Rattle.std.specs.Prelude.{◌≡◌, ◌-◌, ◌^◌};
+ghost use Rattle.sk_creds.specs.declared.creds.TheConstants.{NO_ID};
+
+/// The id that names no user is -1 as a `uid_t` of 32 bits: setresuid(2).
+pub fn no_id_is_minus_one()
+    ensures number { NO_ID ≡ 2 ^ 32 - 1 }
+{}
