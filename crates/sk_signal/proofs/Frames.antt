@@ -41,6 +41,6 @@ length-frames_of zero masks = refl
 length-frames_of (suc d) masks = ap suc (length-frames_of d masks)
 
 -- whether one more handler can run
-pub has_room : (d : ℕ) (masks frames : List Signals) → frames_of d masks ≡ frames → d ≢ 16 → true ≡ not (length frames == 16)
-has_room d masks frames e room =
+pub has_room : (most d : ℕ) (masks frames : List Signals) → frames_of d masks ≡ frames → d ≢ most → true ≡ not (length frames == most)
+has_room most d masks frames e room =
     let count : length frames ≡ d = sym (ap length e) ∙ length-frames_of d masks in grind (arith, nat_tests)

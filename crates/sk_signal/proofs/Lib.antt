@@ -3,4 +3,3 @@ pub mod SetLaws
 pub mod Frames
 pub mod Ready
 pub mod SignalLaws
-pub mod Numbers

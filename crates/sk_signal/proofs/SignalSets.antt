@@ -2,7 +2,7 @@
 use Rattle.std.proofs.Common.{◌≡◌, ◌∙◌, ◌+◌, ◌-◌, ◌*◌, ◌^◌, ◌<◌, ◌≤◌, ◌==◌, ◌||◌, ◌&&◌, ℕ, zero, suc, arith, ap, sym, subst, refl, Bool, true, false, not, nat_le, min, max, bit_and, bit_or, w32}
 use Rattle.std.specs.Int.{bit_at, bit_not, trailing_zeros}
 use Rattle.sk_signal.specs.Sets as set
-use Rattle.sk_signal.specs.Sets.{same_set}
+use Rattle.sk_signal.specs.Members.{same_set}
 use Rattle.std.proofs.lemmas.Bool.Decides.{nat_tests}
 use Rattle.std.proofs.lemmas.Nat.{pow_pos, pow_below}
 use Rattle.std.proofs.lemmas.Nat.Bits.{bit_at_or, bit_at_and, bit_at_not, bit_at-lt, bit_at-zero, bit_at-pow_same, bit_at-pow_other, bit_at_ones, bit_at_above, bit_at-trailing_zeros, and_pow}

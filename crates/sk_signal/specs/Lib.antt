@@ -1,4 +1,5 @@
 pub mod Sets
+pub mod Members
 pub mod SignalSet
 pub mod SignalBits
 pub mod Actions

@@ -1,8 +1,8 @@
--- The numbers of the standard signals, and what the operations on sets leave as members.
-use Rattle.std.specs.Prelude.{◌≡◌, ℕ, ◌==◌, not, ◌&&◌, ◌||◌, false, List, [], ◌∷◌}
-use Rattle.sk_signal.specs.Sets as set
+-- The numbers of the standard signals, and how many handlers run inside one another.
+use Rattle.std.specs.Prelude.{◌≡◌, [], ◌∷◌}
 use Rattle.sk_signal.specs.SignalSet.{signals_to}
 use Rattle.sk_signal.specs.declared.number.TheConstants.{SIGHUP, SIGINT, SIGQUIT, SIGILL, SIGTRAP, SIGABRT, SIGBUS, SIGFPE, SIGKILL, SIGUSR1, SIGSEGV, SIGUSR2, SIGPIPE, SIGALRM, SIGTERM, SIGSTKFLT, SIGCHLD, SIGCONT, SIGSTOP, SIGTSTP, SIGTTIN, SIGTTOU, SIGURG, SIGXCPU, SIGXFSZ, SIGVTALRM, SIGPROF, SIGWINCH, SIGIO, SIGPWR, SIGSYS}
+use Rattle.sk_signal.specs.declared.state.TheConstants.{FRAMES}
 
 -- signal(7), "Signal numbering for standard signals", the column x86/ARM: 1 to 31 in this order
 abbrev pub SignalsHaveTheirNumbers : Type 0
@@ -11,11 +11,6 @@ SignalsHaveTheirNumbers =
     ≡ SIGHUP ∷ SIGINT ∷ SIGQUIT ∷ SIGILL ∷ SIGTRAP ∷ SIGABRT ∷ SIGBUS ∷ SIGFPE ∷ SIGKILL ∷ SIGUSR1 ∷ SIGSEGV ∷ SIGUSR2 ∷ SIGPIPE ∷ SIGALRM ∷ SIGTERM
     ∷ SIGSTKFLT ∷ SIGCHLD ∷ SIGCONT ∷ SIGSTOP ∷ SIGTSTP ∷ SIGTTIN ∷ SIGTTOU ∷ SIGURG ∷ SIGXCPU ∷ SIGXFSZ ∷ SIGVTALRM ∷ SIGPROF ∷ SIGWINCH ∷ SIGIO ∷ SIGPWR ∷ SIGSYS ∷ []
 
--- the members after each operation: sigsetops(3)
-pub record SetsAreTheirMembers : Type 0 where
-  pub empty : (n : ℕ) → set.contains set.empty n ≡ false
-  pub insert : (s : set.NumberSet) (k n : ℕ) → set.contains (set.insert s k) n ≡ ((n == k) || set.contains s n)
-  pub remove : (s : set.NumberSet) (k n : ℕ) → set.contains (set.remove s k) n ≡ (not (n == k) && set.contains s n)
-  pub union : (s t : set.NumberSet) (n : ℕ) → set.contains (set.union s t) n ≡ (set.contains s n || set.contains t n)
-  pub difference : (s t : set.NumberSet) (n : ℕ) → set.contains (set.difference s t) n ≡ (set.contains s n && not (set.contains t n))
-  pub same : (s t : set.NumberSet) → ((n : ℕ) → set.contains s n ≡ set.contains t n) → s ≡ t
+-- at most sixteen handlers run inside one another: a limit of this kernel, where Linux has that of the stack
+abbrev pub SixteenHandlersNest : Type 0
+SixteenHandlersNest = FRAMES ≡ 16

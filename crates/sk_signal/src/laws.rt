@@ -1,10 +1,17 @@
 //! Laws on signals. No program calls these functions: the contract of each is the law.
 
-ghost use Rattle.sk_signal.specs.SignalNumbers.{SignalsHaveTheirNumbers, SetsAreTheirMembers};
+ghost use Rattle.sk_signal.specs.Members.{SetsAreTheirMembers};
+ghost use Rattle.sk_signal.specs.SignalNumbers.{SignalsHaveTheirNumbers, SixteenHandlersNest};
 
 /// Each name has its number of signal(7).
+#[tactic(auto, unfolding(crate::specs::SignalSet::signals_to))]
 pub fn signals_have_their_numbers()
     ensures numbers { SignalsHaveTheirNumbers }
+{}
+
+/// As many handlers run inside one another as the frames of a process: sixteen.
+pub fn sixteen_handlers_nest()
+    ensures frames { SixteenHandlersNest }
 {}
 
 /// A set is what its members are, and each operation gives the members that it says.

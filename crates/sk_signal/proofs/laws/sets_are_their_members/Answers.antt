@@ -1,14 +1,14 @@
-use Rattle.sk_signal.specs.Sets as set
+use Rattle.sk_signal.specs.Members.{contains-empty, contains-insert, contains-remove, contains-union, contains-difference, same_set}
 use Rattle.sk_signal.proofs.laws.sets_are_their_members.Goals as goal
 
 pub returns : goal.returns
 returns c = record {
   members = record {
-    empty = set.contains-empty;
-    insert = set.contains-insert;
-    remove = set.contains-remove;
-    union = set.contains-union;
-    difference = set.contains-difference;
-    same = set.same_set;
+    empty = contains-empty;
+    insert = contains-insert;
+    remove = contains-remove;
+    union = contains-union;
+    difference = contains-difference;
+    same = same_set;
   };
 }

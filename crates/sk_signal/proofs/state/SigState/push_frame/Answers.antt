@@ -9,7 +9,7 @@ invariant_of-self c =
     (omega arith, frame_pushed c.self.inside.mask _ _ c.self.invariant.1)
 
 pub returns-clause-room : goal.returns-clause-room
-returns-clause-room c = has_room _ _ _ (ap (λ s. s.frames) c.self.view_is) c.if-self-eq-FRAMES.false
+returns-clause-room c = has_room _ _ _ _ (ap (λ s. s.frames) c.self.view_is) c.if-self-eq-FRAMES.false
 
 pub returns-clause-state : goal.returns-clause-state
 returns-clause-state c =
