@@ -39,17 +39,17 @@ impl ProcStore for ListStore {
     }
 
     fn get(&self, pid: u32) -> Option<&Proc> {
-        match place(&self.rows, pid) {
-            Some(i) => Some(&self.rows[i].proc),
-            None => None,
-        }
+        let Some(place) = place(&self.rows, pid) else {
+            return None;
+        };
+        Some(&self.rows[place].proc)
     }
 
     fn body_mut(&mut self, pid: u32) -> Option<&mut Body> {
-        match place(&self.rows, pid) {
-            Some(i) => Some(&mut self.rows[i].proc.body),
-            None => None,
-        }
+        let Some(place) = place(&self.rows, pid) else {
+            return None;
+        };
+        Some(&mut self.rows[place].proc.body)
     }
 
     fn relink(&mut self, pid: u32, links: Links) -> bool {
@@ -68,13 +68,11 @@ impl ProcStore for ListStore {
     }
 
     fn remove(&mut self, pid: u32) -> Option<Proc> {
-        match place(&self.rows, pid) {
-            Some(i) => {
-                let Row { pid: _, proc } = self.rows.remove(i);
-                Some(proc)
-            }
-            None => None,
-        }
+        let Some(place) = place(&self.rows, pid) else {
+            return None;
+        };
+        let Row { pid: _, proc } = self.rows.remove(place);
+        Some(proc)
     }
 
     fn next_child(&self, parent: u32, after: u32) -> Option<u32> {

@@ -12,8 +12,8 @@ invariant_of-self-lent c w =
       given = c.self.invariant.given;
     }
 
-pub returns-in-Some : goal.returns-in-Some
-returns-in-Some c =
+pub returns : goal.returns
+returns c =
     let row = c.index_mut.result.now in
     let here = placed c.args.pid c.self.inside.rows.items _ _ row c.deref.ensures.value c.in-Some.ensures in (
       (refl, (λ w. body_replaced _ _ _ _ _ row c.self.view_is here c.index_mut.ensures.value w), refl),
@@ -24,12 +24,12 @@ returns-in-Some c =
       },
     )
 
-pub returns-in-None : goal.returns-in-None
-returns-in-None c = (
+pub returns-in_default : goal.returns-in_default
+returns-in_default c = (
   (refl, (λ w. tt), c.self.view_is),
   record {
     writes_back = tt;
     there = tt;
-    absent = unread _ _ _ _ _ c.self.view_is c.deref.ensures.value c.in-None.ensures;
+    absent = unread _ _ _ _ _ c.self.view_is c.deref.ensures.value c.in_default.ensures;
   },
 )

@@ -14,21 +14,21 @@ invariant_of-self c =
       given = c.self.invariant.given;
     }
 
-pub returns-in-Some-clause-gone : goal.returns-in-Some-clause-gone
-returns-in-Some-clause-gone c =
+pub returns-clause-gone : goal.returns-clause-gone
+returns-clause-gone c =
     let row = c.remove-proc.result in
     let here = placed c.args.pid c.self.inside.rows.items _ _ row c.deref.ensures.value c.in-Some.ensures in
     sym (read _ _ _ _ _ row c.self.view_is here c.remove-proc.ensures.value)
 
-pub returns-in-Some-clause-rest : goal.returns-in-Some-clause-rest
-returns-in-Some-clause-rest c =
+pub returns-clause-rest : goal.returns-clause-rest
+returns-clause-rest c =
     let row = c.remove-proc.result in
     let here = placed c.args.pid c.self.inside.rows.items _ _ row c.deref.ensures.value c.in-Some.ensures in
     ap (λ rows. world rows c.self.inside.last) c.remove-proc.ensures.items
     ∙ (without_row _ _ _ _ _ c.self.view_is here c.self.invariant.distinct).0
 
-pub returns-in-None-clause-gone : goal.returns-in-None-clause-gone
-returns-in-None-clause-gone c = sym (unread _ _ _ _ _ c.self.view_is c.deref.ensures.value c.in-None.ensures)
+pub returns-in_default-clause-gone : goal.returns-in_default-clause-gone
+returns-in_default-clause-gone c = sym (unread _ _ _ _ _ c.self.view_is c.deref.ensures.value c.in_default.ensures)
 
-pub returns-in-None-clause-rest : goal.returns-in-None-clause-rest
-returns-in-None-clause-rest c = sym (nothing_stored _ _ _ _ _ c.self.view_is c.deref.ensures.value c.in-None.ensures)
+pub returns-in_default-clause-rest : goal.returns-in_default-clause-rest
+returns-in_default-clause-rest c = sym (nothing_stored _ _ _ _ _ c.self.view_is c.deref.ensures.value c.in_default.ensures)
