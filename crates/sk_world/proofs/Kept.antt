@@ -48,7 +48,7 @@ signalled_stopped n init body =
     (λ c. cond_both (has_stopped body.life) (record after { life = Running; note = Continued }) after (λ x. IsTrue (has_stopped x.life) → IsTrue (has_stopped body.life)) (λ s h. s) (λ s h. h))
     (λ c h. h))
 
-kept_generated : (w : World) (pid n : ℕ) → IsWorld w → IsWorld (generated_at w pid n)
+pub kept_generated : (w : World) (pid n : ℕ) → IsWorld w → IsWorld (generated_at w pid n)
 kept_generated w pid n rules = kept_changed w pid (signalled n (pid == INIT)) rules (λ p is. record {
   ended = signalled_ended n (pid == INIT) p.body;
   init = λ e. signalled_stopped n (pid == INIT) p.body;

@@ -12,3 +12,4 @@ pub mod Numbering
 pub mod Rights
 pub mod WorkedWorlds
 pub mod Handing
+pub mod Bodies

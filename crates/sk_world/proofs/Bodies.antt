@@ -1,0 +1,30 @@
+-- A change through `body_mut`, as a change of the world.
+use Rattle.std.proofs.Common.{◌≡◌, ◌∙◌, ◌==◌, ℕ, ap, sym, refl, true, false, cond, Option, Some, None}
+use Rattle.std.specs.Option.{option_map}
+use Rattle.sk_world.specs.declared.process.Body.{Body}
+use Rattle.sk_world.specs.declared.process.Proc.{Proc}
+use Rattle.sk_world.specs.Processes.{get, store}
+use Rattle.sk_world.specs.World.{World, at, stored, body_changed, changed, with_body}
+use Rattle.sk_world.proofs.Maps.{same_map, get_store, equal_numbers}
+
+-- a process that is put where it is already changes nothing
+pub kept_at : (w : World) (pid : ℕ) (o : Option Proc) → at w pid ≡ o → stored w pid o ≡ w
+kept_at w pid o is =
+    let same : store w.procs pid o ≡ w.procs = same_map _ _ (λ q.
+    get_store w.procs pid o q
+    ∙ elim (q == pid) as (λ b. (q == pid) ≡ b → cond b o (get w.procs q) ≡ get w.procs q) [
+      | true ↦ λ e. sym is ∙ ap (get w.procs) (sym (equal_numbers q pid e))
+      | false ↦ λ _. refl
+    ] refl) in
+    λ i. record { procs = same i; last = w.last }
+
+-- the body that was lent is given back changed
+pub given_back : (w : World) (pid : ℕ) (f : Body → Body) (p : Proc) (b : Body) → at w pid ≡ Some p → p.body ≡ b → with_body w pid (f b) ≡ changed w pid f
+given_back w pid f p b is body =
+    ap (λ o. stored w pid (option_map (body_changed (λ old. f b)) o)) is
+    ∙ ap (λ x. stored w pid (Some (record p { body = f x }))) (sym body)
+    ∙ sym (ap (λ o. stored w pid (option_map (body_changed f) o)) is)
+
+-- nobody's body is changed
+pub nobody_there : (w : World) (pid : ℕ) (f : Body → Body) → at w pid ≡ None → w ≡ changed w pid f
+nobody_there w pid f is = sym (ap (λ o. stored w pid (option_map (body_changed f) o)) is ∙ kept_at w pid None is)
