@@ -37,7 +37,7 @@ reparented_child w pid q p ne is child =
     (λ v. at v q ≡ cond (leaves_none && has_ended p.body.life) None (Some (record p { links = record p.links { parent = INIT } })))
     (λ _. sent_touches handed INIT SIGCHLD q ne sigchld_only ∙ same) (λ _. same)
 
-ended_later : (w : World) (pid status : ℕ) → pid ≢ INIT → ended w pid status ≡ died (reparented w pid) pid status
+pub ended_later : (w : World) (pid status : ℕ) → pid ≢ INIT → ended w pid status ≡ died (reparented w pid) pid status
 ended_later w pid status ne = cond-false (pid == INIT) (changed w INIT (λ body. record body { life = Zombie status })) (died (reparented w pid) pid status) (ne_eqb pid INIT ne)
 
 pub children_handed_on : EndHandsChildrenOn

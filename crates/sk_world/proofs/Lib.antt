@@ -13,3 +13,4 @@ pub mod Rights
 pub mod WorkedWorlds
 pub mod Handing
 pub mod Bodies
+pub mod Partly

@@ -133,7 +133,7 @@ some_passes p (x ∷ xs) any =
       | false ↦ λ _ any. some_passes p xs any
     ] refl any
 
-none_passes : (p : ℕ → Bool) (es : List (ℕ × Proc)) → list_any p (map (λ e. e.0) es) ≡ false → (q : ℕ) → IsTrue (is_some (find nat_cmp q es)) → p q ≡ false
+pub none_passes : (p : ℕ → Bool) (es : List (ℕ × Proc)) → list_any p (map (λ e. e.0) es) ≡ false → (q : ℕ) → IsTrue (is_some (find nat_cmp q es)) → p q ≡ false
 none_passes p [] none q there = absurd (false≢true there)
 none_passes p (e ∷ es) none q there =
     let both = or_parts (p e.0) (list_any p (map (λ e. e.0) es)) none in

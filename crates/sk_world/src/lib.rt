@@ -2,15 +2,19 @@
 //! it, and the trait of a store that keeps them.
 #![tactic(auto)]
 
+mod ending;
 mod forking;
 pub mod laws;
 mod process;
 mod request;
+mod sending;
 mod store;
 
+pub use ending::{end, reparent};
 pub use forking::fork;
 pub use process::{Body, INIT, LAST_PID, Life, Links, Note, PROCESSES, Proc, Waiting};
 pub use request::{Poll, Request, WaitOptions, Who};
+pub use sending::send;
 pub use store::ProcStore;
 
 #[cfg(test)]
