@@ -14,3 +14,4 @@ pub mod WorkedWorlds
 pub mod Handing
 pub mod Bodies
 pub mod Partly
+pub mod Polling

@@ -1,0 +1,22 @@
+use Rattle.std.proofs.Common.{◌∙◌, ◌<◌, sym}
+use Rattle.sk_world.proofs.Polling.{told_of, goes_on, nobody, unmatched_by, unready_by}
+use Rattle.sk_world.proofs.waiting.ready.Goals as goal
+
+pub returns-in-Some-status_of : goal.returns-in-Some-status_of
+returns-in-Some-status_of g c =
+    let w = g.S.ProcStore.contents c.args.store.now in
+    let next = c.in-Some.ensures.next in
+    told_of w c.args.caller c.args.request c.in-Some.child c.in-Some-status_of.status (sym c.in-Some-status_of.ensures) (sym c.is_match.ensures ∙ c.if-is_match.true)
+    (unready_by w c.args.caller c.args.request c.loop-child.after (λ q. q < c.in-Some.child) c.loop-child.invariant.unready next.2)
+
+pub returns-then-is_matched : goal.returns-then-is_matched
+returns-then-is_matched g c =
+    let w = g.S.ProcStore.contents c.args.store.now in
+    goes_on w c.args.caller c.args.request
+    (λ q. unready_by w c.args.caller c.args.request c.loop-child.after (λ q. Unit {0}) c.loop-child.invariant.unready (λ q lt h. c.in_default.ensures.next q lt) q tt)
+    (c.loop-child.invariant.matched c.if-is_matched.true)
+
+pub returns-else-is_matched : goal.returns-else-is_matched
+returns-else-is_matched g c =
+    let w = g.S.ProcStore.contents c.args.store.now in
+    nobody w c.args.caller c.args.request (unmatched_by w c.args.caller c.args.request c.loop-child.after (c.loop-child.invariant.unmatched c.if-is_matched.false) c.in_default.ensures.next)
