@@ -8,8 +8,10 @@ mod scan;
 pub use list_store::ListStore;
 pub use sk_world::{
     Body, INIT, LAST_PID, Life, Links, Note, PROCESSES, Poll, Proc, ProcStore, Request,
-    WaitOptions, Waiting, Who, fork, laws,
+    WaitOptions, Waiting, Who, end, fork, laws, reap, reparent, send, wait_poll,
 };
 
+#[cfg(test)]
+mod store_tests;
 #[cfg(test)]
 mod tests;

@@ -1,11 +1,14 @@
 -- A change through `body_mut`, as a change of the world.
-use Rattle.std.proofs.Common.{◌≡◌, ◌∙◌, ◌==◌, ℕ, ap, sym, refl, true, false, cond, Option, Some, None}
-use Rattle.std.specs.Option.{option_map}
+use Rattle.std.proofs.Common.{◌≡◌, ◌∙◌, ◌==◌, ℕ, ap, sym, refl, subst, true, false, cond, IsTrue, Option, Some, None}
+use Rattle.std.specs.Option.{option_map, option_map_or}
+use Rattle.sk_world.specs.declared.process.TheConstants.{INIT}
 use Rattle.sk_world.specs.declared.process.Body.{Body}
 use Rattle.sk_world.specs.declared.process.Proc.{Proc}
 use Rattle.sk_world.specs.Processes.{get, store}
-use Rattle.sk_world.specs.World.{World, at, stored, body_changed, changed, with_body}
+use Rattle.sk_world.specs.World.{World, at, has_ended, has_stopped, stored, body_changed, changed, with_body}
+use Rattle.sk_world.specs.Rules.{IsWorld}
 use Rattle.sk_world.proofs.Maps.{same_map, get_store, equal_numbers}
+use Rattle.sk_world.proofs.Stored.{kept_changed}
 
 -- a process that is put where it is already changes nothing
 pub kept_at : (w : World) (pid : ℕ) (o : Option Proc) → at w pid ≡ o → stored w pid o ≡ w
@@ -28,3 +31,14 @@ given_back w pid f p b is body =
 -- nobody's body is changed
 pub nobody_there : (w : World) (pid : ℕ) (f : Body → Body) → at w pid ≡ None → w ≡ changed w pid f
 nobody_there w pid f is = sym (ap (λ o. stored w pid (option_map (body_changed f) o)) is ∙ kept_at w pid None is)
+
+-- a new body that has ended just as the old one had, and is not newly stopped in process 1, keeps the rules
+pub kept_body : (w : World) (pid : ℕ) (p : Proc) (b now : Body) → IsWorld w → at w pid ≡ Some p → p.body ≡ b → has_ended now.life ≡ has_ended b.life
+    → (pid ≡ INIT → IsTrue (has_stopped now.life) → IsTrue (has_stopped b.life)) → IsWorld (with_body w pid now)
+kept_body w pid p b now rules is body ended stopped = kept_changed w pid (λ old. now) rules (λ q there. record {
+  ended = ended ∙ ap (λ x. has_ended x.life) (same q there);
+  init = λ e h. subst (λ x. IsTrue (has_stopped x.life)) (same q there) (stopped e h);
+})
+  where
+    same : (q : Proc) → at w pid ≡ Some q → b ≡ q.body
+    same q there = sym body ∙ ap (λ o. option_map_or (λ x. x.body) o p.body) (sym is ∙ there)
