@@ -1,5 +1,5 @@
 //! Processes, the world that they make up with the rules of fork(2), kill(2), exit(2) and wait(2) on
-//! it, and the trait of a store that keeps them.
+//! it, the trait of a store that keeps them, and the functions that follow those rules over any store.
 #![tactic(auto)]
 
 mod ending;
