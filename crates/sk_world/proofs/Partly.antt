@@ -14,6 +14,7 @@ use Rattle.sk_world.proofs.Maps.{same_map, get_store}
 use Rattle.sk_world.proofs.KeptEnd.{handed_at}
 use Rattle.sk_world.proofs.Telling.{none_passes}
 
+-- what a pid leads to once the children are handed on
 pub handed : World → ℕ → Bool → ℕ → Option Proc
 handed w pid leaves_none q = option_and_then (handed_on pid INIT leaves_none) (at w q)
 
@@ -22,19 +23,23 @@ pub record IsPartly (w v : World) (pid : ℕ) (leaves_none : Bool) (after : ℕ)
   pub processes : (q : ℕ) → at v q ≡ cond (nat_lt after q) (at w q) (handed w pid leaves_none q)
   pub last : v.last ≡ w.last
 
+-- who is no child stays
 no_child : (pid : ℕ) (leaves_none : Bool) (o : Option Proc) → is_child_of pid o ≡ false → option_and_then (handed_on pid INIT leaves_none) o ≡ o
 no_child pid leaves_none None h = refl
 no_child pid leaves_none (Some p) h = ap (λ b. cond (not b) (Some p) (cond (leaves_none && has_ended p.body.life) None (Some (record p { links = record p.links { parent = INIT } })))) h
 
+-- a process above those that are handed on is as it was
 pub not_yet : (w v : World) (pid : ℕ) (leaves_none : Bool) (after q : ℕ) → IsPartly w v pid leaves_none after → after < q → at v q ≡ at w q
 not_yet w v pid leaves_none after q partly lt = partly.processes q ∙ ap (λ b. cond b (at w q) (handed w pid leaves_none q)) (lt-ltb after q lt)
 
+-- there is no process 0
 zero_at : (w : World) (pid : ℕ) → IsWorld w → is_child_of pid (at w 0) ≡ false
 zero_at w pid rules = elim (at w 0) as (λ o. at w 0 ≡ o → is_child_of pid o ≡ false) [
   | None ↦ λ _. refl
   | Some p ↦ λ is. let low = (rules.pids 0 (ap is_some is)).0 in absurd (omega arith)
 ] refl
 
+-- up to 0 nobody is handed on
 pub begins : (w : World) (pid : ℕ) (leaves_none : Bool) → IsWorld w → IsPartly w w pid leaves_none 0
 unfolding handed
 begins w pid leaves_none rules = record { processes = at_start; last = refl }
@@ -51,6 +56,7 @@ begins w pid leaves_none rules = record { processes = at_start; last = refl }
       | false ↦ λ is. subst (λ k. at w k ≡ handed w pid leaves_none k) (zero_is q is) zero_here
     ] refl
 
+-- the next child is handed on
 pub goes_on : (w v now : World) (pid : ℕ) (leaves_none : Bool) (after child : ℕ) → IsPartly w v pid leaves_none after → IsNext (λ q. is_child_of pid (at v q)) after (Some child)
     → now ≡ stored v child (option_and_then (handed_on pid INIT leaves_none) (at v child)) → IsPartly w now pid leaves_none child
 unfolding handed
@@ -81,6 +87,7 @@ goes_on w v now pid leaves_none after child partly next is = record { processes 
       | false ↦ λ e. other q (eqb-false q child e)
     ] refl
 
+-- where there is no next child, all are handed on
 pub is_done : (w v : World) (pid : ℕ) (leaves_none : Bool) (after : ℕ) → leaves_none ≡ ignores_children (at w INIT) → IsPartly w v pid leaves_none after
     → IsNext (λ q. is_child_of pid (at v q)) after None → v ≡ with_children_handed_on w pid
 unfolding handed
@@ -96,12 +103,12 @@ is_done w v pid leaves_none after known partly next =
     same : v.procs ≡ (with_children_handed_on w pid).procs
     same = same_map _ _ (λ q. all q ∙ ap (λ b. option_and_then (handed_on pid INIT b) (at w q)) known ∙ sym (handed_at w pid q))
 
--- ---- whether a zombie is among them
-
+-- what the walk has found out of the children up to a pid: whether a zombie is among them
 pub record IsKnown (w : World) (pid : ℕ) (has : Bool) (after : ℕ) : Type 0 where
   pub found : has ≡ true → (q : ℕ) × IsTrue (is_child_of pid (at w q) && is_zombie (at w q))
   pub none : has ≡ false → (q : ℕ) → q ≤ after → (is_child_of pid (at w q) && is_zombie (at w q)) ≡ false
 
+-- up to 0 there is none
 pub none_known : (w : World) (pid : ℕ) → IsWorld w → IsKnown w pid false 0
 none_known w pid rules = record {
   found = λ h. absurd (false≢true h);
@@ -111,6 +118,7 @@ none_known w pid rules = record {
     zero : (q : ℕ) → q ≤ 0 → 0 ≡ q
     zero q le = omega arith
 
+-- the next child is a zombie
 pub one_known : (w v : World) (pid : ℕ) (leaves_none has b : Bool) (after child : ℕ) → IsPartly w v pid leaves_none after → IsNext (λ q. is_child_of pid (at v q)) after (Some child)
     → b ≡ is_zombie (at v child) → b ≡ true → IsKnown w pid true child
 one_known w v pid leaves_none has b after child partly next is does =
@@ -120,6 +128,7 @@ one_known w v pid leaves_none has b after child partly next is does =
       none = λ h. absurd (false≢true (sym h));
     }
 
+-- the next child is none
 pub no_more_known : (w v : World) (pid : ℕ) (leaves_none has b : Bool) (after child : ℕ) → IsPartly w v pid leaves_none after → IsNext (λ q. is_child_of pid (at v q)) after (Some child)
     → b ≡ is_zombie (at v child) → b ≡ false → IsKnown w pid has after → IsKnown w pid has child
 no_more_known w v pid leaves_none has b after child partly next is no_zombie known = record { found = known.found; none = none }
@@ -146,14 +155,17 @@ some_by w t q there passes =
       | false ↦ λ none. absurd (false≢true (sym (none_passes t w.procs.entries none q there) ∙ passes))
     ] refl
 
+-- no process passes a test that none passes
 none_of : (t : ℕ → Bool) (xs : List ℕ) → ((q : ℕ) → t q ≡ false) → list_any t xs ≡ false
 none_of t [] none = refl
 none_of t (x ∷ xs) none = (λ i. none x i || none_of t xs none i)
 
+-- a child that is a zombie is there
 child_there : (pid : ℕ) (o : Option Proc) → IsTrue (is_child_of pid o && is_zombie o) → IsTrue (is_some o)
 child_there pid None h = absurd (false≢true h)
 child_there pid (Some p) h = refl
 
+-- where there is no next child, it is known of all
 pub known_is : (w v : World) (pid : ℕ) (leaves_none has : Bool) (after : ℕ) → IsPartly w v pid leaves_none after → IsNext (λ q. is_child_of pid (at v q)) after None → IsKnown w pid has after → has ≡ has_zombie_child w pid
 known_is w v pid leaves_none has after partly next known = elim has as (λ b. has ≡ b → b ≡ has_zombie_child w pid) [
   | true ↦ λ h. let one = known.found h in sym (some_by w (λ k. is_child_of pid (at w k) && is_zombie (at w k)) one.0 (child_there pid (at w one.0) one.1) one.1)

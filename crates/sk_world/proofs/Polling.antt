@@ -12,9 +12,11 @@ use Rattle.sk_world.specs.World.{World, at, is_child_of}
 use Rattle.sk_world.specs.Waits.{is_asked_for, is_match, is_ready, has_match, ready_of, status_of}
 use Rattle.sk_world.proofs.Telling.{ready_lowest, no_match, not_ready}
 
+-- what is told of a child
 is_told : World → Request → ℕ → Poll
 is_told w request pid = Told pid (unwrap_or (status_of request.options (at w pid)) 0)
 
+-- what is told, by what the search finds
 answer : World → ℕ → Request → Option ℕ → Poll
 answer w caller request found = option_map_or (is_told w request) found (cond (has_match w caller request) NotReady NoMatch)
 
@@ -31,12 +33,14 @@ by_search w caller request P found waits none =
       | None ↦ elim (has_match w caller request) as (λ b. ready_of w caller request ≡ cond b NotReady NoMatch → P (cond b NotReady NoMatch)) [ true ↦ waits | false ↦ none ]
     ] refl
 
+-- a child that matches and has a status to tell is ready
 ready_by : (w : World) (caller : ℕ) (request : Request) (pid status : ℕ) → status_of request.options (at w pid) ≡ Some status → IsTrue (is_match caller request pid (at w pid)) → IsTrue (is_ready w caller request pid)
 ready_by w caller request pid status is match = (λ i. match i && is_some (is i))
 
 same_when_least : (a b : ℕ) → a ≤ b → (a < b → ⊥) → a ≡ b
 same_when_least a b le never = ⊎_elim (λ lt. absurd (never lt)) (λ ge. omega arith) (cases_lt a b)
 
+-- a ready child is told of, if none below it is ready
 pub told_of : (w : World) (caller : ℕ) (request : Request) (pid status : ℕ) → status_of request.options (at w pid) ≡ Some status → IsTrue (is_match caller request pid (at w pid))
     → ((q : ℕ) → q < pid → is_ready w caller request q ≡ false) → Told pid status ≡ ready_of w caller request
 unfolding is_told
@@ -50,6 +54,7 @@ told_of w caller request pid status is match before =
     (λ e. absurd (false≢true (sym ((not_ready w caller request e).1 pid) ∙ ready)))
     (λ e. absurd (false≢true (sym (no_match w caller request e pid) ∙ match)))
 
+-- the call goes on waiting where somebody matches and nobody is ready
 pub goes_on : (w : World) (caller : ℕ) (request : Request) → ((q : ℕ) → is_ready w caller request q ≡ false) → (q : ℕ) × IsTrue (is_match caller request q (at w q)) → NotReady ≡ ready_of w caller request
 unfolding is_told
 goes_on w caller request none some =
@@ -58,6 +63,7 @@ goes_on w caller request none some =
     (λ e. refl)
     (λ e. absurd (false≢true (sym (no_match w caller request e some.0) ∙ some.1)))
 
+-- nobody matches
 pub nobody : (w : World) (caller : ℕ) (request : Request) → ((q : ℕ) → is_match caller request q (at w q) ≡ false) → NoMatch ≡ ready_of w caller request
 unfolding is_told
 nobody w caller request none =
@@ -66,14 +72,17 @@ nobody w caller request none =
     (λ e. let some = (not_ready w caller request e).0 in absurd (false≢true (sym (none some.0) ∙ some.1)))
     (λ e. refl)
 
+-- who is no child matches no request
 pub child_by : (caller : ℕ) (request : Request) (pid : ℕ) (o : Option Proc) → is_child_of caller o ≡ false → is_match caller request pid o ≡ false
 child_by caller request pid None h = refl
 child_by caller request pid (Some p) h = ap (λ b. b && is_asked_for request.who pid p) h
 
+-- none up to a pid matches, and none above it is a child
 pub unmatched_by : (w : World) (caller : ℕ) (request : Request) (after : ℕ) → ((q : ℕ) → q ≤ after → is_match caller request q (at w q) ≡ false)
     → ((q : ℕ) → after < q → is_child_of caller (at w q) ≡ false) → (q : ℕ) → is_match caller request q (at w q) ≡ false
 unmatched_by w caller request after low high q = ⊎_elim (λ lt. child_by caller request q (at w q) (high q lt)) (λ ge. low q ge) (cases_lt after q)
 
+-- who does not match is not ready
 unready_match : (w : World) (caller : ℕ) (request : Request) (q : ℕ) → is_match caller request q (at w q) ≡ false → is_ready w caller request q ≡ false
 unready_match w caller request q none = ap (λ b. b && is_some (status_of request.options (at w q))) none
 
