@@ -1,5 +1,5 @@
 -- Whom a search from child to child tells of.
-use Rattle.std.proofs.Common.{◌≡◌, ◌∙◌, ◌<◌, ◌≤◌, ℕ, arith, ap, sym, refl, true, false, cond, ◌&&◌, ⊎_elim, IsTrue, Option, None, Some}
+use Rattle.std.proofs.Common.{◌≡◌, ◌∙◌, ◌<◌, ◌≤◌, ℕ, arith, ap, sym, refl, subst, Bool, true, false, cond, ◌&&◌, ⊎_elim, IsTrue, Option, None, Some}
 use Rattle.std.specs.Option.{is_some, option_map_or, unwrap_or}
 use Rattle.std.specs.List.{find}
 use Rattle.std.proofs.lemmas.Bool.{false≢true, cases_lt, and_parts}
@@ -90,3 +90,22 @@ unready_match w caller request q none = ap (λ b. b && is_some (status_of reques
 pub unready_by : (w : World) (caller : ℕ) (request : Request) (after : ℕ) (P : ℕ → Type 0) → ((q : ℕ) → q ≤ after → is_ready w caller request q ≡ false)
     → ((q : ℕ) → after < q → P q → is_child_of caller (at w q) ≡ false) → (q : ℕ) → P q → is_ready w caller request q ≡ false
 unready_by w caller request after P low high q h = ⊎_elim (λ lt. unready_match w caller request q (child_by caller request q (at w q) (high q lt h))) (λ ge. low q ge) (cases_lt after q)
+
+and_none : (b : Bool) → (b && false) ≡ false
+and_none true = refl
+and_none false = refl
+
+-- nor is a child that has nothing to tell, and so nobody up to it
+pub unready_up_to : (w : World) (caller : ℕ) (request : Request) (after child : ℕ) → ((q : ℕ) → q ≤ after → is_ready w caller request q ≡ false)
+    → ((q : ℕ) → after < q → q < child → is_child_of caller (at w q) ≡ false) → status_of request.options (at w child) ≡ None
+    → (q : ℕ) → q ≤ child → is_ready w caller request q ≡ false
+unready_up_to w caller request after child low between none q le = ⊎_elim
+    (λ lt. unready_by w caller request after (λ k. k < child) low between q lt)
+    (λ ge. subst (λ k. is_ready w caller request k ≡ false) (last ge) here)
+    (cases_lt q child)
+  where
+    last : child ≤ q → child ≡ q
+    last ge = omega arith
+
+    here : is_ready w caller request child ≡ false
+    here = ap (λ o. is_match caller request child (at w child) && is_some o) none ∙ and_none (is_match caller request child (at w child))

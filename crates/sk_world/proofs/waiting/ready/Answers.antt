@@ -1,6 +1,16 @@
 use Rattle.std.proofs.Common.{◌∙◌, ◌<◌, sym}
-use Rattle.sk_world.proofs.Polling.{told_of, goes_on, nobody, unmatched_by, unready_by}
+use Rattle.std.proofs.lemmas.Bool.{false≢true}
+use Rattle.sk_world.proofs.Polling.{told_of, goes_on, nobody, unmatched_by, unready_by, unready_up_to}
 use Rattle.sk_world.proofs.waiting.ready.Goals as goal
+
+pub loop-child-preserved-in_default-status_of : goal.loop-child-preserved-in_default-status_of
+loop-child-preserved-in_default-status_of g c =
+    let w = g.S.ProcStore.contents c.args.store.now in
+    record {
+      unready = unready_up_to w c.args.caller c.args.request c.loop-child.after c.in-Some.child c.loop-child.invariant.unready c.in-Some.ensures.next.2 (sym c.status_of.ensures ∙ c.in_default-status_of.is);
+      matched = λ _. (c.in-Some.child, sym c.is_match.ensures ∙ c.if-is_match.true);
+      unmatched = λ h. absurd (false≢true (sym h));
+    }
 
 pub returns-in-Some-status_of : goal.returns-in-Some-status_of
 returns-in-Some-status_of g c =
