@@ -1,0 +1,11 @@
+//! Laws about the definitions. The functions do nothing; their contracts are what is proved.
+ghost use Rattle.std.specs.Prelude.{◌≡◌, ◌↔◌, ℕ, List, Ok};
+ghost use Rattle.sk_setting.specs.Reading.{scenario};
+ghost use Rattle.sk_setting.specs.Scenario.{IsScenarioText, Setting};
+
+/// The two readings find the setting that a text stands for, and a text stands for at most one.
+pub fn readings_find_what_a_text_stands_for()
+    ensures exact { (text : List ℕ) (setting : Setting) → (scenario text ≡ Ok setting) ↔ IsScenarioText text setting }
+    ensures one { (text : List ℕ) (setting other : Setting)
+        → IsScenarioText text setting → IsScenarioText text other → setting ≡ other }
+{}
