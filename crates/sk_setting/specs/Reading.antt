@@ -114,18 +114,27 @@ started n d (Opens opening) = opened n d opening
 abbrev pub limited : ℕ → List ℕ → Result Open TextFault
 limited n image = if nat_lt 32776 (length image) then Err (Limit n) else Ok (Bytes image)
 
--- the one fault of assembler lines; a label that is not given waits for the second reading
+-- what a fault of the assembler is in a scenario; its definition never has the last one
+abbrev pub fault_of : AsmFault → TextFault
+fault_of (asm.Label m) = Unresolved m
+fault_of (asm.TooLong m) = Limit m
+fault_of (asm.Line m) = Line m
+fault_of (asm.Twice m) = Line m
+fault_of (asm.Far m) = Line m
+fault_of (asm.Back m) = Line m
+fault_of asm.Memory = Line 0
+
+-- a label that is not given waits for the second reading
+abbrev pub held : Option Names → TextFault → Result Open TextFault
+held known (Line m) = Err (Line m)
+held known (Limit m) = Err (Limit m)
+held None (Unresolved m) = Ok (Code [])
+held (Some names) (Unresolved m) = Err (Unresolved m)
+
+-- the instructions of assembler lines, or their one fault
 unfoldable pub coded : Option Names → Result (List Insn) AsmFault → Result Open TextFault
 coded known (Ok insns) = Ok (Code (image_of insns))
-coded None (Err (asm.Label m)) = Ok (Code [])
-coded (Some names) (Err (asm.Label m)) = Err (Unresolved m)
-coded known (Err (asm.TooLong m)) = Err (Limit m)
-coded known (Err (asm.Line m)) = Err (Line m)
-coded known (Err (asm.Twice m)) = Err (Line m)
-coded known (Err (asm.Far m)) = Err (Line m)
-coded known (Err (asm.Back m)) = Err (Line m)
--- the assembler's definition never has this one
-coded known (Err asm.Memory) = Err (Line 0)
+coded known (Err fault) = held known (fault_of fault)
 
 -- an image, and the bytes of line n behind it
 abbrev pub grown : ℕ → List ℕ → List ℕ → Result Open TextFault
