@@ -130,7 +130,7 @@ kind_decided known n line others next h = elim (cases_Bool (begins_comment (word
       ]
 ]
 
-kind_inside : (known : Option Names) (n : ℕ) (block : Open) (line : List ℕ) (here : List (List ℕ)) (next : Open) → inside known n block line here ≡ Ok next → kind next ≡ kind block
+pub kind_inside : (known : Option Names) (n : ℕ) (block : Open) (line : List ℕ) (here : List (List ℕ)) (next : Open) → inside known n block line here ≡ Ok next → kind next ≡ kind block
 unfolding inside
 kind_inside known n Nothing line here next h = ap kind (sym (ok_is Nothing next h))
 kind_inside known n Undecided line here next h =

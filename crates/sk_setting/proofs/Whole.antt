@@ -53,7 +53,7 @@ is_some-none : {A : Type 0} (o : Option A) → is_some o ≡ false → o ≡ Non
 is_some-none None h = refl
 is_some-none (Some x) h = cc
 
-turns-ok : (n : ℕ) (d next : Gained) (turns : ℕ) → remarked n d (Turns turns) ≡ Ok next → (d.turns ≡ None) × (1 ≤ turns) × (turns ≤ 100000) × (with_turns d turns ≡ next)
+pub turns-ok : (n : ℕ) (d next : Gained) (turns : ℕ) → remarked n d (Turns turns) ≡ Ok next → (d.turns ≡ None) × (1 ≤ turns) × (turns ≤ 100000) × (with_turns d turns ≡ next)
 unfolding remarked
 turns-ok n d next turns h = elim (cases_Bool (is_some d.turns)) [
   | inl t ↦ let e = rw t at h in cc
@@ -78,7 +78,7 @@ turns-is n d turns e low high =
     let u = le-leb turns 100000 high in
     rw (e, l, u) refl
 
-marks-ok : (n : ℕ) (d next : Gained) → remarked n d Subreapers ≡ Ok next → (d.subreapers ≡ false) × (with_subreapers d ≡ next)
+pub marks-ok : (n : ℕ) (d next : Gained) → remarked n d Subreapers ≡ Ok next → (d.subreapers ≡ false) × (with_subreapers d ≡ next)
 unfolding remarked
 marks-ok n d next h = elim (cases_Bool d.subreapers) [
   | inl t ↦ let e = rw t at h in cc
@@ -89,13 +89,13 @@ marks-is : (n : ℕ) (d : Gained) → d.subreapers ≡ false → remarked n d Su
 unfolding remarked
 marks-is n d e = rw e refl
 
-silent-is : (n : ℕ) (d : Gained) → remarked n d Silent ≡ Ok d
+pub silent-is : (n : ℕ) (d : Gained) → remarked n d Silent ≡ Ok d
 unfolding remarked
 silent-is n d = refl
 
 -- ---- names
 
-given-ok : (n : ℕ) (d next : Gained) (name : List ℕ) (what : Named) (count : ℕ) → given n d name what count ≡ Ok next → (named_by d.names name ≡ None) × (count < 256) × (with_name d name what ≡ next)
+pub given-ok : (n : ℕ) (d next : Gained) (name : List ℕ) (what : Named) (count : ℕ) → given n d name what count ≡ Ok next → (named_by d.names name ≡ None) × (count < 256) × (with_name d name what ≡ next)
 unfolding given
 given-ok n d next name what count h = elim (cases_Bool (is_some (named_by d.names name))) [
   | inl t ↦ let e = rw t at h in cc
