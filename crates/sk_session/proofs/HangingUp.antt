@@ -20,7 +20,7 @@ use Rattle.sk_world.proofs.Kept.{kept_sent}
 use Rattle.sk_world.proofs.KeptEnd.{kept_ended}
 use Rattle.sk_world.proofs.Locality.{sent_leaves}
 use Rattle.sk_world.proofs.Rights.{stays, kept_twice, sent_rights, ended_rights}
-use Rattle.sk_world.proofs.Walks.{none_any}
+use Rattle.sk_world.proofs.Walks.{none_any, none_left}
 use Rattle.sk_session.specs.Orphans.{is_living_member, is_orphaned, is_left_orphaned, groups, sent_to_group, hung_up, each_hung_up, ended_and_hung_up}
 use Rattle.sk_session.specs.SessionLaws.{EndKeepsRules, EndKeepsRights, HangingUpKeepsAllElse, HangingUpEndsNobody, HangingUpKeepsZombies, EndWithoutStopped}
 
@@ -145,10 +145,6 @@ zombies_kept w pid status q zombie =
     ended_by KeepsZombies (λ w q zombie. refl) (λ v w x f g q zombie. g q (ap is_zombie (f q zombie) ∙ zombie) ∙ f q zombie) sent_zombie w pid status q zombie
 
 -- ---- nobody is stopped
-
-none_left : (p : ℕ → Bool) (xs : List ℕ) → ((q : ℕ) → p q ≡ false) → filter p xs ≡ []
-none_left p [] none = refl
-none_left p (x ∷ xs) none = ap (λ b. cond b (x ∷ filter p xs) (filter p xs)) (none x) ∙ none_left p xs none
 
 and_none : (b : Bool) → (b && false) ≡ false
 and_none true = refl

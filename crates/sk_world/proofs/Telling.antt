@@ -125,7 +125,7 @@ none_found p (e ∷ es) is q there =
           ] refl (ap (λ b. is_some (cond b (Some e.1) (find nat_cmp q es))) (sym (same_number q e.0)) ∙ there)
     ] refl is
 
-some_passes : (p : ℕ → Bool) (xs : List ℕ) → list_any p xs ≡ true → (q : ℕ) × IsTrue (p q)
+pub some_passes : (p : ℕ → Bool) (xs : List ℕ) → list_any p xs ≡ true → (q : ℕ) × IsTrue (p q)
 some_passes p [] any = absurd (false≢true any)
 some_passes p (x ∷ xs) any =
     elim (p x) as (λ b. p x ≡ b → (b || list_any p xs) ≡ true → (q : ℕ) × IsTrue (p q)) [
