@@ -14,12 +14,12 @@ use Rattle.sk_world.specs.Numbers.{fresh_of}
 use Rattle.sk_world.specs.Sending.{continued, signalled, generated_at, sent}
 use Rattle.sk_world.specs.Forking.{forked, has_room, child_of}
 use Rattle.sk_world.specs.Subreapers.{new_parent}
-use Rattle.sk_world.specs.Ending.{ignores_children, handed_on, with_children_handed_on, has_zombie_child, reparented, zombie, died}
+use Rattle.sk_world.specs.Ending.{ignores_children, handed_on, with_children_handed_on, has_zombie_child, reparented, zombie, left_to_parent}
 use Rattle.sk_world.specs.Waits.{without_note}
-use Rattle.sk_world.specs.ChangeLaws.{HasSameRights, StaysInRights, KeepsRights, SignalKeepsRights, ForceKeepsRights, ReparentKeepsRights, EndKeepsRights, TellingKeepsRights, ForkKeepsRights}
+use Rattle.sk_world_laws.specs.ChangeLaws.{HasSameRights, StaysInRights, KeepsRights, SignalKeepsRights, ForceKeepsRights, ReparentKeepsRights, EndKeepsRights, TellingKeepsRights, ForkKeepsRights}
 use Rattle.sk_world.proofs.Stored.{everywhere}
 use Rattle.sk_world.proofs.KeptEnd.{handed_cases, handed_at}
-use Rattle.sk_world.proofs.Locality.{forked_touches, forked_child}
+use Rattle.sk_world_laws.proofs.Locality.{forked_touches, forked_child}
 
 -- the change of a body leaves its rights
 record KeepsBody (f : Body → Body) : Type 0 where
@@ -96,10 +96,10 @@ told_rights w pid status =
     (λ _. changed_rights w pid without_note (record { filters = λ _. refl; creds = λ _. refl }))
 
 -- ends
-handed_stays : (dying parent : ℕ) (leaves_none : Bool) (o : Option Proc) → StaysInRights (option_and_then (handed_on dying parent leaves_none) o) o
-handed_stays dying parent leaves_none None = nobody_stays None
-handed_stays dying parent leaves_none (Some p) =
-    handed_cases dying parent leaves_none p (λ x. StaysInRights x (Some p)) (λ _. stays (Some p)) (λ _ _. nobody_stays (Some p))
+handed_stays : (dying parent : ℕ) (removes : Bool) (o : Option Proc) → StaysInRights (option_and_then (handed_on dying parent removes) o) o
+handed_stays dying parent removes None = nobody_stays None
+handed_stays dying parent removes (Some p) =
+    handed_cases dying parent removes p (λ x. StaysInRights x (Some p)) (λ _. stays (Some p)) (λ _ _. nobody_stays (Some p))
     (λ _ moved is. (p, refl, rights_at (record p { links = record p.links { parent = parent } }) moved p is (record { filters = refl; creds = refl })))
 
 handed_rights : (w : World) (pid : ℕ) → KeepsRights w (with_children_handed_on w pid)
@@ -112,8 +112,8 @@ reparented_rights w pid =
     cond_both (has_zombie_child w pid && not (ignores_children (at w parent))) (sent handed parent SIGCHLD) handed (λ v. KeepsRights w v)
     (λ _. twice w handed (sent handed parent SIGCHLD) (handed_rights w pid) (sent_rights handed parent SIGCHLD)) (λ _. handed_rights w pid)
 
-died_rights : (w : World) (pid status : ℕ) → KeepsRights w (died w pid status)
-died_rights w pid status =
+left_rights : (w : World) (pid status : ℕ) → KeepsRights w (left_to_parent w pid status)
+left_rights w pid status =
     let parent : ℕ = parent_of (at w pid) in
     let dead : World = changed w pid (zombie status) in
     cond_both (ignores_children (at w parent)) (stored w pid None) (sent dead parent SIGCHLD) (λ v. KeepsRights w v) (λ _. removed_rights w pid)
@@ -121,9 +121,9 @@ died_rights w pid status =
 
 pub ended_rights : EndKeepsRights
 ended_rights w pid status =
-    cond_both (pid == INIT) (changed w INIT (λ body. record body { life = Zombie status })) (died (reparented w pid) pid status) (λ v. KeepsRights w v)
+    cond_both (pid == INIT) (changed w INIT (λ body. record body { life = Zombie status })) (left_to_parent (reparented w pid) pid status) (λ v. KeepsRights w v)
     (λ _. changed_rights w INIT (λ body. record body { life = Zombie status }) (record { filters = λ _. refl; creds = λ _. refl }))
-    (λ _. twice w (reparented w pid) (died (reparented w pid) pid status) (reparented_rights w pid) (died_rights (reparented w pid) pid status))
+    (λ _. twice w (reparented w pid) (left_to_parent (reparented w pid) pid status) (reparented_rights w pid) (left_rights (reparented w pid) pid status))
 
 -- forks
 child_stays : (w : World) (caller : ℕ) (o : Option Proc) → at w caller ≡ o → IsTrue (is_alive o) → IsTrue (has_room w) → StaysInRights (at (forked w caller) (fresh_of w)) o

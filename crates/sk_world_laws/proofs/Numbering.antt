@@ -10,7 +10,7 @@ use Rattle.sk_world.specs.declared.process.Proc.{Proc}
 use Rattle.sk_world.specs.Processes.{count}
 use Rattle.sk_world.specs.World.{World, at}
 use Rattle.sk_world.specs.Numbers.{has_number, is_used, fresh_of}
-use Rattle.sk_world.specs.ChangeLaws.{NumberIsNew}
+use Rattle.sk_world_laws.specs.ChangeLaws.{NumberIsNew}
 use Rattle.sk_world.proofs.Maps.{same_number}
 use Rattle.sk_world.proofs.Fresh.{fresh_unused}
 

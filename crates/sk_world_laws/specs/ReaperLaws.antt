@@ -1,5 +1,5 @@
 -- Laws on who the children of a process go to when it ends.
-use Rattle.std.specs.Prelude.{ℕ, zero, suc, ◌≡◌, ◌≢◌, ◌<◌, false, ◌⊎◌, IsTrue, IsFalse}
+use Rattle.std.specs.Prelude.{ℕ, zero, suc, ◌≡◌, ◌≢◌, ◌<◌, ◌⊎◌, IsTrue, IsFalse}
 use Rattle.std.specs.Option.{is_some}
 use Rattle.sk_world.specs.declared.process.TheConstants.{INIT, PROCESSES}
 use Rattle.sk_world.specs.World.{World, at, is_alive, is_halted, parent_of}

@@ -1,5 +1,5 @@
-use Rattle.sk_world.proofs.Rights.{sent_rights, forced_rights, reparented_rights, ended_rights, told_rights, forked_rights}
-use Rattle.sk_world.proofs.laws.rights_are_kept.Goals as goal
+use Rattle.sk_world_laws.proofs.Rights.{sent_rights, forced_rights, reparented_rights, ended_rights, told_rights, forked_rights}
+use Rattle.sk_world_laws.proofs.rights_are_kept.Goals as goal
 
 pub returns : goal.returns
 returns c = record {

@@ -1,7 +1,7 @@
 -- Laws on the changes of a world: whom they touch, and what they leave as it was.
-use Rattle.std.specs.Prelude.{ℕ, ◌≡◌, ◌≢◌, ◌<◌, ◌≤◌, ◌==◌, ◌&&◌, IsTrue, IsFalse, if◌then◌else◌, Option, None, Some}
+use Rattle.std.specs.Prelude.{ℕ, ◌≡◌, ◌≢◌, ◌<◌, ◌≤◌, ◌==◌, ◌&&◌, IsTrue, IsFalse, if◌then◌else◌, List, filter, map, Option, None, Some}
 use Rattle.std.specs.Option.{is_some, option_map}
-use Rattle.sk_signal.specs.declared.number.TheConstants.{SIGCONT}
+use Rattle.sk_signal.specs.declared.number.TheConstants.{SIGCHLD, SIGCONT}
 use Rattle.sk_signal.specs.Signalling.{opening as no_signal}
 use Rattle.sk_world.specs.declared.process.TheConstants.{INIT, LAST_PID}
 use Rattle.sk_world.specs.declared.process.Life.TheVariants.{Running}
@@ -9,19 +9,19 @@ use Rattle.sk_world.specs.declared.process.Note.TheVariants as note
 use Rattle.sk_world.specs.declared.process.Proc.{Proc}
 use Rattle.sk_world.specs.declared.request.Request.{Request}
 use Rattle.sk_world.specs.declared.request.Poll.TheVariants.{Told, NoMatch, NotReady}
-use Rattle.sk_world.specs.World.{World, at, has_ended, is_zombie, is_alive, is_halted, parent_of}
+use Rattle.sk_world.specs.Processes.{pids}
+use Rattle.sk_world.specs.World.{World, at, has_ended, is_zombie, is_child_of, is_alive, is_halted, parent_of}
 use Rattle.sk_world.specs.Rules.{IsWorld}
-use Rattle.sk_world.specs.Numbers.{is_used, distance_from, fresh_of}
-use Rattle.sk_world.specs.Sending.{sent, forced}
+use Rattle.sk_world.specs.Numbers.{is_used, distance_from, IsNextFree, fresh_of}
+use Rattle.sk_world.specs.Sending.{sent, sent_to_each, forced}
 use Rattle.sk_world.specs.Forking.{forked, has_room, child_of}
 use Rattle.sk_world.specs.Subreapers.{new_parent}
-use Rattle.sk_world.specs.Ending.{ignores_children, zombie, reparented, ended}
+use Rattle.sk_world.specs.Ending.{ignores_children, with_children_handed_on, zombie, reparented, ended}
 use Rattle.sk_world.specs.Waits.{is_match, is_ready, status_of, ready_of, told}
 
--- signals are not queued: one that is sent again changes nothing. Only SIGCONT may say more, to the
--- parent: signal(7)
+-- signals are not queued: one that is sent again changes nothing, SIGCONT neither: signal(7)
 abbrev pub SignalIsNotQueued : Type 0
-SignalIsNotQueued = (w : World) (pid n : ℕ) → n ≢ SIGCONT → sent (sent w pid n) pid n ≡ sent w pid n
+SignalIsNotQueued = (w : World) (pid n : ℕ) → sent (sent w pid n) pid n ≡ sent w pid n
 
 -- a signal touches nobody but the one who gets it, and SIGCONT its parent
 abbrev pub SignalTouches : Type 0
@@ -77,6 +77,16 @@ EndHandsChildrenOn =
     → at (ended w pid status) q
     ≡ (if ignores_children (at w (new_parent w pid)) && has_ended p.body.life then None else Some (record p { links = record p.links { parent = new_parent w pid } }))
 
+-- the zombies among the children of a process, in rising order
+abbrev pub zombie_children : World → ℕ → List ℕ
+zombie_children w pid = filter (λ k. is_child_of pid (at w k) && is_zombie (at w k)) (pids w.procs)
+
+-- where the new parent does not remove the zombies that are handed on, one SIGCHLD for all of them is one for each
+abbrev pub EachZombieIsAnnounced : Type 0
+EachZombieIsAnnounced =
+    (w : World) (pid : ℕ) → IsFalse (ignores_children (at w (new_parent w pid)))
+    → reparented w pid ≡ sent_to_each (with_children_handed_on w pid) (map (λ zombie. new_parent w pid) (zombie_children w pid)) SIGCHLD
+
 -- a process other than process 1 is a zombie with its status once it has ended, unless its parent ignores
 -- SIGCHLD
 abbrev pub EndLeavesZombie : Type 0
@@ -123,6 +133,14 @@ abbrev pub NumberIsNext : Type 0
 NumberIsNext =
     (w : World) (n : ℕ) → 1 ≤ w.last → w.last ≤ LAST_PID → 2 ≤ n → n ≤ LAST_PID → distance_from w.last n < distance_from w.last (fresh_of w)
     → IsTrue (is_used w n)
+
+-- while there is room for a process more it is the next free number
+abbrev pub FreshIsNextFree : Type 0
+FreshIsNextFree = (w : World) → IsWorld w → IsTrue (has_room w) → IsNextFree w (fresh_of w)
+
+-- and no other number is
+abbrev pub NextFreeIsUnique : Type 0
+NextFreeIsUnique = (w : World) (m n : ℕ) → IsWorld w → IsNextFree w m → IsNextFree w n → m ≡ n
 
 -- two processes may do the same: they have the same filters, ids and no_new_privs
 pub record HasSameRights (p other : Proc) : Type 0 where

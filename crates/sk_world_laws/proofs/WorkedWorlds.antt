@@ -4,7 +4,7 @@ use Rattle.sk_signal.specs.Sets.{empty, contains, insert, retain, remove, from_l
 use Rattle.sk_signal.specs.Signalling.{opening as no_signal}
 use Rattle.sk_world.specs.Numbers.{fresh_of}
 use Rattle.sk_world.specs.Subreapers.{ancestors, new_parent}
-use Rattle.sk_world.specs.WorkedWorlds.{WorkedForks, WorkedEnds, WorkedReapers, WorkedWaits, WorkedSignals}
+use Rattle.sk_world_laws.specs.WorkedWorlds.{WorkedForks, WorkedEnds, WorkedReapers, WorkedWaits, WorkedSignals}
 
 pub worked_forks : WorkedForks
 unfolding fresh_of no_signal empty contains insert retain remove from_list
