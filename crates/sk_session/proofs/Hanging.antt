@@ -5,17 +5,19 @@ use Rattle.std.specs.Option.{is_some, option_map}
 use Rattle.std.specs.List.{list_any}
 use Rattle.std.specs.Ordering.{nat_cmp, eq_by_cmp}
 use Rattle.std.specs.FinMap.Entries.{find, is_sorted}
-use Rattle.std.proofs.lemmas.Bool.{false≢true, cases_lt}
+use Rattle.std.proofs.lemmas.Bool.{false≢true, cond_both, cases_lt}
 use Rattle.sk_numbers.specs.Numbers.{IsLeast, IsLeastAbove}
 use Rattle.sk_signal.specs.Sets as set
 use Rattle.sk_signal.specs.Members.{contains-from_list}
+use Rattle.sk_signal.specs.declared.number.TheConstants.{SIGCHLD, SIGCONT}
+use Rattle.sk_world.specs.declared.process.TheConstants.{INIT}
+use Rattle.sk_world.specs.declared.process.Body.{Body}
 use Rattle.sk_world.specs.declared.process.Proc.{Proc}
 use Rattle.sk_world.specs.Processes.{pids}
-use Rattle.sk_world.specs.World.{World, at, is_alive, is_member_of, IsNext}
+use Rattle.sk_world.specs.World.{World, at, is_alive, is_stopped, is_member_of, parent_of, body_changed, IsNext}
 use Rattle.sk_world.specs.Rules.{IsWorld}
-use Rattle.sk_world.specs.Sending.{sent, sent_to_each}
-use Rattle.sk_world.specs.ChangeLaws.{unsignalled}
-use Rattle.sk_world.proofs.Locality.{sent_leaves}
+use Rattle.sk_world.specs.Sending.{signalled, generated_at, sent, sent_to_each}
+use Rattle.sk_world.proofs.Stored.{everywhere}
 use Rattle.sk_world.proofs.Telling.{some_passes}
 use Rattle.sk_world.proofs.Walks.{above, none_above, next_above, pass_above, all_above, first_above, none_left}
 use Rattle.sk_session.specs.Sessions.{is_group}
@@ -24,13 +26,21 @@ use Rattle.sk_session.proofs.Walking.{member_is_there, nobody_at_0}
 use Rattle.sk_session.proofs.HangingUp.{sent_life}
 use Rattle.sk_session.proofs.Ties.{or_true}
 
--- what a signal leaves, seen in one part of a process
-pub sent_view : {A : Type 0} (view : Option Proc → A) → ((o : Option Proc) → view o ≡ view (option_map unsignalled o)) → (w : World) (pid n q : ℕ) → view (at (sent w pid n) q) ≡ view (at w q)
-sent_view view same w pid n q = same (at (sent w pid n) q) ∙ ap view (sent_leaves w pid n q) ∙ sym (same (at w q))
+-- what no change of a body shows in a part of a process no signal shows
+module _ {A : Type 0} (view : Option Proc → A) (same : (f : Body → Body) (o : Option Proc) → view (option_map (body_changed f) o) ≡ view o) where
+  generated_view : (w : World) (pid n q : ℕ) → view (at (generated_at w pid n) q) ≡ view (at w q)
+  generated_view w pid n =
+      everywhere w pid (option_map (body_changed (signalled n (pid == INIT))) (at w pid)) (λ q x. view x ≡ view (at w q)) (same (signalled n (pid == INIT)) (at w pid)) (λ q ne. refl)
 
-member_seen : (group : ℕ) (o : Option Proc) → is_member_of group o ≡ is_member_of group (option_map unsignalled o)
-member_seen group None = refl
-member_seen group (Some p) = refl
+  pub sent_view : (w : World) (pid n q : ℕ) → view (at (sent w pid n) q) ≡ view (at w q)
+  sent_view w pid n q =
+      cond_both ((n == SIGCONT) && is_stopped (at w pid)) (generated_at (generated_at w pid n) (parent_of (at w pid)) SIGCHLD) (generated_at w pid n) (λ v. view (at v q) ≡ view (at w q))
+      (λ _. generated_view (generated_at w pid n) (parent_of (at w pid)) SIGCHLD q ∙ generated_view w pid n q)
+      (λ _. generated_view w pid n q)
+
+member_seen : (group : ℕ) (f : Body → Body) (o : Option Proc) → is_member_of group (option_map (body_changed f) o) ≡ is_member_of group o
+member_seen group f None = refl
+member_seen group f (Some p) = refl
 
 pub sent_member : (group : ℕ) (w : World) (pid n q : ℕ) → is_member_of group (at (sent w pid n) q) ≡ is_member_of group (at w q)
 sent_member group = sent_view (is_member_of group) (member_seen group)

@@ -6,17 +6,16 @@ use Rattle.std.proofs.lemmas.Bool.{false≢true, eq-eqb, eqb-true, eqb-false, ne
 use Rattle.sk_numbers.specs.Numbers.{contains}
 use Rattle.sk_signal.specs.declared.number.TheConstants.{SIGCHLD}
 use Rattle.sk_world.specs.declared.process.TheConstants.{INIT}
+use Rattle.sk_world.specs.declared.process.Body.{Body}
 use Rattle.sk_world.specs.declared.process.Proc.{Proc}
 use Rattle.sk_world.specs.Processes.{pids}
-use Rattle.sk_world.specs.World.{World, at, has_ended, is_alive, is_stopped, is_halted, is_child_of, is_member_of, parent_of, stored, changed}
+use Rattle.sk_world.specs.World.{World, at, has_ended, is_alive, is_stopped, is_halted, is_child_of, is_member_of, parent_of, stored, changed, body_changed}
 use Rattle.sk_world.specs.Rules.{IsWorld, is_init}
 use Rattle.sk_world.specs.Sending.{sent}
 use Rattle.sk_world.specs.Subreapers.{new_parent}
-use Rattle.sk_world.specs.Ending.{ignores_children, handed_on, with_children_handed_on, has_zombie_child, reparented, zombie, died, ended}
-use Rattle.sk_world.specs.ChangeLaws.{unsignalled}
+use Rattle.sk_world.specs.Ending.{ignores_children, handed_on, with_children_handed_on, has_zombie_child, reparented, zombie, left_to_parent, ended}
 use Rattle.sk_world.proofs.Stored.{at_other}
-use Rattle.sk_world.proofs.KeptEnd.{handed_at, handed_cases}
-use Rattle.sk_world.proofs.Handing.{ended_later}
+use Rattle.sk_world.proofs.KeptEnd.{ended_later, handed_at, handed_cases}
 use Rattle.sk_world.proofs.Telling.{some_passes}
 use Rattle.sk_world.proofs.Walks.{any_here}
 use Rattle.sk_session.specs.Sessions.{session_of, is_group}
@@ -24,7 +23,7 @@ use Rattle.sk_session.specs.Orphans.{is_living_member, is_outside, is_tie, is_or
 use Rattle.sk_session.specs.Ties.{is_engaged}
 use Rattle.sk_session.proofs.Walking.{member_is_there, nobody_at_0}
 use Rattle.sk_session.proofs.HangingUp.{sent_life}
-use Rattle.sk_session.proofs.Hanging.{sent_view}
+use Rattle.sk_session.proofs.Hanging.{sent_view, sent_member}
 use Rattle.sk_session.proofs.Ties.{AreTied}
 
 -- ---- the others, seen in a part of them that no signal changes
@@ -42,8 +41,8 @@ module _ {A : Type 0} (view : Option Proc → A) (seen : (w : World) (k n q : �
       (λ _. seen handed parent SIGCHLD q) (λ _. refl)
       ∙ ap view (handed_at w pid q)
 
-  seen_died : (w : World) (pid status q : ℕ) → q ≢ pid → view (at (died w pid status) q) ≡ view (at w q)
-  seen_died w pid status q ne =
+  seen_left : (w : World) (pid status q : ℕ) → q ≢ pid → view (at (left_to_parent w pid status) q) ≡ view (at w q)
+  seen_left w pid status q ne =
       let parent : ℕ = parent_of (at w pid) in
       let dead : World = changed w pid (zombie status) in
       cond_both (ignores_children (at w parent)) (stored w pid None) (sent dead parent SIGCHLD) (λ v. view (at v q) ≡ view (at w q))
@@ -53,40 +52,36 @@ module _ {A : Type 0} (view : Option Proc → A) (seen : (w : World) (k n q : �
   seen_ended : (w : World) (pid status q : ℕ) → pid ≢ INIT → q ≢ pid → view (at (ended w pid status) q) ≡ view (handed w pid q)
   seen_ended w pid status q other ne =
       ap (λ v. view (at v q)) (ended_later w pid status other)
-      ∙ seen_died (reparented w pid) pid status q ne
+      ∙ seen_left (reparented w pid) pid status q ne
       ∙ seen_reparented w pid q
 
 -- ---- a tie that is not engaged stays one
 
-stays : (dying parent : ℕ) (leaves_none : Bool) (o : Option Proc) → is_child_of dying o ≡ false → option_and_then (handed_on dying parent leaves_none) o ≡ o
-stays dying parent leaves_none None other = refl
-stays dying parent leaves_none (Some p) other =
-    handed_cases dying parent leaves_none p (λ x. x ≡ Some p) (λ _. refl)
+stays : (dying parent : ℕ) (removes : Bool) (o : Option Proc) → is_child_of dying o ≡ false → option_and_then (handed_on dying parent removes) o ≡ o
+stays dying parent removes None other = refl
+stays dying parent removes (Some p) other =
+    handed_cases dying parent removes p (λ x. x ≡ Some p) (λ _. refl)
     (λ is _. absurd (false≢true (sym other ∙ eq-eqb p.links.parent dying is))) (λ is. absurd (false≢true (sym other ∙ eq-eqb p.links.parent dying is)))
 
 -- a process that lives is outside the group as before, whoever is its parent
-outside_stays : (dying parent : ℕ) (leaves_none : Bool) (session group : ℕ) (o : Option Proc) → IsTrue (is_alive o)
-    → is_outside session group (option_and_then (handed_on dying parent leaves_none) o) ≡ is_outside session group o
-outside_stays dying parent leaves_none session group None alive = refl
-outside_stays dying parent leaves_none session group (Some p) alive =
-    handed_cases dying parent leaves_none p (λ x. is_outside session group x ≡ is_outside session group (Some p)) (λ _. refl)
+outside_stays : (dying parent : ℕ) (removes : Bool) (session group : ℕ) (o : Option Proc) → IsTrue (is_alive o)
+    → is_outside session group (option_and_then (handed_on dying parent removes) o) ≡ is_outside session group o
+outside_stays dying parent removes session group None alive = refl
+outside_stays dying parent removes session group (Some p) alive =
+    handed_cases dying parent removes p (λ x. is_outside session group x ≡ is_outside session group (Some p)) (λ _. refl)
     (λ _ ended. absurd (false≢true (sym (not-true (has_ended p.body.life) alive) ∙ ended))) (λ _. refl)
 
-outside_seen : (session group : ℕ) (o : Option Proc) → is_outside session group o ≡ is_outside session group (option_map unsignalled o)
-outside_seen session group None = refl
-outside_seen session group (Some p) = refl
+outside_seen : (session group : ℕ) (f : Body → Body) (o : Option Proc) → is_outside session group (option_map (body_changed f) o) ≡ is_outside session group o
+outside_seen session group f None = refl
+outside_seen session group f (Some p) = refl
 
-member_seen : (group : ℕ) (o : Option Proc) → is_member_of group o ≡ is_member_of group (option_map unsignalled o)
-member_seen group None = refl
-member_seen group (Some p) = refl
+session_seen : (f : Body → Body) (o : Option Proc) → session_of (option_map (body_changed f) o) ≡ session_of o
+session_seen f None = refl
+session_seen f (Some p) = refl
 
-session_seen : (o : Option Proc) → session_of o ≡ session_of (option_map unsignalled o)
-session_seen None = refl
-session_seen (Some p) = refl
-
-parent_seen : (o : Option Proc) → parent_of o ≡ parent_of (option_map unsignalled o)
-parent_seen None = refl
-parent_seen (Some p) = refl
+parent_seen : (f : Body → Body) (o : Option Proc) → parent_of (option_map (body_changed f) o) ≡ parent_of o
+parent_seen f None = refl
+parent_seen f (Some p) = refl
 
 -- the parent of a tie lives, while the system has not halted
 parent_of_tie_lives : (w : World) (group q : ℕ) → IsWorld w → IsFalse (is_halted w) → IsTrue (is_tie w group q) → IsTrue (is_alive (at w (parent_of (at w q))))
@@ -123,7 +118,7 @@ tie_stays w pid status group q rules other apart tie =
     let member = and_parts (is_alive (at w q)) (is_member_of group (at w q)) both.0 in
     let same : handed w pid q ≡ at w q = stays pid (new_parent w pid) (ignores_children (at w (new_parent w pid))) (at w q) free.2 in
     let lives : is_alive (at after q) ≡ is_alive (at w q) = seen_ended is_alive sent_life w pid status q other free.1 ∙ ap is_alive same in
-    let members : is_member_of group (at after q) ≡ is_member_of group (at w q) = seen_ended (is_member_of group) (sent_view (is_member_of group) (member_seen group)) w pid status q other free.1 ∙ ap (is_member_of group) same in
+    let members : is_member_of group (at after q) ≡ is_member_of group (at w q) = seen_ended (is_member_of group) (sent_member group) w pid status q other free.1 ∙ ap (is_member_of group) same in
     let session : session_of (at after q) ≡ session_of (at w q) = seen_ended session_of (sent_view session_of session_seen) w pid status q other free.1 ∙ ap session_of same in
     let parent : parent_of (at after q) ≡ parent_of (at w q) = seen_ended parent_of (sent_view parent_of parent_seen) w pid status q other free.1 ∙ ap parent_of same in
     let not_dying : parent_of (at w q) ≢ pid = child_by_parent pid (at w q) (member_is_there group (at w q) member.1) free.2 in
