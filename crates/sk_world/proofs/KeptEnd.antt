@@ -13,7 +13,7 @@ use Rattle.sk_world.specs.Rules.{IsWorld, is_init, has_links_within}
 use Rattle.sk_world.specs.Sending.{generated_at, sent}
 use Rattle.sk_world.specs.Subreapers.{new_parent}
 use Rattle.sk_world.specs.Ending.{ignores_children, handed_on, with_children_handed_on, has_zombie_child, reparented, zombie, left_to_parent, ended}
-use Rattle.sk_world.specs.WorldLaws.{ReparentKeepsRules, EndKeepsRules}
+use Rattle.sk_world.specs.laws.WorldLaws.{ReparentKeepsRules, EndKeepsRules}
 use Rattle.sk_world.proofs.Maps.{get_each, count_put, count_gone}
 use Rattle.sk_world.proofs.Stored.{Fits, everywhere, at_here, nobody_fits, kept_stored, kept_gone, kept_alone, fewer}
 use Rattle.sk_world.proofs.Children.{within_by}

@@ -16,6 +16,7 @@ use Rattle.sk_world.specs.World.{World, at, is_zombie, stored, changed}
 use Rattle.sk_world.specs.Waits.{is_match, is_ready, has_match, ready_of, status_of, without_note, told}
 use Rattle.sk_world.proofs.Maps.{same_number}
 use Rattle.sk_world.proofs.Stored.{at_here}
+use Rattle.sk_world.proofs.Tidings.{by_first, ready_first}
 use Rattle.sk_world.proofs.KeptTold.{found}
 
 told_pid : Poll → Option ℕ
@@ -31,10 +32,10 @@ answered None status false = refl
 answered (Some pid) status b = refl
 
 searched : (w : World) (caller : ℕ) (request : Request) (pid status : ℕ) → ready_of w caller request ≡ Told pid status → first (is_ready w caller request) (pids w.procs) ≡ Some pid
-unfolding told_pid
+unfolding told_pid by_first
 searched w caller request pid status is =
     sym (answered (first (is_ready w caller request) (pids w.procs)) (λ pid. unwrap_or (status_of request.options (at w pid)) 0) (has_match w caller request))
-    ∙ ap told_pid is
+    ∙ ap told_pid (sym (ready_first w caller request) ∙ is)
 
 parts : (a b : Bool) → T (a && b) → T a × T b
 parts true b h = (tt, h)
@@ -95,10 +96,10 @@ its_status None status there is = absurd (false≢true there)
 its_status (Some n) status there is = ap Some is
 
 status_told : (w : World) (caller : ℕ) (request : Request) (pid status : ℕ) → ready_of w caller request ≡ Told pid status → unwrap_or (status_of request.options (at w pid)) 0 ≡ status
-unfolding told_status
+unfolding told_status by_first
 status_told w caller request pid status is =
     sym (ap (λ o. told_status (option_map_or (λ pid. Told pid (unwrap_or (status_of request.options (at w pid)) 0)) o (cond (has_match w caller request) NotReady NoMatch))) (searched w caller request pid status is))
-    ∙ ap told_status is
+    ∙ ap told_status (sym (ready_first w caller request) ∙ is)
 
 -- it is the lowest child that is ready
 pub ready_lowest : (w : World) (caller : ℕ) (request : Request) (pid status : ℕ) → ready_of w caller request ≡ Told pid status
@@ -157,14 +158,15 @@ answered_match status false = refl
 -- what the search and the test come to where nobody is told of
 unanswered : (w : World) (caller : ℕ) (request : Request) (poll : Poll) → ready_of w caller request ≡ poll → told_pid poll ≡ None
     → (first (is_ready w caller request) (pids w.procs) ≡ None) × (has_match w caller request ≡ says_match poll)
+unfolding by_first
 unanswered w caller request poll is nobody =
     let status : ℕ → ℕ = λ pid. unwrap_or (status_of request.options (at w pid)) 0 in
     let search : Option ℕ = first (is_ready w caller request) (pids w.procs) in
-    let none : search ≡ None = sym (answered search status (has_match w caller request)) ∙ ap told_pid is ∙ nobody in (
+    let none : search ≡ None = sym (answered search status (has_match w caller request)) ∙ ap told_pid (sym (ready_first w caller request) ∙ is) ∙ nobody in (
       none,
       sym (ap (λ o. says_match (option_map_or (λ pid. Told pid (status pid)) o (cond (has_match w caller request) NotReady NoMatch))) none
           ∙ answered_match status (has_match w caller request))
-          ∙ ap says_match is,
+          ∙ ap says_match (sym (ready_first w caller request) ∙ is),
     )
 
 matches_nobody : (w : World) (caller : ℕ) (request : Request) → has_match w caller request ≡ false → (pid : ℕ) → is_match caller request pid (at w pid) ≡ false

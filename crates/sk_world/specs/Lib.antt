@@ -1,6 +1,5 @@
 pub mod Processes
 pub mod World
-pub mod WorldCode
 pub mod Rules
 pub mod Sending
 pub mod Numbers
@@ -8,4 +7,5 @@ pub mod Forking
 pub mod Subreapers
 pub mod Ending
 pub mod Waits
-pub mod WorldLaws
+pub mod views
+pub mod laws

@@ -1,6 +1,11 @@
 //! Laws on worlds. No program calls these functions: the contract of each is the law.
 
-ghost use Rattle.sk_world.specs.WorldLaws.{OpeningHasRules, ChangeKeepsRules, LinksKeepRules, RemovalKeepsRules, SignalKeepsRules, ForceKeepsRules, ForkKeepsRules, ReparentKeepsRules, EndKeepsRules, ToldKeepsRules};
+ghost use Rattle.std.specs.Prelude.{◌≡◌};
+ghost use Rattle.sk_world.specs.declared.process.TheConstants.{INIT, LAST_PID, PROCESSES};
+ghost use Rattle.sk_world.specs.declared.request.TheConstants.WaitOptions.{WNOHANG, WUNTRACED, WCONTINUED};
+ghost use Rattle.sk_world.specs.Waits.{options_of};
+ghost use Rattle.sk_world.specs.laws.WaitLaws.{AsksWithItsBits};
+ghost use Rattle.sk_world.specs.laws.WorldLaws.{OpeningHasRules, ChangeKeepsRules, LinksKeepRules, RemovalKeepsRules, SignalKeepsRules, ForceKeepsRules, ForkKeepsRules, ReparentKeepsRules, EndKeepsRules, ToldKeepsRules};
 
 /// The rules of the world hold as the system starts, and each change of the world keeps them.
 pub fn rules_are_kept()
@@ -14,4 +19,19 @@ pub fn rules_are_kept()
     ensures reparent { ReparentKeepsRules }
     ensures end { EndKeepsRules }
     ensures told { ToldKeepsRules }
+{}
+
+/// Process 1 is the first, pids go to 32767, the `pid_max` that Linux starts with, and there are 1024 processes at most.
+pub fn limits_are_these()
+    ensures init { INIT ≡ 1 }
+    ensures last_pid { LAST_PID ≡ 32767 }
+    ensures processes { PROCESSES ≡ 1024 }
+{}
+
+/// WNOHANG is bit 0 of a wait4(2)'s options, WUNTRACED bit 1 and WCONTINUED bit 3, and each stands for itself alone.
+pub fn wait_options_have_their_bits()
+    ensures no_hang { WNOHANG ≡ options_of 1 }
+    ensures untraced { WUNTRACED ≡ options_of 2 }
+    ensures continued { WCONTINUED ≡ options_of 8 }
+    ensures asked { AsksWithItsBits }
 {}

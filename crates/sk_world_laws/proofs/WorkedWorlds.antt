@@ -9,7 +9,6 @@ use Rattle.sk_world_laws.specs.WorkedWorlds.{WorkedForks, WorkedEnds, WorkedReap
 pub worked_forks : WorkedForks
 unfolding fresh_of no_signal empty contains insert retain remove from_list
 worked_forks = record {
-  limits = (refl, refl, refl);
   first_number = refl;
   next_number = refl;
   last_number = refl;

@@ -5,7 +5,6 @@ use Rattle.sk_signal.specs.declared.disposition.Disposition.{Disposition}
 use Rattle.sk_signal.specs.declared.disposition.Disposition.TheVariants.{Ignore, Handler}
 use Rattle.sk_signal.specs.Sets as set
 use Rattle.sk_signal.specs.SignalSet.{Signals}
-use Rattle.sk_world.specs.declared.process.TheConstants.{INIT, LAST_PID, PROCESSES}
 use Rattle.sk_world.specs.declared.process.Life.{Life}
 use Rattle.sk_world.specs.declared.process.Life.TheVariants.{Running, Stopped, Zombie}
 use Rattle.sk_world.specs.declared.process.Note.{Note}
@@ -92,8 +91,6 @@ ask who bits = record { who = who; options = options_of bits }
 
 -- what fork(2) gives
 pub record WorkedForks : Type 0 where
-  -- the first pid and the last one of all, and how many processes there are at most
-  pub limits : (INIT ≡ 1) × (LAST_PID ≡ 32767) × (PROCESSES ≡ 1024)
   pub first_number : fork_answer opening ≡ Ok 2
   pub next_number : fork_answer (forked opening 1) ≡ Ok 3
   pub last_number : fork_answer (world_of ((1, first_process) ∷ []) 32766) ≡ Ok 32767
