@@ -5,7 +5,6 @@
 mod answer;
 mod event;
 mod images;
-pub mod laws;
 mod operation;
 mod syscall;
 

@@ -1,0 +1,397 @@
+-- What an event leaves of a process that it is not meant to touch.
+use Rattle.std.proofs.Common.{◌≡◌, ◌≢◌, ◌∙◌, ℕ, ℤ, ◌==◌, ◌||◌, ◌&&◌, ◌⊎◌, inl, inr, arith, ap, sym, refl, subst, cond, not, Bool, true, false, length, IsTrue, Option, None, Some, Result, Ok, Err}
+use Rattle.std.specs.Option.{is_some, unwrap_or, option_map, option_and_then}
+use Rattle.std.specs.Int.{is_negative}
+use Rattle.std.proofs.lemmas.Int.{ints}
+use Rattle.std.proofs.lemmas.Bool.{false≢true, cond_both, eqb-true, ne_eqb, not-false, and_parts, eqb-false, false_from_ne_true}
+use Rattle.sk_insn.specs.declared.record.Record.{Record}
+use Rattle.sk_insn.specs.declared.action.Action.{Action}
+use Rattle.sk_insn.specs.declared.action.Action.TheVariants as action
+use Rattle.sk_insn.specs.Actions.{action_of, data_part, performs}
+use Rattle.sk_chain.specs.Verdict.{verdict_of}
+use Rattle.sk_creds.specs.declared.errno.Errno.{Errno}
+use Rattle.sk_creds.specs.declared.errno.Errno.TheVariants.{Eperm, Esrch, Eagain, Eacces, Einval}
+use Rattle.sk_signal.specs.declared.number.TheConstants.{SIGKILL, SIGSEGV, SIGCHLD, SIGCONT, SIGSYS}
+use Rattle.sk_signal.specs.declared.state.TheConstants.{FRAMES}
+use Rattle.sk_signal.specs.declared.disposition.DefaultAction.{DefaultAction}
+use Rattle.sk_signal.specs.declared.disposition.DefaultAction.TheVariants as default
+use Rattle.sk_signal.specs.declared.disposition.Disposition.{Disposition}
+use Rattle.sk_signal.specs.declared.disposition.Disposition.TheVariants as disposition
+use Rattle.sk_signal.specs.SignalSet.{Signals}
+use Rattle.sk_signal.specs.Actions.{default_action}
+use Rattle.sk_signal.specs.SignalState.{SignalState, disposition_of}
+use Rattle.sk_world.specs.declared.process.TheConstants.{INIT}
+use Rattle.sk_world.specs.declared.process.Body.{Body}
+use Rattle.sk_world.specs.declared.process.Proc.{Proc}
+use Rattle.sk_world.specs.declared.process.Waiting.{Waiting}
+use Rattle.sk_world.specs.declared.process.Waiting.TheVariants as waiting
+use Rattle.sk_world.specs.declared.request.Request.{Request}
+use Rattle.sk_world.specs.declared.request.Poll.{Poll}
+use Rattle.sk_world.specs.declared.request.Poll.TheVariants as poll
+use Rattle.sk_world.specs.World.{World, at, is_child_of, parent_of, stored, body_changed, changed}
+use Rattle.sk_world.specs.Rules.{IsWorld}
+use Rattle.sk_world.specs.Numbers.{fresh_of}
+use Rattle.sk_world.specs.Forking.{has_room, forked}
+use Rattle.sk_world.specs.Sending.{signalled, sent}
+use Rattle.sk_world.specs.Ending.{ignores_children, handed_on, with_children_handed_on, has_zombie_child, reparented, zombie, died, ended}
+use Rattle.sk_world.specs.Waits.{is_no_hang, is_match, status_of, ready_of, told}
+use Rattle.sk_world.proofs.Stored.{everywhere, at_here, at_other}
+use Rattle.sk_world.proofs.KeptEnd.{handed_cases, handed_at, alive_is_there}
+use Rattle.sk_world.proofs.KeptTold.{match_parent}
+use Rattle.sk_world.proofs.Locality.{not_queued, forced_touches, told_touches, forked_touches}
+use Rattle.sk_world.proofs.Telling.{ready_lowest}
+use Rattle.sk_world.proofs.Fresh.{fresh_absent}
+use Rattle.std.proofs.lemmas.Bool.{ltb-true}
+use Rattle.sk_world.specs.declared.process.TheConstants.{PROCESSES}
+use Rattle.sk_world.specs.Processes.{count}
+use Rattle.sk_session.specs.Sessions.{pid_named, session_of, has_executed, is_group, is_group_of_session, put_into_group, regrouped, after_setpgid, after_setsid, group_asked, session_asked}
+use Rattle.sk_machine.specs.declared.event.Event.{Event}
+use Rattle.sk_machine.specs.declared.event.Event.TheVariants.{Call, Deliver, Resume, Fault}
+use Rattle.sk_machine.specs.declared.answer.Reason.{Reason}
+use Rattle.sk_machine.specs.declared.operation.PrctlOption.{PrctlOption}
+use Rattle.sk_machine.specs.declared.operation.PrctlOption.TheVariants as option
+use Rattle.sk_machine.specs.declared.operation.SeccompOperation.{SeccompOperation}
+use Rattle.sk_machine.specs.declared.operation.SeccompOperation.TheVariants as operation
+use Rattle.sk_machine.specs.declared.syscall.Syscall.{Syscall}
+use Rattle.sk_machine.specs.declared.syscall.Syscall.TheVariants as syscall
+use Rattle.sk_machine.specs.Events.{pid_of}
+use Rattle.sk_machine.specs.Given.{GivenImages}
+use Rattle.sk_machine.specs.Syscalls.{low, signed, syscall_of, prctl_option_of, seccomp_operation_of}
+use Rattle.sk_machine.specs.Authority.{Authority, with_authority, after_no_new_privs, after_set_seccomp, after_set_mode_filter}
+use Rattle.sk_machine.specs.Performed.{Performed, body_of, returns, fails, asked, changes, authority_at, authorises, waiting_in, waits}
+use Rattle.sk_machine.specs.SignalCalls.{with_signals, resignals, after_sigaction, after_sigprocmask, after_sigreturn}
+use Rattle.sk_machine.specs.WaitCalls.{are_wait_options, request_of, polled, wait4, polled_again, resumed}
+use Rattle.sk_machine.specs.Performing.{executing, execve, forks, exit_status, authorised, no_new_privs_asked, prctl, action_available, seccomp, row}
+use Rattle.sk_machine.specs.Delivering.{Delivered, signal_due, ended_by, handling, handled, stopping, ignored, by_default, done_by, taking, done, delivered}
+use Rattle.sk_machine.specs.Machine.{Stepped, judged, happened, reason_of, stepped, step_of}
+use Rattle.sk_machine_laws.specs.ConfinementLaws.{RefusesKill, IsConfined, is_end, is_end_or_stop, ends_or_stops, EventIsConfined}
+use Rattle.sk_machine_laws.proofs.CallNumbers.{number_is}
+use Rattle.sk_machine_laws.proofs.Growing.{lets_through}
+use Rattle.sk_machine_laws.proofs.KeptEvents.{possible_is_alive}
+
+-- ---- which call is a kill
+abbrev is_kill_row : Option Syscall → Bool
+is_kill_row (Some syscall.Kill) = true
+is_kill_row other = false
+
+only_kill : (o : Option Syscall) → is_kill_row o ≡ true → o ≡ Some syscall.Kill
+only_kill (Some syscall.Kill) is = refl
+only_kill other is = absurd (false≢true is)
+
+kill_number_else : (nr : ℕ) → (nr == 62) ≡ false → is_kill_row (syscall_of nr) ≡ false
+kill_number_else nr other =
+    false_from_ne_true (is_kill_row (syscall_of nr)) (λ is. eqb-false nr 62 other (number_is nr syscall.Kill (only_kill (syscall_of nr) is)))
+
+kill_number : (nr : ℕ) → is_kill_row (syscall_of nr) ≡ (nr == 62)
+kill_number nr =
+    elim (nr == 62) as (λ b. (nr == 62) ≡ b → is_kill_row (syscall_of nr) ≡ b) [
+      | true ↦ λ is. ap (λ n. is_kill_row (syscall_of n)) (eqb-true nr 62 is)
+      | false ↦ λ is. kill_number_else nr is
+    ] refl
+
+-- ---- SIGCHLD
+-- the process when SIGCHLD has been sent to it
+abbrev signalled_at : ℕ → Option Proc → Option Proc
+signalled_at q o = option_map (body_changed (signalled SIGCHLD (q == INIT))) o
+
+abbrev Told : ℕ → Option Proc → Option Proc → Type 0
+Told q base now = (now ≡ base) ⊎ (now ≡ signalled_at q base)
+
+sent_at : (v : World) (k q : ℕ) → Told q (at v q) (at (sent v k SIGCHLD) q)
+sent_at v k q =
+    everywhere v k (option_map (body_changed (signalled SIGCHLD (k == INIT))) (at v k)) (λ n x. (x ≡ at v n) ⊎ (x ≡ option_map (body_changed (signalled SIGCHLD (n == INIT))) (at v n)))
+    (inr refl) (λ n ne. inl refl) q
+
+no_cont : SIGCHLD ≢ SIGCONT
+no_cont is = absurd (omega arith)
+
+-- a signal that is sent twice is sent once
+settled : (w : World) (q : ℕ) → signalled_at q (signalled_at q (at w q)) ≡ signalled_at q (at w q)
+settled w q =
+    let once : at (sent w q SIGCHLD) q ≡ signalled_at q (at w q) = at_here w q (signalled_at q (at w q)) in
+    let twice : at (sent (sent w q SIGCHLD) q SIGCHLD) q ≡ signalled_at q (at (sent w q SIGCHLD) q) = at_here (sent w q SIGCHLD) q (signalled_at q (at (sent w q SIGCHLD) q)) in
+    ap (signalled_at q) (sym once) ∙ sym twice ∙ ap (λ v. at v q) (not_queued w q SIGCHLD no_cont) ∙ once
+
+told_twice : (w : World) (q : ℕ) (o now : Option Proc) → Told q (at w q) o → Told q o now → Told q (at w q) now
+told_twice w q o now (inl first) (inl later) = inl (later ∙ first)
+told_twice w q o now (inl first) (inr later) = inr (later ∙ ap (signalled_at q) first)
+told_twice w q o now (inr first) (inl later) = inr (later ∙ first)
+told_twice w q o now (inr first) (inr later) = inr (later ∙ ap (signalled_at q) first ∙ settled w q)
+
+-- ---- how two processes stand to each other
+-- process q is another one than pid, and no child of it; and pid is not process 1
+record IsApart (w : World) (pid q : ℕ) : Type 0 where
+  other : q ≢ pid
+  not_init : pid ≢ INIT
+  no_child : parent_of (at w q) ≢ pid
+
+stays : (dying : ℕ) (leaves_none : Bool) (o : Option Proc) → parent_of o ≢ dying → option_and_then (handed_on dying INIT leaves_none) o ≡ o
+stays dying leaves_none None other = refl
+stays dying leaves_none (Some p) other = handed_cases dying leaves_none p (λ x. x ≡ Some p) (λ _. refl) (λ is _. absurd (other is)) (λ is. absurd (other is))
+
+ended_told : (w : World) (pid status q : ℕ) → IsApart w pid q → Told q (at w q) (at (ended w pid status) q)
+ended_told w pid status q apart =
+    let handed : World = with_children_handed_on w pid in
+    let same : at handed q ≡ at w q = handed_at w pid q ∙ stays pid (ignores_children (at w INIT)) (at w q) apart.no_child in
+    let after : World = reparented w pid in
+    let parent : ℕ = parent_of (at after pid) in
+    let once : Told q (at w q) (at after q) =
+    cond_both (has_zombie_child w pid && not (ignores_children (at w INIT))) (sent handed INIT SIGCHLD) handed (λ v. Told q (at w q) (at v q))
+    (λ _. told_twice w q (at handed q) (at (sent handed INIT SIGCHLD) q) (inl same) (sent_at handed INIT q)) (λ _. inl same) in
+    let dead : World = changed after pid (zombie status) in
+    cond_both (pid == INIT) (changed w INIT _) (died after pid status) (λ v. Told q (at w q) (at v q)) (λ is. absurd (apart.not_init (eqb-true pid INIT is)))
+    (λ _. cond_both (ignores_children (at after parent)) (stored after pid None) (sent dead parent SIGCHLD) (λ v. Told q (at w q) (at v q))
+    (λ _. subst (Told q (at w q)) (sym (at_other after pid None q apart.other)) once)
+    (λ _. told_twice w q (at dead q) (at (sent dead parent SIGCHLD) q) (subst (Told q (at w q)) (sym (at_other after pid _ q apart.other)) once) (sent_at dead parent q)))
+
+-- ---- calls
+-- what is left of it, by whether the caller has ended or stopped
+record Alone (q : ℕ) (base : Option Proc) (b : Bool) (now : Option Proc) : Type 0 where
+  same : b ≡ false → now ≡ base
+  told : Told q base now
+
+untouched : (q : ℕ) (base : Option Proc) (b : Bool) (now : Option Proc) → now ≡ base → Alone q base b now
+untouched q base b now is = record { same = λ _. is; told = inl is }
+
+only_told : (q : ℕ) (base now : Option Proc) → Told q base now → Alone q base true now
+only_told q base now told = record { same = λ h. absurd (false≢true (sym h)); told = told }
+
+abbrev Spares : World → ℕ → Performed → Type 0
+Spares w q p = Alone q (at w q) (is_end p.outcome) (at p.world q)
+
+spares_changed : (w : World) (pid q : ℕ) (f : Body → Body) (b : Bool) → q ≢ pid → Alone q (at w q) b (at (changed w pid f) q)
+spares_changed w pid q f b ne = untouched q (at w q) b (at (changed w pid f) q) (at_other w pid _ q ne)
+
+spares_world : (w : World) (q : ℕ) (b : Bool) → Alone q (at w q) b (at w q)
+spares_world w q b = untouched q (at w q) b (at w q) refl
+
+spares_resignals : (w : World) (pid q : ℕ) (r : Result SignalState Errno) → q ≢ pid → Spares w q (resignals w pid r)
+spares_resignals w pid q (Ok s) ne = spares_changed w pid q (with_signals s) false ne
+spares_resignals w pid q (Err e) ne = spares_world w q false
+
+spares_authorises : (w : World) (pid q : ℕ) (r : Result Authority Errno) → q ≢ pid → Spares w q (authorises w pid r)
+spares_authorises w pid q (Ok a) ne = spares_changed w pid q (with_authority a) false ne
+spares_authorises w pid q (Err e) ne = spares_world w q false
+
+spares_execve : (w : World) (pid q : ℕ) (r : Result Authority Errno) → q ≢ pid → Spares w q (execve w pid r)
+spares_execve w pid q (Ok a) ne = spares_changed w pid q (executing a) false ne
+spares_execve w pid q (Err e) ne = spares_world w q false
+
+spares_asked : (w : World) (q : ℕ) (r : Result ℕ Errno) → Spares w q (asked w r)
+spares_asked w q (Ok n) = spares_world w q false
+spares_asked w q (Err e) = spares_world w q false
+
+spares_forks : (w : World) (pid q : ℕ) (b : Bool) → has_room w ≡ b → IsWorld w → IsTrue (is_some (at w q)) → Spares w q (forks w pid (cond b (Ok (fresh_of w)) (Err Eagain)))
+spares_forks w pid q true room rules there =
+    let free : at w (fresh_of w) ≡ None = fresh_absent w (ltb-true (count w.procs) PROCESSES room) rules.last.0 in
+    untouched q (at w q) false (at (forked w pid) q) (forked_touches w pid q (λ is. false≢true (sym (ap is_some (ap (at w) is ∙ free)) ∙ there)))
+spares_forks w pid q false room rules there = spares_world w q false
+
+-- the child that is told of is another one
+child_told : (w : World) (pid q child status : ℕ) (request : Request) → IsApart w pid q → ready_of w pid request ≡ poll.Told child status → at (told w (poll.Told child status)) q ≡ at w q
+child_told w pid q child status request apart ready =
+    let is = (ready_lowest w pid request child status ready).0 in
+    let parent : parent_of (at w child) ≡ pid = match_parent pid request child (at w child) (and_parts (is_match pid request child (at w child)) (is_some (status_of request.options (at w child))) is).0 in
+    told_touches w child status q (λ same. apart.no_child (ap (λ k. parent_of (at w k)) same ∙ parent))
+
+spares_polled : (w : World) (pid q : ℕ) (request : Request) (p : Poll) → IsApart w pid q → ready_of w pid request ≡ p → Spares w q (polled w pid request p)
+spares_polled w pid q request (poll.Told child status) apart ready = untouched q (at w q) false _ (child_told w pid q child status request apart ready)
+spares_polled w pid q request poll.NoMatch apart ready = spares_world w q false
+spares_polled w pid q request poll.NotReady apart ready =
+    cond_both (is_no_hang request.options) (returns w 0) (waits w pid (waiting.Asks request)) (Spares w q) (λ _. spares_world w q false)
+    (λ _. spares_changed w pid q (waiting_in (waiting.Asks request)) false apart.other)
+
+spares_wait4 : (w : World) (pid q : ℕ) (call : Record) → IsApart w pid q → Spares w q (wait4 w pid call)
+spares_wait4 w pid q call apart =
+    cond_both (not (are_wait_options (low call 2))) (fails w Einval) _ (Spares w q) (λ _. spares_world w q false)
+    (λ _. cond_both (low call 0 == 2147483648) (fails w Esrch) _ (Spares w q) (λ _. spares_world w q false)
+    (λ _. spares_polled w pid q (request_of w pid call) (ready_of w pid (request_of w pid call)) apart refl))
+
+either : (a b : Bool) → not (a || b) ≡ false → (a ≡ true) ⊎ (b ≡ true)
+either true b h = inl refl
+either false b h = inr (not-false b h)
+
+child_parent : (caller : ℕ) (o : Option Proc) → IsTrue (is_child_of caller o) → parent_of o ≡ caller
+child_parent caller None is = absurd (false≢true is)
+child_parent caller (Some p) is = eqb-true p.links.parent caller is
+
+spares_regrouped : (w : World) (pid q target group : ℕ) → IsApart w pid q → Spares w q (changes w 0 (regrouped w pid target group))
+spares_regrouped w pid q target group apart =
+    let P : Result (Unit {0}) Errno → Type 0 = λ r. Spares w q (changes w 0 (put_into_group w target group r)) in
+    cond_both (not ((target == pid) || is_child_of pid (at w target))) (Err Esrch) _ P (λ _. spares_world w q false) (λ known.
+    let ne : q ≢ target = λ is. elim (either (target == pid) (is_child_of pid (at w target)) known) [
+      | inl mine ↦ apart.other (is ∙ eqb-true target pid mine)
+      | inr child ↦ apart.no_child (ap (λ k. parent_of (at w k)) is ∙ child_parent pid (at w target) child)
+    ] in
+    cond_both (not (target == pid) && not (session_of (at w target) == session_of (at w pid))) (Err Eperm) _ P (λ _. spares_world w q false) (λ _.
+    cond_both (not (target == pid) && has_executed (at w target)) (Err Eacces) _ P (λ _. spares_world w q false) (λ _.
+    cond_both (session_of (at w target) == target) (Err Eperm) _ P (λ _. spares_world w q false) (λ _.
+    cond_both (not (group == target) && not (is_group_of_session w (session_of (at w pid)) group)) (Err Eperm) (Ok tt) P (λ _. spares_world w q false) (λ _.
+    untouched q (at w q) false _ (at_other w target _ q ne))))))
+
+spares_setpgid : (w : World) (pid q : ℕ) (who group : ℤ) → IsApart w pid q → Spares w q (changes w 0 (after_setpgid w pid who group))
+spares_setpgid w pid q who group apart =
+    cond_both (is_negative group) (Err Einval) (regrouped w pid (pid_named pid who) (pid_named (pid_named pid who) group)) (λ r. Spares w q (changes w 0 r)) (λ _. spares_world w q false)
+    (λ _. spares_regrouped w pid q (pid_named pid who) (pid_named (pid_named pid who) group) apart)
+
+spares_setsid : (w : World) (pid q : ℕ) → q ≢ pid → Spares w q (changes w pid (after_setsid w pid))
+spares_setsid w pid q ne =
+    cond_both (is_group w pid) (Err Eperm) (Ok _) (λ r. Spares w q (changes w pid r)) (λ _. spares_world w q false) (λ _. untouched q (at w q) false _ (at_other w pid _ q ne))
+
+spares_prctl : (images : GivenImages) (w : World) (pid q : ℕ) (which : Option PrctlOption) (call : Record) → q ≢ pid → Spares w q (prctl images w pid which call)
+spares_prctl images w pid q (Some option.SetNoNewPrivs) call ne = spares_authorises w pid q (after_no_new_privs call (authority_at w pid)) ne
+spares_prctl images w pid q (Some option.SetSeccomp) call ne = spares_authorises w pid q (after_set_seccomp images call (authority_at w pid)) ne
+spares_prctl images w pid q (Some option.GetSeccomp) call ne = spares_world w q false
+spares_prctl images w pid q (Some option.GetNoNewPrivs) call ne = spares_asked w q (no_new_privs_asked call (body_of (at w pid)).creds.no_new_privs)
+spares_prctl images w pid q None call ne = spares_world w q false
+
+spares_seccomp : (images : GivenImages) (w : World) (pid q : ℕ) (which : Option SeccompOperation) (call : Record) → q ≢ pid → Spares w q (seccomp images w pid which call)
+spares_seccomp images w pid q (Some operation.SetModeFilter) call ne = spares_authorises w pid q (after_set_mode_filter images call (authority_at w pid)) ne
+spares_seccomp images w pid q (Some operation.GetActionAvail) call ne = spares_asked w q (action_available (low call 1) (low call 2))
+spares_seccomp images w pid q None call ne = spares_world w q false
+
+spares_ends : (w : World) (pid status q : ℕ) → IsApart w pid q → Alone q (at w q) true (at (ended w pid status) q)
+spares_ends w pid status q apart = only_told q (at w q) (at (ended w pid status) q) (ended_told w pid status q apart)
+
+-- every call but kill(2)
+spares_row : (images : GivenImages) (w : World) (pid q : ℕ) (which : Option Syscall) (call : Record) → IsWorld w → IsApart w pid q → IsTrue (is_some (at w q)) → is_kill_row which ≡ false → Spares w q (row images w pid which call)
+spares_row images w pid q (Some syscall.RtSigaction) call rules apart there other = spares_resignals w pid q (after_sigaction pid call (body_of (at w pid)).signals) apart.other
+spares_row images w pid q (Some syscall.RtSigprocmask) call rules apart there other = spares_resignals w pid q (after_sigprocmask call (body_of (at w pid)).signals) apart.other
+spares_row images w pid q (Some syscall.RtSigreturn) call rules apart there other =
+    spares_resignals w pid q (after_sigreturn (body_of (at w pid)).signals.frames (body_of (at w pid)).signals) apart.other
+spares_row images w pid q (Some syscall.RtSigpending) call rules apart there other = spares_world w q false
+spares_row images w pid q (Some syscall.SchedYield) call rules apart there other = spares_world w q false
+spares_row images w pid q (Some syscall.Pause) call rules apart there other = spares_changed w pid q (waiting_in waiting.Pause) false apart.other
+spares_row images w pid q (Some syscall.Getpid) call rules apart there other = spares_world w q false
+spares_row images w pid q (Some syscall.Getppid) call rules apart there other = spares_world w q false
+spares_row images w pid q (Some syscall.Fork) call rules apart there other = spares_forks w pid q (has_room w) refl rules there
+spares_row images w pid q (Some syscall.Execve) call rules apart there other = spares_execve w pid q (authorised images w pid syscall.Execve call) apart.other
+spares_row images w pid q (Some syscall.Exit) call rules apart there other = spares_ends w pid (exit_status (low call 0)) q apart
+spares_row images w pid q (Some syscall.ExitGroup) call rules apart there other = spares_ends w pid (exit_status (low call 0)) q apart
+spares_row images w pid q (Some syscall.Wait4) call rules apart there other = spares_wait4 w pid q call apart
+spares_row images w pid q (Some syscall.Kill) call rules apart there other = absurd (false≢true (sym other))
+spares_row images w pid q (Some syscall.Getuid) call rules apart there other = spares_world w q false
+spares_row images w pid q (Some syscall.Geteuid) call rules apart there other = spares_world w q false
+spares_row images w pid q (Some syscall.Setuid) call rules apart there other = spares_authorises w pid q (authorised images w pid syscall.Setuid call) apart.other
+spares_row images w pid q (Some syscall.Setresuid) call rules apart there other = spares_authorises w pid q (authorised images w pid syscall.Setresuid call) apart.other
+spares_row images w pid q (Some syscall.Getresuid) call rules apart there other = spares_world w q false
+spares_row images w pid q (Some syscall.Setpgid) call rules apart there other = spares_setpgid w pid q (signed call 0) (signed call 1) apart
+spares_row images w pid q (Some syscall.Getpgrp) call rules apart there other = spares_world w q false
+spares_row images w pid q (Some syscall.Setsid) call rules apart there other = spares_setsid w pid q apart.other
+spares_row images w pid q (Some syscall.Getpgid) call rules apart there other = spares_asked w q (group_asked w pid (signed call 0))
+spares_row images w pid q (Some syscall.Getsid) call rules apart there other = spares_asked w q (session_asked w pid (signed call 0))
+spares_row images w pid q (Some syscall.Prctl) call rules apart there other = spares_prctl images w pid q (prctl_option_of (low call 0)) call apart.other
+spares_row images w pid q (Some syscall.Seccomp) call rules apart there other = spares_seccomp images w pid q (seccomp_operation_of (low call 0)) call apart.other
+spares_row images w pid q None call rules apart there other = spares_world w q false
+
+spares_judged : (images : GivenImages) (w : World) (pid q : ℕ) (call : Record) (errno : ℕ) (a : Action) → IsWorld w → IsApart w pid q → IsTrue (is_some (at w q))
+    → (IsTrue (performs a) → is_kill_row (syscall_of call.nr) ≡ false) → Spares w q (judged images w pid call errno a)
+spares_judged images w pid q call errno action.Allow rules apart there other = spares_row images w pid q (syscall_of call.nr) call rules apart there (other refl)
+spares_judged images w pid q call errno action.Log rules apart there other = spares_row images w pid q (syscall_of call.nr) call rules apart there (other refl)
+spares_judged images w pid q call errno action.Trap rules apart there other = untouched q (at w q) false _ (forced_touches w pid q apart.other)
+spares_judged images w pid q call errno action.Errno rules apart there other = spares_world w q false
+spares_judged images w pid q call errno action.UserNotif rules apart there other = spares_world w q false
+spares_judged images w pid q call errno action.Trace rules apart there other = spares_world w q false
+spares_judged images w pid q call errno action.KillProcess rules apart there other = spares_ends w pid SIGSYS q apart
+spares_judged images w pid q call errno action.KillThread rules apart there other = spares_ends w pid SIGSYS q apart
+spares_judged images w pid q call errno action.Unknown rules apart there other = spares_ends w pid SIGSYS q apart
+
+-- ---- deliveries and resumptions
+abbrev SparesBy : World → ℕ → Delivered → Type 0
+SparesBy w q d = Alone q (at w q) (is_end_or_stop d.effect) (at d.world q)
+
+spares_handled : (w : World) (pid n program : ℕ) (mask : Signals) (q : ℕ) → IsApart w pid q → SparesBy w q (handled w pid n program mask)
+spares_handled w pid n program mask q apart =
+    cond_both (length (body_of (at w pid)).signals.frames == FRAMES) (ended_by w pid SIGSEGV) _ (SparesBy w q) (λ _. spares_ends w pid SIGSEGV q apart)
+    (λ _. spares_changed w pid q (handling n mask) false apart.other)
+
+spares_default : (w : World) (pid n q : ℕ) (a : DefaultAction) → IsApart w pid q → SparesBy w q (by_default w pid n a)
+spares_default w pid n q default.Ignore apart = spares_world w q false
+spares_default w pid n q default.Continue apart = spares_world w q false
+spares_default w pid n q default.Stop apart =
+    let stopped : World = changed w pid (stopping n) in
+    only_told q (at w q) _ (told_twice w q (at stopped q) (at (sent stopped (parent_of (at w pid)) SIGCHLD) q) (inl (at_other w pid _ q apart.other)) (sent_at stopped (parent_of (at w pid)) q))
+spares_default w pid n q default.Terminate apart = spares_ends w pid n q apart
+
+spares_done_by : (w : World) (pid n q : ℕ) (d : Disposition) → IsApart w pid q → SparesBy w q (done_by w pid n d)
+spares_done_by w pid n q disposition.Ignore apart = spares_world w q false
+spares_done_by w pid n q (disposition.Handler program mask) apart = spares_handled w pid n program mask q apart
+spares_done_by w pid n q disposition.Default apart =
+    cond_both ((pid == INIT) && not (n == SIGSYS)) (ignored w) (by_default w pid n (default_action n)) (SparesBy w q) (λ _. spares_world w q false)
+    (λ _. spares_default w pid n q (default_action n) apart)
+
+spares_done : (w : World) (pid n q : ℕ) → IsApart w pid q → SparesBy w q (done w pid n)
+spares_done w pid n q apart =
+    cond_both (n == SIGKILL) (ended_by w pid SIGKILL) _ (SparesBy w q) (λ _. spares_ends w pid SIGKILL q apart)
+    (λ _. spares_done_by w pid n q (disposition_of (body_of (at w pid)).signals n) apart)
+
+spares_delivered : (w : World) (pid n q : ℕ) → IsApart w pid q → SparesBy w q (delivered w pid n)
+spares_delivered w pid n q apart =
+    let v : World = changed w pid (taking n) in
+    let same : at v q ≡ at w q = at_other w pid _ q apart.other in
+    let d : Delivered = done v pid n in
+    subst (λ base. Alone q base (is_end_or_stop d.effect) (at d.world q)) same (spares_done v pid n q (record {
+      other = apart.other;
+      not_init = apart.not_init;
+      no_child = λ is. apart.no_child (ap parent_of (sym same) ∙ is);
+    }))
+
+spares_polled_again : (w : World) (pid q : ℕ) (request : Request) (p : Poll) → IsApart w pid q → ready_of w pid request ≡ p → Spares w q (polled_again w pid p)
+spares_polled_again w pid q request (poll.Told child status) apart ready =
+    untouched q (at w q) false _ (at_other (told w (poll.Told child status)) pid _ q apart.other ∙ child_told w pid q child status request apart ready)
+spares_polled_again w pid q request poll.NoMatch apart ready = spares_changed w pid q (waiting_in waiting.Nothing) false apart.other
+spares_polled_again w pid q request poll.NotReady apart ready = spares_world w q false
+
+spares_resumed : (w : World) (pid q : ℕ) (waiting : Waiting) → IsApart w pid q → Spares w q (resumed w pid waiting)
+spares_resumed w pid q (waiting.Asks request) apart = spares_polled_again w pid q request (ready_of w pid request) apart refl
+spares_resumed w pid q waiting.Pause apart = spares_world w q false
+spares_resumed w pid q waiting.Nothing apart = spares_world w q false
+
+-- ---- events
+-- a call that is performed is no kill
+no_kill : (w : World) (pid : ℕ) (call : Record) → RefusesKill (authority_at w pid).programs
+    → IsTrue (performs (action_of (verdict_of (body_of (at w pid)).chain call))) → is_kill_row (syscall_of call.nr) ≡ false
+no_kill w pid call refuses performed =
+    let verdict : ℕ = verdict_of (body_of (at w pid)).chain call in
+    kill_number call.nr ∙ ne_eqb call.nr 62 (λ is.
+    let before = refuses call is in
+    let later = lets_through verdict performed in
+    absurd (omega (arith, ints, before, later)))
+
+abbrev SparesStep : World → ℕ → Stepped → Type 0
+SparesStep w q s = Alone q (at w q) (ends_or_stops s.answer) (at s.world q)
+
+spares_happened : (images : GivenImages) (w : World) (event : Event) (q : ℕ) → IsWorld w → IsApart w (pid_of event) q → IsTrue (is_some (at w q))
+    → RefusesKill (authority_at w (pid_of event)).programs → SparesStep w q (happened images w event)
+spares_happened images w (Call pid ip nr args) q rules apart there refuses =
+    let call : Record = record { nr = nr; ip = ip; args = args } in
+    let verdict : ℕ = verdict_of (body_of (at w pid)).chain call in
+    spares_judged images w pid q call (data_part verdict) (action_of verdict) rules apart there (no_kill w pid call refuses)
+spares_happened images w (Deliver pid) q rules apart there refuses = spares_delivered w pid (unwrap_or (signal_due (at w pid)) 0) q apart
+spares_happened images w (Resume pid) q rules apart there refuses = spares_resumed w pid q (body_of (at w pid)).waiting apart
+spares_happened images w (Fault pid) q rules apart there refuses = spares_ends w pid SIGSEGV q apart
+
+apart_of : (w : World) (inside : ℕ → Bool) (pid q : ℕ) → IsConfined w inside → IsTrue (inside pid) → inside q ≡ false → IsTrue (is_some (at w q)) → IsApart w pid q
+apart_of w inside pid q confined within outside there = record {
+  other = λ is. false≢true (sym outside ∙ ap inside is ∙ within);
+  not_init = λ is. false≢true (sym confined.init ∙ ap inside (sym is) ∙ within);
+  no_child = λ is. false≢true (sym outside ∙ confined.children q there (ap inside is ∙ within));
+}
+
+spares_stepped : (images : GivenImages) (w : World) (event : Event) (o : Option Reason) (inside : ℕ → Bool) (q : ℕ) → reason_of w event ≡ o → IsWorld w → IsConfined w inside
+    → IsTrue (inside (pid_of event)) → inside q ≡ false → IsTrue (is_some (at w q)) → SparesStep w q (stepped images w event o)
+spares_stepped images w event (Some reason) inside q is rules confined within outside there = spares_world w q false
+spares_stepped images w event None inside q is rules confined within outside there =
+    let alive = possible_is_alive w event is in
+    spares_happened images w event q rules (apart_of w inside (pid_of event) q confined within outside there) there
+    (confined.refuses (pid_of event) (alive_is_there (at w (pid_of event)) alive) within)
+
+as_before_or_told : (w : World) (q : ℕ) (now : Option Proc) → Told q (at w q) now → (now ≡ at w q) ⊎ (now ≡ at (sent w q SIGCHLD) q)
+as_before_or_told w q now (inl same) = inl same
+as_before_or_told w q now (inr told) = inr (told ∙ sym (at_here w q (signalled_at q (at w q))))
+
+pub event_is_confined : EventIsConfined
+unfolding step_of
+event_is_confined images w event inside q rules confined within outside there =
+    let spares = spares_stepped images w event (reason_of w event) inside q refl rules confined within outside there in
+    record { same = spares.same; told = as_before_or_told w q _ spares.told }

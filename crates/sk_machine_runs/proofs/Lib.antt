@@ -1,0 +1,11 @@
+mod CallRows
+mod SignalRows
+mod WaitRows
+mod GroupRows
+mod TurnRows
+mod LineRows
+mod EdgeRows
+mod OrderRows
+mod StateRows
+mod WidthRows
+mod LimitRows
