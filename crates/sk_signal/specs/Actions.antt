@@ -10,6 +10,10 @@ use Rattle.sk_signal.specs.declared.disposition.Disposition.TheVariants.{Default
 abbrev pub is_stop : ℕ → Bool
 is_stop n = (n == SIGSTOP) || (n == SIGTSTP) || (n == SIGTTIN) || (n == SIGTTOU)
 
+-- the stop signals of a terminal, which leave the members of an orphaned group running: all but SIGSTOP
+abbrev pub is_tty_stop : ℕ → Bool
+is_tty_stop n = (n == SIGTSTP) || (n == SIGTTIN) || (n == SIGTTOU)
+
 -- the default action of a signal: signal(7), "Standard signals". A core file is never written
 abbrev pub default_action : ℕ → DefaultAction
 default_action n =

@@ -1,5 +1,5 @@
 ghost use Rattle.std.specs.Prelude.{◌≡◌, ℕ, Bool};
-ghost use Rattle.sk_signal.specs.Actions.{default_action, is_handler, is_ignore, is_ignored, disposition_after_exec};
+ghost use Rattle.sk_signal.specs.Actions.{default_action, is_tty_stop, is_handler, is_ignore, is_ignored, disposition_after_exec};
 
 use crate::number::{SIGCHLD, SIGCONT, SIGSTOP, SIGTSTP, SIGTTIN, SIGTTOU, SIGURG, SIGWINCH};
 use crate::set::SigSet;
@@ -33,6 +33,14 @@ pub fn default_action(signal: u8) -> DefaultAction
         SIGSTOP | SIGTSTP | SIGTTIN | SIGTTOU => DefaultAction::Stop,
         _ => DefaultAction::Terminate,
     }
+}
+
+/// Whether this is a stop signal of a terminal. Its default action leaves a member of an orphaned
+/// process group running: setpgid(2), "Notes".
+pub fn tty_stop(signal: u8) -> bool
+    ensures { result ≡ is_tty_stop signal }
+{
+    matches!(signal, SIGTSTP | SIGTTIN | SIGTTOU)
 }
 
 impl Disposition {

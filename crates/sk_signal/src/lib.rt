@@ -8,7 +8,7 @@ pub mod number;
 mod set;
 mod state;
 
-pub use disposition::{DefaultAction, Disposition, default_action};
+pub use disposition::{DefaultAction, Disposition, default_action, tty_stop};
 pub use set::SigSet;
 pub use state::{FRAMES, SigState};
 

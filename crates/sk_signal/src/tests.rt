@@ -1,5 +1,5 @@
 use crate::number::{SIGCHLD, SIGCONT, SIGHUP, SIGKILL, SIGSYS, SIGTERM, SIGTSTP, SIGUSR1};
-use crate::{DefaultAction, Disposition, SigSet, SigState, default_action};
+use crate::{DefaultAction, Disposition, SigSet, SigState, default_action, tty_stop};
 
 fn handler() -> Disposition {
     Disposition::Handler {
@@ -60,6 +60,9 @@ fn default_actions_are_those_of_the_manual(rt: HostRuntime) {
         (31, DefaultAction::Terminate),
     ] {
         assert!(rt; default_action(signal) == action);
+    }
+    for signal in 0..=u8::MAX {
+        assert_eq!(rt; tty_stop(signal), (20..=22).contains(&signal));
     }
 }
 
