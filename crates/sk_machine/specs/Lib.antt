@@ -1,6 +1,6 @@
 pub mod Events
 pub mod Given
-pub mod Syscalls
+pub mod Arguments
 pub mod Authority
 pub mod Performed
 pub mod SignalCalls
@@ -9,5 +9,6 @@ pub mod WaitCalls
 pub mod Performing
 pub mod Delivering
 pub mod Machine
+pub mod Memory
 pub mod Turns
 pub mod Lines

@@ -24,10 +24,11 @@ use Rattle.sk_machine.specs.declared.operation.PrctlOption.{PrctlOption}
 use Rattle.sk_machine.specs.declared.operation.PrctlOption.TheVariants as option
 use Rattle.sk_machine.specs.declared.operation.SeccompOperation.{SeccompOperation}
 use Rattle.sk_machine.specs.declared.operation.SeccompOperation.TheVariants as operation
-use Rattle.sk_machine.specs.declared.syscall.Syscall.{Syscall}
-use Rattle.sk_machine.specs.declared.syscall.Syscall.TheVariants as syscall
+use Rattle.sk_calls.specs.declared.syscall.Syscall.{Syscall}
+use Rattle.sk_calls.specs.declared.syscall.Syscall.TheVariants as syscall
 use Rattle.sk_machine.specs.Given.{GivenImages, filter_image, mark_of}
-use Rattle.sk_machine.specs.Syscalls.{register, low, syscall_of, prctl_option_of, seccomp_operation_of}
+use Rattle.sk_calls.specs.Syscalls.{syscall_of}
+use Rattle.sk_machine.specs.Arguments.{register, low, prctl_option_of, seccomp_operation_of}
 use Rattle.sk_machine.specs.Authority.{Authority, authority_of, program_of, filtered, after_attach, with_creds, after_execve, after_no_new_privs, after_set_seccomp, after_prctl, after_seccomp, authority_after, authority_after_call}
 use Rattle.sk_machine.specs.Performed.{body_of, authority_at}
 use Rattle.sk_machine.specs.Machine.{step_of, world_after}

@@ -24,17 +24,17 @@ use Rattle.sk_world.specs.declared.request.Request.{Request}
 use Rattle.sk_world.specs.declared.request.Poll.{Poll}
 use Rattle.sk_world.specs.declared.request.Poll.TheVariants as poll
 use Rattle.sk_world.specs.World.{World, at, parent_of, changed, relinked}
-use Rattle.sk_world.specs.Sending.{sent}
+use Rattle.sk_world.specs.Sending.{sent, sent_to_each}
 use Rattle.sk_world.specs.Ending.{ended}
 use Rattle.sk_world.specs.Waits.{is_no_hang, ready_of, told}
 use Rattle.sk_session.specs.Sessions.{pid_named, is_group, links_in_group, links_of_leader, may_regroup, put_into_group, regrouped, after_setpgid, after_setsid}
-use Rattle.sk_machine.specs.Syscalls.{low}
+use Rattle.sk_machine.specs.Arguments.{low}
 use Rattle.sk_machine.specs.Authority.{authority_of}
 use Rattle.sk_machine.specs.Performed.{Performed, body_of, returns, fails, asked, changes, waiting_in, waits}
 use Rattle.sk_machine.specs.SignalCalls.{with_signals, resignals}
-use Rattle.sk_machine.specs.Killing.{targets, permitted, sent_to_each, killed, after_kill}
+use Rattle.sk_machine.specs.Killing.{targets, permitted, killed, after_kill}
 use Rattle.sk_machine.specs.WaitCalls.{are_wait_options, request_of, polled, wait4, polled_again, resumed}
-use Rattle.sk_machine.specs.Delivering.{Delivered, ended_by, handling, handled, stopping, ignored, by_default, done_by, taking, done, delivered}
+use Rattle.sk_machine.specs.Delivering.{Delivered, terminated_by, in_handler, enters_handler, stopping, ignored, acts_by_default, acts_by_disposition, taking, acted_on, delivered}
 
 -- a relation of each process to what it was before
 abbrev pub Over : (Option Proc → Option Proc → Type 0) → World → World → Type 0
@@ -111,12 +111,12 @@ over_wait4 R c w pid call =
     (λ _. over_polled R c w pid (request_of w pid call) (ready_of w pid (request_of w pid call))))
 
 -- ---- deliveries and resumptions
-pub over_handled : (R : Option Proc → Option Proc → Type 0) (c : Carries R) (w : World) (pid n program : ℕ) (mask : Signals) → Over R w (handled w pid n program mask).world
+pub over_handled : (R : Option Proc → Option Proc → Type 0) (c : Carries R) (w : World) (pid n program : ℕ) (mask : Signals) → Over R w (enters_handler w pid n program mask).world
 over_handled R c w pid n program mask =
-    cond_both (length (body_of (at w pid)).signals.frames == FRAMES) (ended_by w pid SIGSEGV) _ (λ (d : Delivered). Over R w d.world) (λ _. c.ended w pid SIGSEGV)
-    (λ _. c.changed w pid (handling n mask) (λ body. refl))
+    cond_both (length (body_of (at w pid)).signals.frames == FRAMES) (terminated_by w pid SIGSEGV) _ (λ (d : Delivered). Over R w d.world) (λ _. c.ended w pid SIGSEGV)
+    (λ _. c.changed w pid (in_handler n mask) (λ body. refl))
 
-pub over_default : (R : Option Proc → Option Proc → Type 0) (c : Carries R) (w : World) (pid n : ℕ) (a : DefaultAction) → Over R w (by_default w pid n a).world
+pub over_default : (R : Option Proc → Option Proc → Type 0) (c : Carries R) (w : World) (pid n : ℕ) (a : DefaultAction) → Over R w (acts_by_default w pid n a).world
 over_default R c w pid n default.Ignore = c.still w
 over_default R c w pid n default.Continue = c.still w
 over_default R c w pid n default.Stop =
@@ -124,22 +124,22 @@ over_default R c w pid n default.Stop =
     c.twice w stopped (sent stopped (parent_of (at w pid)) SIGCHLD) (c.changed w pid (stopping n) (λ body. refl)) (c.sent stopped (parent_of (at w pid)) SIGCHLD)
 over_default R c w pid n default.Terminate = c.ended w pid n
 
-pub over_done_by : (R : Option Proc → Option Proc → Type 0) (c : Carries R) (w : World) (pid n : ℕ) (d : Disposition) → Over R w (done_by w pid n d).world
+pub over_done_by : (R : Option Proc → Option Proc → Type 0) (c : Carries R) (w : World) (pid n : ℕ) (d : Disposition) → Over R w (acts_by_disposition w pid n d).world
 over_done_by R c w pid n disposition.Ignore = c.still w
 over_done_by R c w pid n (disposition.Handler program mask) = over_handled R c w pid n program mask
 over_done_by R c w pid n disposition.Default =
-    cond_both ((pid == INIT) && not (n == SIGSYS)) (ignored w) (by_default w pid n (default_action n)) (λ (d : Delivered). Over R w d.world) (λ _. c.still w)
+    cond_both ((pid == INIT) && not (n == SIGSYS)) (ignored w) (acts_by_default w pid n (default_action n)) (λ (d : Delivered). Over R w d.world) (λ _. c.still w)
     (λ _. over_default R c w pid n (default_action n))
 
-pub over_done : (R : Option Proc → Option Proc → Type 0) (c : Carries R) (w : World) (pid n : ℕ) → Over R w (done w pid n).world
+pub over_done : (R : Option Proc → Option Proc → Type 0) (c : Carries R) (w : World) (pid n : ℕ) → Over R w (acted_on w pid n).world
 over_done R c w pid n =
-    cond_both (n == SIGKILL) (ended_by w pid SIGKILL) _ (λ (d : Delivered). Over R w d.world) (λ _. c.ended w pid SIGKILL)
+    cond_both (n == SIGKILL) (terminated_by w pid SIGKILL) _ (λ (d : Delivered). Over R w d.world) (λ _. c.ended w pid SIGKILL)
     (λ _. over_done_by R c w pid n (disposition_of (body_of (at w pid)).signals n))
 
 pub over_delivered : (R : Option Proc → Option Proc → Type 0) (c : Carries R) (w : World) (pid n : ℕ) → Over R w (delivered w pid n).world
 over_delivered R c w pid n =
     let took : World = changed w pid (taking n) in
-    c.twice w took (done took pid n).world (c.changed w pid (taking n) (λ body. refl)) (over_done R c took pid n)
+    c.twice w took (acted_on took pid n).world (c.changed w pid (taking n) (λ body. refl)) (over_done R c took pid n)
 
 pub over_polled_again : (R : Option Proc → Option Proc → Type 0) (c : Carries R) (w : World) (pid : ℕ) (p : Poll) → Over R w (polled_again w pid p).world
 over_polled_again R c w pid (poll.Told child status) =

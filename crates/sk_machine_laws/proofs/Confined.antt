@@ -7,7 +7,7 @@ use Rattle.std.proofs.lemmas.Bool.{false≢true, cond_both, eqb-true, ne_eqb, no
 use Rattle.sk_insn.specs.declared.record.Record.{Record}
 use Rattle.sk_insn.specs.declared.action.Action.{Action}
 use Rattle.sk_insn.specs.declared.action.Action.TheVariants as action
-use Rattle.sk_insn.specs.Actions.{action_of, data_part, performs}
+use Rattle.sk_insn.specs.Actions.{action_of, performs}
 use Rattle.sk_chain.specs.Verdict.{verdict_of}
 use Rattle.sk_creds.specs.declared.errno.Errno.{Errno}
 use Rattle.sk_creds.specs.declared.errno.Errno.TheVariants.{Eperm, Esrch, Eagain, Eacces, Einval}
@@ -52,20 +52,21 @@ use Rattle.sk_machine.specs.declared.operation.PrctlOption.{PrctlOption}
 use Rattle.sk_machine.specs.declared.operation.PrctlOption.TheVariants as option
 use Rattle.sk_machine.specs.declared.operation.SeccompOperation.{SeccompOperation}
 use Rattle.sk_machine.specs.declared.operation.SeccompOperation.TheVariants as operation
-use Rattle.sk_machine.specs.declared.syscall.Syscall.{Syscall}
-use Rattle.sk_machine.specs.declared.syscall.Syscall.TheVariants as syscall
+use Rattle.sk_calls.specs.declared.syscall.Syscall.{Syscall}
+use Rattle.sk_calls.specs.declared.syscall.Syscall.TheVariants as syscall
 use Rattle.sk_machine.specs.Events.{pid_of}
 use Rattle.sk_machine.specs.Given.{GivenImages}
-use Rattle.sk_machine.specs.Syscalls.{low, signed, syscall_of, prctl_option_of, seccomp_operation_of}
+use Rattle.sk_calls.specs.Syscalls.{syscall_of}
+use Rattle.sk_calls.proofs.SyscallTable.{number_of-syscall_of}
+use Rattle.sk_machine.specs.Arguments.{register, low, signed, prctl_option_of, seccomp_operation_of}
 use Rattle.sk_machine.specs.Authority.{Authority, with_authority, after_no_new_privs, after_set_seccomp, after_set_mode_filter}
 use Rattle.sk_machine.specs.Performed.{Performed, body_of, returns, fails, asked, changes, authority_at, authorises, waiting_in, waits}
 use Rattle.sk_machine.specs.SignalCalls.{with_signals, resignals, after_sigaction, after_sigprocmask, after_sigreturn}
 use Rattle.sk_machine.specs.WaitCalls.{are_wait_options, request_of, polled, wait4, polled_again, resumed}
-use Rattle.sk_machine.specs.Performing.{executing, execve, forks, exit_status, authorised, no_new_privs_asked, prctl, action_available, seccomp, row}
-use Rattle.sk_machine.specs.Delivering.{Delivered, signal_due, ended_by, handling, handled, stopping, ignored, by_default, done_by, taking, done, delivered}
+use Rattle.sk_machine.specs.Performing.{executing, execve, forks, exit_status, authorised, no_new_privs_asked, subreaper_set, subreaper_asked, where_subreapers, with_subreaper, prctl, action_available, seccomp, row}
+use Rattle.sk_machine.specs.Delivering.{Delivered, signal_due, terminated_by, in_handler, enters_handler, stopping, ignored, acts_by_default, acts_by_disposition, taking, acted_on, delivered}
 use Rattle.sk_machine.specs.Machine.{Stepped, judged, happened, reason_of, stepped, step_of}
 use Rattle.sk_machine_laws.specs.ConfinementLaws.{RefusesKill, IsConfined, is_end, is_end_or_stop, ends_or_stops, EventIsConfined}
-use Rattle.sk_machine_laws.proofs.CallNumbers.{number_is}
 use Rattle.sk_machine_laws.proofs.Growing.{lets_through}
 use Rattle.sk_machine_laws.proofs.KeptEvents.{possible_is_alive}
 
@@ -80,7 +81,7 @@ only_kill other is = absurd (false≢true is)
 
 kill_number_else : (nr : ℕ) → (nr == 62) ≡ false → is_kill_row (syscall_of nr) ≡ false
 kill_number_else nr other =
-    false_from_ne_true (is_kill_row (syscall_of nr)) (λ is. eqb-false nr 62 other (number_is nr syscall.Kill (only_kill (syscall_of nr) is)))
+    false_from_ne_true (is_kill_row (syscall_of nr)) (λ is. eqb-false nr 62 other (number_of-syscall_of nr syscall.Kill (only_kill (syscall_of nr) is)))
 
 kill_number : (nr : ℕ) → is_kill_row (syscall_of nr) ≡ (nr == 62)
 kill_number nr =
@@ -238,11 +239,18 @@ spares_setsid : (w : World) (pid q : ℕ) → q ≢ pid → Spares w q (changes 
 spares_setsid w pid q ne =
     cond_both (is_group w pid) (Err Eperm) (Ok _) (λ r. Spares w q (changes w pid r)) (λ _. spares_world w q false) (λ _. untouched q (at w q) false _ (at_other w pid _ q ne))
 
+spares_subreapers : (there : Bool) (w : World) (q : ℕ) (p : Performed) → Spares w q p → Spares w q (where_subreapers there w p)
+spares_subreapers true w q p spares = spares
+spares_subreapers false w q p spares = spares_world w q false
+
 spares_prctl : (images : GivenImages) (w : World) (pid q : ℕ) (which : Option PrctlOption) (call : Record) → q ≢ pid → Spares w q (prctl images w pid which call)
 spares_prctl images w pid q (Some option.SetNoNewPrivs) call ne = spares_authorises w pid q (after_no_new_privs call (authority_at w pid)) ne
 spares_prctl images w pid q (Some option.SetSeccomp) call ne = spares_authorises w pid q (after_set_seccomp images call (authority_at w pid)) ne
 spares_prctl images w pid q (Some option.GetSeccomp) call ne = spares_world w q false
 spares_prctl images w pid q (Some option.GetNoNewPrivs) call ne = spares_asked w q (no_new_privs_asked call (body_of (at w pid)).creds.no_new_privs)
+spares_prctl images w pid q (Some option.SetChildSubreaper) call ne =
+    spares_subreapers images.subreapers w q (subreaper_set w pid call) (spares_changed w pid q (with_subreaper (not (register call 1 == 0))) false ne)
+spares_prctl images w pid q (Some option.GetChildSubreaper) call ne = spares_subreapers images.subreapers w q (subreaper_asked w pid) (spares_world w q false)
 spares_prctl images w pid q None call ne = spares_world w q false
 
 spares_seccomp : (images : GivenImages) (w : World) (pid q : ℕ) (which : Option SeccompOperation) (call : Record) → q ≢ pid → Spares w q (seccomp images w pid which call)
@@ -284,28 +292,28 @@ spares_row images w pid q (Some syscall.Prctl) call rules apart there other = sp
 spares_row images w pid q (Some syscall.Seccomp) call rules apart there other = spares_seccomp images w pid q (seccomp_operation_of (low call 0)) call apart.other
 spares_row images w pid q None call rules apart there other = spares_world w q false
 
-spares_judged : (images : GivenImages) (w : World) (pid q : ℕ) (call : Record) (errno : ℕ) (a : Action) → IsWorld w → IsApart w pid q → IsTrue (is_some (at w q))
-    → (IsTrue (performs a) → is_kill_row (syscall_of call.nr) ≡ false) → Spares w q (judged images w pid call errno a)
-spares_judged images w pid q call errno action.Allow rules apart there other = spares_row images w pid q (syscall_of call.nr) call rules apart there (other refl)
-spares_judged images w pid q call errno action.Log rules apart there other = spares_row images w pid q (syscall_of call.nr) call rules apart there (other refl)
-spares_judged images w pid q call errno action.Trap rules apart there other = untouched q (at w q) false _ (forced_touches w pid q apart.other)
-spares_judged images w pid q call errno action.Errno rules apart there other = spares_world w q false
-spares_judged images w pid q call errno action.UserNotif rules apart there other = spares_world w q false
-spares_judged images w pid q call errno action.Trace rules apart there other = spares_world w q false
-spares_judged images w pid q call errno action.KillProcess rules apart there other = spares_ends w pid SIGSYS q apart
-spares_judged images w pid q call errno action.KillThread rules apart there other = spares_ends w pid SIGSYS q apart
-spares_judged images w pid q call errno action.Unknown rules apart there other = spares_ends w pid SIGSYS q apart
+spares_judged : (images : GivenImages) (w : World) (pid q : ℕ) (call : Record) (verdict : ℕ) (a : Action) → IsWorld w → IsApart w pid q → IsTrue (is_some (at w q))
+    → (IsTrue (performs a) → is_kill_row (syscall_of call.nr) ≡ false) → Spares w q (judged images w pid call verdict a)
+spares_judged images w pid q call verdict action.Allow rules apart there other = spares_row images w pid q (syscall_of call.nr) call rules apart there (other refl)
+spares_judged images w pid q call verdict action.Log rules apart there other = spares_row images w pid q (syscall_of call.nr) call rules apart there (other refl)
+spares_judged images w pid q call verdict action.Trap rules apart there other = untouched q (at w q) false _ (forced_touches w pid q apart.other)
+spares_judged images w pid q call verdict action.Errno rules apart there other = spares_world w q false
+spares_judged images w pid q call verdict action.UserNotif rules apart there other = spares_world w q false
+spares_judged images w pid q call verdict action.Trace rules apart there other = spares_world w q false
+spares_judged images w pid q call verdict action.KillProcess rules apart there other = spares_ends w pid SIGSYS q apart
+spares_judged images w pid q call verdict action.KillThread rules apart there other = spares_ends w pid SIGSYS q apart
+spares_judged images w pid q call verdict action.Unknown rules apart there other = spares_ends w pid SIGSYS q apart
 
 -- ---- deliveries and resumptions
 abbrev SparesBy : World → ℕ → Delivered → Type 0
 SparesBy w q d = Alone q (at w q) (is_end_or_stop d.effect) (at d.world q)
 
-spares_handled : (w : World) (pid n program : ℕ) (mask : Signals) (q : ℕ) → IsApart w pid q → SparesBy w q (handled w pid n program mask)
+spares_handled : (w : World) (pid n program : ℕ) (mask : Signals) (q : ℕ) → IsApart w pid q → SparesBy w q (enters_handler w pid n program mask)
 spares_handled w pid n program mask q apart =
-    cond_both (length (body_of (at w pid)).signals.frames == FRAMES) (ended_by w pid SIGSEGV) _ (SparesBy w q) (λ _. spares_ends w pid SIGSEGV q apart)
-    (λ _. spares_changed w pid q (handling n mask) false apart.other)
+    cond_both (length (body_of (at w pid)).signals.frames == FRAMES) (terminated_by w pid SIGSEGV) _ (SparesBy w q) (λ _. spares_ends w pid SIGSEGV q apart)
+    (λ _. spares_changed w pid q (in_handler n mask) false apart.other)
 
-spares_default : (w : World) (pid n q : ℕ) (a : DefaultAction) → IsApart w pid q → SparesBy w q (by_default w pid n a)
+spares_default : (w : World) (pid n q : ℕ) (a : DefaultAction) → IsApart w pid q → SparesBy w q (acts_by_default w pid n a)
 spares_default w pid n q default.Ignore apart = spares_world w q false
 spares_default w pid n q default.Continue apart = spares_world w q false
 spares_default w pid n q default.Stop apart =
@@ -313,23 +321,23 @@ spares_default w pid n q default.Stop apart =
     only_told q (at w q) _ (told_twice w q (at stopped q) (at (sent stopped (parent_of (at w pid)) SIGCHLD) q) (inl (at_other w pid _ q apart.other)) (sent_at stopped (parent_of (at w pid)) q))
 spares_default w pid n q default.Terminate apart = spares_ends w pid n q apart
 
-spares_done_by : (w : World) (pid n q : ℕ) (d : Disposition) → IsApart w pid q → SparesBy w q (done_by w pid n d)
+spares_done_by : (w : World) (pid n q : ℕ) (d : Disposition) → IsApart w pid q → SparesBy w q (acts_by_disposition w pid n d)
 spares_done_by w pid n q disposition.Ignore apart = spares_world w q false
 spares_done_by w pid n q (disposition.Handler program mask) apart = spares_handled w pid n program mask q apart
 spares_done_by w pid n q disposition.Default apart =
-    cond_both ((pid == INIT) && not (n == SIGSYS)) (ignored w) (by_default w pid n (default_action n)) (SparesBy w q) (λ _. spares_world w q false)
+    cond_both ((pid == INIT) && not (n == SIGSYS)) (ignored w) (acts_by_default w pid n (default_action n)) (SparesBy w q) (λ _. spares_world w q false)
     (λ _. spares_default w pid n q (default_action n) apart)
 
-spares_done : (w : World) (pid n q : ℕ) → IsApart w pid q → SparesBy w q (done w pid n)
+spares_done : (w : World) (pid n q : ℕ) → IsApart w pid q → SparesBy w q (acted_on w pid n)
 spares_done w pid n q apart =
-    cond_both (n == SIGKILL) (ended_by w pid SIGKILL) _ (SparesBy w q) (λ _. spares_ends w pid SIGKILL q apart)
+    cond_both (n == SIGKILL) (terminated_by w pid SIGKILL) _ (SparesBy w q) (λ _. spares_ends w pid SIGKILL q apart)
     (λ _. spares_done_by w pid n q (disposition_of (body_of (at w pid)).signals n) apart)
 
 spares_delivered : (w : World) (pid n q : ℕ) → IsApart w pid q → SparesBy w q (delivered w pid n)
 spares_delivered w pid n q apart =
     let v : World = changed w pid (taking n) in
     let same : at v q ≡ at w q = at_other w pid _ q apart.other in
-    let d : Delivered = done v pid n in
+    let d : Delivered = acted_on v pid n in
     subst (λ base. Alone q base (is_end_or_stop d.effect) (at d.world q)) same (spares_done v pid n q (record {
       other = apart.other;
       not_init = apart.not_init;
@@ -366,7 +374,7 @@ spares_happened : (images : GivenImages) (w : World) (event : Event) (q : ℕ) �
 spares_happened images w (Call pid ip nr args) q rules apart there refuses =
     let call : Record = record { nr = nr; ip = ip; args = args } in
     let verdict : ℕ = verdict_of (body_of (at w pid)).chain call in
-    spares_judged images w pid q call (data_part verdict) (action_of verdict) rules apart there (no_kill w pid call refuses)
+    spares_judged images w pid q call verdict (action_of verdict) rules apart there (no_kill w pid call refuses)
 spares_happened images w (Deliver pid) q rules apart there refuses = spares_delivered w pid (unwrap_or (signal_due (at w pid)) 0) q apart
 spares_happened images w (Resume pid) q rules apart there refuses = spares_resumed w pid q (body_of (at w pid)).waiting apart
 spares_happened images w (Fault pid) q rules apart there refuses = spares_ends w pid SIGSEGV q apart

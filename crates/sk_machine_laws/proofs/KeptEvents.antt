@@ -5,7 +5,7 @@ use Rattle.std.proofs.lemmas.Bool.{cond_both, eqb-true, eqb-false, not-true, not
 use Rattle.sk_insn.specs.declared.record.Record.{Record}
 use Rattle.sk_insn.specs.declared.action.Action.{Action}
 use Rattle.sk_insn.specs.declared.action.Action.TheVariants as action
-use Rattle.sk_insn.specs.Actions.{action_of, data_part}
+use Rattle.sk_insn.specs.Actions.{action_of}
 use Rattle.sk_chain.specs.Verdict.{verdict_of}
 use Rattle.sk_creds.specs.declared.errno.Errno.{Errno}
 use Rattle.sk_creds.specs.declared.errno.Errno.TheVariants.{Eperm, Esrch, Einval}
@@ -28,7 +28,7 @@ use Rattle.sk_world.specs.declared.request.Poll.TheVariants as poll
 use Rattle.sk_world.specs.World.{World, at, has_ended, has_stopped, is_stopped, is_zombie, is_halted, is_alive, parent_of, body_changed, changed, opening}
 use Rattle.sk_world.specs.Rules.{IsWorld}
 use Rattle.sk_world.specs.Forking.{fork_answer}
-use Rattle.sk_world.specs.Sending.{sent}
+use Rattle.sk_world.specs.Sending.{sent, sent_to_each}
 use Rattle.sk_world.specs.Waits.{is_no_hang, ready_of, told}
 use Rattle.sk_world.proofs.Stored.{at_here, kept_changed}
 use Rattle.sk_world.proofs.Kept.{kept_opening, kept_sent, kept_forced}
@@ -45,18 +45,19 @@ use Rattle.sk_machine.specs.declared.operation.PrctlOption.{PrctlOption}
 use Rattle.sk_machine.specs.declared.operation.PrctlOption.TheVariants as option
 use Rattle.sk_machine.specs.declared.operation.SeccompOperation.{SeccompOperation}
 use Rattle.sk_machine.specs.declared.operation.SeccompOperation.TheVariants as operation
-use Rattle.sk_machine.specs.declared.syscall.Syscall.{Syscall}
-use Rattle.sk_machine.specs.declared.syscall.Syscall.TheVariants as syscall
+use Rattle.sk_calls.specs.declared.syscall.Syscall.{Syscall}
+use Rattle.sk_calls.specs.declared.syscall.Syscall.TheVariants as syscall
 use Rattle.sk_machine.specs.Events.{pid_of}
 use Rattle.sk_machine.specs.Given.{GivenImages}
-use Rattle.sk_machine.specs.Syscalls.{low, signed, syscall_of, prctl_option_of, seccomp_operation_of}
+use Rattle.sk_calls.specs.Syscalls.{syscall_of}
+use Rattle.sk_machine.specs.Arguments.{register, low, signed, prctl_option_of, seccomp_operation_of}
 use Rattle.sk_machine.specs.Authority.{Authority, with_authority, after_no_new_privs, after_set_seccomp, after_set_mode_filter}
 use Rattle.sk_machine.specs.Performed.{Performed, body_of, returns, fails, asked, changes, authority_at, authorises, waiting_in, waits}
 use Rattle.sk_machine.specs.SignalCalls.{with_signals, resignals, after_sigaction, after_sigprocmask, after_sigreturn}
-use Rattle.sk_machine.specs.Killing.{targets, permitted, sent_to_each, killed, after_kill}
+use Rattle.sk_machine.specs.Killing.{targets, permitted, killed, after_kill}
 use Rattle.sk_machine.specs.WaitCalls.{are_wait_options, request_of, polled, wait4, polled_again}
-use Rattle.sk_machine.specs.Performing.{executing, execve, forks, exit_status, authorised, no_new_privs_asked, prctl, action_available, seccomp, row}
-use Rattle.sk_machine.specs.Delivering.{Delivered, signal_due, ended_by, handling, handled, stopping, stopped_by, ignored, by_default, done_by, taking, done}
+use Rattle.sk_machine.specs.Performing.{executing, execve, forks, exit_status, authorised, no_new_privs_asked, subreaper_set, subreaper_asked, where_subreapers, with_subreaper, prctl, action_available, seccomp, row}
+use Rattle.sk_machine.specs.Delivering.{Delivered, signal_due, terminated_by, in_handler, enters_handler, stopping, stopped_by, ignored, acts_by_default, acts_by_disposition, taking, acted_on}
 use Rattle.sk_machine.specs.Machine.{judged, happened, is_kill, own_reason, reason_of, stepped, step_of}
 use Rattle.sk_machine_laws.specs.MachineLaws.{CallKeepsRules, DeliveryKeepsRules, ResumptionKeepsRules, EventKeepsRules, RunKeepsRules, ReachedHasRules}
 
@@ -117,11 +118,18 @@ kept_wait4 w pid call rules alive =
     (λ _. cond_both (low call 0 == 2147483648) (fails w Esrch) _ (λ (p : Performed). IsWorld p.world) (λ _. rules)
     (λ _. kept_polled w pid (request_of w pid call) (ready_of w pid (request_of w pid call)) rules (kept_told w pid (request_of w pid call) rules (alive_is_there (at w pid) alive))))
 
+kept_subreapers : (there : Bool) (w : World) (p : Performed) → IsWorld w → IsWorld p.world → IsWorld (where_subreapers there w p).world
+kept_subreapers true w p rules kept = kept
+kept_subreapers false w p rules kept = rules
+
 kept_prctl : (images : GivenImages) (w : World) (pid : ℕ) (which : Option PrctlOption) (call : Record) → IsWorld w → IsWorld (prctl images w pid which call).world
 kept_prctl images w pid (Some option.SetNoNewPrivs) call rules = kept_authorises w pid (after_no_new_privs call (authority_at w pid)) rules
 kept_prctl images w pid (Some option.SetSeccomp) call rules = kept_authorises w pid (after_set_seccomp images call (authority_at w pid)) rules
 kept_prctl images w pid (Some option.GetSeccomp) call rules = rules
 kept_prctl images w pid (Some option.GetNoNewPrivs) call rules = kept_asked w (no_new_privs_asked call (body_of (at w pid)).creds.no_new_privs) rules
+kept_prctl images w pid (Some option.SetChildSubreaper) call rules =
+    kept_subreapers images.subreapers w (subreaper_set w pid call) rules (kept_body w pid (with_subreaper (not (register call 1 == 0))) rules (λ body. refl))
+kept_prctl images w pid (Some option.GetChildSubreaper) call rules = kept_subreapers images.subreapers w (subreaper_asked w pid) rules rules
 kept_prctl images w pid None call rules = rules
 
 kept_seccomp : (images : GivenImages) (w : World) (pid : ℕ) (which : Option SeccompOperation) (call : Record) → IsWorld w → IsWorld (seccomp images w pid which call).world
@@ -164,16 +172,16 @@ kept_row images w pid None call rules alive = rules
 pub kept_performed : CallKeepsRules
 kept_performed images w pid call rules alive = kept_row images w pid (syscall_of call.nr) call rules alive
 
-kept_judged : (images : GivenImages) (w : World) (pid : ℕ) (call : Record) (errno : ℕ) (a : Action) → IsWorld w → IsTrue (is_alive (at w pid)) → IsWorld (judged images w pid call errno a).world
-kept_judged images w pid call errno action.Allow rules alive = kept_performed images w pid call rules alive
-kept_judged images w pid call errno action.Log rules alive = kept_performed images w pid call rules alive
-kept_judged images w pid call errno action.Trap rules alive = kept_forced w pid rules
-kept_judged images w pid call errno action.Errno rules alive = rules
-kept_judged images w pid call errno action.UserNotif rules alive = rules
-kept_judged images w pid call errno action.Trace rules alive = rules
-kept_judged images w pid call errno action.KillProcess rules alive = kept_ended w pid SIGSYS rules alive
-kept_judged images w pid call errno action.KillThread rules alive = kept_ended w pid SIGSYS rules alive
-kept_judged images w pid call errno action.Unknown rules alive = kept_ended w pid SIGSYS rules alive
+kept_judged : (images : GivenImages) (w : World) (pid : ℕ) (call : Record) (verdict : ℕ) (a : Action) → IsWorld w → IsTrue (is_alive (at w pid)) → IsWorld (judged images w pid call verdict a).world
+kept_judged images w pid call verdict action.Allow rules alive = kept_performed images w pid call rules alive
+kept_judged images w pid call verdict action.Log rules alive = kept_performed images w pid call rules alive
+kept_judged images w pid call verdict action.Trap rules alive = kept_forced w pid rules
+kept_judged images w pid call verdict action.Errno rules alive = rules
+kept_judged images w pid call verdict action.UserNotif rules alive = rules
+kept_judged images w pid call verdict action.Trace rules alive = rules
+kept_judged images w pid call verdict action.KillProcess rules alive = kept_ended w pid SIGSYS rules alive
+kept_judged images w pid call verdict action.KillThread rules alive = kept_ended w pid SIGSYS rules alive
+kept_judged images w pid call verdict action.Unknown rules alive = kept_ended w pid SIGSYS rules alive
 
 -- ---- deliveries
 lives_on : (f : Body → Body) (o : Option Proc) → ((body : Body) → (f body).life ≡ body.life) → IsTrue (is_alive o) → IsTrue (is_alive (option_map (body_changed f) o))
@@ -183,10 +191,10 @@ lives_on f (Some p) same alive = ap (λ life. not (has_ended life)) (same p.body
 still_alive : (w : World) (pid : ℕ) (f : Body → Body) → ((body : Body) → (f body).life ≡ body.life) → IsTrue (is_alive (at w pid)) → IsTrue (is_alive (at (changed w pid f) pid))
 still_alive w pid f same alive = ap is_alive (at_here w pid (option_map (body_changed f) (at w pid))) ∙ lives_on f (at w pid) same alive
 
-kept_handled : (w : World) (pid n program : ℕ) (mask : Signals) → IsWorld w → IsTrue (is_alive (at w pid)) → IsWorld (handled w pid n program mask).world
+kept_handled : (w : World) (pid n program : ℕ) (mask : Signals) → IsWorld w → IsTrue (is_alive (at w pid)) → IsWorld (enters_handler w pid n program mask).world
 kept_handled w pid n program mask rules alive =
-    cond_both (length (body_of (at w pid)).signals.frames == FRAMES) (ended_by w pid SIGSEGV) _ (λ (d : Delivered). IsWorld d.world) (λ _. kept_ended w pid SIGSEGV rules alive)
-    (λ _. kept_body w pid (handling n mask) rules (λ body. refl))
+    cond_both (length (body_of (at w pid)).signals.frames == FRAMES) (terminated_by w pid SIGSEGV) _ (λ (d : Delivered). IsWorld d.world) (λ _. kept_ended w pid SIGSEGV rules alive)
+    (λ _. kept_body w pid (in_handler n mask) rules (λ body. refl))
 
 kept_stopped : (w : World) (pid n : ℕ) → IsWorld w → IsTrue (is_alive (at w pid)) → pid ≢ INIT → IsWorld (stopped_by w pid n).world
 kept_stopped w pid n rules alive other =
@@ -195,33 +203,33 @@ kept_stopped w pid n rules alive other =
       init = λ e. absurd (other e);
     }))
 
-kept_default : (w : World) (pid n : ℕ) (a : DefaultAction) → IsWorld w → IsTrue (is_alive (at w pid)) → pid ≢ INIT → IsWorld (by_default w pid n a).world
+kept_default : (w : World) (pid n : ℕ) (a : DefaultAction) → IsWorld w → IsTrue (is_alive (at w pid)) → pid ≢ INIT → IsWorld (acts_by_default w pid n a).world
 kept_default w pid n default.Ignore rules alive other = rules
 kept_default w pid n default.Continue rules alive other = rules
 kept_default w pid n default.Stop rules alive other = kept_stopped w pid n rules alive other
 kept_default w pid n default.Terminate rules alive other = kept_ended w pid n rules alive
 
 -- a SIGSYS ends any process
-kept_sigsys : (w : World) (pid n : ℕ) → IsWorld w → IsTrue (is_alive (at w pid)) → n ≡ SIGSYS → IsWorld (by_default w pid n (default_action n)).world
-kept_sigsys w pid n rules alive is = subst (λ k. IsWorld (by_default w pid k (default_action k)).world) (sym is) (kept_ended w pid SIGSYS rules alive)
+kept_sigsys : (w : World) (pid n : ℕ) → IsWorld w → IsTrue (is_alive (at w pid)) → n ≡ SIGSYS → IsWorld (acts_by_default w pid n (default_action n)).world
+kept_sigsys w pid n rules alive is = subst (λ k. IsWorld (acts_by_default w pid k (default_action k)).world) (sym is) (kept_ended w pid SIGSYS rules alive)
 
 init_or_sigsys : (a b : Bool) → (a && not b) ≡ false → (a ≡ false) ⊎ (b ≡ true)
 init_or_sigsys false b h = inl refl
 init_or_sigsys true b h = inr (not-false b h)
 
-kept_done_by : (w : World) (pid n : ℕ) (d : Disposition) → IsWorld w → IsTrue (is_alive (at w pid)) → IsWorld (done_by w pid n d).world
+kept_done_by : (w : World) (pid n : ℕ) (d : Disposition) → IsWorld w → IsTrue (is_alive (at w pid)) → IsWorld (acts_by_disposition w pid n d).world
 kept_done_by w pid n disposition.Ignore rules alive = rules
 kept_done_by w pid n (disposition.Handler program mask) rules alive = kept_handled w pid n program mask rules alive
 kept_done_by w pid n disposition.Default rules alive =
-    cond_both ((pid == INIT) && not (n == SIGSYS)) (ignored w) (by_default w pid n (default_action n)) (λ (d : Delivered). IsWorld d.world) (λ _. rules)
+    cond_both ((pid == INIT) && not (n == SIGSYS)) (ignored w) (acts_by_default w pid n (default_action n)) (λ (d : Delivered). IsWorld d.world) (λ _. rules)
     (λ h. elim (init_or_sigsys (pid == INIT) (n == SIGSYS) h) [
       | inl other ↦ kept_default w pid n (default_action n) rules alive (eqb-false pid INIT other)
       | inr sigsys ↦ kept_sigsys w pid n rules alive (eqb-true n SIGSYS sigsys)
     ])
 
-kept_done : (w : World) (pid n : ℕ) → IsWorld w → IsTrue (is_alive (at w pid)) → IsWorld (done w pid n).world
+kept_done : (w : World) (pid n : ℕ) → IsWorld w → IsTrue (is_alive (at w pid)) → IsWorld (acted_on w pid n).world
 kept_done w pid n rules alive =
-    cond_both (n == SIGKILL) (ended_by w pid SIGKILL) _ (λ (d : Delivered). IsWorld d.world) (λ _. kept_ended w pid SIGKILL rules alive)
+    cond_both (n == SIGKILL) (terminated_by w pid SIGKILL) _ (λ (d : Delivered). IsWorld d.world) (λ _. kept_ended w pid SIGKILL rules alive)
     (λ _. kept_done_by w pid n (disposition_of (body_of (at w pid)).signals n) rules alive)
 
 pub kept_delivered : DeliveryKeepsRules
@@ -244,7 +252,7 @@ pub kept_happened : (images : GivenImages) (w : World) (event : Event) → IsWor
 kept_happened images w (Call pid ip nr args) rules alive =
     let call : Record = record { nr = nr; ip = ip; args = args } in
     let verdict : ℕ = verdict_of (body_of (at w pid)).chain call in
-    kept_judged images w pid call (data_part verdict) (action_of verdict) rules alive
+    kept_judged images w pid call verdict (action_of verdict) rules alive
 kept_happened images w (Deliver pid) rules alive = kept_delivered w pid (unwrap_or (signal_due (at w pid)) 0) rules alive
 kept_happened images w (Resume pid) rules alive = kept_resumed w pid (body_of (at w pid)).waiting rules alive
 kept_happened images w (Fault pid) rules alive = kept_ended w pid SIGSEGV rules alive

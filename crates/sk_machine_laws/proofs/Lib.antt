@@ -1,4 +1,3 @@
-pub mod CallNumbers
 pub mod Unchanged
 pub mod KeptEvents
 pub mod Carrying
@@ -10,3 +9,4 @@ pub mod Tellings
 pub mod Confined
 pub mod Parents
 pub mod Turns
+pub mod Runs

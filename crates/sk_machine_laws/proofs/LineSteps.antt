@@ -6,7 +6,7 @@ use Rattle.std.proofs.lemmas.Bool.{false≢true, eqb-true, eqb-false, false_from
 use Rattle.sk_insn.specs.declared.record.Record.{Record}
 use Rattle.sk_insn.specs.declared.action.Action.{Action}
 use Rattle.sk_insn.specs.declared.action.Action.TheVariants as action
-use Rattle.sk_insn.specs.Actions.{action_of, data_part, performs}
+use Rattle.sk_insn.specs.Actions.{action_of, performs}
 use Rattle.sk_chain.specs.Verdict.{verdict_of}
 use Rattle.sk_creds.specs.declared.errno.Errno.{Errno}
 use Rattle.sk_creds.specs.declared.errno.Errno.TheVariants.{Eagain}
@@ -30,24 +30,25 @@ use Rattle.sk_machine.specs.declared.operation.PrctlOption.{PrctlOption}
 use Rattle.sk_machine.specs.declared.operation.PrctlOption.TheVariants as option
 use Rattle.sk_machine.specs.declared.operation.SeccompOperation.{SeccompOperation}
 use Rattle.sk_machine.specs.declared.operation.SeccompOperation.TheVariants as operation
-use Rattle.sk_machine.specs.declared.syscall.Syscall.{Syscall}
-use Rattle.sk_machine.specs.declared.syscall.Syscall.TheVariants as syscall
+use Rattle.sk_calls.specs.declared.syscall.Syscall.{Syscall}
+use Rattle.sk_calls.specs.declared.syscall.Syscall.TheVariants as syscall
 use Rattle.sk_machine.specs.Events.{pid_of}
 use Rattle.sk_machine.specs.Given.{GivenImages}
-use Rattle.sk_machine.specs.Syscalls.{low, signed, syscall_of, prctl_option_of, seccomp_operation_of}
+use Rattle.sk_calls.specs.Syscalls.{syscall_of}
+use Rattle.sk_calls.proofs.SyscallTable.{number_of-syscall_of}
+use Rattle.sk_machine.specs.Arguments.{register, low, signed, prctl_option_of, seccomp_operation_of}
 use Rattle.sk_machine.specs.Authority.{Authority, authority_of, with_authority, after_no_new_privs, after_set_seccomp, after_prctl, after_set_mode_filter, after_seccomp, authority_after}
 use Rattle.sk_machine.specs.Performed.{Performed, body_of, authority_at, authorises}
 use Rattle.sk_machine.specs.SignalCalls.{after_sigaction, after_sigprocmask, after_sigreturn}
 use Rattle.sk_machine.specs.Killing.{after_kill}
-use Rattle.sk_machine.specs.Performing.{executing, execve, forks, exit_status, no_new_privs_asked, prctl, action_available, seccomp, row}
+use Rattle.sk_machine.specs.Performing.{executing, execve, forks, exit_status, no_new_privs_asked, subreaper_set, subreaper_asked, where_subreapers, with_subreaper, prctl, action_available, seccomp, row}
 use Rattle.sk_machine.specs.Delivering.{signal_due}
 use Rattle.sk_machine.specs.Machine.{Stepped, judged, happened, reason_of, stepped, step_of, world_after}
 use Rattle.sk_machine.specs.Lines.{Line, Happening, is_fork, has_returned, line_before, calls_added, line_of, authority_after_calls, history_after}
 use Rattle.sk_machine_laws.specs.LineLaws.{happening, EventChangesAuthority, AuthorityIsOfLine, LineComesFromInit}
-use Rattle.sk_machine_laws.proofs.CallNumbers.{number_is}
 use Rattle.sk_machine_laws.proofs.KeptEvents.{possible_is_alive}
 use Rattle.sk_machine_laws.proofs.Carrying.{over_asked, over_changes, over_resignals, over_waits, over_kill, over_setpgid, over_setsid, over_wait4, over_delivered, over_resumed}
-use Rattle.sk_machine_laws.proofs.Authorities.{CameBy, Came, Keeps, came_still, came_at, came_by_rights, keeps_by_rights, keeps_still, keeps_ended, keeps}
+use Rattle.sk_machine_laws.proofs.Authorities.{CameBy, Came, Keeps, came_still, came_at, came_by_rights, keeps_by_rights, keeps_still, keeps_changed, keeps_ended, keeps}
 
 -- ---- which call is a fork
 abbrev pub is_fork_row : Option Syscall → Bool
@@ -60,7 +61,7 @@ only_fork other is = absurd (false≢true is)
 
 fork_number_else : (nr : ℕ) → (nr == 57) ≡ false → is_fork_row (syscall_of nr) ≡ false
 fork_number_else nr other =
-    false_from_ne_true (is_fork_row (syscall_of nr)) (λ is. eqb-false nr 57 other (number_is nr syscall.Fork (only_fork (syscall_of nr) is)))
+    false_from_ne_true (is_fork_row (syscall_of nr)) (λ is. eqb-false nr 57 other (number_of-syscall_of nr syscall.Fork (only_fork (syscall_of nr) is)))
 
 pub fork_number : (nr : ℕ) → is_fork_row (syscall_of nr) ≡ (nr == 57)
 fork_number nr =
@@ -134,6 +135,10 @@ step_execve w pid q f =
 step_quiet : (pid q : ℕ) (now before : Option Proc) → Came now before → CameBy (cond ((pid == q) && true) (λ a. a) (λ a. a)) now before
 step_quiet pid q now before came = leaves ((pid == q) && true) (λ a. a) now before (λ a. refl) came
 
+keeps_subreapers : (there : Bool) (w : World) (p : Performed) → Keeps w p.world → Keeps w (where_subreapers there w p).world
+keeps_subreapers true w p kept = kept
+keeps_subreapers false w p kept = keeps_still w
+
 step_prctl : (images : GivenImages) (w : World) (pid q : ℕ) (which : Option PrctlOption) (call : Record)
     → CameBy (cond ((pid == q) && true) (λ a. result_unwrap_or (after_prctl images which call a) a) (λ a. a)) (at (prctl images w pid which call).world q) (at w q)
 step_prctl images w pid q (Some option.SetNoNewPrivs) call = step_authorises w pid q (after_no_new_privs call)
@@ -141,6 +146,9 @@ step_prctl images w pid q (Some option.SetSeccomp) call = step_authorises w pid 
 step_prctl images w pid q (Some option.GetSeccomp) call = step_quiet pid q _ (at w q) (keeps_still w q)
 step_prctl images w pid q (Some option.GetNoNewPrivs) call =
     step_quiet pid q _ (at w q) (over_asked Came keeps w (no_new_privs_asked call (body_of (at w pid)).creds.no_new_privs) q)
+step_prctl images w pid q (Some option.SetChildSubreaper) call =
+    step_quiet pid q _ (at w q) (keeps_subreapers images.subreapers w (subreaper_set w pid call) (keeps_changed w pid (with_subreaper (not (register call 1 == 0))) (λ body. refl)) q)
+step_prctl images w pid q (Some option.GetChildSubreaper) call = step_quiet pid q _ (at w q) (keeps_subreapers images.subreapers w (subreaper_asked w pid) (keeps_still w) q)
 step_prctl images w pid q None call = step_quiet pid q _ (at w q) (keeps_still w q)
 
 step_seccomp : (images : GivenImages) (w : World) (pid q : ℕ) (which : Option SeccompOperation) (call : Record)
@@ -224,17 +232,17 @@ step_performed images w pid q call alive =
 step_refused : (images : GivenImages) (w : World) (pid q : ℕ) (p : Performed) → Keeps w p.world → CallStep images w pid q None p
 step_refused images w pid q p keeps = no_calls images ((pid == q) && true) (at p.world q) (at w q) (keeps q)
 
-step_judged : (images : GivenImages) (w : World) (pid q : ℕ) (call : Record) (errno : ℕ) (a : Action) → IsTrue (is_alive (at w pid))
-    → CallStep images w pid q (cond (performs a) (Some call) None) (judged images w pid call errno a)
-step_judged images w pid q call errno action.Allow alive = step_performed images w pid q call alive
-step_judged images w pid q call errno action.Log alive = step_performed images w pid q call alive
-step_judged images w pid q call errno action.Trap alive = step_refused images w pid q (judged images w pid call errno action.Trap) (keeps_by_rights w (forced w pid) (forced_rights w pid))
-step_judged images w pid q call errno action.Errno alive = step_refused images w pid q (judged images w pid call errno action.Errno) (keeps_still w)
-step_judged images w pid q call errno action.UserNotif alive = step_refused images w pid q (judged images w pid call errno action.UserNotif) (keeps_still w)
-step_judged images w pid q call errno action.Trace alive = step_refused images w pid q (judged images w pid call errno action.Trace) (keeps_still w)
-step_judged images w pid q call errno action.KillProcess alive = step_refused images w pid q (judged images w pid call errno action.KillProcess) (keeps_ended w pid SIGSYS)
-step_judged images w pid q call errno action.KillThread alive = step_refused images w pid q (judged images w pid call errno action.KillThread) (keeps_ended w pid SIGSYS)
-step_judged images w pid q call errno action.Unknown alive = step_refused images w pid q (judged images w pid call errno action.Unknown) (keeps_ended w pid SIGSYS)
+step_judged : (images : GivenImages) (w : World) (pid q : ℕ) (call : Record) (verdict : ℕ) (a : Action) → IsTrue (is_alive (at w pid))
+    → CallStep images w pid q (cond (performs a) (Some call) None) (judged images w pid call verdict a)
+step_judged images w pid q call verdict action.Allow alive = step_performed images w pid q call alive
+step_judged images w pid q call verdict action.Log alive = step_performed images w pid q call alive
+step_judged images w pid q call verdict action.Trap alive = step_refused images w pid q (judged images w pid call verdict action.Trap) (keeps_by_rights w (forced w pid) (forced_rights w pid))
+step_judged images w pid q call verdict action.Errno alive = step_refused images w pid q (judged images w pid call verdict action.Errno) (keeps_still w)
+step_judged images w pid q call verdict action.UserNotif alive = step_refused images w pid q (judged images w pid call verdict action.UserNotif) (keeps_still w)
+step_judged images w pid q call verdict action.Trace alive = step_refused images w pid q (judged images w pid call verdict action.Trace) (keeps_still w)
+step_judged images w pid q call verdict action.KillProcess alive = step_refused images w pid q (judged images w pid call verdict action.KillProcess) (keeps_ended w pid SIGSYS)
+step_judged images w pid q call verdict action.KillThread alive = step_refused images w pid q (judged images w pid call verdict action.KillThread) (keeps_ended w pid SIGSYS)
+step_judged images w pid q call verdict action.Unknown alive = step_refused images w pid q (judged images w pid call verdict action.Unknown) (keeps_ended w pid SIGSYS)
 
 abbrev EventStep : GivenImages → World → Event → Stepped → ℕ → Type 0
 EventStep images w event s q =
@@ -244,7 +252,7 @@ step_happened : (images : GivenImages) (w : World) (event : Event) (q : ℕ) →
 step_happened images w (Call pid ip nr args) q alive =
     let call : Record = record { nr = nr; ip = ip; args = args } in
     let verdict : ℕ = verdict_of (body_of (at w pid)).chain call in
-    step_judged images w pid q call (data_part verdict) (action_of verdict) alive
+    step_judged images w pid q call verdict (action_of verdict) alive
 step_happened images w (Deliver pid) q alive = no_calls images ((pid == q) && true) _ (at w q) (over_delivered Came keeps w pid (unwrap_or (signal_due (at w pid)) 0) q)
 step_happened images w (Resume pid) q alive = no_calls images ((pid == q) && true) _ (at w q) (over_resumed Came keeps w pid (body_of (at w pid)).waiting q)
 step_happened images w (Fault pid) q alive = no_calls images ((pid == q) && true) _ (at w q) (keeps_ended w pid SIGSEGV q)

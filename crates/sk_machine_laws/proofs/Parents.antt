@@ -7,7 +7,7 @@ use Rattle.sk_insn.specs.declared.insn.Insn.{Insn}
 use Rattle.sk_insn.specs.declared.record.Record.{Record}
 use Rattle.sk_insn.specs.declared.action.Action.{Action}
 use Rattle.sk_insn.specs.declared.action.Action.TheVariants as action
-use Rattle.sk_insn.specs.Actions.{action_of, data_part, performs}
+use Rattle.sk_insn.specs.Actions.{action_of, performs}
 use Rattle.sk_interp.specs.Meaning.{meaning_of}
 use Rattle.sk_chain.specs.Precedence.{precedence_of}
 use Rattle.sk_chain.specs.Verdict.{value_of, values_of, first_of, verdict_of, IsAtMost}
@@ -44,16 +44,17 @@ use Rattle.sk_machine.specs.declared.operation.PrctlOption.{PrctlOption}
 use Rattle.sk_machine.specs.declared.operation.PrctlOption.TheVariants as option
 use Rattle.sk_machine.specs.declared.operation.SeccompOperation.{SeccompOperation}
 use Rattle.sk_machine.specs.declared.operation.SeccompOperation.TheVariants as operation
-use Rattle.sk_machine.specs.declared.syscall.Syscall.{Syscall}
-use Rattle.sk_machine.specs.declared.syscall.Syscall.TheVariants as syscall
+use Rattle.sk_calls.specs.declared.syscall.Syscall.{Syscall}
+use Rattle.sk_calls.specs.declared.syscall.Syscall.TheVariants as syscall
 use Rattle.sk_machine.specs.Events.{pid_of}
 use Rattle.sk_machine.specs.Given.{GivenImages}
-use Rattle.sk_machine.specs.Syscalls.{low, signed, syscall_of, prctl_option_of, seccomp_operation_of}
+use Rattle.sk_calls.specs.Syscalls.{syscall_of}
+use Rattle.sk_machine.specs.Arguments.{register, low, signed, prctl_option_of, seccomp_operation_of}
 use Rattle.sk_machine.specs.Authority.{Authority, with_authority, after_no_new_privs, after_set_seccomp, after_set_mode_filter}
 use Rattle.sk_machine.specs.Performed.{Performed, body_of, authority_at, authorises}
 use Rattle.sk_machine.specs.SignalCalls.{after_sigaction, after_sigprocmask, after_sigreturn}
 use Rattle.sk_machine.specs.Killing.{after_kill}
-use Rattle.sk_machine.specs.Performing.{executing, execve, forks, exit_status, authorised, no_new_privs_asked, prctl, action_available, seccomp, row}
+use Rattle.sk_machine.specs.Performing.{executing, execve, forks, exit_status, authorised, no_new_privs_asked, subreaper_set, subreaper_asked, where_subreapers, with_subreaper, prctl, action_available, seccomp, row}
 use Rattle.sk_machine.specs.Delivering.{signal_due}
 use Rattle.sk_machine.specs.Machine.{Stepped, judged, happened, reason_of, stepped, step_of, world_after}
 use Rattle.sk_machine.specs.Lines.{Happening, is_fork, has_returned, is_fork_of, line_before, calls_added, line_of, history_after}
@@ -168,11 +169,18 @@ moved_execve : (w : World) (pid : ℕ) (r : Result Authority Errno) → Over Mov
 moved_execve w pid (Ok a) = moved_changed w pid (executing a)
 moved_execve w pid (Err e) = moved_world w
 
+moved_subreapers : (there : Bool) (w : World) (p : Performed) → Over Moved w p.world → Over Moved w (where_subreapers there w p).world
+moved_subreapers true w p moved = moved
+moved_subreapers false w p moved = moved_world w
+
 moved_prctl : (images : GivenImages) (w : World) (pid : ℕ) (which : Option PrctlOption) (call : Record) → Over Moved w (prctl images w pid which call).world
 moved_prctl images w pid (Some option.SetNoNewPrivs) call = moved_authorises w pid (after_no_new_privs call (authority_at w pid))
 moved_prctl images w pid (Some option.SetSeccomp) call = moved_authorises w pid (after_set_seccomp images call (authority_at w pid))
 moved_prctl images w pid (Some option.GetSeccomp) call = moved_world w
 moved_prctl images w pid (Some option.GetNoNewPrivs) call = over_asked Moved moves w (no_new_privs_asked call (body_of (at w pid)).creds.no_new_privs)
+moved_prctl images w pid (Some option.SetChildSubreaper) call =
+    moved_subreapers images.subreapers w (subreaper_set w pid call) (moved_changed w pid (with_subreaper (not (register call 1 == 0))))
+moved_prctl images w pid (Some option.GetChildSubreaper) call = moved_subreapers images.subreapers w (subreaper_asked w pid) (moved_world w)
 moved_prctl images w pid None call = moved_world w
 
 moved_seccomp : (images : GivenImages) (w : World) (pid : ℕ) (which : Option SeccompOperation) (call : Record) → Over Moved w (seccomp images w pid which call).world
@@ -259,17 +267,17 @@ comes_performed images w pid q call rules there =
     let p : Performed = row images w pid (syscall_of call.nr) call in
     subst (λ b. Comes w p.world pid q (b && has_returned q p.outcome)) (fork_number call.nr) (comes_row images w pid q (syscall_of call.nr) call rules there)
 
-comes_judged : (images : GivenImages) (w : World) (pid q : ℕ) (call : Record) (errno : ℕ) (a : Action) → IsWorld w → IsTrue (is_some (at w pid))
-    → CallComes w pid q (cond (performs a) (Some call) None) (judged images w pid call errno a)
-comes_judged images w pid q call errno action.Allow rules there = comes_performed images w pid q call rules there
-comes_judged images w pid q call errno action.Log rules there = comes_performed images w pid q call rules there
-comes_judged images w pid q call errno action.Trap rules there = comes_moved w (forced w pid) pid q (moved_changed w pid (λ body. record body { signals = sigsys_forced body.signals }) q)
-comes_judged images w pid q call errno action.Errno rules there = comes_moved w w pid q (moved_still (at w q))
-comes_judged images w pid q call errno action.UserNotif rules there = comes_moved w w pid q (moved_still (at w q))
-comes_judged images w pid q call errno action.Trace rules there = comes_moved w w pid q (moved_still (at w q))
-comes_judged images w pid q call errno action.KillProcess rules there = comes_moved w _ pid q (moved_ended w pid SIGSYS q)
-comes_judged images w pid q call errno action.KillThread rules there = comes_moved w _ pid q (moved_ended w pid SIGSYS q)
-comes_judged images w pid q call errno action.Unknown rules there = comes_moved w _ pid q (moved_ended w pid SIGSYS q)
+comes_judged : (images : GivenImages) (w : World) (pid q : ℕ) (call : Record) (verdict : ℕ) (a : Action) → IsWorld w → IsTrue (is_some (at w pid))
+    → CallComes w pid q (cond (performs a) (Some call) None) (judged images w pid call verdict a)
+comes_judged images w pid q call verdict action.Allow rules there = comes_performed images w pid q call rules there
+comes_judged images w pid q call verdict action.Log rules there = comes_performed images w pid q call rules there
+comes_judged images w pid q call verdict action.Trap rules there = comes_moved w (forced w pid) pid q (moved_changed w pid (λ body. record body { signals = sigsys_forced body.signals }) q)
+comes_judged images w pid q call verdict action.Errno rules there = comes_moved w w pid q (moved_still (at w q))
+comes_judged images w pid q call verdict action.UserNotif rules there = comes_moved w w pid q (moved_still (at w q))
+comes_judged images w pid q call verdict action.Trace rules there = comes_moved w w pid q (moved_still (at w q))
+comes_judged images w pid q call verdict action.KillProcess rules there = comes_moved w _ pid q (moved_ended w pid SIGSYS q)
+comes_judged images w pid q call verdict action.KillThread rules there = comes_moved w _ pid q (moved_ended w pid SIGSYS q)
+comes_judged images w pid q call verdict action.Unknown rules there = comes_moved w _ pid q (moved_ended w pid SIGSYS q)
 
 abbrev EventComes : World → Event → Stepped → ℕ → Type 0
 EventComes w event s q = Comes w s.world (pid_of event) q (is_fork_of q (event, s.answer))
@@ -278,7 +286,7 @@ comes_happened : (images : GivenImages) (w : World) (event : Event) (q : ℕ) �
 comes_happened images w (Call pid ip nr args) q rules there =
     let call : Record = record { nr = nr; ip = ip; args = args } in
     let verdict : ℕ = verdict_of (body_of (at w pid)).chain call in
-    comes_judged images w pid q call (data_part verdict) (action_of verdict) rules there
+    comes_judged images w pid q call verdict (action_of verdict) rules there
 comes_happened images w (Deliver pid) q rules there = comes_moved w _ pid q (over_delivered Moved moves w pid (unwrap_or (signal_due (at w pid)) 0) q)
 comes_happened images w (Resume pid) q rules there = comes_moved w _ pid q (over_resumed Moved moves w pid (body_of (at w pid)).waiting q)
 comes_happened images w (Fault pid) q rules there = comes_moved w _ pid q (moved_ended w pid SIGSEGV q)

@@ -6,7 +6,7 @@ use Rattle.std.proofs.lemmas.Bool.{false≢true, cond_both, or_parts, and_parts}
 use Rattle.sk_insn.specs.declared.record.Record.{Record}
 use Rattle.sk_insn.specs.declared.action.Action.{Action}
 use Rattle.sk_insn.specs.declared.action.Action.TheVariants as action
-use Rattle.sk_insn.specs.Actions.{action_of, data_part}
+use Rattle.sk_insn.specs.Actions.{action_of}
 use Rattle.sk_chain.specs.Verdict.{verdict_of}
 use Rattle.sk_creds.specs.declared.errno.Errno.{Errno}
 use Rattle.sk_creds.specs.declared.errno.Errno.TheVariants.{Esrch, Einval}
@@ -38,17 +38,18 @@ use Rattle.sk_machine.specs.declared.operation.PrctlOption.{PrctlOption}
 use Rattle.sk_machine.specs.declared.operation.PrctlOption.TheVariants as option
 use Rattle.sk_machine.specs.declared.operation.SeccompOperation.{SeccompOperation}
 use Rattle.sk_machine.specs.declared.operation.SeccompOperation.TheVariants as operation
-use Rattle.sk_machine.specs.declared.syscall.Syscall.{Syscall}
-use Rattle.sk_machine.specs.declared.syscall.Syscall.TheVariants as syscall
+use Rattle.sk_calls.specs.declared.syscall.Syscall.{Syscall}
+use Rattle.sk_calls.specs.declared.syscall.Syscall.TheVariants as syscall
 use Rattle.sk_machine.specs.Events.{pid_of}
 use Rattle.sk_machine.specs.Given.{GivenImages}
-use Rattle.sk_machine.specs.Syscalls.{low, signed, syscall_of, prctl_option_of, seccomp_operation_of}
+use Rattle.sk_calls.specs.Syscalls.{syscall_of}
+use Rattle.sk_machine.specs.Arguments.{register, low, signed, prctl_option_of, seccomp_operation_of}
 use Rattle.sk_machine.specs.Authority.{Authority, after_no_new_privs, after_set_seccomp, after_set_mode_filter}
 use Rattle.sk_machine.specs.Performed.{Performed, body_of, returns, fails, asked, changes, authority_at, authorises, waiting_in, waits}
 use Rattle.sk_machine.specs.SignalCalls.{resignals, after_sigaction, after_sigprocmask, after_sigreturn}
 use Rattle.sk_machine.specs.Killing.{after_kill}
 use Rattle.sk_machine.specs.WaitCalls.{are_wait_options, request_of, polled, wait4, polled_again, resumed}
-use Rattle.sk_machine.specs.Performing.{execve, forks, authorised, no_new_privs_asked, prctl, action_available, seccomp, row}
+use Rattle.sk_machine.specs.Performing.{execve, forks, authorised, no_new_privs_asked, subreaper_set, subreaper_asked, where_subreapers, with_subreaper, prctl, action_available, seccomp, row}
 use Rattle.sk_machine.specs.Machine.{judged, reason_of, stepped, step_of, world_after}
 use Rattle.sk_machine.specs.Lines.{Happening, is_fork_of, line_before, history_after}
 use Rattle.sk_machine_laws.specs.LineLaws.{happening}
@@ -175,11 +176,17 @@ tells_wait4 w pid call =
     (λ _. cond_both (low call 0 == 2147483648) (fails w Esrch) _ (TellsRight w pid) (λ _ child status is. nothing_told w _ pid child status is)
     (λ _. tells_polled w pid (request_of w pid call) (ready_of w pid (request_of w pid call)) refl))
 
+tells_subreapers : (there : Bool) (w : World) (pid : ℕ) (p : Performed) → TellsRight w pid p → TellsRight w pid (where_subreapers there w p)
+tells_subreapers true w pid p right = right
+tells_subreapers false w pid p right = λ child status is. nothing_told w w pid child status is
+
 tells_prctl : (images : GivenImages) (w : World) (pid : ℕ) (which : Option PrctlOption) (call : Record) → TellsRight w pid (prctl images w pid which call)
 tells_prctl images w pid (Some option.SetNoNewPrivs) call = tells_authorises w pid (after_no_new_privs call (authority_at w pid))
 tells_prctl images w pid (Some option.SetSeccomp) call = tells_authorises w pid (after_set_seccomp images call (authority_at w pid))
 tells_prctl images w pid (Some option.GetSeccomp) call = λ child status is. nothing_told w _ pid child status is
 tells_prctl images w pid (Some option.GetNoNewPrivs) call = tells_asked w pid (no_new_privs_asked call (body_of (at w pid)).creds.no_new_privs)
+tells_prctl images w pid (Some option.SetChildSubreaper) call = tells_subreapers images.subreapers w pid (subreaper_set w pid call) (λ child status is. nothing_told w _ pid child status is)
+tells_prctl images w pid (Some option.GetChildSubreaper) call = tells_subreapers images.subreapers w pid (subreaper_asked w pid) (λ child status is. nothing_told w _ pid child status is)
 tells_prctl images w pid None call = λ child status is. nothing_told w _ pid child status is
 
 tells_seccomp : (images : GivenImages) (w : World) (pid : ℕ) (which : Option SeccompOperation) (call : Record) → TellsRight w pid (seccomp images w pid which call)
@@ -217,16 +224,16 @@ tells_row images w pid (Some syscall.Prctl) call = tells_prctl images w pid (prc
 tells_row images w pid (Some syscall.Seccomp) call = tells_seccomp images w pid (seccomp_operation_of (low call 0)) call
 tells_row images w pid None call = λ child status is. nothing_told w _ pid child status is
 
-tells_judged : (images : GivenImages) (w : World) (pid : ℕ) (call : Record) (errno : ℕ) (a : Action) → TellsRight w pid (judged images w pid call errno a)
-tells_judged images w pid call errno action.Allow = tells_row images w pid (syscall_of call.nr) call
-tells_judged images w pid call errno action.Log = tells_row images w pid (syscall_of call.nr) call
-tells_judged images w pid call errno action.Trap = λ child status is. nothing_told w _ pid child status is
-tells_judged images w pid call errno action.Errno = λ child status is. nothing_told w _ pid child status is
-tells_judged images w pid call errno action.UserNotif = λ child status is. nothing_told w _ pid child status is
-tells_judged images w pid call errno action.Trace = λ child status is. nothing_told w _ pid child status is
-tells_judged images w pid call errno action.KillProcess = λ child status is. nothing_told w _ pid child status is
-tells_judged images w pid call errno action.KillThread = λ child status is. nothing_told w _ pid child status is
-tells_judged images w pid call errno action.Unknown = λ child status is. nothing_told w _ pid child status is
+tells_judged : (images : GivenImages) (w : World) (pid : ℕ) (call : Record) (verdict : ℕ) (a : Action) → TellsRight w pid (judged images w pid call verdict a)
+tells_judged images w pid call verdict action.Allow = tells_row images w pid (syscall_of call.nr) call
+tells_judged images w pid call verdict action.Log = tells_row images w pid (syscall_of call.nr) call
+tells_judged images w pid call verdict action.Trap = λ child status is. nothing_told w _ pid child status is
+tells_judged images w pid call verdict action.Errno = λ child status is. nothing_told w _ pid child status is
+tells_judged images w pid call verdict action.UserNotif = λ child status is. nothing_told w _ pid child status is
+tells_judged images w pid call verdict action.Trace = λ child status is. nothing_told w _ pid child status is
+tells_judged images w pid call verdict action.KillProcess = λ child status is. nothing_told w _ pid child status is
+tells_judged images w pid call verdict action.KillThread = λ child status is. nothing_told w _ pid child status is
+tells_judged images w pid call verdict action.Unknown = λ child status is. nothing_told w _ pid child status is
 
 still_gone : (w : World) (pid k : ℕ) (f : Body → Body) → at w k ≡ None → at (changed w pid f) k ≡ None
 still_gone w pid k f gone =
@@ -259,7 +266,7 @@ tells_stepped images w event (Some reason) child status is = nothing_told w _ (p
 tells_stepped images w (Call pid ip nr args) None child status is =
     let call : Record = record { nr = nr; ip = ip; args = args } in
     let verdict : ℕ = verdict_of (body_of (at w pid)).chain call in
-    tells_judged images w pid call (data_part verdict) (action_of verdict) child status is
+    tells_judged images w pid call verdict (action_of verdict) child status is
 tells_stepped images w (Deliver pid) None child status is = nothing_told w _ pid child status is
 tells_stepped images w (Resume pid) None child status is = tells_resumed w pid (body_of (at w pid)).waiting child status is
 tells_stepped images w (Fault pid) None child status is = nothing_told w _ pid child status is

@@ -91,31 +91,31 @@ needed due waits = cond due need.Deliver (cond waits need.Resume need.Call)
 abbrev own : Bool → Option Reason → Option Reason
 own stopped r = cond stopped (Some reason.Stopped) r
 
-call_meets : (due stopped waits ends : Bool) → IsTrue (due || (not stopped && ends))
+call_meets : (due stopped waits end_of_caller : Bool) → IsTrue (due || (not stopped && end_of_caller))
     → (own (stopped && true) (cond waits (Some reason.Waiting) (cond due (Some reason.SignalFirst) None)) ≡ None) ↔ (need.Call ≡ needed due waits)
-call_meets true true waits ends runs = (λ is. cc, λ is. cc)
-call_meets true false true ends runs = (λ is. cc, λ is. cc)
-call_meets true false false ends runs = (λ is. cc, λ is. cc)
-call_meets false true waits ends runs = absurd (false≢true runs)
-call_meets false false true ends runs = (λ is. cc, λ is. cc)
-call_meets false false false ends runs = (λ is. refl, λ is. refl)
+call_meets true true waits end_of_caller runs = (λ is. cc, λ is. cc)
+call_meets true false true end_of_caller runs = (λ is. cc, λ is. cc)
+call_meets true false false end_of_caller runs = (λ is. cc, λ is. cc)
+call_meets false true waits end_of_caller runs = absurd (false≢true runs)
+call_meets false false true end_of_caller runs = (λ is. cc, λ is. cc)
+call_meets false false false end_of_caller runs = (λ is. refl, λ is. refl)
 
-resumption_meets : (due stopped waits ends : Bool) → IsTrue (due || (not stopped && ends))
+resumption_meets : (due stopped waits end_of_caller : Bool) → IsTrue (due || (not stopped && end_of_caller))
     → (own (stopped && true) (cond (not waits) (Some reason.NothingWaits) (cond due (Some reason.SignalFirst) None)) ≡ None) ↔ (need.Resume ≡ needed due waits)
-resumption_meets true true waits ends runs = (λ is. cc, λ is. cc)
-resumption_meets true false true ends runs = (λ is. cc, λ is. cc)
-resumption_meets true false false ends runs = (λ is. cc, λ is. cc)
-resumption_meets false true waits ends runs = absurd (false≢true runs)
-resumption_meets false false true ends runs = (λ is. refl, λ is. refl)
-resumption_meets false false false ends runs = (λ is. cc, λ is. cc)
+resumption_meets true true waits end_of_caller runs = (λ is. cc, λ is. cc)
+resumption_meets true false true end_of_caller runs = (λ is. cc, λ is. cc)
+resumption_meets true false false end_of_caller runs = (λ is. cc, λ is. cc)
+resumption_meets false true waits end_of_caller runs = absurd (false≢true runs)
+resumption_meets false false true end_of_caller runs = (λ is. refl, λ is. refl)
+resumption_meets false false false end_of_caller runs = (λ is. cc, λ is. cc)
 
-delivery_meets : (due stopped waits ends : Bool) → IsTrue (due || (not stopped && ends))
+delivery_meets : (due stopped waits end_of_caller : Bool) → IsTrue (due || (not stopped && end_of_caller))
     → (own (stopped && not due) (cond due None (Some reason.NothingWaits)) ≡ None) ↔ (need.Deliver ≡ needed due waits)
-delivery_meets true true waits ends runs = (λ is. refl, λ is. refl)
-delivery_meets true false waits ends runs = (λ is. refl, λ is. refl)
-delivery_meets false true waits ends runs = absurd (false≢true runs)
-delivery_meets false false true ends runs = (λ is. cc, λ is. cc)
-delivery_meets false false false ends runs = (λ is. cc, λ is. cc)
+delivery_meets true true waits end_of_caller runs = (λ is. refl, λ is. refl)
+delivery_meets true false waits end_of_caller runs = (λ is. refl, λ is. refl)
+delivery_meets false true waits end_of_caller runs = absurd (false≢true runs)
+delivery_meets false false true end_of_caller runs = (λ is. cc, λ is. cc)
+delivery_meets false false false end_of_caller runs = (λ is. cc, λ is. cc)
 
 own_meets : (w : World) (event : Event) → IsTrue (is_some (signal_due (at w (pid_of event))) || (not (is_stopped (at w (pid_of event))) && would_end w (pid_of event)))
     → (own (is_stopped (at w (pid_of event)) && not (is_kill w event)) (own_reason w event) ≡ None) ↔ (need_met_by event ≡ need_of w (pid_of event))
@@ -163,10 +163,10 @@ idle_parts true o b idle going there living = absurd (false≢true (sym going))
 idle_parts false None b idle going there living = absurd (false≢true (sym there))
 idle_parts false (Some p) b idle going there living = sym (ap (λ e. not e && b) living) ∙ idle
 
-idle_waits : (due stopped ends : Bool) → (due || (not stopped && ends)) ≡ false → (stopped && true) ≡ false → ends ≡ false
-idle_waits true stopped ends idle moves = absurd (false≢true (sym idle))
-idle_waits false true ends idle moves = absurd (false≢true (sym moves))
-idle_waits false false ends idle moves = idle
+idle_waits : (due stopped end_of_caller : Bool) → (due || (not stopped && end_of_caller)) ≡ false → (stopped && true) ≡ false → end_of_caller ≡ false
+idle_waits true stopped end_of_caller idle moves = absurd (false≢true (sym idle))
+idle_waits false true end_of_caller idle moves = absurd (false≢true (sym moves))
+idle_waits false false end_of_caller idle moves = idle
 
 -- the event is not possible for this reason, or does nothing
 abbrev Idles : GivenImages → World → Event → Option Reason → Type 0

@@ -4,3 +4,4 @@ pub mod LineLaws
 pub mod FilterLaws
 pub mod TellingLaws
 pub mod ConfinementLaws
+pub mod RunLaws

@@ -1,11 +1,12 @@
 -- Laws on the process machine: what leaves the world as it is, and that every event keeps its rules.
 use Rattle.std.specs.Prelude.{ℕ, negsuc, ◌≡◌, ◌≢◌, Bool, true, false, IsTrue, List, Some, None}
+use Rattle.std.specs.Option.{is_some}
 use Rattle.sk_insn.specs.declared.record.Record.{Record}
 use Rattle.sk_insn.specs.declared.action.Action.{Action}
 use Rattle.sk_insn.specs.declared.action.Action.TheVariants as action
 use Rattle.sk_insn.specs.Actions.{action_of}
 use Rattle.sk_signal.specs.declared.number.TheConstants.{SIGSYS}
-use Rattle.sk_world.specs.World.{World, at, is_alive, opening}
+use Rattle.sk_world.specs.World.{World, at, is_alive, is_halted, opening}
 use Rattle.sk_world.specs.Rules.{IsWorld}
 use Rattle.sk_world.specs.Sending.{forced}
 use Rattle.sk_world.specs.Ending.{ended}
@@ -20,7 +21,7 @@ use Rattle.sk_machine.specs.Given.{GivenImages}
 use Rattle.sk_machine.specs.Performing.{performed}
 use Rattle.sk_machine.specs.WaitCalls.{resumed}
 use Rattle.sk_machine.specs.Delivering.{delivered}
-use Rattle.sk_machine.specs.Machine.{reason_of, step_of, world_after}
+use Rattle.sk_machine.specs.Machine.{reason_of, step_of, halted_of, world_after}
 
 -- an event that is not possible answers with the first reason, and changes nothing
 abbrev pub ImpossibleChangesNothing : Type 0
@@ -106,3 +107,7 @@ RunKeepsRules = (images : GivenImages) (w : World) (events : List Event) → IsW
 -- so the rules hold of every world that the system can come to
 abbrev pub ReachedHasRules : Type 0
 ReachedHasRules = (images : GivenImages) (events : List Event) → IsWorld (world_after images opening events)
+
+-- the status of a halted system is there exactly where it has halted
+abbrev pub HaltHasStatus : Type 0
+HaltHasStatus = (w : World) → is_some (halted_of w) ≡ is_halted w

@@ -2,9 +2,10 @@
 //! contract of each is the law, and its statement stands in `specs/`.
 #![tactic(auto)]
 
-ghost use Rattle.sk_machine_laws.specs.MachineLaws.{ImpossibleChangesNothing, PossibleHappens, RefusedChangesNothing, TrapForcesSigsys, KillEndsCaller, FailedChangesNothing, CallKeepsRules, DeliveryKeepsRules, ResumptionKeepsRules, EventKeepsRules, RunKeepsRules, ReachedHasRules};
+ghost use Rattle.sk_machine_laws.specs.MachineLaws.{ImpossibleChangesNothing, PossibleHappens, RefusedChangesNothing, TrapForcesSigsys, KillEndsCaller, FailedChangesNothing, HaltHasStatus, CallKeepsRules, DeliveryKeepsRules, ResumptionKeepsRules, EventKeepsRules, RunKeepsRules, ReachedHasRules};
 ghost use Rattle.sk_machine_laws.specs.TellingLaws.{EndIsToldToParent, EndIsToldOnce};
 ghost use Rattle.sk_machine_laws.specs.TurnLaws.{NextIsTurn, NobodysTurn, RunnableHasEvent, IdleDoesNothing, EndIsFinal};
+ghost use Rattle.sk_machine_laws.specs.RunLaws.{RunsAreLawful};
 ghost use Rattle.sk_machine_laws.specs.ConfinementLaws.{EventIsConfined, ConfinementStays, LineIsConfined};
 ghost use Rattle.sk_machine_laws.specs.FilterLaws.{EventKeepsAccepted, RunKeepsAccepted, AcceptedReturn, AcceptedAreBounded, FiltersInForceAreAccepted, StepsInForceAreBounded};
 ghost use Rattle.sk_machine_laws.specs.LineLaws.{EventChangesAuthority, AuthorityIsOfLine, LineComesFromInit, LineKeepsFilters, VerdictIsOfLine, PerformedMeetsNoRefusal};
@@ -18,6 +19,7 @@ pub fn refusals_change_nothing()
     ensures trapped { TrapForcesSigsys }
     ensures killed { KillEndsCaller }
     ensures failed { FailedChangesNothing }
+    ensures halt { HaltHasStatus }
 {}
 
 /// The rules of the world hold of every world that the system comes to.
@@ -76,4 +78,9 @@ pub fn turns_go_to_the_runnable()
     ensures runnable { RunnableHasEvent }
     ensures idle { IdleDoesNothing }
     ensures end { EndIsFinal }
+{}
+
+/// What the laws say of any run, in a form that a kernel can promise of the runs that it makes.
+pub fn runs_are_lawful()
+    ensures law { RunsAreLawful }
 {}

@@ -3,7 +3,9 @@
 use Rattle.std.specs.Prelude.{ℕ, ◌≡◌, ◌+◌, ◌-◌, ◌^◌, neg_ℤ, pos, true, false, List, [], ◌∷◌, map}
 use Rattle.sk_insn.specs.Instructions.{image_of}
 use Rattle.sk_creds.specs.declared.errno.Errno.{Errno}
-use Rattle.sk_creds.specs.Errno.{number_of}
+use Rattle.sk_creds.specs.Errno.{number_of as errno_number}
+use Rattle.sk_calls.specs.declared.syscall.Syscall.TheVariants as syscall
+use Rattle.sk_calls.specs.Syscalls.{number_of}
 use Rattle.sk_signal.specs.SignalSet.{signals_of}
 use Rattle.sk_world.specs.World.{World}
 use Rattle.sk_machine.specs.declared.event.Event.{Event}
@@ -23,11 +25,15 @@ use Rattle.sk_machine.specs.Machine.{answers_of, world_after}
 -- ---- what is declared
 -- nothing
 abbrev pub nothing_given : GivenImages
-nothing_given = record { filters = []; programs = [] }
+nothing_given = record { filters = []; programs = []; subreapers = false }
 
 -- these filters, and these programs
 abbrev pub given : List (List ℕ) → List Mark → GivenImages
-given filters programs = record { filters = filters; programs = programs }
+given filters programs = record { filters = filters; programs = programs; subreapers = false }
+
+-- the same, and subreapers
+abbrev pub given_with_subreapers : List (List ℕ) → List Mark → GivenImages
+given_with_subreapers filters programs = record { filters = filters; programs = programs; subreapers = true }
 
 -- a program of the superuser, and a set-user-ID program of this owner
 abbrev pub plain : Mark
@@ -64,107 +70,107 @@ only n = 2 ^ (n - 1)
 
 -- rt_sigaction: sigaction(2). The action is 0 for the default, 1 to ignore, n + 2 for handler n
 abbrev pub sigaction : ℕ → ℕ → ℕ → ℕ → Event
-sigaction pid n action mask = call pid 13 n action mask
+sigaction pid n action mask = call pid (number_of syscall.RtSigaction) n action mask
 
 -- rt_sigprocmask: sigprocmask(2)
 abbrev pub sigprocmask : ℕ → ℕ → ℕ → Event
-sigprocmask pid how set = call pid 14 how set 0
+sigprocmask pid how set = call pid (number_of syscall.RtSigprocmask) how set 0
 
 -- rt_sigreturn: sigreturn(2)
 abbrev pub sigreturn : ℕ → Event
-sigreturn pid = call pid 15 0 0 0
+sigreturn pid = call pid (number_of syscall.RtSigreturn) 0 0 0
 
 -- sched_yield(2)
 abbrev pub sched_yield : ℕ → Event
-sched_yield pid = call pid 24 0 0 0
+sched_yield pid = call pid (number_of syscall.SchedYield) 0 0 0
 
 -- pause(2)
 abbrev pub pause : ℕ → Event
-pause pid = call pid 34 0 0 0
+pause pid = call pid (number_of syscall.Pause) 0 0 0
 
 -- getpid(2)
 abbrev pub getpid : ℕ → Event
-getpid pid = call pid 39 0 0 0
+getpid pid = call pid (number_of syscall.Getpid) 0 0 0
 
 -- fork(2)
 abbrev pub fork : ℕ → Event
-fork pid = call pid 57 0 0 0
+fork pid = call pid (number_of syscall.Fork) 0 0 0
 
 -- execve(2), of a program by its place
 abbrev pub execve : ℕ → ℕ → Event
-execve pid program = call pid 59 program 0 0
+execve pid program = call pid (number_of syscall.Execve) program 0 0
 
 -- _exit(2)
 abbrev pub exit : ℕ → ℕ → Event
-exit pid code = call pid 60 code 0 0
+exit pid code = call pid (number_of syscall.Exit) code 0 0
 
 -- wait4(2)
 abbrev pub wait4 : ℕ → ℕ → ℕ → Event
-wait4 pid who options = call pid 61 who 0 options
+wait4 pid who options = call pid (number_of syscall.Wait4) who 0 options
 
 -- kill(2)
 abbrev pub kill : ℕ → ℕ → ℕ → Event
-kill pid who n = call pid 62 who n 0
+kill pid who n = call pid (number_of syscall.Kill) who n 0
 
 -- getuid(2)
 abbrev pub getuid : ℕ → Event
-getuid pid = call pid 102 0 0 0
+getuid pid = call pid (number_of syscall.Getuid) 0 0 0
 
 -- setuid(2)
 abbrev pub setuid : ℕ → ℕ → Event
-setuid pid id = call pid 105 id 0 0
+setuid pid id = call pid (number_of syscall.Setuid) id 0 0
 
 -- geteuid(2)
 abbrev pub geteuid : ℕ → Event
-geteuid pid = call pid 107 0 0 0
+geteuid pid = call pid (number_of syscall.Geteuid) 0 0 0
 
 -- setpgid(2)
 abbrev pub setpgid : ℕ → ℕ → ℕ → Event
-setpgid pid target group = call pid 109 target group 0
+setpgid pid target group = call pid (number_of syscall.Setpgid) target group 0
 
 -- getppid(2)
 abbrev pub getppid : ℕ → Event
-getppid pid = call pid 110 0 0 0
+getppid pid = call pid (number_of syscall.Getppid) 0 0 0
 
 -- getpgrp(2)
 abbrev pub getpgrp : ℕ → Event
-getpgrp pid = call pid 111 0 0 0
+getpgrp pid = call pid (number_of syscall.Getpgrp) 0 0 0
 
 -- setsid(2)
 abbrev pub setsid : ℕ → Event
-setsid pid = call pid 112 0 0 0
+setsid pid = call pid (number_of syscall.Setsid) 0 0 0
 
 -- setresuid(2)
 abbrev pub setresuid : ℕ → ℕ → ℕ → ℕ → Event
-setresuid pid real effective saved = call pid 117 real effective saved
+setresuid pid real effective saved = call pid (number_of syscall.Setresuid) real effective saved
 
 -- getresuid(2)
 abbrev pub getresuid : ℕ → Event
-getresuid pid = call pid 118 0 0 0
+getresuid pid = call pid (number_of syscall.Getresuid) 0 0 0
 
 -- getpgid(2)
 abbrev pub getpgid : ℕ → ℕ → Event
-getpgid pid target = call pid 121 target 0 0
+getpgid pid target = call pid (number_of syscall.Getpgid) target 0 0
 
 -- getsid(2)
 abbrev pub getsid : ℕ → ℕ → Event
-getsid pid target = call pid 124 target 0 0
+getsid pid target = call pid (number_of syscall.Getsid) target 0 0
 
 -- rt_sigpending: sigpending(2)
 abbrev pub sigpending : ℕ → Event
-sigpending pid = call pid 127 0 0 0
+sigpending pid = call pid (number_of syscall.RtSigpending) 0 0 0
 
 -- prctl(2)
 abbrev pub prctl : ℕ → ℕ → ℕ → ℕ → Event
-prctl pid option a b = call pid 157 option a b
+prctl pid option a b = call pid (number_of syscall.Prctl) option a b
 
 -- exit_group(2)
 abbrev pub exit_group : ℕ → ℕ → Event
-exit_group pid code = call pid 231 code 0 0
+exit_group pid code = call pid (number_of syscall.ExitGroup) code 0 0
 
 -- seccomp(2), with the image by its place
 abbrev pub seccomp : ℕ → ℕ → ℕ → ℕ → Event
-seccomp pid operation flags image = call pid 317 operation flags image
+seccomp pid operation flags image = call pid (number_of syscall.Seccomp) operation flags image
 
 -- ---- answers
 -- what a call that was allowed came to
@@ -177,7 +183,7 @@ gives n = allowed (outcome.Returned (pos n))
 
 -- it returned this error, negated
 abbrev pub fails : Errno → Answer
-fails e = allowed (outcome.Returned (neg_ℤ (pos (number_of e))))
+fails e = allowed (outcome.Returned (neg_ℤ (pos (errno_number e))))
 
 -- it waits
 abbrev pub waits : Answer
@@ -209,7 +215,7 @@ resumes o = answer.Resumed o
 
 -- it ends with this error, negated
 abbrev pub resumes_failing : Errno → Answer
-resumes_failing e = answer.Resumed (outcome.Returned (neg_ℤ (pos (number_of e))))
+resumes_failing e = answer.Resumed (outcome.Returned (neg_ℤ (pos (errno_number e))))
 
 -- signal n came to this
 abbrev pub delivers : ℕ → Effect → Answer

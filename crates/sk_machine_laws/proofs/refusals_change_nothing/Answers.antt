@@ -1,4 +1,4 @@
-use Rattle.sk_machine_laws.proofs.Unchanged.{impossible_changes_nothing, possible_happens, refused_changes_nothing, trap_forces_sigsys, kill_ends_caller, failed_changes_nothing}
+use Rattle.sk_machine_laws.proofs.Unchanged.{impossible_changes_nothing, possible_happens, refused_changes_nothing, trap_forces_sigsys, kill_ends_caller, failed_changes_nothing, halt_has_status}
 use Rattle.sk_machine_laws.proofs.refusals_change_nothing.Goals as goal
 
 pub returns : goal.returns
@@ -9,4 +9,5 @@ returns c = record {
   trapped = trap_forces_sigsys;
   killed = kill_ends_caller;
   failed = failed_changes_nothing;
+  halt = halt_has_status;
 }
