@@ -14,36 +14,39 @@ use Rattle.sk_world.specs.declared.process.Body.{Body}
 use Rattle.sk_world.specs.declared.process.Proc.{Proc}
 use Rattle.sk_world.specs.World.{World, at, has_ended, has_stopped, is_stopped, is_alive, parent_of, stored, body_changed, changed}
 use Rattle.sk_world.specs.Sending.{continued, signalled, generated_at, sent}
+use Rattle.sk_world.specs.Subreapers.{new_parent}
 use Rattle.sk_world.specs.Ending.{ignores_children, handed_on, with_children_handed_on, has_zombie_child, reparented, zombie, died, ended}
 use Rattle.sk_world.specs.ChangeLaws.{EndHandsChildrenOn, EndLeavesZombie}
 use Rattle.sk_world.proofs.Stored.{everywhere, at_here}
+use Rattle.sk_world.proofs.Ancestors.{new_parent_other}
 use Rattle.sk_world.proofs.KeptEnd.{handed_cases, handed_at}
 use Rattle.sk_world.proofs.Locality.{sent_touches, sigchld_only, reparented_touches, died_touches, parent_reparented}
 
 -- a child is handed on
-handed_child : (pid : ℕ) (leaves_none : Bool) (p : Proc) → p.links.parent ≡ pid
-    → handed_on pid INIT leaves_none p ≡ cond (leaves_none && has_ended p.body.life) None (Some (record p { links = record p.links { parent = INIT } }))
-handed_child pid leaves_none p is =
-    ap (λ b. cond (not b) (Some p) (cond (leaves_none && has_ended p.body.life) None (Some (record p { links = record p.links { parent = INIT } })))) (eq-eqb p.links.parent pid is)
+handed_child : (pid parent : ℕ) (leaves_none : Bool) (p : Proc) → p.links.parent ≡ pid
+    → handed_on pid parent leaves_none p ≡ cond (leaves_none && has_ended p.body.life) None (Some (record p { links = record p.links { parent = parent } }))
+handed_child pid parent leaves_none p is =
+    ap (λ b. cond (not b) (Some p) (cond (leaves_none && has_ended p.body.life) None (Some (record p { links = record p.links { parent = parent } })))) (eq-eqb p.links.parent pid is)
 
-reparented_child : (w : World) (pid q : ℕ) (p : Proc) → q ≢ INIT → at w q ≡ Some p → p.links.parent ≡ pid
-    → at (reparented w pid) q ≡ cond (ignores_children (at w INIT) && has_ended p.body.life) None (Some (record p { links = record p.links { parent = INIT } }))
+reparented_child : (w : World) (pid q : ℕ) (p : Proc) → q ≢ new_parent w pid → at w q ≡ Some p → p.links.parent ≡ pid
+    → at (reparented w pid) q ≡ cond (ignores_children (at w (new_parent w pid)) && has_ended p.body.life) None (Some (record p { links = record p.links { parent = new_parent w pid } }))
 reparented_child w pid q p ne is child =
+    let parent : ℕ = new_parent w pid in
     let handed : World = with_children_handed_on w pid in
-    let leaves_none : Bool = ignores_children (at w INIT) in
-    let same : at handed q ≡ cond (leaves_none && has_ended p.body.life) None (Some (record p { links = record p.links { parent = INIT } })) =
-    handed_at w pid q ∙ ap (option_and_then (handed_on pid INIT leaves_none)) is ∙ handed_child pid leaves_none p child in
-    cond_both (has_zombie_child w pid && not leaves_none) (sent handed INIT SIGCHLD) handed
-    (λ v. at v q ≡ cond (leaves_none && has_ended p.body.life) None (Some (record p { links = record p.links { parent = INIT } })))
-    (λ _. sent_touches handed INIT SIGCHLD q ne sigchld_only ∙ same) (λ _. same)
+    let leaves_none : Bool = ignores_children (at w parent) in
+    let same : at handed q ≡ cond (leaves_none && has_ended p.body.life) None (Some (record p { links = record p.links { parent = parent } })) =
+    handed_at w pid q ∙ ap (option_and_then (handed_on pid parent leaves_none)) is ∙ handed_child pid parent leaves_none p child in
+    cond_both (has_zombie_child w pid && not leaves_none) (sent handed parent SIGCHLD) handed
+    (λ v. at v q ≡ cond (leaves_none && has_ended p.body.life) None (Some (record p { links = record p.links { parent = parent } })))
+    (λ _. sent_touches handed parent SIGCHLD q ne sigchld_only ∙ same) (λ _. same)
 
 pub ended_later : (w : World) (pid status : ℕ) → pid ≢ INIT → ended w pid status ≡ died (reparented w pid) pid status
 ended_later w pid status ne = cond-false (pid == INIT) (changed w INIT (λ body. record body { life = Zombie status })) (died (reparented w pid) pid status) (ne_eqb pid INIT ne)
 
 pub children_handed_on : EndHandsChildrenOn
-children_handed_on w pid status q p alive ne is child other not_init not_parent =
-    let apart : q ≢ parent_of (at (reparented w pid) pid) = λ e. elim (parent_reparented w pid alive) [ inl is ↦ not_parent (e ∙ is) | inr is ↦ not_init (e ∙ is) ] in
-    ap (λ v. at v q) (ended_later w pid status ne) ∙ died_touches (reparented w pid) pid status q other apart ∙ reparented_child w pid q p not_init is child
+children_handed_on w pid status q p alive ne is child other not_new not_parent =
+    let apart : q ≢ parent_of (at (reparented w pid) pid) = λ e. elim (parent_reparented w pid alive) [ inl is ↦ not_parent (e ∙ is) | inr is ↦ not_new (e ∙ is) ] in
+    ap (λ v. at v q) (ended_later w pid status ne) ∙ died_touches (reparented w pid) pid status q other apart ∙ reparented_child w pid q p not_new is child
 
 -- a signal changes no disposition
 generated_keeps : (n : ℕ) (init : Bool) (s : SignalState) → (generated n init s).dispositions ≡ s.dispositions
@@ -76,18 +79,19 @@ sent_ignores w k n q =
     cond_both ((n == SIGCONT) && is_stopped (at w k)) (generated_at (generated_at w k n) (parent_of (at w k)) SIGCHLD) (generated_at w k n) (λ v. ignores_children (at v q) ≡ ignores_children (at w q))
     (λ _. generated_ignores (generated_at w k n) (parent_of (at w k)) SIGCHLD q ∙ generated_ignores w k n q) (λ _. generated_ignores w k n q)
 
-handed_ignores : (pid : ℕ) (leaves_none : Bool) (o : Option Proc) → IsTrue (is_alive o) → ignores_children (option_and_then (handed_on pid INIT leaves_none) o) ≡ ignores_children o
-handed_ignores pid leaves_none None alive = refl
-handed_ignores pid leaves_none (Some p) alive =
-    handed_cases pid leaves_none p (λ x. ignores_children x ≡ ignores_children (Some p)) (λ _. refl)
+handed_ignores : (pid parent : ℕ) (leaves_none : Bool) (o : Option Proc) → IsTrue (is_alive o) → ignores_children (option_and_then (handed_on pid parent leaves_none) o) ≡ ignores_children o
+handed_ignores pid parent leaves_none None alive = refl
+handed_ignores pid parent leaves_none (Some p) alive =
+    handed_cases pid parent leaves_none p (λ x. ignores_children x ≡ ignores_children (Some p)) (λ _. refl)
     (λ _ ended. absurd (false≢true (sym (not-true (has_ended p.body.life) alive) ∙ ended))) (λ _. refl)
 
 reparented_ignores : (w : World) (pid k : ℕ) → IsTrue (is_alive (at w k)) → ignores_children (at (reparented w pid) k) ≡ ignores_children (at w k)
 reparented_ignores w pid k alive =
+    let parent : ℕ = new_parent w pid in
     let handed : World = with_children_handed_on w pid in
-    let same : ignores_children (at handed k) ≡ ignores_children (at w k) = ap ignores_children (handed_at w pid k) ∙ handed_ignores pid (ignores_children (at w INIT)) (at w k) alive in
-    cond_both (has_zombie_child w pid && not (ignores_children (at w INIT))) (sent handed INIT SIGCHLD) handed (λ v. ignores_children (at v k) ≡ ignores_children (at w k))
-    (λ _. sent_ignores handed INIT SIGCHLD k ∙ same) (λ _. same)
+    let same : ignores_children (at handed k) ≡ ignores_children (at w k) = ap ignores_children (handed_at w pid k) ∙ handed_ignores pid parent (ignores_children (at w parent)) (at w k) alive in
+    cond_both (has_zombie_child w pid && not (ignores_children (at w parent))) (sent handed parent SIGCHLD) handed (λ v. ignores_children (at v k) ≡ ignores_children (at w k))
+    (λ _. sent_ignores handed parent SIGCHLD k ∙ same) (λ _. same)
 
 -- a process without children, and which is not its own parent, ends
 died_leaves : (w : World) (pid status : ℕ) (p : Proc) → at w pid ≡ Some p → p.links.parent ≢ pid
@@ -107,7 +111,7 @@ died_leaves w pid status p is ne =
 
 pub zombie_left : EndLeavesZombie
 zombie_left w pid status p rules going ne is alive own =
-    let here : at (reparented w pid) pid ≡ Some p = reparented_touches w pid pid ne (λ e. own (sym (ap parent_of is) ∙ e)) ∙ is in
+    let here : at (reparented w pid) pid ≡ Some p = reparented_touches w pid pid (λ e. new_parent_other w pid ne (sym e)) (λ e. own (sym (ap parent_of is) ∙ e)) ∙ is in
     let parent_alive : IsTrue (is_alive (at w p.links.parent)) = ap (λ k. is_alive (at w k)) (sym (ap parent_of is)) ∙ rules.parents going pid ne (ap is_some is) in
     ap (λ v. at v pid) (ended_later w pid status ne)
     ∙ died_leaves (reparented w pid) pid status p here own

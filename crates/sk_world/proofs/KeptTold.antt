@@ -28,7 +28,7 @@ pub match_parent : (caller : ℕ) (request : Request) (pid : ℕ) (o : Option Pr
 match_parent caller request pid None is = absurd (false≢true is)
 match_parent caller request pid (Some p) is = eqb-true p.links.parent caller (and_parts (p.links.parent == caller) (is_asked_for request.who pid p) is).0
 
-no_parent : (o : Option Proc) → IsTrue (is_init o) → parent_of o ≡ 0
+pub no_parent : (o : Option Proc) → IsTrue (is_init o) → parent_of o ≡ 0
 no_parent None init = refl
 no_parent (Some p) init = eqb-true p.links.parent 0 (and_parts (p.links.parent == 0) _ init).0
 

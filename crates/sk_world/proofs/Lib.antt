@@ -4,6 +4,7 @@ pub mod Children
 pub mod Stored
 pub mod Kept
 pub mod KeptFork
+pub mod Ancestors
 pub mod KeptEnd
 pub mod KeptTold
 pub mod Locality

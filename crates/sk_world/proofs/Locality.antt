@@ -15,6 +15,7 @@ use Rattle.sk_world.specs.World.{World, at, has_ended, has_stopped, is_stopped, 
 use Rattle.sk_world.specs.Numbers.{fresh_of}
 use Rattle.sk_world.specs.Sending.{continued, signalled, generated_at, sent}
 use Rattle.sk_world.specs.Forking.{has_room, child_of}
+use Rattle.sk_world.specs.Subreapers.{new_parent}
 use Rattle.sk_world.specs.Ending.{ignores_children, handed_on, with_children_handed_on, has_zombie_child, reparented, zombie, died}
 use Rattle.sk_world.specs.Waits.{without_note}
 use Rattle.sk_world.specs.ChangeLaws.{SignalIsNotQueued, SignalTouches, ForceTouches, without_signals, unsignalled, SignalKeepsAllElse, ForceKeepsAllElse, TellingTouches, ForkTouches, EndTouches, EndLeavesNoOrphan, ForkGivesChild}
@@ -134,16 +135,17 @@ forked_child w caller p there room =
 pub sigchld_only : {A : Type 0} → SIGCHLD ≡ SIGCONT → A
 sigchld_only is = absurd (omega arith)
 
-stays : (dying : ℕ) (leaves_none : Bool) (o : Option Proc) → parent_of o ≢ dying → option_and_then (handed_on dying INIT leaves_none) o ≡ o
-stays dying leaves_none None other = refl
-stays dying leaves_none (Some p) other = handed_cases dying leaves_none p (λ x. x ≡ Some p) (λ _. refl) (λ is _. absurd (other is)) (λ is. absurd (other is))
+stays : (dying parent : ℕ) (leaves_none : Bool) (o : Option Proc) → parent_of o ≢ dying → option_and_then (handed_on dying parent leaves_none) o ≡ o
+stays dying parent leaves_none None other = refl
+stays dying parent leaves_none (Some p) other = handed_cases dying parent leaves_none p (λ x. x ≡ Some p) (λ _. refl) (λ is _. absurd (other is)) (λ is. absurd (other is))
 
-pub reparented_touches : (w : World) (pid q : ℕ) → q ≢ INIT → parent_of (at w q) ≢ pid → at (reparented w pid) q ≡ at w q
+pub reparented_touches : (w : World) (pid q : ℕ) → q ≢ new_parent w pid → parent_of (at w q) ≢ pid → at (reparented w pid) q ≡ at w q
 reparented_touches w pid q ne other =
+    let parent : ℕ = new_parent w pid in
     let handed : World = with_children_handed_on w pid in
-    let same : at handed q ≡ at w q = handed_at w pid q ∙ stays pid (ignores_children (at w INIT)) (at w q) other in
-    cond_both (has_zombie_child w pid && not (ignores_children (at w INIT))) (sent handed INIT SIGCHLD) handed (λ v. at v q ≡ at w q)
-    (λ _. sent_touches handed INIT SIGCHLD q ne sigchld_only ∙ same) (λ _. same)
+    let same : at handed q ≡ at w q = handed_at w pid q ∙ stays pid parent (ignores_children (at w parent)) (at w q) other in
+    cond_both (has_zombie_child w pid && not (ignores_children (at w parent))) (sent handed parent SIGCHLD) handed (λ v. at v q ≡ at w q)
+    (λ _. sent_touches handed parent SIGCHLD q ne sigchld_only ∙ same) (λ _. same)
 
 pub died_touches : (w : World) (pid status q : ℕ) → q ≢ pid → q ≢ parent_of (at w pid) → at (died w pid status) q ≡ at w q
 died_touches w pid status q ne not_parent =
@@ -160,23 +162,24 @@ parent_is (Some p) = refl
 looks_sent : (w : World) (k n q : ℕ) → parent_of (at (sent w k n) q) ≡ parent_of (at w q)
 looks_sent w k n q = parent_is (at (sent w k n) q) ∙ ap parent_of (sent_leaves w k n q) ∙ sym (parent_is (at w q))
 
-pub parent_reparented : (w : World) (pid : ℕ) → IsTrue (is_alive (at w pid)) → (parent_of (at (reparented w pid) pid) ≡ parent_of (at w pid)) ⊎ (parent_of (at (reparented w pid) pid) ≡ INIT)
+pub parent_reparented : (w : World) (pid : ℕ) → IsTrue (is_alive (at w pid)) → (parent_of (at (reparented w pid) pid) ≡ parent_of (at w pid)) ⊎ (parent_of (at (reparented w pid) pid) ≡ new_parent w pid)
 parent_reparented w pid alive =
+    let parent : ℕ = new_parent w pid in
     let handed : World = with_children_handed_on w pid in
-    let leaves_none : Bool = ignores_children (at w INIT) in
-    let there : IsTrue (is_some (option_and_then (handed_on pid INIT leaves_none) (at w pid))) = alive_is_there _ (handed_alive pid leaves_none (at w pid) alive) in
-    let same : parent_of (at (reparented w pid) pid) ≡ parent_of (option_and_then (handed_on pid INIT leaves_none) (at w pid)) =
-    cond_both (has_zombie_child w pid && not leaves_none) (sent handed INIT SIGCHLD) handed (λ v. parent_of (at v pid) ≡ parent_of (option_and_then (handed_on pid INIT leaves_none) (at w pid)))
-    (λ _. looks_sent handed INIT SIGCHLD pid ∙ ap parent_of (handed_at w pid pid)) (λ _. ap parent_of (handed_at w pid pid)) in
-    elim (handed_parent pid leaves_none (at w pid) there) [ inl is ↦ inl (same ∙ is) | inr is ↦ inr (same ∙ is) ]
+    let leaves_none : Bool = ignores_children (at w parent) in
+    let there : IsTrue (is_some (option_and_then (handed_on pid parent leaves_none) (at w pid))) = alive_is_there _ (handed_alive pid parent leaves_none (at w pid) alive) in
+    let same : parent_of (at (reparented w pid) pid) ≡ parent_of (option_and_then (handed_on pid parent leaves_none) (at w pid)) =
+    cond_both (has_zombie_child w pid && not leaves_none) (sent handed parent SIGCHLD) handed (λ v. parent_of (at v pid) ≡ parent_of (option_and_then (handed_on pid parent leaves_none) (at w pid)))
+    (λ _. looks_sent handed parent SIGCHLD pid ∙ ap parent_of (handed_at w pid pid)) (λ _. ap parent_of (handed_at w pid pid)) in
+    elim (handed_parent pid parent leaves_none (at w pid) there) [ inl is ↦ inl (same ∙ is) | inr is ↦ inr (same ∙ is) ]
 
 pub ended_touches : EndTouches
-ended_touches w pid status q alive ne not_init not_parent not_child =
+ended_touches w pid status q alive ne not_new not_parent not_child =
     cond_both (pid == INIT) (changed w INIT _) (died (reparented w pid) pid status) (λ v. at v q ≡ at w q)
-    (λ is. at_other w INIT _ q not_init)
+    (λ is. at_other w INIT _ q (λ e. ne (e ∙ sym (eqb-true pid INIT is))))
     (λ _.
-    let apart : q ≢ parent_of (at (reparented w pid) pid) = λ e. elim (parent_reparented w pid alive) [ inl is ↦ not_parent (e ∙ is) | inr is ↦ not_init (e ∙ is) ] in
-    died_touches (reparented w pid) pid status q ne apart ∙ reparented_touches w pid q not_init not_child)
+    let apart : q ≢ parent_of (at (reparented w pid) pid) = λ e. elim (parent_reparented w pid alive) [ inl is ↦ not_parent (e ∙ is) | inr is ↦ not_new (e ∙ is) ] in
+    died_touches (reparented w pid) pid status q ne apart ∙ reparented_touches w pid q not_new not_child)
 
 -- nobody is left with the dead parent
 alone_died : (w : World) (pid status : ℕ) → IsAlone w pid → IsAlone (died w pid status) pid

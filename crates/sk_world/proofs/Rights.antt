@@ -13,6 +13,7 @@ use Rattle.sk_world.specs.World.{World, at, has_ended, has_stopped, is_stopped, 
 use Rattle.sk_world.specs.Numbers.{fresh_of}
 use Rattle.sk_world.specs.Sending.{continued, signalled, generated_at, sent}
 use Rattle.sk_world.specs.Forking.{forked, has_room, child_of}
+use Rattle.sk_world.specs.Subreapers.{new_parent}
 use Rattle.sk_world.specs.Ending.{ignores_children, handed_on, with_children_handed_on, has_zombie_child, reparented, zombie, died}
 use Rattle.sk_world.specs.Waits.{without_note}
 use Rattle.sk_world.specs.ChangeLaws.{HasSameRights, StaysInRights, KeepsRights, SignalKeepsRights, ForceKeepsRights, ReparentKeepsRights, EndKeepsRights, TellingKeepsRights, ForkKeepsRights}
@@ -95,20 +96,21 @@ told_rights w pid status =
     (λ _. changed_rights w pid without_note (record { filters = λ _. refl; creds = λ _. refl }))
 
 -- ends
-handed_stays : (dying : ℕ) (leaves_none : Bool) (o : Option Proc) → StaysInRights (option_and_then (handed_on dying INIT leaves_none) o) o
-handed_stays dying leaves_none None = nobody_stays None
-handed_stays dying leaves_none (Some p) =
-    handed_cases dying leaves_none p (λ x. StaysInRights x (Some p)) (λ _. stays (Some p)) (λ _ _. nobody_stays (Some p))
-    (λ _ moved is. (p, refl, rights_at (record p { links = record p.links { parent = INIT } }) moved p is (record { filters = refl; creds = refl })))
+handed_stays : (dying parent : ℕ) (leaves_none : Bool) (o : Option Proc) → StaysInRights (option_and_then (handed_on dying parent leaves_none) o) o
+handed_stays dying parent leaves_none None = nobody_stays None
+handed_stays dying parent leaves_none (Some p) =
+    handed_cases dying parent leaves_none p (λ x. StaysInRights x (Some p)) (λ _. stays (Some p)) (λ _ _. nobody_stays (Some p))
+    (λ _ moved is. (p, refl, rights_at (record p { links = record p.links { parent = parent } }) moved p is (record { filters = refl; creds = refl })))
 
 handed_rights : (w : World) (pid : ℕ) → KeepsRights w (with_children_handed_on w pid)
-handed_rights w pid q = subst (λ x. StaysInRights x (at w q)) (sym (handed_at w pid q)) (handed_stays pid (ignores_children (at w INIT)) (at w q))
+handed_rights w pid q = subst (λ x. StaysInRights x (at w q)) (sym (handed_at w pid q)) (handed_stays pid (new_parent w pid) (ignores_children (at w (new_parent w pid))) (at w q))
 
 pub reparented_rights : ReparentKeepsRights
 reparented_rights w pid =
+    let parent : ℕ = new_parent w pid in
     let handed : World = with_children_handed_on w pid in
-    cond_both (has_zombie_child w pid && not (ignores_children (at w INIT))) (sent handed INIT SIGCHLD) handed (λ v. KeepsRights w v)
-    (λ _. twice w handed (sent handed INIT SIGCHLD) (handed_rights w pid) (sent_rights handed INIT SIGCHLD)) (λ _. handed_rights w pid)
+    cond_both (has_zombie_child w pid && not (ignores_children (at w parent))) (sent handed parent SIGCHLD) handed (λ v. KeepsRights w v)
+    (λ _. twice w handed (sent handed parent SIGCHLD) (handed_rights w pid) (sent_rights handed parent SIGCHLD)) (λ _. handed_rights w pid)
 
 died_rights : (w : World) (pid status : ℕ) → KeepsRights w (died w pid status)
 died_rights w pid status =

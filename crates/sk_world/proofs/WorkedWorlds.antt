@@ -3,7 +3,8 @@ use Rattle.std.proofs.Common.{refl}
 use Rattle.sk_signal.specs.Sets.{empty, contains, insert, retain, remove, from_list}
 use Rattle.sk_signal.specs.Signalling.{opening as no_signal}
 use Rattle.sk_world.specs.Numbers.{fresh_of}
-use Rattle.sk_world.specs.WorkedWorlds.{WorkedForks, WorkedEnds, WorkedWaits, WorkedSignals}
+use Rattle.sk_world.specs.Subreapers.{ancestors, new_parent}
+use Rattle.sk_world.specs.WorkedWorlds.{WorkedForks, WorkedEnds, WorkedReapers, WorkedWaits, WorkedSignals}
 
 pub worked_forks : WorkedForks
 unfolding fresh_of no_signal empty contains insert retain remove from_list
@@ -28,7 +29,7 @@ worked_forks = record {
 }
 
 pub worked_ends : WorkedEnds
-unfolding fresh_of no_signal empty contains insert retain remove from_list
+unfolding fresh_of ancestors new_parent no_signal empty contains insert retain remove from_list
 worked_ends = record {
   zombie_is_left = refl;
   orphan_is_handed_on = refl;
@@ -48,8 +49,31 @@ worked_ends = record {
   end_of_first_hands_none_on = refl;
 }
 
+pub worked_reapers : WorkedReapers
+unfolding fresh_of ancestors new_parent no_signal empty contains insert retain remove from_list
+worked_reapers = record {
+  goes_to_first = refl;
+  goes_to_subreaper = refl;
+  goes_far_up = refl;
+  nearer_of_two = refl;
+  then_the_other = refl;
+  own_mark = refl;
+  no_ancestor = refl;
+  stopped_subreaper = refl;
+  child_is_unmarked = refl;
+  zombie_stays_marked = refl;
+  cleared_mark = refl;
+  then_first = refl;
+  zombie_is_announced = refl;
+  not_to_first = refl;
+  zombie_goes = refl;
+  zombie_is_handed_on = refl;
+  orphan_keeps_rights = refl;
+  orphan_keeps_rights_below = refl;
+}
+
 pub worked_waits : WorkedWaits
-unfolding fresh_of no_signal empty contains insert retain remove from_list
+unfolding fresh_of ancestors new_parent no_signal empty contains insert retain remove from_list
 worked_waits = record {
   no_child = refl;
   nobodys_child = refl;
@@ -69,7 +93,7 @@ worked_waits = record {
 }
 
 pub worked_signals : WorkedSignals
-unfolding fresh_of no_signal empty contains insert retain remove from_list
+unfolding fresh_of ancestors new_parent no_signal empty contains insert retain remove from_list
 worked_signals = record {
   pends = refl;
   ignored = refl;

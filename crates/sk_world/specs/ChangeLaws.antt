@@ -14,6 +14,7 @@ use Rattle.sk_world.specs.Rules.{IsWorld}
 use Rattle.sk_world.specs.Numbers.{is_used, distance_from, fresh_of}
 use Rattle.sk_world.specs.Sending.{sent, forced}
 use Rattle.sk_world.specs.Forking.{forked, has_room, child_of}
+use Rattle.sk_world.specs.Subreapers.{new_parent}
 use Rattle.sk_world.specs.Ending.{ignores_children, zombie, reparented, ended}
 use Rattle.sk_world.specs.Waits.{is_match, is_ready, status_of, ready_of, told}
 
@@ -55,10 +56,10 @@ TellingTouches = (w : World) (pid status q : ℕ) → q ≢ pid → at (told w (
 abbrev pub ForkTouches : Type 0
 ForkTouches = (w : World) (caller q : ℕ) → q ≢ fresh_of w → at (forked w caller) q ≡ at w q
 
--- the end of a process touches only itself, process 1, its parent and its children
+-- the end of a process touches only itself, its parent, its children and whom they go to
 abbrev pub EndTouches : Type 0
 EndTouches =
-    (w : World) (pid status q : ℕ) → IsTrue (is_alive (at w pid)) → q ≢ pid → q ≢ INIT → q ≢ parent_of (at w pid) → parent_of (at w q) ≢ pid
+    (w : World) (pid status q : ℕ) → IsTrue (is_alive (at w pid)) → q ≢ pid → q ≢ new_parent w pid → q ≢ parent_of (at w pid) → parent_of (at w q) ≢ pid
     → at (ended w pid status) q ≡ at w q
 
 -- after the end of a process other than process 1 nobody has it as the parent. The end of process 1 hands
@@ -66,15 +67,15 @@ EndTouches =
 abbrev pub EndLeavesNoOrphan : Type 0
 EndLeavesNoOrphan = (w : World) (pid status q : ℕ) → pid ≢ INIT → IsTrue (is_some (at (ended w pid status) q)) → parent_of (at (ended w pid status) q) ≢ pid
 
--- each child of a process that ends is handed on to process 1, with all else as it was; only a zombie goes,
--- where process 1 leaves none. The parent of the one that ends gets a signal besides. Process 1 itself
--- hands none on
+-- each child of a process that ends is handed on to its new parent, with all else as it was; only a zombie
+-- goes, where the new parent leaves none. The parent of the one that ends gets a signal besides. Process 1
+-- itself hands none on
 abbrev pub EndHandsChildrenOn : Type 0
 EndHandsChildrenOn =
     (w : World) (pid status q : ℕ) (p : Proc) → IsTrue (is_alive (at w pid)) → pid ≢ INIT → at w q ≡ Some p → p.links.parent ≡ pid
-    → q ≢ pid → q ≢ INIT → q ≢ parent_of (at w pid)
+    → q ≢ pid → q ≢ new_parent w pid → q ≢ parent_of (at w pid)
     → at (ended w pid status) q
-    ≡ (if ignores_children (at w INIT) && has_ended p.body.life then None else Some (record p { links = record p.links { parent = INIT } }))
+    ≡ (if ignores_children (at w (new_parent w pid)) && has_ended p.body.life then None else Some (record p { links = record p.links { parent = new_parent w pid } }))
 
 -- a process other than process 1 is a zombie with its status once it has ended, unless its parent ignores
 -- SIGCHLD

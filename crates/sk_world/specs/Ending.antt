@@ -14,11 +14,8 @@ use Rattle.sk_world.specs.declared.process.Body.{Body}
 use Rattle.sk_world.specs.declared.process.Proc.{Proc}
 use Rattle.sk_world.specs.Processes.{pids, each}
 use Rattle.sk_world.specs.World.{World, at, has_ended, is_zombie, is_child_of, parent_of, stored, changed}
+use Rattle.sk_world.specs.Subreapers.{new_parent}
 use Rattle.sk_world.specs.Sending.{sent}
-
--- who the children of an ending process are handed to: process 1
-abbrev pub new_parent : World → ℕ → ℕ
-new_parent w pid = INIT
 
 -- the process ignores SIGCHLD, so its children leave no zombies: wait(2), "Notes"
 abbrev pub ignores_children : Option Proc → Bool

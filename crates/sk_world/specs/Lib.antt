@@ -5,8 +5,10 @@ pub mod Rules
 pub mod Sending
 pub mod Numbers
 pub mod Forking
+pub mod Subreapers
 pub mod Ending
 pub mod Waits
 pub mod WorldLaws
 pub mod ChangeLaws
+pub mod ReaperLaws
 pub mod WorkedWorlds

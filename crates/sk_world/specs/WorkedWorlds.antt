@@ -17,7 +17,7 @@ use Rattle.sk_world.specs.declared.request.Who.TheVariants.{Child, Any, Group}
 use Rattle.sk_world.specs.declared.request.Request.{Request}
 use Rattle.sk_world.specs.declared.request.Poll.TheVariants.{Told, NoMatch, NotReady}
 use Rattle.sk_world.specs.Processes.{none}
-use Rattle.sk_world.specs.World.{World, at, is_halted, stored, first_process, opening}
+use Rattle.sk_world.specs.World.{World, at, is_halted, stored, changed, first_process, opening}
 use Rattle.sk_world.specs.Sending.{sent, forced}
 use Rattle.sk_world.specs.Forking.{fork_answer, forked, child_of}
 use Rattle.sk_world.specs.Ending.{ended}
@@ -68,9 +68,23 @@ grandchild = running 2 1 1
 abbrev pub family : Proc → Proc → Proc → World
 family first second third = world_of ((1, first) ∷ (2, second) ∷ (3, third) ∷ []) 3
 
--- process 1, its child 2, the child 3 of that, and the child 4 of that
-abbrev pub four_generations : Proc → Proc → World
-four_generations first fourth = world_of ((1, first) ∷ (2, child) ∷ (3, grandchild) ∷ (4, fourth) ∷ []) 4
+-- the same as a subreaper
+abbrev pub marked : Proc → Proc
+marked p = record p { body = record p.body { subreaper = true } }
+
+-- process 1 and a line of three from it, where 4 is the child of 3 and 3 that of 2; and the same with a child of 4
+abbrev pub line_of_four : Proc → Proc → Proc → Proc → World
+line_of_four first second third fourth = world_of ((1, first) ∷ (2, second) ∷ (3, third) ∷ (4, fourth) ∷ []) 4
+
+abbrev pub line_of_five : Proc → Proc → Proc → Proc → Proc → World
+line_of_five first second third fourth fifth = world_of ((1, first) ∷ (2, second) ∷ (3, third) ∷ (4, fourth) ∷ (5, fifth) ∷ []) 5
+
+-- a child of process 3, and one of process 4, in the group and session of process 1
+abbrev pub third_generation : Proc
+third_generation = running 3 1 1
+
+abbrev pub fourth_generation : Proc
+fourth_generation = running 4 1 1
 
 -- a request of wait4(2) with these bits as its options
 abbrev pub ask : Who → ℕ → Request
@@ -106,11 +120,11 @@ pub record WorkedEnds : Type 0 where
       at (ended (family first_process child (living (Zombie 9) note.Nothing grandchild)) 2 0) 3 ≡ Some (living (Zombie 9) note.Nothing child)
   -- process 1 is not the parent of 3, so it gets SIGCHLD for the zombie that it takes over and not for the end of 3
   pub zombie_is_announced :
-      at (ended (four_generations (disposed SIGCHLD caught first_process) (living (Zombie 9) note.Nothing (running 3 1 1))) 3 0) 1
+      at (ended (line_of_four (disposed SIGCHLD caught first_process) child grandchild (living (Zombie 9) note.Nothing third_generation)) 3 0) 1
       ≡ Some (pending (SIGCHLD ∷ []) (disposed SIGCHLD caught first_process))
   -- a living orphan is handed on in silence
   pub living_orphan_is_unannounced :
-      at (ended (four_generations (disposed SIGCHLD caught first_process) (running 3 1 1)) 3 0) 1 ≡ Some (disposed SIGCHLD caught first_process)
+      at (ended (line_of_four (disposed SIGCHLD caught first_process) child grandchild third_generation) 3 0) 1 ≡ Some (disposed SIGCHLD caught first_process)
   pub zombie_goes : at (ended (family (disposed SIGCHLD Ignore first_process) child (living (Zombie 9) note.Nothing grandchild)) 2 0) 3 ≡ None
   pub living_orphan_stays : at (ended (family (disposed SIGCHLD Ignore first_process) child grandchild) 2 0) 3 ≡ Some child
   pub end_is_announced : at (ended (family first_process (disposed SIGCHLD caught child) grandchild) 3 9) 2 ≡ Some (pending (SIGCHLD ∷ []) (disposed SIGCHLD caught child))
@@ -128,6 +142,43 @@ pub record WorkedEnds : Type 0 where
   pub end_of_first_halts : is_halted (ended (family first_process child grandchild) 1 0x600) ≡ true
   pub end_of_another_does_not : is_halted (ended (family first_process child grandchild) 2 0x600) ≡ false
   pub end_of_first_hands_none_on : at (ended (family first_process child grandchild) 1 0x600) 2 ≡ Some child
+
+-- who orphans go to
+pub record WorkedReapers : Type 0 where
+  pub goes_to_first : at (ended (line_of_four first_process child grandchild third_generation) 3 0x100) 4 ≡ Some child
+  pub goes_to_subreaper : at (ended (line_of_four first_process (marked child) grandchild third_generation) 3 0x100) 4 ≡ Some grandchild
+  pub goes_far_up : at (ended (line_of_five first_process (marked child) grandchild third_generation fourth_generation) 4 0) 5 ≡ Some grandchild
+  pub nearer_of_two : at (ended (line_of_five first_process (marked child) (marked grandchild) third_generation fourth_generation) 4 0) 5 ≡ Some third_generation
+  pub then_the_other :
+      at (ended (ended (line_of_five first_process (marked child) (marked grandchild) third_generation fourth_generation) 4 0) 3 0) 5 ≡ Some grandchild
+  -- its own mark does not count, nor that of a child
+  pub own_mark : at (ended (line_of_four first_process child (marked grandchild) (marked third_generation)) 3 0) 4 ≡ Some (marked child)
+  -- a subreaper that is no ancestor gets nobody
+  pub no_ancestor : at (ended (line_of_four first_process (marked child) child third_generation) 3 0) 4 ≡ Some child
+  pub stopped_subreaper : at (ended (line_of_four first_process (living Stopped note.Nothing (marked child)) grandchild third_generation) 3 0) 4 ≡ Some grandchild
+  pub child_is_unmarked : child_of 1 (marked first_process) ≡ child
+  pub zombie_stays_marked : at (ended (family first_process (marked child) grandchild) 2 0) 2 ≡ Some (living (Zombie 0) note.Nothing (marked child))
+  -- clearing the mark moves nobody, and the next orphan goes to process 1
+  pub cleared_mark :
+      at (changed (ended (line_of_four first_process (marked child) grandchild third_generation) 3 0) 2 (λ body. record body { subreaper = false })) 4 ≡ Some grandchild
+  pub then_first :
+      at (ended (changed (line_of_four first_process (marked child) grandchild third_generation) 2 (λ body. record body { subreaper = false })) 3 0) 4 ≡ Some child
+  -- a zombie is announced to the subreaper, and not to process 1
+  pub zombie_is_announced :
+      at (ended (line_of_five first_process (disposed SIGCHLD caught (marked child)) grandchild third_generation (living (Zombie 9) note.Nothing fourth_generation)) 4 0) 2
+      ≡ Some (pending (SIGCHLD ∷ []) (disposed SIGCHLD caught (marked child)))
+  pub not_to_first :
+      at (ended (line_of_five (disposed SIGCHLD caught first_process) (marked child) grandchild third_generation (living (Zombie 9) note.Nothing fourth_generation)) 4 0) 1
+      ≡ Some (disposed SIGCHLD caught first_process)
+  -- whether it goes is by the subreaper's disposition, and not by that of process 1
+  pub zombie_goes :
+      at (ended (line_of_four first_process (disposed SIGCHLD Ignore (marked child)) grandchild (living (Zombie 9) note.Nothing third_generation)) 3 0) 4 ≡ None
+  pub zombie_is_handed_on :
+      at (ended (line_of_four (disposed SIGCHLD Ignore first_process) (marked child) grandchild (living (Zombie 9) note.Nothing third_generation)) 3 0) 4
+      ≡ Some (living (Zombie 9) note.Nothing grandchild)
+  -- an orphan keeps its ids and its filters, whoever it goes to
+  pub orphan_keeps_rights : at (ended (family first_process child (with_rights grandchild)) 2 0) 3 ≡ Some (with_rights child)
+  pub orphan_keeps_rights_below : at (ended (line_of_four first_process (marked child) grandchild (with_rights third_generation)) 3 0) 4 ≡ Some (with_rights grandchild)
 
 -- what wait4(2) tells
 pub record WorkedWaits : Type 0 where

@@ -1,7 +1,8 @@
 //! Laws on worlds. No program calls these functions: the contract of each is the law.
 
-ghost use Rattle.sk_world.specs.WorkedWorlds.{WorkedForks, WorkedEnds, WorkedWaits, WorkedSignals};
+ghost use Rattle.sk_world.specs.WorkedWorlds.{WorkedForks, WorkedEnds, WorkedReapers, WorkedWaits, WorkedSignals};
 ghost use Rattle.sk_world.specs.WorldLaws.{OpeningHasRules, ChangeKeepsRules, LinksKeepRules, RemovalKeepsRules, SignalKeepsRules, ForceKeepsRules, ForkKeepsRules, ReparentKeepsRules, EndKeepsRules, ToldKeepsRules};
+ghost use Rattle.sk_world.specs.ReaperLaws.{NewParentLives, WithoutSubreapers, NearestSubreaper, NewParentIsAncestor};
 ghost use Rattle.sk_world.specs.ChangeLaws.{SignalIsNotQueued, SignalTouches, ForceTouches, SignalKeepsAllElse, ForceKeepsAllElse, TellingTouches, ForkTouches, EndTouches, EndLeavesNoOrphan, EndHandsChildrenOn, EndLeavesZombie, ReadyIsLowest, NoMatchHasNone, NotReadyHasMatch, ZombieIsToldOnce, ForkGivesChild, NumberIsNew, NumberIsNext, SignalKeepsRights, ForceKeepsRights, ReparentKeepsRights, EndKeepsRights, TellingKeepsRights, ForkKeepsRights};
 
 /// The rules of the world hold as the system starts, and each change of the world keeps them.
@@ -47,6 +48,15 @@ pub fn ends_hand_children_on()
     ensures zombie { EndLeavesZombie }
 {}
 
+/// The children of a process that ends go to its nearest ancestor that is a subreaper, who lives, and to process 1 where
+/// there is none.
+pub fn orphans_go_to_the_nearest_subreaper()
+    ensures lives { NewParentLives }
+    ensures unmarked { WithoutSubreapers }
+    ensures nearest { NearestSubreaper }
+    ensures ancestor { NewParentIsAncestor }
+{}
+
 /// wait4(2) tells of the lowest child that is ready, of a zombie once, and of nobody where none is.
 pub fn waiting_tells_the_lowest_once()
     ensures lowest { ReadyIsLowest }
@@ -76,6 +86,7 @@ pub fn rights_are_kept()
 pub fn worked_worlds()
     ensures forks { WorkedForks }
     ensures ends { WorkedEnds }
+    ensures reapers { WorkedReapers }
     ensures waits { WorkedWaits }
     ensures signals { WorkedSignals }
 {}
