@@ -1,1 +1,3 @@
 pub mod KeptLinks
+pub mod Walking
+pub mod HangingUp

@@ -16,3 +16,4 @@ pub mod Handing
 pub mod Bodies
 pub mod Partly
 pub mod Polling
+pub mod Walks
