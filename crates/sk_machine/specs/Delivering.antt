@@ -9,7 +9,7 @@ use Rattle.sk_signal.specs.declared.disposition.DefaultAction.TheVariants as act
 use Rattle.sk_signal.specs.declared.disposition.Disposition.{Disposition}
 use Rattle.sk_signal.specs.declared.disposition.Disposition.TheVariants as disposition
 use Rattle.sk_signal.specs.SignalSet.{Signals}
-use Rattle.sk_signal.specs.Actions.{default_action}
+use Rattle.sk_signal.specs.Actions.{default_action, is_tty_stop}
 use Rattle.sk_signal.specs.SignalState.{disposition_of}
 use Rattle.sk_signal.specs.Delivery.{deliverable, taken, pushed}
 use Rattle.sk_world.specs.declared.process.TheConstants.{INIT}
@@ -21,7 +21,8 @@ use Rattle.sk_world.specs.declared.process.Body.{Body}
 use Rattle.sk_world.specs.declared.process.Proc.{Proc}
 use Rattle.sk_world.specs.World.{World, at, has_stopped, parent_of, changed}
 use Rattle.sk_world.specs.Sending.{sent}
-use Rattle.sk_world.specs.Ending.{ended}
+use Rattle.sk_session.specs.Sessions.{group_of}
+use Rattle.sk_session.specs.Orphans.{is_orphaned, ended_and_hung_up}
 use Rattle.sk_machine.specs.declared.answer.Effect.{Effect}
 use Rattle.sk_machine.specs.declared.answer.Effect.TheVariants.{Ignored, Stopped, Ended, Handler}
 use Rattle.sk_machine.specs.Performed.{body_of}
@@ -49,7 +50,7 @@ is_waiting (waiting.Asks request) = true
 
 -- the signal ends the process with this status
 abbrev pub terminated_by : World → ℕ → ℕ → Delivered
-terminated_by w pid status = record { effect = Ended status; world = ended w pid status }
+terminated_by w pid status = record { effect = Ended status; world = ended_and_hung_up w pid status }
 
 -- a handler of signal n begins, and ends a call that the process waits in
 abbrev pub in_handler : ℕ → Signals → Body → Body
@@ -79,11 +80,12 @@ stopped_by w pid n = record {
 abbrev pub ignored : World → Delivered
 ignored w = record { effect = Ignored; world = w }
 
--- the default action of signal n is taken
+-- the default action of signal n is taken. A stop signal of a terminal stops no process of an orphaned group:
+-- setpgid(2), "Notes"
 abbrev pub acts_by_default : World → ℕ → ℕ → DefaultAction → Delivered
 acts_by_default w pid n action.Ignore = ignored w
 acts_by_default w pid n action.Continue = ignored w
-acts_by_default w pid n action.Stop = stopped_by w pid n
+acts_by_default w pid n action.Stop = if is_tty_stop n && is_orphaned w (group_of (at w pid)) then ignored w else stopped_by w pid n
 acts_by_default w pid n action.Terminate = terminated_by w pid n
 
 -- what is done by a disposition. By default process 1 minds only a SIGSYS, which is forced on it

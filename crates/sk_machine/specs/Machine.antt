@@ -13,7 +13,7 @@ use Rattle.sk_world.specs.declared.process.Life.{Life}
 use Rattle.sk_world.specs.declared.process.Life.TheVariants as life
 use Rattle.sk_world.specs.World.{World, at, is_halted, is_zombie, is_stopped}
 use Rattle.sk_world.specs.Sending.{forced}
-use Rattle.sk_world.specs.Ending.{ended}
+use Rattle.sk_session.specs.Orphans.{ended_and_hung_up}
 use Rattle.sk_machine.specs.declared.event.Event.{Event}
 use Rattle.sk_machine.specs.declared.event.Event.TheVariants.{Call, Deliver, Resume, Fault}
 use Rattle.sk_machine.specs.declared.answer.Answer.{Answer}
@@ -82,7 +82,7 @@ happened images w (Call pid ip nr args) = called images w pid (record { nr = nr;
 happened images w (Deliver pid) =
     signal_answered (unwrap_or (signal_due (at w pid)) 0) (delivered w pid (unwrap_or (signal_due (at w pid)) 0))
 happened images w (Resume pid) = resume_answered (resumed w pid (body_of (at w pid)).waiting)
-happened images w (Fault pid) = record { answer = answer.Crashed; world = ended w pid SIGSEGV }
+happened images w (Fault pid) = record { answer = answer.Crashed; world = ended_and_hung_up w pid SIGSEGV }
 
 -- why a process that runs cannot make a call of its own: it waits in one, or a signal comes first
 abbrev pub call_reason : World → ℕ → Option Reason

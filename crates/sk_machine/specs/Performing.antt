@@ -14,7 +14,7 @@ use Rattle.sk_world.specs.declared.process.Waiting.TheVariants as waiting
 use Rattle.sk_world.specs.declared.process.Body.{Body}
 use Rattle.sk_world.specs.World.{World, at, parent_of, changed}
 use Rattle.sk_world.specs.Forking.{fork_answer, forked}
-use Rattle.sk_world.specs.Ending.{ended}
+use Rattle.sk_session.specs.Orphans.{ended_and_hung_up}
 use Rattle.sk_session.specs.Sessions.{group_of, after_setpgid, after_setsid, group_asked, session_asked}
 use Rattle.sk_machine.specs.declared.answer.Outcome.TheVariants.{Ids, Signals, Ended, Executed}
 use Rattle.sk_machine.specs.declared.operation.PrctlOption.{PrctlOption}
@@ -52,7 +52,7 @@ exit_status code = code % 256 * 256
 
 -- a process ends, by a call or by a filter
 abbrev pub end_of_caller : World → ℕ → ℕ → Performed
-end_of_caller w pid status = record { outcome = Ended status; world = ended w pid status }
+end_of_caller w pid status = record { outcome = Ended status; world = ended_and_hung_up w pid status }
 
 -- getresuid(2)
 abbrev pub ids : World → Creds → Performed

@@ -91,13 +91,13 @@ keeps_told : (w : World) (child status : ℕ) → Keeps w (told w (poll.Told chi
 keeps_told w child status = keeps_by_rights w (told w (poll.Told child status)) (told_rights w child status)
 
 -- so every call, delivery and resumption that does no more leaves every authority
-pub keeps : Carries Came
+pub keeps : Carries Keeps
 keeps = record {
   still = keeps_still;
   twice = keeps_twice;
-  changed = keeps_changed;
+  changed = λ w pid g ordinary. keeps_changed w pid g (λ body. (ordinary body).0);
   links = λ w pid f _. keeps_links w pid f;
   sent = keeps_sent;
-  ended = keeps_ended;
+  ended = λ w pid status _. keeps_ended w pid status;
   telling = keeps_told;
 }

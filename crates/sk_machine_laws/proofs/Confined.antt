@@ -1,9 +1,12 @@
 -- What an event leaves of a process that it is not meant to touch.
-use Rattle.std.proofs.Common.{◌≡◌, ◌≢◌, ◌∙◌, ℕ, ℤ, ◌==◌, ◌||◌, ◌&&◌, ◌⊎◌, inl, inr, arith, ap, sym, refl, subst, cond, not, Bool, true, false, length, IsTrue, Option, None, Some, Result, Ok, Err}
+use Rattle.std.proofs.Common.{◌≡◌, ◌≢◌, ◌∙◌, ℕ, ℤ, ◌==◌, ◌&&◌, arith, ap, sym, refl, subst, cond, not, Bool, true, false, length, IsTrue, List, [], ◌∷◌, ◌++◌, Option, None, Some, Result, Ok, Err}
+use Rattle.std.specs.Prelude.{filter}
 use Rattle.std.specs.Option.{is_some, unwrap_or, option_map, option_and_then}
+use Rattle.std.specs.List.{list_all}
+use Rattle.std.specs.Result.{result_and}
 use Rattle.std.specs.Int.{is_negative}
 use Rattle.std.proofs.lemmas.Int.{ints}
-use Rattle.std.proofs.lemmas.Bool.{false≢true, cond_both, eqb-true, ne_eqb, not-false, and_parts, eqb-false, false_from_ne_true}
+use Rattle.std.proofs.lemmas.Bool.{false≢true, cond_both, eqb-true, ne_eqb, not-false, and_parts, and_from, eqb-false, false_from_ne_true}
 use Rattle.sk_insn.specs.declared.record.Record.{Record}
 use Rattle.sk_insn.specs.declared.action.Action.{Action}
 use Rattle.sk_insn.specs.declared.action.Action.TheVariants as action
@@ -11,14 +14,14 @@ use Rattle.sk_insn.specs.Actions.{action_of, performs}
 use Rattle.sk_chain.specs.Verdict.{verdict_of}
 use Rattle.sk_creds.specs.declared.errno.Errno.{Errno}
 use Rattle.sk_creds.specs.declared.errno.Errno.TheVariants.{Eperm, Esrch, Eagain, Eacces, Einval}
-use Rattle.sk_signal.specs.declared.number.TheConstants.{SIGKILL, SIGSEGV, SIGCHLD, SIGCONT, SIGSYS}
+use Rattle.sk_signal.specs.declared.number.TheConstants.{SIGHUP, SIGKILL, SIGSEGV, SIGCHLD, SIGCONT, SIGSYS}
 use Rattle.sk_signal.specs.declared.state.TheConstants.{FRAMES}
 use Rattle.sk_signal.specs.declared.disposition.DefaultAction.{DefaultAction}
 use Rattle.sk_signal.specs.declared.disposition.DefaultAction.TheVariants as default
 use Rattle.sk_signal.specs.declared.disposition.Disposition.{Disposition}
 use Rattle.sk_signal.specs.declared.disposition.Disposition.TheVariants as disposition
 use Rattle.sk_signal.specs.SignalSet.{Signals}
-use Rattle.sk_signal.specs.Actions.{default_action}
+use Rattle.sk_signal.specs.Actions.{default_action, is_tty_stop}
 use Rattle.sk_signal.specs.SignalState.{SignalState, disposition_of}
 use Rattle.sk_world.specs.declared.process.TheConstants.{INIT}
 use Rattle.sk_world.specs.declared.process.Body.{Body}
@@ -28,23 +31,25 @@ use Rattle.sk_world.specs.declared.process.Waiting.TheVariants as waiting
 use Rattle.sk_world.specs.declared.request.Request.{Request}
 use Rattle.sk_world.specs.declared.request.Poll.{Poll}
 use Rattle.sk_world.specs.declared.request.Poll.TheVariants as poll
-use Rattle.sk_world.specs.World.{World, at, is_child_of, parent_of, stored, body_changed, changed}
+use Rattle.sk_world.specs.World.{World, at, is_child_of, is_stopped, parent_of, stored, body_changed, changed}
 use Rattle.sk_world.specs.Rules.{IsWorld}
 use Rattle.sk_world.specs.Numbers.{fresh_of}
 use Rattle.sk_world.specs.Forking.{has_room, forked}
-use Rattle.sk_world.specs.Sending.{signalled, sent}
+use Rattle.sk_world.specs.Sending.{signalled, generated_at, sent, sent_to_each}
+use Rattle.sk_world.specs.Subreapers.{new_parent}
 use Rattle.sk_world.specs.Ending.{ignores_children, handed_on, with_children_handed_on, has_zombie_child, reparented, zombie, died, ended}
 use Rattle.sk_world.specs.Waits.{is_no_hang, is_match, status_of, ready_of, told}
-use Rattle.sk_world.proofs.Stored.{everywhere, at_here, at_other}
+use Rattle.sk_world.proofs.Stored.{everywhere, at_other}
 use Rattle.sk_world.proofs.KeptEnd.{handed_cases, handed_at, alive_is_there}
 use Rattle.sk_world.proofs.KeptTold.{match_parent}
-use Rattle.sk_world.proofs.Locality.{not_queued, forced_touches, told_touches, forked_touches}
+use Rattle.sk_world.proofs.Locality.{forced_touches, told_touches, forked_touches}
 use Rattle.sk_world.proofs.Telling.{ready_lowest}
 use Rattle.sk_world.proofs.Fresh.{fresh_absent}
 use Rattle.std.proofs.lemmas.Bool.{ltb-true}
 use Rattle.sk_world.specs.declared.process.TheConstants.{PROCESSES}
-use Rattle.sk_world.specs.Processes.{count}
-use Rattle.sk_session.specs.Sessions.{pid_named, session_of, has_executed, is_group, is_group_of_session, put_into_group, regrouped, after_setpgid, after_setsid, group_asked, session_asked}
+use Rattle.sk_world.specs.Processes.{count, pids}
+use Rattle.sk_session.specs.Orphans.{is_living_member, is_orphaned, is_left_orphaned, groups, sent_to_group, hung_up, each_hung_up, ended_and_hung_up}
+use Rattle.sk_session.specs.Sessions.{group_of, pid_named, session_of, has_executed, is_group, is_group_of_session, may_move_child, may_join, put_into_group, regrouped, after_setpgid, after_setsid, group_asked, session_asked}
 use Rattle.sk_machine.specs.declared.event.Event.{Event}
 use Rattle.sk_machine.specs.declared.event.Event.TheVariants.{Call, Deliver, Resume, Fault}
 use Rattle.sk_machine.specs.declared.answer.Reason.{Reason}
@@ -64,9 +69,9 @@ use Rattle.sk_machine.specs.Performed.{Performed, body_of, returns, fails, asked
 use Rattle.sk_machine.specs.SignalCalls.{with_signals, resignals, after_sigaction, after_sigprocmask, after_sigreturn}
 use Rattle.sk_machine.specs.WaitCalls.{are_wait_options, request_of, polled, wait4, polled_again, resumed}
 use Rattle.sk_machine.specs.Performing.{executing, execve, forks, exit_status, authorised, no_new_privs_asked, subreaper_set, subreaper_asked, where_subreapers, with_subreaper, prctl, action_available, seccomp, row}
-use Rattle.sk_machine.specs.Delivering.{Delivered, signal_due, terminated_by, in_handler, enters_handler, stopping, ignored, acts_by_default, acts_by_disposition, taking, acted_on, delivered}
+use Rattle.sk_machine.specs.Delivering.{Delivered, signal_due, terminated_by, in_handler, enters_handler, stopping, ignored, acts_by_default, acts_by_disposition, taking, acted_on, delivered, stopped_by}
 use Rattle.sk_machine.specs.Machine.{Stepped, judged, happened, reason_of, stepped, step_of}
-use Rattle.sk_machine_laws.specs.ConfinementLaws.{RefusesKill, IsConfined, is_end, is_end_or_stop, ends_or_stops, EventIsConfined}
+use Rattle.sk_machine_laws.specs.ConfinementLaws.{RefusesKill, after_signals, is_of_an_end, IsTold, IsConfined, is_end, is_end_or_stop, ends_or_stops, EventIsConfined}
 use Rattle.sk_machine_laws.proofs.Growing.{lets_through}
 use Rattle.sk_machine_laws.proofs.KeptEvents.{possible_is_alive}
 
@@ -90,34 +95,63 @@ kill_number nr =
       | false ↦ λ is. kill_number_else nr is
     ] refl
 
--- ---- SIGCHLD
--- the process when SIGCHLD has been sent to it
-abbrev signalled_at : ℕ → Option Proc → Option Proc
-signalled_at q o = option_map (body_changed (signalled SIGCHLD (q == INIT))) o
+-- ---- the signals of an end
+after_more : (init : Bool) (xs ys : List ℕ) (body : Body) → after_signals init (xs ++ ys) body ≡ after_signals init ys (after_signals init xs body)
+after_more init [] ys body = refl
+after_more init (x ∷ xs) ys body = after_more init xs ys (signalled x init body)
 
-abbrev Told : ℕ → Option Proc → Option Proc → Type 0
-Told q base now = (now ≡ base) ⊎ (now ≡ signalled_at q base)
+changed_twice : (f g h : Body → Body) → ((body : Body) → h body ≡ g (f body)) → (o : Option Proc) → option_map (body_changed g) (option_map (body_changed f) o) ≡ option_map (body_changed h) o
+changed_twice f g h same None = refl
+changed_twice f g h same (Some p) = ap (λ body. Some (record p { body = body })) (sym (same p.body))
 
-sent_at : (v : World) (k q : ℕ) → Told q (at v q) (at (sent v k SIGCHLD) q)
-sent_at v k q =
-    everywhere v k (option_map (body_changed (signalled SIGCHLD (k == INIT))) (at v k)) (λ n x. (x ≡ at v n) ⊎ (x ≡ option_map (body_changed (signalled SIGCHLD (n == INIT))) (at v n)))
-    (inr refl) (λ n ne. inl refl) q
+all_more : (p : ℕ → Bool) (xs ys : List ℕ) → IsTrue (list_all p xs) → IsTrue (list_all p ys) → IsTrue (list_all p (xs ++ ys))
+all_more p [] ys first later = later
+all_more p (x ∷ xs) ys first later =
+    let both = and_parts (p x) (list_all p xs) first in
+    and_from (p x) (list_all p (xs ++ ys)) both.0 (all_more p xs ys both.1 later)
 
-no_cont : SIGCHLD ≢ SIGCONT
-no_cont is = absurd (omega arith)
+unchanged : (o : Option Proc) → o ≡ option_map (body_changed (λ body. body)) o
+unchanged None = refl
+unchanged (Some p) = refl
 
--- a signal that is sent twice is sent once
-settled : (w : World) (q : ℕ) → signalled_at q (signalled_at q (at w q)) ≡ signalled_at q (at w q)
-settled w q =
-    let once : at (sent w q SIGCHLD) q ≡ signalled_at q (at w q) = at_here w q (signalled_at q (at w q)) in
-    let twice : at (sent (sent w q SIGCHLD) q SIGCHLD) q ≡ signalled_at q (at (sent w q SIGCHLD) q) = at_here (sent w q SIGCHLD) q (signalled_at q (at (sent w q SIGCHLD) q)) in
-    ap (signalled_at q) (sym once) ∙ sym twice ∙ ap (λ v. at v q) (not_queued w q SIGCHLD no_cont) ∙ once
+told_nothing : (q : ℕ) (before now : Option Proc) → now ≡ before → IsTold q before now
+told_nothing q before now is = ([], refl, is ∙ unchanged before)
 
-told_twice : (w : World) (q : ℕ) (o now : Option Proc) → Told q (at w q) o → Told q o now → Told q (at w q) now
-told_twice w q o now (inl first) (inl later) = inl (later ∙ first)
-told_twice w q o now (inl first) (inr later) = inr (later ∙ ap (signalled_at q) first)
-told_twice w q o now (inr first) (inl later) = inr (later ∙ first)
-told_twice w q o now (inr first) (inr later) = inr (later ∙ ap (signalled_at q) first ∙ settled w q)
+told_twice : (q : ℕ) (a b c : Option Proc) → IsTold q a b → IsTold q b c → IsTold q a c
+told_twice q a b c (xs, all, is) (ys, more, later) = (
+  xs ++ ys,
+  all_more is_of_an_end xs ys all more,
+  later ∙ ap (option_map (body_changed (after_signals (q == INIT) ys))) is
+      ∙ changed_twice (after_signals (q == INIT) xs) (after_signals (q == INIT) ys) (after_signals (q == INIT) (xs ++ ys)) (after_more (q == INIT) xs ys) a,
+)
+
+generated_told : (v : World) (k n q : ℕ) → IsTrue (is_of_an_end n) → IsTold q (at v q) (at (generated_at v k n) q)
+generated_told v k n q of_end =
+    everywhere v k (option_map (body_changed (signalled n (k == INIT))) (at v k)) (λ m x. IsTold m (at v m) x)
+    (n ∷ [], and_from (is_of_an_end n) true of_end refl, refl) (λ m ne. told_nothing m (at v m) (at v m) refl) q
+
+sent_told : (v : World) (k n q : ℕ) → IsTrue (is_of_an_end n) → IsTold q (at v q) (at (sent v k n) q)
+sent_told v k n q of_end =
+    let once : World = generated_at v k n in
+    cond_both ((n == SIGCONT) && is_stopped (at v k)) (generated_at once (parent_of (at v k)) SIGCHLD) once (λ x. IsTold q (at v q) (at x q))
+    (λ _. told_twice q (at v q) (at once q) (at (generated_at once (parent_of (at v k)) SIGCHLD) q) (generated_told v k n q of_end) (generated_told once (parent_of (at v k)) SIGCHLD q refl))
+    (λ _. generated_told v k n q of_end)
+
+each_told : (v : World) (to : List ℕ) (n q : ℕ) → IsTrue (is_of_an_end n) → IsTold q (at v q) (at (sent_to_each v to n) q)
+each_told v [] n q of_end = told_nothing q (at v q) (at v q) refl
+each_told v (k ∷ rest) n q of_end =
+    told_twice q (at v q) (at (sent v k n) q) (at (sent_to_each (sent v k n) rest n) q) (sent_told v k n q of_end) (each_told (sent v k n) rest n q of_end)
+
+group_told : (v : World) (group n q : ℕ) → IsTrue (is_of_an_end n) → IsTold q (at v q) (at (sent_to_group v group n) q)
+group_told v group n q of_end = each_told v (filter (λ pid. is_living_member group (at v pid)) (pids v.procs)) n q of_end
+
+groups_told : (v : World) (left : List ℕ) (q : ℕ) → IsTold q (at v q) (at (each_hung_up v left) q)
+groups_told v [] q = told_nothing q (at v q) (at v q) refl
+groups_told v (group ∷ rest) q =
+    let first : World = sent_to_group v group SIGHUP in
+    told_twice q (at v q) (at (hung_up v group) q) (at (each_hung_up (hung_up v group) rest) q)
+    (told_twice q (at v q) (at first q) (at (hung_up v group) q) (group_told v group SIGHUP q refl) (group_told first group SIGCONT q refl))
+    (groups_told (hung_up v group) rest q)
 
 -- ---- how two processes stand to each other
 -- process q is another one than pid, and no child of it; and pid is not process 1
@@ -126,35 +160,45 @@ record IsApart (w : World) (pid q : ℕ) : Type 0 where
   not_init : pid ≢ INIT
   no_child : parent_of (at w q) ≢ pid
 
-stays : (dying : ℕ) (leaves_none : Bool) (o : Option Proc) → parent_of o ≢ dying → option_and_then (handed_on dying INIT leaves_none) o ≡ o
-stays dying leaves_none None other = refl
-stays dying leaves_none (Some p) other = handed_cases dying leaves_none p (λ x. x ≡ Some p) (λ _. refl) (λ is _. absurd (other is)) (λ is. absurd (other is))
+stays : (dying parent : ℕ) (leaves_none : Bool) (o : Option Proc) → parent_of o ≢ dying → option_and_then (handed_on dying parent leaves_none) o ≡ o
+stays dying parent leaves_none None other = refl
+stays dying parent leaves_none (Some p) other = handed_cases dying parent leaves_none p (λ x. x ≡ Some p) (λ _. refl) (λ is _. absurd (other is)) (λ is. absurd (other is))
 
-ended_told : (w : World) (pid status q : ℕ) → IsApart w pid q → Told q (at w q) (at (ended w pid status) q)
+ended_told : (w : World) (pid status q : ℕ) → IsApart w pid q → IsTold q (at w q) (at (ended w pid status) q)
 ended_told w pid status q apart =
+    let heir : ℕ = new_parent w pid in
     let handed : World = with_children_handed_on w pid in
-    let same : at handed q ≡ at w q = handed_at w pid q ∙ stays pid (ignores_children (at w INIT)) (at w q) apart.no_child in
+    let same : at handed q ≡ at w q = handed_at w pid q ∙ stays pid heir (ignores_children (at w heir)) (at w q) apart.no_child in
     let after : World = reparented w pid in
     let parent : ℕ = parent_of (at after pid) in
-    let once : Told q (at w q) (at after q) =
-    cond_both (has_zombie_child w pid && not (ignores_children (at w INIT))) (sent handed INIT SIGCHLD) handed (λ v. Told q (at w q) (at v q))
-    (λ _. told_twice w q (at handed q) (at (sent handed INIT SIGCHLD) q) (inl same) (sent_at handed INIT q)) (λ _. inl same) in
+    let once : IsTold q (at w q) (at after q) =
+    cond_both (has_zombie_child w pid && not (ignores_children (at w heir))) (sent handed heir SIGCHLD) handed (λ v. IsTold q (at w q) (at v q))
+    (λ _. told_twice q (at w q) (at handed q) (at (sent handed heir SIGCHLD) q) (told_nothing q (at w q) (at handed q) same) (sent_told handed heir SIGCHLD q refl))
+    (λ _. told_nothing q (at w q) (at handed q) same) in
     let dead : World = changed after pid (zombie status) in
-    cond_both (pid == INIT) (changed w INIT _) (died after pid status) (λ v. Told q (at w q) (at v q)) (λ is. absurd (apart.not_init (eqb-true pid INIT is)))
-    (λ _. cond_both (ignores_children (at after parent)) (stored after pid None) (sent dead parent SIGCHLD) (λ v. Told q (at w q) (at v q))
-    (λ _. subst (Told q (at w q)) (sym (at_other after pid None q apart.other)) once)
-    (λ _. told_twice w q (at dead q) (at (sent dead parent SIGCHLD) q) (subst (Told q (at w q)) (sym (at_other after pid _ q apart.other)) once) (sent_at dead parent q)))
+    cond_both (pid == INIT) (changed w INIT _) (died after pid status) (λ v. IsTold q (at w q) (at v q)) (λ is. absurd (apart.not_init (eqb-true pid INIT is)))
+    (λ _. cond_both (ignores_children (at after parent)) (stored after pid None) (sent dead parent SIGCHLD) (λ v. IsTold q (at w q) (at v q))
+    (λ _. subst (IsTold q (at w q)) (sym (at_other after pid None q apart.other)) once)
+    (λ _. told_twice q (at w q) (at dead q) (at (sent dead parent SIGCHLD) q) (subst (IsTold q (at w q)) (sym (at_other after pid _ q apart.other)) once) (sent_told dead parent SIGCHLD q refl)))
+
+end_told : (w : World) (pid status q : ℕ) → IsApart w pid q → IsTold q (at w q) (at (ended_and_hung_up w pid status) q)
+end_told w pid status q apart =
+    let after : World = ended w pid status in
+    let left : List ℕ = filter (is_left_orphaned w after) (groups after) in
+    let once : IsTold q (at w q) (at after q) = ended_told w pid status q apart in
+    cond_both (pid == INIT) after (each_hung_up after left) (λ v. IsTold q (at w q) (at v q)) (λ _. once)
+    (λ _. told_twice q (at w q) (at after q) (at (each_hung_up after left) q) once (groups_told after left q))
 
 -- ---- calls
 -- what is left of it, by whether the caller has ended or stopped
 record Alone (q : ℕ) (base : Option Proc) (b : Bool) (now : Option Proc) : Type 0 where
   same : b ≡ false → now ≡ base
-  told : Told q base now
+  told : IsTold q base now
 
 untouched : (q : ℕ) (base : Option Proc) (b : Bool) (now : Option Proc) → now ≡ base → Alone q base b now
-untouched q base b now is = record { same = λ _. is; told = inl is }
+untouched q base b now is = record { same = λ _. is; told = told_nothing q base now is }
 
-only_told : (q : ℕ) (base now : Option Proc) → Told q base now → Alone q base true now
+only_told : (q : ℕ) (base now : Option Proc) → IsTold q base now → Alone q base true now
 only_told q base now told = record { same = λ h. absurd (false≢true (sym h)); told = told }
 
 abbrev Spares : World → ℕ → Performed → Type 0
@@ -208,27 +252,29 @@ spares_wait4 w pid q call apart =
     (λ _. cond_both (low call 0 == 2147483648) (fails w Esrch) _ (Spares w q) (λ _. spares_world w q false)
     (λ _. spares_polled w pid q (request_of w pid call) (ready_of w pid (request_of w pid call)) apart refl))
 
-either : (a b : Bool) → not (a || b) ≡ false → (a ≡ true) ⊎ (b ≡ true)
-either true b h = inl refl
-either false b h = inr (not-false b h)
-
 child_parent : (caller : ℕ) (o : Option Proc) → IsTrue (is_child_of caller o) → parent_of o ≡ caller
 child_parent caller None is = absurd (false≢true is)
 child_parent caller (Some p) is = eqb-true p.links.parent caller is
 
-spares_regrouped : (w : World) (pid q target group : ℕ) → IsApart w pid q → Spares w q (changes w 0 (regrouped w pid target group))
-spares_regrouped w pid q target group apart =
+spares_joined : (w : World) (pid q target group : ℕ) → q ≢ target → Spares w q (changes w 0 (put_into_group w target group (may_join w pid target group)))
+spares_joined w pid q target group ne =
     let P : Result (Unit {0}) Errno → Type 0 = λ r. Spares w q (changes w 0 (put_into_group w target group r)) in
-    cond_both (not ((target == pid) || is_child_of pid (at w target))) (Err Esrch) _ P (λ _. spares_world w q false) (λ known.
-    let ne : q ≢ target = λ is. elim (either (target == pid) (is_child_of pid (at w target)) known) [
-      | inl mine ↦ apart.other (is ∙ eqb-true target pid mine)
-      | inr child ↦ apart.no_child (ap (λ k. parent_of (at w k)) is ∙ child_parent pid (at w target) child)
-    ] in
-    cond_both (not (target == pid) && not (session_of (at w target) == session_of (at w pid))) (Err Eperm) _ P (λ _. spares_world w q false) (λ _.
-    cond_both (not (target == pid) && has_executed (at w target)) (Err Eacces) _ P (λ _. spares_world w q false) (λ _.
     cond_both (session_of (at w target) == target) (Err Eperm) _ P (λ _. spares_world w q false) (λ _.
     cond_both (not (group == target) && not (is_group_of_session w (session_of (at w pid)) group)) (Err Eperm) (Ok tt) P (λ _. spares_world w q false) (λ _.
-    untouched q (at w q) false _ (at_other w target _ q ne))))))
+    untouched q (at w q) false _ (at_other w target _ q ne)))
+
+spares_regrouped : (w : World) (pid q target group : ℕ) → IsApart w pid q → Spares w q (changes w 0 (regrouped w pid target group))
+spares_regrouped w pid q target group apart =
+    let joined : Result (Unit {0}) Errno = may_join w pid target group in
+    let P : Result (Unit {0}) Errno → Type 0 = λ r. Spares w q (changes w 0 (put_into_group w target group r)) in
+    let Q : Result (Unit {0}) Errno → Type 0 = λ r. P (result_and r joined) in
+    cond_both (target == pid) joined (result_and (may_move_child w pid target) joined) P
+    (λ mine. spares_joined w pid q target group (λ is. apart.other (is ∙ eqb-true target pid mine)))
+    (λ _. cond_both (not (is_child_of pid (at w target))) (Err Esrch) _ Q (λ _. spares_world w q false) (λ known.
+    let child : IsTrue (is_child_of pid (at w target)) = not-false (is_child_of pid (at w target)) known in
+    let ne : q ≢ target = λ is. apart.no_child (ap (λ k. parent_of (at w k)) is ∙ child_parent pid (at w target) child) in
+    cond_both (not (session_of (at w target) == session_of (at w pid))) (Err Eperm) _ Q (λ _. spares_world w q false) (λ _.
+    cond_both (has_executed (at w target)) (Err Eacces) (Ok tt) Q (λ _. spares_world w q false) (λ _. spares_joined w pid q target group ne))))
 
 spares_setpgid : (w : World) (pid q : ℕ) (who group : ℤ) → IsApart w pid q → Spares w q (changes w 0 (after_setpgid w pid who group))
 spares_setpgid w pid q who group apart =
@@ -258,8 +304,8 @@ spares_seccomp images w pid q (Some operation.SetModeFilter) call ne = spares_au
 spares_seccomp images w pid q (Some operation.GetActionAvail) call ne = spares_asked w q (action_available (low call 1) (low call 2))
 spares_seccomp images w pid q None call ne = spares_world w q false
 
-spares_ends : (w : World) (pid status q : ℕ) → IsApart w pid q → Alone q (at w q) true (at (ended w pid status) q)
-spares_ends w pid status q apart = only_told q (at w q) (at (ended w pid status) q) (ended_told w pid status q apart)
+spares_ends : (w : World) (pid status q : ℕ) → IsApart w pid q → Alone q (at w q) true (at (ended_and_hung_up w pid status) q)
+spares_ends w pid status q apart = only_told q (at w q) (at (ended_and_hung_up w pid status) q) (end_told w pid status q apart)
 
 -- every call but kill(2)
 spares_row : (images : GivenImages) (w : World) (pid q : ℕ) (which : Option Syscall) (call : Record) → IsWorld w → IsApart w pid q → IsTrue (is_some (at w q)) → is_kill_row which ≡ false → Spares w q (row images w pid which call)
@@ -317,8 +363,11 @@ spares_default : (w : World) (pid n q : ℕ) (a : DefaultAction) → IsApart w p
 spares_default w pid n q default.Ignore apart = spares_world w q false
 spares_default w pid n q default.Continue apart = spares_world w q false
 spares_default w pid n q default.Stop apart =
+    cond_both (is_tty_stop n && is_orphaned w (group_of (at w pid))) (ignored w) (stopped_by w pid n) (SparesBy w q) (λ _. spares_world w q false)
+    (λ _.
     let stopped : World = changed w pid (stopping n) in
-    only_told q (at w q) _ (told_twice w q (at stopped q) (at (sent stopped (parent_of (at w pid)) SIGCHLD) q) (inl (at_other w pid _ q apart.other)) (sent_at stopped (parent_of (at w pid)) q))
+    only_told q (at w q) _ (told_twice q (at w q) (at stopped q) (at (sent stopped (parent_of (at w pid)) SIGCHLD) q)
+    (told_nothing q (at w q) (at stopped q) (at_other w pid _ q apart.other)) (sent_told stopped (parent_of (at w pid)) SIGCHLD q refl)))
 spares_default w pid n q default.Terminate apart = spares_ends w pid n q apart
 
 spares_done_by : (w : World) (pid n q : ℕ) (d : Disposition) → IsApart w pid q → SparesBy w q (acts_by_disposition w pid n d)
@@ -394,12 +443,8 @@ spares_stepped images w event None inside q is rules confined within outside the
     spares_happened images w event q rules (apart_of w inside (pid_of event) q confined within outside there) there
     (confined.refuses (pid_of event) (alive_is_there (at w (pid_of event)) alive) within)
 
-as_before_or_told : (w : World) (q : ℕ) (now : Option Proc) → Told q (at w q) now → (now ≡ at w q) ⊎ (now ≡ at (sent w q SIGCHLD) q)
-as_before_or_told w q now (inl same) = inl same
-as_before_or_told w q now (inr told) = inr (told ∙ sym (at_here w q (signalled_at q (at w q))))
-
 pub event_is_confined : EventIsConfined
 unfolding step_of
 event_is_confined images w event inside q rules confined within outside there =
     let spares = spares_stepped images w event (reason_of w event) inside q refl rules confined within outside there in
-    record { same = spares.same; told = as_before_or_told w q _ spares.told }
+    record { same = spares.same; told = spares.told }

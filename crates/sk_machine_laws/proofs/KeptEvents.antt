@@ -1,5 +1,6 @@
 -- Every event keeps the rules of the world.
 use Rattle.std.proofs.Common.{◌≡◌, ◌≢◌, ◌∙◌, ℕ, ◌==◌, ◌&&◌, ap, sym, refl, subst, cond, not, Bool, true, false, length, nat_le, IsTrue, IfOk, ℤ, List, [], ◌∷◌, ◌⊎◌, inl, inr, Option, None, Some, Result, Ok, Err}
+use Rattle.std.specs.Prelude.{filter}
 use Rattle.std.specs.Option.{is_some, unwrap_or, option_map}
 use Rattle.std.proofs.lemmas.Bool.{cond_both, eqb-true, eqb-false, not-true, not-false}
 use Rattle.sk_insn.specs.declared.record.Record.{Record}
@@ -9,14 +10,14 @@ use Rattle.sk_insn.specs.Actions.{action_of}
 use Rattle.sk_chain.specs.Verdict.{verdict_of}
 use Rattle.sk_creds.specs.declared.errno.Errno.{Errno}
 use Rattle.sk_creds.specs.declared.errno.Errno.TheVariants.{Eperm, Esrch, Einval}
-use Rattle.sk_signal.specs.declared.number.TheConstants.{SIGKILL, SIGSEGV, SIGCHLD, SIGSYS}
+use Rattle.sk_signal.specs.declared.number.TheConstants.{SIGHUP, SIGKILL, SIGSEGV, SIGCHLD, SIGCONT, SIGSYS}
 use Rattle.sk_signal.specs.declared.state.TheConstants.{FRAMES}
 use Rattle.sk_signal.specs.declared.disposition.DefaultAction.{DefaultAction}
 use Rattle.sk_signal.specs.declared.disposition.DefaultAction.TheVariants as default
 use Rattle.sk_signal.specs.declared.disposition.Disposition.{Disposition}
 use Rattle.sk_signal.specs.declared.disposition.Disposition.TheVariants as disposition
 use Rattle.sk_signal.specs.SignalSet.{Signals}
-use Rattle.sk_signal.specs.Actions.{default_action}
+use Rattle.sk_signal.specs.Actions.{default_action, is_tty_stop}
 use Rattle.sk_signal.specs.SignalState.{SignalState, disposition_of}
 use Rattle.sk_world.specs.declared.process.TheConstants.{INIT}
 use Rattle.sk_world.specs.declared.process.Body.{Body}
@@ -25,6 +26,7 @@ use Rattle.sk_world.specs.declared.process.Waiting.TheVariants as waiting
 use Rattle.sk_world.specs.declared.request.Request.{Request}
 use Rattle.sk_world.specs.declared.request.Poll.{Poll}
 use Rattle.sk_world.specs.declared.request.Poll.TheVariants as poll
+use Rattle.sk_world.specs.Processes.{pids}
 use Rattle.sk_world.specs.World.{World, at, has_ended, has_stopped, is_stopped, is_zombie, is_halted, is_alive, parent_of, body_changed, changed, opening}
 use Rattle.sk_world.specs.Rules.{IsWorld}
 use Rattle.sk_world.specs.Forking.{fork_answer}
@@ -35,7 +37,9 @@ use Rattle.sk_world.proofs.Kept.{kept_opening, kept_sent, kept_forced}
 use Rattle.sk_world.proofs.KeptFork.{kept_forked}
 use Rattle.sk_world.proofs.KeptEnd.{kept_ended, alive_is_there}
 use Rattle.sk_world.proofs.KeptTold.{kept_told}
-use Rattle.sk_session.specs.Sessions.{after_setpgid, after_setsid, group_asked, session_asked}
+use Rattle.sk_world.specs.Ending.{ended}
+use Rattle.sk_session.specs.Orphans.{is_living_member, is_orphaned, is_left_orphaned, groups, sent_to_group, hung_up, each_hung_up, ended_and_hung_up}
+use Rattle.sk_session.specs.Sessions.{group_of, after_setpgid, after_setsid, group_asked, session_asked}
 use Rattle.sk_session.proofs.KeptLinks.{kept_setpgid, kept_setsid}
 use Rattle.sk_machine.specs.declared.event.Event.{Event}
 use Rattle.sk_machine.specs.declared.event.Event.TheVariants.{Call, Deliver, Resume, Fault}
@@ -105,6 +109,23 @@ kept_kill w caller who n rules =
     (λ _. cond_both (length (permitted w caller who n) == 0) (Err Eperm) (Ok (killed w (permitted w caller who n) n)) (λ r. IfOk r IsWorld) (λ _. tt)
     (λ _. cond_both (n == 0) w (sent_to_each w (permitted w caller who n) n) IsWorld (λ _. rules) (λ _. kept_sent_to_each w (permitted w caller who n) n rules))))
 
+-- the end of a process, and the groups that it leaves orphaned, which are hung up
+kept_sent_to_group : (w : World) (group n : ℕ) → IsWorld w → IsWorld (sent_to_group w group n)
+kept_sent_to_group w group n rules = kept_sent_to_each w (filter (λ pid. is_living_member group (at w pid)) (pids w.procs)) n rules
+
+kept_each_hung_up : (w : World) (left : List ℕ) → IsWorld w → IsWorld (each_hung_up w left)
+kept_each_hung_up w [] rules = rules
+kept_each_hung_up w (group ∷ rest) rules =
+    let told : World = sent_to_group w group SIGHUP in
+    kept_each_hung_up (hung_up w group) rest (kept_sent_to_group told group SIGCONT (kept_sent_to_group w group SIGHUP rules))
+
+kept_end : (w : World) (pid status : ℕ) → IsWorld w → IsTrue (is_alive (at w pid)) → IsWorld (ended_and_hung_up w pid status)
+kept_end w pid status rules alive =
+    let after : World = ended w pid status in
+    let left : List ℕ = filter (is_left_orphaned w after) (groups after) in
+    let kept : IsWorld after = kept_ended w pid status rules alive in
+    cond_both (pid == INIT) after (each_hung_up after left) IsWorld (λ _. kept) (λ _. kept_each_hung_up after left kept)
+
 kept_polled : (w : World) (pid : ℕ) (request : Request) (p : Poll) → IsWorld w → IsWorld (told w p) → IsWorld (polled w pid request p).world
 kept_polled w pid request (poll.Told child status) rules kept = kept
 kept_polled w pid request poll.NoMatch rules kept = rules
@@ -149,8 +170,8 @@ kept_row images w pid (Some syscall.Getpid) call rules alive = rules
 kept_row images w pid (Some syscall.Getppid) call rules alive = rules
 kept_row images w pid (Some syscall.Fork) call rules alive = kept_forks w pid (fork_answer w) rules alive
 kept_row images w pid (Some syscall.Execve) call rules alive = kept_execve w pid (authorised images w pid syscall.Execve call) rules
-kept_row images w pid (Some syscall.Exit) call rules alive = kept_ended w pid (exit_status (low call 0)) rules alive
-kept_row images w pid (Some syscall.ExitGroup) call rules alive = kept_ended w pid (exit_status (low call 0)) rules alive
+kept_row images w pid (Some syscall.Exit) call rules alive = kept_end w pid (exit_status (low call 0)) rules alive
+kept_row images w pid (Some syscall.ExitGroup) call rules alive = kept_end w pid (exit_status (low call 0)) rules alive
 kept_row images w pid (Some syscall.Wait4) call rules alive = kept_wait4 w pid call rules alive
 kept_row images w pid (Some syscall.Kill) call rules alive =
     kept_changes w 0 (after_kill w pid (signed call 0) (low call 1)) rules (kept_kill w pid (signed call 0) (low call 1) rules)
@@ -179,9 +200,9 @@ kept_judged images w pid call verdict action.Trap rules alive = kept_forced w pi
 kept_judged images w pid call verdict action.Errno rules alive = rules
 kept_judged images w pid call verdict action.UserNotif rules alive = rules
 kept_judged images w pid call verdict action.Trace rules alive = rules
-kept_judged images w pid call verdict action.KillProcess rules alive = kept_ended w pid SIGSYS rules alive
-kept_judged images w pid call verdict action.KillThread rules alive = kept_ended w pid SIGSYS rules alive
-kept_judged images w pid call verdict action.Unknown rules alive = kept_ended w pid SIGSYS rules alive
+kept_judged images w pid call verdict action.KillProcess rules alive = kept_end w pid SIGSYS rules alive
+kept_judged images w pid call verdict action.KillThread rules alive = kept_end w pid SIGSYS rules alive
+kept_judged images w pid call verdict action.Unknown rules alive = kept_end w pid SIGSYS rules alive
 
 -- ---- deliveries
 lives_on : (f : Body → Body) (o : Option Proc) → ((body : Body) → (f body).life ≡ body.life) → IsTrue (is_alive o) → IsTrue (is_alive (option_map (body_changed f) o))
@@ -193,7 +214,7 @@ still_alive w pid f same alive = ap is_alive (at_here w pid (option_map (body_ch
 
 kept_handled : (w : World) (pid n program : ℕ) (mask : Signals) → IsWorld w → IsTrue (is_alive (at w pid)) → IsWorld (enters_handler w pid n program mask).world
 kept_handled w pid n program mask rules alive =
-    cond_both (length (body_of (at w pid)).signals.frames == FRAMES) (terminated_by w pid SIGSEGV) _ (λ (d : Delivered). IsWorld d.world) (λ _. kept_ended w pid SIGSEGV rules alive)
+    cond_both (length (body_of (at w pid)).signals.frames == FRAMES) (terminated_by w pid SIGSEGV) _ (λ (d : Delivered). IsWorld d.world) (λ _. kept_end w pid SIGSEGV rules alive)
     (λ _. kept_body w pid (in_handler n mask) rules (λ body. refl))
 
 kept_stopped : (w : World) (pid n : ℕ) → IsWorld w → IsTrue (is_alive (at w pid)) → pid ≢ INIT → IsWorld (stopped_by w pid n).world
@@ -206,12 +227,13 @@ kept_stopped w pid n rules alive other =
 kept_default : (w : World) (pid n : ℕ) (a : DefaultAction) → IsWorld w → IsTrue (is_alive (at w pid)) → pid ≢ INIT → IsWorld (acts_by_default w pid n a).world
 kept_default w pid n default.Ignore rules alive other = rules
 kept_default w pid n default.Continue rules alive other = rules
-kept_default w pid n default.Stop rules alive other = kept_stopped w pid n rules alive other
-kept_default w pid n default.Terminate rules alive other = kept_ended w pid n rules alive
+kept_default w pid n default.Stop rules alive other =
+    cond_both (is_tty_stop n && is_orphaned w (group_of (at w pid))) (ignored w) (stopped_by w pid n) (λ (d : Delivered). IsWorld d.world) (λ _. rules) (λ _. kept_stopped w pid n rules alive other)
+kept_default w pid n default.Terminate rules alive other = kept_end w pid n rules alive
 
 -- a SIGSYS ends any process
 kept_sigsys : (w : World) (pid n : ℕ) → IsWorld w → IsTrue (is_alive (at w pid)) → n ≡ SIGSYS → IsWorld (acts_by_default w pid n (default_action n)).world
-kept_sigsys w pid n rules alive is = subst (λ k. IsWorld (acts_by_default w pid k (default_action k)).world) (sym is) (kept_ended w pid SIGSYS rules alive)
+kept_sigsys w pid n rules alive is = subst (λ k. IsWorld (acts_by_default w pid k (default_action k)).world) (sym is) (kept_end w pid SIGSYS rules alive)
 
 init_or_sigsys : (a b : Bool) → (a && not b) ≡ false → (a ≡ false) ⊎ (b ≡ true)
 init_or_sigsys false b h = inl refl
@@ -229,7 +251,7 @@ kept_done_by w pid n disposition.Default rules alive =
 
 kept_done : (w : World) (pid n : ℕ) → IsWorld w → IsTrue (is_alive (at w pid)) → IsWorld (acted_on w pid n).world
 kept_done w pid n rules alive =
-    cond_both (n == SIGKILL) (terminated_by w pid SIGKILL) _ (λ (d : Delivered). IsWorld d.world) (λ _. kept_ended w pid SIGKILL rules alive)
+    cond_both (n == SIGKILL) (terminated_by w pid SIGKILL) _ (λ (d : Delivered). IsWorld d.world) (λ _. kept_end w pid SIGKILL rules alive)
     (λ _. kept_done_by w pid n (disposition_of (body_of (at w pid)).signals n) rules alive)
 
 pub kept_delivered : DeliveryKeepsRules
@@ -255,7 +277,7 @@ kept_happened images w (Call pid ip nr args) rules alive =
     kept_judged images w pid call verdict (action_of verdict) rules alive
 kept_happened images w (Deliver pid) rules alive = kept_delivered w pid (unwrap_or (signal_due (at w pid)) 0) rules alive
 kept_happened images w (Resume pid) rules alive = kept_resumed w pid (body_of (at w pid)).waiting rules alive
-kept_happened images w (Fault pid) rules alive = kept_ended w pid SIGSEGV rules alive
+kept_happened images w (Fault pid) rules alive = kept_end w pid SIGSEGV rules alive
 
 there_and_no_zombie : (o : Option Proc) → IsTrue (is_some o) → is_zombie o ≡ false → IsTrue (is_alive o)
 there_and_no_zombie None there zombie = there

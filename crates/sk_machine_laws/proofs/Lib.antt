@@ -9,4 +9,5 @@ pub mod Tellings
 pub mod Confined
 pub mod Parents
 pub mod Turns
+pub mod Marks
 pub mod Runs

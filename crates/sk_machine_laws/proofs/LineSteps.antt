@@ -22,6 +22,7 @@ use Rattle.sk_world.specs.Forking.{has_room, forked}
 use Rattle.sk_world.proofs.Stored.{everywhere, at_other}
 use Rattle.sk_world.proofs.Rights.{forced_rights, forked_rights}
 use Rattle.sk_world.specs.Sending.{forced}
+use Rattle.sk_world.proofs.KeptEnd.{alive_is_there}
 use Rattle.sk_session.specs.Sessions.{after_setpgid, after_setsid, group_asked, session_asked}
 use Rattle.sk_machine.specs.declared.event.Event.{Event}
 use Rattle.sk_machine.specs.declared.event.Event.TheVariants.{Call, Deliver, Resume, Fault}
@@ -47,8 +48,8 @@ use Rattle.sk_machine.specs.Machine.{Stepped, judged, happened, reason_of, stepp
 use Rattle.sk_machine.specs.Lines.{Line, Happening, is_fork, has_returned, line_before, calls_added, line_of, authority_after_calls, history_after}
 use Rattle.sk_machine_laws.specs.LineLaws.{happening, EventChangesAuthority, AuthorityIsOfLine, LineComesFromInit}
 use Rattle.sk_machine_laws.proofs.KeptEvents.{possible_is_alive}
-use Rattle.sk_machine_laws.proofs.Carrying.{over_asked, over_changes, over_resignals, over_waits, over_kill, over_setpgid, over_setsid, over_wait4, over_delivered, over_resumed}
-use Rattle.sk_machine_laws.proofs.Authorities.{CameBy, Came, Keeps, came_still, came_at, came_by_rights, keeps_by_rights, keeps_still, keeps_changed, keeps_ended, keeps}
+use Rattle.sk_machine_laws.proofs.Carrying.{over_asked, over_changes, over_resignals, over_waits, over_kill, over_setpgid, over_setsid, over_wait4, over_end, over_delivered, over_resumed}
+use Rattle.sk_machine_laws.proofs.Authorities.{CameBy, Came, Keeps, came_still, came_at, came_by_rights, keeps_by_rights, keeps_still, keeps_changed, keeps}
 
 -- ---- which call is a fork
 abbrev pub is_fork_row : Option Syscall → Bool
@@ -145,7 +146,7 @@ step_prctl images w pid q (Some option.SetNoNewPrivs) call = step_authorises w p
 step_prctl images w pid q (Some option.SetSeccomp) call = step_authorises w pid q (after_set_seccomp images call)
 step_prctl images w pid q (Some option.GetSeccomp) call = step_quiet pid q _ (at w q) (keeps_still w q)
 step_prctl images w pid q (Some option.GetNoNewPrivs) call =
-    step_quiet pid q _ (at w q) (over_asked Came keeps w (no_new_privs_asked call (body_of (at w pid)).creds.no_new_privs) q)
+    step_quiet pid q _ (at w q) (over_asked Keeps keeps w (no_new_privs_asked call (body_of (at w pid)).creds.no_new_privs) q)
 step_prctl images w pid q (Some option.SetChildSubreaper) call =
     step_quiet pid q _ (at w q) (keeps_subreapers images.subreapers w (subreaper_set w pid call) (keeps_changed w pid (with_subreaper (not (register call 1 == 0))) (λ body. refl)) q)
 step_prctl images w pid q (Some option.GetChildSubreaper) call = step_quiet pid q _ (at w q) (keeps_subreapers images.subreapers w (subreaper_asked w pid) (keeps_still w) q)
@@ -155,7 +156,7 @@ step_seccomp : (images : GivenImages) (w : World) (pid q : ℕ) (which : Option 
     → CameBy (cond ((pid == q) && true) (λ a. result_unwrap_or (after_seccomp images which call a) a) (λ a. a)) (at (seccomp images w pid which call).world q) (at w q)
 step_seccomp images w pid q (Some operation.SetModeFilter) call = step_authorises w pid q (after_set_mode_filter images call)
 step_seccomp images w pid q (Some operation.GetActionAvail) call =
-    step_quiet pid q _ (at w q) (over_asked Came keeps w (action_available (low call 1) (low call 2)) q)
+    step_quiet pid q _ (at w q) (over_asked Keeps keeps w (action_available (low call 1) (low call 2)) q)
 step_seccomp images w pid q None call = step_quiet pid q _ (at w q) (keeps_still w q)
 
 and_true : (b c : Bool) → c ≡ true → (b && c) ≡ b
@@ -171,33 +172,33 @@ step_fork images w pid q call true room alive =
 step_fork images w pid q call false room alive = leaves ((pid == q) && true) (λ a. a) (at w q) (at w q) (λ a. refl) (came_still (at w q))
 
 step_row : (images : GivenImages) (w : World) (pid q : ℕ) (which : Option Syscall) (call : Record) → IsTrue (is_alive (at w pid)) → RowStep images w pid q call which (row images w pid which call)
-step_row images w pid q (Some syscall.RtSigaction) call alive = step_quiet pid q _ (at w q) (over_resignals Came keeps w pid (after_sigaction pid call (body_of (at w pid)).signals) q)
-step_row images w pid q (Some syscall.RtSigprocmask) call alive = step_quiet pid q _ (at w q) (over_resignals Came keeps w pid (after_sigprocmask call (body_of (at w pid)).signals) q)
+step_row images w pid q (Some syscall.RtSigaction) call alive = step_quiet pid q _ (at w q) (over_resignals Keeps keeps w pid (after_sigaction pid call (body_of (at w pid)).signals) q)
+step_row images w pid q (Some syscall.RtSigprocmask) call alive = step_quiet pid q _ (at w q) (over_resignals Keeps keeps w pid (after_sigprocmask call (body_of (at w pid)).signals) q)
 step_row images w pid q (Some syscall.RtSigreturn) call alive =
-    step_quiet pid q _ (at w q) (over_resignals Came keeps w pid (after_sigreturn (body_of (at w pid)).signals.frames (body_of (at w pid)).signals) q)
+    step_quiet pid q _ (at w q) (over_resignals Keeps keeps w pid (after_sigreturn (body_of (at w pid)).signals.frames (body_of (at w pid)).signals) q)
 step_row images w pid q (Some syscall.RtSigpending) call alive = step_quiet pid q _ (at w q) (keeps_still w q)
 step_row images w pid q (Some syscall.SchedYield) call alive = step_quiet pid q _ (at w q) (keeps_still w q)
-step_row images w pid q (Some syscall.Pause) call alive = step_quiet pid q _ (at w q) (over_waits Came keeps w pid waiting.Pause q)
+step_row images w pid q (Some syscall.Pause) call alive = step_quiet pid q _ (at w q) (over_waits Keeps keeps w pid waiting.Pause q)
 step_row images w pid q (Some syscall.Getpid) call alive = step_quiet pid q _ (at w q) (keeps_still w q)
 step_row images w pid q (Some syscall.Getppid) call alive = step_quiet pid q _ (at w q) (keeps_still w q)
 step_row images w pid q (Some syscall.Fork) call alive = step_fork images w pid q call (has_room w) refl alive
 step_row images w pid q (Some syscall.Execve) call alive = step_execve w pid q (authority_after images (Some syscall.Execve) call)
-step_row images w pid q (Some syscall.Exit) call alive = step_quiet pid q _ (at w q) (keeps_ended w pid (exit_status (low call 0)) q)
-step_row images w pid q (Some syscall.ExitGroup) call alive = step_quiet pid q _ (at w q) (keeps_ended w pid (exit_status (low call 0)) q)
-step_row images w pid q (Some syscall.Wait4) call alive = step_quiet pid q _ (at w q) (over_wait4 Came keeps w pid call q)
+step_row images w pid q (Some syscall.Exit) call alive = step_quiet pid q _ (at w q) (over_end Keeps keeps w pid (exit_status (low call 0)) (alive_is_there (at w pid) alive) q)
+step_row images w pid q (Some syscall.ExitGroup) call alive = step_quiet pid q _ (at w q) (over_end Keeps keeps w pid (exit_status (low call 0)) (alive_is_there (at w pid) alive) q)
+step_row images w pid q (Some syscall.Wait4) call alive = step_quiet pid q _ (at w q) (over_wait4 Keeps keeps w pid call q)
 step_row images w pid q (Some syscall.Kill) call alive =
-    step_quiet pid q _ (at w q) (over_changes Came keeps w 0 (after_kill w pid (signed call 0) (low call 1)) (over_kill Came keeps w pid (signed call 0) (low call 1)) q)
+    step_quiet pid q _ (at w q) (over_changes Keeps keeps w 0 (after_kill w pid (signed call 0) (low call 1)) (over_kill Keeps keeps w pid (signed call 0) (low call 1)) q)
 step_row images w pid q (Some syscall.Getuid) call alive = step_quiet pid q _ (at w q) (keeps_still w q)
 step_row images w pid q (Some syscall.Geteuid) call alive = step_quiet pid q _ (at w q) (keeps_still w q)
 step_row images w pid q (Some syscall.Setuid) call alive = step_authorises w pid q (authority_after images (Some syscall.Setuid) call)
 step_row images w pid q (Some syscall.Setresuid) call alive = step_authorises w pid q (authority_after images (Some syscall.Setresuid) call)
 step_row images w pid q (Some syscall.Getresuid) call alive = step_quiet pid q _ (at w q) (keeps_still w q)
 step_row images w pid q (Some syscall.Setpgid) call alive =
-    step_quiet pid q _ (at w q) (over_changes Came keeps w 0 (after_setpgid w pid (signed call 0) (signed call 1)) (over_setpgid Came keeps w pid (signed call 0) (signed call 1)) q)
+    step_quiet pid q _ (at w q) (over_changes Keeps keeps w 0 (after_setpgid w pid (signed call 0) (signed call 1)) (over_setpgid Keeps keeps w pid (signed call 0) (signed call 1)) q)
 step_row images w pid q (Some syscall.Getpgrp) call alive = step_quiet pid q _ (at w q) (keeps_still w q)
-step_row images w pid q (Some syscall.Setsid) call alive = step_quiet pid q _ (at w q) (over_changes Came keeps w pid (after_setsid w pid) (over_setsid Came keeps w pid) q)
-step_row images w pid q (Some syscall.Getpgid) call alive = step_quiet pid q _ (at w q) (over_asked Came keeps w (group_asked w pid (signed call 0)) q)
-step_row images w pid q (Some syscall.Getsid) call alive = step_quiet pid q _ (at w q) (over_asked Came keeps w (session_asked w pid (signed call 0)) q)
+step_row images w pid q (Some syscall.Setsid) call alive = step_quiet pid q _ (at w q) (over_changes Keeps keeps w pid (after_setsid w pid) (over_setsid Keeps keeps w pid) q)
+step_row images w pid q (Some syscall.Getpgid) call alive = step_quiet pid q _ (at w q) (over_asked Keeps keeps w (group_asked w pid (signed call 0)) q)
+step_row images w pid q (Some syscall.Getsid) call alive = step_quiet pid q _ (at w q) (over_asked Keeps keeps w (session_asked w pid (signed call 0)) q)
 step_row images w pid q (Some syscall.Prctl) call alive = step_prctl images w pid q (prctl_option_of (low call 0)) call
 step_row images w pid q (Some syscall.Seccomp) call alive = step_seccomp images w pid q (seccomp_operation_of (low call 0)) call
 step_row images w pid q None call alive = step_quiet pid q _ (at w q) (keeps_still w q)
@@ -240,9 +241,9 @@ step_judged images w pid q call verdict action.Trap alive = step_refused images 
 step_judged images w pid q call verdict action.Errno alive = step_refused images w pid q (judged images w pid call verdict action.Errno) (keeps_still w)
 step_judged images w pid q call verdict action.UserNotif alive = step_refused images w pid q (judged images w pid call verdict action.UserNotif) (keeps_still w)
 step_judged images w pid q call verdict action.Trace alive = step_refused images w pid q (judged images w pid call verdict action.Trace) (keeps_still w)
-step_judged images w pid q call verdict action.KillProcess alive = step_refused images w pid q (judged images w pid call verdict action.KillProcess) (keeps_ended w pid SIGSYS)
-step_judged images w pid q call verdict action.KillThread alive = step_refused images w pid q (judged images w pid call verdict action.KillThread) (keeps_ended w pid SIGSYS)
-step_judged images w pid q call verdict action.Unknown alive = step_refused images w pid q (judged images w pid call verdict action.Unknown) (keeps_ended w pid SIGSYS)
+step_judged images w pid q call verdict action.KillProcess alive = step_refused images w pid q (judged images w pid call verdict action.KillProcess) (over_end Keeps keeps w pid SIGSYS (alive_is_there (at w pid) alive))
+step_judged images w pid q call verdict action.KillThread alive = step_refused images w pid q (judged images w pid call verdict action.KillThread) (over_end Keeps keeps w pid SIGSYS (alive_is_there (at w pid) alive))
+step_judged images w pid q call verdict action.Unknown alive = step_refused images w pid q (judged images w pid call verdict action.Unknown) (over_end Keeps keeps w pid SIGSYS (alive_is_there (at w pid) alive))
 
 abbrev EventStep : GivenImages → World → Event → Stepped → ℕ → Type 0
 EventStep images w event s q =
@@ -253,9 +254,9 @@ step_happened images w (Call pid ip nr args) q alive =
     let call : Record = record { nr = nr; ip = ip; args = args } in
     let verdict : ℕ = verdict_of (body_of (at w pid)).chain call in
     step_judged images w pid q call verdict (action_of verdict) alive
-step_happened images w (Deliver pid) q alive = no_calls images ((pid == q) && true) _ (at w q) (over_delivered Came keeps w pid (unwrap_or (signal_due (at w pid)) 0) q)
-step_happened images w (Resume pid) q alive = no_calls images ((pid == q) && true) _ (at w q) (over_resumed Came keeps w pid (body_of (at w pid)).waiting q)
-step_happened images w (Fault pid) q alive = no_calls images ((pid == q) && true) _ (at w q) (keeps_ended w pid SIGSEGV q)
+step_happened images w (Deliver pid) q alive = no_calls images ((pid == q) && true) _ (at w q) (over_delivered Keeps keeps w pid (unwrap_or (signal_due (at w pid)) 0) (alive_is_there (at w pid) alive) q)
+step_happened images w (Resume pid) q alive = no_calls images ((pid == q) && true) _ (at w q) (over_resumed Keeps keeps w pid (body_of (at w pid)).waiting q)
+step_happened images w (Fault pid) q alive = no_calls images ((pid == q) && true) _ (at w q) (over_end Keeps keeps w pid SIGSEGV (alive_is_there (at w pid) alive) q)
 
 step_stepped : (images : GivenImages) (w : World) (event : Event) (o : Option Reason) (q : ℕ) → reason_of w event ≡ o → EventStep images w event (stepped images w event o) q
 step_stepped images w event (Some reason) q is = no_calls images ((pid_of event == q) && true) (at w q) (at w q) (came_still (at w q))

@@ -1,6 +1,7 @@
 -- Whose child each process is after an event, and that those who come from confined ones are confined.
-use Rattle.std.proofs.Common.{◌≡◌, ◌≢◌, ◌∙◌, ℕ, ℤ, suc, ◌+◌, ◌≤◌, ◌==◌, ◌&&◌, ◌⊎◌, ◌<ℤ◌, ◌≤ℤ◌, inl, inr, arith, ap, sym, refl, subst, cond, not, Bool, true, false, length, slice_get, IsTrue, List, [], ◌∷◌, ◌++◌, Option, None, Some, Result, Ok, Err}
+use Rattle.std.proofs.Common.{◌≡◌, ◌≢◌, ◌∙◌, ℕ, ℤ, zero, suc, ◌+◌, ◌≤◌, ◌==◌, ◌&&◌, ◌⊎◌, ◌<ℤ◌, ◌≤ℤ◌, inl, inr, arith, ap, sym, refl, subst, cond, not, Bool, true, false, length, slice_get, IsTrue, List, [], ◌∷◌, ◌++◌, Option, None, Some, Result, Ok, Err}
 use Rattle.std.specs.Option.{is_some, unwrap_or, option_map, option_and_then}
+use Rattle.std.specs.List.{find}
 use Rattle.std.proofs.lemmas.Int.{ints}
 use Rattle.std.proofs.lemmas.Bool.{false≢true, cond_both, cond-true, eqb-true, eqb-false, eq-eqb, ne_eqb, and_parts, ltb-true}
 use Rattle.sk_insn.specs.declared.insn.Insn.{Insn}
@@ -29,10 +30,12 @@ use Rattle.sk_world.specs.Rules.{IsWorld, is_init}
 use Rattle.sk_world.specs.Numbers.{fresh_of}
 use Rattle.sk_world.specs.Forking.{has_room, forked}
 use Rattle.sk_world.specs.Sending.{generated_at, sent, forced}
+use Rattle.sk_world.specs.Subreapers.{is_subreaper, line_up, ancestors, takes_children, new_parent}
 use Rattle.sk_world.specs.Ending.{ignores_children, handed_on, with_children_handed_on, has_zombie_child, reparented, zombie, died, ended}
 use Rattle.sk_world.specs.Waits.{without_note, told}
 use Rattle.sk_world.proofs.Stored.{everywhere}
-use Rattle.sk_world.proofs.KeptEnd.{handed_at, handed_parent, alive_is_there}
+use Rattle.sk_world.proofs.Ancestors.{new_parent_by}
+use Rattle.sk_world.proofs.KeptEnd.{handed_cases, handed_at, alive_is_there}
 use Rattle.sk_world.proofs.Locality.{forked_touches, forked_child}
 use Rattle.sk_world.proofs.Fresh.{fresh_in_range, fresh_absent}
 use Rattle.sk_session.specs.Sessions.{after_setpgid, after_setsid, group_asked, session_asked}
@@ -60,96 +63,180 @@ use Rattle.sk_machine.specs.Machine.{Stepped, judged, happened, reason_of, stepp
 use Rattle.sk_machine.specs.Lines.{Happening, is_fork, has_returned, is_fork_of, line_before, calls_added, line_of, history_after}
 use Rattle.sk_machine_laws.specs.LineLaws.{happening, line_after}
 use Rattle.sk_machine_laws.specs.ConfinementLaws.{RefusesKill, IsConfined, ConfinementStays, LineIsConfined}
-use Rattle.sk_machine_laws.proofs.Carrying.{Over, Carries, over_asked, over_changes, over_resignals, over_waits, over_kill, over_setpgid, over_setsid, over_wait4, over_delivered, over_resumed}
+use Rattle.sk_machine_laws.proofs.Carrying.{Carries, over_asked, over_changes, over_resignals, over_waits, over_kill, over_setpgid, over_setsid, over_wait4, over_end, over_delivered, over_resumed}
 use Rattle.sk_machine_laws.proofs.KeptEvents.{kept_step, possible_is_alive}
 use Rattle.sk_machine_laws.proofs.Unchanged.{impossible_changes_nothing}
 use Rattle.sk_machine_laws.proofs.LineSteps.{is_fork_row, fork_number, event_changes_authority}
 use Rattle.sk_machine_laws.proofs.Growing.{grows_calls}
 use Rattle.sk_machine_laws.proofs.Confined.{event_is_confined}
 
--- a process that is here now was there before, with the same parent, or is process 1's child now
-abbrev Moved : Option Proc → Option Proc → Type 0
-Moved now before = IsTrue (is_some now) → IsTrue (is_some before) × ((parent_of now ≡ parent_of before) ⊎ (parent_of now ≡ INIT))
+-- ---- whose child a process is
+-- a set of processes that has with each one all its children
+abbrev IsClosed : World → (ℕ → Bool) → Type 0
+IsClosed w inside = (q : ℕ) → IsTrue (is_some (at w q)) → IsTrue (inside (parent_of (at w q))) → IsTrue (inside q)
 
-moved_still : (o : Option Proc) → Moved o o
-moved_still o there = (there, inl refl)
+-- each such set that has process k, and not process 1, has process q: it descends from k
+abbrev Descends : World → ℕ → ℕ → Type 0
+Descends w k q = (inside : ℕ → Bool) → inside INIT ≡ false → IsClosed w inside → IsTrue (inside k) → IsTrue (inside q)
 
-moved_nobody : (o : Option Proc) → Moved None o
-moved_nobody o there = absurd (false≢true there)
+-- process k can become the parent of process q
+abbrev Adopts : World → ℕ → ℕ → Type 0
+Adopts w k q = (k ≡ INIT) ⊎ (IsTrue (is_some (at w k)) × Descends w k q)
 
-moved_twice : (a b c : Option Proc) → Moved b a → Moved c b → Moved c a
-moved_twice a b c first later there =
-    let middle = later there in
-    let before = first middle.0 in (
+-- a process that is here now was there before, with the same parent, or has got another one
+abbrev Moved : World → Option Proc → ℕ → Type 0
+Moved w now q = IsTrue (is_some now) → IsTrue (is_some (at w q)) × ((parent_of now ≡ parent_of (at w q)) ⊎ Adopts w (parent_of now) q)
+
+-- so it is with every process of a world
+abbrev Moves : World → World → Type 0
+Moves w after = (q : ℕ) → Moved w (at after q) q
+
+moved_as : (w : World) (o : Option Proc) (q : ℕ) → (IsTrue (is_some o) → IsTrue (is_some (at w q))) → (IsTrue (is_some o) → parent_of o ≡ parent_of (at w q)) → Moved w o q
+moved_as w o q known same there = (known there, inl (same there))
+
+moved_still : (w : World) → Moves w w
+moved_still w q = moved_as w (at w q) q (λ there. there) (λ _. refl)
+
+moved_nobody : (w : World) (q : ℕ) → Moved w None q
+moved_nobody w q there = absurd (false≢true there)
+
+closed_moved : (v w : World) (inside : ℕ → Bool) → Moves v w → inside INIT ≡ false → IsClosed v inside → IsClosed w inside
+closed_moved v w inside moved init closed q there within =
+    let before = moved q there in
+    elim before.1 [
+      | inl same ↦ closed q before.0 (ap inside (sym same) ∙ within)
+      | inr (inl first) ↦ absurd (false≢true (sym init ∙ ap inside (sym first) ∙ within))
+      | inr (inr (known, below)) ↦ below inside init closed within
+    ]
+
+moved_twice : (v w x : World) → Moves v w → Moves w x → Moves v x
+moved_twice v w x first later q there =
+    let middle = later q there in
+    let before = first q middle.0 in (
       before.0,
       elim middle.1 [
-        | inl same ↦ elim before.1 [ inl still ↦ inl (same ∙ still) | inr init ↦ inr (same ∙ init) ]
-        | inr init ↦ inr init
+        | inl same ↦ elim before.1 [
+          | inl still ↦ inl (same ∙ still)
+          | inr (inl init) ↦ inr (inl (same ∙ init))
+          | inr (inr (known, below)) ↦ inr (inr (subst (λ k. IsTrue (is_some (at v k)) × Descends v k q) (sym same) (known, below)))
+        ]
+        | inr (inl init) ↦ inr (inl init)
+        | inr (inr (known, below)) ↦ inr (inr ((first (parent_of (at x q)) known).0, λ inside init closed within. below inside init (closed_moved v w inside first init closed) within))
       ],
     )
 
-moved_body : (g : Body → Body) (o : Option Proc) → Moved (option_map (body_changed g) o) o
-moved_body g None = moved_nobody None
-moved_body g (Some p) = λ _. (refl, inl refl)
+body_known : (g : Body → Body) (o : Option Proc) → is_some (option_map (body_changed g) o) ≡ is_some o
+body_known g None = refl
+body_known g (Some p) = refl
 
-moved_changed : (w : World) (pid : ℕ) (g : Body → Body) → Over Moved w (changed w pid g)
-moved_changed w pid g = everywhere w pid (option_map (body_changed g) (at w pid)) (λ k x. Moved x (at w k)) (moved_body g (at w pid)) (λ q ne. moved_still (at w q))
+body_parent : (g : Body → Body) (o : Option Proc) → parent_of (option_map (body_changed g) o) ≡ parent_of o
+body_parent g None = refl
+body_parent g (Some p) = refl
 
-moved_gone : (w : World) (pid : ℕ) → Over Moved w (stored w pid None)
-moved_gone w pid = everywhere w pid None (λ k x. Moved x (at w k)) (moved_nobody (at w pid)) (λ q ne. moved_still (at w q))
+moved_changed : (w : World) (pid : ℕ) (g : Body → Body) → Moves w (changed w pid g)
+moved_changed w pid g =
+    everywhere w pid (option_map (body_changed g) (at w pid)) (λ k x. Moved w x k)
+    (moved_as w (option_map (body_changed g) (at w pid)) pid (λ there. sym (body_known g (at w pid)) ∙ there) (λ _. body_parent g (at w pid))) (λ q ne. moved_still w q)
 
-moved_over : (v w x : World) → Over Moved v w → Over Moved w x → Over Moved v x
-moved_over v w x first later q = moved_twice (at v q) (at w q) (at x q) (first q) (later q)
+moved_gone : (w : World) (pid : ℕ) → Moves w (stored w pid None)
+moved_gone w pid = everywhere w pid None (λ k x. Moved w x k) (moved_nobody w pid) (λ q ne. moved_still w q)
 
-moved_relinked : (f : Links → Links) → ((l : Links) → (f l).parent ≡ l.parent) → (o : Option Proc) → Moved (option_map (links_changed f) o) o
-moved_relinked f same None = moved_nobody None
-moved_relinked f same (Some p) = λ _. (refl, inl (same p.links))
+links_known : (f : Links → Links) (o : Option Proc) → is_some (option_map (links_changed f) o) ≡ is_some o
+links_known f None = refl
+links_known f (Some p) = refl
 
-moved_links : (w : World) (pid : ℕ) (f : Links → Links) → ((l : Links) → (f l).parent ≡ l.parent) → Over Moved w (relinked w pid f)
-moved_links w pid f same = everywhere w pid (option_map (links_changed f) (at w pid)) (λ k x. Moved x (at w k)) (moved_relinked f same (at w pid)) (λ q ne. moved_still (at w q))
+links_parent : (f : Links → Links) → ((l : Links) → (f l).parent ≡ l.parent) → (o : Option Proc) → parent_of (option_map (links_changed f) o) ≡ parent_of o
+links_parent f same None = refl
+links_parent f same (Some p) = same p.links
 
-moved_sent : (w : World) (pid n : ℕ) → Over Moved w (sent w pid n)
+moved_links : (w : World) (pid : ℕ) (f : Links → Links) → ((l : Links) → (f l).parent ≡ l.parent) → Moves w (relinked w pid f)
+moved_links w pid f same =
+    everywhere w pid (option_map (links_changed f) (at w pid)) (λ k x. Moved w x k)
+    (moved_as w (option_map (links_changed f) (at w pid)) pid (λ there. sym (links_known f (at w pid)) ∙ there) (λ _. links_parent f same (at w pid))) (λ q ne. moved_still w q)
+
+moved_sent : (w : World) (pid n : ℕ) → Moves w (sent w pid n)
 moved_sent w pid n =
     let once : World = generated_at w pid n in
-    cond_both ((n == SIGCONT) && is_stopped (at w pid)) (generated_at once (parent_of (at w pid)) SIGCHLD) once (Over Moved w)
-    (λ _. moved_over w once (generated_at once (parent_of (at w pid)) SIGCHLD) (moved_changed w pid _) (moved_changed once (parent_of (at w pid)) _))
+    cond_both ((n == SIGCONT) && is_stopped (at w pid)) (generated_at once (parent_of (at w pid)) SIGCHLD) once (Moves w)
+    (λ _. moved_twice w once (generated_at once (parent_of (at w pid)) SIGCHLD) (moved_changed w pid _) (moved_changed once (parent_of (at w pid)) _))
     (λ _. moved_changed w pid _)
 
-moved_told : (w : World) (child status : ℕ) → Over Moved w (told w (poll.Told child status))
-moved_told w child status = cond_both (is_zombie (at w child)) (stored w child None) (changed w child without_note) (Over Moved w) (λ _. moved_gone w child) (λ _. moved_changed w child without_note)
+moved_told : (w : World) (child status : ℕ) → Moves w (told w (poll.Told child status))
+moved_told w child status = cond_both (is_zombie (at w child)) (stored w child None) (changed w child without_note) (Moves w) (λ _. moved_gone w child) (λ _. moved_changed w child without_note)
 
-known : (dying : ℕ) (leaves_none : Bool) (o : Option Proc) → IsTrue (is_some (option_and_then (handed_on dying INIT leaves_none) o)) → IsTrue (is_some o)
-known dying leaves_none None there = there
-known dying leaves_none (Some p) there = refl
+-- who is found on the way up is an ancestor
+found_up : (w : World) (test : ℕ → Bool) (more k q : ℕ) → find test (line_up more w k) ≡ Some q → Descends w q k
+found_up w test zero k q is = cc
+found_up w test (suc more) k q is =
+    cond_both (is_some (at w k)) (k ∷ line_up more w (parent_of (at w k))) [] (λ xs. find test xs ≡ Some q → Descends w q k)
+    (λ there. cond_both (test k) (Some k) (find test (line_up more w (parent_of (at w k)))) (λ o. o ≡ Some q → Descends w q k)
+    (λ _ here inside init closed within. ap inside (ap (λ o. unwrap_or o k) here) ∙ within)
+    (λ _ above inside init closed within. closed k there (found_up w test more (parent_of (at w k)) q above inside init closed within)))
+    (λ _ none. cc) is
 
-moved_handed : (w : World) (pid : ℕ) → Over Moved w (with_children_handed_on w pid)
-moved_handed w pid q =
-    subst (λ x. Moved x (at w q)) (sym (handed_at w pid q))
-    (λ there. (known pid (ignores_children (at w INIT)) (at w q) there, handed_parent pid (ignores_children (at w INIT)) (at w q) there))
+-- the new parent of the children of a process is process 1, or an ancestor of it
+heir_above : (w : World) (pid : ℕ) → (new_parent w pid ≡ INIT) ⊎ Descends w (new_parent w pid) (parent_of (at w pid))
+unfolding new_parent ancestors
+heir_above w pid =
+    elim (find (takes_children w pid) (ancestors w pid)) as (λ o. find (takes_children w pid) (ancestors w pid) ≡ o → (unwrap_or o INIT ≡ INIT) ⊎ Descends w (unwrap_or o INIT) (parent_of (at w pid))) [
+      | None ↦ λ _. inl refl
+      | Some q ↦ λ is. inr (found_up w (takes_children w pid) PROCESSES (parent_of (at w pid)) q is)
+    ] refl
 
-moved_reparented : (w : World) (pid : ℕ) → Over Moved w (reparented w pid)
-moved_reparented w pid =
+subreaper_there : (o : Option Proc) → IsTrue (is_subreaper o) → IsTrue (is_some o)
+subreaper_there None marked = marked
+subreaper_there (Some p) marked = refl
+
+heir_there : (w : World) (pid : ℕ) → (new_parent w pid ≡ INIT) ⊎ IsTrue (is_some (at w (new_parent w pid)))
+heir_there w pid = new_parent_by w pid (λ k. (k ≡ INIT) ⊎ IsTrue (is_some (at w k))) (inl refl) (λ q marked _. inr (subreaper_there (at w q) marked))
+
+-- it can become the parent of each child
+heir_adopts : (w : World) (pid q : ℕ) → IsTrue (is_some (at w pid)) → IsTrue (is_some (at w q)) → parent_of (at w q) ≡ pid → Adopts w (new_parent w pid) q
+heir_adopts w pid q there known child = elim (heir_above w pid) [
+  | inl first ↦ inl first
+  | inr below ↦ elim (heir_there w pid) [
+    | inl first ↦ inl first
+    | inr present ↦ inr (present, λ inside init closed within. closed q known (ap inside child ∙ closed pid there (below inside init closed within)))
+  ]
+]
+
+moved_heir : (w : World) (pid q : ℕ) (o : Option Proc) → at w q ≡ o → IsTrue (is_some (at w pid))
+    → Moved w (option_and_then (handed_on pid (new_parent w pid) (ignores_children (at w (new_parent w pid)))) o) q
+moved_heir w pid q None is there = moved_nobody w q
+moved_heir w pid q (Some p) is there =
+    let known : IsTrue (is_some (at w q)) = ap is_some is in
+    handed_cases pid (new_parent w pid) (ignores_children (at w (new_parent w pid))) p (λ x. Moved w x q)
+    (λ _ _. (known, inl (ap parent_of (sym is))))
+    (λ _ _. moved_nobody w q)
+    (λ child _. (known, inr (heir_adopts w pid q there known (ap parent_of is ∙ child))))
+
+moved_handed : (w : World) (pid : ℕ) → IsTrue (is_some (at w pid)) → Moves w (with_children_handed_on w pid)
+moved_handed w pid there q = subst (λ x. Moved w x q) (sym (handed_at w pid q)) (moved_heir w pid q (at w q) refl there)
+
+moved_reparented : (w : World) (pid : ℕ) → IsTrue (is_some (at w pid)) → Moves w (reparented w pid)
+moved_reparented w pid there =
+    let heir : ℕ = new_parent w pid in
     let handed : World = with_children_handed_on w pid in
-    cond_both (has_zombie_child w pid && not (ignores_children (at w INIT))) (sent handed INIT SIGCHLD) handed (Over Moved w)
-    (λ _. moved_over w handed (sent handed INIT SIGCHLD) (moved_handed w pid) (moved_sent handed INIT SIGCHLD)) (λ _. moved_handed w pid)
+    cond_both (has_zombie_child w pid && not (ignores_children (at w heir))) (sent handed heir SIGCHLD) handed (Moves w)
+    (λ _. moved_twice w handed (sent handed heir SIGCHLD) (moved_handed w pid there) (moved_sent handed heir SIGCHLD)) (λ _. moved_handed w pid there)
 
-moved_died : (w : World) (pid status : ℕ) → Over Moved w (died w pid status)
+moved_died : (w : World) (pid status : ℕ) → Moves w (died w pid status)
 moved_died w pid status =
     let parent : ℕ = parent_of (at w pid) in
     let dead : World = changed w pid (zombie status) in
-    cond_both (ignores_children (at w parent)) (stored w pid None) (sent dead parent SIGCHLD) (Over Moved w) (λ _. moved_gone w pid)
-    (λ _. moved_over w dead (sent dead parent SIGCHLD) (moved_changed w pid (zombie status)) (moved_sent dead parent SIGCHLD))
+    cond_both (ignores_children (at w parent)) (stored w pid None) (sent dead parent SIGCHLD) (Moves w) (λ _. moved_gone w pid)
+    (λ _. moved_twice w dead (sent dead parent SIGCHLD) (moved_changed w pid (zombie status)) (moved_sent dead parent SIGCHLD))
 
-moved_ended : (w : World) (pid status : ℕ) → Over Moved w (ended w pid status)
-moved_ended w pid status =
-    cond_both (pid == INIT) (changed w INIT (λ body. record body { life = Zombie status })) (died (reparented w pid) pid status) (Over Moved w)
+moved_ended : (w : World) (pid status : ℕ) → IsTrue (is_some (at w pid)) → Moves w (ended w pid status)
+moved_ended w pid status there =
+    cond_both (pid == INIT) (changed w INIT (λ body. record body { life = Zombie status })) (died (reparented w pid) pid status) (Moves w)
     (λ _. moved_changed w INIT (λ body. record body { life = Zombie status }))
-    (λ _. moved_over w (reparented w pid) (died (reparented w pid) pid status) (moved_reparented w pid) (moved_died (reparented w pid) pid status))
+    (λ _. moved_twice w (reparented w pid) (died (reparented w pid) pid status) (moved_reparented w pid there) (moved_died (reparented w pid) pid status))
 
-moves : Carries Moved
+moves : Carries Moves
 moves = record {
-  still = λ w q. moved_still (at w q);
-  twice = moved_over;
+  still = moved_still;
+  twice = moved_twice;
   changed = λ w pid g _. moved_changed w pid g;
   links = moved_links;
   sent = moved_sent;
@@ -158,35 +245,32 @@ moves = record {
 }
 
 -- ---- rows
-moved_world : (w : World) → Over Moved w w
-moved_world w q = moved_still (at w q)
-
-moved_authorises : (w : World) (pid : ℕ) (r : Result Authority Errno) → Over Moved w (authorises w pid r).world
+moved_authorises : (w : World) (pid : ℕ) (r : Result Authority Errno) → Moves w (authorises w pid r).world
 moved_authorises w pid (Ok a) = moved_changed w pid (with_authority a)
-moved_authorises w pid (Err e) = moved_world w
+moved_authorises w pid (Err e) = moved_still w
 
-moved_execve : (w : World) (pid : ℕ) (r : Result Authority Errno) → Over Moved w (execve w pid r).world
+moved_execve : (w : World) (pid : ℕ) (r : Result Authority Errno) → Moves w (execve w pid r).world
 moved_execve w pid (Ok a) = moved_changed w pid (executing a)
-moved_execve w pid (Err e) = moved_world w
+moved_execve w pid (Err e) = moved_still w
 
-moved_subreapers : (there : Bool) (w : World) (p : Performed) → Over Moved w p.world → Over Moved w (where_subreapers there w p).world
+moved_subreapers : (there : Bool) (w : World) (p : Performed) → Moves w p.world → Moves w (where_subreapers there w p).world
 moved_subreapers true w p moved = moved
-moved_subreapers false w p moved = moved_world w
+moved_subreapers false w p moved = moved_still w
 
-moved_prctl : (images : GivenImages) (w : World) (pid : ℕ) (which : Option PrctlOption) (call : Record) → Over Moved w (prctl images w pid which call).world
+moved_prctl : (images : GivenImages) (w : World) (pid : ℕ) (which : Option PrctlOption) (call : Record) → Moves w (prctl images w pid which call).world
 moved_prctl images w pid (Some option.SetNoNewPrivs) call = moved_authorises w pid (after_no_new_privs call (authority_at w pid))
 moved_prctl images w pid (Some option.SetSeccomp) call = moved_authorises w pid (after_set_seccomp images call (authority_at w pid))
-moved_prctl images w pid (Some option.GetSeccomp) call = moved_world w
-moved_prctl images w pid (Some option.GetNoNewPrivs) call = over_asked Moved moves w (no_new_privs_asked call (body_of (at w pid)).creds.no_new_privs)
+moved_prctl images w pid (Some option.GetSeccomp) call = moved_still w
+moved_prctl images w pid (Some option.GetNoNewPrivs) call = over_asked Moves moves w (no_new_privs_asked call (body_of (at w pid)).creds.no_new_privs)
 moved_prctl images w pid (Some option.SetChildSubreaper) call =
     moved_subreapers images.subreapers w (subreaper_set w pid call) (moved_changed w pid (with_subreaper (not (register call 1 == 0))))
-moved_prctl images w pid (Some option.GetChildSubreaper) call = moved_subreapers images.subreapers w (subreaper_asked w pid) (moved_world w)
-moved_prctl images w pid None call = moved_world w
+moved_prctl images w pid (Some option.GetChildSubreaper) call = moved_subreapers images.subreapers w (subreaper_asked w pid) (moved_still w)
+moved_prctl images w pid None call = moved_still w
 
-moved_seccomp : (images : GivenImages) (w : World) (pid : ℕ) (which : Option SeccompOperation) (call : Record) → Over Moved w (seccomp images w pid which call).world
+moved_seccomp : (images : GivenImages) (w : World) (pid : ℕ) (which : Option SeccompOperation) (call : Record) → Moves w (seccomp images w pid which call).world
 moved_seccomp images w pid (Some operation.SetModeFilter) call = moved_authorises w pid (after_set_mode_filter images call (authority_at w pid))
-moved_seccomp images w pid (Some operation.GetActionAvail) call = over_asked Moved moves w (action_available (low call 1) (low call 2))
-moved_seccomp images w pid None call = moved_world w
+moved_seccomp images w pid (Some operation.GetActionAvail) call = over_asked Moves moves w (action_available (low call 1) (low call 2))
+moved_seccomp images w pid None call = moved_still w
 
 -- a process that this event has forked
 record IsForked (w after : World) (caller q : ℕ) : Type 0 where
@@ -197,9 +281,9 @@ record IsForked (w after : World) (caller q : ℕ) : Type 0 where
 
 -- a process is new, or has moved
 abbrev Comes : World → World → ℕ → ℕ → Bool → Type 0
-Comes w after caller q forks = (forks ≡ true → IsForked w after caller q) × (forks ≡ false → Moved (at after q) (at w q))
+Comes w after caller q forks = (forks ≡ true → IsForked w after caller q) × (forks ≡ false → Moved w (at after q) q)
 
-comes_moved : (w after : World) (caller q : ℕ) → Moved (at after q) (at w q) → Comes w after caller q false
+comes_moved : (w after : World) (caller q : ℕ) → Moved w (at after q) q → Comes w after caller q false
 comes_moved w after caller q moved = (λ h. absurd (false≢true h), λ _. moved)
 
 someone : (o : Option Proc) → IsTrue (is_some o) → (p : Proc) × (o ≡ Some p)
@@ -219,44 +303,44 @@ comes_fork w pid q true room rules there =
             free = ap (at w) here ∙ fresh_absent w (ltb-true (count w.procs) PROCESSES room) rules.last.0;
             low = subst (λ k. 2 ≤ k) (sym here) range.0;
           },
-      λ other. subst (λ x. Moved x (at w q)) (sym (forked_touches w pid q (eqb-false q (fresh_of w) other))) (moved_still (at w q)),
+      λ other. subst (λ x. Moved w x q) (sym (forked_touches w pid q (eqb-false q (fresh_of w) other))) (moved_still w q),
     )
-comes_fork w pid q false room rules there = comes_moved w w pid q (moved_still (at w q))
+comes_fork w pid q false room rules there = comes_moved w w pid q (moved_still w q)
 
 abbrev RowComes : World → ℕ → ℕ → Option Syscall → Performed → Type 0
 RowComes w pid q which p = Comes w p.world pid q (is_fork_row which && has_returned q p.outcome)
 
 comes_row : (images : GivenImages) (w : World) (pid q : ℕ) (which : Option Syscall) (call : Record) → IsWorld w → IsTrue (is_some (at w pid)) → RowComes w pid q which (row images w pid which call)
-comes_row images w pid q (Some syscall.RtSigaction) call rules there = comes_moved w _ pid q (over_resignals Moved moves w pid (after_sigaction pid call (body_of (at w pid)).signals) q)
-comes_row images w pid q (Some syscall.RtSigprocmask) call rules there = comes_moved w _ pid q (over_resignals Moved moves w pid (after_sigprocmask call (body_of (at w pid)).signals) q)
+comes_row images w pid q (Some syscall.RtSigaction) call rules there = comes_moved w _ pid q (over_resignals Moves moves w pid (after_sigaction pid call (body_of (at w pid)).signals) q)
+comes_row images w pid q (Some syscall.RtSigprocmask) call rules there = comes_moved w _ pid q (over_resignals Moves moves w pid (after_sigprocmask call (body_of (at w pid)).signals) q)
 comes_row images w pid q (Some syscall.RtSigreturn) call rules there =
-    comes_moved w _ pid q (over_resignals Moved moves w pid (after_sigreturn (body_of (at w pid)).signals.frames (body_of (at w pid)).signals) q)
-comes_row images w pid q (Some syscall.RtSigpending) call rules there = comes_moved w w pid q (moved_still (at w q))
-comes_row images w pid q (Some syscall.SchedYield) call rules there = comes_moved w w pid q (moved_still (at w q))
-comes_row images w pid q (Some syscall.Pause) call rules there = comes_moved w _ pid q (over_waits Moved moves w pid waiting.Pause q)
-comes_row images w pid q (Some syscall.Getpid) call rules there = comes_moved w w pid q (moved_still (at w q))
-comes_row images w pid q (Some syscall.Getppid) call rules there = comes_moved w w pid q (moved_still (at w q))
+    comes_moved w _ pid q (over_resignals Moves moves w pid (after_sigreturn (body_of (at w pid)).signals.frames (body_of (at w pid)).signals) q)
+comes_row images w pid q (Some syscall.RtSigpending) call rules there = comes_moved w w pid q (moved_still w q)
+comes_row images w pid q (Some syscall.SchedYield) call rules there = comes_moved w w pid q (moved_still w q)
+comes_row images w pid q (Some syscall.Pause) call rules there = comes_moved w _ pid q (over_waits Moves moves w pid waiting.Pause q)
+comes_row images w pid q (Some syscall.Getpid) call rules there = comes_moved w w pid q (moved_still w q)
+comes_row images w pid q (Some syscall.Getppid) call rules there = comes_moved w w pid q (moved_still w q)
 comes_row images w pid q (Some syscall.Fork) call rules there = comes_fork w pid q (has_room w) refl rules there
 comes_row images w pid q (Some syscall.Execve) call rules there = comes_moved w _ pid q (moved_execve w pid (authorised images w pid syscall.Execve call) q)
-comes_row images w pid q (Some syscall.Exit) call rules there = comes_moved w _ pid q (moved_ended w pid (exit_status (low call 0)) q)
-comes_row images w pid q (Some syscall.ExitGroup) call rules there = comes_moved w _ pid q (moved_ended w pid (exit_status (low call 0)) q)
-comes_row images w pid q (Some syscall.Wait4) call rules there = comes_moved w _ pid q (over_wait4 Moved moves w pid call q)
+comes_row images w pid q (Some syscall.Exit) call rules there = comes_moved w _ pid q (over_end Moves moves w pid (exit_status (low call 0)) there q)
+comes_row images w pid q (Some syscall.ExitGroup) call rules there = comes_moved w _ pid q (over_end Moves moves w pid (exit_status (low call 0)) there q)
+comes_row images w pid q (Some syscall.Wait4) call rules there = comes_moved w _ pid q (over_wait4 Moves moves w pid call q)
 comes_row images w pid q (Some syscall.Kill) call rules there =
-    comes_moved w _ pid q (over_changes Moved moves w 0 (after_kill w pid (signed call 0) (low call 1)) (over_kill Moved moves w pid (signed call 0) (low call 1)) q)
-comes_row images w pid q (Some syscall.Getuid) call rules there = comes_moved w w pid q (moved_still (at w q))
-comes_row images w pid q (Some syscall.Geteuid) call rules there = comes_moved w w pid q (moved_still (at w q))
+    comes_moved w _ pid q (over_changes Moves moves w 0 (after_kill w pid (signed call 0) (low call 1)) (over_kill Moves moves w pid (signed call 0) (low call 1)) q)
+comes_row images w pid q (Some syscall.Getuid) call rules there = comes_moved w w pid q (moved_still w q)
+comes_row images w pid q (Some syscall.Geteuid) call rules there = comes_moved w w pid q (moved_still w q)
 comes_row images w pid q (Some syscall.Setuid) call rules there = comes_moved w _ pid q (moved_authorises w pid (authorised images w pid syscall.Setuid call) q)
 comes_row images w pid q (Some syscall.Setresuid) call rules there = comes_moved w _ pid q (moved_authorises w pid (authorised images w pid syscall.Setresuid call) q)
-comes_row images w pid q (Some syscall.Getresuid) call rules there = comes_moved w w pid q (moved_still (at w q))
+comes_row images w pid q (Some syscall.Getresuid) call rules there = comes_moved w w pid q (moved_still w q)
 comes_row images w pid q (Some syscall.Setpgid) call rules there =
-    comes_moved w _ pid q (over_changes Moved moves w 0 (after_setpgid w pid (signed call 0) (signed call 1)) (over_setpgid Moved moves w pid (signed call 0) (signed call 1)) q)
-comes_row images w pid q (Some syscall.Getpgrp) call rules there = comes_moved w w pid q (moved_still (at w q))
-comes_row images w pid q (Some syscall.Setsid) call rules there = comes_moved w _ pid q (over_changes Moved moves w pid (after_setsid w pid) (over_setsid Moved moves w pid) q)
-comes_row images w pid q (Some syscall.Getpgid) call rules there = comes_moved w _ pid q (over_asked Moved moves w (group_asked w pid (signed call 0)) q)
-comes_row images w pid q (Some syscall.Getsid) call rules there = comes_moved w _ pid q (over_asked Moved moves w (session_asked w pid (signed call 0)) q)
+    comes_moved w _ pid q (over_changes Moves moves w 0 (after_setpgid w pid (signed call 0) (signed call 1)) (over_setpgid Moves moves w pid (signed call 0) (signed call 1)) q)
+comes_row images w pid q (Some syscall.Getpgrp) call rules there = comes_moved w w pid q (moved_still w q)
+comes_row images w pid q (Some syscall.Setsid) call rules there = comes_moved w _ pid q (over_changes Moves moves w pid (after_setsid w pid) (over_setsid Moves moves w pid) q)
+comes_row images w pid q (Some syscall.Getpgid) call rules there = comes_moved w _ pid q (over_asked Moves moves w (group_asked w pid (signed call 0)) q)
+comes_row images w pid q (Some syscall.Getsid) call rules there = comes_moved w _ pid q (over_asked Moves moves w (session_asked w pid (signed call 0)) q)
 comes_row images w pid q (Some syscall.Prctl) call rules there = comes_moved w _ pid q (moved_prctl images w pid (prctl_option_of (low call 0)) call q)
 comes_row images w pid q (Some syscall.Seccomp) call rules there = comes_moved w _ pid q (moved_seccomp images w pid (seccomp_operation_of (low call 0)) call q)
-comes_row images w pid q None call rules there = comes_moved w w pid q (moved_still (at w q))
+comes_row images w pid q None call rules there = comes_moved w w pid q (moved_still w q)
 
 -- ---- events
 abbrev CallComes : World → ℕ → ℕ → Option Record → Performed → Type 0
@@ -272,12 +356,12 @@ comes_judged : (images : GivenImages) (w : World) (pid q : ℕ) (call : Record) 
 comes_judged images w pid q call verdict action.Allow rules there = comes_performed images w pid q call rules there
 comes_judged images w pid q call verdict action.Log rules there = comes_performed images w pid q call rules there
 comes_judged images w pid q call verdict action.Trap rules there = comes_moved w (forced w pid) pid q (moved_changed w pid (λ body. record body { signals = sigsys_forced body.signals }) q)
-comes_judged images w pid q call verdict action.Errno rules there = comes_moved w w pid q (moved_still (at w q))
-comes_judged images w pid q call verdict action.UserNotif rules there = comes_moved w w pid q (moved_still (at w q))
-comes_judged images w pid q call verdict action.Trace rules there = comes_moved w w pid q (moved_still (at w q))
-comes_judged images w pid q call verdict action.KillProcess rules there = comes_moved w _ pid q (moved_ended w pid SIGSYS q)
-comes_judged images w pid q call verdict action.KillThread rules there = comes_moved w _ pid q (moved_ended w pid SIGSYS q)
-comes_judged images w pid q call verdict action.Unknown rules there = comes_moved w _ pid q (moved_ended w pid SIGSYS q)
+comes_judged images w pid q call verdict action.Errno rules there = comes_moved w w pid q (moved_still w q)
+comes_judged images w pid q call verdict action.UserNotif rules there = comes_moved w w pid q (moved_still w q)
+comes_judged images w pid q call verdict action.Trace rules there = comes_moved w w pid q (moved_still w q)
+comes_judged images w pid q call verdict action.KillProcess rules there = comes_moved w _ pid q (over_end Moves moves w pid SIGSYS there q)
+comes_judged images w pid q call verdict action.KillThread rules there = comes_moved w _ pid q (over_end Moves moves w pid SIGSYS there q)
+comes_judged images w pid q call verdict action.Unknown rules there = comes_moved w _ pid q (over_end Moves moves w pid SIGSYS there q)
 
 abbrev EventComes : World → Event → Stepped → ℕ → Type 0
 EventComes w event s q = Comes w s.world (pid_of event) q (is_fork_of q (event, s.answer))
@@ -287,12 +371,12 @@ comes_happened images w (Call pid ip nr args) q rules there =
     let call : Record = record { nr = nr; ip = ip; args = args } in
     let verdict : ℕ = verdict_of (body_of (at w pid)).chain call in
     comes_judged images w pid q call verdict (action_of verdict) rules there
-comes_happened images w (Deliver pid) q rules there = comes_moved w _ pid q (over_delivered Moved moves w pid (unwrap_or (signal_due (at w pid)) 0) q)
-comes_happened images w (Resume pid) q rules there = comes_moved w _ pid q (over_resumed Moved moves w pid (body_of (at w pid)).waiting q)
-comes_happened images w (Fault pid) q rules there = comes_moved w _ pid q (moved_ended w pid SIGSEGV q)
+comes_happened images w (Deliver pid) q rules there = comes_moved w _ pid q (over_delivered Moves moves w pid (unwrap_or (signal_due (at w pid)) 0) there q)
+comes_happened images w (Resume pid) q rules there = comes_moved w _ pid q (over_resumed Moves moves w pid (body_of (at w pid)).waiting q)
+comes_happened images w (Fault pid) q rules there = comes_moved w _ pid q (over_end Moves moves w pid SIGSEGV there q)
 
 comes_stepped : (images : GivenImages) (w : World) (event : Event) (o : Option Reason) (q : ℕ) → reason_of w event ≡ o → IsWorld w → EventComes w event (stepped images w event o) q
-comes_stepped images w event (Some reason) q is rules = comes_moved w w (pid_of event) q (moved_still (at w q))
+comes_stepped images w event (Some reason) q is rules = comes_moved w w (pid_of event) q (moved_still w q)
 comes_stepped images w event None q is rules = comes_happened images w event q rules (alive_is_there (at w (pid_of event)) (possible_is_alive w event is))
 
 comes_step : (images : GivenImages) (w : World) (event : Event) (q : ℕ) → IsWorld w → EventComes w event (step_of images w event) q
@@ -401,7 +485,9 @@ confinement_stays images w event inside rules confined =
               | inl same ↦ confined.children q moved.0
                   (ap inside (sym (goes_on images w event (parent_of (at w q)) false (parent_not_forked images w event q rules moved.0)))
                   ∙ ap (λ k. inside (line_before k x)) (sym same) ∙ within)
-              | inr first ↦ absurd (false≢true (sym init ∙ ap (λ k. inside (line_before k x)) (sym first) ∙ within))
+              | inr (inl first) ↦ absurd (false≢true (sym init ∙ ap (λ k. inside (line_before k x)) (sym first) ∙ within))
+              | inr (inr (known, below)) ↦ below inside confined.init confined.children
+                  (ap inside (sym (goes_on images w event (parent_of (at after q)) false (not_forked images w event (parent_of (at after q)) rules known))) ∙ within)
             ]
       ] refl;
       refuses = λ q there within.

@@ -21,7 +21,7 @@ use Rattle.sk_world.specs.declared.request.Poll.{Poll}
 use Rattle.sk_world.specs.declared.request.Poll.TheVariants as poll
 use Rattle.sk_world.specs.World.{World, at, has_ended, is_zombie}
 use Rattle.sk_world.specs.Sending.{forced}
-use Rattle.sk_world.specs.Ending.{ended}
+use Rattle.sk_session.specs.Orphans.{ended_and_hung_up}
 use Rattle.sk_world.specs.Forking.{fork_answer}
 use Rattle.sk_world.specs.Waits.{is_no_hang, ready_of}
 use Rattle.sk_session.specs.Sessions.{after_setpgid, after_setsid, group_asked, session_asked}
@@ -40,13 +40,13 @@ use Rattle.sk_calls.specs.declared.syscall.Syscall.TheVariants as syscall
 use Rattle.sk_machine.specs.Events.{pid_of}
 use Rattle.sk_machine.specs.Given.{GivenImages}
 use Rattle.sk_calls.specs.Syscalls.{syscall_of}
-use Rattle.sk_machine.specs.Arguments.{register, low, signed, prctl_option_of, seccomp_operation_of}
+use Rattle.sk_machine.specs.Arguments.{low, signed, prctl_option_of, seccomp_operation_of}
 use Rattle.sk_machine.specs.Authority.{Authority, after_no_new_privs, after_set_seccomp, after_set_mode_filter}
 use Rattle.sk_machine.specs.Performed.{Performed, body_of, returns, fails, asked, changes, authority_at, authorises, waits}
 use Rattle.sk_machine.specs.SignalCalls.{resignals, after_sigaction, after_sigprocmask, after_sigreturn}
 use Rattle.sk_machine.specs.Killing.{after_kill}
 use Rattle.sk_machine.specs.WaitCalls.{are_wait_options, request_of, polled, wait4}
-use Rattle.sk_machine.specs.Performing.{end_of_caller, execve, forks, authorised, seccomp_mode, no_new_privs_asked, subreaper_set, subreaper_asked, where_subreapers, with_subreaper, prctl, action_available, seccomp, row}
+use Rattle.sk_machine.specs.Performing.{end_of_caller, execve, forks, authorised, seccomp_mode, no_new_privs_asked, subreaper_set, subreaper_asked, where_subreapers, prctl, action_available, seccomp, row}
 use Rattle.sk_machine.specs.Machine.{Stepped, judged, call_answered, called_with, happened, reason_of, stepped, step_of, end_status}
 use Rattle.sk_machine_laws.specs.MachineLaws.{ImpossibleChangesNothing, PossibleHappens, only_refuses, RefusedChangesNothing, TrapForcesSigsys, ends_caller, KillEndsCaller, FailedChangesNothing, HaltHasStatus}
 
@@ -118,7 +118,7 @@ ended_by_filter images w pid call errno action.Allow kills = absurd (false≢tru
 pub kill_ends_caller : KillEndsCaller
 unfolding step_of
 kill_ends_caller images w event verdict outcome is kills =
-    at_call images w event verdict outcome (reason_of w event) (λ pid s. s ≡ record { answer = answer.Call verdict (Ended SIGSYS); world = ended w pid SIGSYS }) is
+    at_call images w event verdict outcome (reason_of w event) (λ pid s. s ≡ record { answer = answer.Call verdict (Ended SIGSYS); world = ended_and_hung_up w pid SIGSYS }) is
     (λ pid call _. ap (call_answered verdict) (ended_by_filter images w pid call verdict (action_of verdict) kills))
 
 -- where the outcome is an error, the world is as it was

@@ -1,19 +1,21 @@
 -- Laws on confinement: what a process whose filters refuse kill(2), and those that come from it, can do to
 -- all others.
-use Rattle.std.specs.Prelude.{ℕ, ◌≡◌, ◌≢◌, ◌<ℤ◌, ◌⊎◌, Bool, true, false, IsTrue, List, Option}
-use Rattle.std.specs.Option.{is_some}
+use Rattle.std.specs.Prelude.{ℕ, ◌≡◌, ◌≢◌, ◌<ℤ◌, ◌==◌, ◌||◌, Bool, true, false, IsTrue, List, [], ◌∷◌, Option}
+use Rattle.std.specs.Option.{is_some, option_map}
+use Rattle.std.specs.List.{list_all}
 use Rattle.sk_insn.specs.declared.insn.Insn.{Insn}
 use Rattle.sk_insn.specs.declared.record.Record.{Record}
 use Rattle.sk_calls.specs.declared.syscall.Syscall.TheVariants as syscall
 use Rattle.sk_calls.specs.Syscalls.{number_of}
 use Rattle.sk_chain.specs.Precedence.{precedence_of}
 use Rattle.sk_chain.specs.Verdict.{verdict_of}
-use Rattle.sk_signal.specs.declared.number.TheConstants.{SIGCHLD}
+use Rattle.sk_signal.specs.declared.number.TheConstants.{SIGHUP, SIGCHLD, SIGCONT}
 use Rattle.sk_world.specs.declared.process.TheConstants.{INIT}
+use Rattle.sk_world.specs.declared.process.Body.{Body}
 use Rattle.sk_world.specs.declared.process.Proc.{Proc}
-use Rattle.sk_world.specs.World.{World, at, parent_of}
+use Rattle.sk_world.specs.World.{World, at, parent_of, body_changed}
 use Rattle.sk_world.specs.Rules.{IsWorld}
-use Rattle.sk_world.specs.Sending.{sent}
+use Rattle.sk_world.specs.Sending.{signalled}
 use Rattle.sk_machine.specs.declared.event.Event.{Event}
 use Rattle.sk_machine.specs.declared.answer.Answer.{Answer}
 use Rattle.sk_machine.specs.declared.answer.Answer.TheVariants as answer
@@ -64,17 +66,28 @@ ends_or_stops (answer.Resumed o) = is_end o
 ends_or_stops answer.Crashed = true
 ends_or_stops (answer.NotNow reason) = false
 
--- the process is as it was, or SIGCHLD has been sent to it. Signals are not queued, so one stands for many
-abbrev pub IsAsBeforeOrTold : World → ℕ → Option Proc → Type 0
-IsAsBeforeOrTold w q now = (now ≡ at w q) ⊎ (now ≡ at (sent w q SIGCHLD) q)
+-- a process after these signals, one after the other
+abbrev pub after_signals : Bool → List ℕ → Body → Body
+after_signals init [] body = body
+after_signals init (n ∷ rest) body = after_signals init rest (signalled n init body)
+
+-- the signals that others get where a process ends or stops: SIGCHLD, and of an orphaned group SIGHUP and
+-- SIGCONT: setpgid(2)
+abbrev pub is_of_an_end : ℕ → Bool
+is_of_an_end n = (n == SIGCHLD) || (n == SIGHUP) || (n == SIGCONT)
+
+-- the process of this pid is the one before after none or more of these signals, and nothing else
+abbrev pub IsTold : ℕ → Option Proc → Option Proc → Type 0
+IsTold q before now =
+    (signals : List ℕ) × IsTrue (list_all is_of_an_end signals) × (now ≡ option_map (body_changed (after_signals (q == INIT) signals)) before)
 
 -- what an event leaves of a process that it is not meant to touch
 pub record LeavesAlone (w after : World) (has_ended_or_stopped : Bool) (q : ℕ) : Type 0 where
   pub same : has_ended_or_stopped ≡ false → at after q ≡ at w q
-  pub told : IsAsBeforeOrTold w q (at after q)
+  pub told : IsTold q (at w q) (at after q)
 
 -- an event of a confined process leaves every other one equal, unless it ends or stops its process, and
--- then it sends others SIGCHLD and nothing else
+-- then it sends others such signals and does nothing else
 abbrev pub EventIsConfined : Type 0
 EventIsConfined =
     (images : GivenImages) (w : World) (event : Event) (inside : ℕ → Bool) (q : ℕ) → IsWorld w → IsConfined w inside

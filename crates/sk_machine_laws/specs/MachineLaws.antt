@@ -9,7 +9,8 @@ use Rattle.sk_signal.specs.declared.number.TheConstants.{SIGSYS}
 use Rattle.sk_world.specs.World.{World, at, is_alive, is_halted, opening}
 use Rattle.sk_world.specs.Rules.{IsWorld}
 use Rattle.sk_world.specs.Sending.{forced}
-use Rattle.sk_world.specs.Ending.{ended}
+use Rattle.sk_world.specs.Subreapers.{is_subreaper}
+use Rattle.sk_session.specs.Orphans.{ended_and_hung_up}
 use Rattle.sk_machine.specs.declared.event.Event.{Event}
 use Rattle.sk_machine.specs.declared.answer.Answer.TheVariants as answer
 use Rattle.sk_machine.specs.declared.answer.Outcome.{Outcome}
@@ -75,7 +76,7 @@ abbrev pub KillEndsCaller : Type 0
 KillEndsCaller =
     (images : GivenImages) (w : World) (event : Event) (verdict : ℕ) (outcome : Outcome) → (step_of images w event).answer ≡ answer.Call verdict outcome
     → IsTrue (ends_caller (action_of verdict))
-    → step_of images w event ≡ record { answer = answer.Call verdict (Ended SIGSYS); world = ended w (pid_of event) SIGSYS }
+    → step_of images w event ≡ record { answer = answer.Call verdict (Ended SIGSYS); world = ended_and_hung_up w (pid_of event) SIGSYS }
 
 -- a call that answers an error, a filter's or its own, changes nothing
 abbrev pub FailedChangesNothing : Type 0
@@ -111,3 +112,21 @@ ReachedHasRules = (images : GivenImages) (events : List Event) → IsWorld (worl
 -- the status of a halted system is there exactly where it has halted
 abbrev pub HaltHasStatus : Type 0
 HaltHasStatus = (w : World) → is_some (halted_of w) ≡ is_halted w
+
+-- nobody is a subreaper
+abbrev pub HasNoSubreapers : World → Type 0
+HasNoSubreapers w = (pid : ℕ) → is_subreaper (at w pid) ≡ false
+
+-- where there are no subreapers no event makes one: prctl(2), PR_SET_CHILD_SUBREAPER
+abbrev pub EventMarksNobody : Type 0
+EventMarksNobody =
+    (images : GivenImages) (w : World) (event : Event) → images.subreapers ≡ false → HasNoSubreapers w → HasNoSubreapers (step_of images w event).world
+
+-- nor does any list of events
+abbrev pub RunMarksNobody : Type 0
+RunMarksNobody =
+    (images : GivenImages) (w : World) (events : List Event) → images.subreapers ≡ false → HasNoSubreapers w → HasNoSubreapers (world_after images w events)
+
+-- so there is none in any world that the system then comes to, and all orphans go to process 1
+abbrev pub NobodyIsMarked : Type 0
+NobodyIsMarked = (images : GivenImages) (events : List Event) → images.subreapers ≡ false → HasNoSubreapers (world_after images opening events)

@@ -3,7 +3,6 @@
 use Rattle.std.specs.Prelude.{ℕ, ◌≡◌, ◌≢◌, ◌≤ℤ◌, ◌++◌, IsTrue, List, [], ◌∷◌, slice_get, Some, None}
 use Rattle.std.specs.Option.{is_some}
 use Rattle.std.specs.List.{list_any}
-use Rattle.sk_insn.specs.declared.record.Record.{Record}
 use Rattle.sk_insn.specs.Actions.{action_of, performs}
 use Rattle.sk_chain.specs.Precedence.{precedence_of}
 use Rattle.sk_chain.specs.Verdict.{values_of, verdict_of}
@@ -19,7 +18,7 @@ use Rattle.sk_machine.specs.Events.{pid_of}
 use Rattle.sk_machine.specs.Given.{GivenImages}
 use Rattle.sk_machine.specs.Performed.{authority_at}
 use Rattle.sk_machine.specs.Machine.{step_of, answers_of, world_after}
-use Rattle.sk_machine.specs.Lines.{line_of, is_fork_of, history_of, history_after, authority_of_line}
+use Rattle.sk_machine.specs.Lines.{is_fork_of, history_of, history_after, authority_of_line}
 use Rattle.sk_machine_laws.specs.LineLaws.{line_after, GrowsFrom}
 use Rattle.sk_machine_laws.specs.FilterLaws.{HasAccepted}
 use Rattle.sk_machine_laws.specs.TellingLaws.{told_by, IsEnd, HasEndedUnder}

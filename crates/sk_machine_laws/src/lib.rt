@@ -2,7 +2,7 @@
 //! contract of each is the law, and its statement stands in `specs/`.
 #![tactic(auto)]
 
-ghost use Rattle.sk_machine_laws.specs.MachineLaws.{ImpossibleChangesNothing, PossibleHappens, RefusedChangesNothing, TrapForcesSigsys, KillEndsCaller, FailedChangesNothing, HaltHasStatus, CallKeepsRules, DeliveryKeepsRules, ResumptionKeepsRules, EventKeepsRules, RunKeepsRules, ReachedHasRules};
+ghost use Rattle.sk_machine_laws.specs.MachineLaws.{ImpossibleChangesNothing, PossibleHappens, RefusedChangesNothing, TrapForcesSigsys, KillEndsCaller, FailedChangesNothing, HaltHasStatus, CallKeepsRules, DeliveryKeepsRules, ResumptionKeepsRules, EventKeepsRules, RunKeepsRules, ReachedHasRules, EventMarksNobody, RunMarksNobody, NobodyIsMarked};
 ghost use Rattle.sk_machine_laws.specs.TellingLaws.{EndIsToldToParent, EndIsToldOnce};
 ghost use Rattle.sk_machine_laws.specs.TurnLaws.{NextIsTurn, NobodysTurn, RunnableHasEvent, IdleDoesNothing, EndIsFinal};
 ghost use Rattle.sk_machine_laws.specs.RunLaws.{RunsAreLawful};
@@ -30,6 +30,14 @@ pub fn rules_are_kept()
     ensures event { EventKeepsRules }
     ensures run { RunKeepsRules }
     ensures reached { ReachedHasRules }
+{}
+
+/// Where there are no subreapers no process is ever marked as one, so orphans go to process 1.
+#[tactic(auto, using(crate::proofs::Marks::event_marks_nobody, crate::proofs::Marks::run_marks_nobody, crate::proofs::Marks::nobody_is_marked))]
+pub fn nobody_is_marked()
+    ensures event { EventMarksNobody }
+    ensures run { RunMarksNobody }
+    ensures reached { NobodyIsMarked }
 {}
 
 /// What a process may do is what its line says, whatever other processes did between.

@@ -7,5 +7,7 @@ mod LineRows
 mod EdgeRows
 mod OrderRows
 mod StateRows
+mod OrphanRows
+mod ReaperRows
 mod WidthRows
 mod LimitRows

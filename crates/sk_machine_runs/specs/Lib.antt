@@ -8,5 +8,7 @@ pub mod WorkedLines
 pub mod WorkedEdges
 pub mod WorkedOrders
 pub mod WorkedStates
+pub mod WorkedOrphans
+pub mod WorkedReapers
 pub mod WorkedWidths
 pub mod WorkedLimits

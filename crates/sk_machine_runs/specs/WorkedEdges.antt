@@ -115,8 +115,8 @@ TellsStopsByChildSignal =
     ∷ (Deliver 2, delivers 19 effect.Stopped)
     ∷ (sigpending 1, signals (only 17))
     ∷ (kill 1 2 18, gives 0)
-    ∷ (kill 1 2 20, gives 0)
-    ∷ (Deliver 2, delivers 20 effect.Stopped)
+    ∷ (kill 1 2 19, gives 0)
+    ∷ (Deliver 2, delivers 19 effect.Stopped)
     ∷ (wait4 1 2 9, gives 0)
     ∷ (kill 1 2 9, gives 0)
     ∷ (Deliver 2, delivers 9 (effect.Ended 9))
@@ -131,8 +131,8 @@ KeepsStoppedFromAll =
     (fork 1, gives 2)
     ∷ (fork 2, gives 3)
     ∷ (wait4 2 (minus 1) 0, waits)
-    ∷ (kill 1 2 20, gives 0)
-    ∷ (Deliver 2, delivers 20 effect.Stopped)
+    ∷ (kill 1 2 19, gives 0)
+    ∷ (Deliver 2, delivers 19 effect.Stopped)
     ∷ (getpid 2, not_now reason.Stopped)
     ∷ (Fault 2, not_now reason.Stopped)
     ∷ (Resume 2, not_now reason.Stopped)
@@ -150,7 +150,7 @@ KeepsStoppedFromAll =
     ∷ (Resume 2, not_now reason.Zombie)
     ∷ [])
 
--- default actions: SIGQUIT, SIGSYS and SIGIO end, SIGTTIN stops, SIGCHLD and SIGWINCH do nothing:
+-- default actions: SIGQUIT, SIGSYS and SIGIO end, SIGTTIN stops a process of a group that is not orphaned, SIGCHLD and SIGWINCH do nothing:
 -- signal(7)
 abbrev pub TakesDefaultActions : Type 0
 TakesDefaultActions =
@@ -163,6 +163,7 @@ TakesDefaultActions =
     ∷ (Deliver 2, delivers 3 (effect.Ended 3))
     ∷ (kill 1 3 31, gives 0)
     ∷ (Deliver 3, delivers 31 (effect.Ended 31))
+    ∷ (setpgid 1 4 0, gives 0)
     ∷ (kill 1 4 22, gives 0)
     ∷ (kill 1 4 21, gives 0)
     ∷ (Deliver 4, delivers 21 effect.Stopped)

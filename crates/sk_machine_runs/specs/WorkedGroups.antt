@@ -1,8 +1,9 @@
 -- Runs that are worked out by hand: process groups, sessions, and whom kill(2) means.
-use Rattle.std.specs.Prelude.{◌≡◌, ◌^◌, [], ◌∷◌, List}
+use Rattle.std.specs.Prelude.{◌≡◌, ◌^◌, [], ◌∷◌, List, Some}
 use Rattle.sk_machine.specs.declared.answer.Reason.TheVariants as reason
 use Rattle.sk_creds.specs.declared.errno.Errno.TheVariants.{Eperm, Esrch, Eacces, Einval}
-use Rattle.sk_world.specs.World.{World, at, opening}
+use Rattle.sk_world.specs.declared.process.Life.TheVariants.{Zombie}
+use Rattle.sk_world.specs.World.{World, at, first_process, opening}
 use Rattle.sk_machine.specs.Lines.{Happening}
 use Rattle.sk_machine.specs.Given.{GivenImages}
 use Rattle.sk_machine_runs.specs.Scripts.{nothing_given, given, plain, for_number, minus, sigprocmask, sched_yield, pause, getpid, fork, execve, exit, kill, setuid, setpgid, getpgrp, setsid, getpgid, getsid, sigpending, exit_group, seccomp, gives, fails, waits, ends, executed, signals, refused, not_now, Runs, after}
@@ -150,9 +151,18 @@ FindsZombie =
     ∷ (getpid 2, not_now reason.Zombie)
     ∷ [])
 
--- the signal changes nothing
+-- the signal changes nothing of it, nor of its sender
+abbrev pub after_signal : World
+after_signal = after nothing_given zombie_in_group ((kill 1 (minus 2) 15, gives 0) ∷ [])
+
+-- the zombie is what is left of a child that has done nothing but change its group
 abbrev pub LeavesZombie : Type 0
-LeavesZombie = after nothing_given zombie_in_group ((kill 1 (minus 2) 15, gives 0) ∷ []) ≡ zombie_in_group
+LeavesZombie =
+    at after_signal 2 ≡ Some (record { links = record { parent = 1; group = 2; session = 1 }; body = record first_process.body { life = Zombie 0 } })
+
+-- process 1 is as it started
+abbrev pub LeavesSender : Type 0
+LeavesSender = at after_signal 1 ≡ Some first_process
 
 -- a process whose filters refuse kill(2), and its child, leave another one as it is
 abbrev pub confinement : List Happening
@@ -204,6 +214,7 @@ pub record WorkedGroups : Type 0 where
   pub kills_groups : KillsGroups
   pub finds_zombie : FindsZombie
   pub leaves_zombie : LeavesZombie
+  pub leaves_sender : LeavesSender
   pub confines_kill : ConfinesKill
   pub changes_nothing_confined : ChangesNothingConfined
   pub ends_confined : EndsConfined

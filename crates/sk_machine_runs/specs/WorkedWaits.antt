@@ -142,8 +142,8 @@ abbrev pub TellsContinuationOnce : Type 0
 TellsContinuationOnce =
     Runs nothing_given opening (
     (fork 1, gives 2)
-    ∷ (kill 1 2 20, gives 0)
-    ∷ (Deliver 2, delivers 20 effect.Stopped)
+    ∷ (kill 1 2 19, gives 0)
+    ∷ (Deliver 2, delivers 19 effect.Stopped)
     ∷ (kill 1 2 18, gives 0)
     ∷ (wait4 1 (minus 1) 3, gives 0)
     ∷ (wait4 1 (minus 1) 11, told 2 0xffff)

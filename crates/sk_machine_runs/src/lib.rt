@@ -11,6 +11,8 @@ ghost use Rattle.sk_machine_runs.specs.WorkedLines.{WorkedLines};
 ghost use Rattle.sk_machine_runs.specs.WorkedEdges.{WorkedEdges};
 ghost use Rattle.sk_machine_runs.specs.WorkedOrders.{WorkedOrders};
 ghost use Rattle.sk_machine_runs.specs.WorkedStates.{WorkedStates};
+ghost use Rattle.sk_machine_runs.specs.WorkedOrphans.{WorkedOrphans};
+ghost use Rattle.sk_machine_runs.specs.WorkedReapers.{WorkedReapers};
 ghost use Rattle.sk_machine_runs.specs.WorkedWidths.{WorkedWidths};
 ghost use Rattle.sk_machine_runs.specs.WorkedLimits.{WorkedLimits};
 
@@ -67,6 +69,18 @@ pub fn worked_orders()
 #[tactic(auto, using(crate::proofs::StateRows::worked_states))]
 pub fn worked_states()
     ensures law { WorkedStates }
+{}
+
+/// The definitions give what was worked out by hand of orphaned process groups.
+#[tactic(auto, using(crate::proofs::OrphanRows::worked_orphans))]
+pub fn worked_orphans()
+    ensures law { WorkedOrphans }
+{}
+
+/// The definitions give what was worked out by hand of subreapers.
+#[tactic(auto, using(crate::proofs::ReaperRows::worked_reapers))]
+pub fn worked_reapers()
+    ensures law { WorkedReapers }
 {}
 
 /// The definitions give what was worked out by hand of the widths of arguments.
