@@ -37,12 +37,12 @@ use Rattle.sk_world.specs.Numbers.{fresh_of}
 use Rattle.sk_world.specs.Forking.{has_room, forked}
 use Rattle.sk_world.specs.Sending.{signalled, generated_at, sent, sent_to_each}
 use Rattle.sk_world.specs.Subreapers.{new_parent}
-use Rattle.sk_world.specs.Ending.{ignores_children, handed_on, with_children_handed_on, has_zombie_child, reparented, zombie, died, ended}
+use Rattle.sk_world.specs.Ending.{ignores_children, handed_on, with_children_handed_on, has_zombie_child, reparented, zombie, left_to_parent, ended}
 use Rattle.sk_world.specs.Waits.{is_no_hang, is_match, status_of, ready_of, told}
 use Rattle.sk_world.proofs.Stored.{everywhere, at_other}
 use Rattle.sk_world.proofs.KeptEnd.{handed_cases, handed_at, alive_is_there}
 use Rattle.sk_world.proofs.KeptTold.{match_parent}
-use Rattle.sk_world.proofs.Locality.{forced_touches, told_touches, forked_touches}
+use Rattle.sk_world_laws.proofs.Locality.{forced_touches, told_touches, forked_touches}
 use Rattle.sk_world.proofs.Telling.{ready_lowest}
 use Rattle.sk_world.proofs.Fresh.{fresh_absent}
 use Rattle.std.proofs.lemmas.Bool.{ltb-true}
@@ -176,7 +176,7 @@ ended_told w pid status q apart =
     (λ _. told_twice q (at w q) (at handed q) (at (sent handed heir SIGCHLD) q) (told_nothing q (at w q) (at handed q) same) (sent_told handed heir SIGCHLD q refl))
     (λ _. told_nothing q (at w q) (at handed q) same) in
     let dead : World = changed after pid (zombie status) in
-    cond_both (pid == INIT) (changed w INIT _) (died after pid status) (λ v. IsTold q (at w q) (at v q)) (λ is. absurd (apart.not_init (eqb-true pid INIT is)))
+    cond_both (pid == INIT) (changed w INIT _) (left_to_parent after pid status) (λ v. IsTold q (at w q) (at v q)) (λ is. absurd (apart.not_init (eqb-true pid INIT is)))
     (λ _. cond_both (ignores_children (at after parent)) (stored after pid None) (sent dead parent SIGCHLD) (λ v. IsTold q (at w q) (at v q))
     (λ _. subst (IsTold q (at w q)) (sym (at_other after pid None q apart.other)) once)
     (λ _. told_twice q (at w q) (at dead q) (at (sent dead parent SIGCHLD) q) (subst (IsTold q (at w q)) (sym (at_other after pid _ q apart.other)) once) (sent_told dead parent SIGCHLD q refl)))

@@ -20,7 +20,7 @@ use Rattle.sk_world.specs.World.{World, at, is_alive, changed, first_process, op
 use Rattle.sk_world.specs.Numbers.{fresh_of}
 use Rattle.sk_world.specs.Forking.{has_room, forked}
 use Rattle.sk_world.proofs.Stored.{everywhere, at_other}
-use Rattle.sk_world.proofs.Rights.{forced_rights, forked_rights}
+use Rattle.sk_world_laws.proofs.Rights.{forced_rights, forked_rights}
 use Rattle.sk_world.specs.Sending.{forced}
 use Rattle.sk_world.proofs.KeptEnd.{alive_is_there}
 use Rattle.sk_session.specs.Sessions.{after_setpgid, after_setsid, group_asked, session_asked}

@@ -26,13 +26,13 @@ use Rattle.sk_world.specs.Numbers.{fresh_of}
 use Rattle.sk_world.specs.Sending.{sent}
 use Rattle.sk_world.specs.Forking.{has_room, child_of, fork_answer}
 use Rattle.sk_world.specs.Subreapers.{is_subreaper, new_parent}
-use Rattle.sk_world.specs.Ending.{ignores_children, handed_on, with_children_handed_on, has_zombie_child, reparented, zombie, died, ended}
+use Rattle.sk_world.specs.Ending.{ignores_children, handed_on, with_children_handed_on, has_zombie_child, reparented, zombie, left_to_parent, ended}
 use Rattle.sk_world.specs.Waits.{without_note, told}
-use Rattle.sk_world.specs.ChangeLaws.{unsignalled}
+use Rattle.sk_world_laws.specs.ChangeLaws.{unsignalled}
 use Rattle.sk_world.proofs.Maps.{get_store}
 use Rattle.sk_world.proofs.Stored.{everywhere}
 use Rattle.sk_world.proofs.KeptEnd.{handed_cases, handed_at, alive_is_there}
-use Rattle.sk_world.proofs.Locality.{sent_leaves}
+use Rattle.sk_world_laws.proofs.Locality.{sent_leaves}
 use Rattle.sk_session.specs.Sessions.{after_setpgid, after_setsid, group_asked, session_asked}
 use Rattle.sk_machine.specs.declared.event.Event.{Event}
 use Rattle.sk_machine.specs.declared.event.Event.TheVariants.{Call, Deliver, Resume, Fault}
@@ -99,7 +99,7 @@ marks_reparented w pid =
     cond_both (has_zombie_child w pid && not (ignores_children (at w heir))) (sent handed heir SIGCHLD) handed (MarksNobody w)
     (λ _ none. marks_sent handed heir SIGCHLD (marks_handed w pid none)) (λ _. marks_handed w pid)
 
-marks_died : (w : World) (pid status : ℕ) → MarksNobody w (died w pid status)
+marks_died : (w : World) (pid status : ℕ) → MarksNobody w (left_to_parent w pid status)
 marks_died w pid status =
     let parent : ℕ = parent_of (at w pid) in
     let dead : World = changed w pid (zombie status) in
@@ -108,7 +108,7 @@ marks_died w pid status =
 
 marks_ended : (w : World) (pid status : ℕ) → MarksNobody w (ended w pid status)
 marks_ended w pid status =
-    cond_both (pid == INIT) (changed w INIT (λ body. record body { life = Zombie status })) (died (reparented w pid) pid status) (MarksNobody w)
+    cond_both (pid == INIT) (changed w INIT (λ body. record body { life = Zombie status })) (left_to_parent (reparented w pid) pid status) (MarksNobody w)
     (λ _. marks_changed w INIT (λ body. record body { life = Zombie status }) (λ body. refl))
     (λ _ none. marks_died (reparented w pid) pid status (marks_reparented w pid none))
 

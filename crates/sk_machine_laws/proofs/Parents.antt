@@ -31,12 +31,12 @@ use Rattle.sk_world.specs.Numbers.{fresh_of}
 use Rattle.sk_world.specs.Forking.{has_room, forked}
 use Rattle.sk_world.specs.Sending.{generated_at, sent, forced}
 use Rattle.sk_world.specs.Subreapers.{is_subreaper, line_up, ancestors, takes_children, new_parent}
-use Rattle.sk_world.specs.Ending.{ignores_children, handed_on, with_children_handed_on, has_zombie_child, reparented, zombie, died, ended}
+use Rattle.sk_world.specs.Ending.{ignores_children, handed_on, with_children_handed_on, has_zombie_child, reparented, zombie, left_to_parent, ended}
 use Rattle.sk_world.specs.Waits.{without_note, told}
 use Rattle.sk_world.proofs.Stored.{everywhere}
 use Rattle.sk_world.proofs.Ancestors.{new_parent_by}
 use Rattle.sk_world.proofs.KeptEnd.{handed_cases, handed_at, alive_is_there}
-use Rattle.sk_world.proofs.Locality.{forked_touches, forked_child}
+use Rattle.sk_world_laws.proofs.Locality.{forked_touches, forked_child}
 use Rattle.sk_world.proofs.Fresh.{fresh_in_range, fresh_absent}
 use Rattle.sk_session.specs.Sessions.{after_setpgid, after_setsid, group_asked, session_asked}
 use Rattle.sk_machine.specs.declared.event.Event.{Event}
@@ -220,7 +220,7 @@ moved_reparented w pid there =
     cond_both (has_zombie_child w pid && not (ignores_children (at w heir))) (sent handed heir SIGCHLD) handed (Moves w)
     (λ _. moved_twice w handed (sent handed heir SIGCHLD) (moved_handed w pid there) (moved_sent handed heir SIGCHLD)) (λ _. moved_handed w pid there)
 
-moved_died : (w : World) (pid status : ℕ) → Moves w (died w pid status)
+moved_died : (w : World) (pid status : ℕ) → Moves w (left_to_parent w pid status)
 moved_died w pid status =
     let parent : ℕ = parent_of (at w pid) in
     let dead : World = changed w pid (zombie status) in
@@ -229,9 +229,9 @@ moved_died w pid status =
 
 moved_ended : (w : World) (pid status : ℕ) → IsTrue (is_some (at w pid)) → Moves w (ended w pid status)
 moved_ended w pid status there =
-    cond_both (pid == INIT) (changed w INIT (λ body. record body { life = Zombie status })) (died (reparented w pid) pid status) (Moves w)
+    cond_both (pid == INIT) (changed w INIT (λ body. record body { life = Zombie status })) (left_to_parent (reparented w pid) pid status) (Moves w)
     (λ _. moved_changed w INIT (λ body. record body { life = Zombie status }))
-    (λ _. moved_twice w (reparented w pid) (died (reparented w pid) pid status) (moved_reparented w pid there) (moved_died (reparented w pid) pid status))
+    (λ _. moved_twice w (reparented w pid) (left_to_parent (reparented w pid) pid status) (moved_reparented w pid there) (moved_died (reparented w pid) pid status))
 
 moves : Carries Moves
 moves = record {

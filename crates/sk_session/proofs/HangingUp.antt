@@ -14,15 +14,12 @@ use Rattle.sk_world.specs.World.{World, at, has_ended, has_stopped, is_stopped, 
 use Rattle.sk_world.specs.Rules.{IsWorld}
 use Rattle.sk_world.specs.Sending.{continued, signalled, generated_at, sent, sent_to_each}
 use Rattle.sk_world.specs.Ending.{ended}
-use Rattle.sk_world.specs.ChangeLaws.{unsignalled, KeepsRights}
 use Rattle.sk_world.proofs.Stored.{everywhere}
 use Rattle.sk_world.proofs.Kept.{kept_sent}
 use Rattle.sk_world.proofs.KeptEnd.{kept_ended}
-use Rattle.sk_world.proofs.Locality.{sent_leaves}
-use Rattle.sk_world.proofs.Rights.{stays, kept_twice, sent_rights, ended_rights}
-use Rattle.sk_world.proofs.Walks.{none_any}
+use Rattle.sk_world.proofs.Walks.{none_any, none_left}
 use Rattle.sk_session.specs.Orphans.{is_living_member, is_orphaned, is_left_orphaned, groups, sent_to_group, hung_up, each_hung_up, ended_and_hung_up}
-use Rattle.sk_session.specs.SessionLaws.{EndKeepsRules, EndKeepsRights, HangingUpKeepsAllElse, HangingUpEndsNobody, HangingUpKeepsZombies, EndWithoutStopped}
+use Rattle.sk_session.specs.SessionLaws.{EndKeepsRules}
 
 -- ---- what every signal leaves the many signals of a hanging up leave
 
@@ -69,25 +66,6 @@ unfolding KeepsRules
 kept_ended_and_hung_up w pid status rules alive =
     ended_by KeepsRules (λ w rules. rules) (λ v w x f g rules. g (f rules)) (λ w pid n. kept_sent w pid n) w pid status (kept_ended w pid status rules alive)
 
--- ---- the rights
-
-twice : (v w x : World) → KeepsRights v w → KeepsRights w x → KeepsRights v x
-twice v w x first later = λ q. kept_twice (at v q) (at w q) (at x q) (first q) (later q)
-
-pub rights_kept : EndKeepsRights
-rights_kept w pid status =
-    twice w (ended w pid status) (ended_and_hung_up w pid status) (ended_rights w pid status)
-    (ended_by KeepsRights (λ w q. stays (at w q)) twice sent_rights w pid status)
-
--- ---- all but signals, life and note
-
-LeavesAllElse : World → World → Type 0
-LeavesAllElse v w = (q : ℕ) → option_map unsignalled (at w q) ≡ option_map unsignalled (at v q)
-
-pub all_else_kept : HangingUpKeepsAllElse
-unfolding LeavesAllElse
-all_else_kept = ended_by LeavesAllElse (λ w q. refl) (λ v w x f g q. g q ∙ f q) sent_leaves
-
 -- ---- who lives
 
 -- a signal ends nobody
@@ -111,53 +89,3 @@ sent_life w pid n q =
     cond_both ((n == SIGCONT) && is_stopped (at w pid)) (generated_at (generated_at w pid n) (parent_of (at w pid)) SIGCHLD) (generated_at w pid n) (λ v. is_alive (at v q) ≡ is_alive (at w q))
     (λ _. generated_life (generated_at w pid n) (parent_of (at w pid)) SIGCHLD q ∙ generated_life w pid n q)
     (λ _. generated_life w pid n q)
-
-KeepsLife : World → World → Type 0
-KeepsLife v w = (q : ℕ) → is_alive (at w q) ≡ is_alive (at v q)
-
-pub nobody_ends : HangingUpEndsNobody
-unfolding KeepsLife
-nobody_ends = ended_by KeepsLife (λ w q. refl) (λ v w x f g q. g q ∙ f q) sent_life
-
--- ---- zombies
-
-KeepsZombies : World → World → Type 0
-KeepsZombies v w = (q : ℕ) → IsTrue (is_zombie (at v q)) → at w q ≡ at v q
-
-zombie_stays : (n : ℕ) (init : Bool) (o : Option Proc) → IsTrue (is_zombie o) → option_map (body_changed (signalled n init)) o ≡ o
-zombie_stays n init None zombie = refl
-zombie_stays n init (Some p) zombie = ap (λ body. Some (record p { body = body })) (cond-true (has_ended p.body.life) p.body _ zombie)
-
-generated_zombie : (w : World) (pid n q : ℕ) → IsTrue (is_zombie (at w q)) → at (generated_at w pid n) q ≡ at w q
-generated_zombie w pid n =
-    everywhere w pid (option_map (body_changed (signalled n (pid == INIT))) (at w pid)) (λ q x. IsTrue (is_zombie (at w q)) → x ≡ at w q) (zombie_stays n (pid == INIT) (at w pid)) (λ q ne zombie. refl)
-
-sent_zombie : (w : World) (pid n : ℕ) → (q : ℕ) → IsTrue (is_zombie (at w q)) → at (sent w pid n) q ≡ at w q
-sent_zombie w pid n q zombie =
-    let first = generated_zombie w pid n q zombie in
-    cond_both ((n == SIGCONT) && is_stopped (at w pid)) (generated_at (generated_at w pid n) (parent_of (at w pid)) SIGCHLD) (generated_at w pid n) (λ v. at v q ≡ at w q)
-    (λ _. generated_zombie (generated_at w pid n) (parent_of (at w pid)) SIGCHLD q (ap is_zombie first ∙ zombie) ∙ first)
-    (λ _. first)
-
-pub zombies_kept : HangingUpKeepsZombies
-unfolding KeepsZombies
-zombies_kept w pid status q zombie =
-    ended_by KeepsZombies (λ w q zombie. refl) (λ v w x f g q zombie. g q (ap is_zombie (f q zombie) ∙ zombie) ∙ f q zombie) sent_zombie w pid status q zombie
-
--- ---- nobody is stopped
-
-none_left : (p : ℕ → Bool) (xs : List ℕ) → ((q : ℕ) → p q ≡ false) → filter p xs ≡ []
-none_left p [] none = refl
-none_left p (x ∷ xs) none = ap (λ b. cond b (x ∷ filter p xs) (filter p xs)) (none x) ∙ none_left p xs none
-
-and_none : (b : Bool) → (b && false) ≡ false
-and_none true = refl
-and_none false = refl
-
-pub nobody_hung_up : EndWithoutStopped
-nobody_hung_up w pid status none =
-    let after : World = ended w pid status in
-    cond_both (pid == INIT) after (each_hung_up after (filter (is_left_orphaned w after) (groups after))) (λ v. v ≡ after)
-    (λ _. refl) (λ _. ap (each_hung_up after) (none_left (is_left_orphaned w after) (groups after) (λ group.
-    ap (λ b. (not (is_orphaned w group) && is_orphaned after group) && b) (none_any _ (pids after.procs) (λ q. ap (λ b. b && is_member_of group (at after q)) (none q)))
-    ∙ and_none (not (is_orphaned w group) && is_orphaned after group))))

@@ -4,7 +4,7 @@ use Rattle.std.specs.Option.{is_some, option_map}
 use Rattle.sk_world.specs.declared.process.Links.{Links}
 use Rattle.sk_world.specs.declared.process.Proc.{Proc}
 use Rattle.sk_world.specs.Processes.{pids}
-use Rattle.sk_world.specs.World.{World, at, is_alive, is_member_of, parent_of, stored, links_changed, relinked, IsNext}
+use Rattle.sk_world.specs.World.{World, at, is_alive, is_stopped, is_member_of, parent_of, stored, links_changed, relinked, IsNext}
 use Rattle.sk_world.specs.Rules.{IsWorld}
 use Rattle.sk_world.proofs.Bodies.{kept_at}
 use Rattle.sk_world.proofs.Walks.{any_here, none_any, beyond}
@@ -73,3 +73,10 @@ tied w group pid member tie = sym (ap not (any_here (is_tie w group) w.procs.ent
 
 pub untied : (w : World) (group : ℕ) → ((q : ℕ) → is_tie w group q ≡ false) → true ≡ is_orphaned w group
 untied w group none = sym (ap not (none_any (is_tie w group) (pids w.procs) none))
+
+-- who is no member is no stopped one
+pub no_member_stopped : (w : World) (group q : ℕ) → is_member_of group (at w q) ≡ false → (is_stopped (at w q) && is_member_of group (at w q)) ≡ false
+no_member_stopped w group q none = ap (λ b. is_stopped (at w q) && b) none ∙ and_none (is_stopped (at w q))
+
+pub not_stopped : (w : World) (group q : ℕ) → is_stopped (at w q) ≡ false → (is_stopped (at w q) && is_member_of group (at w q)) ≡ false
+not_stopped w group q none = ap (λ b. b && is_member_of group (at w q)) none

@@ -1,13 +1,10 @@
--- Laws on groups and sessions.
-use Rattle.std.specs.Prelude.{ℕ, ℤ, ◌≡◌, true, false, IsTrue, IfOk}
-use Rattle.std.specs.Option.{is_some, option_map}
-use Rattle.sk_world.specs.declared.process.TheConstants.{INIT}
-use Rattle.sk_world.specs.World.{World, at, is_zombie, is_alive, is_stopped, opening}
+-- Laws on groups and sessions: the rules of the world are kept.
+use Rattle.std.specs.Prelude.{ℕ, ℤ, IsTrue, IfOk}
+use Rattle.std.specs.Option.{is_some}
+use Rattle.sk_world.specs.World.{World, at, is_alive}
 use Rattle.sk_world.specs.Rules.{IsWorld}
-use Rattle.sk_world.specs.Ending.{ended}
-use Rattle.sk_world.specs.ChangeLaws.{unsignalled, KeepsRights}
 use Rattle.sk_session.specs.Sessions.{after_setpgid, after_setsid}
-use Rattle.sk_session.specs.Orphans.{is_orphaned, ended_and_hung_up}
+use Rattle.sk_session.specs.Orphans.{ended_and_hung_up}
 
 -- setpgid(2) by a process that is there keeps the rules of the world
 abbrev pub RegroupingKeepsRules : Type 0
@@ -21,30 +18,3 @@ FoundingKeepsRules = (w : World) (caller : ℕ) → IsWorld w → IsTrue (is_som
 -- so does the end of a process, with the groups that it hangs up
 abbrev pub EndKeepsRules : Type 0
 EndKeepsRules = (w : World) (pid status : ℕ) → IsWorld w → IsTrue (is_alive (at w pid)) → IsWorld (ended_and_hung_up w pid status)
-
--- it gives nobody rights, and takes none
-abbrev pub EndKeepsRights : Type 0
-EndKeepsRights = (w : World) (pid status : ℕ) → KeepsRights w (ended_and_hung_up w pid status)
-
--- whom it hangs up keeps all but its signals, its life and its note, and nobody comes or goes
-abbrev pub HangingUpKeepsAllElse : Type 0
-HangingUpKeepsAllElse =
-    (w : World) (pid status q : ℕ) → option_map unsignalled (at (ended_and_hung_up w pid status) q) ≡ option_map unsignalled (at (ended w pid status) q)
-
--- and lives or has ended as before
-abbrev pub HangingUpEndsNobody : Type 0
-HangingUpEndsNobody = (w : World) (pid status q : ℕ) → is_alive (at (ended_and_hung_up w pid status) q) ≡ is_alive (at (ended w pid status) q)
-
--- a zombie stays as it is
-abbrev pub HangingUpKeepsZombies : Type 0
-HangingUpKeepsZombies =
-    (w : World) (pid status q : ℕ) → IsTrue (is_zombie (at (ended w pid status) q)) → at (ended_and_hung_up w pid status) q ≡ at (ended w pid status) q
-
--- where nobody is stopped nobody is hung up
-abbrev pub EndWithoutStopped : Type 0
-EndWithoutStopped =
-    (w : World) (pid status : ℕ) → ((q : ℕ) → is_stopped (at (ended w pid status) q) ≡ false) → ended_and_hung_up w pid status ≡ ended w pid status
-
--- group 1 is orphaned as the system starts: process 1 has no parent
-abbrev pub OpeningGroupIsOrphaned : Type 0
-OpeningGroupIsOrphaned = is_orphaned opening INIT ≡ true

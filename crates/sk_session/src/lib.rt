@@ -4,10 +4,12 @@
 #![tactic(auto)]
 
 mod asking;
+mod ending;
 mod grouping;
 pub mod laws;
 mod orphans;
 
 pub use asking::{getpgid, getsid};
+pub use ending::end;
 pub use grouping::{setpgid, setsid};
 pub use orphans::orphaned;

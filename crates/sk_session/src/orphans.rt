@@ -23,7 +23,7 @@ pub fn orphaned<S: ProcStore>(store: &S, group: u32) -> bool
 }
 
 /// Whether the process ties the group to its session.
-fn is_tie<S: ProcStore>(store: &S, group: u32, pid: u32) -> bool
+pub(crate) fn is_tie<S: ProcStore>(store: &S, group: u32, pid: u32) -> bool
     ensures { result ≡ is_tie (S.contents store.now) group pid }
 {
     match store.get(pid) {

@@ -1,5 +1,5 @@
 -- Who the children of a process go to.
-use Rattle.std.proofs.Common.{◌≡◌, ◌≢◌, ◌∙◌, ◌+◌, ◌-◌, ◌<◌, ◌≤◌, ◌==◌, ℕ, zero, suc, arith, ap, sym, refl, subst, Bool, true, false, cond, not, ◌&&◌, List, [], ◌∷◌, ◌⊎◌, inl, inr, IsTrue, IsFalse, Option, None, Some, lit≤}
+use Rattle.std.proofs.Common.{◌≡◌, ◌≢◌, ◌∙◌, ◌+◌, ◌-◌, ◌<◌, ◌≤◌, ◌==◌, ℕ, zero, suc, arith, ap, sym, refl, Bool, true, false, cond, not, ◌&&◌, [], ◌∷◌, ◌⊎◌, inl, inr, IsTrue, IsFalse, Option, None, Some}
 use Rattle.std.specs.Prelude.{find}
 use Rattle.std.specs.Option.{is_some, unwrap_or}
 use Rattle.std.proofs.lemmas.Bool.{false≢true, and_parts, not-true, eqb-false, eqb-true}
@@ -8,11 +8,10 @@ use Rattle.sk_world.specs.declared.process.Proc.{Proc}
 use Rattle.sk_world.specs.World.{World, at, is_zombie, is_alive, is_halted, parent_of}
 use Rattle.sk_world.specs.Rules.{IsWorld, is_init}
 use Rattle.sk_world.specs.Subreapers.{is_subreaper, line_up, ancestors, takes_children, new_parent}
-use Rattle.sk_world.specs.ReaperLaws.{ancestor, NewParentLives, WithoutSubreapers, NearestSubreaper, NewParentIsAncestor}
 use Rattle.sk_world.proofs.KeptTold.{found, no_parent}
 
 -- what a subreaper is found as, and process 1 where none is
-found_or : (o : Option ℕ) (P : ℕ → Type 0) → ((q : ℕ) → o ≡ Some q → P q) → (o ≡ None → P INIT) → P (unwrap_or o INIT)
+pub found_or : (o : Option ℕ) (P : ℕ → Type 0) → ((q : ℕ) → o ≡ Some q → P q) → (o ≡ None → P INIT) → P (unwrap_or o INIT)
 found_or None P some none = none refl
 found_or (Some q) P some none = some q refl
 
@@ -25,7 +24,7 @@ new_parent_by w pid P first other = found_or (find (takes_children w pid) (ances
     other q takes.0 (eqb-false q pid (not-true (q == pid) takes.1)))
     (λ _. first)
 
-subreaper_there : (o : Option Proc) → IsTrue (is_subreaper o) → IsTrue (is_some o)
+pub subreaper_there : (o : Option Proc) → IsTrue (is_subreaper o) → IsTrue (is_some o)
 subreaper_there None is = is
 subreaper_there (Some p) is = refl
 
@@ -43,9 +42,6 @@ new_parent_within w pid rules = (rules.pids (new_parent w pid) (new_parent_there
 -- only process 1 is handed its own children
 pub new_parent_other : (w : World) (pid : ℕ) → pid ≢ INIT → new_parent w pid ≢ pid
 new_parent_other w pid ne = new_parent_by w pid (λ q. q ≢ pid) (λ is. ne (sym is)) (λ q _ other. other)
-
-pub without_subreapers : WithoutSubreapers
-without_subreapers w pid none = new_parent_by w pid (λ q. q ≡ INIT) refl (λ q is _. absurd (false≢true (sym (none q) ∙ is)))
 
 -- there is no process 0
 nobody_zero : (w : World) → IsWorld w → (o : Option Proc) → at w 0 ≡ o → o ≡ None
@@ -87,62 +83,6 @@ unfolding new_parent ancestors
 new_parent_alive w pid rules going there = found_or (find (takes_children w pid) (ancestors w pid)) (λ q. IsTrue (is_alive (at w q)))
     (λ q is. lives w (takes_children w pid) PROCESSES (parent_of (at w pid)) rules going (parent_alive w pid rules going there) q is)
     (λ _. init_alive (at w INIT) rules.init going)
-
-pub new_parent_lives : NewParentLives
-new_parent_lives w pid rules going there ne = (new_parent_alive w pid rules going there, new_parent_other w pid ne)
-
--- who is found is so many steps up
-steps_up : (w : World) (t : ℕ → Bool) (m pid q : ℕ) → find t (line_up m w pid) ≡ Some q → (n : ℕ) × (n < m) × (q ≡ ancestor n w pid)
-steps_up w t zero pid q is = absurd (false≢true (ap is_some is))
-steps_up w t (suc m) pid q is =
-    elim (is_some (at w pid)) as (λ b. find t (cond b (pid ∷ line_up m w (parent_of (at w pid))) []) ≡ Some q → (n : ℕ) × (n < suc m) × (q ≡ ancestor n w pid)) [
-      | true ↦ λ is.
-          elim (t pid) as (λ b. cond b (Some pid) (find t (line_up m w (parent_of (at w pid)))) ≡ Some q → (n : ℕ) × (n < suc m) × (q ≡ ancestor n w pid)) [
-            | true ↦ λ is. (0, omega arith, sym (ap (λ o. unwrap_or o pid) is))
-            | false ↦ λ is. let up = steps_up w t m (parent_of (at w pid)) q is in let near = up.1 in (suc up.0, omega arith, up.2)
-          ] is
-      | false ↦ λ is. absurd (false≢true (ap is_some is))
-    ] is
-
-pub new_parent_up : NewParentIsAncestor
-unfolding new_parent ancestors
-new_parent_up w pid = found_or (find (takes_children w pid) (ancestors w pid)) (λ q. (q ≡ INIT) ⊎ ((n : ℕ) × (n < PROCESSES) × (q ≡ ancestor (suc n) w pid)))
-    (λ q is. inr (steps_up w (takes_children w pid) PROCESSES (parent_of (at w pid)) q is)) (λ _. inl refl)
-
--- nobody is above process 0
-nobody_above : (w : World) (n pid : ℕ) → at w 0 ≡ None → at w pid ≡ None → at w (ancestor n w pid) ≡ None
-nobody_above w zero pid bottom none = none
-nobody_above w (suc n) pid bottom none = nobody_above w n (parent_of (at w pid)) bottom (ap (λ o. at w (parent_of o)) none ∙ bottom)
-
-absent : (o : Option Proc) → is_some o ≡ false → o ≡ None
-absent None is = refl
-absent (Some p) is = absurd (false≢true (sym is))
-
--- the first of the line up that passes is found
-first_up : (w : World) (t : ℕ → Bool) → IsWorld w → ((q : ℕ) → IsTrue (t q) → IsTrue (is_some (at w q))) → (n m pid : ℕ) → n < m → IsTrue (t (ancestor n w pid))
-    → ((k : ℕ) → k < n → t (ancestor k w pid) ≡ false) → find t (line_up m w pid) ≡ Some (ancestor n w pid)
-first_up w t rules known n zero pid lt passes before = absurd (omega arith)
-first_up w t rules known zero (suc m) pid lt passes before =
-    ap (λ b. find t (cond b (pid ∷ line_up m w (parent_of (at w pid))) [])) (known pid passes)
-    ∙ ap (λ b. cond b (Some pid) (find t (line_up m w (parent_of (at w pid))))) passes
-first_up w t rules known (suc n) (suc m) pid lt passes before =
-    elim (is_some (at w pid)) as (λ b. is_some (at w pid) ≡ b → find t (cond b (pid ∷ line_up m w (parent_of (at w pid))) []) ≡ Some (ancestor n w (parent_of (at w pid)))) [
-      | true ↦ λ _.
-          ap (λ b. cond b (Some pid) (find t (line_up m w (parent_of (at w pid))))) (before 0 (omega arith))
-          ∙ first_up w t rules known n m (parent_of (at w pid)) (omega arith) passes (λ k lt. before (suc k) (omega arith))
-      | false ↦ λ none.
-          let bottom = zero_is_nobody w rules in
-          let nobody = nobody_above w (suc n) pid bottom (absent (at w pid) none) in
-          absurd (false≢true (ap is_some (sym nobody) ∙ known (ancestor (suc n) w pid) passes))
-    ] refl
-
-takes_there : (w : World) (pid q : ℕ) → IsTrue (takes_children w pid q) → IsTrue (is_some (at w q))
-takes_there w pid q takes = subreaper_there (at w q) (and_parts (is_subreaper (at w q)) _ takes).0
-
-pub nearest_subreaper : NearestSubreaper
-unfolding new_parent ancestors
-nearest_subreaper w pid n rules within takes nearer =
-    ap (λ o. unwrap_or o INIT) (first_up w (takes_children w pid) rules (takes_there w pid) n PROCESSES (parent_of (at w pid)) within takes nearer)
 
 -- whom the rest of the way up comes to
 unfoldable pub found_above : World → ℕ → ℕ → ℕ → ℕ

@@ -7,12 +7,7 @@ pub mod KeptFork
 pub mod Ancestors
 pub mod KeptEnd
 pub mod KeptTold
-pub mod Locality
 pub mod Telling
-pub mod Numbering
-pub mod Rights
-pub mod WorkedWorlds
-pub mod Handing
 pub mod Bodies
 pub mod Partly
 pub mod Polling

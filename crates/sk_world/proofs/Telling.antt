@@ -1,5 +1,5 @@
 -- Whom wait4(2) tells of.
-use Rattle.std.proofs.Common.{◌≡◌, ◌∙◌, ◌<◌, ◌≤◌, ◌==◌, ℕ, arith, ap, sym, refl, subst, Bool, true, false, cond, ◌&&◌, ◌||◌, IsTrue, List, [], ◌∷◌, map, Option, None, Some}
+use Rattle.std.proofs.Common.{◌≡◌, ◌≢◌, ◌∙◌, ◌<◌, ◌≤◌, ◌==◌, ℕ, arith, ap, sym, refl, subst, Bool, true, false, cond, ◌&&◌, ◌||◌, IsTrue, IsFalse, List, [], ◌∷◌, map, Option, None, Some}
 use Rattle.std.specs.Prelude.{T, nat_lt}
 use Rattle.std.specs.declared.cmp.Ordering.TheVariants.{Less, Equal, Greater}
 use Rattle.std.specs.Option.{is_some, option_map_or, unwrap_or}
@@ -14,7 +14,6 @@ use Rattle.sk_world.specs.declared.request.Poll.TheVariants.{Told, NoMatch, NotR
 use Rattle.sk_world.specs.Processes.{pids}
 use Rattle.sk_world.specs.World.{World, at, is_zombie, stored, changed}
 use Rattle.sk_world.specs.Waits.{is_match, is_ready, has_match, ready_of, status_of, without_note, told}
-use Rattle.sk_world.specs.ChangeLaws.{ReadyIsLowest, NoMatchHasNone, NotReadyHasMatch, ZombieIsToldOnce}
 use Rattle.sk_world.proofs.Maps.{same_number}
 use Rattle.sk_world.proofs.Stored.{at_here}
 use Rattle.sk_world.proofs.KeptTold.{found}
@@ -101,7 +100,9 @@ status_told w caller request pid status is =
     sym (ap (λ o. told_status (option_map_or (λ pid. Told pid (unwrap_or (status_of request.options (at w pid)) 0)) o (cond (has_match w caller request) NotReady NoMatch))) (searched w caller request pid status is))
     ∙ ap told_status is
 
-pub ready_lowest : ReadyIsLowest
+-- it is the lowest child that is ready
+pub ready_lowest : (w : World) (caller : ℕ) (request : Request) (pid status : ℕ) → ready_of w caller request ≡ Told pid status
+    → IsTrue (is_ready w caller request pid) × (status_of request.options (at w pid) ≡ Some status) × ((other : ℕ) → IsTrue (is_ready w caller request other) → pid ≤ other)
 ready_lowest w caller request pid status is =
     let search = searched w caller request pid status is in
     let ready = found (is_ready w caller request) (pids w.procs) pid search in (
@@ -125,7 +126,7 @@ none_found p (e ∷ es) is q there =
           ] refl (ap (λ b. is_some (cond b (Some e.1) (find nat_cmp q es))) (sym (same_number q e.0)) ∙ there)
     ] refl is
 
-some_passes : (p : ℕ → Bool) (xs : List ℕ) → list_any p xs ≡ true → (q : ℕ) × IsTrue (p q)
+pub some_passes : (p : ℕ → Bool) (xs : List ℕ) → list_any p xs ≡ true → (q : ℕ) × IsTrue (p q)
 some_passes p [] any = absurd (false≢true any)
 some_passes p (x ∷ xs) any =
     elim (p x) as (λ b. p x ≡ b → (b || list_any p xs) ≡ true → (q : ℕ) × IsTrue (p q)) [
@@ -171,11 +172,14 @@ matches_nobody w caller request none pid =
     false_from_ne_true (is_match caller request pid (at w pid)) (λ match.
     false≢true (sym (none_passes (λ pid. is_match caller request pid (at w pid)) w.procs.entries none pid (match_is_there caller request pid (at w pid) match)) ∙ match))
 
-pub no_match : NoMatchHasNone
+-- no child matches
+pub no_match : (w : World) (caller : ℕ) (request : Request) → ready_of w caller request ≡ NoMatch → (pid : ℕ) → IsFalse (is_match caller request pid (at w pid))
 unfolding told_pid says_match
 no_match w caller request is = matches_nobody w caller request (unanswered w caller request NoMatch is refl).1
 
-pub not_ready : NotReadyHasMatch
+-- a child matches, and none is ready
+pub not_ready : (w : World) (caller : ℕ) (request : Request) → ready_of w caller request ≡ NotReady
+    → ((pid : ℕ) × IsTrue (is_match caller request pid (at w pid))) × ((pid : ℕ) → IsFalse (is_ready w caller request pid))
 unfolding told_pid says_match
 not_ready w caller request is =
     let facts = unanswered w caller request NotReady is refl in (
@@ -190,7 +194,9 @@ not_ready w caller request is =
 gone : (w : World) (pid status : ℕ) → IsTrue (is_zombie (at w pid)) → at (told w (Told pid status)) pid ≡ None
 gone w pid status zombie = ap (λ b. at (cond b (stored w pid None) (changed w pid without_note)) pid) zombie ∙ at_here w pid None
 
-pub told_once : ZombieIsToldOnce
+-- a zombie that was told of is not told of again
+pub told_once : (w : World) (pid status : ℕ) → IsTrue (is_zombie (at w pid)) → (caller : ℕ) (request : Request) (again : ℕ)
+    → ready_of (told w (Told pid status)) caller request ≢ Told pid again
 told_once w pid status zombie caller request again is =
     let after : World = told w (Told pid status) in
     let ready = found (is_ready after caller request) (pids after.procs) pid (searched after caller request pid again is) in

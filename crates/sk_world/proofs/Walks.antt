@@ -106,6 +106,39 @@ all_above p es none = (λ i. filter (λ q. same q i) (map (λ e. e.0) es))
     same zero = sym none
     same (suc q) = ap (λ b. b && p (suc q)) (lt-ltb 0 (suc q) (omega arith))
 
+-- all keys are above one that is below them
+all_after : {A : Type 0} (p : ℕ → Bool) (next : ℕ) (es : List (ℕ × A)) → T (below_all nat_cmp next es) → filter p (map (λ e. e.0) es) ≡ above p next es
+all_after p next [] below = refl
+all_after p next (e ∷ es) below =
+    let both = parts (is_lt (nat_cmp next e.0)) (below_all nat_cmp next es) below in
+    let same : p e.0 ≡ (nat_lt next e.0 && p e.0) = ap (λ b. b && p e.0) (sym (lt-ltb next e.0 (comes_first next e.0 both.0))) in
+    (λ i. cond (same i) (e.0 ∷ all_after p next es both.1 i) (all_after p next es both.1 i))
+
+-- the least key that passes is the first of all that do, and behind it come those above it
+pub first_above : {A : Type 0} (p : ℕ → Bool) (next : ℕ) (es : List (ℕ × A)) → T (is_sorted nat_cmp es) → IsTrue (is_some (find nat_cmp next es))
+    → p next ≡ true → ((q : ℕ) → q < next → p q ≡ false) → filter p (map (λ e. e.0) es) ≡ (next ∷ above p next es)
+first_above p next [] rising there passes none = absurd (false≢true there)
+first_above p next (e ∷ es) rising there passes none =
+    let both = parts (below_all nat_cmp e.0 es) (is_sorted nat_cmp es) rising in
+    split next e es (filter p (map (λ e. e.0) (e ∷ es)) ≡ (next ∷ above p next (e ∷ es))) there
+    (λ is.
+    let gone : (nat_lt next e.0 && p e.0) ≡ false = ap (λ b. b && p e.0) (le-ltb next e.0 (omega (arith, is))) in
+    ap (λ b. cond b (e.0 ∷ filter p (map (λ e. e.0) es)) (filter p (map (λ e. e.0) es))) (ap p (sym is) ∙ passes)
+    ∙ (λ i. sym is i ∷ all_after p e.0 es both.0 i)
+    ∙ ap (λ k. next ∷ above p k es) (sym is)
+    ∙ ap (λ b. next ∷ cond b (e.0 ∷ above p next es) (above p next es)) (sym gone))
+    (λ other there.
+    let first = below_rest e.0 es both.0 next there in
+    let gone : (nat_lt next e.0 && p e.0) ≡ false = ap (λ b. b && p e.0) (le-ltb next e.0 (omega (arith, first))) in
+    ap (λ b. cond b (e.0 ∷ filter p (map (λ e. e.0) es)) (filter p (map (λ e. e.0) es))) (none e.0 first)
+    ∙ first_above p next es both.1 there passes none
+    ∙ ap (λ b. next ∷ cond b (e.0 ∷ above p next es) (above p next es)) (sym gone))
+
+-- nothing is left of a list where no number passes
+pub none_left : (p : ℕ → Bool) (xs : List ℕ) → ((q : ℕ) → p q ≡ false) → filter p xs ≡ []
+none_left p [] none = refl
+none_left p (x ∷ xs) none = ap (λ b. cond b (x ∷ filter p xs) (filter p xs)) (none x) ∙ none_left p xs none
+
 -- a key that passes makes some pass
 pub any_here : {A : Type 0} (p : ℕ → Bool) (es : List (ℕ × A)) (q : ℕ) → IsTrue (is_some (find nat_cmp q es)) → p q ≡ true → list_any p (map (λ e. e.0) es) ≡ true
 any_here p [] q there passes = absurd (false≢true there)

@@ -22,11 +22,11 @@ abbrev pub ignores_children : Option Proc → Bool
 ignores_children o = option_map_or (λ p. is_ignore (disposition_of p.body.signals SIGCHLD)) o false
 
 -- a process after `dying` has ended: its children are the new parent's, and of these a zombie goes
--- where the new parent leaves none
+-- where the new parent removes it
 abbrev pub handed_on : ℕ → ℕ → Bool → Proc → Option Proc
-handed_on dying parent leaves_none p =
+handed_on dying parent removes p =
     if not (p.links.parent == dying) then Some p
-    else if leaves_none && has_ended p.body.life then None
+    else if removes && has_ended p.body.life then None
     else Some (record p { links = record p.links { parent = parent } })
 
 -- the children of a process are handed on
@@ -57,8 +57,8 @@ zombie status body = record body {
 
 -- a process without children ends. It goes where its parent ignores SIGCHLD. Else it is a zombie, and
 -- its parent gets SIGCHLD
-abbrev pub died : World → ℕ → ℕ → World
-died w pid status =
+abbrev pub left_to_parent : World → ℕ → ℕ → World
+left_to_parent w pid status =
     if ignores_children (at w (parent_of (at w pid))) then stored w pid None
     else sent (changed w pid (zombie status)) (parent_of (at w pid)) SIGCHLD
 
@@ -67,4 +67,4 @@ died w pid status =
 abbrev pub ended : World → ℕ → ℕ → World
 ended w pid status =
     if pid == INIT then changed w INIT (λ body. record body { life = Zombie status })
-    else died (reparented w pid) pid status
+    else left_to_parent (reparented w pid) pid status

@@ -9,6 +9,3 @@ pub mod Subreapers
 pub mod Ending
 pub mod Waits
 pub mod WorldLaws
-pub mod ChangeLaws
-pub mod ReaperLaws
-pub mod WorkedWorlds
