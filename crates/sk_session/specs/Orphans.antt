@@ -56,9 +56,12 @@ abbrev pub each_hung_up : World → List ℕ → World
 each_hung_up w [] = w
 each_hung_up w (group ∷ rest) = each_hung_up (hung_up w group) rest
 
--- a process ends, and the groups that this leaves orphaned, with a stopped process in them, are hung up in rising
--- order. The end of process 1 halts the system and hangs up nobody
+-- so are the groups that are left orphaned from one world to the next, with a stopped process in them, in rising
+-- order
+abbrev pub left_hung_up : World → World → World
+left_hung_up before after = each_hung_up after (filter (is_left_orphaned before after) (groups after))
+
+-- a process ends, and the groups that this leaves orphaned are hung up. The end of process 1 halts the system and
+-- hangs up nobody
 abbrev pub ended_and_hung_up : World → ℕ → ℕ → World
-ended_and_hung_up w pid status =
-    if pid == INIT then ended w pid status
-    else each_hung_up (ended w pid status) (filter (is_left_orphaned w (ended w pid status)) (groups (ended w pid status)))
+ended_and_hung_up w pid status = if pid == INIT then ended w pid status else left_hung_up w (ended w pid status)

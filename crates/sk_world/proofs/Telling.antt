@@ -59,7 +59,7 @@ below_rest x (e ∷ es) h q there =
     ] refl (ap (λ b. is_some (cond b (Some e.1) (find nat_cmp q es))) (sym (same_number q e.0)) ∙ there)
 
 -- the first pid of a rising list that passes is the least
-least_found : (p : ℕ → Bool) (es : List (ℕ × Proc)) → T (is_sorted nat_cmp es) → (pid : ℕ) → first p (map (λ e. e.0) es) ≡ Some pid
+pub least_found : (p : ℕ → Bool) (es : List (ℕ × Proc)) → T (is_sorted nat_cmp es) → (pid : ℕ) → first p (map (λ e. e.0) es) ≡ Some pid
     → (other : ℕ) → p other ≡ true → IsTrue (is_some (find nat_cmp other es)) → pid ≤ other
 least_found p [] rising pid is other passes there = absurd (false≢true there)
 least_found p (e ∷ es) rising pid is other passes there =
