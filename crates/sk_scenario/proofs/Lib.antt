@@ -1,0 +1,4 @@
+pub mod Coding
+pub mod Entries
+pub mod Found
+pub mod Turns

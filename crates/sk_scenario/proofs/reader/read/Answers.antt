@@ -1,0 +1,17 @@
+use Rattle.std.proofs.Common.{length}
+use Rattle.std.proofs.lemmas.Bool.{le-ltb}
+use Rattle.sk_setting.specs.Reading.{scenario}
+use Rattle.sk_scenario.specs.Answers.{Answers}
+use Rattle.sk_scenario.proofs.Found.{text-stands, text-only}
+use Rattle.sk_scenario.proofs.reader.read.Goals as goal
+
+-- the input is short enough, so its lines decide
+exact : (c : goal.After-read_twice) → Answers (λ read. read) c.read_twice.result (scenario c.args.input.now)
+unfolding scenario
+exact c = let short = le-ltb 1048576 (length c.args.input.now) c.in_ok-judge_length.ensures.exact in rw short c.read_twice.ensures.exact
+
+pub returns-clause-stands : goal.returns-clause-stands
+returns-clause-stands c = text-stands (λ read. read) c.args.input.now c.read_twice.result (exact c)
+
+pub returns-clause-only : goal.returns-clause-only
+returns-clause-only c setting h = text-only (λ read. read) c.args.input.now c.read_twice.result setting (exact c) h

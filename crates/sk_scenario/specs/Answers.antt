@@ -1,0 +1,32 @@
+-- Answers of the reader: a value, a fault of the text, or want of memory.
+use Rattle.std.specs.Prelude.{◌≡◌, ◌⊎◌, Result, Ok, Err}
+use Rattle.sk_setting.specs.declared.fault.TextFault.{TextFault}
+use Rattle.sk_setting.specs.declared.fault.TextFault.TheVariants as text
+use Rattle.sk_setting.specs.Scenario.{Setting}
+use Rattle.sk_scenario.specs.declared.fault.ScenarioFault.{ScenarioFault}
+use Rattle.sk_scenario.specs.declared.fault.ScenarioFault.TheVariants.{Line, Unresolved, Limit, Memory}
+
+-- a fault of the text, as it is told
+abbrev pub told : TextFault → ScenarioFault
+told (text.Line n) = Line n
+told (text.Unresolved n) = Unresolved n
+told (text.Limit n) = Limit n
+
+-- the fault is the given one; want of memory may come at any time
+abbrev pub IsFaultOf : {X : Type 0} → ScenarioFault → Result X TextFault → Type 0
+IsFaultOf fault given = (fault ≡ Memory) ⊎ ((why : TextFault) × (fault ≡ told why) × (given ≡ Err why))
+
+-- an answer whose value, seen by view, is the given one, or whose fault is
+abbrev pub Answers : {X Y : Type 0} → (X → Y) → Result X ScenarioFault → Result Y TextFault → Type 0
+Answers view (Ok value) given = given ≡ Ok (view value)
+Answers view (Err fault) given = IsFaultOf fault given
+
+-- the same of an answer that takes no memory
+abbrev pub Judges : {X Y : Type 0} → (X → Y) → Result X TextFault → Result Y TextFault → Type 0
+Judges view (Ok value) given = given ≡ Ok (view value)
+Judges view (Err why) given = given ≡ Err why
+
+-- the answer is this setting, but for want of memory
+abbrev pub Finds : {T : Type 0} → (T → Setting) → Result T ScenarioFault → Setting → Type 0
+Finds view (Ok value) setting = view value ≡ setting
+Finds view (Err fault) setting = fault ≡ Memory

@@ -1,0 +1,152 @@
+//! Lines in a program's block.
+ghost use Rattle.std.specs.Prelude.{◌≡◌, ◌<◌, ◌≤◌, ℕ, Bool, MatchResult};
+ghost use Rattle.std.specs.Option.{option_map};
+ghost use Rattle.sk_setting.specs.Grammar.{asked_of};
+ghost use Rattle.sk_setting.specs.Scenario.{value_of, child_of, call_of, named_by, program_number, number_of as number_of_named};
+ghost use Rattle.sk_setting.specs.Reading.{checked, resolved, called};
+ghost use Rattle.sk_setting.specs.declared.fault.TextFault.TheVariants.{Limit};
+ghost use Rattle.sk_scenario.specs.Answers.{Answers, Judges};
+ghost use Rattle.sk_scenario.specs.Views.{argument_seen, call_seen, line_seen, names_seen, known_seen, script_with};
+
+use crate::fault::ScenarioFault;
+use crate::line::{Argument, CallLine, ProgramLine};
+use crate::parse::program_line;
+use crate::state::Names;
+use crate::top::check_line;
+use sk_setting::{Named, ScriptCall, TextFault};
+
+// The most calls that a program may have.
+const MOST_CALLS: usize = 1000;
+
+// What line `n` says in a program's block.
+#[tactic(auto, unfolding(sk_setting::specs::Reading::checked))]
+pub(crate) fn read_call(n: usize, line: &[u8]) -> Result<ProgramLine<'_>, TextFault>
+    ensures exact { Judges line_seen result (checked asked_of n line.now) }
+{
+    check_line(n, line)?;
+    match program_line(line) {
+        Some(said) => Ok(said),
+        None => Err(TextFault::Line { n }),
+    }
+}
+
+fn named_by(names: &Names<'_>, name: &[u8]) -> Option<Named>
+    ensures exact { result ≡ named_by (names_seen names.now) name.now }
+{
+    names.get(name).copied()
+}
+
+fn program_number(what: Named) -> Option<u32>
+    ensures exact { result ≡ program_number what }
+{
+    match what {
+        Named::Filter(_) => None,
+        Named::Program(number) => Some(number),
+    }
+}
+
+fn number_of(what: Named) -> u32
+    ensures exact { result ≡ number_of_named what }
+{
+    match what {
+        Named::Filter(number) | Named::Program(number) => number,
+    }
+}
+
+fn value_of(names: &Names<'_>, argument: Argument<'_>) -> Option<u64>
+    ensures exact { result ≡ value_of (names_seen names.now) (argument_seen argument.entry) }
+{
+    match argument {
+        Argument::Plain(value) => Some(value),
+        Argument::NumberOf(name) => {
+            let what = named_by(names, name)?;
+            Some(u64::from(number_of(what)))
+        }
+        Argument::HandlerOf(name) => {
+            let what = named_by(names, name)?;
+            let number = program_number(what)?;
+            Some(u64::from(number) + 2)
+        }
+    }
+}
+
+fn child_of(names: &Names<'_>, child: Option<&[u8]>) -> Option<Option<u32>>
+    ensures exact { result ≡ child_of (names_seen names.now) (option_map (λ name. name.now) child.entry) }
+{
+    match child {
+        None => Some(None),
+        Some(name) => {
+            let what = named_by(names, name)?;
+            let number = program_number(what)?;
+            Some(Some(number))
+        }
+    }
+}
+
+#[tactic(auto, unfolding(sk_setting::specs::Scenario::call_of))]
+fn call_of(names: &Names<'_>, call: CallLine<'_>) -> Option<ScriptCall>
+    ensures exact { result ≡ call_of (names_seen names.now) (call_seen call.entry) }
+{
+    let a = value_of(names, call.arguments.a)?;
+    let b = value_of(names, call.arguments.b)?;
+    let c = value_of(names, call.arguments.c)?;
+    let d = value_of(names, call.arguments.d)?;
+    let e = value_of(names, call.arguments.e)?;
+    let f = value_of(names, call.arguments.f)?;
+    let script = child_of(names, call.child)?;
+    Some(ScriptCall {
+        nr: call.nr,
+        args: [a, b, c, d, e, f],
+        script,
+    })
+}
+
+// The call that line `n` asks for. Where the names are not known yet, it is any.
+#[tactic(auto, unfolding(sk_setting::specs::Reading::resolved))]
+fn resolve(known: Option<&Names<'_>>, n: usize, call: CallLine<'_>) -> Result<ScriptCall, TextFault>
+    ensures exact { Judges (λ made. made) result (resolved (known_seen known.entry) n (call_seen call.entry)) }
+{
+    match known {
+        None => Ok(ScriptCall {
+            nr: 0,
+            args: [0; 6],
+            script: None,
+        }),
+        Some(names) => match call_of(names, call) {
+            Some(made) => Ok(made),
+            None => Err(TextFault::Unresolved { n }),
+        },
+    }
+}
+
+// Whether line `n` may ask for a call, behind so many calls.
+fn judge_count(n: usize, count: usize) -> Result<(), TextFault>
+    ensures exact { MatchResult result (λ none. count < 1000) (λ why. (1000 ≤ count) × (why ≡ Limit n)) }
+{
+    if count >= MOST_CALLS {
+        return Err(TextFault::Limit { n });
+    }
+    Ok(())
+}
+
+// The calls, with the one that line `n` asks for, if it does.
+#[tactic(auto, unfolding(sk_setting::specs::Reading::called))]
+pub(crate) fn add_call(
+    mut calls: Vec<ScriptCall>,
+    known: Option<&Names<'_>>,
+    n: usize,
+    line: ProgramLine<'_>,
+) -> Result<Vec<ScriptCall>, ScenarioFault>
+    ensures exact { (owner : ℕ) (setuid : Bool) → Answers (λ added. script_with owner setuid added.items) result
+        (called (known_seen known.entry) n (script_with owner setuid calls.items) (line_seen line.entry)) }
+{
+    match line {
+        ProgramLine::Silent => Ok(calls),
+        ProgramLine::Call(call) => {
+            judge_count(n, calls.len())?;
+            let made = resolve(known, n, call)?;
+            calls.push(made)?;
+            Ok(calls)
+        }
+    }
+}

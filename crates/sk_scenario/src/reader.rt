@@ -1,0 +1,66 @@
+//! The scenario reader.
+ghost use Rattle.std.specs.Prelude.{◌≡◌, ◌<◌, ◌≤◌, length, IfOk, MatchResult, Some};
+ghost use Rattle.sk_text.specs.Lines.{lines_of};
+ghost use Rattle.sk_setting.specs.Reading.{reading, scenario, scenario_of, nothing_yet, setting, Nothing as NoBlock};
+ghost use Rattle.sk_setting.specs.Scenario.{IsScenarioText, Setting};
+ghost use Rattle.sk_setting.specs.declared.fault.TextFault.TheVariants.{Limit};
+ghost use Rattle.sk_scenario.specs.Answers.{Answers, Finds};
+ghost use Rattle.sk_scenario.specs.Views.{gained, names_seen};
+
+use crate::fault::ScenarioFault;
+use crate::reading::read_lines;
+use crate::scenario::Scenario;
+use crate::state::{Done, Names};
+use sk_setting::TextFault;
+use std::alloc::Global;
+
+// The most bytes that an input may have.
+const LONGEST_TEXT: usize = 1_048_576;
+
+/// The scenario that an input is, or the first of its faults.
+#[tactic(auto, unfolding(sk_setting::specs::Reading::scenario))]
+pub fn read(alloc: Global, input: &[u8]) -> Result<Scenario, ScenarioFault>
+    ensures exact { Answers (λ read. read) result (scenario input.now) }
+    ensures stands { IfOk result (λ read. IsScenarioText input.now read) }
+    ensures only { (setting : Setting) → IsScenarioText input.now setting → Finds (λ read. read) result setting }
+{
+    judge_length(input)?;
+    read_twice(alloc, input)
+}
+
+fn judge_length(input: &[u8]) -> Result<(), TextFault>
+    ensures exact { MatchResult result (λ none. length input.now ≤ 1048576) (λ why. (1048576 < length input.now) × (why ≡ Limit 0)) }
+{
+    if input.len() > LONGEST_TEXT {
+        return Err(TextFault::Limit { n: 0 });
+    }
+    Ok(())
+}
+
+#[tactic(auto, unfolding(sk_setting::specs::Reading::scenario_of))]
+fn read_twice(alloc: Global, text: &[u8]) -> Result<Scenario, ScenarioFault>
+    requires limit { length text.now ≤ 1048576 }
+    ensures exact { Answers (λ read. read) result (scenario_of (lines_of text.now)) }
+{
+    let unknown: Option<&Names<'_>> = None;
+    let first = read_lines(alloc, unknown, text)?;
+    let second = read_again(alloc, &first.names, text)?;
+    Ok(Scenario {
+        turns: second.turns.unwrap_or(1000),
+        subreapers: second.subreapers,
+        filters: second.filters,
+        programs: second.programs,
+    })
+}
+
+// The lines of a text, by these names.
+fn read_again<'a>(
+    alloc: Global,
+    names: &Names<'_>,
+    text: &'a [u8],
+) -> Result<Done<'a>, ScenarioFault>
+    requires limit { length text.now ≤ 1048576 }
+    ensures exact { Answers gained result (reading (Some (names_seen names.now)) 1 nothing_yet NoBlock (lines_of text.now)) }
+{
+    read_lines(alloc, Some(names), text)
+}

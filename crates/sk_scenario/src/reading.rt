@@ -1,0 +1,152 @@
+//! The lines, read one after the other.
+ghost use Rattle.std.specs.Prelude.{◌≡◌, ◌+◌, ◌≤◌, ◌<◌, ◌^◌, length, MatchResult, OnOk, Ok};
+ghost use Rattle.sk_text.specs.Lines.{lines_of};
+ghost use Rattle.sk_asm.specs.Block.{until_end};
+ghost use Rattle.sk_setting.specs.Reading.{is_open, inside, finished, within, stepped, closed, reading, nothing_yet, Nothing as NoBlock};
+ghost use Rattle.sk_scenario.specs.Answers.{Answers, IsFaultOf, Judges};
+ghost use Rattle.sk_scenario.specs.Views.{known_seen, gained, block_seen};
+
+use crate::calls::{add_call, read_call};
+use crate::fault::ScenarioFault;
+use crate::filters::{decide, grow};
+use crate::scenario::Program;
+use crate::state::{Block, Done, Names};
+use crate::top::{check_line, read_top, start};
+use indexmap::IndexMap;
+use sk_asm::is_end;
+use sk_setting::TextFault;
+use sk_text::{Lines, cut};
+use std::alloc::{AllocError, Global};
+
+// The block that is open, behind line `n`.
+#[tactic(auto, unfolding(sk_setting::specs::Reading::inside))]
+fn inside(
+    alloc: Global,
+    known: Option<&Names<'_>>,
+    n: usize,
+    current: Block,
+    line: &[u8],
+    ahead: &[u8],
+) -> Result<Block, ScenarioFault>
+    requires first { 1 ≤ n }
+    requires numbers { n + length ahead.now < 2 ^ 64 }
+    ensures exact { Answers block_seen result (inside (known_seen known.entry) n (block_seen current) line.now (until_end (lines_of ahead.now))) }
+{
+    match current {
+        Block::Nothing => Ok(Block::Nothing),
+        Block::Undecided => {
+            check_line(n, line)?;
+            decide(alloc, known, n, line, ahead)
+        }
+        Block::Bytes(image) => grow(alloc, n, image, line),
+        Block::Code(image) => Ok(Block::Code(image)),
+        Block::Calls {
+            owner,
+            setuid,
+            calls,
+        } => {
+            let said = read_call(n, line)?;
+            let calls = add_call(calls, known, n, said)?;
+            Ok(Block::Calls {
+                owner,
+                setuid,
+                calls,
+            })
+        }
+    }
+}
+
+// Keeps what a block gave, at its `end`.
+fn finish(alloc: Global, done: &mut Done<'_>, current: Block) -> Result<(), AllocError>
+    ensures kept { OnOk result (gained done.new ≡ finished (gained done.old) (block_seen current)) }
+{
+    match current {
+        Block::Nothing => {}
+        Block::Undecided => done.filters.push(Vec::new(alloc))?,
+        Block::Bytes(image) | Block::Code(image) => done.filters.push(image)?,
+        Block::Calls {
+            owner,
+            setuid,
+            calls,
+        } => done.programs.push(Program {
+            owner,
+            setuid,
+            calls,
+        })?,
+    }
+    Ok(())
+}
+
+fn is_open(current: &Block) -> bool
+    ensures exact { result ≡ is_open (block_seen current.now) }
+{
+    !matches!(current, Block::Nothing)
+}
+
+// Reads line `n`, with which the text ahead begins.
+#[tactic(auto, unfolding(sk_setting::specs::Reading::stepped, sk_setting::specs::Reading::within))]
+fn step<'a>(
+    alloc: Global,
+    known: Option<&Names<'_>>,
+    done: &mut Done<'a>,
+    n: usize,
+    current: Block,
+    line: &'a [u8],
+    ahead: &[u8],
+) -> Result<Block, ScenarioFault>
+    requires first { 1 ≤ n }
+    requires numbers { n + length ahead.now < 2 ^ 64 }
+    ensures exact { MatchResult result
+        (λ next. stepped (known_seen known.entry) n (gained done.old) (block_seen current) line.now (lines_of ahead.now) ≡ Ok (gained done.new, block_seen next))
+        (λ fault. IsFaultOf fault (stepped (known_seen known.entry) n (gained done.old) (block_seen current) line.now (lines_of ahead.now))) }
+{
+    if !is_open(&current) {
+        let said = read_top(n, line)?;
+        return start(alloc, done, n, said);
+    }
+    if is_end(line) {
+        finish(alloc, done, current)?;
+        return Ok(Block::Nothing);
+    }
+    inside(alloc, known, n, current, line, ahead)
+}
+
+// Whether all blocks are closed behind the last line, which line `n` would follow.
+fn close(n: usize, current: &Block) -> Result<(), TextFault>
+    ensures exact { Judges (λ none. none) result (closed n (block_seen current.now)) }
+{
+    match current {
+        Block::Nothing => Ok(()),
+        Block::Undecided | Block::Bytes(_) | Block::Code(_) | Block::Calls { .. } => Err(
+            TextFault::Line { n },
+        ),
+    }
+}
+
+// The lines of a text, by these names or by none.
+pub(crate) fn read_lines<'a>(
+    alloc: Global,
+    known: Option<&Names<'_>>,
+    text: &'a [u8],
+) -> Result<Done<'a>, ScenarioFault>
+    requires limit { length text.now ≤ 1048576 }
+    ensures exact { Answers gained result (reading (known_seen known.entry) 1 nothing_yet NoBlock (lines_of text.now)) }
+{
+    let mut done = Done {
+        turns: None,
+        subreapers: false,
+        names: IndexMap::new(alloc),
+        filters: Vec::new(alloc),
+        programs: Vec::new(alloc),
+    };
+    let mut current = Block::Nothing;
+    let mut n = 0;
+    let mut ahead = text;
+    for line in Lines(text) {
+        n += 1;
+        current = step(alloc, known, &mut done, n, current, line, ahead)?;
+        ahead = cut(ahead, b'\n').1;
+    }
+    close(n + 1, &current)?;
+    Ok(done)
+}

@@ -1,0 +1,11 @@
+pub mod Blocks
+pub mod CodeLines
+pub mod Judging
+pub mod Least
+pub mod Names
+pub mod Parts
+pub mod Relation
+pub mod States
+pub mod Steps
+pub mod Told
+pub mod Whole

@@ -1,0 +1,14 @@
+/// A call with its six registers, and the program that `fork NAME` gives to the child.
+#[derive(Clone, Copy, Debug, PartialEq, Eq)]
+pub struct ScriptCall {
+    pub nr: u32,
+    pub args: [u64; 6],
+    pub script: Option<u32>,
+}
+
+/// What a name stands for: a filter or a program, by its number among those of its kind.
+#[derive(Clone, Copy, Debug, PartialEq, Eq)]
+pub enum Named {
+    Filter(u32),
+    Program(u32),
+}

@@ -1,0 +1,44 @@
+//! Worked examples of the definitions, as theorems. Nothing here does anything when it runs.
+ghost use Rattle.std.specs.Prelude.{◌≡◌, ◌∷◌, ◌++◌, [], codes, replicate, Ok, Err};
+ghost use Rattle.sk_setting.specs.Reading.{scenario_of};
+ghost use Rattle.sk_setting.specs.Scenario.{IsScenario};
+ghost use Rattle.sk_setting.specs.Rows.{setting_with, script, attaching, attaching_setting, by_number, by_number_setting, arguments, arguments_setting, forks, forks_setting, bytes, bytes_setting, filter_lines, filter_image, cut_behind_getp, cut_behind_getppid};
+ghost use Rattle.sk_setting.specs.declared.fault.TextFault.TheVariants.{Line, Unresolved, Limit};
+
+/// Short scenarios and what they stand for.
+pub fn example_scenarios()
+    ensures nothing { scenario_of [] ≡ Ok (setting_with [] []) }
+    ensures spaces { scenario_of (replicate 255 32 ∷ []) ≡ Ok (setting_with [] []) }
+    ensures filter { scenario_of filter_lines ≡ Ok (setting_with (filter_image ∷ []) []) }
+    ensures attaching { scenario_of attaching ≡ Ok attaching_setting }
+    ensures attaching_stands { IsScenario attaching attaching_setting }
+    ensures number { scenario_of by_number ≡ Ok by_number_setting }
+    ensures arguments { scenario_of arguments ≡ Ok arguments_setting }
+    ensures forks { scenario_of forks ≡ Ok forks_setting }
+    ensures bytes { scenario_of bytes ≡ Ok bytes_setting }
+{}
+
+/// Short texts that are no scenarios, and their first faults.
+pub fn example_faults()
+    ensures no_end { scenario_of (codes "program init" ∷ (codes "getpid" ∷ [])) ≡ Err (Line 3) }
+    ensures no_name { scenario_of (codes "program init" ∷ (codes "execve @x" ∷ (codes "end" ∷ []))) ≡ Err (Unresolved 2) }
+    ensures no_program { scenario_of (codes "program a" ∷ (codes "fork f" ∷ (codes "end" ∷ (codes "filter f" ∷ (codes "end" ∷ []))))) ≡ Err (Unresolved 2) }
+    ensures line_first { scenario_of (codes "program init" ∷ (codes "execve @x" ∷ (codes "end" ∷ (codes "bogus" ∷ [])))) ≡ Err (Line 4) }
+    ensures cut_word { scenario_of cut_behind_getp ≡ Err (Line 9) }
+    ensures cut_line { scenario_of cut_behind_getppid ≡ Err (Line 10) }
+    ensures subreapers_twice { scenario_of (codes "subreapers" ∷ (codes "subreapers" ∷ [])) ≡ Err (Line 2) }
+    ensures odd_digits { scenario_of (codes "filter f" ∷ (codes "bytes 06 0" ∷ (codes "bytes 0" ∷ (codes "end" ∷ [])))) ≡ Err (Line 2) }
+    ensures no_end_of_code { scenario_of (codes "filter f" ∷ (codes "a:" ∷ (codes "ja a" ∷ (codes "end x" ∷ [])))) ≡ Err (Line 4) }
+    ensures open_code { scenario_of (codes "filter f" ∷ (codes "a:" ∷ (codes "ja a" ∷ []))) ≡ Err (Line 3) }
+    ensures label_waits { scenario_of (codes "filter f" ∷ (codes "ja a" ∷ (codes "end" ∷ (codes "filter f" ∷ [])))) ≡ Err (Line 4) }
+    ensures label { scenario_of (codes "filter f" ∷ (codes "ja a" ∷ (codes "end" ∷ []))) ≡ Err (Unresolved 2) }
+    ensures fork_of_value { scenario_of (codes "program a" ∷ (codes "fork @a" ∷ (codes "end" ∷ []))) ≡ Err (Line 2) }
+{}
+
+/// Short texts over a limit.
+pub fn example_limits()
+    ensures turns { scenario_of (codes "turns 0" ∷ []) ≡ Err (Limit 1) }
+    ensures turns_long { scenario_of (codes "turns 99999999999999999999999" ∷ []) ≡ Err (Limit 1) }
+    ensures turns_again { scenario_of (codes "turns 1" ∷ (codes "turns 0" ∷ [])) ≡ Err (Line 2) }
+    ensures spaces { scenario_of ([] ∷ ([] ∷ (replicate 256 32 ∷ []))) ≡ Err (Limit 3) }
+{}
