@@ -1,5 +1,5 @@
 use Rattle.sk_engines.proofs.Ending.{delivers_taken}
-use Rattle.sk_engines.proofs.list.list_engine.Goals as goal
+use Rattle.sk_engines.proofs.engine.run.Goals as goal
 
 pub returns-clause-told : goal.returns-clause-told
 returns-clause-told g c =
