@@ -80,11 +80,12 @@ impl Task {
         match name {
             b"record" => {
                 let call = call_of(&bytes).ok_or(Fault::NotUnderstood)?;
-                self.calls.push(call).map_err(|_| Fault::Memory)
+                self.calls.push(call)?;
             }
-            b"filter" => self.images.push(bytes).map_err(|_| Fault::Memory),
-            _ => Err(Fault::NotUnderstood),
+            b"filter" => self.images.push(bytes)?,
+            _ => return Err(Fault::NotUnderstood),
         }
+        Ok(())
     }
 }
 

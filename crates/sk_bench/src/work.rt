@@ -118,9 +118,7 @@ fn programs_of(alloc: Global, images: &[Vec<u8>]) -> Result<Vec<Checked>, Fault>
 {
     let mut programs = Vec::new(alloc);
     for image in images {
-        programs
-            .push(program_of(alloc, image)?)
-            .map_err(|_| Fault::Memory)?;
+        programs.push(program_of(alloc, image)?)?;
     }
     Ok(programs)
 }
