@@ -11,3 +11,4 @@ pub mod Parents
 pub mod Turns
 pub mod Marks
 pub mod Runs
+pub mod Machines

@@ -5,3 +5,4 @@ pub mod FilterLaws
 pub mod TellingLaws
 pub mod ConfinementLaws
 pub mod RunLaws
+pub mod AnyMachine

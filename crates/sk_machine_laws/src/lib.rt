@@ -6,6 +6,7 @@ ghost use Rattle.sk_machine_laws.specs.MachineLaws.{ImpossibleChangesNothing, Po
 ghost use Rattle.sk_machine_laws.specs.TellingLaws.{EndIsToldToParent, EndIsToldOnce};
 ghost use Rattle.sk_machine_laws.specs.TurnLaws.{NextIsTurn, NobodysTurn, RunnableHasEvent, IdleDoesNothing, EndIsFinal};
 ghost use Rattle.sk_machine_laws.specs.RunLaws.{RunsAreLawful};
+ghost use Rattle.sk_machine_laws.specs.AnyMachine.{HasMachineLaws};
 ghost use Rattle.sk_machine_laws.specs.ConfinementLaws.{EventIsConfined, ConfinementStays, LineIsConfined};
 ghost use Rattle.sk_machine_laws.specs.FilterLaws.{EventKeepsAccepted, RunKeepsAccepted, AcceptedReturn, AcceptedAreBounded, FiltersInForceAreAccepted, StepsInForceAreBounded};
 ghost use Rattle.sk_machine_laws.specs.LineLaws.{EventChangesAuthority, AuthorityIsOfLine, LineComesFromInit, LineKeepsFilters, VerdictIsOfLine, PerformedMeetsNoRefusal};
@@ -91,4 +92,10 @@ pub fn turns_go_to_the_runnable()
 /// What the laws say of any run, in a form that a kernel can promise of the runs that it makes.
 pub fn runs_are_lawful()
     ensures law { RunsAreLawful }
+{}
+
+/// The machine of the definitions has the laws on authority that are said of any machine.
+#[tactic(auto, using(crate::proofs::Machines::has_machine_laws))]
+pub fn machine_has_its_laws()
+    ensures laws { HasMachineLaws }
 {}

@@ -8,7 +8,7 @@ use Rattle.std.specs.FinMap.Entries.{find, is_sorted}
 use Rattle.std.proofs.lemmas.Bool.{false≢true, cond_both, cases_lt}
 use Rattle.sk_numbers.specs.Numbers.{IsLeast, IsLeastAbove}
 use Rattle.sk_signal.specs.Sets as set
-use Rattle.sk_signal.specs.Members.{contains-from_list}
+use Rattle.sk_signal.specs.views.Members.{contains-from_list}
 use Rattle.sk_signal.specs.declared.number.TheConstants.{SIGCHLD, SIGCONT}
 use Rattle.sk_world.specs.declared.process.TheConstants.{INIT}
 use Rattle.sk_world.specs.declared.process.Body.{Body}
