@@ -1,11 +1,13 @@
 -- What an answer says of the relation.
-use Rattle.std.proofs.Common.{◌≡◌, refl, ℕ, List, Result, Ok, Err, IfOk, inl, inr}
+use Rattle.std.proofs.Common.{◌≡◌, ◌∙◌, ap, sym, ℕ, List, Result, Ok, Err, IfOk, IfErr, inl, inr}
 use Rattle.sk_setting.specs.declared.fault.TextFault.{TextFault}
 use Rattle.sk_setting.specs.Scenario.{Setting, IsScenarioText}
 use Rattle.sk_setting.specs.Reading.{scenario}
+use Rattle.sk_setting.specs.Faults.{IsFirstFaultOfText}
+use Rattle.sk_setting.proofs.Told.{fault-first, first-fault}
 use Rattle.sk_setting.proofs.Relation.{scenario-stands, scenario-only}
 use Rattle.sk_scenario.specs.declared.fault.ScenarioFault.{ScenarioFault}
-use Rattle.sk_scenario.specs.Answers.{Answers, Finds}
+use Rattle.sk_scenario.specs.Answers.{told, Answers, Finds, IsToldOf, Tells}
 
 module _ {T : Type 0} (view : T → Setting) (text : List ℕ) where
   pub text-stands : (answer : Result T ScenarioFault) → Answers view answer (scenario text) → IfOk answer (λ value. IsScenarioText text (view value))
@@ -16,3 +18,18 @@ module _ {T : Type 0} (view : T → Setting) (text : List ℕ) where
   text-only (Ok value) s h a = let e = scenario-only text s a in cc
   text-only (Err fault) s (inl memory) a = memory
   text-only (Err fault) s (inr h) a = let e = scenario-only text s a in let g = h.2 in absurd cc
+
+  pub text-first : (answer : Result T ScenarioFault) → Answers view answer (scenario text) → IfErr answer (IsToldOf text)
+  text-first (Ok value) h = tt
+  text-first (Err fault) (inl memory) = inl memory
+  text-first (Err fault) (inr h) = inr (h.0, h.1, fault-first text h.0 h.2)
+
+  pub text-told : (answer : Result T ScenarioFault) (why : TextFault) → Answers view answer (scenario text) → IsFirstFaultOfText text why → Tells answer why
+  text-told (Ok value) why h f = let e = first-fault text why f in absurd cc
+  text-told (Err fault) why (inl memory) f = inl memory
+  text-told (Err fault) why (inr h) f =
+      let e = sym h.2 ∙ first-fault text why f in
+      inr (h.1 ∙ ap told (fault_is h.0 why e))
+    where
+      fault_is : (x y : TextFault) → ◌≡◌ {A = Result Setting TextFault} (Err x) (Err y) → x ≡ y
+      fault_is x y e = cc

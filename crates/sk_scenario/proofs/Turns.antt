@@ -6,7 +6,7 @@ use Rattle.sk_text.proofs.Cuts.{lines_first}
 use Rattle.sk_scenario.specs.declared.fault.ScenarioFault.{ScenarioFault}
 use Rattle.sk_setting.specs.declared.fault.TextFault.{TextFault}
 use Rattle.sk_setting.specs.Scenario.{Names}
-use Rattle.sk_scenario.specs.Answers.{told, IsFaultOf}
+use Rattle.sk_scenario.specs.Answers.{IsFaultOf}
 use Rattle.sk_setting.specs.Reading.{◌>>=◌, Gained, Open, stepped, closed, reading}
 
 -- a fault of the first step is one of the chain

@@ -1,7 +1,8 @@
 -- Answers of the reader: a value, a fault of the text, or want of memory.
-use Rattle.std.specs.Prelude.{◌≡◌, ◌⊎◌, Result, Ok, Err}
+use Rattle.std.specs.Prelude.{◌≡◌, ℕ, List, ◌⊎◌, Result, Ok, Err}
 use Rattle.sk_setting.specs.declared.fault.TextFault.{TextFault}
 use Rattle.sk_setting.specs.declared.fault.TextFault.TheVariants as text
+use Rattle.sk_setting.specs.Faults.{IsFirstFaultOfText}
 use Rattle.sk_setting.specs.Scenario.{Setting}
 use Rattle.sk_scenario.specs.declared.fault.ScenarioFault.{ScenarioFault}
 use Rattle.sk_scenario.specs.declared.fault.ScenarioFault.TheVariants.{Line, Unresolved, Limit, Memory}
@@ -30,3 +31,12 @@ Judges view (Err why) given = given ≡ Err why
 abbrev pub Finds : {T : Type 0} → (T → Setting) → Result T ScenarioFault → Setting → Type 0
 Finds view (Ok value) setting = view value ≡ setting
 Finds view (Err fault) setting = fault ≡ Memory
+
+-- memory was refused, or the text has this fault, and none goes before it
+abbrev pub IsToldOf : List ℕ → ScenarioFault → Type 0
+IsToldOf text fault = (fault ≡ Memory) ⊎ ((why : TextFault) × (fault ≡ told why) × IsFirstFaultOfText text why)
+
+-- the answer is this fault, but for want of memory
+abbrev pub Tells : {T : Type 0} → Result T ScenarioFault → TextFault → Type 0
+Tells (Ok value) why = ⊥
+Tells (Err fault) why = (fault ≡ Memory) ⊎ (fault ≡ told why)

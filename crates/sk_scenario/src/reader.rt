@@ -1,10 +1,12 @@
 //! The scenario reader.
-ghost use Rattle.std.specs.Prelude.{◌≡◌, ◌<◌, ◌≤◌, length, IfOk, MatchResult, Some};
+ghost use Rattle.std.specs.Prelude.{◌≡◌, ◌<◌, ◌≤◌, length, IfOk, IfErr, MatchResult, Some};
 ghost use Rattle.sk_text.specs.Lines.{lines_of};
 ghost use Rattle.sk_setting.specs.Reading.{reading, scenario, scenario_of, nothing_yet, setting, Nothing as NoBlock};
 ghost use Rattle.sk_setting.specs.Scenario.{IsScenarioText, Setting};
+ghost use Rattle.sk_setting.specs.Faults.{IsFirstFaultOfText};
+ghost use Rattle.sk_setting.specs.declared.fault.TextFault.{TextFault};
 ghost use Rattle.sk_setting.specs.declared.fault.TextFault.TheVariants.{Limit};
-ghost use Rattle.sk_scenario.specs.Answers.{Answers, Finds};
+ghost use Rattle.sk_scenario.specs.Answers.{Answers, Finds, IsToldOf, Tells};
 ghost use Rattle.sk_scenario.specs.Views.{gained, names_seen};
 
 use crate::fault::ScenarioFault;
@@ -22,7 +24,9 @@ const LONGEST_TEXT: usize = 1_048_576;
 pub fn read(alloc: Global, input: &[u8]) -> Result<Scenario, ScenarioFault>
     ensures exact { Answers (λ read. read) result (scenario input.now) }
     ensures stands { IfOk result (λ read. IsScenarioText input.now read) }
+    ensures first { IfErr result (IsToldOf input.now) }
     ensures only { (setting : Setting) → IsScenarioText input.now setting → Finds (λ read. read) result setting }
+    ensures told { (why : TextFault) → IsFirstFaultOfText input.now why → Tells result why }
 {
     judge_length(input)?;
     read_twice(alloc, input)
