@@ -1,6 +1,5 @@
-use crate::world::{end, fork_of, is_pending, life, note, opening, setpgid, setsid, stop};
+use crate::world::{end, fork_of, is_hung_up, life, note, opening, setpgid, setsid, stop};
 use sk_session::orphaned;
-use sk_signal::number::SIGHUP;
 use sk_table::{INIT, Life, Note, ProcStore};
 use std::test::Fail;
 
@@ -22,10 +21,10 @@ fn stopped_job_of_a_shell_that_ends_is_hung_up(rt: HostRuntime) -> Result<(), Fa
     assert!(rt; orphaned(&store, 3) && orphaned(&store, 4));
     assert_eq!(rt; life(&store, 3), Some(Life::Running));
     // SIGHUP waits to be delivered, and SIGCONT, whose default action is to go on, has been told by the note.
-    assert_eq!(rt; is_pending(&store, 3, SIGHUP), Some(true));
+    assert_eq!(rt; is_hung_up(&store, 3), Some(true));
     assert_eq!(rt; note(&store, 3), Some(Note::Continued));
     // Nobody of group 4 is stopped, and nothing is sent to it.
-    assert_eq!(rt; is_pending(&store, 4, SIGHUP), Some(false));
+    assert_eq!(rt; is_hung_up(&store, 4), Some(false));
     assert_eq!(rt; note(&store, 4), Some(Note::Nothing));
     Ok(())
 }
@@ -39,7 +38,7 @@ fn group_that_was_orphaned_before_is_left(rt: HostRuntime) -> Result<(), Fail> {
     stop(&mut store, 3);
     end(&rt, &mut store, 2, 0);
     assert_eq!(rt;
-        (life(&store, 3), is_pending(&store, 3, SIGHUP)),
+        (life(&store, 3), is_hung_up(&store, 3)),
         (Some(Life::Stopped), Some(false))
     );
     assert_eq!(rt;
@@ -64,11 +63,11 @@ fn member_that_ends_orphans_its_own_group(rt: HostRuntime) -> Result<(), Fail> {
     end(&rt, &mut store, 2, 0);
     assert!(rt; orphaned(&store, 2));
     assert_eq!(rt;
-        (life(&store, 4), is_pending(&store, 4, SIGHUP)),
+        (life(&store, 4), is_hung_up(&store, 4)),
         (Some(Life::Running), Some(true))
     );
     // A zombie of the group gets nothing, and the end of process 1 hangs up nobody.
-    assert_eq!(rt; is_pending(&store, 2, SIGHUP), Some(false));
+    assert_eq!(rt; is_hung_up(&store, 2), Some(false));
     end(&rt, &mut store, INIT, 0);
     assert_eq!(rt; life(&store, INIT), Some(Life::Zombie(0)));
     Ok(())

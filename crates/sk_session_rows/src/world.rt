@@ -4,6 +4,7 @@ ghost use Rattle.sk_world.specs.World.{has_ended};
 ghost use Rattle.sk_world.specs.Rules.{IsWorld};
 
 use sk_creds::Errno;
+use sk_signal::number::SIGHUP;
 use sk_table::{Body, Life, ListStore, Note, ProcStore, fork, laws};
 use std::alloc::{AllocError, Global};
 use std::process::Abort;
@@ -124,9 +125,9 @@ pub(crate) fn note(store: &ListStore, pid: u32) -> Option<Note> {
     store.get(pid).map(|process| process.body.note)
 }
 
-/// Whether a signal is pending in a process.
-pub(crate) fn is_pending(store: &ListStore, pid: u32, signal: u8) -> Option<bool> {
+/// Whether SIGHUP waits to be delivered to a process.
+pub(crate) fn is_hung_up(store: &ListStore, pid: u32) -> Option<bool> {
     store
         .get(pid)
-        .map(|process| process.body.signals.pending().contains(signal))
+        .map(|process| process.body.signals.pending().contains(SIGHUP))
 }
