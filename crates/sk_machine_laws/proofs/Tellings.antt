@@ -27,6 +27,7 @@ use Rattle.sk_world.specs.Processes.{pids}
 use Rattle.sk_world.specs.World.{World, at, is_zombie, stored, body_changed, changed}
 use Rattle.sk_world.specs.Forking.{fork_answer}
 use Rattle.sk_world.specs.Waits.{is_no_hang, is_untraced, is_continued, is_match, is_ready, has_match, status_of_note, status_of_body, status_of, ready_of, without_note, told}
+use Rattle.sk_world.proofs.Tidings.{by_first, ready_first}
 use Rattle.sk_world.proofs.Stored.{everywhere, at_here}
 use Rattle.sk_world.proofs.KeptTold.{match_parent}
 use Rattle.sk_world.proofs.Telling.{ready_lowest}
@@ -116,11 +117,12 @@ told_gone w child status zombie = ap (λ b. at (cond b (stored w child None) (ch
 
 told_of_ready : (w : World) (caller : ℕ) (request : Request) (child status : ℕ) → ready_of w caller request ≡ poll.Told child status
     → IsTold w (told w (poll.Told child status)) caller child status
+unfolding by_first
 told_of_ready w caller request child status is =
     let ready = (ready_lowest w caller request child status is).0 in
     let both = and_parts (is_match caller request child (at w child)) (is_some (status_of request.options (at w child))) ready in
     let same : status ≡ unwrap_or (status_of request.options (at w child)) 0 =
-    found_status (find (is_ready w caller request) (pids w.procs)) (λ k. unwrap_or (status_of request.options (at w k)) 0) (has_match w caller request) child status is in
+    found_status (find (is_ready w caller request) (pids w.procs)) (λ k. unwrap_or (status_of request.options (at w k)) 0) (has_match w caller request) child status (sym (ready_first w caller request) ∙ is) in
     let ended : IsEnd status → (p : Proc) × (at w child ≡ Some p) × HasEndedUnder caller status p = ended_of caller request child status (at w child) both.0 both.1 same in
     record {
       there = match_there caller request child (at w child) both.0;

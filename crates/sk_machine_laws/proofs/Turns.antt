@@ -11,6 +11,7 @@ use Rattle.sk_world.specs.declared.request.Poll.TheVariants as poll
 use Rattle.sk_world.specs.Processes.{pids}
 use Rattle.sk_world.specs.World.{World, at, has_ended, is_halted, is_stopped, is_zombie, is_alive}
 use Rattle.sk_world.specs.Waits.{is_ready, has_match, status_of}
+use Rattle.sk_world.proofs.Tidings.{by_first, ready_first}
 use Rattle.sk_world.proofs.KeptTold.{found}
 use Rattle.sk_world.proofs.Telling.{least_found, none_found as nobody_found}
 use Rattle.sk_world.proofs.KeptEnd.{alive_is_there}
@@ -143,12 +144,14 @@ none_found p (x ∷ xs) none =
 
 -- a call that would not end goes on waiting
 goes_on : (w : World) (pid : ℕ) (what : Waiting) → wait_ends w pid what ≡ false → resumed w pid what ≡ record { outcome = Waits; world = w }
+unfolding by_first
 goes_on w pid waiting.Nothing waits = refl
 goes_on w pid waiting.Pause waits = refl
 goes_on w pid (waiting.Asks request) waits =
     let both = or_parts (list_any (is_ready w pid request) (pids w.procs)) (not (has_match w pid request)) waits in
     let answer : Option ℕ → Poll → Poll = λ o none. option_map_or (λ k. poll.Told k (unwrap_or (status_of request.options (at w k)) 0)) o none in
-    ap (λ o. polled_again w pid (answer o (cond (has_match w pid request) poll.NotReady poll.NoMatch))) (none_found (is_ready w pid request) (pids w.procs) both.0)
+    ap (polled_again w pid) (ready_first w pid request)
+    ∙ ap (λ o. polled_again w pid (answer o (cond (has_match w pid request) poll.NotReady poll.NoMatch))) (none_found (is_ready w pid request) (pids w.procs) both.0)
     ∙ ap (λ b. polled_again w pid (cond b poll.NotReady poll.NoMatch)) (not-false (has_match w pid request) both.1)
 
 -- one that waits in no call would go on
