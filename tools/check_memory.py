@@ -109,12 +109,23 @@ def is_type(tokens, at):
     return before in (":", "->", "&", "+") or after in (">", "<") or before == "<"
 
 
+def names_a_refusal(pattern):
+    """Whether each alternative of a pattern names one."""
+    parts = [[]]
+    for word in pattern:
+        if word in ("|", "||"):
+            parts.append([])
+        else:
+            parts[-1].append(word)
+    return all(any(REFUSAL.fullmatch(word) for word in part) for part in parts)
+
+
 def stands_for_a_refusal(tokens, brackets, at):
     """Whether it stands in an arm whose pattern names a refusal, or in a `fn from` that is given one."""
     inside, _ = brackets
     while at is not None:
         behind, pattern, outer = side_of(tokens, brackets, at)
-        if behind and any(REFUSAL.fullmatch(word) for word in pattern):
+        if behind and names_a_refusal(pattern):
             return True
         at = inside[outer]
         if at is None:
@@ -157,6 +168,7 @@ EXAMPLES = [
     (True, "fn f() -> Result<u8, Fault> {\n    match g() { Err(Other::Memory) => Err(Fault::Line), Err(_) => Err(Fault::Memory) }\n}\n"),
     (True, "fn f() -> Result<(), Fault> {\n    match g() {\n        1 => a.push(x).map_err(|_| Fault::Memory),\n        _ => Ok(()),\n    }\n}\n"),
     (True, "fn f() -> Result<(), Fault> {\n    match g() {\n        Err(Fault::Memory) => {\n            Ok(())\n        }\n        _ => Err(Fault::Memory),\n    }\n}\n"),
+    (True, "fn f() -> Result<(), Fault> {\n    match g() { Err(Fault::Long | Fault::Memory) => Err(AllocError), Ok(()) => Ok(()) }\n}\n"),
     (True, "fn from(why: Bad) -> Fault {\n    Fault::Memory\n}\n"),
     (False, "fn f() -> Result<u8, AllocError> {\n    Ok(g(alloc)?)\n}\n"),
     (False, "fn from(_refused: AllocError) -> Fault {\n    Fault::Memory\n}\n"),
