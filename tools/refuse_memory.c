@@ -1,14 +1,17 @@
 /* Refuses allocations of the program that it is preloaded into: the so many-th one by REFUSE=N, and
-   by REFUSE=after-output every one once something was written to standard output. */
+   by REFUSE=after-output every one once something was written to standard output. At the end it writes to the
+   file LEFT how many blocks were taken and not given back. */
 #define _GNU_SOURCE
 #include <dlfcn.h>
 #include <errno.h>
+#include <stdio.h>
 #include <stdlib.h>
 #include <string.h>
 #include <unistd.h>
 
 static long left = -1;
 static int refuses_all = 0;
+static long blocks = 0;
 
 static int refuses(void) {
     if (refuses_all) {
@@ -27,28 +30,58 @@ static int refuses(void) {
     return 1;
 }
 
+static void *taken(void *block) {
+    if (block) blocks++;
+    return block;
+}
+
 void *malloc(size_t size) {
     static void *(*real)(size_t);
     if (!real) real = dlsym(RTLD_NEXT, "malloc");
-    return refuses() ? NULL : real(size);
+    return taken(refuses() ? NULL : real(size));
+}
+
+void *calloc(size_t count, size_t size) {
+    void *block = malloc(count * size);
+    return block ? memset(block, 0, count * size) : NULL;
 }
 
 void *realloc(void *block, size_t size) {
     static void *(*real)(void *, size_t);
     if (!real) real = dlsym(RTLD_NEXT, "realloc");
-    return refuses() ? NULL : real(block, size);
+    if (refuses()) return NULL;
+    return block ? real(block, size) : taken(real(block, size));
 }
 
 void *aligned_alloc(size_t alignment, size_t size) {
     static void *(*real)(size_t, size_t);
     if (!real) real = dlsym(RTLD_NEXT, "aligned_alloc");
-    return refuses() ? NULL : real(alignment, size);
+    return taken(refuses() ? NULL : real(alignment, size));
 }
 
 int posix_memalign(void **block, size_t alignment, size_t size) {
     static int (*real)(void **, size_t, size_t);
     if (!real) real = dlsym(RTLD_NEXT, "posix_memalign");
-    return refuses() ? ENOMEM : real(block, alignment, size);
+    int why = refuses() ? ENOMEM : real(block, alignment, size);
+    if (why == 0) blocks++;
+    return why;
+}
+
+void free(void *block) {
+    static void (*real)(void *);
+    if (!real) real = dlsym(RTLD_NEXT, "free");
+    if (block) blocks--;
+    real(block);
+}
+
+__attribute__((destructor)) static void tell(void) {
+    const char *name = getenv("LEFT");
+    long left = blocks;
+    FILE *file = name ? fopen(name, "w") : NULL;
+    if (file) {
+        fprintf(file, "%ld", left);
+        fclose(file);
+    }
 }
 
 static void after_output(int file) {

@@ -1,5 +1,6 @@
 pub mod Blocks
 pub mod Distinct
+pub mod FirstFaults
 pub mod Marks
 pub mod Meaning
 pub mod Relation

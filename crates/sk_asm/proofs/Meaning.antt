@@ -15,11 +15,11 @@ use Rattle.sk_asm.proofs.Distinct.{given_once-absent, given_once-push, given_onc
 
 -- ---- steps
 
-ok_is : {X : Type 0} (x y : X) → ◌≡◌ {A = Result X AsmFault} (Ok x) (Ok y) → x ≡ y
+pub ok_is : {X : Type 0} (x y : X) → ◌≡◌ {A = Result X AsmFault} (Ok x) (Ok y) → x ≡ y
 ok_is x y h = cc
 
 -- a chain of steps gives a value only where its first step does
-bind_ok : {X Y : Type 0} (first : Result X AsmFault) (next : X → Result Y AsmFault) (y : Y) → (first >>= next) ≡ Ok y → (x : X) × (first ≡ Ok x) × (next x ≡ Ok y)
+pub bind_ok : {X Y : Type 0} (first : Result X AsmFault) (next : X → Result Y AsmFault) (y : Y) → (first >>= next) ≡ Ok y → (x : X) × (first ≡ Ok x) × (next x ≡ Ok y)
 bind_ok (Ok x) next y h = (x, refl, h)
 bind_ok (Err fault) next y h = cc
 
@@ -29,7 +29,7 @@ understood-ok : (n : ℕ) (said : Option Statement) (statement : Statement) → 
 understood-ok n None statement h = cc
 understood-ok n (Some other) statement h = cc
 
-checked-ok : (n : ℕ) (line : List ℕ) (statement : Statement) → checked n line ≡ Ok statement → SaysLine line statement
+pub checked-ok : (n : ℕ) (line : List ℕ) (statement : Statement) → checked n line ≡ Ok statement → SaysLine line statement
 unfolding checked
 checked-ok n line statement h = elim (cases_lt 255 (length line)) [
   | inl long ↦ let t = lt-ltb 255 (length line) long in let e = rw t at h in cc
@@ -42,7 +42,7 @@ checked-ok n line statement h = elim (cases_lt 255 (length line)) [
       ]
 ]
 
-checked-says : (n : ℕ) (line : List ℕ) (statement : Statement) → SaysLine line statement → checked n line ≡ Ok statement
+pub checked-says : (n : ℕ) (line : List ℕ) (statement : Statement) → SaysLine line statement → checked n line ≡ Ok statement
 unfolding checked
 checked-says n line statement h =
     let f = le-ltb 255 (length line) h.short in
@@ -76,7 +76,7 @@ landed-is n at most count h =
     let u = le-ltb most count h in
     rw (f, same, u) refl
 
-distance-ok : (labels : Labels) (n at most count : ℕ) (to : Destination) → distance labels n at most to ≡ Ok count → IsDistance labels at most count to
+pub distance-ok : (labels : Labels) (n at most count : ℕ) (to : Destination) → distance labels n at most to ≡ Ok count → IsDistance labels at most count to
 unfolding distance
 distance-ok labels n at most count (Further given) h = sym (ok_is given count h)
 distance-ok labels n at most count (Labelled name) h = landed-ok n at most count (place_of labels name) h
@@ -105,7 +105,7 @@ record Scanned (labels : Labels) (at : ℕ) (lines : List (List ℕ)) (final : L
   few : at + count statements ≤ 4096
   once : AreGivenOnce final
 
-counted-ok : (n : ℕ) (labels : Labels) (at : ℕ) (next : Labels × ℕ) → counted n labels at ≡ Ok next → (at < 4096) × ((labels, at + 1) ≡ next)
+pub counted-ok : (n : ℕ) (labels : Labels) (at : ℕ) (next : Labels × ℕ) → counted n labels at ≡ Ok next → (at < 4096) × ((labels, at + 1) ≡ next)
 counted-ok n labels at next h = elim (cases_lt at 4096) [
   | inl below ↦ let t = lt-ltb at 4096 below in (below, ok_is (labels, at + 1) next (rw t at h))
   | inr full ↦ let f = le-ltb at 4096 full in let e = rw f at h in cc
@@ -115,7 +115,7 @@ is_some-none : {A : Type 0} (o : Option A) → is_some o ≡ false → o ≡ Non
 is_some-none None h = refl
 is_some-none (Some x) h = cc
 
-marked-ok : (n : ℕ) (labels : Labels) (at : ℕ) (name : List ℕ) (next : Labels × ℕ) → marked n labels at name ≡ Ok next → (place_of labels name ≡ None) × ((labels ++ (name, at) ∷ [], at) ≡ next)
+pub marked-ok : (n : ℕ) (labels : Labels) (at : ℕ) (name : List ℕ) (next : Labels × ℕ) → marked n labels at name ≡ Ok next → (place_of labels name ≡ None) × ((labels ++ (name, at) ∷ [], at) ≡ next)
 marked-ok n labels at name next h = elim (cases_Bool (is_some (place_of labels name))) [
   | inl t ↦ let e = rw t at h in cc
   | inr f ↦ (is_some-none (place_of labels name) f, ok_is (labels ++ (name, at) ∷ [], at) next (rw f at h))

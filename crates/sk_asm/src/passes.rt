@@ -1,9 +1,10 @@
 //! The two passes over the lines: one for the labels, and one for the instructions.
-ghost use Rattle.std.specs.Prelude.{Err, ◌≡◌, ◌+◌, ◌-◌, ◌≤◌, ◌<◌, ◌^◌, ◌++◌, length, IfOk, MatchResult, OnOk, Ok, List, []};
+ghost use Rattle.std.specs.Prelude.{Err, ◌≡◌, ◌≢◌, ◌+◌, ◌-◌, ◌≤◌, ◌<◌, ◌^◌, ◌++◌, length, IfOk, IfErr, MatchResult, OnOk, Ok, List, []};
 ghost use Rattle.sk_asm.specs.Assembly.{Assembles, AssemblesText, Finds};
 ghost use Rattle.sk_asm.specs.Block.{lines_in, until_end};
 ghost use Rattle.sk_insn.specs.declared.insn.Insn.{Insn};
 ghost use Rattle.sk_asm.specs.Faults.{Answers, IsFaultOf};
+ghost use Rattle.sk_asm.specs.LineFaults.{IsFirstTextFault};
 ghost use Rattle.sk_asm.specs.Labels.{Labels as Places, place_of};
 ghost use Rattle.sk_asm.specs.Passes.{noted, counted, marked, labelled, landed, distance, resolved, emitted, assembled, assembled_lines, in_front};
 ghost use Rattle.sk_asm.specs.Views.{destination, statement, labels_in};
@@ -30,6 +31,7 @@ pub fn assemble(alloc: Global, text: &[u8]) -> Result<Vec<Insn>, AsmFault>
     ensures stands { IfOk result (λ insns. AssemblesText text.now insns.items) }
     ensures only { (insns : List Insn) → AssemblesText text.now insns → Finds (λ found. found.items) result insns }
     ensures limit { 1048576 < length text.now → result ≡ Err (AsmFault.TooLong 0) }
+    ensures first { IfErr result (λ fault. fault ≢ AsmFault.Memory → IsFirstTextFault text.now fault) }
 {
     if text.len() > LONGEST_TEXT {
         return Err(AsmFault::TooLong { n: 0 });

@@ -1,7 +1,7 @@
 use sk_ends::ReadFault;
 use sk_insn::ImageFault;
 use sk_text::HexFault;
-use std::alloc::AllocError;
+use std::alloc::{AllocError, AllocFailed};
 use std::fmt;
 
 /// Why a task is not done.
@@ -39,6 +39,17 @@ impl From<AllocError> for Fault {
     }
 }
 
+impl<T: Drop> From<AllocFailed<T>> for Fault {
+    ghost use Rattle.std.specs.Prelude.{◌≡◌};
+    ghost use Rattle.sk_bench.specs.declared.fault.Fault.TheVariants.{Memory};
+
+    ghost from_gives = { λ _ fault. fault ≡ Memory };
+
+    fn from(_refused: AllocFailed<T>) -> Fault {
+        Fault::Memory
+    }
+}
+
 impl From<ReadFault> for Fault {
     fn from(fault: ReadFault) -> Fault {
         match fault {
@@ -60,8 +71,8 @@ impl From<HexFault> for Fault {
 impl From<ImageFault> for Fault {
     fn from(fault: ImageFault) -> Fault {
         match fault {
+            ImageFault::Ragged | ImageFault::Empty | ImageFault::TooLong => Fault::Refused,
             ImageFault::Memory => Fault::Memory,
-            _ => Fault::Refused,
         }
     }
 }

@@ -19,6 +19,8 @@ pub enum Work {
     Run,
     /// The chain of all filters gives its verdict on each call.
     Verdict,
+    /// A chain of all filters is made, with its table.
+    Attach,
     /// Each number is looked up in the chain's table of those that are always allowed.
     Always,
 }
@@ -30,6 +32,7 @@ impl Work {
             b"check" => Some(Work::Check),
             b"run" => Some(Work::Run),
             b"verdict" => Some(Work::Verdict),
+            b"attach" => Some(Work::Attach),
             b"always" => Some(Work::Always),
             _ => None,
         }
@@ -80,11 +83,12 @@ impl Task {
         match name {
             b"record" => {
                 let call = call_of(&bytes).ok_or(Fault::NotUnderstood)?;
-                self.calls.push(call).map_err(|_| Fault::Memory)
+                self.calls.push(call)?;
             }
-            b"filter" => self.images.push(bytes).map_err(|_| Fault::Memory),
-            _ => Err(Fault::NotUnderstood),
+            b"filter" => self.images.push(bytes)?,
+            _ => return Err(Fault::NotUnderstood),
         }
+        Ok(())
     }
 }
 

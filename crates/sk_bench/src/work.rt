@@ -31,6 +31,7 @@ pub fn total_of(alloc: Global, task: Task) -> Result<Total, Fault> {
             let chain = chain_of(alloc, &images)?;
             Ok(verdicts_given(&chain, &mut calls, rounds))
         }
+        Work::Attach => chains_made(alloc, &images, rounds),
         Work::Always => {
             let chain = chain_of(alloc, &images)?;
             Ok(numbers_looked_up(&chain, &calls, rounds))
@@ -95,6 +96,26 @@ fn verdicts_given(chain: &Chain, calls: &mut [Record], rounds: u32) -> Total {
     total
 }
 
+fn chains_made(alloc: Global, images: &[Vec<u8>], rounds: u32) -> Result<Total, Fault> {
+    let mut total = Total::new();
+    for _ in 0..rounds {
+        let chain = chain_of(alloc, images)?;
+        total.add(folded(chain.table()), images.len() as u64);
+    }
+    Ok(total)
+}
+
+// A sum over the low halves of a table's words.
+fn folded(table: &[u64; 8]) -> u32 {
+    let mut sum = 0u32;
+    for word in table {
+        sum = sum
+            .wrapping_mul(31)
+            .wrapping_add((*word % 0x1_0000_0000) as u32);
+    }
+    sum
+}
+
 fn numbers_looked_up(chain: &Chain, calls: &[Record], rounds: u32) -> Total {
     let mut total = Total::new();
     for round in 0..rounds {
@@ -118,9 +139,7 @@ fn programs_of(alloc: Global, images: &[Vec<u8>]) -> Result<Vec<Checked>, Fault>
 {
     let mut programs = Vec::new(alloc);
     for image in images {
-        programs
-            .push(program_of(alloc, image)?)
-            .map_err(|_| Fault::Memory)?;
+        programs.push(program_of(alloc, image)?)?;
     }
     Ok(programs)
 }

@@ -1,4 +1,5 @@
 pub mod Precedence
+pub mod Choosing
 pub mod Verdict
 pub mod Chains
 pub mod Nodes

@@ -1,8 +1,37 @@
+//! Which of several values takes precedence: seccomp(2), "If multiple filters exist".
+
 ghost use Rattle.std.specs.Prelude.{◌≡◌};
 ghost use Rattle.sk_chain.specs.Precedence.{precedence_of};
+ghost use Rattle.sk_chain.specs.Choosing.{chosen};
+ghost use Rattle.sk_chain.specs.Verdict.{first_of};
+
+/// Lets a call through.
+pub(crate) const ALLOW: u32 = 0x7fff_0000;
+
+/// The verdict of filters that answer these values, the newest first: the first value than whose action no other has
+/// precedence.
+pub fn first_of(values: &[u32]) -> u32
+    ensures first { result ≡ first_of values.now }
+{
+    let mut first = None;
+    for value in values {
+        first = sooner(first, *value);
+    }
+    first.unwrap_or(ALLOW)
+}
+
+/// The first value may stay where another one comes.
+pub(crate) fn sooner(first: Option<u32>, value: u32) -> Option<u32>
+    ensures chosen { result ≡ chosen first value }
+{
+    match first {
+        Some(least) if precedence(least) <= precedence(value) => Some(least),
+        _ => Some(value),
+    }
+}
 
 /// How soon the action of a value takes precedence over others: the least first.
-pub fn precedence(value: u32) -> i32
+fn precedence(value: u32) -> i32
     ensures precedence { result ≡ precedence_of value }
 {
     (value & 0xffff_0000).cast_signed()

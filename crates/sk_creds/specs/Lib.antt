@@ -1,2 +1,3 @@
 pub mod Errno
 pub mod Creds
+pub mod laws

@@ -7,7 +7,8 @@ mod writing;
 
 use std::io;
 
-/// A reader or a writer, and how many of its calls have failed.
+/// A reader or a writer, and how many of its calls have failed. Each call is one call of it: what failed is answered,
+/// and not tried again. (No contract of std's reader sees that; the tests count its calls.)
 #[derive(Drop)]
 pub struct Counted<T> {
     inner: T,

@@ -125,7 +125,7 @@ fn takes_more_than_a_piece(rt: HostRuntime) -> Result<(), Fail> {
 }
 
 #[test]
-fn a_read_that_fails_ends_it(rt: HostRuntime) {
+fn a_read_that_fails_ends_it_and_is_not_tried_again(rt: HostRuntime) {
     for wrong_at in 1..=4 {
         let plan = Plan::at(wrong_at, Trouble::Error);
         let mut source = Counted::new(Reader {
@@ -136,6 +136,7 @@ fn a_read_that_fails_ends_it(rt: HostRuntime) {
         let answer = take_up_to(rt.alloc(), &mut source, 9);
         assert_eq!(rt; answer.err(), Some(ReadFault::Read));
         assert_eq!(rt; source.failures(), 1);
+        assert_eq!(rt; source.into_inner().plan.calls, wrong_at);
     }
 }
 
@@ -167,7 +168,9 @@ fn a_write_that_fails_ends_it(rt: HostRuntime) {
             });
             assert!(rt; send(&mut sink, b"abcdef").is_err());
             assert_eq!(rt; sink.failures(), 1);
-            assert_eq!(rt; sink.into_inner().held.as_slice(), front);
+            let writer = sink.into_inner();
+            assert_eq!(rt; writer.plan.calls, wrong_at);
+            assert_eq!(rt; writer.held.as_slice(), front);
         }
     }
 }

@@ -3,7 +3,7 @@ use Rattle.std.proofs.Common.{◌≡◌, ℕ, suc, ◌+◌, ◌<◌, List, ◌�
 use Rattle.std.proofs.Math.Seq.{drop-cons}
 use Rattle.std.proofs.lemmas.List.{drop-map}
 use Rattle.sk_insn.specs.declared.insn.Insn.{Insn}
-use Rattle.sk_insn.specs.Instructions.{instructions_of}
+use Rattle.sk_insn.specs.Instructions.{image_instructions}
 use Rattle.sk_engines.specs.declared.eval.Refusal.{Refusal}
 use Rattle.sk_engines.specs.EvalCommand.{chained, image_attached}
 
@@ -23,13 +23,13 @@ abbrev pub chained_on : ℕ → List (List ℕ) → Result (List (List Insn)) Re
 chained_on n images (Err refusal) = Err (n, refusal)
 chained_on n images (Ok next) = chained (n + 1) next images
 
-pub chained_at : (images : List (Vec ℕ Global)) (n : ℕ) (d : Vec ℕ Global) (chain : List (List Insn)) (attached : Result (List (List Insn)) Refusal) (total : Result (List (List Insn)) (ℕ × Refusal)) → n < length images → attached ≡ image_attached chain (instructions_of (bytes_of (get_or images n d))) → chained n chain (drop n (map bytes_of images)) ≡ total → chained_on n (drop (n + 1) (map bytes_of images)) attached ≡ total
+pub chained_at : (images : List (Vec ℕ Global)) (n : ℕ) (d : Vec ℕ Global) (chain : List (List Insn)) (attached : Result (List (List Insn)) Refusal) (total : Result (List (List Insn)) (ℕ × Refusal)) → n < length images → attached ≡ image_attached chain (image_instructions (bytes_of (get_or images n d))) → chained n chain (drop n (map bytes_of images)) ≡ total → chained_on n (drop (n + 1) (map bytes_of images)) attached ≡ total
 chained_at images n d chain attached total h is so_far =
     ap (chained_on n (drop (n + 1) (map bytes_of images))) is
-    ∙ by_result n (drop (n + 1) (map bytes_of images)) (bytes_of (get_or images n d)) chain (image_attached chain (instructions_of (bytes_of (get_or images n d)))) refl
+    ∙ by_result n (drop (n + 1) (map bytes_of images)) (bytes_of (get_or images n d)) chain (image_attached chain (image_instructions (bytes_of (get_or images n d)))) refl
     ∙ ap (chained n chain) (sym (images_at images n d h))
     ∙ so_far
   where
-    by_result : (n : ℕ) (rest : List (List ℕ)) (image : List ℕ) (chain : List (List Insn)) (r : Result (List (List Insn)) Refusal) → r ≡ image_attached chain (instructions_of image) → chained_on n rest r ≡ chained n chain (image ∷ rest)
+    by_result : (n : ℕ) (rest : List (List ℕ)) (image : List ℕ) (chain : List (List Insn)) (r : Result (List (List Insn)) Refusal) → r ≡ image_attached chain (image_instructions image) → chained_on n rest r ≡ chained n chain (image ∷ rest)
     by_result n rest image chain (Ok next) e = rw (← e, chained) refl
     by_result n rest image chain (Err refusal) e = rw (← e, chained) refl

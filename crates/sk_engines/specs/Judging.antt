@@ -1,17 +1,16 @@
 -- The texts of images and programs that are refused.
 use Rattle.std.specs.Prelude.{ℕ, ◌++◌, List, codes}
 use Rattle.std.specs.Fmt.{decimal}
-use Rattle.sk_insn.specs.declared.image.ImageFault.{ImageFault}
-use Rattle.sk_insn.specs.declared.image.ImageFault.TheVariants.{Ragged, Empty as EmptyImage, TooLong as LongImage, Memory}
+use Rattle.sk_insn.specs.declared.image.NoImage.{NoImage}
+use Rattle.sk_insn.specs.declared.image.NoImage.TheVariants.{Ragged, Empty as EmptyImage, TooLong as LongImage}
 use Rattle.sk_check.specs.declared.fault.CheckFault.{CheckFault}
 use Rattle.sk_check.specs.declared.fault.CheckFault.TheVariants.{Empty, TooLong, Code, Load, DivZero, Shift, Word, Jump, NoReturn, Unstored}
 
 -- bytes that are no image
-abbrev pub image_fault_text : ImageFault → List ℕ
-image_fault_text Ragged = codes "refused image ragged"
-image_fault_text EmptyImage = codes "refused image empty"
-image_fault_text LongImage = codes "refused image too long"
-image_fault_text Memory = codes "out of memory"
+abbrev pub no_image_text : NoImage → List ℕ
+no_image_text Ragged = codes "refused image ragged"
+no_image_text EmptyImage = codes "refused image empty"
+no_image_text LongImage = codes "refused image too long"
 
 -- a program that is not valid
 abbrev pub check_fault_text : CheckFault → List ℕ

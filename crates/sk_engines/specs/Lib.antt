@@ -8,4 +8,6 @@ pub mod Judging
 pub mod Faults
 pub mod Engine
 pub mod ListCommand
+pub mod OnImage
+pub mod Reading
 pub mod Told

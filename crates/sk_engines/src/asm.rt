@@ -4,9 +4,8 @@ ghost use Rattle.sk_asm.specs.Passes.{assembled};
 ghost use Rattle.sk_engines.specs.AsmCommand.{asm_answer, assembled_answer, digits_line};
 ghost use Rattle.sk_ends.specs.Reading.{ConsumesUpTo};
 ghost use Rattle.sk_engines.specs.Engine.{Delivers, CountsReads, CountsWrites};
-ghost use Rattle.sk_engines.specs.Told.{answer_of};
 
-use crate::engine::{MOST_BYTES, deliver, input};
+use crate::engine::{Command, run};
 use crate::fault::CommandFault;
 use crate::told::Told;
 use sk_asm::{AsmFault, assemble};
@@ -29,42 +28,25 @@ pub fn asm_engine<R: Source, W: Sink>(
     ensures reads { CountsReads result (R.failed reader.old) (R.failed reader.new) }
     ensures writes { CountsWrites result (W.failed writer.old) (W.failed writer.new) }
 {
-    let input = input(alloc, reader)?;
-    let told = asm_answer(alloc, &input)?;
-    deliver(writer, &told)
+    run::<Assemble, R, W>(alloc, reader, writer)
 }
 
-#[tactic(auto, unfolding(crate::specs::Answer::within_limit))]
-fn asm_answer(alloc: Global, input: &[u8]) -> Result<Told, AllocError>
-    ensures answer { IfOk result (λ told. answer_of told ≡ asm_answer input.now) }
-{
-    if input.len() > MOST_BYTES {
-        return Told::at_line(alloc, 0, "over the limit");
-    }
-    text_answer(alloc, input)
-}
+struct Assemble;
 
-fn text_answer(alloc: Global, text: &[u8]) -> Result<Told, AllocError>
-    ensures answer { IfOk result (λ told. answer_of told ≡ assembled_answer (assembled text.now)) }
-{
-    match assemble(alloc, text) {
-        Ok(insns) => Ok(Told::done(digits_of(alloc, &insns)?)),
-        Err(AsmFault::Memory) => Err(AllocError),
-        Err(fault) => fault_answer(alloc, fault),
-    }
-}
+impl Command for Assemble {
+    ghost answers = { λ text. assembled_answer (assembled text) };
 
-fn fault_answer(alloc: Global, fault: AsmFault) -> Result<Told, AllocError>
-    ensures answer { IfOk result (λ told. answer_of told ≡ assembled_answer (Err fault)) }
-{
-    match fault {
-        AsmFault::Line { n } => Told::at_line(alloc, n, "not understood"),
-        AsmFault::Label { n } => Told::at_line(alloc, n, "no such name"),
-        AsmFault::Twice { n } => Told::at_line(alloc, n, "name given twice"),
-        AsmFault::Far { n } => Told::at_line(alloc, n, "jump too far"),
-        AsmFault::Back { n } => Told::at_line(alloc, n, "jump backwards"),
-        AsmFault::TooLong { n } => Told::at_line(alloc, n, "over the limit"),
-        AsmFault::Memory => Told::refused(alloc, "skern: out of memory"),
+    fn told(alloc: Global, text: &[u8]) -> Result<Told, AllocError> {
+        match assemble(alloc, text) {
+            Ok(insns) => Ok(Told::Done(digits_of(alloc, &insns)?)),
+            Err(AsmFault::Memory) => Err(AllocError),
+            Err(AsmFault::Line { n }) => Ok(Told::at_line(n, "not understood")),
+            Err(AsmFault::Label { n }) => Ok(Told::at_line(n, "no such name")),
+            Err(AsmFault::Twice { n }) => Ok(Told::at_line(n, "name given twice")),
+            Err(AsmFault::Far { n }) => Ok(Told::at_line(n, "jump too far")),
+            Err(AsmFault::Back { n }) => Ok(Told::at_line(n, "jump backwards")),
+            Err(AsmFault::TooLong { n }) => Ok(Told::at_line(n, "over the limit")),
+        }
     }
 }
 

@@ -1,5 +1,6 @@
-//! What all engines do alike: they read the input, and send the answer.
-ghost use Rattle.std.specs.Prelude.{◌≡◌, ◌≢◌, ◌≤◌, take, IfOk, IfSome, Err};
+//! What all commands do alike: they read the input, and send the answer.
+ghost use Rattle.std.specs.Prelude.{◌≡◌, ◌≢◌, ◌≤◌, ℕ, List, take, IfOk, IfSome, Err};
+ghost use Rattle.sk_engines.specs.Answer.{Answer, within_limit};
 ghost use Rattle.sk_ends.specs.Reading.{ConsumesUpTo};
 ghost use Rattle.sk_engines.specs.Engine.{Delivers, CountsReads, CountsWrites};
 ghost use Rattle.sk_engines.specs.Told.{answer_of};
@@ -7,13 +8,49 @@ ghost use Rattle.sk_engines.specs.Told.{answer_of};
 use crate::fault::CommandFault;
 use crate::told::Told;
 use sk_ends::{Sink, Source, send, take_up_to};
-use std::alloc::Global;
+use std::alloc::{AllocError, Global};
 
 /// The most bytes of an input.
-pub const MOST_BYTES: usize = 1_048_576;
+const MOST_BYTES: usize = 1_048_576;
+
+/// What a command answers on a text within the limit.
+pub trait Command {
+    ghost answers: { List ℕ → Answer };
+
+    fn told(alloc: Global, text: &[u8]) -> Result<Told, AllocError>
+        ensures answer { IfOk result (λ told. answer_of told ≡ answers text.now) };
+}
+
+/// Runs a command over a reader and a writer.
+pub fn run<C: Command, R: Source, W: Sink>(
+    alloc: Global,
+    reader: &mut R,
+    writer: &mut W,
+) -> Result<u8, CommandFault>
+    ensures told { IfSome (R.remaining reader.old) (λ input.
+        Delivers (within_limit C.answers input) result (W.contents writer.old) (W.contents writer.new)) }
+    ensures status { IfOk result (λ status. status ≤ 1) }
+    ensures limit { ConsumesUpTo 1048577 (R.remaining reader.old) (R.remaining reader.new) }
+    ensures reads { CountsReads result (R.failed reader.old) (R.failed reader.new) }
+    ensures writes { CountsWrites result (W.failed writer.old) (W.failed writer.new) }
+{
+    let input = input(alloc, reader)?;
+    let told = told_within_limit::<C>(alloc, &input)?;
+    deliver(writer, &told)
+}
+
+#[tactic(auto, unfolding(crate::specs::Answer::within_limit))]
+fn told_within_limit<C: Command>(alloc: Global, input: &[u8]) -> Result<Told, AllocError>
+    ensures answer { IfOk result (λ told. answer_of told ≡ within_limit C.answers input.now) }
+{
+    if input.len() > MOST_BYTES {
+        return Ok(Told::at_line(0, "over the limit"));
+    }
+    C::told(alloc, input)
+}
 
 /// The input, of which one byte more than the limit decides that it is too long.
-pub fn input<R: Source>(alloc: Global, reader: &mut R) -> Result<Vec<u8>, CommandFault>
+fn input<R: Source>(alloc: Global, reader: &mut R) -> Result<Vec<u8>, CommandFault>
     ensures first { IfOk result (λ bytes.
         IfSome (R.remaining reader.old) (λ left. bytes.items ≡ take 1048577 left)) }
     ensures limit { ConsumesUpTo 1048577 (R.remaining reader.old) (R.remaining reader.new) }
@@ -27,15 +64,15 @@ pub fn input<R: Source>(alloc: Global, reader: &mut R) -> Result<Vec<u8>, Comman
 }
 
 /// Sends the answer's text, and tells its status.
-pub fn deliver<W: Sink>(writer: &mut W, told: &Told) -> Result<u8, CommandFault>
+fn deliver<W: Sink>(writer: &mut W, told: &Told) -> Result<u8, CommandFault>
     ensures told { Delivers (answer_of told.now) result (W.contents writer.old) (W.contents writer.new) }
     ensures status { IfOk result (λ status. status ≤ 1) }
     ensures writes { CountsWrites result (W.failed writer.old) (W.failed writer.new) }
     ensures no_read { result ≢ Err CommandFault.Read }
     ensures no_memory { result ≢ Err CommandFault.Memory }
 {
-    match send(writer, told.text.as_bytes()) {
-        Ok(()) => Ok(told.status),
+    match send(writer, told.text().as_bytes()) {
+        Ok(()) => Ok(told.status()),
         Err(fault) => Err(CommandFault::from(fault)),
     }
 }

@@ -1,6 +1,6 @@
 //! `skern eval`: what filters answer on a call, each by itself and all together.
-ghost use Rattle.std.specs.Prelude.{◌≡◌, ◌≤◌, ◌++◌, IfOk, IfSome, OnOk, [], map, length, string_bytes};
-ghost use Rattle.sk_insn.specs.Instructions.{instructions_of};
+ghost use Rattle.std.specs.Prelude.{◌≡◌, ◌≤◌, ◌+◌, ◌++◌, IfOk, IfSome, OnOk, [], map, string_bytes};
+ghost use Rattle.sk_insn.specs.Instructions.{image_instructions};
 ghost use Rattle.sk_check.specs.FirstFault.{first_fault};
 ghost use Rattle.sk_interp.specs.Meaning.{Returned};
 ghost use Rattle.sk_text.specs.Lines.{lines_of};
@@ -10,17 +10,18 @@ ghost use Rattle.sk_engines.specs.EvalCommand.{eval_answer, asked_answer, chaine
 ghost use Rattle.sk_ends.specs.Reading.{ConsumesUpTo};
 ghost use Rattle.sk_engines.specs.Engine.{Delivers, CountsReads, CountsWrites};
 ghost use Rattle.sk_engines.specs.Told.{answer_of};
+ghost use Rattle.arrayvec.specs.ArrayString.{array_string_len};
 
-use crate::engine::{MOST_BYTES, deliver, input};
-use crate::eval_input::{Asked, InputFault, gather};
+use crate::engine::{Command, run};
+use crate::eval_input::{Asked, gather};
 use crate::fault::CommandFault;
-use crate::text::{push_check_fault, push_image_fault};
-use crate::told::Told;
-use sk_chain::{Chain, ChainFault};
+use crate::refusal::{push_check_fault, push_no_image};
+use crate::told::{Line, Told, push_place};
+use sk_chain::{Chain, ChainFault, first_of};
 use sk_check::{CheckFault, Checked, check};
 use sk_ends::{Sink, Source};
-use sk_insn::{Action, ImageFault, Record, read_insns};
-use sk_interp::{Ran, run};
+use sk_insn::{Action, Insn, NoImage, Record, read_image};
+use sk_interp::{Ran, run_on};
 use sk_text::hex_word;
 use std::alloc::{AllocError, Global};
 use std::fmt::Write;
@@ -29,7 +30,7 @@ use std::fmt::Write;
 #[derive(Clone, Copy, Debug, PartialEq, Eq)]
 pub enum Refusal {
     /// Its bytes are no image.
-    Image(ImageFault),
+    Image(NoImage),
     /// Its program is not valid.
     Program(CheckFault),
     /// The chain has no room for it.
@@ -49,38 +50,29 @@ pub fn eval_engine<R: Source, W: Sink>(
     ensures reads { CountsReads result (R.failed reader.old) (R.failed reader.new) }
     ensures writes { CountsWrites result (W.failed writer.old) (W.failed writer.new) }
 {
-    let input = input(alloc, reader)?;
-    let told = eval_answer(alloc, &input)?;
-    deliver(writer, &told)
+    run::<Eval, R, W>(alloc, reader, writer)
 }
 
-#[tactic(auto, unfolding(crate::specs::Answer::within_limit))]
-fn eval_answer(alloc: Global, input: &[u8]) -> Result<Told, AllocError>
-    ensures answer { IfOk result (λ told. answer_of told ≡ eval_answer input.now) }
-{
-    if input.len() > MOST_BYTES {
-        return Told::at_line(alloc, 0, "over the limit");
-    }
-    text_answer(alloc, input)
-}
+struct Eval;
 
-fn text_answer(alloc: Global, text: &[u8]) -> Result<Told, AllocError>
-    ensures answer { IfOk result (λ told. answer_of told ≡ asked_answer (gathered 1 nothing_yet (lines_of text.now))) }
-{
-    match gather(alloc, text) {
-        Ok(asked) => asked_answer(alloc, &asked),
-        Err(InputFault::NotUnderstood { line }) => Told::at_line(alloc, line, "not understood"),
-        Err(InputFault::Memory) => Err(AllocError),
+impl Command for Eval {
+    ghost answers = { λ text. asked_answer (gathered 1 nothing_yet (lines_of text)) };
+
+    fn told(alloc: Global, text: &[u8]) -> Result<Told, AllocError> {
+        match gather(alloc, text)? {
+            Ok(asked) => asked_told(alloc, &asked),
+            Err(number) => Ok(Told::at_line(number, "not understood")),
+        }
     }
 }
 
-fn asked_answer(alloc: Global, asked: &Asked) -> Result<Told, AllocError>
+fn asked_told(alloc: Global, asked: &Asked) -> Result<Told, AllocError>
     ensures answer { IfOk result (λ told.
         answer_of told ≡ chained_answer asked.now.call (chained 0 [] (map (λ image. image.items) asked.now.images.items))) }
 {
     match chain_of(alloc, &asked.images)? {
-        Ok(chain) => Ok(Told::done(chain_text(alloc, &asked.call, &chain)?)),
-        Err((number, refusal)) => refusal_answer(alloc, number, refusal),
+        Ok(chain) => Ok(Told::Done(chain_text(alloc, &asked.call, &chain)?)),
+        Err((number, refusal)) => Ok(refusal_told(number, refusal)),
     }
 }
 
@@ -105,13 +97,17 @@ fn attach_image(
     chain: Chain,
     image: &[u8],
 ) -> Result<Result<Chain, Refusal>, AllocError>
-    ensures chain { IfOk result (λ attached. attached ≡ image_attached chain (instructions_of image.now)) }
+    ensures chain { IfOk result (λ attached. attached ≡ image_attached chain (image_instructions image.now)) }
 {
-    let insns = match read_insns(alloc, image) {
-        Ok(insns) => insns,
-        Err(ImageFault::Memory) => return Err(AllocError),
-        Err(fault) => return Ok(Err(Refusal::Image(fault))),
-    };
+    match read_image(alloc, image)? {
+        Ok(insns) => attach_program(chain, insns),
+        Err(why) => Ok(Err(Refusal::Image(why))),
+    }
+}
+
+fn attach_program(chain: Chain, insns: Vec<Insn>) -> Result<Result<Chain, Refusal>, AllocError>
+    ensures chain { IfOk result (λ attached. attached ≡ program_attached chain insns.items (first_fault insns.items)) }
+{
     match check(insns) {
         Ok(program) => attach(chain, program),
         Err((_, fault)) => Ok(Err(Refusal::Program(fault))),
@@ -131,11 +127,15 @@ fn attach(chain: Chain, program: Checked) -> Result<Result<Chain, Refusal>, Allo
 fn chain_text(alloc: Global, call: &Record, chain: &Chain) -> Result<String, AllocError>
     ensures text { IfOk result (λ text. string_bytes text ≡ chain_text call.now chain.now) }
 {
+    let bytes = call.bytes();
     let mut text = String::new(alloc);
+    let mut values = Vec::with_capacity(alloc, chain.len())?;
     for program in chain.programs() {
-        push_ran(&mut text, run(program, call))?;
+        let ran = run_on(program, &bytes);
+        push_ran(&mut text, ran)?;
+        values.push(ran.value)?;
     }
-    push_verdict(&mut text, chain.len(), chain.verdict(call))?;
+    push_verdict(&mut text, values.len(), first_of(&values))?;
     Ok(text)
 }
 
@@ -170,20 +170,24 @@ fn push_value(text: &mut String, value: u32) -> Result<(), AllocError>
     write!(text, "{digits} {name} data {given}")
 }
 
-fn refusal_answer(alloc: Global, number: usize, refusal: Refusal) -> Result<Told, AllocError>
-    ensures answer { IfOk result (λ told. answer_of told ≡ refusal_answer (number, refusal)) }
+fn refusal_told(number: usize, refusal: Refusal) -> Told
+    ensures answer { answer_of result ≡ refusal_answer (number, refusal) }
 {
-    let mut text = format!(in alloc; "filter {number} ")?;
-    push_refusal(&mut text, refusal)?;
-    text.push_str("\n")?;
-    Ok(Told { text, status: 1 })
+    let mut text = Line::new();
+    push_place(&mut text, "filter ", number);
+    text.push_str(" ");
+    push_refusal(&mut text, refusal);
+    text.push_str("\n");
+    Told::Refused(text)
 }
 
-fn push_refusal(text: &mut String, refusal: Refusal) -> Result<(), AllocError>
-    ensures text { OnOk result (string_bytes text.new ≡ string_bytes text.old ++ refusal_text refusal) }
+fn push_refusal(text: &mut Line, refusal: Refusal)
+    requires room { array_string_len text.old + 78 ≤ 128 }
+    ensures text { text.new.bytes ≡ text.old.bytes ++ refusal_text refusal }
+    ensures growth { array_string_len text.new ≤ array_string_len text.old + 78 }
 {
     match refusal {
-        Refusal::Image(fault) => push_image_fault(text, fault),
+        Refusal::Image(why) => push_no_image(text, why),
         Refusal::Program(fault) => push_check_fault(text, fault),
         Refusal::PathLimit => text.push_str("refused path limit"),
     }

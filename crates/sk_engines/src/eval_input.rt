@@ -1,5 +1,6 @@
 //! The lines of the input of `eval`.
-ghost use Rattle.std.specs.Prelude.{◌≡◌};
+ghost use Rattle.std.specs.Prelude.{◌≡◌, IfOk};
+ghost use Rattle.std.specs.Option.{option_map};
 ghost use Rattle.sk_text.specs.Lines.{lines_of, words_of};
 ghost use Rattle.sk_text.specs.Hexadecimal.{hex_bytes};
 ghost use Rattle.sk_insn.specs.Record.{record_of};
@@ -8,7 +9,7 @@ ghost use Rattle.sk_engines.specs.Gathering.{gathered_of, Takes, Gathers};
 
 use sk_insn::{RECORD_LEN, Record};
 use sk_text::{HexFault, Lines, Words, bytes_of, is_passed_over, is_printable, is_word};
-use std::alloc::{AllocError, AllocFailed, Global};
+use std::alloc::{AllocError, Global};
 
 /// The most filters of an input.
 pub const MOST_FILTERS: usize = 32;
@@ -21,56 +22,6 @@ pub struct Asked {
     pub images: Vec<Vec<u8>>,
 }
 
-/// Why an input asks nothing.
-#[derive(Clone, Copy, Debug, PartialEq, Eq)]
-pub enum InputFault {
-    NotUnderstood { line: usize },
-    Memory,
-}
-
-impl From<AllocError> for InputFault {
-    ghost use Rattle.std.specs.Prelude.{◌≡◌};
-    ghost use Rattle.sk_engines.specs.declared.eval_input.InputFault.TheVariants.{Memory};
-
-    ghost from_gives = { λ _ fault. fault ≡ Memory };
-
-    fn from(_refused: AllocError) -> InputFault {
-        InputFault::Memory
-    }
-}
-
-// Why a line gives nothing.
-#[derive(Clone, Copy, Debug, PartialEq, Eq)]
-pub enum LineFault {
-    NotUnderstood,
-    Memory,
-}
-
-impl From<HexFault> for LineFault {
-    ghost use Rattle.sk_engines.specs.Gathering.{of_digits};
-    ghost use Rattle.std.specs.Prelude.{◌≡◌};
-
-    ghost from_gives = { λ fault given. given ≡ of_digits fault };
-
-    fn from(fault: HexFault) -> LineFault {
-        match fault {
-            HexFault::NotHexadecimal => LineFault::NotUnderstood,
-            HexFault::Memory => LineFault::Memory,
-        }
-    }
-}
-
-impl<T: Drop> From<AllocFailed<T>> for LineFault {
-    ghost use Rattle.std.specs.Prelude.{◌≡◌};
-    ghost use Rattle.sk_engines.specs.declared.eval_input.LineFault.TheVariants.{Memory};
-
-    ghost from_gives = { λ _ fault. fault ≡ Memory };
-
-    fn from(_refused: AllocFailed<T>) -> LineFault {
-        LineFault::Memory
-    }
-}
-
 // What the lines so far have given.
 #[derive(Drop)]
 pub struct Given {
@@ -78,10 +29,10 @@ pub struct Given {
     pub images: Vec<Vec<u8>>,
 }
 
-/// What the lines of an input ask.
+/// What the lines of an input ask, or the number of the line that is not understood.
 #[tactic(auto, using(crate::proofs::LineCount::length_lines_of))]
-pub fn gather(alloc: Global, input: &[u8]) -> Result<Asked, InputFault>
-    ensures exact { Gathers result (gathered 1 nothing_yet (lines_of input.now)) }
+pub fn gather(alloc: Global, input: &[u8]) -> Result<Result<Asked, usize>, AllocError>
+    ensures exact { IfOk result (λ asked. Gathers asked (gathered 1 nothing_yet (lines_of input.now))) }
 {
     let mut given = Given {
         call: None,
@@ -89,63 +40,92 @@ pub fn gather(alloc: Global, input: &[u8]) -> Result<Asked, InputFault>
     };
     let mut number = 1;
     for line in Lines(input) {
-        given = match with_line(alloc, given, line) {
-            Ok(given) => given,
-            Err(LineFault::NotUnderstood) => return Err(InputFault::NotUnderstood { line: number }),
-            Err(LineFault::Memory) => return Err(InputFault::Memory),
+        given = match with_line(alloc, given, line)? {
+            Some(given) => given,
+            None => return Ok(Err(number)),
         };
         number += 1;
     }
     match given.call {
-        Some(call) => Ok(Asked {
+        Some(call) => Ok(Ok(Asked {
             call,
             images: given.images,
-        }),
-        None => Err(InputFault::NotUnderstood { line: number }),
+        })),
+        None => Ok(Err(number)),
     }
 }
 
 #[tactic(auto, unfolding(crate::specs::EvalInput::with_line))]
-fn with_line(alloc: Global, given: Given, line: &[u8]) -> Result<Given, LineFault>
-    ensures exact { Takes result (with_line (gathered_of given) line.now) }
+fn with_line(alloc: Global, given: Given, line: &[u8]) -> Result<Option<Given>, AllocError>
+    ensures exact { IfOk result (λ next. Takes next (with_line (gathered_of given) line.now)) }
 {
     if !is_printable(line) {
-        return Err(LineFault::NotUnderstood);
+        return Ok(None);
     }
     if is_passed_over(line) {
-        return Ok(given);
+        return Ok(Some(given));
     }
     said(alloc, given, Words(line))
 }
 
-fn said(alloc: Global, given: Given, mut words: Words<'_>) -> Result<Given, LineFault>
-    ensures exact { Takes result (said (gathered_of given) (words_of words.entry.0.now)) }
+fn said(alloc: Global, given: Given, mut words: Words<'_>) -> Result<Option<Given>, AllocError>
+    ensures exact { IfOk result (λ next. Takes next (said (gathered_of given) (words_of words.entry.0.now))) }
 {
     let Some(word) = words.next() else {
-        return Ok(given);
+        return Ok(Some(given));
     };
     if is_word(word, b"record") {
         with_record(alloc, given, words)
     } else if is_word(word, b"filter") {
         with_filter(alloc, given, words)
     } else {
-        Err(LineFault::NotUnderstood)
+        Ok(None)
     }
 }
 
-fn with_record(alloc: Global, given: Given, digits: Words<'_>) -> Result<Given, LineFault>
-    ensures exact { Takes result (with_record (gathered_of given) (hex_bytes (words_of digits.entry.0.now))) }
+fn with_record(alloc: Global, given: Given, digits: Words<'_>) -> Result<Option<Given>, AllocError>
+    ensures exact { IfOk result (λ next. Takes next (with_record (gathered_of given) (hex_bytes (words_of digits.entry.0.now)))) }
 {
-    let bytes = bytes_of(alloc, digits)?;
+    let Some(bytes) = bytes_in(alloc, digits)? else {
+        return Ok(None);
+    };
     if given.call.is_some() {
-        return Err(LineFault::NotUnderstood);
+        return Ok(None);
     }
     match record_of(bytes.as_slice()) {
-        Some(call) => Ok(Given {
+        Some(call) => Ok(Some(Given {
             call: Some(call),
             images: given.images,
-        }),
-        None => Err(LineFault::NotUnderstood),
+        })),
+        None => Ok(None),
+    }
+}
+
+fn with_filter(alloc: Global, given: Given, digits: Words<'_>) -> Result<Option<Given>, AllocError>
+    ensures exact { IfOk result (λ next. Takes next (with_filter (gathered_of given) (hex_bytes (words_of digits.entry.0.now)))) }
+{
+    let Some(image) = bytes_in(alloc, digits)? else {
+        return Ok(None);
+    };
+    if given.call.is_none() || given.images.len() >= MOST_FILTERS {
+        return Ok(None);
+    }
+    let mut images = given.images;
+    images.push(image)?;
+    Ok(Some(Given {
+        call: given.call,
+        images,
+    }))
+}
+
+// The bytes that digits are, where they are some.
+fn bytes_in(alloc: Global, digits: Words<'_>) -> Result<Option<Vec<u8>>, AllocError>
+    ensures exact { IfOk result (λ bytes. option_map (λ bytes. bytes.items) bytes ≡ hex_bytes (words_of digits.entry.0.now)) }
+{
+    match bytes_of(alloc, digits) {
+        Ok(bytes) => Ok(Some(bytes)),
+        Err(HexFault::NotHexadecimal) => Ok(None),
+        Err(HexFault::Memory) => Err(AllocError),
     }
 }
 
@@ -159,19 +139,4 @@ fn record_of(bytes: &[u8]) -> Option<Record>
     let mut cells = [0; RECORD_LEN];
     cells.copy_from_slice(bytes);
     Record::of(&cells)
-}
-
-fn with_filter(alloc: Global, given: Given, digits: Words<'_>) -> Result<Given, LineFault>
-    ensures exact { Takes result (with_filter (gathered_of given) (hex_bytes (words_of digits.entry.0.now))) }
-{
-    let image = bytes_of(alloc, digits)?;
-    if given.call.is_none() || given.images.len() >= MOST_FILTERS {
-        return Err(LineFault::NotUnderstood);
-    }
-    let mut images = given.images;
-    images.push(image)?;
-    Ok(Given {
-        call: given.call,
-        images,
-    })
 }

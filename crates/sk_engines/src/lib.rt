@@ -9,7 +9,8 @@ mod eval;
 mod eval_input;
 mod fault;
 mod list;
-mod text;
+mod on_image;
+mod refusal;
 mod told;
 
 pub use asm::asm_engine;

@@ -1,20 +1,16 @@
 //! `skern list`: the text of an image.
 ghost use Rattle.std.specs.Prelude.{◌≡◌, ◌≤◌, IfOk, IfSome};
-ghost use Rattle.sk_insn.specs.Instructions.{instructions_of};
-ghost use Rattle.sk_text.specs.Hexadecimal.{hex_text_bytes};
-ghost use Rattle.sk_engines.specs.ListCommand.{list_answer, listed_digits_answer, listed_answer};
 ghost use Rattle.sk_ends.specs.Reading.{ConsumesUpTo};
 ghost use Rattle.sk_engines.specs.Engine.{Delivers, CountsReads, CountsWrites};
-ghost use Rattle.sk_engines.specs.Told.{answer_of};
+ghost use Rattle.sk_engines.specs.ListCommand.{list_answer, listed_answer};
+ghost use Rattle.sk_engines.specs.OnImage.{on_image};
 
-use crate::check::image_refused;
-use crate::engine::{MOST_BYTES, deliver, input};
+use crate::engine::{Command, run};
 use crate::fault::CommandFault;
+use crate::on_image::instructions_in;
 use crate::told::Told;
 use sk_ends::{Sink, Source};
-use sk_insn::{ImageFault, read_insns};
 use sk_listing::list;
-use sk_text::{HexFault, bytes_of_text};
 use std::alloc::{AllocError, Global};
 
 /// Runs `skern list` over a reader and a writer. Nothing goes out before the input was read whole.
@@ -30,37 +26,18 @@ pub fn list_engine<R: Source, W: Sink>(
     ensures reads { CountsReads result (R.failed reader.old) (R.failed reader.new) }
     ensures writes { CountsWrites result (W.failed writer.old) (W.failed writer.new) }
 {
-    let input = input(alloc, reader)?;
-    let told = list_answer(alloc, &input)?;
-    deliver(writer, &told)
+    run::<List, R, W>(alloc, reader, writer)
 }
 
-#[tactic(auto, unfolding(crate::specs::Answer::within_limit))]
-fn list_answer(alloc: Global, input: &[u8]) -> Result<Told, AllocError>
-    ensures answer { IfOk result (λ told. answer_of told ≡ list_answer input.now) }
-{
-    if input.len() > MOST_BYTES {
-        return Told::at_line(alloc, 0, "over the limit");
-    }
-    digits_answer(alloc, input)
-}
+struct List;
 
-fn digits_answer(alloc: Global, input: &[u8]) -> Result<Told, AllocError>
-    ensures answer { IfOk result (λ told. answer_of told ≡ listed_digits_answer (hex_text_bytes input.now)) }
-{
-    match bytes_of_text(alloc, input) {
-        Ok(image) => image_answer(alloc, &image),
-        Err(HexFault::NotHexadecimal) => Told::refused(alloc, "skern: not hexadecimal"),
-        Err(HexFault::Memory) => Err(AllocError),
-    }
-}
+impl Command for List {
+    ghost answers = { on_image listed_answer };
 
-fn image_answer(alloc: Global, image: &[u8]) -> Result<Told, AllocError>
-    ensures answer { IfOk result (λ told. answer_of told ≡ listed_answer (instructions_of image.now)) }
-{
-    match read_insns(alloc, image) {
-        Ok(insns) => Ok(Told::done(list(alloc, &insns)?)),
-        Err(ImageFault::Memory) => Err(AllocError),
-        Err(fault) => image_refused(alloc, fault),
+    fn told(alloc: Global, text: &[u8]) -> Result<Told, AllocError> {
+        match instructions_in(alloc, text)? {
+            Ok(insns) => Ok(Told::Done(list(alloc, &insns)?)),
+            Err(refused) => Ok(refused),
+        }
     }
 }

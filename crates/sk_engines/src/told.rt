@@ -1,40 +1,91 @@
-ghost use Rattle.std.specs.Prelude.{◌≤◌};
+//! What a command answers. A line that refuses an input is made in place, so that no judgement takes memory.
+ghost use Rattle.std.specs.Prelude.{◌≡◌, ◌≤◌, ◌+◌, ◌++◌, codes, length, string_bytes};
+ghost use Rattle.std.specs.Fmt.{decimal};
+ghost use Rattle.arrayvec.specs.ArrayString.{array_string_len};
+ghost use Rattle.sk_engines.specs.Answer.{done, refused, line, at_line};
+ghost use Rattle.sk_engines.specs.Told.{answer_of};
 
-use std::alloc::{AllocError, Global};
+use arrayvec::ArrayString;
+use itoa::{Buffer, Integer};
 
-/// What a command answers: a text, and its exit status.
+/// A line of text in place.
+pub type Line = ArrayString<128>;
+
+/// What a command answers: a text, and by it an exit status.
 #[derive(Drop)]
-pub struct Told {
-    pub text: String,
-    pub status: u8,
-    pub ghost known: { status ≤ 1 },
+pub enum Told {
+    /// The command did its work, and this is its text.
+    Done(String),
+    /// The command did its work, and a line says so.
+    Accepted(Line),
+    /// The input is refused, with this line.
+    Refused(Line),
 }
 
 impl Told {
-    ghost use Rattle.std.specs.Prelude.{◌≡◌, IfOk, string_bytes};
-    ghost use Rattle.sk_engines.specs.Answer.{done, refused, line, at_line};
-    ghost use Rattle.sk_engines.specs.Told.{answer_of};
-
-    /// The command did its work, and this is its text.
-    pub fn done(text: String) -> Told
-        ensures answer { answer_of result ≡ done (string_bytes text) }
+    /// The text that is sent.
+    pub fn text(&self) -> &str
+        ensures text { result.now ≡ (answer_of self.now).text }
     {
-        Told { text, status: 0 }
+        match self {
+            Told::Done(text) => text.as_str(),
+            Told::Accepted(line) | Told::Refused(line) => line.as_str(),
+        }
     }
 
-    /// The input is refused, with this line.
-    pub fn refused(alloc: Global, why: &str) -> Result<Told, AllocError>
-        ensures answer { IfOk result (λ told. answer_of told ≡ refused (line why.now)) }
+    /// The exit status.
+    pub fn status(&self) -> u8
+        ensures status { result ≡ (answer_of self.now).status }
+        ensures known { result ≤ 1 }
     {
-        let text = format!(in alloc; "{why}\n")?;
-        Ok(Told { text, status: 1 })
+        match self {
+            Told::Done(_) | Told::Accepted(_) => 0,
+            Told::Refused(_) => 1,
+        }
+    }
+
+    /// The input is refused with these words.
+    pub fn refused(why: &str) -> Told
+        requires short { length why.now ≤ 64 }
+        ensures answer { answer_of result ≡ refused (line why.now) }
+    {
+        let mut text = Line::new();
+        text.push_str(why);
+        text.push_str("\n");
+        Told::Refused(text)
     }
 
     /// What is wrong with a line.
-    pub fn at_line(alloc: Global, number: usize, what: &str) -> Result<Told, AllocError>
-        ensures answer { IfOk result (λ told. answer_of told ≡ at_line number what.now) }
+    pub fn at_line(number: usize, what: &str) -> Told
+        requires short { length what.now ≤ 64 }
+        ensures answer { answer_of result ≡ at_line number what.now }
     {
-        let text = format!(in alloc; "skern: line {number}: {what}\n")?;
-        Ok(Told { text, status: 1 })
+        let mut text = Line::new();
+        text.push_str("skern: line ");
+        push_number(&mut text, number);
+        text.push_str(": ");
+        text.push_str(what);
+        text.push_str("\n");
+        Told::Refused(text)
     }
+}
+
+/// Appends a number in decimal digits.
+pub fn push_number(text: &mut Line, number: usize)
+    requires room { array_string_len text.old + 20 ≤ 128 }
+    ensures bytes { text.new.bytes ≡ text.old.bytes ++ decimal number }
+    ensures growth { array_string_len text.new ≤ array_string_len text.old + 20 }
+{
+    let mut buffer = Buffer::new();
+    text.push_str(buffer.format(number));
+}
+
+/// Appends words and a place behind them.
+pub fn push_place(text: &mut Line, words: &str, at: usize)
+    requires room { array_string_len text.old + length words.now + 20 ≤ 128 }
+    ensures bytes { text.new.bytes ≡ text.old.bytes ++ (words.now ++ decimal at) }
+    ensures growth { array_string_len text.new ≤ array_string_len text.old + length words.now + 20 }
+{
+    text.push_str(words);
+    push_number(text, at);
 }

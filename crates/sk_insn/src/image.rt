@@ -1,5 +1,5 @@
-ghost use Rattle.std.specs.Prelude.{◌≡◌, ◌*◌, ◌^◌, ◌<◌, ◌≤◌, length, IfOk, vec_len};
-ghost use Rattle.sk_insn.specs.Instructions.{instruction_of, instructions_in, instructions_of, image_of, Answers};
+ghost use Rattle.std.specs.Prelude.{◌≡◌, ◌*◌, ◌≤◌, length, IfOk, IfErr, IsErr, IsOk, MatchResult, Ok, Err, vec_len};
+ghost use Rattle.sk_insn.specs.Instructions.{insn_of, instructions_in, image_instructions, instructions_of, image_of, Reads, IsReadingFault};
 
 use crate::Insn;
 use byteorder::{ByteOrder, LittleEndian};
@@ -10,6 +10,17 @@ pub const MOST_INSNS: usize = 4096;
 
 /// Why bytes are no image of a filter, in the order in which it is looked for.
 #[derive(Clone, Copy, Debug, PartialEq, Eq)]
+pub enum NoImage {
+    /// The length is no multiple of 8.
+    Ragged,
+    /// There is no instruction.
+    Empty,
+    /// There are more than 4096 instructions.
+    TooLong,
+}
+
+/// Why an image is not read.
+#[derive(Clone, Copy, Debug, PartialEq, Eq)]
 pub enum ImageFault {
     /// The length is no multiple of 8.
     Ragged,
@@ -19,6 +30,21 @@ pub enum ImageFault {
     TooLong,
     /// No memory for the instructions.
     Memory,
+}
+
+impl From<NoImage> for ImageFault {
+    ghost use Rattle.std.specs.Prelude.{◌≡◌};
+    ghost use Rattle.sk_insn.specs.Instructions.{reading_fault};
+
+    ghost from_gives = { λ why fault. fault ≡ reading_fault why };
+
+    fn from(why: NoImage) -> ImageFault {
+        match why {
+            NoImage::Ragged => ImageFault::Ragged,
+            NoImage::Empty => ImageFault::Empty,
+            NoImage::TooLong => ImageFault::TooLong,
+        }
+    }
 }
 
 impl From<AllocError> for ImageFault {
@@ -34,23 +60,43 @@ impl From<AllocError> for ImageFault {
 
 /// The instructions of an image, as seccomp(2) takes them.
 pub fn read_insns(alloc: Global, image: &[u8]) -> Result<Vec<Insn>, ImageFault>
-    ensures exact { Answers (λ insns. insns.items) result (instructions_of image.now) }
+    ensures exact { IfOk result (λ insns. instructions_of image.now ≡ Ok insns.items) }
+    ensures fault { IfErr result (λ fault. IsReadingFault fault (instructions_of image.now)) }
     ensures size { IfOk result (λ insns. (1 ≤ vec_len insns) × (vec_len insns ≤ 4096)) }
     ensures spelled { IfOk result (λ insns. image_of insns.items ≡ image.now) }
 {
-    if image.len() % 8 != 0 {
-        return Err(ImageFault::Ragged);
+    let insns = read_image(alloc, image)??;
+    Ok(insns)
+}
+
+/// The instructions of an image, or why the bytes are none, which takes no memory to find.
+pub fn read_image(alloc: Global, image: &[u8]) -> Result<Result<Vec<Insn>, NoImage>, AllocError>
+    ensures exact { IfOk result (λ read. Reads (λ insns. insns.items) read (image_instructions image.now)) }
+    ensures memory { IsErr result → IsOk (image_instructions image.now) }
+    ensures size { IfOk result (λ read. IfOk read (λ insns. (1 ≤ vec_len insns) × (vec_len insns ≤ 4096))) }
+    ensures spelled { IfOk result (λ read. IfOk read (λ insns. image_of insns.items ≡ image.now)) }
+{
+    match insn_count(image) {
+        Ok(count) => Ok(Ok(insns_in(alloc, image, count)?)),
+        Err(why) => Ok(Err(why)),
     }
+}
+
+// How many instructions an image has.
+fn insn_count(image: &[u8]) -> Result<usize, NoImage>
+    ensures exact { Reads (λ count. instructions_in count image.now) result (image_instructions image.now) }
+    ensures whole { IfOk result (λ count. 8 * count ≡ length image.now) }
+    ensures size { IfOk result (λ count. (1 ≤ count) × (count ≤ 4096)) }
+{
     let count = image.len() / 8;
-    if count == 0 {
-        return Err(ImageFault::Empty);
-    }
-    if count > MOST_INSNS {
-        return Err(ImageFault::TooLong);
-    }
-    match insns_in(alloc, image, count) {
-        Ok(insns) => Ok(insns),
-        Err(_) => Err(ImageFault::Memory),
+    if image.len() % 8 != 0 {
+        Err(NoImage::Ragged)
+    } else if count == 0 {
+        Err(NoImage::Empty)
+    } else if count > MOST_INSNS {
+        Err(NoImage::TooLong)
+    } else {
+        Ok(count)
     }
 }
 
@@ -72,7 +118,7 @@ fn insns_in(alloc: Global, image: &[u8], count: usize) -> Result<Vec<Insn>, Allo
 
 fn insn_at(bytes: &[u8]) -> Insn
     requires { 8 ≤ length bytes.now }
-    ensures { result ≡ instruction_of bytes.now }
+    ensures { result ≡ insn_of bytes.now }
 {
     Insn {
         code: LittleEndian::read_u16(bytes),

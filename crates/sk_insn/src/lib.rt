@@ -8,7 +8,7 @@ mod operation;
 mod record;
 
 pub use action::Action;
-pub use image::{ImageFault, MOST_INSNS, read_insns, write_insns};
+pub use image::{ImageFault, MOST_INSNS, NoImage, read_image, read_insns, write_insns};
 pub use insn::Insn;
 pub use operation::{Arithmetic, Comparison, Operand, Operation, Register, decode};
 pub use record::{RECORD_LEN, Record};

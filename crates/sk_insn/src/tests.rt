@@ -1,6 +1,6 @@
 use crate::{
-    Action, Arithmetic, Comparison, ImageFault, Insn, Operand, Operation, Record, Register, decode,
-    read_insns, write_insns,
+    Action, Arithmetic, Comparison, ImageFault, Insn, NoImage, Operand, Operation, Record,
+    Register, decode, read_image, read_insns, write_insns,
 };
 use std::test::Fail;
 
@@ -65,6 +65,8 @@ fn images_are_refused(rt: HostRuntime) -> Result<(), Fail> {
     );
     assert_eq!(rt; read_insns(alloc, &[]).err(), Some(ImageFault::Empty));
     assert_eq!(rt; read_insns(alloc, &[0; 7]).err(), Some(ImageFault::Ragged));
+    assert_eq!(rt; read_image(alloc, &RETURN_ALLOW)?.is_ok(), true);
+    assert_eq!(rt; read_image(alloc, &[0; 7])?.err(), Some(NoImage::Ragged));
     Ok(())
 }
 

@@ -9,7 +9,7 @@ use Rattle.sk_signal.specs.declared.disposition.DefaultAction.TheVariants as act
 use Rattle.sk_signal.specs.declared.disposition.Disposition.{Disposition}
 use Rattle.sk_signal.specs.declared.disposition.Disposition.TheVariants as disposition
 use Rattle.sk_signal.specs.SignalSet.{Signals}
-use Rattle.sk_signal.specs.Actions.{default_action}
+use Rattle.sk_signal.specs.Actions.{default_action, is_tty_stop}
 use Rattle.sk_signal.specs.SignalState.{disposition_of}
 use Rattle.sk_signal.specs.Delivery.{deliverable, taken, pushed}
 use Rattle.sk_world.specs.declared.process.TheConstants.{INIT}
@@ -21,7 +21,8 @@ use Rattle.sk_world.specs.declared.process.Body.{Body}
 use Rattle.sk_world.specs.declared.process.Proc.{Proc}
 use Rattle.sk_world.specs.World.{World, at, has_stopped, parent_of, changed}
 use Rattle.sk_world.specs.Sending.{sent}
-use Rattle.sk_world.specs.Ending.{ended}
+use Rattle.sk_session.specs.Sessions.{group_of}
+use Rattle.sk_session.specs.Orphans.{is_orphaned, ended_and_hung_up}
 use Rattle.sk_machine.specs.declared.answer.Effect.{Effect}
 use Rattle.sk_machine.specs.declared.answer.Effect.TheVariants.{Ignored, Stopped, Ended, Handler}
 use Rattle.sk_machine.specs.Performed.{body_of}
@@ -48,20 +49,20 @@ is_waiting waiting.Pause = true
 is_waiting (waiting.Asks request) = true
 
 -- the signal ends the process with this status
-abbrev pub ended_by : World → ℕ → ℕ → Delivered
-ended_by w pid status = record { effect = Ended status; world = ended w pid status }
+abbrev pub terminated_by : World → ℕ → ℕ → Delivered
+terminated_by w pid status = record { effect = Ended status; world = ended_and_hung_up w pid status }
 
 -- a handler of signal n begins, and ends a call that the process waits in
-abbrev pub handling : ℕ → Signals → Body → Body
-handling n mask body = record body { signals = pushed n mask body.signals; waiting = waiting.Nothing }
+abbrev pub in_handler : ℕ → Signals → Body → Body
+in_handler n mask body = record body { signals = pushed n mask body.signals; waiting = waiting.Nothing }
 
 -- SIGSEGV ends a process that has no room for one more frame
-abbrev pub handled : World → ℕ → ℕ → ℕ → Signals → Delivered
-handled w pid n program mask =
-    if length (body_of (at w pid)).signals.frames == FRAMES then ended_by w pid SIGSEGV
+abbrev pub enters_handler : World → ℕ → ℕ → ℕ → Signals → Delivered
+enters_handler w pid n program mask =
+    if length (body_of (at w pid)).signals.frames == FRAMES then terminated_by w pid SIGSEGV
     else record {
       effect = Handler program (is_waiting (body_of (at w pid)).waiting);
-      world = changed w pid (handling n mask);
+      world = changed w pid (in_handler n mask);
     }
 
 -- signal n stops the process. A call that it waits in goes on waiting
@@ -79,30 +80,31 @@ stopped_by w pid n = record {
 abbrev pub ignored : World → Delivered
 ignored w = record { effect = Ignored; world = w }
 
--- the default action of signal n is taken
-abbrev pub by_default : World → ℕ → ℕ → DefaultAction → Delivered
-by_default w pid n action.Ignore = ignored w
-by_default w pid n action.Continue = ignored w
-by_default w pid n action.Stop = stopped_by w pid n
-by_default w pid n action.Terminate = ended_by w pid n
+-- the default action of signal n is taken. A stop signal of a terminal stops no process of an orphaned group:
+-- setpgid(2), "Notes"
+abbrev pub acts_by_default : World → ℕ → ℕ → DefaultAction → Delivered
+acts_by_default w pid n action.Ignore = ignored w
+acts_by_default w pid n action.Continue = ignored w
+acts_by_default w pid n action.Stop = if is_tty_stop n && is_orphaned w (group_of (at w pid)) then ignored w else stopped_by w pid n
+acts_by_default w pid n action.Terminate = terminated_by w pid n
 
 -- what is done by a disposition. By default process 1 minds only a SIGSYS, which is forced on it
-abbrev pub done_by : World → ℕ → ℕ → Disposition → Delivered
-done_by w pid n disposition.Ignore = ignored w
-done_by w pid n (disposition.Handler program mask) = handled w pid n program mask
-done_by w pid n disposition.Default =
-    if (pid == INIT) && not (n == SIGSYS) then ignored w else by_default w pid n (default_action n)
+abbrev pub acts_by_disposition : World → ℕ → ℕ → Disposition → Delivered
+acts_by_disposition w pid n disposition.Ignore = ignored w
+acts_by_disposition w pid n (disposition.Handler program mask) = enters_handler w pid n program mask
+acts_by_disposition w pid n disposition.Default =
+    if (pid == INIT) && not (n == SIGSYS) then ignored w else acts_by_default w pid n (default_action n)
 
 -- signal n is pending no more
 abbrev pub taking : ℕ → Body → Body
 taking n body = record body { signals = taken n body.signals }
 
 -- what signal n does once it is pending no more. SIGKILL has no disposition: signal(7)
-abbrev pub done : World → ℕ → ℕ → Delivered
-done w pid n =
-    if n == SIGKILL then ended_by w pid SIGKILL
-    else done_by w pid n (disposition_of (body_of (at w pid)).signals n)
+abbrev pub acted_on : World → ℕ → ℕ → Delivered
+acted_on w pid n =
+    if n == SIGKILL then terminated_by w pid SIGKILL
+    else acts_by_disposition w pid n (disposition_of (body_of (at w pid)).signals n)
 
 -- signal n is delivered to the process
 abbrev pub delivered : World → ℕ → ℕ → Delivered
-delivered w pid n = done (changed w pid (taking n)) pid n
+delivered w pid n = acted_on (changed w pid (taking n)) pid n

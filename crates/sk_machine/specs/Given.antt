@@ -1,13 +1,16 @@
--- The filters and programs that calls name by numbers, in the order in which they were declared.
-use Rattle.std.specs.Prelude.{ℕ, List, Option, slice_get, refl}
-use Rattle.std.specs.Coded.{Coded, code_by, coded×, coded_list, coded_ℕ}
+-- The filters and programs that calls name by numbers, in the order in which they were declared, and whether
+-- there are subreapers.
+use Rattle.std.specs.Prelude.{ℕ, Bool, List, Option, slice_get, refl}
+use Rattle.std.specs.Coded.{Coded, code_by, coded×, coded_list, coded_ℕ, coded_bool}
 use Rattle.sk_machine.specs.contracts.images.Mark.{the_row}
 use Rattle.sk_machine.specs.declared.images.Mark.{Mark}
 
--- the images of filters and the marks of programs that are declared
+-- the images of filters and the marks of programs that are declared, and whether processes may mark themselves
+-- as subreapers: prctl(2), PR_SET_CHILD_SUBREAPER
 pub record GivenImages : Type 0 where
   pub filters : List (List ℕ)
   pub programs : List Mark
+  pub subreapers : Bool
 
 -- the image of a number, if it is declared
 abbrev pub filter_image : GivenImages → ℕ → Option (List ℕ)
@@ -17,10 +20,10 @@ filter_image images n = slice_get images.filters n
 abbrev pub mark_of : GivenImages → ℕ → Option Mark
 mark_of images n = slice_get images.programs n
 
--- they are stored as the pair of their lists
+-- they are stored as the pair of the pair of their lists and the rest
 abbrev pub given_code : Coded GivenImages
 given_code =
-    code_by (List (List ℕ) × List Mark) (coded× (coded_list (coded_list coded_ℕ)) (coded_list the_row.coded))
-    (λ images. (images.filters, images.programs))
-    (λ p. record { filters = p.0; programs = p.1 })
+    code_by ((List (List ℕ) × List Mark) × Bool) (coded× (coded× (coded_list (coded_list coded_ℕ)) (coded_list the_row.coded)) coded_bool)
+    (λ images. ((images.filters, images.programs), images.subreapers))
+    (λ p. record { filters = p.0.0; programs = p.0.1; subreapers = p.1 })
     (λ _. refl)

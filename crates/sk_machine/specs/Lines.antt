@@ -1,10 +1,13 @@
 -- The line of a process: where it comes from, and the calls that it and those it was forked from have
 -- made until then; and what a line says of its authority.
-use Rattle.std.specs.Prelude.{ℕ, pos, negsuc, ◌==◌, Bool, false, not, ◌&&◌, if◌then◌else◌, List, [], ◌∷◌, ◌++◌, Option, None, Some}
+use Rattle.std.specs.Prelude.{ℕ, pos, negsuc, ◌==◌, Bool, false, not, ◌&&◌, if◌then◌else◌, List, [], ◌∷◌, ◌++◌, reverse, Option, None, Some}
 use Rattle.std.specs.Option.{option_map_or, option_to_list}
+use Rattle.std.specs.List.{zip}
 use Rattle.std.specs.Result.{result_unwrap_or}
 use Rattle.sk_insn.specs.declared.record.Record.{Record}
 use Rattle.sk_insn.specs.Actions.{action_of, performs}
+use Rattle.sk_calls.specs.declared.syscall.Syscall.TheVariants as syscall
+use Rattle.sk_calls.specs.Syscalls.{number_of}
 use Rattle.sk_world.specs.World.{World}
 use Rattle.sk_machine.specs.declared.event.Event.{Event}
 use Rattle.sk_machine.specs.declared.event.Event.TheVariants.{Call, Deliver, Resume, Fault}
@@ -68,7 +71,7 @@ has_answered n (answer.NotNow reason) = false
 
 -- a call of fork(2)
 abbrev pub is_fork : Option Record → Bool
-is_fork o = option_map_or (λ call. call.nr == 57) o false
+is_fork o = option_map_or (λ call. call.nr == number_of syscall.Fork) o false
 
 -- the event is a performed fork that gave this pid
 abbrev pub is_fork_of : ℕ → Happening → Bool
@@ -101,7 +104,11 @@ authority_after_calls images (call ∷ calls) a =
 abbrev pub authority_of_line : GivenImages → World → Line → Authority
 authority_of_line images w line = authority_after_calls images line.calls (authority_at w line.root)
 
--- the history of a list of events, the newest first, after one that was there before
+-- the history that these events and their answers make, the newest first
+abbrev pub history_of : List Event → List Answer → List Happening
+history_of events answers = reverse (zip events answers)
+
+-- the history of a list of events in a world, after one that was there before
 abbrev pub history_after : GivenImages → World → List Event → List Happening → List Happening
 history_after images w [] before = before
 history_after images w (event ∷ events) before =

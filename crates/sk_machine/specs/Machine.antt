@@ -1,6 +1,6 @@
 -- The process machine: what every event comes to, and a list of events.
 use Rattle.std.specs.Prelude.{ℕ, Bool, false, not, ◌&&◌, if◌then◌else◌, pos, neg_ℤ, min, List, [], ◌∷◌, Option, None, Some}
-use Rattle.std.specs.Option.{is_some, unwrap_or}
+use Rattle.std.specs.Option.{is_some, unwrap_or, option_and_then}
 use Rattle.sk_insn.specs.declared.record.Record.{Record}
 use Rattle.sk_insn.specs.declared.action.Action.{Action}
 use Rattle.sk_insn.specs.declared.action.Action.TheVariants as action
@@ -8,9 +8,12 @@ use Rattle.sk_insn.specs.Actions.{action_of, data_part}
 use Rattle.sk_chain.specs.Verdict.{verdict_of}
 use Rattle.sk_creds.specs.declared.errno.Errno.TheVariants.{Enosys}
 use Rattle.sk_signal.specs.declared.number.TheConstants.{SIGSEGV, SIGSYS}
+use Rattle.sk_world.specs.declared.process.TheConstants.{INIT}
+use Rattle.sk_world.specs.declared.process.Life.{Life}
+use Rattle.sk_world.specs.declared.process.Life.TheVariants as life
 use Rattle.sk_world.specs.World.{World, at, is_halted, is_zombie, is_stopped}
 use Rattle.sk_world.specs.Sending.{forced}
-use Rattle.sk_world.specs.Ending.{ended}
+use Rattle.sk_session.specs.Orphans.{ended_and_hung_up}
 use Rattle.sk_machine.specs.declared.event.Event.{Event}
 use Rattle.sk_machine.specs.declared.event.Event.TheVariants.{Call, Deliver, Resume, Fault}
 use Rattle.sk_machine.specs.declared.answer.Answer.{Answer}
@@ -21,7 +24,7 @@ use Rattle.sk_machine.specs.declared.answer.Reason.TheVariants.{NoProcess, Zombi
 use Rattle.sk_machine.specs.Events.{pid_of}
 use Rattle.sk_machine.specs.Given.{GivenImages}
 use Rattle.sk_machine.specs.Performed.{Performed, body_of, fails}
-use Rattle.sk_machine.specs.Performing.{performed, ends}
+use Rattle.sk_machine.specs.Performing.{performed, end_of_caller}
 use Rattle.sk_machine.specs.WaitCalls.{resumed}
 use Rattle.sk_machine.specs.Delivering.{Delivered, signal_due, is_waiting, delivered}
 
@@ -38,19 +41,19 @@ refused w errno = record { outcome = Returned (neg_ℤ (pos (min errno 4095))); 
 abbrev pub trapped : World → ℕ → Performed
 trapped w pid = record { outcome = Trapped; world = forced w pid }
 
--- what becomes of a call by the action of its verdict, whose data are the error: seccomp(2). Nobody
--- listens and nobody traces, so SECCOMP_RET_USER_NOTIF and SECCOMP_RET_TRACE answer ENOSYS. A kill ends
+-- what becomes of a call by its verdict, which has this action: seccomp(2). The data of SECCOMP_RET_ERRNO
+-- are the error. Nobody listens and nobody traces, so SECCOMP_RET_USER_NOTIF and SECCOMP_RET_TRACE answer ENOSYS. A kill ends
 -- the process as SIGSYS does
 abbrev pub judged : GivenImages → World → ℕ → Record → ℕ → Action → Performed
-judged images w pid call errno action.Allow = performed images w pid call
-judged images w pid call errno action.Log = performed images w pid call
-judged images w pid call errno action.Trap = trapped w pid
-judged images w pid call errno action.Errno = refused w errno
-judged images w pid call errno action.UserNotif = fails w Enosys
-judged images w pid call errno action.Trace = fails w Enosys
-judged images w pid call errno action.KillProcess = ends w pid SIGSYS
-judged images w pid call errno action.KillThread = ends w pid SIGSYS
-judged images w pid call errno action.Unknown = ends w pid SIGSYS
+judged images w pid call verdict action.Allow = performed images w pid call
+judged images w pid call verdict action.Log = performed images w pid call
+judged images w pid call verdict action.Trap = trapped w pid
+judged images w pid call verdict action.Errno = refused w (data_part verdict)
+judged images w pid call verdict action.UserNotif = fails w Enosys
+judged images w pid call verdict action.Trace = fails w Enosys
+judged images w pid call verdict action.KillProcess = end_of_caller w pid SIGSYS
+judged images w pid call verdict action.KillThread = end_of_caller w pid SIGSYS
+judged images w pid call verdict action.Unknown = end_of_caller w pid SIGSYS
 
 -- a call with this verdict has come to this
 abbrev pub call_answered : ℕ → Performed → Stepped
@@ -59,7 +62,7 @@ call_answered verdict p = record { answer = answer.Call verdict p.outcome; world
 -- a call with a verdict
 abbrev pub called_with : GivenImages → World → ℕ → Record → ℕ → Stepped
 called_with images w pid call verdict =
-    call_answered verdict (judged images w pid call (data_part verdict) (action_of verdict))
+    call_answered verdict (judged images w pid call verdict (action_of verdict))
 
 -- a call: all filters of the caller judge it
 abbrev pub called : GivenImages → World → ℕ → Record → Stepped
@@ -79,7 +82,7 @@ happened images w (Call pid ip nr args) = called images w pid (record { nr = nr;
 happened images w (Deliver pid) =
     signal_answered (unwrap_or (signal_due (at w pid)) 0) (delivered w pid (unwrap_or (signal_due (at w pid)) 0))
 happened images w (Resume pid) = resume_answered (resumed w pid (body_of (at w pid)).waiting)
-happened images w (Fault pid) = record { answer = answer.Crashed; world = ended w pid SIGSEGV }
+happened images w (Fault pid) = record { answer = answer.Crashed; world = ended_and_hung_up w pid SIGSEGV }
 
 -- why a process that runs cannot make a call of its own: it waits in one, or a signal comes first
 abbrev pub call_reason : World → ℕ → Option Reason
@@ -130,6 +133,16 @@ stepped images w event None = happened images w event
 -- one event
 unfoldable pub step_of : GivenImages → World → Event → Stepped
 step_of images w event = stepped images w event (reason_of w event)
+
+-- the status with which a process has ended, if it has
+abbrev pub end_status : Life → Option ℕ
+end_status (life.Zombie status) = Some status
+end_status life.Stopped = None
+end_status life.Running = None
+
+-- the status with which the system has halted, if it has: that of process 1
+abbrev pub halted_of : World → Option ℕ
+halted_of w = option_and_then (λ p. end_status p.body.life) (at w INIT)
 
 -- a list of events: the answers, and the world afterwards
 abbrev pub answers_of : GivenImages → World → List Event → List Answer

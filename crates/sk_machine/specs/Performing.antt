@@ -14,17 +14,18 @@ use Rattle.sk_world.specs.declared.process.Waiting.TheVariants as waiting
 use Rattle.sk_world.specs.declared.process.Body.{Body}
 use Rattle.sk_world.specs.World.{World, at, parent_of, changed}
 use Rattle.sk_world.specs.Forking.{fork_answer, forked}
-use Rattle.sk_world.specs.Ending.{ended}
+use Rattle.sk_session.specs.Orphans.{ended_and_hung_up}
 use Rattle.sk_session.specs.Sessions.{group_of, after_setpgid, after_setsid, group_asked, session_asked}
 use Rattle.sk_machine.specs.declared.answer.Outcome.TheVariants.{Ids, Signals, Ended, Executed}
 use Rattle.sk_machine.specs.declared.operation.PrctlOption.{PrctlOption}
 use Rattle.sk_machine.specs.declared.operation.PrctlOption.TheVariants as option
 use Rattle.sk_machine.specs.declared.operation.SeccompOperation.{SeccompOperation}
 use Rattle.sk_machine.specs.declared.operation.SeccompOperation.TheVariants as operation
-use Rattle.sk_machine.specs.declared.syscall.Syscall.{Syscall}
-use Rattle.sk_machine.specs.declared.syscall.Syscall.TheVariants as syscall
+use Rattle.sk_calls.specs.declared.syscall.Syscall.{Syscall}
+use Rattle.sk_calls.specs.declared.syscall.Syscall.TheVariants as syscall
 use Rattle.sk_machine.specs.Given.{GivenImages}
-use Rattle.sk_machine.specs.Syscalls.{register, low, signed, syscall_of, prctl_option_of, seccomp_operation_of}
+use Rattle.sk_calls.specs.Syscalls.{syscall_of}
+use Rattle.sk_machine.specs.Arguments.{register, low, signed, prctl_option_of, seccomp_operation_of}
 use Rattle.sk_machine.specs.Authority.{Authority, with_authority, after_no_new_privs, after_set_seccomp, after_set_mode_filter, authority_after}
 use Rattle.sk_machine.specs.Performed.{Performed, body_of, returns, fails, asked, changes, authority_at, authorises, waits}
 use Rattle.sk_machine.specs.SignalCalls.{resignals, after_sigaction, after_sigprocmask, after_sigreturn}
@@ -50,8 +51,8 @@ abbrev pub exit_status : ℕ → ℕ
 exit_status code = code % 256 * 256
 
 -- a process ends, by a call or by a filter
-abbrev pub ends : World → ℕ → ℕ → Performed
-ends w pid status = record { outcome = Ended status; world = ended w pid status }
+abbrev pub end_of_caller : World → ℕ → ℕ → Performed
+end_of_caller w pid status = record { outcome = Ended status; world = ended_and_hung_up w pid status }
 
 -- getresuid(2)
 abbrev pub ids : World → Creds → Performed
@@ -77,12 +78,30 @@ no_new_privs_asked call is_set =
     then Ok (if is_set then 1 else 0)
     else Err Einval
 
+-- the mark of a subreaper is set or cleared
+abbrev pub with_subreaper : Bool → Body → Body
+with_subreaper mark body = record body { subreaper = mark }
+
+-- prctl(2), PR_SET_CHILD_SUBREAPER: any number but 0 sets the mark
+abbrev pub subreaper_set : World → ℕ → Record → Performed
+subreaper_set w pid call = returns (changed w pid (with_subreaper (not (register call 1 == 0)))) 0
+
+-- prctl(2), PR_GET_CHILD_SUBREAPER
+abbrev pub subreaper_asked : World → ℕ → Performed
+subreaper_asked w pid = returns w (if (body_of (at w pid)).subreaper then 1 else 0)
+
+-- what a call comes to that is there only where subreapers are
+abbrev pub where_subreapers : Bool → World → Performed → Performed
+where_subreapers there w p = if there then p else fails w Einval
+
 -- prctl(2), by its option: EINVAL where the number is none
 abbrev pub prctl : GivenImages → World → ℕ → Option PrctlOption → Record → Performed
 prctl images w pid (Some option.SetNoNewPrivs) call = authorises w pid (after_no_new_privs call (authority_at w pid))
 prctl images w pid (Some option.SetSeccomp) call = authorises w pid (after_set_seccomp images call (authority_at w pid))
 prctl images w pid (Some option.GetSeccomp) call = returns w (seccomp_mode (body_of (at w pid)).chain)
 prctl images w pid (Some option.GetNoNewPrivs) call = asked w (no_new_privs_asked call (body_of (at w pid)).creds.no_new_privs)
+prctl images w pid (Some option.SetChildSubreaper) call = where_subreapers images.subreapers w (subreaper_set w pid call)
+prctl images w pid (Some option.GetChildSubreaper) call = where_subreapers images.subreapers w (subreaper_asked w pid)
 prctl images w pid None call = fails w Einval
 
 -- seccomp(2), SECCOMP_GET_ACTION_AVAIL: the number is one of the eight actions' values. No flag is taken
@@ -111,8 +130,8 @@ row images w pid (Some syscall.Getpid) call = returns w pid
 row images w pid (Some syscall.Getppid) call = returns w (parent_of (at w pid))
 row images w pid (Some syscall.Fork) call = forks w pid (fork_answer w)
 row images w pid (Some syscall.Execve) call = execve w pid (authorised images w pid syscall.Execve call)
-row images w pid (Some syscall.Exit) call = ends w pid (exit_status (low call 0))
-row images w pid (Some syscall.ExitGroup) call = ends w pid (exit_status (low call 0))
+row images w pid (Some syscall.Exit) call = end_of_caller w pid (exit_status (low call 0))
+row images w pid (Some syscall.ExitGroup) call = end_of_caller w pid (exit_status (low call 0))
 row images w pid (Some syscall.Wait4) call = wait4 w pid call
 row images w pid (Some syscall.Kill) call = changes w 0 (after_kill w pid (signed call 0) (low call 1))
 row images w pid (Some syscall.Getuid) call = returns w (body_of (at w pid)).creds.real

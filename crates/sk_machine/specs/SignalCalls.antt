@@ -14,7 +14,7 @@ use Rattle.sk_creds.specs.declared.errno.Errno.TheVariants.{Einval}
 use Rattle.sk_world.specs.declared.process.TheConstants.{INIT}
 use Rattle.sk_world.specs.declared.process.Body.{Body}
 use Rattle.sk_world.specs.World.{World, changed}
-use Rattle.sk_machine.specs.Syscalls.{register, low}
+use Rattle.sk_machine.specs.Arguments.{register, low}
 use Rattle.sk_machine.specs.Performed.{Performed, returns, fails}
 
 -- other signals of a process

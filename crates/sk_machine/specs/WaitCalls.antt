@@ -1,9 +1,7 @@
 -- wait4(2) as a call: whom its registers ask for, what it comes to, and how a waiting call asks again.
-use Rattle.std.specs.Prelude.{ℕ, zero, suc, ℤ, pos, negsuc, ◌+◌, ◌^◌, ◌==◌, Bool, not, if◌then◌else◌, bit_and}
+use Rattle.std.specs.Prelude.{ℕ, ◌^◌, ◌==◌, Bool, not, if◌then◌else◌, bit_and}
 use Rattle.sk_insn.specs.declared.record.Record.{Record}
 use Rattle.sk_creds.specs.declared.errno.Errno.TheVariants.{Esrch, Echild, Einval}
-use Rattle.sk_world.specs.declared.request.Who.{Who}
-use Rattle.sk_world.specs.declared.request.Who.TheVariants as who
 use Rattle.sk_world.specs.declared.request.Request.{Request}
 use Rattle.sk_world.specs.declared.request.Poll.{Poll}
 use Rattle.sk_world.specs.declared.request.Poll.TheVariants as poll
@@ -13,25 +11,17 @@ use Rattle.sk_world.specs.World.{World, at, changed}
 use Rattle.sk_world.specs.Waits.{is_no_hang, options_of, ready_of, told}
 use Rattle.sk_session.specs.Sessions.{group_of}
 use Rattle.sk_machine.specs.declared.answer.Outcome.TheVariants.{Told, Waits}
-use Rattle.sk_machine.specs.Syscalls.{low, signed}
+use Rattle.sk_machine.specs.Arguments.{low, signed, who_meant}
 use Rattle.sk_machine.specs.Performed.{Performed, returns, fails, waits, waiting_in}
 
 -- WNOHANG is 1, WUNTRACED 2, WCONTINUED 8; there is no other option
 abbrev pub are_wait_options : ℕ → Bool
 are_wait_options bits = bit_and bits 11 == bits
 
--- whom the argument asks for: n the child n, 0 the children in the caller's group, which is asked now,
--- -1 any child, and -n the children in group n
-abbrev pub who_asked : ℕ → ℤ → Who
-who_asked group (pos zero) = who.Group group
-who_asked group (pos (suc n)) = who.Child (suc n)
-who_asked group (negsuc zero) = who.Any
-who_asked group (negsuc (suc n)) = who.Group (n + 2)
-
 -- what the registers of a wait4(2) ask for
 abbrev pub request_of : World → ℕ → Record → Request
 request_of w pid call = record {
-  who = who_asked (group_of (at w pid)) (signed call 0);
+  who = who_meant (group_of (at w pid)) (signed call 0);
   options = options_of (low call 2);
 }
 

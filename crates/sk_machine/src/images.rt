@@ -7,11 +7,13 @@ pub struct Mark {
     pub setuid: bool,
 }
 
-/// What calls name by numbers: the images of filters, and the programs.
+/// What calls name by numbers, the images of filters and the programs, and whether processes may mark
+/// themselves as subreapers.
 #[derive(Drop)]
 pub struct Images {
     pub filters: Vec<Vec<u8>>,
     pub programs: Vec<Mark>,
+    pub subreapers: bool,
 }
 
 impl Model for Images {
@@ -23,5 +25,5 @@ impl Model for Images {
 
     ghost coded = { given_code };
 
-    ghost view = { λ images. record { filters = map vec_items (vec_items images.filters); programs = vec_items images.programs } };
+    ghost view = { λ images. record { filters = map vec_items (vec_items images.filters); programs = vec_items images.programs; subreapers = images.subreapers } };
 }

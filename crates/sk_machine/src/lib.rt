@@ -5,15 +5,13 @@
 mod answer;
 mod event;
 mod images;
-pub mod laws;
 mod operation;
-mod syscall;
 
 pub use answer::{Answer, Effect, Outcome, Reason};
 pub use event::{Event, Need};
 pub use images::{Images, Mark};
 pub use operation::{PrctlOption, SeccompOperation};
-pub use syscall::Syscall;
+pub use sk_calls::Syscall;
 
 #[cfg(test)]
 mod tests;

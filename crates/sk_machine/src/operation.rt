@@ -1,5 +1,5 @@
 ghost use Rattle.std.specs.Prelude.{◌≡◌};
-ghost use Rattle.sk_machine.specs.Syscalls.{prctl_option_of, seccomp_operation_of};
+ghost use Rattle.sk_machine.specs.Arguments.{prctl_option_of, seccomp_operation_of};
 
 /// What prctl(2) is asked, by the names in the manual without their PR.
 #[derive(Clone, Copy, PartialEq, Eq, Debug)]
@@ -8,6 +8,8 @@ pub enum PrctlOption {
     GetNoNewPrivs,
     SetSeccomp,
     GetSeccomp,
+    SetChildSubreaper,
+    GetChildSubreaper,
 }
 
 impl PrctlOption {
@@ -18,6 +20,8 @@ impl PrctlOption {
         match option {
             21 => Some(PrctlOption::GetSeccomp),
             22 => Some(PrctlOption::SetSeccomp),
+            36 => Some(PrctlOption::SetChildSubreaper),
+            37 => Some(PrctlOption::GetChildSubreaper),
             38 => Some(PrctlOption::SetNoNewPrivs),
             39 => Some(PrctlOption::GetNoNewPrivs),
             _ => None,

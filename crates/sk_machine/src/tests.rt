@@ -1,4 +1,4 @@
-use crate::{Event, PrctlOption, Reason, SeccompOperation, Syscall};
+use crate::{Event, PrctlOption, Reason, SeccompOperation};
 
 #[test]
 fn each_event_has_its_process(rt: HostRuntime) {
@@ -22,23 +22,12 @@ fn reasons_are_numbered(rt: HostRuntime) {
 }
 
 #[test]
-fn calls_have_the_numbers_of_x86_64(rt: HostRuntime) {
-    for (nr, call) in [
-        (13, Some(Syscall::RtSigaction)),
-        (57, Some(Syscall::Fork)),
-        (317, Some(Syscall::Seccomp)),
-        (56, None),
-        (0x4000_0027, None),
-    ] {
-        assert_eq!(rt; Syscall::of(nr), call);
-    }
-}
-
-#[test]
 fn options_of_prctl_have_the_numbers_of_linux(rt: HostRuntime) {
     for (number, option) in [
         (21, Some(PrctlOption::GetSeccomp)),
         (22, Some(PrctlOption::SetSeccomp)),
+        (36, Some(PrctlOption::SetChildSubreaper)),
+        (37, Some(PrctlOption::GetChildSubreaper)),
         (38, Some(PrctlOption::SetNoNewPrivs)),
         (39, Some(PrctlOption::GetNoNewPrivs)),
         (1, None),

@@ -18,6 +18,11 @@ IsLeastAbove test after None = (n : ℕ) → after < n → test n ≡ false
 IsLeastAbove test after (Some least) =
     (after < least) × IsTrue (test least) × ((n : ℕ) → after < n → n < least → test n ≡ false)
 
+-- the least number that passes the test, or that there is none
+abbrev pub IsLeast : (ℕ → Bool) → Option ℕ → Type 0
+IsLeast test None = (n : ℕ) → test n ≡ false
+IsLeast test (Some least) = IsTrue (test least) × ((n : ℕ) → n < least → test n ≡ false)
+
 -- whether the bits have the number: bit n % 64 of the word n / 64
 abbrev pub has_bit : List ℕ → ℕ → Bool
 has_bit words n = bit_at (slice_index words (n / 64)) (n % 64) == 1

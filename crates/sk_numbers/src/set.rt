@@ -1,6 +1,6 @@
 ghost use Rattle.std.specs.Prelude.{◌≡◌, ℕ, List, [], ◌+◌, ◌<◌, ◌≤◌, ◌==◌, ◌||◌, ◌&&◌, not, IfSome, IfNone};
 ghost use Rattle.std.specs.Int.{bit_at};
-ghost use Rattle.sk_numbers.specs.Numbers.{contains, IsLeastAbove};
+ghost use Rattle.sk_numbers.specs.Numbers.{contains, IsLeast, IsLeastAbove};
 
 use std::marker::Model;
 
@@ -63,9 +63,21 @@ impl NumberSet {
         number < NUMBERS && (self.words[(number / 64) as usize] >> (number % 64)) & 1 == 1
     }
 
+    /// The least member.
+    pub fn first(&self) -> Option<u32>
+        ensures least { IsLeast (contains self.now) result }
+        ensures within { IfSome result (λ n. n < NUMBERS) }
+    {
+        if self.contains(0) {
+            return Some(0);
+        }
+        self.next(0)
+    }
+
     /// The least member above `after`.
     pub fn next(&self, after: u32) -> Option<u32>
-        ensures { IsLeastAbove (contains self.now) after result }
+        ensures next { IsLeastAbove (contains self.now) after result }
+        ensures within { IfSome result (λ n. n < NUMBERS) }
     {
         let words = &self.words;
         if after >= NUMBERS - 1 {

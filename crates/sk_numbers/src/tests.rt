@@ -8,6 +8,8 @@ fn members_come_in_rising_order(rt: HostRuntime) {
     }
     set.remove(4000);
     set.remove(4001);
+    assert_eq!(rt; set.first(), Some(0));
+    assert_eq!(rt; NumberSet::empty().first(), None);
     assert!(rt;
         set.contains(0)
             && set.contains(32767)

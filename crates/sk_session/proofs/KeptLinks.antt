@@ -3,6 +3,7 @@ use Rattle.std.proofs.Common.{◌≡◌, ◌∙◌, ◌≤◌, ◌==◌, ℕ, ap
 use Rattle.std.specs.Option.{is_some}
 use Rattle.std.specs.Int.{is_negative}
 use Rattle.std.specs.List.{list_any}
+use Rattle.std.specs.Result.{result_and, result_unwrap_or}
 use Rattle.std.proofs.lemmas.Bool.{false≢true, cond_both, eqb-true, leb-true, le-leb, not-false, and_parts, and_from}
 use Rattle.sk_creds.specs.declared.errno.Errno.{Errno}
 use Rattle.sk_creds.specs.declared.errno.Errno.TheVariants.{Eperm, Esrch, Eacces, Einval}
@@ -12,7 +13,7 @@ use Rattle.sk_world.specs.Processes.{pids}
 use Rattle.sk_world.specs.World.{World, at, relinked, is_child_of, is_member_of}
 use Rattle.sk_world.specs.Rules.{IsWorld, has_links_within}
 use Rattle.sk_world.proofs.Stored.{kept_links}
-use Rattle.sk_session.specs.Sessions.{pid_named, session_of, has_executed, is_group, is_group_of_session, links_in_group, links_of_leader, put_into_group, regrouped}
+use Rattle.sk_session.specs.Sessions.{pid_named, session_of, has_executed, is_group, is_group_of_session, links_in_group, links_of_leader, may_move_child, may_join, may_regroup, put_into_group, regrouped}
 use Rattle.sk_session.specs.SessionLaws.{RegroupingKeepsRules, FoundingKeepsRules}
 
 -- the group of a process can be a pid
@@ -32,10 +33,6 @@ some_member w session group (k ∷ ks) rules any =
     ] refl any
 
 -- one of two tests holds
-either : (a b : Bool) → not (a || b) ≡ false → (a ≡ true) ⊎ (b ≡ true)
-either true b h = inl refl
-either false b h = inr (not-false b h)
-
 either_not : (a b : Bool) → (not a && not b) ≡ false → (a ≡ true) ⊎ (b ≡ true)
 either_not true b h = inl refl
 either_not false b h = inr (not-false b h)
@@ -57,21 +54,40 @@ kept_in_group w target group rules below =
       parent = refl;
     })
 
-kept_regrouped : (w : World) (caller target group : ℕ) → IsWorld w → IsTrue (is_some (at w caller)) → IfOk (regrouped w caller target group) IsWorld
-kept_regrouped w caller target group rules there =
-    let P : Result (Unit {0}) Errno → Type 0 = λ r. IfOk (put_into_group w target group r) IsWorld in
-    cond_both (not ((target == caller) || is_child_of caller (at w target))) (Err Esrch) _ P (λ _. tt) (λ known.
-    cond_both (not (target == caller) && not (session_of (at w target) == session_of (at w caller))) (Err Eperm) _ P (λ _. tt) (λ _.
-    cond_both (not (target == caller) && has_executed (at w target)) (Err Eacces) _ P (λ _. tt) (λ _.
+-- the group that the target may join can be a pid
+within_joined : (w : World) (caller target group : ℕ) → IsWorld w → IsTrue (is_some (at w target)) → IfOk (may_join w caller target group) (λ _. group ≤ LAST_PID)
+within_joined w caller target group rules there =
+    let P : Result (Unit {0}) Errno → Type 0 = λ r. IfOk r (λ _. group ≤ LAST_PID) in
     cond_both (session_of (at w target) == target) (Err Eperm) _ P (λ _. tt) (λ _.
     cond_both (not (group == target) && not (is_group_of_session w (session_of (at w caller)) group)) (Err Eperm) (Ok tt) P (λ _. tt) (λ lawful.
-    kept_in_group w target group rules (elim (either_not _ _ lawful) [
-      | inl own ↦ subst (λ n. n ≤ LAST_PID) (sym (eqb-true group target own)) (rules.pids target (elim (either _ _ known) [
-        | inl mine ↦ subst (λ k. IsTrue (is_some (at w k))) (sym (eqb-true target caller mine)) there
-        | inr child ↦ child_is_there caller (at w target) child
-      ])).1
+    elim (either_not _ _ lawful) [
+      | inl own ↦ subst (λ n. n ≤ LAST_PID) (sym (eqb-true group target own)) (rules.pids target there).1
       | inr member ↦ some_member w (session_of (at w caller)) group (pids w.procs) rules member
-    ]))))))
+    ]))
+
+-- so can the group that it may be put into
+pub within_regrouped : (w : World) (caller target group : ℕ) → IsWorld w → IsTrue (is_some (at w caller)) → IfOk (may_regroup w caller target group) (λ _. group ≤ LAST_PID)
+within_regrouped w caller target group rules there =
+    let join : Result (Unit {0}) Errno = may_join w caller target group in
+    let P : Result (Unit {0}) Errno → Type 0 = λ r. IfOk (result_and r join) (λ _. group ≤ LAST_PID) in
+    cond_both (target == caller) join (result_and (may_move_child w caller target) join) (λ r. IfOk r (λ _. group ≤ LAST_PID))
+    (λ mine. within_joined w caller target group rules (subst (λ k. IsTrue (is_some (at w k))) (sym (eqb-true target caller mine)) there))
+    (λ _. cond_both (not (is_child_of caller (at w target))) (Err Esrch) _ P (λ _. tt) (λ child.
+    cond_both (not (session_of (at w target) == session_of (at w caller))) (Err Eperm) _ P (λ _. tt) (λ _.
+    cond_both (has_executed (at w target)) (Err Eacces) (Ok tt) P (λ _. tt) (λ _.
+    within_joined w caller target group rules (child_is_there caller (at w target) (not-false _ child))))))
+
+kept_put : (w : World) (target group : ℕ) (r : Result (Unit {0}) Errno) → IsWorld w → IfOk r (λ _. group ≤ LAST_PID) → IfOk (put_into_group w target group r) IsWorld
+kept_put w target group (Ok x) rules below = kept_in_group w target group rules below
+kept_put w target group (Err e) rules below = tt
+
+pub kept_regrouped : (w : World) (caller target group : ℕ) → IsWorld w → IsTrue (is_some (at w caller)) → IfOk (regrouped w caller target group) IsWorld
+kept_regrouped w caller target group rules there = kept_put w target group (may_regroup w caller target group) rules (within_regrouped w caller target group rules there)
+
+-- what a call leaves has the rules
+pub kept_left : (w : World) (r : Result World Errno) → IsWorld w → IfOk r IsWorld → IsWorld (result_unwrap_or r w)
+kept_left w (Ok after) rules kept = kept
+kept_left w (Err e) rules kept = rules
 
 pub kept_setpgid : RegroupingKeepsRules
 kept_setpgid w caller pid group rules there =
@@ -84,11 +100,13 @@ leads pid parent below h = and_from _ _ (and_from _ _ h (le-leb pid LAST_PID bel
 within_parent : (parent group session : ℕ) → IsTrue (nat_le parent LAST_PID && nat_le group LAST_PID && nat_le session LAST_PID) → IsTrue (nat_le parent LAST_PID)
 within_parent parent group session h = (and_parts (nat_le parent LAST_PID) (nat_le group LAST_PID) (and_parts _ (nat_le session LAST_PID) h).0).0
 
+pub kept_leading : (w : World) (caller : ℕ) → IsWorld w → IsTrue (is_some (at w caller)) → IsWorld (relinked w caller (links_of_leader caller))
+kept_leading w caller rules there = kept_links w caller (links_of_leader caller) rules (λ p is. record {
+  within = leads caller p.links.parent (rules.pids caller there).1 (within_parent p.links.parent p.links.group p.links.session (ap has_links_within (sym is) ∙ rules.links caller));
+  parent = refl;
+})
+
 pub kept_setsid : FoundingKeepsRules
 kept_setsid w caller rules there =
     cond_both (is_group w caller) (Err Eperm) (Ok (relinked w caller (links_of_leader caller))) (λ r. IfOk r IsWorld)
-    (λ _. tt)
-    (λ _. kept_links w caller (links_of_leader caller) rules (λ p is. record {
-      within = leads caller p.links.parent (rules.pids caller there).1 (within_parent p.links.parent p.links.group p.links.session (ap has_links_within (sym is) ∙ rules.links caller));
-      parent = refl;
-    }))
+    (λ _. tt) (λ _. kept_leading w caller rules there)

@@ -1,2 +1,4 @@
 pub mod Sessions
+pub mod Orphans
 pub mod SessionLaws
+pub mod Ties

@@ -1,7 +1,8 @@
 -- Process groups and sessions: setpgid(2), setsid(2), getpgid(2), getsid(2) and credentials(7).
-use Rattle.std.specs.Prelude.{ℕ, zero, suc, ℤ, pos, negsuc, ◌==◌, Bool, false, not, ◌&&◌, ◌||◌, if◌then◌else◌, Option, Result, Ok, Err}
+use Rattle.std.specs.Prelude.{ℕ, zero, suc, ℤ, pos, negsuc, ◌==◌, Bool, false, not, ◌&&◌, if◌then◌else◌, Option, Result, Ok, Err}
 use Rattle.std.specs.Option.{is_some, option_map_or}
 use Rattle.std.specs.Int.{is_negative}
+use Rattle.std.specs.Result.{result_and}
 use Rattle.std.specs.List.{list_any}
 use Rattle.sk_creds.specs.declared.errno.Errno.{Errno}
 use Rattle.sk_creds.specs.declared.errno.Errno.TheVariants.{Eperm, Esrch, Eacces, Einval}
@@ -46,16 +47,27 @@ links_in_group group links = record links { group = group }
 abbrev pub links_of_leader : ℕ → Links → Links
 links_of_leader pid links = record links { group = pid; session = pid }
 
--- setpgid(2): the target is the caller, or a child of its session that has not executed another
--- program; it leads no session; and the group is its own, or one of the caller's session
-abbrev pub may_regroup : World → ℕ → ℕ → ℕ → Result (Unit {0}) Errno
-may_regroup w caller target group =
-    if not ((target == caller) || is_child_of caller (at w target)) then Err Esrch
-    else if not (target == caller) && not (session_of (at w target) == session_of (at w caller)) then Err Eperm
-    else if not (target == caller) && has_executed (at w target) then Err Eacces
-    else if session_of (at w target) == target then Err Eperm
+-- setpgid(2): a process is put into a group by its parent, of the same session, and only until it executes
+-- another program
+abbrev pub may_move_child : World → ℕ → ℕ → Result (Unit {0}) Errno
+may_move_child w caller child =
+    if not (is_child_of caller (at w child)) then Err Esrch
+    else if not (session_of (at w child) == session_of (at w caller)) then Err Eperm
+    else if has_executed (at w child) then Err Eacces
+    else Ok tt
+
+-- the target leads no session, and the group is its own, or one of the caller's session
+abbrev pub may_join : World → ℕ → ℕ → ℕ → Result (Unit {0}) Errno
+may_join w caller target group =
+    if session_of (at w target) == target then Err Eperm
     else if not (group == target) && not (is_group_of_session w (session_of (at w caller)) group) then Err Eperm
     else Ok tt
+
+-- the target is the caller or a child that it may move, and may join the group
+abbrev pub may_regroup : World → ℕ → ℕ → ℕ → Result (Unit {0}) Errno
+may_regroup w caller target group =
+    if target == caller then may_join w caller target group
+    else result_and (may_move_child w caller target) (may_join w caller target group)
 
 -- a process is put into a group, where it may be
 abbrev pub put_into_group : World → ℕ → ℕ → Result (Unit {0}) Errno → Result World Errno
@@ -86,3 +98,8 @@ group_asked w caller pid =
 abbrev pub session_asked : World → ℕ → ℤ → Result ℕ Errno
 session_asked w caller pid =
     if is_some (at w (pid_named caller pid)) then Ok (session_of (at w (pid_named caller pid))) else Err Esrch
+
+-- a call that has made another world answers this number, and one that is refused its error
+abbrev pub answered : ℕ → Result World Errno → Result ℕ Errno
+answered n (Ok after) = Ok n
+answered n (Err e) = Err e

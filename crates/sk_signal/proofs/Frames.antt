@@ -5,7 +5,7 @@ use Rattle.sk_signal.specs.Sets as set
 use Rattle.std.proofs.lemmas.Bool.Decides.{nat_tests}
 use Rattle.sk_signal.specs.SignalSet.{Signals, blockable}
 use Rattle.sk_signal.specs.SignalState.{AllBlockable}
-use Rattle.sk_signal.specs.StateView.{frames_of}
+use Rattle.sk_signal.specs.views.StateView.{frames_of}
 use Rattle.sk_signal.proofs.SetLaws.{sets}
 
 pub blockable_empty : AllBlockable set.empty []

@@ -3,3 +3,4 @@ pub mod SetLaws
 pub mod Frames
 pub mod Ready
 pub mod SignalLaws
+pub mod WorkedSignals

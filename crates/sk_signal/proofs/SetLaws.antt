@@ -4,7 +4,7 @@ use Rattle.std.specs.List.{find}
 use Rattle.std.specs.Option.{option_or}
 use Rattle.std.proofs.lemmas.List.Folds.{find-append}
 use Rattle.sk_signal.specs.Sets as set
-use Rattle.sk_signal.specs.Members.{same_set, contains-empty, contains-insert, contains-remove, contains-union, contains-difference}
+use Rattle.sk_signal.specs.views.Members.{same_set, contains-empty, contains-insert, contains-remove, contains-union, contains-difference}
 use Rattle.std.proofs.lemmas.Bool.Decides.{nat_tests, leb_tells}
 use Rattle.sk_signal.specs.SignalSet.{Signals, IsSignal, IsLeast, signals_to, lowest}
 

@@ -6,7 +6,7 @@ use Rattle.std.specs.Option.{option_or}
 use Rattle.sk_signal.specs.Sets as set
 use Rattle.std.proofs.lemmas.List.Folds.{find-append}
 use Rattle.std.proofs.lemmas.Bool.Decides.{nat_tests}
-use Rattle.sk_signal.specs.declared.number.TheConstants.{SIGKILL, SIGCONT}
+use Rattle.sk_signal.specs.declared.number.TheConstants.{SIGKILL, SIGCHLD, SIGCONT}
 use Rattle.sk_signal.specs.SignalSet.{Signals, IsSignal, signals_to, lowest}
 use Rattle.sk_signal.specs.Actions.{is_stop, is_handler, is_ignored}
 use Rattle.sk_signal.specs.SignalState.{SignalState, disposition_of}
@@ -65,6 +65,31 @@ unfolding by_tests left is_spared is_dropped
 generated_twice n init s =
     same_tests (is_spared n init s) (is_dropped n init s) (n == SIGCONT) (is_stop n) n init s
     ∙ by_tests_twice (is_spared n init s) (is_dropped n init s) (n == SIGCONT) (is_stop n) n s
+
+-- ---- SIGCHLD leaves nothing for SIGCONT to do
+with_chld : SignalState → SignalState
+with_chld s = record s { pending = set.insert s.pending SIGCHLD }
+
+-- where SIGCONT changes nothing, it changes nothing with SIGCHLD pending besides
+settled_with_chld : (spared dropped : Bool) (s : SignalState) → by_tests spared dropped true false SIGCONT s ≡ s → by_tests spared dropped true false SIGCONT (with_chld s) ≡ with_chld s
+unfolding by_tests left with_chld
+settled_with_chld true dropped s is = refl
+settled_with_chld false true s is = ap (λ p. record s { pending = p }) (same_members _ _ (λ q.
+    let here = ap (λ (x : SignalState). set.contains x.pending q) is in grind (arith, nat_tests, sets, here)))
+settled_with_chld false false s is = ap (λ p. record s { pending = p }) (same_members _ _ (λ q.
+    let here = ap (λ (x : SignalState). set.contains x.pending q) is in grind (arith, nat_tests, sets, here)))
+
+by_chld : (spared dropped : Bool) (s : SignalState) (P : SignalState → Type 0) → P s → P (with_chld s) → P (by_tests spared dropped false false SIGCHLD s)
+unfolding by_tests left with_chld
+by_chld true dropped s P same more = same
+by_chld false true s P same more = same
+by_chld false false s P same more = more
+
+pub settled_by_chld : (init : Bool) (s : SignalState) → generated SIGCONT init s ≡ s → generated SIGCONT init (generated SIGCHLD init s) ≡ generated SIGCHLD init s
+unfolding by_tests left is_spared is_dropped with_chld
+settled_by_chld init s is =
+    by_chld (is_spared SIGCHLD init s) (is_dropped SIGCHLD init s) s (λ t. generated SIGCONT init t ≡ t) is
+    (settled_with_chld (is_spared SIGCONT init s) (is_dropped SIGCONT init s) s is)
 
 -- ---- what is delivered
 found : (p : ℕ → Bool) (k t : ℕ) → find p (signals_to k) ≡ Some t → (1 ≤ t) × (t ≤ k) × (p t ≡ true)

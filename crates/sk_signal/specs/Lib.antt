@@ -1,11 +1,9 @@
 pub mod Sets
-pub mod Members
 pub mod SignalSet
-pub mod SignalBits
 pub mod Actions
 pub mod SignalState
-pub mod StateView
 pub mod Generation
 pub mod Delivery
 pub mod Signalling
-pub mod SignalNumbers
+pub mod views
+pub mod laws

@@ -1,7 +1,8 @@
 //! Laws on signals. No program calls these functions: the contract of each is the law.
 
-ghost use Rattle.sk_signal.specs.Members.{SetsAreTheirMembers};
-ghost use Rattle.sk_signal.specs.SignalNumbers.{SignalsHaveTheirNumbers, SixteenHandlersNest};
+ghost use Rattle.sk_signal.specs.laws.SetMembers.{SetsAreTheirMembers};
+ghost use Rattle.sk_signal.specs.laws.WorkedSignals.{WorkedActions, WorkedGeneration, WorkedDelivery, WorkedCalls};
+ghost use Rattle.sk_signal.specs.laws.SignalNumbers.{SignalsHaveTheirNumbers, SixteenHandlersNest};
 
 /// Each name has its number of signal(7).
 #[tactic(auto, unfolding(crate::specs::SignalSet::signals_to))]
@@ -17,4 +18,12 @@ pub fn sixteen_handlers_nest()
 /// A set is what its members are, and each operation gives the members that it says.
 pub fn sets_are_their_members()
     ensures members { SetsAreTheirMembers }
+{}
+
+/// The definitions give what was worked out by hand.
+pub fn worked_signals()
+    ensures actions { WorkedActions }
+    ensures generation { WorkedGeneration }
+    ensures delivery { WorkedDelivery }
+    ensures calls { WorkedCalls }
 {}

@@ -92,7 +92,7 @@ impl Model for SigSet {
     ghost coded = { set.code };
 
     ghost use Rattle.sk_signal.specs.SignalSet.{signals_of, number_of};
-    ghost use Rattle.sk_signal.specs.SignalBits.{number_of-signals_of};
+    ghost use Rattle.sk_signal.specs.views.SignalBits.{number_of-signals_of};
 
     ghost view = { λ s. signals_of s.flags.0 };
 

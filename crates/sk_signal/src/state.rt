@@ -34,7 +34,7 @@ pub struct SigState {
 impl Model for SigState {
     ghost use Rattle.std.specs.Prelude.{◌≤◌};
     ghost use Rattle.sk_signal.specs.SignalState.{SignalState, AllBlockable};
-    ghost use Rattle.sk_signal.specs.StateView.{state_code, frames_of};
+    ghost use Rattle.sk_signal.specs.views.StateView.{state_code, frames_of};
     ghost use Rattle.sk_signal.specs.declared.state.TheConstants.{FRAMES};
 
     ghost Value = { SignalState };

@@ -8,7 +8,7 @@ mod scan;
 pub use list_store::ListStore;
 pub use sk_world::{
     Body, INIT, LAST_PID, Life, Links, Note, PROCESSES, Poll, Proc, ProcStore, Request,
-    WaitOptions, Waiting, Who, end, fork, laws, reap, reparent, send, wait_poll,
+    WaitOptions, Waiting, Who, end, fork, laws, ready, reap, reaper, reparent, send, wait_poll,
 };
 
 #[cfg(test)]

@@ -13,7 +13,7 @@ pub struct ListStore {
 
 impl Model for ListStore {
     ghost use Rattle.sk_world.specs.World.{World};
-    ghost use Rattle.sk_world.specs.WorldCode.{world_code};
+    ghost use Rattle.sk_world.specs.views.WorldCode.{world_code};
 
     ghost Value = { World };
 

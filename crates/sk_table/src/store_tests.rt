@@ -5,7 +5,7 @@ ghost use Rattle.sk_world.specs.Rules.{IsWorld};
 
 use crate::{
     Body, INIT, Life, ListStore, Note, Poll, ProcStore, Request, WaitOptions, Who, end, fork, laws,
-    reap, reparent, send, wait_poll,
+    ready, reap, reaper, reparent, send, wait_poll,
 };
 use sk_signal::number::{SIGCHLD, SIGCONT, SIGTERM, SIGTSTP};
 use sk_signal::{Disposition, SigSet};
@@ -83,6 +83,22 @@ fn stop_body(body: &mut Body, signal: u8)
     }
 }
 
+/// Makes a process a subreaper, or no longer one.
+fn mark(store: &mut ListStore, pid: u32, subreaper: bool)
+    requires { IsWorld store.old }
+    ensures { IsWorld store.new }
+{
+    if let Some(body) = store.body_mut(pid) {
+        mark_body(body, subreaper);
+    }
+}
+
+fn mark_body(body: &mut Body, subreaper: bool)
+    ensures { body.new.life ≡ body.old.life }
+{
+    body.subreaper = subreaper;
+}
+
 /// Says what a process does on SIGCHLD, and whether it blocks it.
 fn on_sigchld(store: &mut ListStore, pid: u32, disposition: Disposition, is_blocked: bool)
     requires { IsWorld store.old }
@@ -108,6 +124,10 @@ fn life(store: &ListStore, pid: u32) -> Option<Life> {
 
 fn parent(store: &ListStore, pid: u32) -> Option<u32> {
     store.get(pid).map(|process| process.links.parent)
+}
+
+fn is_subreaper(store: &ListStore, pid: u32) -> Option<bool> {
+    store.get(pid).map(|process| process.body.subreaper)
 }
 
 fn note(store: &ListStore, pid: u32) -> Option<Note> {
@@ -233,6 +253,63 @@ fn handed_on_zombie_is_announced_to_process_1(rt: HostRuntime) -> Result<(), Fai
         wait_of(&rt, &mut store, INIT, Who::Any, WaitOptions::WNOHANG),
         Poll::Told { pid: 3, status: 9 }
     );
+    Ok(())
+}
+
+#[test]
+fn orphans_go_to_the_nearest_subreaper(rt: HostRuntime) -> Result<(), Fail> {
+    let mut store = opening(rt.alloc())?;
+    fork_of(&rt, &mut store, INIT)?;
+    mark(&mut store, 2, true);
+    fork_of(&rt, &mut store, 2)?;
+    assert_eq!(rt;
+        (is_subreaper(&store, 2), is_subreaper(&store, 3)),
+        (Some(true), Some(false))
+    );
+    mark(&mut store, 3, true);
+    fork_of(&rt, &mut store, 3)?;
+    fork_of(&rt, &mut store, 4)?;
+    assert_eq!(rt;
+        (
+            reaper(&store, 5),
+            reaper(&store, 4),
+            reaper(&store, 3),
+            reaper(&store, 2)
+        ),
+        (3, 3, 2, INIT)
+    );
+    end_of(&rt, &mut store, 4, 0);
+    assert_eq!(rt; parent(&store, 5), Some(3));
+    end_of(&rt, &mut store, 3, 0);
+    assert_eq!(rt; parent(&store, 5), Some(2));
+    mark(&mut store, 2, false);
+    assert_eq!(rt; parent(&store, 5), Some(2));
+    end_of(&rt, &mut store, 2, 0);
+    assert_eq!(rt; parent(&store, 5), Some(INIT));
+    Ok(())
+}
+
+#[test]
+fn zombie_is_announced_to_the_subreaper(rt: HostRuntime) -> Result<(), Fail> {
+    let mut store = opening(rt.alloc())?;
+    for pid in [INIT, 2, 3, 4] {
+        fork_of(&rt, &mut store, pid)?;
+    }
+    mark(&mut store, 2, true);
+    on_sigchld(&mut store, INIT, handler(), false);
+    on_sigchld(&mut store, 2, handler(), false);
+    end_of(&rt, &mut store, 5, 9);
+    end_of(&rt, &mut store, 4, 0);
+    assert_eq!(rt; pending(&store, INIT), Some(SigSet::empty()));
+    assert_eq!(rt; pending(&store, 2), Some(SigSet::empty().with(SIGCHLD)));
+    let asked = Request {
+        who: Who::Any,
+        options: WaitOptions::WNOHANG,
+    };
+    if store.get(2).is_some() {
+        assert_eq!(rt; ready(&store, 2, &asked), Poll::Told { pid: 5, status: 9 });
+    }
+    assert_eq!(rt; life(&store, 5), Some(Life::Zombie(9)));
     Ok(())
 }
 

@@ -1,17 +1,16 @@
 -- The next free number is free, and a pid.
-use Rattle.std.proofs.Common.{◌≡◌, ◌≢◌, ◌∙◌, ◌+◌, ◌-◌, ◌*◌, ◌<◌, ◌≤◌, ◌==◌, ℕ, zero, suc, arith, ap, sym, refl, Bool, true, false, cond, ◌||◌, List, [], ◌∷◌, length, None, Some}
+use Rattle.std.proofs.Common.{◌≡◌, ◌≢◌, ◌∙◌, ◌+◌, ◌-◌, ◌*◌, ◌<◌, ◌≤◌, ◌==◌, ℕ, zero, suc, arith, ap, sym, refl, Bool, true, false, cond, ◌||◌, List, [], ◌∷◌, length, ⊎_elim, None, Some}
 use Rattle.std.specs.Prelude.{nat_le}
 use Rattle.std.specs.List.{list_any}
 use Rattle.std.specs.Ordering.{nat_cmp}
 use Rattle.std.specs.FinMap.Entries.{find}
-use Rattle.std.proofs.lemmas.Bool.{eqb-true}
+use Rattle.std.proofs.lemmas.Bool.{false≢true, eqb-true, cases_lt}
 use Rattle.std.proofs.lemmas.Bool.Decides.{nat_tests}
 use Rattle.sk_world.specs.declared.process.TheConstants.{LAST_PID, PROCESSES}
 use Rattle.sk_world.specs.declared.process.Proc.{Proc}
 use Rattle.sk_world.specs.Processes.{count}
 use Rattle.sk_world.specs.World.{World, at}
-use Rattle.sk_world.specs.Numbers.{has_number, is_used, next_number, distance_from, free_from, fresh_of}
-use Rattle.sk_world.specs.ChangeLaws.{NumberIsNext}
+use Rattle.sk_world.specs.Numbers.{has_number, is_used, next_number, distance_from, IsNextFree, free_from, fresh_of}
 use Rattle.sk_world.proofs.Maps.{same_number}
 
 -- ---- a short list leaves a number out
@@ -191,10 +190,33 @@ pub fresh_absent : (w : World) → count w.procs < PROCESSES → 1 ≤ w.last �
 fresh_absent w room given = find_unused (fresh_of w) w.procs.entries (fresh_unused w room given)
 
 -- every number on the way to it is used
-pub number_next : NumberIsNext
+pub number_next : (w : World) (n : ℕ) → 1 ≤ w.last → w.last ≤ LAST_PID → 2 ≤ n → n ≤ LAST_PID → distance_from w.last n < distance_from w.last (fresh_of w)
+    → is_used w n ≡ true
 unfolding fresh_of
 number_next w n l1 ll n2 nl before =
     let next = next_in_range w.last l1 in
     let fresh = fresh_in_range w l1 in
     passed (LAST_PID - 1) w (next_number w.last) n next.0 next.1 n2 nl
     (omega (arith, before, from_next w.last n l1 ll n2 nl, from_next w.last (fresh_of w) l1 ll fresh.0 fresh.1))
+
+-- so it is the next free number
+pub fresh_is_next : (w : World) → count w.procs < PROCESSES → 1 ≤ w.last → w.last ≤ LAST_PID → IsNextFree w (fresh_of w)
+fresh_is_next w room given within = record {
+  number = fresh_in_range w given;
+  free = fresh_unused w room given;
+  passed = λ n low high nearer. number_next w n given within low high nearer;
+}
+
+-- numbers as far on are the same
+same_distance : (last m n : ℕ) → 1 ≤ last → last ≤ LAST_PID → 2 ≤ m → m ≤ LAST_PID → 2 ≤ n → n ≤ LAST_PID → distance_from last m ≡ distance_from last n → m ≡ n
+same_distance last m n l1 ll m2 ml n2 nl is = grind (arith, nat_tests, l1, ll, m2, ml, n2, nl, is)
+
+-- and no other number is
+pub next_is_unique : (w : World) (m n : ℕ) → 1 ≤ w.last → w.last ≤ LAST_PID → IsNextFree w m → IsNextFree w n → m ≡ n
+next_is_unique w m n l1 ll one other = ⊎_elim
+    (λ nearer. absurd (false≢true (sym one.free ∙ other.passed m one.number.0 one.number.1 nearer)))
+    (λ no_nearer. ⊎_elim
+    (λ farther. absurd (false≢true (sym other.free ∙ one.passed n other.number.0 other.number.1 farther)))
+    (λ no_farther. same_distance w.last m n l1 ll one.number.0 one.number.1 other.number.0 other.number.1 (omega arith))
+    (cases_lt (distance_from w.last n) (distance_from w.last m)))
+    (cases_lt (distance_from w.last m) (distance_from w.last n))

@@ -14,7 +14,7 @@ use Rattle.sk_world.specs.Processes.{none}
 use Rattle.sk_world.specs.World.{World, at, has_ended, has_stopped, is_stopped, is_alive, parent_of, first_process, opening}
 use Rattle.sk_world.specs.Rules.{IsWorld, has_links_within}
 use Rattle.sk_world.specs.Sending.{continued, signalled, generated_at}
-use Rattle.sk_world.specs.WorldLaws.{OpeningHasRules, SignalKeepsRules, ForceKeepsRules}
+use Rattle.sk_world.specs.laws.WorldLaws.{OpeningHasRules, SignalKeepsRules, ForceKeepsRules}
 use Rattle.sk_world.proofs.Stored.{everywhere, kept_changed}
 
 -- process 1 alone

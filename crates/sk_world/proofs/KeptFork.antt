@@ -9,7 +9,7 @@ use Rattle.sk_world.specs.World.{World, at, is_zombie, is_alive, parent_of, stor
 use Rattle.sk_world.specs.Rules.{IsWorld, is_init, is_within, has_links_within}
 use Rattle.sk_world.specs.Numbers.{fresh_of}
 use Rattle.sk_world.specs.Forking.{has_room, child_of}
-use Rattle.sk_world.specs.WorldLaws.{ForkKeepsRules}
+use Rattle.sk_world.specs.laws.WorldLaws.{ForkKeepsRules}
 use Rattle.sk_world.proofs.Maps.{count_put}
 use Rattle.sk_world.proofs.Fresh.{fresh_in_range, fresh_absent}
 use Rattle.sk_world.proofs.Stored.{everywhere, at_other}

@@ -1,5 +1,5 @@
 -- What wait4(2) tells keeps the rules of the world.
-use Rattle.std.proofs.Common.{◌≡◌, ◌≢◌, ◌∙◌, ◌==◌, ℕ, arith, ap, sym, refl, Bool, true, false, cond, IsTrue, List, [], ◌∷◌, Option, None, Some}
+use Rattle.std.proofs.Common.{◌≡◌, ◌≢◌, ◌∙◌, ◌==◌, ℕ, arith, ap, sym, refl, subst, Bool, true, false, cond, IsTrue, List, [], ◌∷◌, Option, None, Some}
 use Rattle.std.specs.Option.{is_some, option_map_or, unwrap_or}
 use Rattle.std.specs.List.{find}
 use Rattle.std.proofs.lemmas.Bool.{false≢true, eqb-true, and_parts, cond_both}
@@ -11,8 +11,9 @@ use Rattle.sk_world.specs.Processes.{pids}
 use Rattle.sk_world.specs.World.{World, at, is_zombie, parent_of, stored, changed}
 use Rattle.sk_world.specs.Rules.{IsWorld, is_init}
 use Rattle.sk_world.specs.Waits.{is_asked_for, is_match, is_ready, has_match, status_of, without_note, told}
-use Rattle.sk_world.specs.WorldLaws.{ToldKeepsRules}
+use Rattle.sk_world.specs.laws.WorldLaws.{ToldKeepsRules}
 use Rattle.sk_world.proofs.Stored.{kept_changed, kept_removed}
+use Rattle.sk_world.proofs.Tidings.{by_first, ready_first}
 
 -- what a search finds passes the test
 pub found : (p : ℕ → Bool) (xs : List ℕ) (n : ℕ) → find p xs ≡ Some n → IsTrue (p n)
@@ -28,7 +29,7 @@ pub match_parent : (caller : ℕ) (request : Request) (pid : ℕ) (o : Option Pr
 match_parent caller request pid None is = absurd (false≢true is)
 match_parent caller request pid (Some p) is = eqb-true p.links.parent caller (and_parts (p.links.parent == caller) (is_asked_for request.who pid p) is).0
 
-no_parent : (o : Option Proc) → IsTrue (is_init o) → parent_of o ≡ 0
+pub no_parent : (o : Option Proc) → IsTrue (is_init o) → parent_of o ≡ 0
 no_parent None init = refl
 no_parent (Some p) init = eqb-true p.links.parent 0 (and_parts (p.links.parent == 0) _ init).0
 
@@ -53,4 +54,6 @@ kept_answer w caller request (Some pid) is rules alive =
     kept_telling w pid (unwrap_or (status_of request.options (at w pid)) 0) rules (not_init w caller request pid rules alive (and_parts (is_match caller request pid (at w pid)) _ ready).0)
 
 pub kept_told : ToldKeepsRules
-kept_told w caller request rules alive = kept_answer w caller request _ refl rules alive
+unfolding by_first
+kept_told w caller request rules alive =
+    subst (λ poll. IsWorld (told w poll)) (sym (ready_first w caller request)) (kept_answer w caller request (find (is_ready w caller request) (pids w.procs)) refl rules alive)

@@ -4,14 +4,12 @@ pub mod Children
 pub mod Stored
 pub mod Kept
 pub mod KeptFork
+pub mod Ancestors
 pub mod KeptEnd
+pub mod Tidings
 pub mod KeptTold
-pub mod Locality
 pub mod Telling
-pub mod Numbering
-pub mod Rights
-pub mod WorkedWorlds
-pub mod Handing
 pub mod Bodies
 pub mod Partly
 pub mod Polling
+pub mod Walks

@@ -8,7 +8,7 @@ use Rattle.std.specs.FinMap.Entries.{find, where_key, find-put, find-where_key, 
 use Rattle.std.proofs.lemmas.Bool.Decides.{nat_tests}
 use Rattle.sk_world.specs.declared.process.Proc.{Proc}
 use Rattle.sk_world.specs.Processes.{Processes, get, count, store, each_of, each}
-use Rattle.sk_world.specs.WorldCode.{same_processes}
+use Rattle.sk_world.specs.views.WorldCode.{same_processes}
 
 pub same_number : (a b : ℕ) → eq_by_cmp nat_cmp a b ≡ (a == b)
 same_number a b = grind (arith, nat_tests)

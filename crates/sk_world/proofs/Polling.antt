@@ -10,6 +10,7 @@ use Rattle.sk_world.specs.declared.request.Poll.TheVariants.{Told, NoMatch, NotR
 use Rattle.sk_world.specs.Processes.{pids}
 use Rattle.sk_world.specs.World.{World, at, is_child_of}
 use Rattle.sk_world.specs.Waits.{is_asked_for, is_match, is_ready, has_match, ready_of, status_of}
+use Rattle.sk_world.proofs.Tidings.{by_first, ready_first}
 use Rattle.sk_world.proofs.Telling.{ready_lowest, no_match, not_ready}
 
 -- what is told of a child
@@ -26,12 +27,12 @@ by_search : (w : World) (caller : ℕ) (request : Request) (P : Poll → Type 0)
     → (ready_of w caller request ≡ NotReady → P NotReady)
     → (ready_of w caller request ≡ NoMatch → P NoMatch)
     → P (ready_of w caller request)
-unfolding is_told answer
-by_search w caller request P found waits none =
+unfolding is_told answer by_first
+by_search w caller request P found waits none = subst P (sym (ready_first w caller request)) (
     elim (find (is_ready w caller request) (pids w.procs)) as (λ o. ready_of w caller request ≡ answer w caller request o → P (answer w caller request o)) [
       | Some pid ↦ λ is. found pid is
       | None ↦ elim (has_match w caller request) as (λ b. ready_of w caller request ≡ cond b NotReady NoMatch → P (cond b NotReady NoMatch)) [ true ↦ waits | false ↦ none ]
-    ] refl
+    ] (ready_first w caller request))
 
 -- a child that matches and has a status to tell is ready
 ready_by : (w : World) (caller : ℕ) (request : Request) (pid status : ℕ) → status_of request.options (at w pid) ≡ Some status → IsTrue (is_match caller request pid (at w pid)) → IsTrue (is_ready w caller request pid)

@@ -9,7 +9,7 @@ use Rattle.sk_world.specs.declared.process.Proc.{Proc}
 use Rattle.sk_world.specs.Processes.{count, store}
 use Rattle.sk_world.specs.World.{World, at, has_ended, has_stopped, is_zombie, is_alive, is_halted, parent_of, stored, body_changed, changed, links_changed}
 use Rattle.sk_world.specs.Rules.{IsWorld, is_init, has_links_within}
-use Rattle.sk_world.specs.WorldLaws.{KeepsGoing, Regroups, ChangeKeepsRules, LinksKeepRules, RemovalKeepsRules}
+use Rattle.sk_world.specs.laws.WorldLaws.{KeepsGoing, Regroups, ChangeKeepsRules, LinksKeepRules, RemovalKeepsRules}
 use Rattle.sk_world.proofs.Maps.{get_store, count_put, count_gone}
 
 -- what holds of the process that is put at a pid, and of every other, holds of each

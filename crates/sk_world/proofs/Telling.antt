@@ -1,5 +1,5 @@
 -- Whom wait4(2) tells of.
-use Rattle.std.proofs.Common.{◌≡◌, ◌∙◌, ◌<◌, ◌≤◌, ◌==◌, ℕ, arith, ap, sym, refl, subst, Bool, true, false, cond, ◌&&◌, ◌||◌, IsTrue, List, [], ◌∷◌, map, Option, None, Some}
+use Rattle.std.proofs.Common.{◌≡◌, ◌≢◌, ◌∙◌, ◌<◌, ◌≤◌, ◌==◌, ℕ, arith, ap, sym, refl, subst, Bool, true, false, cond, ◌&&◌, ◌||◌, IsTrue, IsFalse, List, [], ◌∷◌, map, Option, None, Some}
 use Rattle.std.specs.Prelude.{T, nat_lt}
 use Rattle.std.specs.declared.cmp.Ordering.TheVariants.{Less, Equal, Greater}
 use Rattle.std.specs.Option.{is_some, option_map_or, unwrap_or}
@@ -14,9 +14,9 @@ use Rattle.sk_world.specs.declared.request.Poll.TheVariants.{Told, NoMatch, NotR
 use Rattle.sk_world.specs.Processes.{pids}
 use Rattle.sk_world.specs.World.{World, at, is_zombie, stored, changed}
 use Rattle.sk_world.specs.Waits.{is_match, is_ready, has_match, ready_of, status_of, without_note, told}
-use Rattle.sk_world.specs.ChangeLaws.{ReadyIsLowest, NoMatchHasNone, NotReadyHasMatch, ZombieIsToldOnce}
 use Rattle.sk_world.proofs.Maps.{same_number}
 use Rattle.sk_world.proofs.Stored.{at_here}
+use Rattle.sk_world.proofs.Tidings.{by_first, ready_first}
 use Rattle.sk_world.proofs.KeptTold.{found}
 
 told_pid : Poll → Option ℕ
@@ -32,10 +32,10 @@ answered None status false = refl
 answered (Some pid) status b = refl
 
 searched : (w : World) (caller : ℕ) (request : Request) (pid status : ℕ) → ready_of w caller request ≡ Told pid status → first (is_ready w caller request) (pids w.procs) ≡ Some pid
-unfolding told_pid
+unfolding told_pid by_first
 searched w caller request pid status is =
     sym (answered (first (is_ready w caller request) (pids w.procs)) (λ pid. unwrap_or (status_of request.options (at w pid)) 0) (has_match w caller request))
-    ∙ ap told_pid is
+    ∙ ap told_pid (sym (ready_first w caller request) ∙ is)
 
 parts : (a b : Bool) → T (a && b) → T a × T b
 parts true b h = (tt, h)
@@ -59,7 +59,7 @@ below_rest x (e ∷ es) h q there =
     ] refl (ap (λ b. is_some (cond b (Some e.1) (find nat_cmp q es))) (sym (same_number q e.0)) ∙ there)
 
 -- the first pid of a rising list that passes is the least
-least_found : (p : ℕ → Bool) (es : List (ℕ × Proc)) → T (is_sorted nat_cmp es) → (pid : ℕ) → first p (map (λ e. e.0) es) ≡ Some pid
+pub least_found : (p : ℕ → Bool) (es : List (ℕ × Proc)) → T (is_sorted nat_cmp es) → (pid : ℕ) → first p (map (λ e. e.0) es) ≡ Some pid
     → (other : ℕ) → p other ≡ true → IsTrue (is_some (find nat_cmp other es)) → pid ≤ other
 least_found p [] rising pid is other passes there = absurd (false≢true there)
 least_found p (e ∷ es) rising pid is other passes there =
@@ -96,12 +96,14 @@ its_status None status there is = absurd (false≢true there)
 its_status (Some n) status there is = ap Some is
 
 status_told : (w : World) (caller : ℕ) (request : Request) (pid status : ℕ) → ready_of w caller request ≡ Told pid status → unwrap_or (status_of request.options (at w pid)) 0 ≡ status
-unfolding told_status
+unfolding told_status by_first
 status_told w caller request pid status is =
     sym (ap (λ o. told_status (option_map_or (λ pid. Told pid (unwrap_or (status_of request.options (at w pid)) 0)) o (cond (has_match w caller request) NotReady NoMatch))) (searched w caller request pid status is))
-    ∙ ap told_status is
+    ∙ ap told_status (sym (ready_first w caller request) ∙ is)
 
-pub ready_lowest : ReadyIsLowest
+-- it is the lowest child that is ready
+pub ready_lowest : (w : World) (caller : ℕ) (request : Request) (pid status : ℕ) → ready_of w caller request ≡ Told pid status
+    → IsTrue (is_ready w caller request pid) × (status_of request.options (at w pid) ≡ Some status) × ((other : ℕ) → IsTrue (is_ready w caller request other) → pid ≤ other)
 ready_lowest w caller request pid status is =
     let search = searched w caller request pid status is in
     let ready = found (is_ready w caller request) (pids w.procs) pid search in (
@@ -125,7 +127,7 @@ none_found p (e ∷ es) is q there =
           ] refl (ap (λ b. is_some (cond b (Some e.1) (find nat_cmp q es))) (sym (same_number q e.0)) ∙ there)
     ] refl is
 
-some_passes : (p : ℕ → Bool) (xs : List ℕ) → list_any p xs ≡ true → (q : ℕ) × IsTrue (p q)
+pub some_passes : (p : ℕ → Bool) (xs : List ℕ) → list_any p xs ≡ true → (q : ℕ) × IsTrue (p q)
 some_passes p [] any = absurd (false≢true any)
 some_passes p (x ∷ xs) any =
     elim (p x) as (λ b. p x ≡ b → (b || list_any p xs) ≡ true → (q : ℕ) × IsTrue (p q)) [
@@ -156,14 +158,15 @@ answered_match status false = refl
 -- what the search and the test come to where nobody is told of
 unanswered : (w : World) (caller : ℕ) (request : Request) (poll : Poll) → ready_of w caller request ≡ poll → told_pid poll ≡ None
     → (first (is_ready w caller request) (pids w.procs) ≡ None) × (has_match w caller request ≡ says_match poll)
+unfolding by_first
 unanswered w caller request poll is nobody =
     let status : ℕ → ℕ = λ pid. unwrap_or (status_of request.options (at w pid)) 0 in
     let search : Option ℕ = first (is_ready w caller request) (pids w.procs) in
-    let none : search ≡ None = sym (answered search status (has_match w caller request)) ∙ ap told_pid is ∙ nobody in (
+    let none : search ≡ None = sym (answered search status (has_match w caller request)) ∙ ap told_pid (sym (ready_first w caller request) ∙ is) ∙ nobody in (
       none,
       sym (ap (λ o. says_match (option_map_or (λ pid. Told pid (status pid)) o (cond (has_match w caller request) NotReady NoMatch))) none
           ∙ answered_match status (has_match w caller request))
-          ∙ ap says_match is,
+          ∙ ap says_match (sym (ready_first w caller request) ∙ is),
     )
 
 matches_nobody : (w : World) (caller : ℕ) (request : Request) → has_match w caller request ≡ false → (pid : ℕ) → is_match caller request pid (at w pid) ≡ false
@@ -171,11 +174,14 @@ matches_nobody w caller request none pid =
     false_from_ne_true (is_match caller request pid (at w pid)) (λ match.
     false≢true (sym (none_passes (λ pid. is_match caller request pid (at w pid)) w.procs.entries none pid (match_is_there caller request pid (at w pid) match)) ∙ match))
 
-pub no_match : NoMatchHasNone
+-- no child matches
+pub no_match : (w : World) (caller : ℕ) (request : Request) → ready_of w caller request ≡ NoMatch → (pid : ℕ) → IsFalse (is_match caller request pid (at w pid))
 unfolding told_pid says_match
 no_match w caller request is = matches_nobody w caller request (unanswered w caller request NoMatch is refl).1
 
-pub not_ready : NotReadyHasMatch
+-- a child matches, and none is ready
+pub not_ready : (w : World) (caller : ℕ) (request : Request) → ready_of w caller request ≡ NotReady
+    → ((pid : ℕ) × IsTrue (is_match caller request pid (at w pid))) × ((pid : ℕ) → IsFalse (is_ready w caller request pid))
 unfolding told_pid says_match
 not_ready w caller request is =
     let facts = unanswered w caller request NotReady is refl in (
@@ -190,7 +196,9 @@ not_ready w caller request is =
 gone : (w : World) (pid status : ℕ) → IsTrue (is_zombie (at w pid)) → at (told w (Told pid status)) pid ≡ None
 gone w pid status zombie = ap (λ b. at (cond b (stored w pid None) (changed w pid without_note)) pid) zombie ∙ at_here w pid None
 
-pub told_once : ZombieIsToldOnce
+-- a zombie that was told of is not told of again
+pub told_once : (w : World) (pid status : ℕ) → IsTrue (is_zombie (at w pid)) → (caller : ℕ) (request : Request) (again : ℕ)
+    → ready_of (told w (Told pid status)) caller request ≢ Told pid again
 told_once w pid status zombie caller request again is =
     let after : World = told w (Told pid status) in
     let ready = found (is_ready after caller request) (pids after.procs) pid (searched after caller request pid again is) in

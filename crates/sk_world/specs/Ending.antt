@@ -14,22 +14,19 @@ use Rattle.sk_world.specs.declared.process.Body.{Body}
 use Rattle.sk_world.specs.declared.process.Proc.{Proc}
 use Rattle.sk_world.specs.Processes.{pids, each}
 use Rattle.sk_world.specs.World.{World, at, has_ended, is_zombie, is_child_of, parent_of, stored, changed}
+use Rattle.sk_world.specs.Subreapers.{new_parent}
 use Rattle.sk_world.specs.Sending.{sent}
-
--- who the children of an ending process are handed to: process 1
-abbrev pub new_parent : World → ℕ → ℕ
-new_parent w pid = INIT
 
 -- the process ignores SIGCHLD, so its children leave no zombies: wait(2), "Notes"
 abbrev pub ignores_children : Option Proc → Bool
 ignores_children o = option_map_or (λ p. is_ignore (disposition_of p.body.signals SIGCHLD)) o false
 
 -- a process after `dying` has ended: its children are the new parent's, and of these a zombie goes
--- where the new parent leaves none
+-- where the new parent removes it
 abbrev pub handed_on : ℕ → ℕ → Bool → Proc → Option Proc
-handed_on dying parent leaves_none p =
+handed_on dying parent removes p =
     if not (p.links.parent == dying) then Some p
-    else if leaves_none && has_ended p.body.life then None
+    else if removes && has_ended p.body.life then None
     else Some (record p { links = record p.links { parent = parent } })
 
 -- the children of a process are handed on
@@ -60,8 +57,8 @@ zombie status body = record body {
 
 -- a process without children ends. It goes where its parent ignores SIGCHLD. Else it is a zombie, and
 -- its parent gets SIGCHLD
-abbrev pub died : World → ℕ → ℕ → World
-died w pid status =
+abbrev pub left_to_parent : World → ℕ → ℕ → World
+left_to_parent w pid status =
     if ignores_children (at w (parent_of (at w pid))) then stored w pid None
     else sent (changed w pid (zombie status)) (parent_of (at w pid)) SIGCHLD
 
@@ -70,4 +67,4 @@ died w pid status =
 abbrev pub ended : World → ℕ → ℕ → World
 ended w pid status =
     if pid == INIT then changed w INIT (λ body. record body { life = Zombie status })
-    else died (reparented w pid) pid status
+    else left_to_parent (reparented w pid) pid status

@@ -15,12 +15,15 @@ use Rattle.sk_world.specs.World.{World, at, inserted}
 use Rattle.sk_world.specs.Numbers.{fresh_of}
 
 -- what the child has: the ids, no_new_privs, the filters, the mask, the dispositions and the frames of
--- the one that forks, and no pending signal
+-- the one that forks, and no pending signal. It is no subreaper: prctl(2), PR_SET_CHILD_SUBREAPER
 abbrev pub child_body : Body → Body
-child_body body = record body {
+child_body body = record {
   life = Running;
+  creds = body.creds;
+  chain = body.chain;
   signals = signals_forked body.signals;
   executed = false;
+  subreaper = false;
   waiting = waiting.Nothing;
   note = note.Nothing;
 }

@@ -1,12 +1,11 @@
 pub mod Processes
 pub mod World
-pub mod WorldCode
 pub mod Rules
 pub mod Sending
 pub mod Numbers
 pub mod Forking
+pub mod Subreapers
 pub mod Ending
 pub mod Waits
-pub mod WorldLaws
-pub mod ChangeLaws
-pub mod WorkedWorlds
+pub mod views
+pub mod laws

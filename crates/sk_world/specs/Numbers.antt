@@ -1,6 +1,6 @@
 -- The numbers that processes, groups and sessions have, and the next one that is free: fork(2),
 -- credentials(7).
-use Rattle.std.specs.Prelude.{ℕ, zero, suc, ◌+◌, ◌-◌, ◌==◌, Bool, ◌||◌, nat_lt, if◌then◌else◌}
+use Rattle.std.specs.Prelude.{ℕ, zero, suc, ◌+◌, ◌-◌, ◌<◌, ◌≤◌, ◌==◌, Bool, ◌||◌, nat_lt, IsTrue, IsFalse, if◌then◌else◌}
 use Rattle.std.specs.List.{list_any}
 use Rattle.sk_world.specs.declared.process.TheConstants.{LAST_PID}
 use Rattle.sk_world.specs.declared.process.Proc.{Proc}
@@ -21,6 +21,12 @@ next_number n = if nat_lt n LAST_PID then n + 1 else 2
 -- how many numbers on from `last` a number comes, as they go round: the next one is 1 on
 abbrev pub distance_from : ℕ → ℕ → ℕ
 distance_from last n = if nat_lt last n then n - last else n + (LAST_PID - 1) - last
+
+-- n is the next free number: nobody has it, and each number nearer on from the last one given is used
+pub record IsNextFree (w : World) (n : ℕ) : Type 0 where
+  pub number : (2 ≤ n) × (n ≤ LAST_PID)
+  pub free : IsFalse (is_used w n)
+  pub passed : (nearer : ℕ) → 2 ≤ nearer → nearer ≤ LAST_PID → distance_from w.last nearer < distance_from w.last n → IsTrue (is_used w nearer)
 
 -- the first number that nobody has, from n on, where at most so many are asked
 abbrev pub free_from : ℕ → World → ℕ → ℕ

@@ -1,6 +1,6 @@
 -- How a signal is sent to a process: kill(2), signal(7), and POSIX.1-2017, 2.4.1 "Signal Generation and
 -- Delivery"; and how SIGSYS is forced on one: seccomp(2).
-use Rattle.std.specs.Prelude.{ℕ, ◌==◌, Bool, ◌&&◌, if◌then◌else◌}
+use Rattle.std.specs.Prelude.{ℕ, ◌==◌, Bool, ◌&&◌, if◌then◌else◌, List, [], ◌∷◌}
 use Rattle.sk_signal.specs.declared.number.TheConstants.{SIGCHLD, SIGCONT}
 use Rattle.sk_signal.specs.Generation.{generated, forced as sigsys_forced}
 use Rattle.sk_world.specs.declared.process.TheConstants.{INIT}
@@ -32,6 +32,11 @@ sent w pid n =
     if (n == SIGCONT) && is_stopped (at w pid)
     then generated_at (generated_at w pid n) (parent_of (at w pid)) SIGCHLD
     else generated_at w pid n
+
+-- the signal is sent to each of these processes, in this order
+abbrev pub sent_to_each : World → List ℕ → ℕ → World
+sent_to_each w [] n = w
+sent_to_each w (pid ∷ rest) n = sent_to_each (sent w pid n) rest n
 
 -- SIGSYS is forced on a process: seccomp(2), "SECCOMP_RET_TRAP"
 abbrev pub forced : World → ℕ → World

@@ -1,6 +1,6 @@
 -- What wait4(2) tells, and of which child.
-use Rattle.std.specs.Prelude.{ℕ, ◌+◌, ◌*◌, ◌==◌, Bool, true, false, ◌&&◌, if◌then◌else◌, bit_and, find, Option, None, Some}
-use Rattle.std.specs.Option.{is_some, option_map_or, option_and_then, unwrap_or}
+use Rattle.std.specs.Prelude.{ℕ, ◌+◌, ◌*◌, ◌==◌, Bool, true, false, ◌&&◌, if◌then◌else◌, bit_and, List, [], ◌∷◌, Option, None, Some}
+use Rattle.std.specs.Option.{is_some, option_map_or, option_and_then}
 use Rattle.std.specs.List.{list_any}
 use Rattle.sk_world.specs.declared.process.Life.{Life}
 use Rattle.sk_world.specs.declared.process.Life.TheVariants.{Running, Stopped, Zombie}
@@ -68,12 +68,26 @@ is_ready w caller request pid = is_match caller request pid (at w pid) && is_som
 abbrev pub has_match : World → ℕ → Request → Bool
 has_match w caller request = list_any (λ pid. is_match caller request pid (at w pid)) (pids w.procs)
 
--- what is told of the ready child with the lowest pid; else whether any child matches
+-- the tidings with those of this process before them, if it has a status to tell
+abbrev pub with_status : ℕ → Option ℕ → List (ℕ × ℕ) → List (ℕ × ℕ)
+with_status pid (Some status) rest = (pid, status) ∷ rest
+with_status pid None rest = rest
+
+-- what these processes have to tell the caller: the status of each that matches and has one
+abbrev pub tidings : World → ℕ → Request → List ℕ → List (ℕ × ℕ)
+tidings w caller request [] = []
+tidings w caller request (pid ∷ rest) =
+    if is_match caller request pid (at w pid) then with_status pid (status_of request.options (at w pid)) (tidings w caller request rest)
+    else tidings w caller request rest
+
+-- the first of the tidings is told; where there are none it is this
+abbrev pub first_told : List (ℕ × ℕ) → Poll → Poll
+first_told [] none = none
+first_told (e ∷ rest) none = Told e.0 e.1
+
+-- what is told: the status of the child with the lowest pid that has one; else whether any child matches
 abbrev pub ready_of : World → ℕ → Request → Poll
-ready_of w caller request =
-    option_map_or (λ pid. Told pid (unwrap_or (status_of request.options (at w pid)) 0))
-    (find (is_ready w caller request) (pids w.procs))
-    (if has_match w caller request then NotReady else NoMatch)
+ready_of w caller request = first_told (tidings w caller request (pids w.procs)) (if has_match w caller request then NotReady else NoMatch)
 
 -- what a process has to tell was told
 abbrev pub without_note : Body → Body

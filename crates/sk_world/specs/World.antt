@@ -110,6 +110,7 @@ first_process = record {
     chain = [];
     signals = no_signal;
     executed = false;
+    subreaper = false;
     waiting = waiting.Nothing;
     note = note.Nothing;
   };

@@ -1,14 +1,16 @@
-ghost use Rattle.std.specs.Prelude.{◌≡◌, IsTrue};
+ghost use Rattle.std.specs.Prelude.{◌≡◌, ◌≤◌, IsTrue};
 ghost use Rattle.std.specs.Option.{is_some, option_and_then};
-ghost use Rattle.sk_world.specs.declared.process.TheConstants.{INIT};
+ghost use Rattle.sk_world.specs.declared.process.TheConstants.{INIT, LAST_PID};
 ghost use Rattle.sk_world.specs.declared.process.Life.TheVariants.{Zombie};
 ghost use Rattle.sk_world.specs.World.{at, is_alive, is_child_of, is_zombie, stored, changed};
 ghost use Rattle.sk_world.specs.Rules.{IsWorld, has_links_within};
-ghost use Rattle.sk_world.specs.Ending.{handed_on, ignores_children, has_zombie_child, with_children_handed_on, reparented, zombie, died, ended};
+ghost use Rattle.sk_world.specs.Subreapers.{new_parent};
+ghost use Rattle.sk_world.specs.Ending.{handed_on, ignores_children, has_zombie_child, with_children_handed_on, reparented, zombie, left_to_parent, ended};
 
 use crate::process::{Body, INIT, Life, Links, Note, Waiting};
 use crate::sending::{parent_of, send};
 use crate::store::ProcStore;
+use crate::subreapers::reaper;
 use sk_signal::number::SIGCHLD;
 
 /// Ends a process with this status: exit(2). The end of process 1 halts the system.
@@ -22,7 +24,7 @@ pub fn end<S: ProcStore>(store: &mut S, pid: u32, status: u32)
         halt(store, status);
     } else {
         reparent(store, pid);
-        die(store, pid, status);
+        leave_to_parent(store, pid, status);
     }
 }
 
@@ -35,8 +37,8 @@ fn halt<S: ProcStore>(store: &mut S, status: u32)
 }
 
 /// Ends a process that has no children.
-fn die<S: ProcStore>(store: &mut S, pid: u32, status: u32)
-    ensures { S.contents store.new ≡ died (S.contents store.old) pid status }
+fn leave_to_parent<S: ProcStore>(store: &mut S, pid: u32, status: u32)
+    ensures { S.contents store.new ≡ left_to_parent (S.contents store.old) pid status }
 {
     let parent = parent_of(store, pid);
     if ignores_children(store, parent) {
@@ -64,8 +66,8 @@ fn become_zombie(body: &mut Body, status: u32)
     body.note = Note::Nothing;
 }
 
-/// Hands the children of a process to process 1. The zombies among them are announced there, or go where process 1
-/// ignores SIGCHLD: wait(2), "Notes".
+/// Hands the children of a process to its nearest ancestor that is a subreaper, and to process 1 where there is none.
+/// The zombies among them are announced there, or go where SIGCHLD is ignored there: wait(2), "Notes".
 pub fn reparent<S: ProcStore>(store: &mut S, pid: u32)
     requires rules { IsWorld (S.contents store.old) }
     requires there { IsTrue (is_some (at (S.contents store.old) pid)) }
@@ -79,24 +81,26 @@ fn hand_on_and_announce<S: ProcStore>(store: &mut S, pid: u32)
     requires { IsWorld (S.contents store.old) }
     ensures { S.contents store.new ≡ reparented (S.contents store.old) pid }
 {
-    let leaves_none = ignores_children(store, INIT);
-    let has_zombie = hand_children_on(store, pid, leaves_none);
-    if has_zombie && !leaves_none {
-        send(store, INIT, SIGCHLD);
+    let parent = reaper(store, pid);
+    let removes = ignores_children(store, parent);
+    let has_zombie = hand_children_on(store, pid, parent, removes);
+    if has_zombie && !removes {
+        send(store, parent, SIGCHLD);
     }
 }
 
 /// Hands the children of a process on, and says whether a zombie is among them.
-fn hand_children_on<S: ProcStore>(store: &mut S, pid: u32, leaves_none: bool) -> bool
+fn hand_children_on<S: ProcStore>(store: &mut S, pid: u32, parent: u32, removes: bool) -> bool
     requires rules { IsWorld (S.contents store.old) }
-    requires leaves_none { leaves_none ≡ ignores_children (at (S.contents store.old) INIT) }
+    requires parent { parent ≡ new_parent (S.contents store.old) pid }
+    requires removes { removes ≡ ignores_children (at (S.contents store.old) parent) }
     ensures zombies { result ≡ has_zombie_child (S.contents store.old) pid }
     ensures world { S.contents store.new ≡ with_children_handed_on (S.contents store.old) pid }
 {
     let mut has_zombie = false;
     let mut after = 0;
     while let Some(child) = store.next_child(pid, after) {
-        if hand_on(store, pid, child, leaves_none) {
+        if hand_on(store, pid, child, parent, removes) {
             has_zombie = true;
         }
         after = child;
@@ -105,21 +109,22 @@ fn hand_children_on<S: ProcStore>(store: &mut S, pid: u32, leaves_none: bool) ->
 }
 
 /// Hands a child on, and says whether it is a zombie.
-fn hand_on<S: ProcStore>(store: &mut S, parent: u32, child: u32, leaves_none: bool) -> bool
+fn hand_on<S: ProcStore>(store: &mut S, dying: u32, child: u32, parent: u32, removes: bool) -> bool
     requires within { IsTrue (has_links_within (at (S.contents store.old) child)) }
-    requires child { IsTrue (is_child_of parent (at (S.contents store.old) child)) }
+    requires parent { parent ≤ LAST_PID }
+    requires child { IsTrue (is_child_of dying (at (S.contents store.old) child)) }
     ensures zombie { result ≡ is_zombie (at (S.contents store.old) child) }
-    ensures world { S.contents store.new ≡ stored (S.contents store.old) child (option_and_then (handed_on parent INIT leaves_none) (at (S.contents store.old) child)) }
+    ensures world { S.contents store.new ≡ stored (S.contents store.old) child (option_and_then (handed_on dying parent removes) (at (S.contents store.old) child)) }
 {
     let Some(process) = store.get(child) else {
         return false;
     };
     let is_zombie = matches!(process.body.life, Life::Zombie(_));
     let links = Links {
-        parent: INIT,
+        parent,
         ..process.links
     };
-    if leaves_none && is_zombie {
+    if removes && is_zombie {
         let _ = store.remove(child);
     } else {
         store.relink(child, links);

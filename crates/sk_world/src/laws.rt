@@ -1,8 +1,11 @@
 //! Laws on worlds. No program calls these functions: the contract of each is the law.
 
-ghost use Rattle.sk_world.specs.WorkedWorlds.{WorkedForks, WorkedEnds, WorkedWaits, WorkedSignals};
-ghost use Rattle.sk_world.specs.WorldLaws.{OpeningHasRules, ChangeKeepsRules, LinksKeepRules, RemovalKeepsRules, SignalKeepsRules, ForceKeepsRules, ForkKeepsRules, ReparentKeepsRules, EndKeepsRules, ToldKeepsRules};
-ghost use Rattle.sk_world.specs.ChangeLaws.{SignalIsNotQueued, SignalTouches, ForceTouches, SignalKeepsAllElse, ForceKeepsAllElse, TellingTouches, ForkTouches, EndTouches, EndLeavesNoOrphan, EndHandsChildrenOn, EndLeavesZombie, ReadyIsLowest, NoMatchHasNone, NotReadyHasMatch, ZombieIsToldOnce, ForkGivesChild, NumberIsNew, NumberIsNext, SignalKeepsRights, ForceKeepsRights, ReparentKeepsRights, EndKeepsRights, TellingKeepsRights, ForkKeepsRights};
+ghost use Rattle.std.specs.Prelude.{◌≡◌};
+ghost use Rattle.sk_world.specs.declared.process.TheConstants.{INIT, LAST_PID, PROCESSES};
+ghost use Rattle.sk_world.specs.declared.request.TheConstants.WaitOptions.{WNOHANG, WUNTRACED, WCONTINUED};
+ghost use Rattle.sk_world.specs.Waits.{options_of};
+ghost use Rattle.sk_world.specs.laws.WaitLaws.{AsksWithItsBits};
+ghost use Rattle.sk_world.specs.laws.WorldLaws.{OpeningHasRules, ChangeKeepsRules, LinksKeepRules, RemovalKeepsRules, SignalKeepsRules, ForceKeepsRules, ForkKeepsRules, ReparentKeepsRules, EndKeepsRules, ToldKeepsRules};
 
 /// The rules of the world hold as the system starts, and each change of the world keeps them.
 pub fn rules_are_kept()
@@ -18,64 +21,17 @@ pub fn rules_are_kept()
     ensures told { ToldKeepsRules }
 {}
 
-/// A change touches only those that it has to do with.
-pub fn changes_are_local()
-    ensures signal { SignalTouches }
-    ensures force { ForceTouches }
-    ensures telling { TellingTouches }
-    ensures fork { ForkTouches }
-    ensures end { EndTouches }
+/// Process 1 is the first, pids go to 32767, the `pid_max` that Linux starts with, and there are 1024 processes at most.
+pub fn limits_are_these()
+    ensures init { INIT ≡ 1 }
+    ensures last_pid { LAST_PID ≡ 32767 }
+    ensures processes { PROCESSES ≡ 1024 }
 {}
 
-/// A signal leaves every process its links, its ids, its filters and what it waits in: only its signals, its life
-/// and its note may change, and of these a forced signal changes the signals alone. Nobody comes or goes.
-pub fn signals_keep_all_else()
-    ensures signal { SignalKeepsAllElse }
-    ensures force { ForceKeepsAllElse }
-{}
-
-/// A signal that is sent again changes nothing.
-pub fn signals_are_not_queued()
-    ensures law { SignalIsNotQueued }
-{}
-
-/// The end of a process other than process 1 hands its children on, leaves nobody with it as the parent, and makes
-/// it a zombie, unless its parent ignores SIGCHLD. The end of process 1 hands none on.
-pub fn ends_hand_children_on()
-    ensures no_orphan { EndLeavesNoOrphan }
-    ensures children { EndHandsChildrenOn }
-    ensures zombie { EndLeavesZombie }
-{}
-
-/// wait4(2) tells of the lowest child that is ready, of a zombie once, and of nobody where none is.
-pub fn waiting_tells_the_lowest_once()
-    ensures lowest { ReadyIsLowest }
-    ensures no_match { NoMatchHasNone }
-    ensures not_ready { NotReadyHasMatch }
-    ensures once { ZombieIsToldOnce }
-{}
-
-/// The child of a fork is at the next number after the last one given that is nobody's pid, group or session.
-pub fn fork_takes_a_new_number()
-    ensures child { ForkGivesChild }
-    ensures number { NumberIsNew }
-    ensures next { NumberIsNext }
-{}
-
-/// What a process may do stays through every signal, end and wait, and goes on to its children.
-pub fn rights_are_kept()
-    ensures signal { SignalKeepsRights }
-    ensures force { ForceKeepsRights }
-    ensures reparent { ReparentKeepsRights }
-    ensures end { EndKeepsRights }
-    ensures telling { TellingKeepsRights }
-    ensures fork { ForkKeepsRights }
-{}
-
-/// The definitions give what was worked out by hand.
-pub fn worked_worlds()
-    ensures forks { WorkedForks }
-    ensures ends { WorkedEnds }
-    ensures waits { WorkedWaits }
-    ensures signals { WorkedSignals }
+/// WNOHANG is bit 0 of a wait4(2)'s options, WUNTRACED bit 1 and WCONTINUED bit 3, and each stands for itself alone.
+pub fn wait_options_have_their_bits()
+    ensures no_hang { WNOHANG ≡ options_of 1 }
+    ensures untraced { WUNTRACED ≡ options_of 2 }
+    ensures continued { WCONTINUED ≡ options_of 8 }
+    ensures asked { AsksWithItsBits }
 {}

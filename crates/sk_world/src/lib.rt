@@ -9,6 +9,7 @@ mod process;
 mod request;
 mod sending;
 mod store;
+mod subreapers;
 mod waiting;
 
 pub use ending::{end, reparent};
@@ -17,7 +18,8 @@ pub use process::{Body, INIT, LAST_PID, Life, Links, Note, PROCESSES, Proc, Wait
 pub use request::{Poll, Request, WaitOptions, Who};
 pub use sending::send;
 pub use store::ProcStore;
-pub use waiting::{reap, wait_poll};
+pub use subreapers::reaper;
+pub use waiting::{ready, reap, wait_poll};
 
 #[cfg(test)]
 mod tests;

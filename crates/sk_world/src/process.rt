@@ -61,6 +61,8 @@ pub struct Body {
     pub signals: SigState,
     /// It has called execve(2) since it was forked.
     pub executed: bool,
+    /// The orphans of its line are handed to it: prctl(2), PR_SET_CHILD_SUBREAPER.
+    pub subreaper: bool,
     pub waiting: Waiting,
     pub note: Note,
 }
@@ -88,6 +90,7 @@ impl Body {
             chain: self.chain.share()?,
             signals: self.signals.forked(),
             executed: false,
+            subreaper: false,
             waiting: Waiting::Nothing,
             note: Note::Nothing,
         })

@@ -1,4 +1,4 @@
-ghost use Rattle.std.specs.Prelude.{◌≡◌, ℕ, ◌<◌, ◌≤◌, None, Some, IfSome, IfNone, OnSome, IfOk, IsTrue};
+ghost use Rattle.std.specs.Prelude.{◌≡◌, ℕ, ◌<◌, ◌≤◌, None, Some, IfSome, IfNone, OnSome, IfOk, IsTrue, IsFalse};
 ghost use Rattle.std.specs.Option.{is_some};
 ghost use Rattle.std.specs.Borrow.{LendsSo, sem};
 ghost use Rattle.sk_world.specs.contracts.process.Body.{the_row};
@@ -82,6 +82,7 @@ pub trait ProcStore: Drop {
     /// is room for one process more, it is free.
     fn fresh(&self) -> u32
         ensures fresh { result ≡ fresh_of (contents self.now) }
-        ensures free { count (contents self.now).procs < PROCESSES → at (contents self.now) result ≡ None }
+        ensures free { count (contents self.now).procs < PROCESSES → IsFalse (is_used (contents self.now) result) }
+        ensures absent { count (contents self.now).procs < PROCESSES → at (contents self.now) result ≡ None }
         ensures fits { (2 ≤ result) × (result ≤ LAST_PID) };
 }

@@ -29,6 +29,7 @@ fn parent(rt: &HostRuntime) -> Proc {
             chain: Chain::empty(rt.alloc()),
             signals,
             executed: true,
+            subreaper: true,
             waiting: Waiting::Pause,
             note: Note::Continued,
         },
@@ -57,6 +58,7 @@ fn a_child_has_the_rights_and_nothing_that_pends(rt: HostRuntime) -> Result<(), 
         SigSet::empty().with(SIGTERM)
     );
     assert!(rt; !body.executed);
+    assert!(rt; !body.subreaper);
     assert_eq!(rt; body.waiting, Waiting::Nothing);
     assert_eq!(rt; body.note, Note::Nothing);
     Ok(())

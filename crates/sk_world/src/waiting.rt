@@ -19,7 +19,7 @@ pub fn wait_poll<S: ProcStore>(store: &mut S, caller: u32, request: &Request) ->
     ensures world { S.contents store.new ≡ told (S.contents store.old) result }
     ensures rules { IsWorld (S.contents store.new) }
 {
-    let poll = ready(store, caller, *request);
+    let poll = ready(store, caller, request);
     tell(store, poll);
     poll
 }
@@ -42,15 +42,15 @@ pub fn reap<S: ProcStore>(store: &mut S, pid: u32) -> u32
     }
 }
 
-/// Whom there is to tell of.
-fn ready<S: ProcStore>(store: &S, caller: u32, request: Request) -> Poll
-    requires { IsWorld (S.contents store.now) }
-    ensures { result ≡ ready_of (S.contents store.now) caller request }
+/// What a wait4(2) of the caller would find. Nothing is told.
+pub fn ready<S: ProcStore>(store: &S, caller: u32, request: &Request) -> Poll
+    requires rules { IsWorld (S.contents store.now) }
+    ensures answer { result ≡ ready_of (S.contents store.now) caller request.now }
 {
     let mut is_matched = false;
     let mut after = 0;
     while let Some(child) = store.next_child(caller, after) {
-        if is_match(store, caller, request, child) {
+        if is_match(store, caller, *request, child) {
             if let Some(status) = status_of(store, request.options, child) {
                 return Poll::Told { pid: child, status };
             }

@@ -2,6 +2,7 @@ use Rattle.std.proofs.Common.{arith, length}
 use Rattle.std.proofs.lemmas.Bool.{le-ltb}
 use Rattle.sk_asm.specs.Faults.{Answers}
 use Rattle.sk_asm.specs.Passes.{assembled}
+use Rattle.sk_asm.proofs.FirstFaults.{answers_first}
 use Rattle.sk_asm.proofs.Relation.{text-stands, text-only}
 use Rattle.sk_asm.proofs.passes.assemble.Goals as goal
 
@@ -15,3 +16,6 @@ returns-clause-stands c = text-stands (λ insns. insns.items) c.assemble_lines.r
 
 pub returns-clause-only : goal.returns-clause-only
 returns-clause-only c insns h = text-only (λ found. found.items) c.assemble_lines.result c.args.text.now insns (exact c) h
+
+pub returns-clause-first : goal.returns-clause-first
+returns-clause-first c = answers_first (λ insns. insns.items) c.assemble_lines.result c.args.text.now (exact c)

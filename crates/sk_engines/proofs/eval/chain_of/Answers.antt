@@ -1,5 +1,5 @@
 use Rattle.std.proofs.Common.{sym, ◌∙◌, ap}
-use Rattle.sk_insn.specs.Instructions.{instructions_of}
+use Rattle.sk_insn.specs.Instructions.{image_instructions}
 use Rattle.sk_engines.specs.EvalCommand.{image_attached}
 use Rattle.sk_engines.proofs.Chaining.{bytes_of, chained_at}
 use Rattle.sk_engines.proofs.eval.chain_of.Goals as goal
@@ -7,7 +7,7 @@ use Rattle.sk_engines.proofs.eval.chain_of.Goals as goal
 pub returns-in-Err : goal.returns-in-Err
 returns-in-Err c =
     let image = c.as_slice.ensures.value ∙ ap bytes_of c.index-images-number.is in
-    let attached = sym c.in-Err.is ∙ c.in_ok-chain.ensures.chain ∙ ap (λ bytes. image_attached c.loop-number.chain (instructions_of bytes)) image in
+    let attached = sym c.in-Err.is ∙ c.in_ok-chain.ensures.chain ∙ ap (λ bytes. image_attached c.loop-number.chain (image_instructions bytes)) image in
     record {
       chain = chained_at c.args.images.now c.loop-number.number c.index-images-number.result c.loop-number.chain _ _ c.loop-number-test.true attached c.loop-number.invariant;
     }
@@ -15,5 +15,5 @@ returns-in-Err c =
 pub loop-number-preserved : goal.loop-number-preserved
 loop-number-preserved c =
     let image = c.as_slice.ensures.value ∙ ap bytes_of c.index-images-number.is in
-    let attached = sym c.in-Ok.is ∙ c.in_ok-chain.ensures.chain ∙ ap (λ bytes. image_attached c.loop-number.chain (instructions_of bytes)) image in
+    let attached = sym c.in-Ok.is ∙ c.in_ok-chain.ensures.chain ∙ ap (λ bytes. image_attached c.loop-number.chain (image_instructions bytes)) image in
     chained_at c.args.images.now c.loop-number.number c.index-images-number.result c.loop-number.chain _ _ c.loop-number-test.true attached c.loop-number.invariant

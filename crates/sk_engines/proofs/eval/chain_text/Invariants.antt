@@ -1,8 +1,11 @@
-use Rattle.std.proofs.Common.{◌≡◌, ◌++◌, flat_map, string_bytes}
+use Rattle.std.proofs.Common.{◌≡◌, ◌++◌, flat_map, length, string_bytes, vec_len}
 use Rattle.sk_interp.specs.Meaning.{meaning_of}
+use Rattle.sk_chain.specs.Verdict.{values_of}
 use Rattle.sk_engines.specs.EvalCommand.{meaning_line}
 use Rattle.sk_engines.proofs.eval.chain_text.Given as goal
 
 abbrev pub invariant-loop-program : goal.invariant-loop-program
-invariant-loop-program l =
-    string_bytes l.text ++ flat_map (λ program. meaning_line (meaning_of program l.call)) l.program-iterator ≡ flat_map (λ program. meaning_line (meaning_of program l.call)) l.chain
+invariant-loop-program l = record {
+  lines : string_bytes l.text ++ flat_map (λ program. meaning_line (meaning_of program l.call)) l.program-iterator ≡ flat_map (λ program. meaning_line (meaning_of program l.call)) l.chain;
+  values : l.values.items ++ values_of l.program-iterator l.call ≡ values_of l.chain l.call;
+}

@@ -1,6 +1,6 @@
 use Rattle.std.proofs.Common.{◌≡◌, ◌+◌, ◌-◌, ◌*◌, ◌++◌, [], ◌∷◌, drop, ap, arith, append_assoc}
 use Rattle.std.proofs.lemmas.List.{drop-drop, get_or-drop}
-use Rattle.sk_insn.specs.Instructions.{instruction_of}
+use Rattle.sk_insn.specs.Instructions.{insn_of}
 use Rattle.sk_insn.proofs.LittleEndian.{IsBytes}
 use Rattle.sk_insn.proofs.Images.{image_of-push, instructions_in-next}
 use Rattle.sk_insn.proofs.image.insns_in.Goals as goal
@@ -11,7 +11,7 @@ loop-place-preserved c =
     let image = c.args.image.now in
     let rest = c.loop-place.rest.now in
     let i = c.loop-place.invariant in
-    let pushed : c.push.new.self.items ≡ c.loop-place.insns.items ++ instruction_of rest ∷ [] =
+    let pushed : c.push.new.self.items ≡ c.loop-place.insns.items ++ insn_of rest ∷ [] =
     rw c.insn_at.ensures at c.in_ok-push.ensures.items in
     let after : c.split_at.result.1.now ≡ drop 8 rest = c.split_at.ensures.back in
     let fits : IsBytes rest =

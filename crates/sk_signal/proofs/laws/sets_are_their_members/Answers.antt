@@ -1,4 +1,4 @@
-use Rattle.sk_signal.specs.Members.{contains-empty, contains-insert, contains-remove, contains-union, contains-difference, same_set}
+use Rattle.sk_signal.specs.views.Members.{contains-empty, contains-insert, contains-remove, contains-union, contains-difference, same_set}
 use Rattle.sk_signal.proofs.laws.sets_are_their_members.Goals as goal
 
 pub returns : goal.returns

@@ -1,6 +1,6 @@
 use Rattle.std.proofs.Common.{◌∙◌, ap, sym}
 use Rattle.sk_signal.specs.SignalSet.{signals_of, number_of}
-use Rattle.sk_signal.specs.SignalBits.{number_of-signals_of}
+use Rattle.sk_signal.specs.views.SignalBits.{number_of-signals_of}
 use Rattle.sk_signal.proofs.set.SigSet.bits.Goals as goal
 
 pub returns-clause-value : goal.returns-clause-value

@@ -1,7 +1,8 @@
-use Rattle.std.proofs.Common.{◌≡◌, ◌≤◌, None, subst, sym}
+use Rattle.std.proofs.Common.{◌≡◌, ◌≤◌, IsFalse, None, subst, sym}
 use Rattle.sk_world.specs.declared.process.TheConstants.{LAST_PID}
 use Rattle.sk_world.specs.World.{World, at}
-use Rattle.sk_world.proofs.Fresh.{fresh_absent, fresh_in_range}
+use Rattle.sk_world.specs.Numbers.{is_used}
+use Rattle.sk_world.proofs.Fresh.{fresh_unused, fresh_absent, fresh_in_range}
 use Rattle.sk_table.proofs.Freeing.{fresh_of_rows}
 use Rattle.sk_table.proofs.list_store.ListStoreProcStore.fresh.Goals as goal
 
@@ -11,6 +12,12 @@ returns-clause-fresh c =
 
 pub returns-clause-free : goal.returns-clause-free
 returns-clause-free c room =
+    let world = c.args.self.now in
+    let given = subst (λ (w : World). 1 ≤ w.last) c.self.view_is c.self.invariant.given in
+    subst (λ n. IsFalse (is_used world n)) (sym (returns-clause-fresh c)) (fresh_unused world room given)
+
+pub returns-clause-absent : goal.returns-clause-absent
+returns-clause-absent c room =
     let world = c.args.self.now in
     let given = subst (λ (w : World). 1 ≤ w.last) c.self.view_is c.self.invariant.given in
     subst (λ n. at world n ≡ None) (sym (returns-clause-fresh c)) (fresh_absent world room given)

@@ -1,0 +1,67 @@
+//! The lines that refuse images and programs.
+ghost use Rattle.std.specs.Prelude.{◌≡◌, ◌≤◌, ◌+◌, ◌++◌};
+ghost use Rattle.arrayvec.specs.ArrayString.{array_string_len};
+ghost use Rattle.sk_engines.specs.Answer.{refused, line};
+ghost use Rattle.sk_engines.specs.Judging.{no_image_text, check_fault_text};
+ghost use Rattle.sk_engines.specs.Told.{answer_of};
+
+use crate::told::{Line, Told, push_number, push_place};
+use sk_check::CheckFault;
+use sk_insn::NoImage;
+
+/// Bytes that are no image are refused.
+pub fn image_refused(why: NoImage) -> Told
+    ensures answer { answer_of result ≡ refused (line (no_image_text why)) }
+{
+    let mut text = Line::new();
+    push_no_image(&mut text, why);
+    text.push_str("\n");
+    Told::Refused(text)
+}
+
+/// A program is refused.
+pub fn program_refused(fault: CheckFault) -> Told
+    ensures answer { answer_of result ≡ refused (line (check_fault_text fault)) }
+{
+    let mut text = Line::new();
+    push_check_fault(&mut text, fault);
+    text.push_str("\n");
+    Told::Refused(text)
+}
+
+/// Appends why bytes are no image.
+pub fn push_no_image(text: &mut Line, why: NoImage)
+    requires room { array_string_len text.old + 64 ≤ 128 }
+    ensures text { text.new.bytes ≡ text.old.bytes ++ no_image_text why }
+    ensures growth { array_string_len text.new ≤ array_string_len text.old + 64 }
+{
+    match why {
+        NoImage::Ragged => text.push_str("refused image ragged"),
+        NoImage::Empty => text.push_str("refused image empty"),
+        NoImage::TooLong => text.push_str("refused image too long"),
+    }
+}
+
+/// Appends why a program is refused.
+pub fn push_check_fault(text: &mut Line, fault: CheckFault)
+    requires room { array_string_len text.old + 78 ≤ 128 }
+    ensures text { text.new.bytes ≡ text.old.bytes ++ check_fault_text fault }
+    ensures growth { array_string_len text.new ≤ array_string_len text.old + 78 }
+{
+    match fault {
+        CheckFault::Empty => text.push_str("refused 1 empty"),
+        CheckFault::TooLong => text.push_str("refused 2 too long"),
+        CheckFault::Code { at } => push_place(text, "refused 3 code at ", at),
+        CheckFault::Load { at } => push_place(text, "refused 4 load at ", at),
+        CheckFault::DivZero { at } => push_place(text, "refused 5 divzero at ", at),
+        CheckFault::Shift { at } => push_place(text, "refused 6 shift at ", at),
+        CheckFault::Word { at } => push_place(text, "refused 7 word at ", at),
+        CheckFault::Jump { at } => push_place(text, "refused 8 jump at ", at),
+        CheckFault::NoReturn => text.push_str("refused 9 no return"),
+        CheckFault::Unstored { at, word } => {
+            push_place(text, "refused 10 unstored at ", at);
+            text.push_str(" word ");
+            push_number(text, word as usize);
+        }
+    }
+}

@@ -1,9 +1,0 @@
-use Rattle.sk_machine.proofs.LineSteps.{event_changes_authority, authority_is_of_line, line_comes_from_init}
-use Rattle.sk_machine.proofs.laws.authority_is_of_line.Goals as goal
-
-pub returns : goal.returns
-returns c = record {
-  event = event_changes_authority;
-  run = authority_is_of_line;
-  root = line_comes_from_init;
-}

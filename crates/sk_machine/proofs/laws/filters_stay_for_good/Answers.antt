@@ -1,9 +1,0 @@
-use Rattle.sk_machine.proofs.Growing.{line_keeps_filters, verdict_is_of_line, performed_meets_no_refusal}
-use Rattle.sk_machine.proofs.laws.filters_stay_for_good.Goals as goal
-
-pub returns : goal.returns
-returns c = record {
-  kept = line_keeps_filters;
-  verdict = verdict_is_of_line;
-  performed = performed_meets_no_refusal;
-}

@@ -1,0 +1,61 @@
+-- Which events may want memory: a call that attaches a filter, and a fork of a process that has filters.
+use Rattle.std.specs.Prelude.{ℕ, ◌==◌, Bool, false, not, ◌&&◌, if◌then◌else◌, IsTrue, Option, None, Some}
+use Rattle.std.specs.Option.{is_some, option_map_or}
+use Rattle.std.specs.Result.{is_ok}
+use Rattle.sk_insn.specs.declared.record.Record.{Record}
+use Rattle.sk_insn.specs.Actions.{action_of, performs}
+use Rattle.sk_insn.specs.Instructions.{instructions_of}
+use Rattle.sk_chain.specs.Verdict.{verdict_of}
+use Rattle.sk_calls.specs.declared.syscall.Syscall.{Syscall}
+use Rattle.sk_calls.specs.declared.syscall.Syscall.TheVariants as syscall
+use Rattle.sk_calls.specs.Syscalls.{syscall_of}
+use Rattle.sk_world.specs.World.{World, at}
+use Rattle.sk_world.specs.Forking.{has_room, has_filters}
+use Rattle.sk_machine.specs.declared.event.Event.{Event}
+use Rattle.sk_machine.specs.declared.event.Event.TheVariants.{Call, Deliver, Resume, Fault}
+use Rattle.sk_machine.specs.declared.operation.PrctlOption.{PrctlOption}
+use Rattle.sk_machine.specs.declared.operation.PrctlOption.TheVariants as option
+use Rattle.sk_machine.specs.declared.operation.SeccompOperation.{SeccompOperation}
+use Rattle.sk_machine.specs.declared.operation.SeccompOperation.TheVariants as operation
+use Rattle.sk_machine.specs.Arguments.{register, low, prctl_option_of, seccomp_operation_of}
+use Rattle.sk_machine.specs.Given.{GivenImages, filter_image}
+use Rattle.sk_machine.specs.Performed.{body_of}
+use Rattle.sk_machine.specs.Machine.{reason_of}
+
+-- the image that prctl(2) attaches, if it attaches one: PR_SET_SECCOMP
+abbrev pub prctl_attaches : Option PrctlOption → Record → Option ℕ
+prctl_attaches (Some option.SetSeccomp) call = if register call 1 == 2 then Some (register call 2) else None
+prctl_attaches other call = None
+
+-- the image that seccomp(2) attaches, if it attaches one without flags: SECCOMP_SET_MODE_FILTER
+abbrev pub seccomp_attaches : Option SeccompOperation → Record → Option ℕ
+seccomp_attaches (Some operation.SetModeFilter) call = if low call 1 == 0 then Some (register call 2) else None
+seccomp_attaches other call = None
+
+-- the image is declared, and its bytes are instructions
+abbrev pub is_read : GivenImages → ℕ → Bool
+is_read images n = option_map_or (λ image. is_ok (instructions_of image)) (filter_image images n) false
+
+-- a call may want memory: it attaches such an image, or forks a process that has filters where there is room
+abbrev pub may_grow : GivenImages → World → ℕ → Option Syscall → Record → Bool
+may_grow images w pid (Some syscall.Prctl) call = option_map_or (is_read images) (prctl_attaches (prctl_option_of (low call 0)) call) false
+may_grow images w pid (Some syscall.Seccomp) call = option_map_or (is_read images) (seccomp_attaches (seccomp_operation_of (low call 0)) call) false
+may_grow images w pid (Some syscall.Fork) call = has_room w && has_filters (at w pid)
+may_grow images w pid other call = false
+
+-- and the filters of its caller let it through
+abbrev pub call_takes_memory : GivenImages → World → ℕ → Record → Bool
+call_takes_memory images w pid call =
+    performs (action_of (verdict_of (body_of (at w pid)).chain call)) && may_grow images w pid (syscall_of call.nr) call
+
+-- an event may want memory: it is such a call, and possible. No other event ever does
+abbrev pub takes_memory : GivenImages → World → Event → Bool
+takes_memory images w (Call pid ip nr args) =
+    not (is_some (reason_of w (Call pid ip nr args))) && call_takes_memory images w pid (record { nr = nr; ip = ip; args = args })
+takes_memory images w (Deliver pid) = false
+takes_memory images w (Resume pid) = false
+takes_memory images w (Fault pid) = false
+
+-- the same as a statement
+abbrev pub TakesMemory : GivenImages → World → Event → Type 0
+TakesMemory images w event = IsTrue (takes_memory images w event)

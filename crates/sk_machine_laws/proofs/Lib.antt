@@ -1,0 +1,14 @@
+pub mod Unchanged
+pub mod KeptEvents
+pub mod Carrying
+pub mod Authorities
+pub mod LineSteps
+pub mod Growing
+pub mod Accepted
+pub mod Tellings
+pub mod Confined
+pub mod Parents
+pub mod Turns
+pub mod Marks
+pub mod Runs
+pub mod Machines

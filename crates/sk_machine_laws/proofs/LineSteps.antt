@@ -1,0 +1,322 @@
+-- What each event does to authorities, and that they are those of the lines.
+use Rattle.std.proofs.Common.{◌≡◌, ◌≢◌, ◌∙◌, ℕ, ◌==◌, ◌&&◌, ap, sym, refl, subst, cond, not, Bool, true, false, IsTrue, List, [], ◌∷◌, ◌++◌, Option, None, Some, Result, Ok, Err}
+use Rattle.std.specs.Option.{is_some, unwrap_or, option_to_list}
+use Rattle.std.specs.Result.{result_unwrap_or}
+use Rattle.std.proofs.lemmas.Bool.{false≢true, eqb-true, eqb-false, false_from_ne_true}
+use Rattle.sk_insn.specs.declared.record.Record.{Record}
+use Rattle.sk_insn.specs.declared.action.Action.{Action}
+use Rattle.sk_insn.specs.declared.action.Action.TheVariants as action
+use Rattle.sk_insn.specs.Actions.{action_of, performs}
+use Rattle.sk_chain.specs.Verdict.{verdict_of}
+use Rattle.sk_creds.specs.declared.errno.Errno.{Errno}
+use Rattle.sk_creds.specs.declared.errno.Errno.TheVariants.{Eagain}
+use Rattle.sk_signal.specs.declared.number.TheConstants.{SIGSEGV, SIGSYS}
+use Rattle.sk_world.specs.declared.process.TheConstants.{INIT}
+use Rattle.sk_world.specs.declared.process.Body.{Body}
+use Rattle.sk_world.specs.declared.process.Proc.{Proc}
+use Rattle.sk_world.specs.declared.process.Waiting.TheVariants as waiting
+use Rattle.sk_world.specs.Processes.{none}
+use Rattle.sk_world.specs.World.{World, at, is_alive, changed, first_process, opening}
+use Rattle.sk_world.specs.Numbers.{fresh_of}
+use Rattle.sk_world.specs.Forking.{has_room, forked}
+use Rattle.sk_world.proofs.Stored.{everywhere, at_other}
+use Rattle.sk_world_laws.proofs.Rights.{forced_rights, forked_rights}
+use Rattle.sk_world.specs.Sending.{forced}
+use Rattle.sk_world.proofs.KeptEnd.{alive_is_there}
+use Rattle.sk_session.specs.Sessions.{after_setpgid, after_setsid, group_asked, session_asked}
+use Rattle.sk_machine.specs.declared.event.Event.{Event}
+use Rattle.sk_machine.specs.declared.event.Event.TheVariants.{Call, Deliver, Resume, Fault}
+use Rattle.sk_machine.specs.declared.answer.Reason.{Reason}
+use Rattle.sk_machine.specs.declared.operation.PrctlOption.{PrctlOption}
+use Rattle.sk_machine.specs.declared.operation.PrctlOption.TheVariants as option
+use Rattle.sk_machine.specs.declared.operation.SeccompOperation.{SeccompOperation}
+use Rattle.sk_machine.specs.declared.operation.SeccompOperation.TheVariants as operation
+use Rattle.sk_calls.specs.declared.syscall.Syscall.{Syscall}
+use Rattle.sk_calls.specs.declared.syscall.Syscall.TheVariants as syscall
+use Rattle.sk_machine.specs.Events.{pid_of}
+use Rattle.sk_machine.specs.Given.{GivenImages}
+use Rattle.sk_calls.specs.Syscalls.{syscall_of}
+use Rattle.sk_calls.proofs.SyscallTable.{number_of-syscall_of}
+use Rattle.sk_machine.specs.Arguments.{register, low, signed, prctl_option_of, seccomp_operation_of}
+use Rattle.sk_machine.specs.Authority.{Authority, authority_of, with_authority, after_no_new_privs, after_set_seccomp, after_prctl, after_set_mode_filter, after_seccomp, authority_after}
+use Rattle.sk_machine.specs.Performed.{Performed, body_of, authority_at, authorises}
+use Rattle.sk_machine.specs.SignalCalls.{after_sigaction, after_sigprocmask, after_sigreturn}
+use Rattle.sk_machine.specs.Killing.{after_kill}
+use Rattle.sk_machine.specs.Performing.{executing, execve, forks, exit_status, no_new_privs_asked, subreaper_set, subreaper_asked, where_subreapers, with_subreaper, prctl, action_available, seccomp, row}
+use Rattle.sk_machine.specs.Delivering.{signal_due}
+use Rattle.sk_machine.specs.Machine.{Stepped, judged, happened, reason_of, stepped, step_of, world_after}
+use Rattle.sk_machine.specs.Lines.{Line, Happening, is_fork, has_returned, line_before, calls_added, line_of, authority_after_calls, history_after}
+use Rattle.sk_machine_laws.specs.LineLaws.{happening, EventChangesAuthority, AuthorityIsOfLine, LineComesFromInit}
+use Rattle.sk_machine_laws.proofs.KeptEvents.{possible_is_alive}
+use Rattle.sk_machine_laws.proofs.Carrying.{over_asked, over_changes, over_resignals, over_waits, over_kill, over_setpgid, over_setsid, over_wait4, over_end, over_delivered, over_resumed}
+use Rattle.sk_machine_laws.proofs.Authorities.{CameBy, Came, Keeps, came_still, came_at, came_by_rights, keeps_by_rights, keeps_still, keeps_changed, keeps}
+
+-- ---- which call is a fork
+abbrev pub is_fork_row : Option Syscall → Bool
+is_fork_row (Some syscall.Fork) = true
+is_fork_row other = false
+
+only_fork : (o : Option Syscall) → is_fork_row o ≡ true → o ≡ Some syscall.Fork
+only_fork (Some syscall.Fork) is = refl
+only_fork other is = absurd (false≢true is)
+
+fork_number_else : (nr : ℕ) → (nr == 57) ≡ false → is_fork_row (syscall_of nr) ≡ false
+fork_number_else nr other =
+    false_from_ne_true (is_fork_row (syscall_of nr)) (λ is. eqb-false nr 57 other (number_of-syscall_of nr syscall.Fork (only_fork (syscall_of nr) is)))
+
+pub fork_number : (nr : ℕ) → is_fork_row (syscall_of nr) ≡ (nr == 57)
+fork_number nr =
+    elim (nr == 57) as (λ b. (nr == 57) ≡ b → is_fork_row (syscall_of nr) ≡ b) [
+      | true ↦ λ is. ap (λ n. is_fork_row (syscall_of n)) (eqb-true nr 57 is)
+      | false ↦ λ is. fork_number_else nr is
+    ] refl
+
+-- ---- one row
+-- whom a process comes from when the call of `pid` has come to this, and with which authority
+abbrev RowStep : GivenImages → World → ℕ → ℕ → Record → Option Syscall → Performed → Type 0
+RowStep images w pid q call which p =
+    CameBy (cond ((pid == q) && not (is_fork_row which && has_returned q p.outcome)) (λ a. result_unwrap_or (authority_after images which call a) a) (λ a. a))
+    (at p.world q) (at w (cond (is_fork_row which && has_returned q p.outcome) pid q))
+
+leaves : (b : Bool) (f : Authority → Authority) (now before : Option Proc) → ((a : Authority) → f a ≡ a) → Came now before → CameBy (cond b f (λ a. a)) now before
+leaves true f now before same came = λ p is.
+    let old = came p is in
+    (old.0, old.1, old.2 ∙ sym (same (authority_of old.0.body)))
+leaves false f now before same came = came
+
+-- a change of the caller's authority, or a refusal
+abbrev changed_by : World → ℕ → (Authority → Body → Body) → Result Authority Errno → World
+changed_by w pid g (Ok a) = changed w pid (g a)
+changed_by w pid g (Err e) = w
+
+step_here : (w : World) (pid : ℕ) (f : Authority → Result Authority Errno) (g : Authority → Body → Body) (r : Result Authority Errno)
+    → ((a : Authority) (body : Body) → authority_of (g a body) ≡ a) → r ≡ f (authority_at w pid) → CameBy (λ a. result_unwrap_or (f a) a) (at (changed_by w pid g r) pid) (at w pid)
+step_here w pid f g (Ok a) same is =
+    came_at w pid (λ x. result_unwrap_or (f x) x) (g a) (λ p there.
+    let old : Authority = authority_of p.body in
+    same a p.body ∙ ap (λ r. result_unwrap_or r old) (is ∙ ap (λ o. f (authority_of (body_of o))) there))
+step_here w pid f g (Err e) same is = λ p there.
+    let old : Authority = authority_of p.body in
+    (p, there, ap (λ r. result_unwrap_or r old) (is ∙ ap (λ o. f (authority_of (body_of o))) there))
+
+step_there : (w : World) (pid q : ℕ) (g : Authority → Body → Body) (r : Result Authority Errno) → q ≢ pid → Came (at (changed_by w pid g r) q) (at w q)
+step_there w pid q g (Ok a) other = subst (λ x. Came x (at w q)) (sym (at_other w pid _ q other)) (came_still (at w q))
+step_there w pid q g (Err e) other = came_still (at w q)
+
+step_authorised : (w : World) (pid q : ℕ) (f : Authority → Result Authority Errno) (g : Authority → Body → Body) (r : Result Authority Errno)
+    → ((a : Authority) (body : Body) → authority_of (g a body) ≡ a) → r ≡ f (authority_at w pid)
+    → CameBy (cond ((pid == q) && true) (λ a. result_unwrap_or (f a) a) (λ a. a)) (at (changed_by w pid g r) q) (at w q)
+step_authorised w pid q f g r same is =
+    elim (pid == q) as (λ b. (pid == q) ≡ b → CameBy (cond (b && true) (λ a. result_unwrap_or (f a) a) (λ a. a)) (at (changed_by w pid g r) q) (at w q)) [
+      | true ↦ λ here. subst (λ k. CameBy (λ a. result_unwrap_or (f a) a) (at (changed_by w pid g r) k) (at w k)) (eqb-true pid q here) (step_here w pid f g r same is)
+      | false ↦ λ other. step_there w pid q g r (λ e. eqb-false pid q other (sym e))
+    ] refl
+
+authorises_world : (w : World) (pid : ℕ) (r : Result Authority Errno) → changed_by w pid with_authority r ≡ (authorises w pid r).world
+authorises_world w pid (Ok a) = refl
+authorises_world w pid (Err e) = refl
+
+execve_world : (w : World) (pid : ℕ) (r : Result Authority Errno) → changed_by w pid executing r ≡ (execve w pid r).world
+execve_world w pid (Ok a) = refl
+execve_world w pid (Err e) = refl
+
+step_authorises : (w : World) (pid q : ℕ) (f : Authority → Result Authority Errno)
+    → CameBy (cond ((pid == q) && true) (λ a. result_unwrap_or (f a) a) (λ a. a)) (at (authorises w pid (f (authority_at w pid))).world q) (at w q)
+step_authorises w pid q f =
+    subst (λ v. CameBy (cond ((pid == q) && true) (λ a. result_unwrap_or (f a) a) (λ a. a)) (at v q) (at w q)) (authorises_world w pid (f (authority_at w pid)))
+    (step_authorised w pid q f with_authority (f (authority_at w pid)) (λ a body. refl) refl)
+
+step_execve : (w : World) (pid q : ℕ) (f : Authority → Result Authority Errno)
+    → CameBy (cond ((pid == q) && true) (λ a. result_unwrap_or (f a) a) (λ a. a)) (at (execve w pid (f (authority_at w pid))).world q) (at w q)
+step_execve w pid q f =
+    subst (λ v. CameBy (cond ((pid == q) && true) (λ a. result_unwrap_or (f a) a) (λ a. a)) (at v q) (at w q)) (execve_world w pid (f (authority_at w pid)))
+    (step_authorised w pid q f executing (f (authority_at w pid)) (λ a body. refl) refl)
+
+-- a row whose call leaves every authority
+step_quiet : (pid q : ℕ) (now before : Option Proc) → Came now before → CameBy (cond ((pid == q) && true) (λ a. a) (λ a. a)) now before
+step_quiet pid q now before came = leaves ((pid == q) && true) (λ a. a) now before (λ a. refl) came
+
+keeps_subreapers : (there : Bool) (w : World) (p : Performed) → Keeps w p.world → Keeps w (where_subreapers there w p).world
+keeps_subreapers true w p kept = kept
+keeps_subreapers false w p kept = keeps_still w
+
+step_prctl : (images : GivenImages) (w : World) (pid q : ℕ) (which : Option PrctlOption) (call : Record)
+    → CameBy (cond ((pid == q) && true) (λ a. result_unwrap_or (after_prctl images which call a) a) (λ a. a)) (at (prctl images w pid which call).world q) (at w q)
+step_prctl images w pid q (Some option.SetNoNewPrivs) call = step_authorises w pid q (after_no_new_privs call)
+step_prctl images w pid q (Some option.SetSeccomp) call = step_authorises w pid q (after_set_seccomp images call)
+step_prctl images w pid q (Some option.GetSeccomp) call = step_quiet pid q _ (at w q) (keeps_still w q)
+step_prctl images w pid q (Some option.GetNoNewPrivs) call =
+    step_quiet pid q _ (at w q) (over_asked Keeps keeps w (no_new_privs_asked call (body_of (at w pid)).creds.no_new_privs) q)
+step_prctl images w pid q (Some option.SetChildSubreaper) call =
+    step_quiet pid q _ (at w q) (keeps_subreapers images.subreapers w (subreaper_set w pid call) (keeps_changed w pid (with_subreaper (not (register call 1 == 0))) (λ body. refl)) q)
+step_prctl images w pid q (Some option.GetChildSubreaper) call = step_quiet pid q _ (at w q) (keeps_subreapers images.subreapers w (subreaper_asked w pid) (keeps_still w) q)
+step_prctl images w pid q None call = step_quiet pid q _ (at w q) (keeps_still w q)
+
+step_seccomp : (images : GivenImages) (w : World) (pid q : ℕ) (which : Option SeccompOperation) (call : Record)
+    → CameBy (cond ((pid == q) && true) (λ a. result_unwrap_or (after_seccomp images which call a) a) (λ a. a)) (at (seccomp images w pid which call).world q) (at w q)
+step_seccomp images w pid q (Some operation.SetModeFilter) call = step_authorises w pid q (after_set_mode_filter images call)
+step_seccomp images w pid q (Some operation.GetActionAvail) call =
+    step_quiet pid q _ (at w q) (over_asked Keeps keeps w (action_available (low call 1) (low call 2)) q)
+step_seccomp images w pid q None call = step_quiet pid q _ (at w q) (keeps_still w q)
+
+and_true : (b c : Bool) → c ≡ true → (b && c) ≡ b
+and_true true c is = is
+and_true false c is = refl
+
+step_fork : (images : GivenImages) (w : World) (pid q : ℕ) (call : Record) (b : Bool) → has_room w ≡ b → IsTrue (is_alive (at w pid))
+    → RowStep images w pid q call (Some syscall.Fork) (forks w pid (cond b (Ok (fresh_of w)) (Err Eagain)))
+step_fork images w pid q call true room alive =
+    leaves ((pid == q) && not (q == fresh_of w)) (λ a. a) (at (forked w pid) q) (at w (cond (q == fresh_of w) pid q)) (λ a. refl)
+    (subst (λ c. Came (at (forked w pid) q) (at w (cond c pid q))) (and_true (q == fresh_of w) (has_room w) room)
+    (came_by_rights (at (forked w pid) q) (at w (cond ((q == fresh_of w) && has_room w) pid q)) (forked_rights w pid q alive)))
+step_fork images w pid q call false room alive = leaves ((pid == q) && true) (λ a. a) (at w q) (at w q) (λ a. refl) (came_still (at w q))
+
+step_row : (images : GivenImages) (w : World) (pid q : ℕ) (which : Option Syscall) (call : Record) → IsTrue (is_alive (at w pid)) → RowStep images w pid q call which (row images w pid which call)
+step_row images w pid q (Some syscall.RtSigaction) call alive = step_quiet pid q _ (at w q) (over_resignals Keeps keeps w pid (after_sigaction pid call (body_of (at w pid)).signals) q)
+step_row images w pid q (Some syscall.RtSigprocmask) call alive = step_quiet pid q _ (at w q) (over_resignals Keeps keeps w pid (after_sigprocmask call (body_of (at w pid)).signals) q)
+step_row images w pid q (Some syscall.RtSigreturn) call alive =
+    step_quiet pid q _ (at w q) (over_resignals Keeps keeps w pid (after_sigreturn (body_of (at w pid)).signals.frames (body_of (at w pid)).signals) q)
+step_row images w pid q (Some syscall.RtSigpending) call alive = step_quiet pid q _ (at w q) (keeps_still w q)
+step_row images w pid q (Some syscall.SchedYield) call alive = step_quiet pid q _ (at w q) (keeps_still w q)
+step_row images w pid q (Some syscall.Pause) call alive = step_quiet pid q _ (at w q) (over_waits Keeps keeps w pid waiting.Pause q)
+step_row images w pid q (Some syscall.Getpid) call alive = step_quiet pid q _ (at w q) (keeps_still w q)
+step_row images w pid q (Some syscall.Getppid) call alive = step_quiet pid q _ (at w q) (keeps_still w q)
+step_row images w pid q (Some syscall.Fork) call alive = step_fork images w pid q call (has_room w) refl alive
+step_row images w pid q (Some syscall.Execve) call alive = step_execve w pid q (authority_after images (Some syscall.Execve) call)
+step_row images w pid q (Some syscall.Exit) call alive = step_quiet pid q _ (at w q) (over_end Keeps keeps w pid (exit_status (low call 0)) (alive_is_there (at w pid) alive) q)
+step_row images w pid q (Some syscall.ExitGroup) call alive = step_quiet pid q _ (at w q) (over_end Keeps keeps w pid (exit_status (low call 0)) (alive_is_there (at w pid) alive) q)
+step_row images w pid q (Some syscall.Wait4) call alive = step_quiet pid q _ (at w q) (over_wait4 Keeps keeps w pid call q)
+step_row images w pid q (Some syscall.Kill) call alive =
+    step_quiet pid q _ (at w q) (over_changes Keeps keeps w 0 (after_kill w pid (signed call 0) (low call 1)) (over_kill Keeps keeps w pid (signed call 0) (low call 1)) q)
+step_row images w pid q (Some syscall.Getuid) call alive = step_quiet pid q _ (at w q) (keeps_still w q)
+step_row images w pid q (Some syscall.Geteuid) call alive = step_quiet pid q _ (at w q) (keeps_still w q)
+step_row images w pid q (Some syscall.Setuid) call alive = step_authorises w pid q (authority_after images (Some syscall.Setuid) call)
+step_row images w pid q (Some syscall.Setresuid) call alive = step_authorises w pid q (authority_after images (Some syscall.Setresuid) call)
+step_row images w pid q (Some syscall.Getresuid) call alive = step_quiet pid q _ (at w q) (keeps_still w q)
+step_row images w pid q (Some syscall.Setpgid) call alive =
+    step_quiet pid q _ (at w q) (over_changes Keeps keeps w 0 (after_setpgid w pid (signed call 0) (signed call 1)) (over_setpgid Keeps keeps w pid (signed call 0) (signed call 1)) q)
+step_row images w pid q (Some syscall.Getpgrp) call alive = step_quiet pid q _ (at w q) (keeps_still w q)
+step_row images w pid q (Some syscall.Setsid) call alive = step_quiet pid q _ (at w q) (over_changes Keeps keeps w pid (after_setsid w pid) (over_setsid Keeps keeps w pid) q)
+step_row images w pid q (Some syscall.Getpgid) call alive = step_quiet pid q _ (at w q) (over_asked Keeps keeps w (group_asked w pid (signed call 0)) q)
+step_row images w pid q (Some syscall.Getsid) call alive = step_quiet pid q _ (at w q) (over_asked Keeps keeps w (session_asked w pid (signed call 0)) q)
+step_row images w pid q (Some syscall.Prctl) call alive = step_prctl images w pid q (prctl_option_of (low call 0)) call
+step_row images w pid q (Some syscall.Seccomp) call alive = step_seccomp images w pid q (seccomp_operation_of (low call 0)) call
+step_row images w pid q None call alive = step_quiet pid q _ (at w q) (keeps_still w q)
+
+-- ---- one event
+-- the same, where this call was performed, or none
+abbrev CallStep : GivenImages → World → ℕ → ℕ → Option Record → Performed → Type 0
+CallStep images w pid q o p =
+    CameBy (authority_after_calls images (cond ((pid == q) && not (is_fork o && has_returned q p.outcome)) (option_to_list o) []))
+    (at p.world q) (at w (cond (is_fork o && has_returned q p.outcome) pid q))
+
+no_calls : (images : GivenImages) (b : Bool) (now before : Option Proc) → Came now before → CameBy (authority_after_calls images (cond b [] [])) now before
+no_calls images true now before came = came
+no_calls images false now before came = came
+
+one_call : (images : GivenImages) (b : Bool) (call : Record) (now before : Option Proc)
+    → CameBy (cond b (λ a. result_unwrap_or (authority_after images (syscall_of call.nr) call a) a) (λ a. a)) now before
+    → CameBy (authority_after_calls images (cond b (call ∷ []) [])) now before
+one_call images true call now before came = came
+one_call images false call now before came = came
+
+step_performed : (images : GivenImages) (w : World) (pid q : ℕ) (call : Record) → IsTrue (is_alive (at w pid))
+    → CallStep images w pid q (Some call) (row images w pid (syscall_of call.nr) call)
+step_performed images w pid q call alive =
+    let p : Performed = row images w pid (syscall_of call.nr) call in
+    let f : Authority → Authority = λ a. result_unwrap_or (authority_after images (syscall_of call.nr) call a) a in
+    let by_number : CameBy (cond ((pid == q) && not ((call.nr == 57) && has_returned q p.outcome)) f (λ a. a)) (at p.world q) (at w (cond ((call.nr == 57) && has_returned q p.outcome) pid q)) =
+    subst (λ b. CameBy (cond ((pid == q) && not (b && has_returned q p.outcome)) f (λ a. a)) (at p.world q) (at w (cond (b && has_returned q p.outcome) pid q)))
+    (fork_number call.nr) (step_row images w pid q (syscall_of call.nr) call alive) in
+    one_call images ((pid == q) && not ((call.nr == 57) && has_returned q p.outcome)) call (at p.world q) (at w (cond ((call.nr == 57) && has_returned q p.outcome) pid q)) by_number
+
+step_refused : (images : GivenImages) (w : World) (pid q : ℕ) (p : Performed) → Keeps w p.world → CallStep images w pid q None p
+step_refused images w pid q p keeps = no_calls images ((pid == q) && true) (at p.world q) (at w q) (keeps q)
+
+step_judged : (images : GivenImages) (w : World) (pid q : ℕ) (call : Record) (verdict : ℕ) (a : Action) → IsTrue (is_alive (at w pid))
+    → CallStep images w pid q (cond (performs a) (Some call) None) (judged images w pid call verdict a)
+step_judged images w pid q call verdict action.Allow alive = step_performed images w pid q call alive
+step_judged images w pid q call verdict action.Log alive = step_performed images w pid q call alive
+step_judged images w pid q call verdict action.Trap alive = step_refused images w pid q (judged images w pid call verdict action.Trap) (keeps_by_rights w (forced w pid) (forced_rights w pid))
+step_judged images w pid q call verdict action.Errno alive = step_refused images w pid q (judged images w pid call verdict action.Errno) (keeps_still w)
+step_judged images w pid q call verdict action.UserNotif alive = step_refused images w pid q (judged images w pid call verdict action.UserNotif) (keeps_still w)
+step_judged images w pid q call verdict action.Trace alive = step_refused images w pid q (judged images w pid call verdict action.Trace) (keeps_still w)
+step_judged images w pid q call verdict action.KillProcess alive = step_refused images w pid q (judged images w pid call verdict action.KillProcess) (over_end Keeps keeps w pid SIGSYS (alive_is_there (at w pid) alive))
+step_judged images w pid q call verdict action.KillThread alive = step_refused images w pid q (judged images w pid call verdict action.KillThread) (over_end Keeps keeps w pid SIGSYS (alive_is_there (at w pid) alive))
+step_judged images w pid q call verdict action.Unknown alive = step_refused images w pid q (judged images w pid call verdict action.Unknown) (over_end Keeps keeps w pid SIGSYS (alive_is_there (at w pid) alive))
+
+abbrev EventStep : GivenImages → World → Event → Stepped → ℕ → Type 0
+EventStep images w event s q =
+    CameBy (authority_after_calls images (calls_added q (event, s.answer))) (at s.world q) (at w (line_before q (event, s.answer)))
+
+step_happened : (images : GivenImages) (w : World) (event : Event) (q : ℕ) → IsTrue (is_alive (at w (pid_of event))) → EventStep images w event (happened images w event) q
+step_happened images w (Call pid ip nr args) q alive =
+    let call : Record = record { nr = nr; ip = ip; args = args } in
+    let verdict : ℕ = verdict_of (body_of (at w pid)).chain call in
+    step_judged images w pid q call verdict (action_of verdict) alive
+step_happened images w (Deliver pid) q alive = no_calls images ((pid == q) && true) _ (at w q) (over_delivered Keeps keeps w pid (unwrap_or (signal_due (at w pid)) 0) (alive_is_there (at w pid) alive) q)
+step_happened images w (Resume pid) q alive = no_calls images ((pid == q) && true) _ (at w q) (over_resumed Keeps keeps w pid (body_of (at w pid)).waiting q)
+step_happened images w (Fault pid) q alive = no_calls images ((pid == q) && true) _ (at w q) (over_end Keeps keeps w pid SIGSEGV (alive_is_there (at w pid) alive) q)
+
+step_stepped : (images : GivenImages) (w : World) (event : Event) (o : Option Reason) (q : ℕ) → reason_of w event ≡ o → EventStep images w event (stepped images w event o) q
+step_stepped images w event (Some reason) q is = no_calls images ((pid_of event == q) && true) (at w q) (at w q) (came_still (at w q))
+step_stepped images w event None q is = step_happened images w event q (possible_is_alive w event is)
+
+pub step_event : (images : GivenImages) (w : World) (event : Event) (q : ℕ) → EventStep images w event (step_of images w event) q
+unfolding step_of
+step_event images w event q = step_stepped images w event (reason_of w event) q refl
+
+-- ---- a list of events
+pub after_more : (images : GivenImages) (calls more : List Record) (a : Authority)
+    → authority_after_calls images (calls ++ more) a ≡ authority_after_calls images more (authority_after_calls images calls a)
+after_more images [] more a = refl
+after_more images (call ∷ calls) more a = after_more images calls more _
+
+-- each process comes from the root of its line, with the authority that the line's calls make of the root's
+abbrev HasLines : GivenImages → World → World → List Happening → Type 0
+HasLines images start w history =
+    (q : ℕ) → CameBy (authority_after_calls images (line_of history q).calls) (at w q) (at start (line_of history q).root)
+
+one_more : (images : GivenImages) (start w : World) (event : Event) (history : List Happening) → HasLines images start w history
+    → HasLines images start (step_of images w event).world ((event, (step_of images w event).answer) ∷ history)
+one_more images start w event history lines q = λ p is.
+    let x : Happening = (event, (step_of images w event).answer) in
+    let line : Line = line_of history (line_before q x) in
+    let middle = step_event images w event q p is in
+    let root = lines (line_before q x) middle.0 middle.1 in
+    (root.0, root.1, middle.2 ∙ ap (authority_after_calls images (calls_added q x)) root.2 ∙ sym (after_more images line.calls (calls_added q x) (authority_of root.0.body)))
+
+pub has_lines : (images : GivenImages) (start w : World) (events : List Event) (history : List Happening) → HasLines images start w history
+    → HasLines images start (world_after images w events) (history_after images w events history)
+has_lines images start w [] history lines = lines
+has_lines images start w (event ∷ events) history lines =
+    has_lines images start (step_of images w event).world events ((event, (step_of images w event).answer) ∷ history) (one_more images start w event history lines)
+
+someone : (o : Option Proc) → IsTrue (is_some o) → (p : Proc) × (o ≡ Some p)
+someone None there = absurd (false≢true there)
+someone (Some p) there = (p, refl)
+
+by_origin : (f : Authority → Authority) (now before : Option Proc) → CameBy f now before → IsTrue (is_some now)
+    → IsTrue (is_some before) × (authority_of (body_of now) ≡ f (authority_of (body_of before)))
+by_origin f now before came there =
+    let p = someone now there in
+    let old = came p.0 p.1 in
+    (ap is_some old.1, ap (λ o. authority_of (body_of o)) p.1 ∙ old.2 ∙ ap (λ o. f (authority_of (body_of o))) (sym old.1))
+
+pub event_changes_authority : EventChangesAuthority
+event_changes_authority images w event pid there =
+    by_origin (authority_after_calls images (calls_added pid (happening images w event))) (at (step_of images w event).world pid) (at w (line_before pid (happening images w event)))
+    (step_event images w event pid) there
+
+pub authority_is_of_line : AuthorityIsOfLine
+authority_is_of_line images w events pid there =
+    let line : Line = line_of (history_after images w events []) pid in
+    by_origin (authority_after_calls images line.calls) (at (world_after images w events) pid) (at w line.root)
+    (has_lines images w w events [] (λ q. came_still (at w q)) pid) there
+
+only_init : (q : ℕ) → IsTrue (is_some (at opening q)) → q ≡ INIT
+only_init = everywhere (record { procs = none; last = INIT }) INIT (Some first_process) (λ k x. IsTrue (is_some x) → k ≡ INIT) (λ _. refl) (λ q ne there. absurd (false≢true there))
+
+pub line_comes_from_init : LineComesFromInit
+line_comes_from_init images events pid there =
+    only_init (line_of (history_after images opening events []) pid).root (authority_is_of_line images opening events pid there).0

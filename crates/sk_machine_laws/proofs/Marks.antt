@@ -1,0 +1,237 @@
+-- Where there are no subreapers no event makes one.
+use Rattle.std.proofs.Common.{◌≡◌, ◌∙◌, ℕ, ◌==◌, ◌&&◌, ap, sym, refl, cond, not, Bool, true, false, IsTrue, [], ◌∷◌, Option, None, Some, Result, Ok, Err}
+use Rattle.std.specs.Option.{is_some, unwrap_or, option_map, option_map_or, option_and_then}
+use Rattle.std.proofs.lemmas.Bool.{false≢true, cond_both}
+use Rattle.sk_insn.specs.declared.record.Record.{Record}
+use Rattle.sk_insn.specs.declared.action.Action.{Action}
+use Rattle.sk_insn.specs.declared.action.Action.TheVariants as action
+use Rattle.sk_insn.specs.Actions.{action_of}
+use Rattle.sk_chain.specs.Verdict.{verdict_of}
+use Rattle.sk_creds.specs.declared.errno.Errno.{Errno}
+use Rattle.sk_signal.specs.declared.number.TheConstants.{SIGSEGV, SIGCHLD, SIGSYS}
+use Rattle.sk_signal.specs.Generation.{forced as sigsys_forced}
+use Rattle.sk_calls.specs.declared.syscall.Syscall.{Syscall}
+use Rattle.sk_calls.specs.declared.syscall.Syscall.TheVariants as syscall
+use Rattle.sk_calls.specs.Syscalls.{syscall_of}
+use Rattle.sk_world.specs.declared.process.TheConstants.{INIT}
+use Rattle.sk_world.specs.declared.process.Life.TheVariants.{Zombie}
+use Rattle.sk_world.specs.declared.process.Links.{Links}
+use Rattle.sk_world.specs.declared.process.Body.{Body}
+use Rattle.sk_world.specs.declared.process.Proc.{Proc}
+use Rattle.sk_world.specs.declared.process.Waiting.TheVariants as waiting
+use Rattle.sk_world.specs.declared.request.Poll.TheVariants as poll
+use Rattle.sk_world.specs.Processes.{none}
+use Rattle.sk_world.specs.World.{World, at, is_zombie, parent_of, stored, body_changed, changed, links_changed, relinked, first_process, opening}
+use Rattle.sk_world.specs.Numbers.{fresh_of}
+use Rattle.sk_world.specs.Sending.{sent}
+use Rattle.sk_world.specs.Forking.{has_room, child_of, fork_answer}
+use Rattle.sk_world.specs.Subreapers.{is_subreaper, new_parent}
+use Rattle.sk_world.specs.Ending.{ignores_children, handed_on, with_children_handed_on, has_zombie_child, reparented, zombie, left_to_parent, ended}
+use Rattle.sk_world.specs.Waits.{without_note, told}
+use Rattle.sk_world_laws.specs.ChangeLaws.{unsignalled}
+use Rattle.sk_world.proofs.Maps.{get_store}
+use Rattle.sk_world.proofs.Stored.{everywhere}
+use Rattle.sk_world.proofs.KeptEnd.{handed_cases, handed_at, alive_is_there}
+use Rattle.sk_world_laws.proofs.Locality.{sent_leaves}
+use Rattle.sk_session.specs.Sessions.{after_setpgid, after_setsid, group_asked, session_asked}
+use Rattle.sk_machine.specs.declared.event.Event.{Event}
+use Rattle.sk_machine.specs.declared.event.Event.TheVariants.{Call, Deliver, Resume, Fault}
+use Rattle.sk_machine.specs.declared.answer.Reason.{Reason}
+use Rattle.sk_machine.specs.declared.operation.PrctlOption.{PrctlOption}
+use Rattle.sk_machine.specs.declared.operation.PrctlOption.TheVariants as option
+use Rattle.sk_machine.specs.declared.operation.SeccompOperation.{SeccompOperation}
+use Rattle.sk_machine.specs.declared.operation.SeccompOperation.TheVariants as operation
+use Rattle.sk_machine.specs.Arguments.{low, signed, prctl_option_of, seccomp_operation_of}
+use Rattle.sk_machine.specs.Events.{pid_of}
+use Rattle.sk_machine.specs.Given.{GivenImages}
+use Rattle.sk_machine.specs.Authority.{Authority, with_authority, after_no_new_privs, after_set_seccomp, after_set_mode_filter}
+use Rattle.sk_machine.specs.Performed.{Performed, body_of, authority_at, authorises}
+use Rattle.sk_machine.specs.SignalCalls.{after_sigaction, after_sigprocmask, after_sigreturn}
+use Rattle.sk_machine.specs.Killing.{after_kill}
+use Rattle.sk_machine.specs.Performing.{executing, execve, forks, exit_status, authorised, no_new_privs_asked, subreaper_set, subreaper_asked, where_subreapers, prctl, action_available, seccomp, row}
+use Rattle.sk_machine.specs.Delivering.{signal_due}
+use Rattle.sk_machine.specs.Machine.{judged, happened, reason_of, stepped, step_of}
+use Rattle.sk_machine_laws.specs.MachineLaws.{HasNoSubreapers, EventMarksNobody, RunMarksNobody, NobodyIsMarked}
+use Rattle.sk_machine_laws.proofs.Carrying.{Carries, over_asked, over_changes, over_resignals, over_waits, over_kill, over_setpgid, over_setsid, over_wait4, over_end, over_delivered, over_resumed}
+use Rattle.sk_machine_laws.proofs.KeptEvents.{possible_is_alive}
+
+-- no subreaper comes
+abbrev MarksNobody : World → World → Type 0
+MarksNobody w after = HasNoSubreapers w → HasNoSubreapers after
+
+same_mark : (g : Body → Body) → ((body : Body) → (g body).subreaper ≡ body.subreaper) → (o : Option Proc) → is_subreaper (option_map (body_changed g) o) ≡ is_subreaper o
+same_mark g same None = refl
+same_mark g same (Some p) = same p.body
+
+marks_changed : (w : World) (pid : ℕ) (g : Body → Body) → ((body : Body) → (g body).subreaper ≡ body.subreaper) → MarksNobody w (changed w pid g)
+marks_changed w pid g same none =
+    everywhere w pid (option_map (body_changed g) (at w pid)) (λ k x. is_subreaper x ≡ false) (same_mark g same (at w pid) ∙ none pid) (λ q ne. none q)
+
+same_links : (f : Links → Links) (o : Option Proc) → is_subreaper (option_map (links_changed f) o) ≡ is_subreaper o
+same_links f None = refl
+same_links f (Some p) = refl
+
+marks_links : (w : World) (pid : ℕ) (f : Links → Links) → MarksNobody w (relinked w pid f)
+marks_links w pid f none =
+    everywhere w pid (option_map (links_changed f) (at w pid)) (λ k x. is_subreaper x ≡ false) (same_links f (at w pid) ∙ none pid) (λ q ne. none q)
+
+marks_gone : (w : World) (pid : ℕ) → MarksNobody w (stored w pid None)
+marks_gone w pid none = everywhere w pid None (λ k x. is_subreaper x ≡ false) refl (λ q ne. none q)
+
+but_for_signals : (o : Option Proc) → is_subreaper o ≡ is_subreaper (option_map unsignalled o)
+but_for_signals None = refl
+but_for_signals (Some p) = refl
+
+marks_sent : (w : World) (pid n : ℕ) → MarksNobody w (sent w pid n)
+marks_sent w pid n none q = but_for_signals (at (sent w pid n) q) ∙ ap is_subreaper (sent_leaves w pid n q) ∙ sym (but_for_signals (at w q)) ∙ none q
+
+marks_heir : (dying parent : ℕ) (leaves_none : Bool) (o : Option Proc) → is_subreaper o ≡ false → is_subreaper (option_and_then (handed_on dying parent leaves_none) o) ≡ false
+marks_heir dying parent leaves_none None unmarked = refl
+marks_heir dying parent leaves_none (Some p) unmarked = handed_cases dying parent leaves_none p (λ x. is_subreaper x ≡ false) (λ _. unmarked) (λ _ _. refl) (λ _. unmarked)
+
+marks_handed : (w : World) (pid : ℕ) → MarksNobody w (with_children_handed_on w pid)
+marks_handed w pid none q = ap is_subreaper (handed_at w pid q) ∙ marks_heir pid (new_parent w pid) (ignores_children (at w (new_parent w pid))) (at w q) (none q)
+
+marks_reparented : (w : World) (pid : ℕ) → MarksNobody w (reparented w pid)
+marks_reparented w pid =
+    let heir : ℕ = new_parent w pid in
+    let handed : World = with_children_handed_on w pid in
+    cond_both (has_zombie_child w pid && not (ignores_children (at w heir))) (sent handed heir SIGCHLD) handed (MarksNobody w)
+    (λ _ none. marks_sent handed heir SIGCHLD (marks_handed w pid none)) (λ _. marks_handed w pid)
+
+marks_died : (w : World) (pid status : ℕ) → MarksNobody w (left_to_parent w pid status)
+marks_died w pid status =
+    let parent : ℕ = parent_of (at w pid) in
+    let dead : World = changed w pid (zombie status) in
+    cond_both (ignores_children (at w parent)) (stored w pid None) (sent dead parent SIGCHLD) (MarksNobody w) (λ _. marks_gone w pid)
+    (λ _ none. marks_sent dead parent SIGCHLD (marks_changed w pid (zombie status) (λ body. refl) none))
+
+marks_ended : (w : World) (pid status : ℕ) → MarksNobody w (ended w pid status)
+marks_ended w pid status =
+    cond_both (pid == INIT) (changed w INIT (λ body. record body { life = Zombie status })) (left_to_parent (reparented w pid) pid status) (MarksNobody w)
+    (λ _. marks_changed w INIT (λ body. record body { life = Zombie status }) (λ body. refl))
+    (λ _ none. marks_died (reparented w pid) pid status (marks_reparented w pid none))
+
+marks_told : (w : World) (child status : ℕ) → MarksNobody w (told w (poll.Told child status))
+marks_told w child status =
+    cond_both (is_zombie (at w child)) (stored w child None) (changed w child without_note) (MarksNobody w) (λ _. marks_gone w child) (λ _. marks_changed w child without_note (λ body. refl))
+
+marks : Carries MarksNobody
+marks = record {
+  still = λ w none. none;
+  twice = λ v w x first later none. later (first none);
+  changed = λ w pid g ordinary. marks_changed w pid g (λ body. (ordinary body).1);
+  links = λ w pid f _. marks_links w pid f;
+  sent = marks_sent;
+  ended = λ w pid status _. marks_ended w pid status;
+  telling = marks_told;
+}
+
+-- ---- rows
+marks_authorises : (w : World) (pid : ℕ) (r : Result Authority Errno) → MarksNobody w (authorises w pid r).world
+marks_authorises w pid (Ok a) = marks_changed w pid (with_authority a) (λ body. refl)
+marks_authorises w pid (Err e) = λ none. none
+
+marks_execve : (w : World) (pid : ℕ) (r : Result Authority Errno) → MarksNobody w (execve w pid r).world
+marks_execve w pid (Ok a) = marks_changed w pid (executing a) (λ body. refl)
+marks_execve w pid (Err e) = λ none. none
+
+marks_child : (w : World) (pid : ℕ) (o : Option Proc) → MarksNobody w (option_map_or (λ p. record (stored w (fresh_of w) (Some (child_of pid p))) { last = fresh_of w }) o w)
+marks_child w pid None none = none
+marks_child w pid (Some p) none = everywhere w (fresh_of w) (Some (child_of pid p)) (λ k x. is_subreaper x ≡ false) refl (λ q ne. none q)
+
+marks_forks : (w : World) (pid : ℕ) (r : Result ℕ Errno) → MarksNobody w (forks w pid r).world
+marks_forks w pid (Ok child) =
+    cond_both (has_room w) (option_map_or (λ p. record (stored w (fresh_of w) (Some (child_of pid p))) { last = fresh_of w }) (at w pid) w) w (MarksNobody w) (λ _. marks_child w pid (at w pid)) (λ _ none. none)
+marks_forks w pid (Err e) = λ none. none
+
+marks_where : (there : Bool) (w : World) (p : Performed) → there ≡ false → MarksNobody w (where_subreapers there w p).world
+marks_where true w p is = absurd (false≢true (sym is))
+marks_where false w p is = λ none. none
+
+marks_prctl : (images : GivenImages) (w : World) (pid : ℕ) (which : Option PrctlOption) (call : Record) → images.subreapers ≡ false → MarksNobody w (prctl images w pid which call).world
+marks_prctl images w pid (Some option.SetNoNewPrivs) call is = marks_authorises w pid (after_no_new_privs call (authority_at w pid))
+marks_prctl images w pid (Some option.SetSeccomp) call is = marks_authorises w pid (after_set_seccomp images call (authority_at w pid))
+marks_prctl images w pid (Some option.GetSeccomp) call is = λ none. none
+marks_prctl images w pid (Some option.GetNoNewPrivs) call is = over_asked MarksNobody marks w (no_new_privs_asked call (body_of (at w pid)).creds.no_new_privs)
+marks_prctl images w pid (Some option.SetChildSubreaper) call is = marks_where images.subreapers w (subreaper_set w pid call) is
+marks_prctl images w pid (Some option.GetChildSubreaper) call is = marks_where images.subreapers w (subreaper_asked w pid) is
+marks_prctl images w pid None call is = λ none. none
+
+marks_seccomp : (images : GivenImages) (w : World) (pid : ℕ) (which : Option SeccompOperation) (call : Record) → MarksNobody w (seccomp images w pid which call).world
+marks_seccomp images w pid (Some operation.SetModeFilter) call = marks_authorises w pid (after_set_mode_filter images call (authority_at w pid))
+marks_seccomp images w pid (Some operation.GetActionAvail) call = over_asked MarksNobody marks w (action_available (low call 1) (low call 2))
+marks_seccomp images w pid None call = λ none. none
+
+marks_row : (images : GivenImages) (w : World) (pid : ℕ) (which : Option Syscall) (call : Record) → images.subreapers ≡ false → IsTrue (is_some (at w pid)) → MarksNobody w (row images w pid which call).world
+marks_row images w pid (Some syscall.RtSigaction) call is there = over_resignals MarksNobody marks w pid (after_sigaction pid call (body_of (at w pid)).signals)
+marks_row images w pid (Some syscall.RtSigprocmask) call is there = over_resignals MarksNobody marks w pid (after_sigprocmask call (body_of (at w pid)).signals)
+marks_row images w pid (Some syscall.RtSigreturn) call is there =
+    over_resignals MarksNobody marks w pid (after_sigreturn (body_of (at w pid)).signals.frames (body_of (at w pid)).signals)
+marks_row images w pid (Some syscall.RtSigpending) call is there = λ none. none
+marks_row images w pid (Some syscall.SchedYield) call is there = λ none. none
+marks_row images w pid (Some syscall.Pause) call is there = over_waits MarksNobody marks w pid waiting.Pause
+marks_row images w pid (Some syscall.Getpid) call is there = λ none. none
+marks_row images w pid (Some syscall.Getppid) call is there = λ none. none
+marks_row images w pid (Some syscall.Fork) call is there = marks_forks w pid (fork_answer w)
+marks_row images w pid (Some syscall.Execve) call is there = marks_execve w pid (authorised images w pid syscall.Execve call)
+marks_row images w pid (Some syscall.Exit) call is there = over_end MarksNobody marks w pid (exit_status (low call 0)) there
+marks_row images w pid (Some syscall.ExitGroup) call is there = over_end MarksNobody marks w pid (exit_status (low call 0)) there
+marks_row images w pid (Some syscall.Wait4) call is there = over_wait4 MarksNobody marks w pid call
+marks_row images w pid (Some syscall.Kill) call is there =
+    over_changes MarksNobody marks w 0 (after_kill w pid (signed call 0) (low call 1)) (over_kill MarksNobody marks w pid (signed call 0) (low call 1))
+marks_row images w pid (Some syscall.Getuid) call is there = λ none. none
+marks_row images w pid (Some syscall.Geteuid) call is there = λ none. none
+marks_row images w pid (Some syscall.Setuid) call is there = marks_authorises w pid (authorised images w pid syscall.Setuid call)
+marks_row images w pid (Some syscall.Setresuid) call is there = marks_authorises w pid (authorised images w pid syscall.Setresuid call)
+marks_row images w pid (Some syscall.Getresuid) call is there = λ none. none
+marks_row images w pid (Some syscall.Setpgid) call is there =
+    over_changes MarksNobody marks w 0 (after_setpgid w pid (signed call 0) (signed call 1)) (over_setpgid MarksNobody marks w pid (signed call 0) (signed call 1))
+marks_row images w pid (Some syscall.Getpgrp) call is there = λ none. none
+marks_row images w pid (Some syscall.Setsid) call is there = over_changes MarksNobody marks w pid (after_setsid w pid) (over_setsid MarksNobody marks w pid)
+marks_row images w pid (Some syscall.Getpgid) call is there = over_asked MarksNobody marks w (group_asked w pid (signed call 0))
+marks_row images w pid (Some syscall.Getsid) call is there = over_asked MarksNobody marks w (session_asked w pid (signed call 0))
+marks_row images w pid (Some syscall.Prctl) call is there = marks_prctl images w pid (prctl_option_of (low call 0)) call is
+marks_row images w pid (Some syscall.Seccomp) call is there = marks_seccomp images w pid (seccomp_operation_of (low call 0)) call
+marks_row images w pid None call is there = λ none. none
+
+-- ---- events
+marks_judged : (images : GivenImages) (w : World) (pid : ℕ) (call : Record) (verdict : ℕ) (a : Action) → images.subreapers ≡ false → IsTrue (is_some (at w pid)) → MarksNobody w (judged images w pid call verdict a).world
+marks_judged images w pid call verdict action.Allow is there = marks_row images w pid (syscall_of call.nr) call is there
+marks_judged images w pid call verdict action.Log is there = marks_row images w pid (syscall_of call.nr) call is there
+marks_judged images w pid call verdict action.Trap is there = marks_changed w pid (λ body. record body { signals = sigsys_forced body.signals }) (λ body. refl)
+marks_judged images w pid call verdict action.Errno is there = λ none. none
+marks_judged images w pid call verdict action.UserNotif is there = λ none. none
+marks_judged images w pid call verdict action.Trace is there = λ none. none
+marks_judged images w pid call verdict action.KillProcess is there = over_end MarksNobody marks w pid SIGSYS there
+marks_judged images w pid call verdict action.KillThread is there = over_end MarksNobody marks w pid SIGSYS there
+marks_judged images w pid call verdict action.Unknown is there = over_end MarksNobody marks w pid SIGSYS there
+
+marks_happened : (images : GivenImages) (w : World) (event : Event) → images.subreapers ≡ false → IsTrue (is_some (at w (pid_of event))) → MarksNobody w (happened images w event).world
+marks_happened images w (Call pid ip nr args) is there =
+    let call : Record = record { nr = nr; ip = ip; args = args } in
+    let verdict : ℕ = verdict_of (body_of (at w pid)).chain call in
+    marks_judged images w pid call verdict (action_of verdict) is there
+marks_happened images w (Deliver pid) is there = over_delivered MarksNobody marks w pid (unwrap_or (signal_due (at w pid)) 0) there
+marks_happened images w (Resume pid) is there = over_resumed MarksNobody marks w pid (body_of (at w pid)).waiting
+marks_happened images w (Fault pid) is there = over_end MarksNobody marks w pid SIGSEGV there
+
+marks_stepped : (images : GivenImages) (w : World) (event : Event) (o : Option Reason) → reason_of w event ≡ o → images.subreapers ≡ false → MarksNobody w (stepped images w event o).world
+marks_stepped images w event (Some reason) possible is = λ none. none
+marks_stepped images w event None possible is = marks_happened images w event is (alive_is_there (at w (pid_of event)) (possible_is_alive w event possible))
+
+pub event_marks_nobody : EventMarksNobody
+unfolding step_of
+event_marks_nobody images w event is = marks_stepped images w event (reason_of w event) refl is
+
+pub run_marks_nobody : RunMarksNobody
+run_marks_nobody images w [] is none = none
+run_marks_nobody images w (event ∷ events) is none = run_marks_nobody images (step_of images w event).world events is (event_marks_nobody images w event is none)
+
+first_unmarked : (b : Bool) → is_subreaper (cond b (Some first_process) None) ≡ false
+first_unmarked true = refl
+first_unmarked false = refl
+
+pub nobody_is_marked : NobodyIsMarked
+nobody_is_marked images events is =
+    run_marks_nobody images opening events is (λ pid. ap is_subreaper (get_store none INIT (Some first_process) pid) ∙ first_unmarked (pid == INIT))

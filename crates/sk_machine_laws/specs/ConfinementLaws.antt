@@ -1,0 +1,112 @@
+-- Laws on confinement: what a process whose filters refuse kill(2), and those that come from it, can do to
+-- all others.
+use Rattle.std.specs.Prelude.{ℕ, ◌≡◌, ◌≢◌, ◌<ℤ◌, ◌==◌, ◌||◌, Bool, true, false, IsTrue, List, [], ◌∷◌, Option}
+use Rattle.std.specs.Option.{is_some, option_map}
+use Rattle.std.specs.List.{list_all}
+use Rattle.sk_insn.specs.declared.insn.Insn.{Insn}
+use Rattle.sk_insn.specs.declared.record.Record.{Record}
+use Rattle.sk_calls.specs.declared.syscall.Syscall.TheVariants as syscall
+use Rattle.sk_calls.specs.Syscalls.{number_of}
+use Rattle.sk_chain.specs.Precedence.{precedence_of}
+use Rattle.sk_chain.specs.Verdict.{verdict_of}
+use Rattle.sk_signal.specs.declared.number.TheConstants.{SIGHUP, SIGCHLD, SIGCONT}
+use Rattle.sk_world.specs.declared.process.TheConstants.{INIT}
+use Rattle.sk_world.specs.declared.process.Body.{Body}
+use Rattle.sk_world.specs.declared.process.Proc.{Proc}
+use Rattle.sk_world.specs.World.{World, at, parent_of, body_changed}
+use Rattle.sk_world.specs.Rules.{IsWorld}
+use Rattle.sk_world.specs.Sending.{signalled}
+use Rattle.sk_machine.specs.declared.event.Event.{Event}
+use Rattle.sk_machine.specs.declared.answer.Answer.{Answer}
+use Rattle.sk_machine.specs.declared.answer.Answer.TheVariants as answer
+use Rattle.sk_machine.specs.declared.answer.Outcome.{Outcome}
+use Rattle.sk_machine.specs.declared.answer.Outcome.TheVariants as outcome
+use Rattle.sk_machine.specs.declared.answer.Effect.{Effect}
+use Rattle.sk_machine.specs.declared.answer.Effect.TheVariants as effect
+use Rattle.sk_machine.specs.Given.{GivenImages}
+use Rattle.sk_machine.specs.Events.{pid_of}
+use Rattle.sk_machine.specs.Performed.{authority_at}
+use Rattle.sk_machine.specs.Machine.{step_of, world_after}
+use Rattle.sk_machine.specs.Lines.{line_before}
+use Rattle.sk_machine_laws.specs.LineLaws.{happening, line_after}
+
+-- the filters answer every kill(2) with an action that has precedence over SECCOMP_RET_LOG
+abbrev pub RefusesKill : List (List Insn) → Type 0
+RefusesKill programs = (call : Record) → call.nr ≡ number_of syscall.Kill → precedence_of (verdict_of programs call) <ℤ precedence_of 0x7ffc0000
+
+-- processes that refuse kill(2), with all their children; process 1 is none of them
+pub record IsConfined (w : World) (inside : ℕ → Bool) : Type 0 where
+  pub init : inside INIT ≡ false
+  pub children : (q : ℕ) → IsTrue (is_some (at w q)) → IsTrue (inside (parent_of (at w q))) → IsTrue (inside q)
+  pub refuses : (q : ℕ) → IsTrue (is_some (at w q)) → IsTrue (inside q) → RefusesKill (authority_at w q).programs
+
+-- the answer says that the process whose event it is has ended or stopped
+abbrev pub is_end : Outcome → Bool
+is_end (outcome.Ended status) = true
+is_end (outcome.Returned n) = false
+is_end (outcome.Told child status) = false
+is_end (outcome.Ids real effective saved) = false
+is_end (outcome.Signals pending) = false
+is_end outcome.Waits = false
+is_end outcome.Trapped = false
+is_end outcome.Executed = false
+
+-- the signal ends or stops the process
+abbrev pub is_end_or_stop : Effect → Bool
+is_end_or_stop (effect.Ended status) = true
+is_end_or_stop effect.Stopped = true
+is_end_or_stop effect.Ignored = false
+is_end_or_stop (effect.Handler program interrupted) = false
+
+-- the event with this answer has ended or stopped its process
+abbrev pub ends_or_stops : Answer → Bool
+ends_or_stops (answer.Call verdict o) = is_end o
+ends_or_stops (answer.Signal n e) = is_end_or_stop e
+ends_or_stops (answer.Resumed o) = is_end o
+ends_or_stops answer.Crashed = true
+ends_or_stops (answer.NotNow reason) = false
+
+-- a process after these signals, one after the other
+abbrev pub after_signals : Bool → List ℕ → Body → Body
+after_signals init [] body = body
+after_signals init (n ∷ rest) body = after_signals init rest (signalled n init body)
+
+-- the signals that others get where a process ends or stops: SIGCHLD, and of an orphaned group SIGHUP and
+-- SIGCONT: setpgid(2)
+abbrev pub is_of_an_end : ℕ → Bool
+is_of_an_end n = (n == SIGCHLD) || (n == SIGHUP) || (n == SIGCONT)
+
+-- the process of this pid is the one before after none or more of these signals, and nothing else
+abbrev pub IsTold : ℕ → Option Proc → Option Proc → Type 0
+IsTold q before now =
+    (signals : List ℕ) × IsTrue (list_all is_of_an_end signals) × (now ≡ option_map (body_changed (after_signals (q == INIT) signals)) before)
+
+-- what an event leaves of a process that it is not meant to touch
+pub record LeavesAlone (w after : World) (has_ended_or_stopped : Bool) (q : ℕ) : Type 0 where
+  pub same : has_ended_or_stopped ≡ false → at after q ≡ at w q
+  pub told : IsTold q (at w q) (at after q)
+
+-- an event of a confined process leaves every other one equal, unless it ends or stops its process, and
+-- then it sends others such signals and does nothing else
+abbrev pub EventIsConfined : Type 0
+EventIsConfined =
+    (images : GivenImages) (w : World) (event : Event) (inside : ℕ → Bool) (q : ℕ) → IsWorld w → IsConfined w inside
+    → IsTrue (inside (pid_of event)) → inside q ≡ false → IsTrue (is_some (at w q))
+    → LeavesAlone w (step_of images w event).world (ends_or_stops (step_of images w event).answer) q
+
+-- whoever's event it is: those who come from the confined ones are confined
+abbrev pub ConfinementStays : Type 0
+ConfinementStays =
+    (images : GivenImages) (w : World) (event : Event) (inside : ℕ → Bool) → IsWorld w → IsConfined w inside
+    → IsConfined (step_of images w event).world (λ q. inside (line_before q (happening images w event)))
+
+-- over any list of events: where a process other than 1 has no child and refuses kill(2), the events of
+-- those whose line comes from it leave all others alone
+abbrev pub LineIsConfined : Type 0
+LineIsConfined =
+    (images : GivenImages) (w : World) (events : List Event) (event : Event) (root q : ℕ) → IsWorld w → root ≢ INIT
+    → ((k : ℕ) → IsTrue (is_some (at w k)) → parent_of (at w k) ≢ root) → RefusesKill (authority_at w root).programs
+    → (line_after images w events (pid_of event)).root ≡ root → (line_after images w events q).root ≢ root
+    → IsTrue (is_some (at (world_after images w events) q))
+    → LeavesAlone (world_after images w events) (step_of images (world_after images w events) event).world
+    (ends_or_stops (step_of images (world_after images w events) event).answer) q

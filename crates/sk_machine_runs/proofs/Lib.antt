@@ -1,0 +1,13 @@
+mod CallRows
+mod SignalRows
+mod WaitRows
+mod GroupRows
+mod TurnRows
+mod LineRows
+mod EdgeRows
+mod OrderRows
+mod StateRows
+mod OrphanRows
+mod ReaperRows
+mod WidthRows
+mod LimitRows

@@ -1,0 +1,101 @@
+-- Each worked run of orphaned groups is what the definitions compute.
+use Rattle.std.proofs.Common.{refl}
+use Rattle.sk_insn.specs.Actions.{action_of}
+use Rattle.sk_insn.specs.Operations.{operation_of}
+use Rattle.sk_check.specs.FirstFault.{first_fault}
+use Rattle.sk_signal.specs.Sets.{empty, contains, insert, retain, remove, difference, union, from_list}
+use Rattle.sk_signal.specs.SignalSet.{lowest, signals_to, signals_of}
+use Rattle.sk_signal.specs.Signalling.{opening as no_signal}
+use Rattle.sk_world.specs.Numbers.{fresh_of}
+use Rattle.sk_world.specs.Subreapers.{ancestors, new_parent}
+use Rattle.sk_machine.specs.Machine.{step_of}
+use Rattle.sk_machine_runs.specs.WorkedOrphans.{HangsUpJob, TurnsOfJob, IgnoresTerminalStop, TurnsOfUnstopped, StopsBySigstopAlone, StopsWhereTied, HangsUpEachGroup, SparesRunningGroups, SparesOrphanedBefore, SparesTiedGroups, CountsNoZombies, ContinuesGroup, HangsUpAfterFilterKill, HangsUpAfterOtherKills, HangsUpAfterCrash, HangsUpAfterSignal, HaltHangsUpNobody, WorkedOrphans}
+
+hangs_up_job : HangsUpJob
+unfolding step_of fresh_of new_parent ancestors action_of operation_of first_fault empty contains insert retain remove difference union from_list lowest signals_to signals_of no_signal
+hangs_up_job = refl
+
+turns_of_job : TurnsOfJob
+unfolding step_of fresh_of new_parent ancestors action_of operation_of first_fault empty contains insert retain remove difference union from_list lowest signals_to signals_of no_signal
+turns_of_job = refl
+
+ignores_terminal_stop : IgnoresTerminalStop
+unfolding step_of fresh_of new_parent ancestors action_of operation_of first_fault empty contains insert retain remove difference union from_list lowest signals_to signals_of no_signal
+ignores_terminal_stop = refl
+
+turns_of_unstopped : TurnsOfUnstopped
+unfolding step_of fresh_of new_parent ancestors action_of operation_of first_fault empty contains insert retain remove difference union from_list lowest signals_to signals_of no_signal
+turns_of_unstopped = refl
+
+stops_by_sigstop_alone : StopsBySigstopAlone
+unfolding step_of fresh_of new_parent ancestors action_of operation_of first_fault empty contains insert retain remove difference union from_list lowest signals_to signals_of no_signal
+stops_by_sigstop_alone = refl
+
+stops_where_tied : StopsWhereTied
+unfolding step_of fresh_of new_parent ancestors action_of operation_of first_fault empty contains insert retain remove difference union from_list lowest signals_to signals_of no_signal
+stops_where_tied = refl
+
+hangs_up_each_group : HangsUpEachGroup
+unfolding step_of fresh_of new_parent ancestors action_of operation_of first_fault empty contains insert retain remove difference union from_list lowest signals_to signals_of no_signal
+hangs_up_each_group = refl
+
+spares_running_groups : SparesRunningGroups
+unfolding step_of fresh_of new_parent ancestors action_of operation_of first_fault empty contains insert retain remove difference union from_list lowest signals_to signals_of no_signal
+spares_running_groups = refl
+
+spares_orphaned_before : SparesOrphanedBefore
+unfolding step_of fresh_of new_parent ancestors action_of operation_of first_fault empty contains insert retain remove difference union from_list lowest signals_to signals_of no_signal
+spares_orphaned_before = refl
+
+spares_tied_groups : SparesTiedGroups
+unfolding step_of fresh_of new_parent ancestors action_of operation_of first_fault empty contains insert retain remove difference union from_list lowest signals_to signals_of no_signal
+spares_tied_groups = refl
+
+counts_no_zombies : CountsNoZombies
+unfolding step_of fresh_of new_parent ancestors action_of operation_of first_fault empty contains insert retain remove difference union from_list lowest signals_to signals_of no_signal
+counts_no_zombies = refl
+
+continues_group : ContinuesGroup
+unfolding step_of fresh_of new_parent ancestors action_of operation_of first_fault empty contains insert retain remove difference union from_list lowest signals_to signals_of no_signal
+continues_group = refl
+
+hangs_up_after_filter_kill : HangsUpAfterFilterKill
+unfolding step_of fresh_of new_parent ancestors action_of operation_of first_fault empty contains insert retain remove difference union from_list lowest signals_to signals_of no_signal
+hangs_up_after_filter_kill = refl
+
+hangs_up_after_other_kills : HangsUpAfterOtherKills
+unfolding step_of fresh_of new_parent ancestors action_of operation_of first_fault empty contains insert retain remove difference union from_list lowest signals_to signals_of no_signal
+hangs_up_after_other_kills = refl
+
+hangs_up_after_crash : HangsUpAfterCrash
+unfolding step_of fresh_of new_parent ancestors action_of operation_of first_fault empty contains insert retain remove difference union from_list lowest signals_to signals_of no_signal
+hangs_up_after_crash = refl
+
+hangs_up_after_signal : HangsUpAfterSignal
+unfolding step_of fresh_of new_parent ancestors action_of operation_of first_fault empty contains insert retain remove difference union from_list lowest signals_to signals_of no_signal
+hangs_up_after_signal = refl
+
+halt_hangs_up_nobody : HaltHangsUpNobody
+unfolding step_of fresh_of new_parent ancestors action_of operation_of first_fault empty contains insert retain remove difference union from_list lowest signals_to signals_of no_signal
+halt_hangs_up_nobody = refl
+
+pub worked_orphans : WorkedOrphans
+worked_orphans = record {
+  hangs_up_job = hangs_up_job;
+  turns_of_job = turns_of_job;
+  ignores_terminal_stop = ignores_terminal_stop;
+  turns_of_unstopped = turns_of_unstopped;
+  stops_by_sigstop_alone = stops_by_sigstop_alone;
+  stops_where_tied = stops_where_tied;
+  hangs_up_each_group = hangs_up_each_group;
+  spares_running_groups = spares_running_groups;
+  spares_orphaned_before = spares_orphaned_before;
+  spares_tied_groups = spares_tied_groups;
+  counts_no_zombies = counts_no_zombies;
+  continues_group = continues_group;
+  hangs_up_after_filter_kill = hangs_up_after_filter_kill;
+  hangs_up_after_other_kills = hangs_up_after_other_kills;
+  hangs_up_after_crash = hangs_up_after_crash;
+  hangs_up_after_signal = hangs_up_after_signal;
+  halt_hangs_up_nobody = halt_hangs_up_nobody;
+}

@@ -1,0 +1,14 @@
+pub mod Scripts
+pub mod WorkedCalls
+pub mod WorkedSignals
+pub mod WorkedWaits
+pub mod WorkedGroups
+pub mod WorkedTurns
+pub mod WorkedLines
+pub mod WorkedEdges
+pub mod WorkedOrders
+pub mod WorkedStates
+pub mod WorkedOrphans
+pub mod WorkedReapers
+pub mod WorkedWidths
+pub mod WorkedLimits

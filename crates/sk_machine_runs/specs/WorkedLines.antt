@@ -1,0 +1,60 @@
+-- Lines that are worked out by hand.
+use Rattle.std.specs.Prelude.{ℕ, ◌≡◌, true, [], ◌∷◌, List}
+use Rattle.sk_machine.specs.declared.answer.Reason.TheVariants as reason
+use Rattle.sk_machine.specs.declared.event.Event.TheVariants.{Deliver}
+use Rattle.sk_creds.specs.declared.errno.Errno.TheVariants.{Einval}
+use Rattle.sk_world.specs.World.{opening}
+use Rattle.sk_machine_runs.specs.Scripts.{nothing_given, given, for_number, getpid, fork, setuid, prctl, seccomp, gives, fails, refused, not_now, events_of}
+use Rattle.sk_insn.specs.declared.record.Record.{Record}
+use Rattle.sk_machine.specs.declared.event.Event.{Event}
+use Rattle.sk_machine.specs.Lines.{Line, line_of, history_after, authority_of_line}
+
+-- a privileged process drops its ids after a fork, and so does its child: two lines from one root
+abbrev pub parting : List Event
+parting = events_of ((prctl 1 38 1 0, gives 0) ∷ (fork 1, gives 2) ∷ (setuid 1 5, gives 0) ∷ (setuid 2 7, gives 0) ∷ [])
+
+-- a call that passes two numbers, and no other
+abbrev pub call_record : ℕ → ℕ → ℕ → Record
+call_record nr a b = record { nr = nr; ip = 0; args = a ∷ b ∷ 0 ∷ 0 ∷ 0 ∷ 0 ∷ [] }
+
+-- the line of a process after it
+abbrev pub line_after_parting : ℕ → Line
+line_after_parting pid = line_of (history_after nothing_given opening parting []) pid
+
+-- the child has the calls before the fork and its own
+abbrev pub LineOfChild : Type 0
+LineOfChild = line_after_parting 2 ≡ record { root = 1; calls = call_record 157 38 1 ∷ call_record 105 7 0 ∷ [] }
+
+-- the parent has the fork as well, and its own
+abbrev pub LineOfParent : Type 0
+LineOfParent =
+    line_after_parting 1 ≡ record { root = 1; calls = call_record 157 38 1 ∷ call_record 57 0 0 ∷ call_record 105 5 0 ∷ [] }
+
+-- where nobody is, a line has no calls
+abbrev pub LineOfNobody : Type 0
+LineOfNobody = line_after_parting 9 ≡ record { root = 9; calls = [] }
+
+-- what the child may do is what its line says
+abbrev pub AuthorityOfChild : Type 0
+AuthorityOfChild =
+    authority_of_line nothing_given opening (line_after_parting 2)
+    ≡ record { programs = []; creds = record { real = 7; effective = 7; saved = 7; no_new_privs = true } }
+
+-- refused calls, deliveries and calls that are not possible are in no line
+abbrev pub line_refused : Line
+line_refused =
+    line_of (history_after (given (for_number 39 0x00050001 ∷ []) []) opening
+    (events_of ((seccomp 1 1 0 0, gives 0) ∷ (getpid 1, refused 1) ∷ (Deliver 1, not_now reason.NothingWaits) ∷ (setuid 1 4294967295, fails Einval) ∷ [])) []) 1
+
+-- it has the attach and the setuid that failed
+abbrev pub LineWithoutRefusals : Type 0
+LineWithoutRefusals =
+    line_refused ≡ record { root = 1; calls = record { nr = 317; ip = 0; args = 1 ∷ 0 ∷ 0 ∷ 0 ∷ 0 ∷ 0 ∷ [] } ∷ call_record 105 4294967295 0 ∷ [] }
+
+-- all of these
+pub record WorkedLines : Type 0 where
+  pub line_of_child : LineOfChild
+  pub line_of_parent : LineOfParent
+  pub line_of_nobody : LineOfNobody
+  pub authority_of_child : AuthorityOfChild
+  pub line_without_refusals : LineWithoutRefusals

@@ -1,0 +1,105 @@
+-- Machines that are wrong, and that the laws on authority refuse by themselves.
+use Rattle.std.specs.Prelude.{ℕ, pos, Bool, true, false, if◌then◌else◌, [], Option, None, Some}
+use Rattle.std.specs.Option.{option_map_or}
+use Rattle.sk_insn.specs.declared.action.Action.{Action}
+use Rattle.sk_insn.specs.declared.action.Action.TheVariants as action
+use Rattle.sk_insn.specs.Actions.{action_of}
+use Rattle.sk_world.specs.declared.process.TheConstants.{INIT}
+use Rattle.sk_world.specs.declared.process.Body.{Body}
+use Rattle.sk_world.specs.declared.process.Proc.{Proc}
+use Rattle.sk_world.specs.Processes.{each}
+use Rattle.sk_world.specs.World.{World, at, is_child_of, body_changed, changed}
+use Rattle.sk_machine.specs.declared.event.Event.{Event}
+use Rattle.sk_machine.specs.declared.event.Event.TheVariants.{Call}
+use Rattle.sk_machine.specs.declared.answer.Answer.{Answer}
+use Rattle.sk_machine.specs.declared.answer.Answer.TheVariants as answer
+use Rattle.sk_machine.specs.declared.answer.Outcome.TheVariants.{Returned, Executed, Ended}
+use Rattle.sk_machine.specs.Events.{pid_of}
+use Rattle.sk_machine.specs.Performed.{body_of}
+use Rattle.sk_machine.specs.Performing.{performed}
+use Rattle.sk_machine.specs.Machine.{step_of}
+use Rattle.sk_machine.specs.Lines.{is_fork_of}
+use Rattle.sk_machine_laws.specs.TellingLaws.{told_by}
+use Rattle.sk_machine_laws.specs.AnyMachine.{Machine, GivesAuthorityByLine, TellsEndsOnce, KeepsToConfined}
+
+-- the number that a call has returned
+abbrev pub number_in : Answer → Option ℕ
+number_in (answer.Call verdict (Returned (pos n))) = Some n
+number_in other = None
+
+-- the machine of the definitions, but for the process that a fork has made
+abbrev pub with_child : (World → Body → Body) → Machine
+with_child f images w event =
+    option_map_or (λ child. if is_fork_of child (event, (step_of images w event).answer) then record (step_of images w event) { world = changed (step_of images w event).world child (f w) } else step_of images w event)
+    (number_in (step_of images w event).answer) (step_of images w event)
+
+-- no filter
+abbrev pub bare : Body → Body
+bare body = record body { chain = [] }
+
+-- fork(2) gives the child no filters
+abbrev pub forks_bare : Machine
+forks_bare images w event = with_child (λ before. bare) images w event
+
+-- fork(2) leaves the child the filters of another process, as one would that finds them in an old slot
+abbrev pub forks_into_old : Machine
+forks_into_old images w event = with_child (λ before body. record body { chain = (body_of (at before INIT)).chain }) images w event
+
+-- the call was an execve(2)
+abbrev pub has_executed : Answer → Bool
+has_executed (answer.Call verdict Executed) = true
+has_executed other = false
+
+-- execve(2) clears the filters
+abbrev pub executes_bare : Machine
+executes_bare images w event =
+    if has_executed (step_of images w event).answer then record (step_of images w event) { world = changed (step_of images w event).world (pid_of event) bare }
+    else step_of images w event
+
+-- the call has ended its caller
+abbrev pub has_ended_caller : Answer → Bool
+has_ended_caller (answer.Call verdict (Ended status)) = true
+has_ended_caller other = false
+
+-- an orphan gets the ids of process 1
+abbrev pub with_first_ids : World → Event → ℕ → Proc → Option Proc
+with_first_ids before event k p =
+    Some (if is_child_of (pid_of event) (at before k) then body_changed (λ body. record body { creds = (body_of (at before INIT)).creds }) p else p)
+
+-- so do all children of a process that ends
+abbrev pub orphans_with_first_ids : Machine
+orphans_with_first_ids images w event =
+    if has_ended_caller (step_of images w event).answer
+    then record (step_of images w event) { world = record (step_of images w event).world { procs = each (with_first_ids w event) (step_of images w event).world.procs } }
+    else step_of images w event
+
+-- wait4(2) leaves the zombie that it tells of
+abbrev pub leaves_zombies : Machine
+leaves_zombies images w event = option_map_or (λ told. record (step_of images w event) { world = w }) (told_by (step_of images w event).answer) (step_of images w event)
+
+-- a filter answered the call with an error
+abbrev pub is_errno : Action → Bool
+is_errno action.Errno = true
+is_errno other = false
+
+-- it was refused so
+abbrev pub is_refused : Answer → Bool
+is_refused (answer.Call verdict outcome) = is_errno (action_of verdict)
+is_refused other = false
+
+-- a call that a filter answers with an error is performed all the same
+abbrev pub performs_refused : Machine
+performs_refused images w (Call pid ip nr args) =
+    if is_refused (step_of images w (Call pid ip nr args)).answer
+    then record (step_of images w (Call pid ip nr args)) { world = (performed images w pid (record { nr = nr; ip = ip; args = args })).world }
+    else step_of images w (Call pid ip nr args)
+performs_refused images w event = step_of images w event
+
+-- none of them has the law that it breaks
+pub record WrongsAreRefused : Type 0 where
+  pub forks_bare : GivesAuthorityByLine forks_bare → ⊥
+  pub forks_into_old : GivesAuthorityByLine forks_into_old → ⊥
+  pub executes_bare : GivesAuthorityByLine executes_bare → ⊥
+  pub orphans_with_first_ids : GivesAuthorityByLine orphans_with_first_ids → ⊥
+  pub leaves_zombies : TellsEndsOnce leaves_zombies → ⊥
+  pub performs_refused : KeepsToConfined performs_refused → ⊥

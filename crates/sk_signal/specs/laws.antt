@@ -1,0 +1,3 @@
+pub mod SetMembers
+pub mod SignalNumbers
+pub mod WorkedSignals

@@ -1,5 +1,0 @@
-use Rattle.sk_world.proofs.WorkedWorlds.{worked_forks, worked_ends, worked_waits, worked_signals}
-use Rattle.sk_world.proofs.laws.worked_worlds.Goals as goal
-
-pub returns : goal.returns
-returns c = record { forks = worked_forks; ends = worked_ends; waits = worked_waits; signals = worked_signals }
