@@ -1,6 +1,6 @@
 -- How a signal is delivered: signal(7).
 use Rattle.std.specs.Prelude.{ℕ, ◌==◌, Bool, true, false, not, ◌&&◌, if◌then◌else◌, length, Option, None, Some}
-use Rattle.std.specs.Option.{option_and_then}
+use Rattle.std.specs.Option.{option_and_then, option_map_or}
 use Rattle.sk_signal.specs.Sets as set
 use Rattle.sk_signal.specs.declared.number.TheConstants.{SIGKILL, SIGSEGV, SIGCHLD, SIGSYS}
 use Rattle.sk_signal.specs.declared.state.TheConstants.{FRAMES}
@@ -25,7 +25,6 @@ use Rattle.sk_session.specs.Sessions.{group_of}
 use Rattle.sk_session.specs.Orphans.{is_orphaned, ended_and_hung_up}
 use Rattle.sk_machine.specs.declared.answer.Effect.{Effect}
 use Rattle.sk_machine.specs.declared.answer.Effect.TheVariants.{Ignored, Stopped, Ended, Handler}
-use Rattle.sk_machine.specs.Performed.{body_of}
 
 -- what a delivery comes to
 pub record Delivered : Type 0 where
@@ -48,6 +47,10 @@ is_waiting waiting.Nothing = false
 is_waiting waiting.Pause = true
 is_waiting (waiting.Asks request) = true
 
+-- a process is there, and waits in a call
+abbrev pub is_in_call : Option Proc → Bool
+is_in_call o = option_map_or (λ p. is_waiting p.body.waiting) o false
+
 -- the signal ends the process with this status
 abbrev pub terminated_by : World → ℕ → ℕ → Delivered
 terminated_by w pid status = record { effect = Ended status; world = ended_and_hung_up w pid status }
@@ -57,13 +60,10 @@ abbrev pub in_handler : ℕ → Signals → Body → Body
 in_handler n mask body = record body { signals = pushed n mask body.signals; waiting = waiting.Nothing }
 
 -- SIGSEGV ends a process that has no room for one more frame
-abbrev pub enters_handler : World → ℕ → ℕ → ℕ → Signals → Delivered
-enters_handler w pid n program mask =
-    if length (body_of (at w pid)).signals.frames == FRAMES then terminated_by w pid SIGSEGV
-    else record {
-      effect = Handler program (is_waiting (body_of (at w pid)).waiting);
-      world = changed w pid (in_handler n mask);
-    }
+abbrev pub enters_handler : World → ℕ → Body → ℕ → ℕ → Signals → Delivered
+enters_handler w pid body n program mask =
+    if length body.signals.frames == FRAMES then terminated_by w pid SIGSEGV
+    else record { effect = Handler program (is_waiting body.waiting); world = changed w pid (in_handler n mask) }
 
 -- signal n stops the process. A call that it waits in goes on waiting
 abbrev pub stopping : ℕ → Body → Body
@@ -89,22 +89,22 @@ acts_by_default w pid n action.Stop = if is_tty_stop n && is_orphaned w (group_o
 acts_by_default w pid n action.Terminate = terminated_by w pid n
 
 -- what is done by a disposition. By default process 1 minds only a SIGSYS, which is forced on it
-abbrev pub acts_by_disposition : World → ℕ → ℕ → Disposition → Delivered
-acts_by_disposition w pid n disposition.Ignore = ignored w
-acts_by_disposition w pid n (disposition.Handler program mask) = enters_handler w pid n program mask
-acts_by_disposition w pid n disposition.Default =
+abbrev pub acts_by_disposition : World → ℕ → Body → ℕ → Disposition → Delivered
+acts_by_disposition w pid body n disposition.Ignore = ignored w
+acts_by_disposition w pid body n (disposition.Handler program mask) = enters_handler w pid body n program mask
+acts_by_disposition w pid body n disposition.Default =
     if (pid == INIT) && not (n == SIGSYS) then ignored w else acts_by_default w pid n (default_action n)
 
 -- signal n is pending no more
 abbrev pub taking : ℕ → Body → Body
 taking n body = record body { signals = taken n body.signals }
 
--- what signal n does once it is pending no more. SIGKILL has no disposition: signal(7)
-abbrev pub acted_on : World → ℕ → ℕ → Delivered
-acted_on w pid n =
-    if n == SIGKILL then terminated_by w pid SIGKILL
-    else acts_by_disposition w pid n (disposition_of (body_of (at w pid)).signals n)
+-- what signal n does to a process with this body once it is pending no more. SIGKILL has no disposition:
+-- signal(7)
+abbrev pub acted_on : World → ℕ → Body → ℕ → Delivered
+acted_on w pid body n =
+    if n == SIGKILL then terminated_by w pid SIGKILL else acts_by_disposition w pid body n (disposition_of body.signals n)
 
--- signal n is delivered to the process
-abbrev pub delivered : World → ℕ → ℕ → Delivered
-delivered w pid n = acted_on (changed w pid (taking n)) pid n
+-- signal n is delivered to the process of a pid, which has this body
+abbrev pub delivered : World → ℕ → Body → ℕ → Delivered
+delivered w pid body n = acted_on (changed w pid (taking n)) pid (taking n body) n

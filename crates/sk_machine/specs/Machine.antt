@@ -1,6 +1,6 @@
 -- The process machine: what every event comes to, and a list of events.
 use Rattle.std.specs.Prelude.{ℕ, Bool, false, not, ◌&&◌, if◌then◌else◌, pos, neg_ℤ, min, List, [], ◌∷◌, Option, None, Some}
-use Rattle.std.specs.Option.{is_some, unwrap_or, option_and_then}
+use Rattle.std.specs.Option.{is_some, unwrap_or, option_and_then, option_map_or}
 use Rattle.sk_insn.specs.declared.record.Record.{Record}
 use Rattle.sk_insn.specs.declared.action.Action.{Action}
 use Rattle.sk_insn.specs.declared.action.Action.TheVariants as action
@@ -11,6 +11,8 @@ use Rattle.sk_signal.specs.declared.number.TheConstants.{SIGSEGV, SIGSYS}
 use Rattle.sk_world.specs.declared.process.TheConstants.{INIT}
 use Rattle.sk_world.specs.declared.process.Life.{Life}
 use Rattle.sk_world.specs.declared.process.Life.TheVariants as life
+use Rattle.sk_world.specs.declared.process.Body.{Body}
+use Rattle.sk_world.specs.declared.process.Proc.{Proc}
 use Rattle.sk_world.specs.World.{World, at, is_halted, is_zombie, is_stopped}
 use Rattle.sk_world.specs.Sending.{forced}
 use Rattle.sk_session.specs.Orphans.{ended_and_hung_up}
@@ -23,10 +25,10 @@ use Rattle.sk_machine.specs.declared.answer.Reason.{Reason}
 use Rattle.sk_machine.specs.declared.answer.Reason.TheVariants.{NoProcess, Zombie, Stopped, Waiting, SignalFirst, NothingWaits, Halted}
 use Rattle.sk_machine.specs.Events.{pid_of}
 use Rattle.sk_machine.specs.Given.{GivenImages}
-use Rattle.sk_machine.specs.Performed.{Performed, body_of, fails}
+use Rattle.sk_machine.specs.Performed.{Performed, fails}
 use Rattle.sk_machine.specs.Performing.{performed, end_of_caller}
 use Rattle.sk_machine.specs.WaitCalls.{resumed}
-use Rattle.sk_machine.specs.Delivering.{Delivered, signal_due, is_waiting, delivered}
+use Rattle.sk_machine.specs.Delivering.{Delivered, signal_for, signal_due, is_in_call, delivered}
 
 -- what an event comes to
 pub record Stepped : Type 0 where
@@ -44,29 +46,29 @@ trapped w pid = record { outcome = Trapped; world = forced w pid }
 -- what becomes of a call by its verdict, which has this action: seccomp(2). The data of SECCOMP_RET_ERRNO
 -- are the error. Nobody listens and nobody traces, so SECCOMP_RET_USER_NOTIF and SECCOMP_RET_TRACE answer ENOSYS. A kill ends
 -- the process as SIGSYS does
-abbrev pub judged : GivenImages → World → ℕ → Record → ℕ → Action → Performed
-judged images w pid call verdict action.Allow = performed images w pid call
-judged images w pid call verdict action.Log = performed images w pid call
-judged images w pid call verdict action.Trap = trapped w pid
-judged images w pid call verdict action.Errno = refused w (data_part verdict)
-judged images w pid call verdict action.UserNotif = fails w Enosys
-judged images w pid call verdict action.Trace = fails w Enosys
-judged images w pid call verdict action.KillProcess = end_of_caller w pid SIGSYS
-judged images w pid call verdict action.KillThread = end_of_caller w pid SIGSYS
-judged images w pid call verdict action.Unknown = end_of_caller w pid SIGSYS
+abbrev pub judged : GivenImages → World → ℕ → Body → Record → ℕ → Action → Performed
+judged images w pid body call verdict action.Allow = performed images w pid body call
+judged images w pid body call verdict action.Log = performed images w pid body call
+judged images w pid body call verdict action.Trap = trapped w pid
+judged images w pid body call verdict action.Errno = refused w (data_part verdict)
+judged images w pid body call verdict action.UserNotif = fails w Enosys
+judged images w pid body call verdict action.Trace = fails w Enosys
+judged images w pid body call verdict action.KillProcess = end_of_caller w pid SIGSYS
+judged images w pid body call verdict action.KillThread = end_of_caller w pid SIGSYS
+judged images w pid body call verdict action.Unknown = end_of_caller w pid SIGSYS
 
 -- a call with this verdict has come to this
 abbrev pub call_answered : ℕ → Performed → Stepped
 call_answered verdict p = record { answer = answer.Call verdict p.outcome; world = p.world }
 
 -- a call with a verdict
-abbrev pub called_with : GivenImages → World → ℕ → Record → ℕ → Stepped
-called_with images w pid call verdict =
-    call_answered verdict (judged images w pid call verdict (action_of verdict))
+abbrev pub called_with : GivenImages → World → ℕ → Body → Record → ℕ → Stepped
+called_with images w pid body call verdict =
+    call_answered verdict (judged images w pid body call verdict (action_of verdict))
 
 -- a call: all filters of the caller judge it
-abbrev pub called : GivenImages → World → ℕ → Record → Stepped
-called images w pid call = called_with images w pid call (verdict_of (body_of (at w pid)).chain call)
+abbrev pub called : GivenImages → World → ℕ → Body → Record → Stepped
+called images w pid body call = called_with images w pid body call (verdict_of body.chain call)
 
 -- a delivery has done this
 abbrev pub signal_answered : ℕ → Delivered → Stepped
@@ -76,25 +78,25 @@ signal_answered n d = record { answer = answer.Signal n d.effect; world = d.worl
 abbrev pub resume_answered : Performed → Stepped
 resume_answered p = record { answer = answer.Resumed p.outcome; world = p.world }
 
--- an event that is possible
-abbrev pub happened : GivenImages → World → Event → Stepped
-happened images w (Call pid ip nr args) = called images w pid (record { nr = nr; ip = ip; args = args })
-happened images w (Deliver pid) =
-    signal_answered (unwrap_or (signal_due (at w pid)) 0) (delivered w pid (unwrap_or (signal_due (at w pid)) 0))
-happened images w (Resume pid) = resume_answered (resumed w pid (body_of (at w pid)).waiting)
-happened images w (Fault pid) = record { answer = answer.Crashed; world = ended_and_hung_up w pid SIGSEGV }
+-- an event that is possible, of a process with this body
+abbrev pub happened : GivenImages → World → Body → Event → Stepped
+happened images w body (Call pid ip nr args) = called images w pid body (record { nr = nr; ip = ip; args = args })
+happened images w body (Deliver pid) =
+    signal_answered (unwrap_or (signal_for body) 0) (delivered w pid body (unwrap_or (signal_for body) 0))
+happened images w body (Resume pid) = resume_answered (resumed w pid body.waiting)
+happened images w body (Fault pid) = record { answer = answer.Crashed; world = ended_and_hung_up w pid SIGSEGV }
 
 -- why a process that runs cannot make a call of its own: it waits in one, or a signal comes first
 abbrev pub call_reason : World → ℕ → Option Reason
 call_reason w pid =
-    if is_waiting (body_of (at w pid)).waiting then Some Waiting
+    if is_in_call (at w pid) then Some Waiting
     else if is_some (signal_due (at w pid)) then Some SignalFirst
     else None
 
 -- why a process cannot ask again: it waits in no call, or a signal comes first
 abbrev pub resume_reason : World → ℕ → Option Reason
 resume_reason w pid =
-    if not (is_waiting (body_of (at w pid)).waiting) then Some NothingWaits
+    if not (is_in_call (at w pid)) then Some NothingWaits
     else if is_some (signal_due (at w pid)) then Some SignalFirst
     else None
 
@@ -126,9 +128,17 @@ reason_of w event =
     else own_reason w event
 
 -- an event that is not possible changes nothing
+abbrev pub not_now : World → Reason → Stepped
+not_now w reason = record { answer = answer.NotNow reason; world = w }
+
+-- an event of this process, if it is there
+abbrev pub happened_to : GivenImages → World → Event → Option Proc → Stepped
+happened_to images w event o = option_map_or (λ p. happened images w p.body event) o (not_now w NoProcess)
+
+-- an event by the first reason for which it is not possible
 abbrev pub stepped : GivenImages → World → Event → Option Reason → Stepped
-stepped images w event (Some reason) = record { answer = answer.NotNow reason; world = w }
-stepped images w event None = happened images w event
+stepped images w event (Some reason) = not_now w reason
+stepped images w event None = happened_to images w event (at w (pid_of event))
 
 -- one event
 unfoldable pub step_of : GivenImages → World → Event → Stepped

@@ -1,5 +1,5 @@
 -- Which events may want memory: a call that attaches a filter, and a fork of a process that has filters.
-use Rattle.std.specs.Prelude.{ℕ, ◌==◌, Bool, false, not, ◌&&◌, if◌then◌else◌, IsTrue, Option, None, Some}
+use Rattle.std.specs.Prelude.{ℕ, ◌==◌, Bool, false, not, ◌&&◌, if◌then◌else◌, IsTrue, List, Option, None, Some}
 use Rattle.std.specs.Option.{is_some, option_map_or}
 use Rattle.std.specs.Result.{is_ok}
 use Rattle.sk_insn.specs.declared.record.Record.{Record}
@@ -9,6 +9,7 @@ use Rattle.sk_chain.specs.Verdict.{verdict_of}
 use Rattle.sk_calls.specs.declared.syscall.Syscall.{Syscall}
 use Rattle.sk_calls.specs.declared.syscall.Syscall.TheVariants as syscall
 use Rattle.sk_calls.specs.Syscalls.{syscall_of}
+use Rattle.sk_insn.specs.declared.insn.Insn.{Insn}
 use Rattle.sk_world.specs.World.{World, at}
 use Rattle.sk_world.specs.Forking.{has_room, has_filters}
 use Rattle.sk_machine.specs.declared.event.Event.{Event}
@@ -19,7 +20,6 @@ use Rattle.sk_machine.specs.declared.operation.SeccompOperation.{SeccompOperatio
 use Rattle.sk_machine.specs.declared.operation.SeccompOperation.TheVariants as operation
 use Rattle.sk_machine.specs.Arguments.{register, low, prctl_option_of, seccomp_operation_of}
 use Rattle.sk_machine.specs.Given.{GivenImages, filter_image}
-use Rattle.sk_machine.specs.Performed.{body_of}
 use Rattle.sk_machine.specs.Machine.{reason_of}
 
 -- the image that prctl(2) attaches, if it attaches one: PR_SET_SECCOMP
@@ -43,10 +43,14 @@ may_grow images w pid (Some syscall.Seccomp) call = option_map_or (is_read image
 may_grow images w pid (Some syscall.Fork) call = has_room w && has_filters (at w pid)
 may_grow images w pid other call = false
 
--- and the filters of its caller let it through
+-- these filters let a call through
+abbrev pub let_through : Record → List (List Insn) → Bool
+let_through call programs = performs (action_of (verdict_of programs call))
+
+-- a call may want memory, and the filters of its caller let it through
 abbrev pub call_takes_memory : GivenImages → World → ℕ → Record → Bool
 call_takes_memory images w pid call =
-    performs (action_of (verdict_of (body_of (at w pid)).chain call)) && may_grow images w pid (syscall_of call.nr) call
+    option_map_or (λ p. let_through call p.body.chain) (at w pid) false && may_grow images w pid (syscall_of call.nr) call
 
 -- an event may want memory: it is such a call, and possible. No other event ever does
 abbrev pub takes_memory : GivenImages → World → Event → Bool

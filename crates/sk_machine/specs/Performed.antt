@@ -1,24 +1,18 @@
 -- What a performed call comes to: its outcome, and the world afterwards.
-use Rattle.std.specs.Prelude.{ℕ, pos, neg_ℤ, Option, Result, Ok, Err}
-use Rattle.std.specs.Option.{option_map_or}
+use Rattle.std.specs.Prelude.{ℕ, pos, neg_ℤ, Result, Ok, Err}
 use Rattle.sk_creds.specs.declared.errno.Errno.{Errno}
 use Rattle.sk_creds.specs.Errno.{number_of}
 use Rattle.sk_world.specs.declared.process.Waiting.{Waiting}
 use Rattle.sk_world.specs.declared.process.Body.{Body}
-use Rattle.sk_world.specs.declared.process.Proc.{Proc}
-use Rattle.sk_world.specs.World.{World, at, changed, first_process}
+use Rattle.sk_world.specs.World.{World, changed}
 use Rattle.sk_machine.specs.declared.answer.Outcome.{Outcome}
 use Rattle.sk_machine.specs.declared.answer.Outcome.TheVariants.{Returned, Waits}
-use Rattle.sk_machine.specs.Authority.{Authority, authority_of, with_authority}
+use Rattle.sk_machine.specs.Authority.{Authority, with_authority}
 
 -- what a call comes to, and the world afterwards
 pub record Performed : Type 0 where
   pub outcome : Outcome
   pub world : World
-
--- what belongs to a process alone. Where there is none it is what process 1 starts with: no call asks
-abbrev pub body_of : Option Proc → Body
-body_of o = option_map_or (λ p. p.body) o first_process.body
 
 -- the call returns a number: syscalls(2)
 abbrev pub returns : World → ℕ → Performed
@@ -37,10 +31,6 @@ asked w (Err e) = fails w e
 abbrev pub changes : World → ℕ → Result World Errno → Performed
 changes w n (Ok after) = returns after n
 changes w n (Err e) = fails w e
-
--- the authority of the process of this pid
-abbrev pub authority_at : World → ℕ → Authority
-authority_at w pid = authority_of (body_of (at w pid))
 
 -- a call gives the caller another authority, and returns 0, or fails
 abbrev pub authorises : World → ℕ → Result Authority Errno → Performed

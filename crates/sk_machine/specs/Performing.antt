@@ -26,8 +26,8 @@ use Rattle.sk_calls.specs.declared.syscall.Syscall.TheVariants as syscall
 use Rattle.sk_machine.specs.Given.{GivenImages}
 use Rattle.sk_calls.specs.Syscalls.{syscall_of}
 use Rattle.sk_machine.specs.Arguments.{register, low, signed, prctl_option_of, seccomp_operation_of}
-use Rattle.sk_machine.specs.Authority.{Authority, with_authority, after_no_new_privs, after_set_seccomp, after_set_mode_filter, authority_after}
-use Rattle.sk_machine.specs.Performed.{Performed, body_of, returns, fails, asked, changes, authority_at, authorises, waits}
+use Rattle.sk_machine.specs.Authority.{Authority, authority_of, with_authority, after_prctl, after_seccomp, authority_after}
+use Rattle.sk_machine.specs.Performed.{Performed, returns, fails, asked, changes, authorises, waits}
 use Rattle.sk_machine.specs.SignalCalls.{resignals, after_sigaction, after_sigprocmask, after_sigreturn}
 use Rattle.sk_machine.specs.Killing.{after_kill}
 use Rattle.sk_machine.specs.WaitCalls.{wait4}
@@ -62,9 +62,9 @@ ids w creds = record { outcome = Ids creds.real creds.effective creds.saved; wor
 abbrev pub pending_signals : World → SignalMembers → Performed
 pending_signals w pending = record { outcome = Signals pending; world = w }
 
--- what the call makes of the caller's authority
-abbrev pub authorised : GivenImages → World → ℕ → Syscall → Record → Result Authority Errno
-authorised images w pid which call = authority_after images (Some which) call (authority_at w pid)
+-- what the call makes of the authority of a caller with this body
+abbrev pub authorised : GivenImages → Body → Syscall → Record → Result Authority Errno
+authorised images body which call = authority_after images (Some which) call (authority_of body)
 
 -- prctl(2), PR_GET_SECCOMP: 2 is SECCOMP_MODE_FILTER
 abbrev pub seccomp_mode : List (List Insn) → ℕ
@@ -87,22 +87,21 @@ abbrev pub subreaper_set : World → ℕ → Record → Performed
 subreaper_set w pid call = returns (changed w pid (with_subreaper (not (register call 1 == 0)))) 0
 
 -- prctl(2), PR_GET_CHILD_SUBREAPER
-abbrev pub subreaper_asked : World → ℕ → Performed
-subreaper_asked w pid = returns w (if (body_of (at w pid)).subreaper then 1 else 0)
+abbrev pub subreaper_asked : World → Bool → Performed
+subreaper_asked w is_marked = returns w (if is_marked then 1 else 0)
 
 -- what a call comes to that is there only where subreapers are
 abbrev pub where_subreapers : Bool → World → Performed → Performed
 where_subreapers there w p = if there then p else fails w Einval
 
--- prctl(2), by its option: EINVAL where the number is none
-abbrev pub prctl : GivenImages → World → ℕ → Option PrctlOption → Record → Performed
-prctl images w pid (Some option.SetNoNewPrivs) call = authorises w pid (after_no_new_privs call (authority_at w pid))
-prctl images w pid (Some option.SetSeccomp) call = authorises w pid (after_set_seccomp images call (authority_at w pid))
-prctl images w pid (Some option.GetSeccomp) call = returns w (seccomp_mode (body_of (at w pid)).chain)
-prctl images w pid (Some option.GetNoNewPrivs) call = asked w (no_new_privs_asked call (body_of (at w pid)).creds.no_new_privs)
-prctl images w pid (Some option.SetChildSubreaper) call = where_subreapers images.subreapers w (subreaper_set w pid call)
-prctl images w pid (Some option.GetChildSubreaper) call = where_subreapers images.subreapers w (subreaper_asked w pid)
-prctl images w pid None call = fails w Einval
+-- prctl(2), by its option: EINVAL where the number is none. Those that are not named here change the authority
+abbrev pub prctl : GivenImages → World → ℕ → Body → Option PrctlOption → Record → Performed
+prctl images w pid body (Some option.GetSeccomp) call = returns w (seccomp_mode body.chain)
+prctl images w pid body (Some option.GetNoNewPrivs) call = asked w (no_new_privs_asked call body.creds.no_new_privs)
+prctl images w pid body (Some option.SetChildSubreaper) call = where_subreapers images.subreapers w (subreaper_set w pid call)
+prctl images w pid body (Some option.GetChildSubreaper) call = where_subreapers images.subreapers w (subreaper_asked w body.subreaper)
+prctl images w pid body None call = fails w Einval
+prctl images w pid body setting call = authorises w pid (after_prctl images setting call (authority_of body))
 
 -- seccomp(2), SECCOMP_GET_ACTION_AVAIL: the number is one of the eight actions' values. No flag is taken
 abbrev pub action_available : ℕ → ℕ → Result ℕ Errno
@@ -111,43 +110,43 @@ action_available flags value =
     else if is_some (value_of (action_of value)) && (data_part value == 0) then Ok 0
     else Err Eopnotsupp
 
--- seccomp(2), by its operation: EINVAL where the number is none
-abbrev pub seccomp : GivenImages → World → ℕ → Option SeccompOperation → Record → Performed
-seccomp images w pid (Some operation.SetModeFilter) call = authorises w pid (after_set_mode_filter images call (authority_at w pid))
-seccomp images w pid (Some operation.GetActionAvail) call = asked w (action_available (low call 1) (low call 2))
-seccomp images w pid None call = fails w Einval
+-- seccomp(2), by its operation: EINVAL where the number is none. The one that is not named here changes the
+-- authority
+abbrev pub seccomp : GivenImages → World → ℕ → Body → Option SeccompOperation → Record → Performed
+seccomp images w pid body (Some operation.GetActionAvail) call = asked w (action_available (low call 1) (low call 2))
+seccomp images w pid body None call = fails w Einval
+seccomp images w pid body setting call = authorises w pid (after_seccomp images setting call (authority_of body))
 
--- what the process of a pid comes to when it makes the call, and nothing stands in its way
-abbrev pub row : GivenImages → World → ℕ → Option Syscall → Record → Performed
-row images w pid (Some syscall.RtSigaction) call = resignals w pid (after_sigaction pid call (body_of (at w pid)).signals)
-row images w pid (Some syscall.RtSigprocmask) call = resignals w pid (after_sigprocmask call (body_of (at w pid)).signals)
-row images w pid (Some syscall.RtSigreturn) call =
-    resignals w pid (after_sigreturn (body_of (at w pid)).signals.frames (body_of (at w pid)).signals)
-row images w pid (Some syscall.RtSigpending) call = pending_signals w (body_of (at w pid)).signals.pending
-row images w pid (Some syscall.SchedYield) call = returns w 0
-row images w pid (Some syscall.Pause) call = waits w pid waiting.Pause
-row images w pid (Some syscall.Getpid) call = returns w pid
-row images w pid (Some syscall.Getppid) call = returns w (parent_of (at w pid))
-row images w pid (Some syscall.Fork) call = forks w pid (fork_answer w)
-row images w pid (Some syscall.Execve) call = execve w pid (authorised images w pid syscall.Execve call)
-row images w pid (Some syscall.Exit) call = end_of_caller w pid (exit_status (low call 0))
-row images w pid (Some syscall.ExitGroup) call = end_of_caller w pid (exit_status (low call 0))
-row images w pid (Some syscall.Wait4) call = wait4 w pid call
-row images w pid (Some syscall.Kill) call = changes w 0 (after_kill w pid (signed call 0) (low call 1))
-row images w pid (Some syscall.Getuid) call = returns w (body_of (at w pid)).creds.real
-row images w pid (Some syscall.Geteuid) call = returns w (body_of (at w pid)).creds.effective
-row images w pid (Some syscall.Setuid) call = authorises w pid (authorised images w pid syscall.Setuid call)
-row images w pid (Some syscall.Setresuid) call = authorises w pid (authorised images w pid syscall.Setresuid call)
-row images w pid (Some syscall.Getresuid) call = ids w (body_of (at w pid)).creds
-row images w pid (Some syscall.Setpgid) call = changes w 0 (after_setpgid w pid (signed call 0) (signed call 1))
-row images w pid (Some syscall.Getpgrp) call = returns w (group_of (at w pid))
-row images w pid (Some syscall.Setsid) call = changes w pid (after_setsid w pid)
-row images w pid (Some syscall.Getpgid) call = asked w (group_asked w pid (signed call 0))
-row images w pid (Some syscall.Getsid) call = asked w (session_asked w pid (signed call 0))
-row images w pid (Some syscall.Prctl) call = prctl images w pid (prctl_option_of (low call 0)) call
-row images w pid (Some syscall.Seccomp) call = seccomp images w pid (seccomp_operation_of (low call 0)) call
-row images w pid None call = fails w Enosys
+-- what the process of a pid, which has this body, comes to when it makes the call, and nothing stands in its way
+abbrev pub row : GivenImages → World → ℕ → Body → Option Syscall → Record → Performed
+row images w pid body (Some syscall.RtSigaction) call = resignals w pid (after_sigaction pid call body.signals)
+row images w pid body (Some syscall.RtSigprocmask) call = resignals w pid (after_sigprocmask call body.signals)
+row images w pid body (Some syscall.RtSigreturn) call = resignals w pid (after_sigreturn body.signals.frames body.signals)
+row images w pid body (Some syscall.RtSigpending) call = pending_signals w body.signals.pending
+row images w pid body (Some syscall.SchedYield) call = returns w 0
+row images w pid body (Some syscall.Pause) call = waits w pid waiting.Pause
+row images w pid body (Some syscall.Getpid) call = returns w pid
+row images w pid body (Some syscall.Getppid) call = returns w (parent_of (at w pid))
+row images w pid body (Some syscall.Fork) call = forks w pid (fork_answer w)
+row images w pid body (Some syscall.Execve) call = execve w pid (authorised images body syscall.Execve call)
+row images w pid body (Some syscall.Exit) call = end_of_caller w pid (exit_status (low call 0))
+row images w pid body (Some syscall.ExitGroup) call = end_of_caller w pid (exit_status (low call 0))
+row images w pid body (Some syscall.Wait4) call = wait4 w pid call
+row images w pid body (Some syscall.Kill) call = changes w 0 (after_kill w pid body.creds (signed call 0) (low call 1))
+row images w pid body (Some syscall.Getuid) call = returns w body.creds.real
+row images w pid body (Some syscall.Geteuid) call = returns w body.creds.effective
+row images w pid body (Some syscall.Setuid) call = authorises w pid (authorised images body syscall.Setuid call)
+row images w pid body (Some syscall.Setresuid) call = authorises w pid (authorised images body syscall.Setresuid call)
+row images w pid body (Some syscall.Getresuid) call = ids w body.creds
+row images w pid body (Some syscall.Setpgid) call = changes w 0 (after_setpgid w pid (signed call 0) (signed call 1))
+row images w pid body (Some syscall.Getpgrp) call = returns w (group_of (at w pid))
+row images w pid body (Some syscall.Setsid) call = changes w pid (after_setsid w pid)
+row images w pid body (Some syscall.Getpgid) call = asked w (group_asked w pid (signed call 0))
+row images w pid body (Some syscall.Getsid) call = asked w (session_asked w pid (signed call 0))
+row images w pid body (Some syscall.Prctl) call = prctl images w pid body (prctl_option_of (low call 0)) call
+row images w pid body (Some syscall.Seccomp) call = seccomp images w pid body (seccomp_operation_of (low call 0)) call
+row images w pid body None call = fails w Enosys
 
 -- the same of a call by its number
-abbrev pub performed : GivenImages → World → ℕ → Record → Performed
-performed images w pid call = row images w pid (syscall_of call.nr) call
+abbrev pub performed : GivenImages → World → ℕ → Body → Record → Performed
+performed images w pid body call = row images w pid body (syscall_of call.nr) call

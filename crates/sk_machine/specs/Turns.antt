@@ -1,6 +1,7 @@
 -- Which processes can run, what they need next, and whose turn is next.
 use Rattle.std.specs.Prelude.{ℕ, Bool, true, false, not, ◌&&◌, ◌||◌, if◌then◌else◌, nat_lt, find, Option}
-use Rattle.std.specs.Option.{is_some, option_or}
+use Rattle.std.specs.Option.{is_some, option_map_or, option_or}
+use Rattle.sk_world.specs.declared.process.Proc.{Proc}
 use Rattle.sk_world.specs.declared.process.Waiting.{Waiting}
 use Rattle.sk_world.specs.declared.process.Waiting.TheVariants.{Nothing, Pause, Asks}
 use Rattle.sk_world.specs.Processes.{pids}
@@ -11,8 +12,7 @@ use Rattle.sk_machine.specs.declared.event.Event.{Event}
 use Rattle.sk_machine.specs.declared.event.Event.TheVariants.{Call, Deliver, Resume, Fault}
 use Rattle.sk_machine.specs.declared.event.Need.{Need}
 use Rattle.sk_machine.specs.declared.event.Need.TheVariants as need
-use Rattle.sk_machine.specs.Performed.{body_of}
-use Rattle.sk_machine.specs.Delivering.{signal_due, is_waiting}
+use Rattle.sk_machine.specs.Delivering.{signal_due, is_in_call}
 
 -- the call that a process waits in would end now: a wait4(2) whose child is ready, or that no child
 -- matches
@@ -21,19 +21,23 @@ wait_ends w pid Nothing = true
 wait_ends w pid Pause = false
 wait_ends w pid (Asks request) = list_any (is_ready w pid request) (pids w.procs) || not (has_match w pid request)
 
+-- a process is there, and does not wait in a call or waits in one that would end now
+abbrev pub goes_on : World → ℕ → Option Proc → Bool
+goes_on w pid o = option_map_or (λ p. wait_ends w pid p.body.waiting) o false
+
 -- a process can run: it lives, and a signal is due, or it is not stopped and its call would not go on
 -- waiting
 abbrev pub is_runnable : World → ℕ → Bool
 is_runnable w pid =
     not (is_halted w) && is_alive (at w pid)
-    && (is_some (signal_due (at w pid)) || (not (is_stopped (at w pid)) && wait_ends w pid (body_of (at w pid)).waiting))
+    && (is_some (signal_due (at w pid)) || (not (is_stopped (at w pid)) && goes_on w pid (at w pid)))
 
 -- what the next event of a process is: a delivery where a signal is due, else a resumption where it waits
 -- in a call, else a call of its own
 abbrev pub need_of : World → ℕ → Need
 need_of w pid =
     if is_some (signal_due (at w pid)) then need.Deliver
-    else if is_waiting (body_of (at w pid)).waiting then need.Resume
+    else if is_in_call (at w pid) then need.Resume
     else need.Call
 
 -- the need that an event meets: a fault comes in place of a call
