@@ -1,0 +1,10 @@
+use Rattle.sk_creds.specs.Creds.{after_setresuid}
+use Rattle.sk_machine.specs.Arguments.{low}
+use Rattle.sk_syscalls.proofs.Rows.{has_other_ids}
+use Rattle.sk_syscalls.proofs.authority.setresuid.Goals as goal
+
+pub returns : goal.returns
+returns g c =
+    let there = c.in-Some.ensures.there in
+    has_other_ids (g.S.ProcStore.contents c.args.store.now) c.args.pid (after_setresuid (low c.args.call.now 0) (low c.args.call.now 1) (low c.args.call.now 2)) there.0 c.in-Some.body.now _ c.take_ids.new.creds _ _
+    there.1 there.2 c.take_ids.ensures.answer c.take_ids.ensures.ids c.done.ensures (rw c.in-Some.is at (c.body_mut.follows.holds (record c.in-Some.body.now { creds = c.take_ids.new.creds })))

@@ -1,0 +1,30 @@
+//! What is in the registers of a call.
+
+ghost use Rattle.std.specs.Prelude.{◌≡◌, ◌<◌};
+ghost use Rattle.sk_machine.specs.Arguments.{register, low, signed};
+
+use sk_insn::Record;
+
+/// All 64 bits of a register.
+pub(crate) fn register(call: &Record, n: usize) -> u64
+    requires { n < 6 }
+    ensures { result ≡ register call.now n }
+{
+    call.args[n]
+}
+
+/// The low 32 bits of a register, as a number without a sign.
+pub(crate) fn low(call: &Record, n: usize) -> u32
+    requires { n < 6 }
+    ensures { result ≡ low call.now n }
+{
+    (register(call, n) % (1 << 32)) as u32
+}
+
+/// The same bits as a number with a sign.
+pub(crate) fn signed(call: &Record, n: usize) -> i32
+    requires { n < 6 }
+    ensures { result ≡ signed call.now n }
+{
+    low(call, n).cast_signed()
+}

@@ -1,0 +1,121 @@
+//! How a filter is attached: seccomp(2), SECCOMP_SET_MODE_FILTER.
+
+ghost use Rattle.std.specs.Prelude.{◌≡◌, ◌+◌, ◌∷◌, nat_lt, length, if◌then◌else◌, IsTrue, IfOk, OnOk, OnErr, MatchResult, Ok, Err};
+ghost use Rattle.std.specs.Option.{is_some};
+ghost use Rattle.std.specs.Result.{result_unwrap_or};
+ghost use Rattle.sk_chain.specs.Chains.{cost_of};
+ghost use Rattle.sk_creds.specs.declared.errno.Errno.TheVariants.{Enomem};
+ghost use Rattle.sk_creds.specs.Errno.{answer_of};
+ghost use Rattle.sk_world.specs.World.{at};
+ghost use Rattle.sk_machine.specs.Given.{filter_image};
+ghost use Rattle.sk_machine.specs.Authority.{authority_of, with_authority, program_of, filtered, after_attach};
+ghost use Rattle.sk_machine.specs.Memory.{is_read};
+ghost use Rattle.sk_machine.specs.Performed.{authorises};
+ghost use Rattle.sk_syscalls.specs.Rows.{ComesTo};
+
+use crate::outcome::{done, failed};
+use sk_chain::{Chain, ChainFault};
+use sk_check::{Checked, check};
+use sk_creds::Errno;
+use sk_insn::{Insn, read_image};
+use sk_machine::{Images, Outcome};
+use sk_world::{Body, ProcStore};
+use std::alloc::{AllocError, Global};
+use std::mem::replace;
+
+/// Attaches the filter of an image to the caller. The image is read before the caller's rights are asked for.
+pub(crate) fn attach<S: ProcStore>(
+    store: &mut S,
+    images: &Images,
+    alloc: Global,
+    pid: u32,
+    flags: u32,
+    image: u64,
+) -> Result<Outcome, AllocError>
+    requires { IsTrue (is_some (at (S.contents store.old) pid)) }
+    ensures performed { IfOk result (λ outcome. ComesTo (S.contents store.old) pid (λ body. authorises (S.contents store.old) pid (after_attach images.now flags image (authority_of body))) outcome (S.contents store.new)) }
+    ensures flags { OnErr result (flags ≡ 0) }
+    ensures memory { OnErr result (IsTrue (is_read images.now image)) }
+    ensures kept { OnErr result (S.contents store.new ≡ S.contents store.old) }
+{
+    if flags != 0 {
+        return Ok(failed(Errno::Einval));
+    }
+    match program_of(images, alloc, image)? {
+        Ok(insns) => filter_caller(store, alloc, pid, insns),
+        Err(errno) => Ok(failed(errno)),
+    }
+}
+
+/// The program of an image that a call names.
+fn program_of(
+    images: &Images,
+    alloc: Global,
+    image: u64,
+) -> Result<Result<Vec<Insn>, Errno>, AllocError>
+    ensures program { IfOk result (λ read. MatchResult read (λ insns. program_of (filter_image images.now image) ≡ Ok insns.items) (λ errno. program_of (filter_image images.now image) ≡ Err errno)) }
+    ensures memory { OnErr result (IsTrue (is_read images.now image)) }
+{
+    let Some(bytes) = images.filters.get(image as usize) else {
+        return Ok(Err(Errno::Efault));
+    };
+    match read_image(alloc, bytes)? {
+        Ok(insns) => Ok(Ok(insns)),
+        Err(_) => Ok(Err(Errno::Einval)),
+    }
+}
+
+fn filter_caller<S: ProcStore>(
+    store: &mut S,
+    alloc: Global,
+    pid: u32,
+    insns: Vec<Insn>,
+) -> Result<Outcome, AllocError>
+    requires { IsTrue (is_some (at (S.contents store.old) pid)) }
+    ensures performed { IfOk result (λ outcome. ComesTo (S.contents store.old) pid (λ body. authorises (S.contents store.old) pid (filtered (authority_of body) (Ok insns.items))) outcome (S.contents store.new)) }
+    ensures kept { OnErr result (S.contents store.new ≡ S.contents store.old) }
+{
+    match store.body_mut(pid) {
+        Some(body) => Ok(done(filter(body, alloc, insns)?)),
+        None => unreachable!(),
+    }
+}
+
+fn filter(body: &mut Body, alloc: Global, insns: Vec<Insn>) -> Result<Result<(), Errno>, AllocError>
+    ensures answer { IfOk result (λ answer. answer ≡ answer_of (filtered (authority_of body.old) (Ok insns.items))) }
+    ensures body { OnOk result (body.new ≡ with_authority (result_unwrap_or (filtered (authority_of body.old) (Ok insns.items)) (authority_of body.old)) body.old) }
+    ensures kept { OnErr result (body.new ≡ body.old) }
+{
+    if !body.creds.is_privileged() && !body.creds.no_new_privs {
+        return Ok(Err(Errno::Eacces));
+    }
+    match check(insns) {
+        Ok(program) => lengthen(&mut body.chain, alloc, program),
+        Err(_) => Ok(Err(Errno::Einval)),
+    }
+}
+
+fn lengthen(
+    chain: &mut Chain,
+    alloc: Global,
+    program: Checked,
+) -> Result<Result<(), Errno>, AllocError>
+    ensures answer { IfOk result (λ answer. answer ≡ (if nat_lt 32768 (length program + cost_of chain.old) then Err Enomem else Ok tt)) }
+    ensures chain { OnOk result (chain.new ≡ (if nat_lt 32768 (length program + cost_of chain.old) then chain.old else program ∷ chain.old)) }
+    ensures kept { OnErr result (chain.new ≡ chain.old) }
+{
+    match replace(chain, Chain::empty(alloc)).attach(program) {
+        Ok(longer) => {
+            *chain = longer;
+            Ok(Ok(()))
+        }
+        Err((kept, _, ChainFault::PathLimit)) => {
+            *chain = kept;
+            Ok(Err(Errno::Enomem))
+        }
+        Err((kept, _, ChainFault::Memory)) => {
+            *chain = kept;
+            Err(AllocError)
+        }
+    }
+}

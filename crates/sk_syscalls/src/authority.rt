@@ -1,0 +1,136 @@
+//! The calls that change what a process may do, and ask for it, other than by prctl(2) and seccomp(2).
+
+ghost use Rattle.std.specs.Prelude.{◌≡◌, IsTrue, Some};
+ghost use Rattle.std.specs.Option.{is_some};
+ghost use Rattle.sk_creds.specs.Creds.{after_setuid, after_setresuid, after_exec};
+ghost use Rattle.std.specs.Result.{result_unwrap_or};
+ghost use Rattle.sk_creds.specs.Errno.{answer_of};
+ghost use Rattle.sk_world.specs.World.{at};
+ghost use Rattle.sk_machine.specs.Arguments.{register, low};
+ghost use Rattle.sk_machine.specs.Authority.{authority_of, with_creds, after_execve};
+ghost use Rattle.sk_machine.specs.Given.{mark_of};
+ghost use Rattle.sk_machine.specs.Performed.{returns, authorises};
+ghost use Rattle.sk_machine.specs.Performing.{executing, execve, ids};
+ghost use Rattle.sk_syscalls.specs.Rows.{ComesTo};
+
+use crate::arguments::{low, register};
+use crate::outcome::{done, failed, returned};
+use sk_creds::{Creds, Errno};
+use sk_insn::Record;
+use sk_machine::{Images, Mark, Outcome};
+use sk_world::{Body, ProcStore};
+
+/// getuid(2).
+pub(crate) fn getuid<S: ProcStore>(store: &S, pid: u32) -> Outcome
+    requires { IsTrue (is_some (at (S.contents store.now) pid)) }
+    ensures { ComesTo (S.contents store.now) pid (λ body. returns (S.contents store.now) body.creds.real) result (S.contents store.now) }
+{
+    match store.get(pid) {
+        Some(process) => returned(Ok(process.body.creds.real)),
+        None => unreachable!(),
+    }
+}
+
+/// geteuid(2).
+pub(crate) fn geteuid<S: ProcStore>(store: &S, pid: u32) -> Outcome
+    requires { IsTrue (is_some (at (S.contents store.now) pid)) }
+    ensures { ComesTo (S.contents store.now) pid (λ body. returns (S.contents store.now) body.creds.effective) result (S.contents store.now) }
+{
+    match store.get(pid) {
+        Some(process) => returned(Ok(process.body.creds.effective)),
+        None => unreachable!(),
+    }
+}
+
+/// getresuid(2).
+pub(crate) fn getresuid<S: ProcStore>(store: &S, pid: u32) -> Outcome
+    requires { IsTrue (is_some (at (S.contents store.now) pid)) }
+    ensures { ComesTo (S.contents store.now) pid (λ body. ids (S.contents store.now) body.creds) result (S.contents store.now) }
+{
+    match store.get(pid) {
+        Some(process) => {
+            let creds = process.body.creds;
+            Outcome::Ids(creds.real, creds.effective, creds.saved)
+        }
+        None => unreachable!(),
+    }
+}
+
+/// setuid(2).
+pub(crate) fn setuid<S: ProcStore>(store: &mut S, pid: u32, call: &Record) -> Outcome
+    requires { IsTrue (is_some (at (S.contents store.old) pid)) }
+    ensures { ComesTo (S.contents store.old) pid (λ body. authorises (S.contents store.old) pid (with_creds (authority_of body) (after_setuid (low call.now 0) body.creds))) result (S.contents store.new) }
+{
+    match store.body_mut(pid) {
+        Some(body) => done(take_id(&mut body.creds, call)),
+        None => unreachable!(),
+    }
+}
+
+/// setresuid(2).
+pub(crate) fn setresuid<S: ProcStore>(store: &mut S, pid: u32, call: &Record) -> Outcome
+    requires { IsTrue (is_some (at (S.contents store.old) pid)) }
+    ensures { ComesTo (S.contents store.old) pid (λ body. authorises (S.contents store.old) pid (with_creds (authority_of body) (after_setresuid (low call.now 0) (low call.now 1) (low call.now 2) body.creds))) result (S.contents store.new) }
+{
+    match store.body_mut(pid) {
+        Some(body) => done(take_ids(&mut body.creds, call)),
+        None => unreachable!(),
+    }
+}
+
+fn take_id(creds: &mut Creds, call: &Record) -> Result<(), Errno>
+    ensures answer { result ≡ answer_of (after_setuid (low call.now 0) creds.old) }
+    ensures ids { creds.new ≡ result_unwrap_or (after_setuid (low call.now 0) creds.old) creds.old }
+{
+    creds.setuid(low(call, 0))
+}
+
+fn take_ids(creds: &mut Creds, call: &Record) -> Result<(), Errno>
+    ensures answer { result ≡ answer_of (after_setresuid (low call.now 0) (low call.now 1) (low call.now 2) creds.old) }
+    ensures ids { creds.new ≡ result_unwrap_or (after_setresuid (low call.now 0) (low call.now 1) (low call.now 2) creds.old) creds.old }
+{
+    creds.setresuid(low(call, 0), low(call, 1), low(call, 2))
+}
+
+/// execve(2).
+pub(crate) fn execve<S: ProcStore>(
+    store: &mut S,
+    images: &Images,
+    pid: u32,
+    call: &Record,
+) -> Outcome
+    requires { IsTrue (is_some (at (S.contents store.old) pid)) }
+    ensures { ComesTo (S.contents store.old) pid (λ body. execve (S.contents store.old) pid (after_execve (authority_of body) (mark_of images.now (register call.now 0)))) result (S.contents store.new) }
+{
+    match mark_of(images, register(call, 0)) {
+        Some(mark) => execute(store, pid, mark),
+        None => failed(Errno::Enoent),
+    }
+}
+
+fn mark_of(images: &Images, program: u64) -> Option<Mark>
+    ensures { result ≡ mark_of images.now program }
+{
+    images.programs.get(program as usize).copied()
+}
+
+fn execute<S: ProcStore>(store: &mut S, pid: u32, mark: Mark) -> Outcome
+    requires { IsTrue (is_some (at (S.contents store.old) pid)) }
+    ensures { ComesTo (S.contents store.old) pid (λ body. execve (S.contents store.old) pid (after_execve (authority_of body) (Some mark))) result (S.contents store.new) }
+{
+    match store.body_mut(pid) {
+        Some(body) => {
+            run(body, mark);
+            Outcome::Executed
+        }
+        None => unreachable!(),
+    }
+}
+
+fn run(body: &mut Body, mark: Mark)
+    ensures { body.new ≡ executing (record (authority_of body.old) { creds = after_exec mark.owner mark.setuid body.old.creds }) body.old }
+{
+    body.creds.after_exec(mark.owner, mark.setuid);
+    body.signals.after_exec();
+    body.executed = true;
+}

@@ -1,0 +1,10 @@
+//! What each call does when it is performed, over any store of processes.
+#![tactic(auto)]
+
+mod arguments;
+mod attaching;
+mod authority;
+mod outcome;
+mod prctl;
+mod seccomp;
+mod signals;

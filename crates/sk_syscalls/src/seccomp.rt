@@ -1,0 +1,56 @@
+//! seccomp(2).
+
+ghost use Rattle.std.specs.Prelude.{◌≡◌, false, IsTrue, IfOk, OnErr, Option};
+ghost use Rattle.std.specs.Option.{is_some, option_map_or};
+ghost use Rattle.sk_world.specs.World.{at};
+ghost use Rattle.sk_machine.specs.Arguments.{low, seccomp_operation_of};
+ghost use Rattle.sk_machine.specs.Memory.{is_read, seccomp_attaches};
+ghost use Rattle.sk_machine.specs.Performing.{seccomp, action_available};
+ghost use Rattle.sk_syscalls.specs.Rows.{ComesTo};
+
+use crate::arguments::{low, register};
+use crate::attaching::attach;
+use crate::outcome::{failed, returned};
+use sk_chain::Action;
+use sk_creds::Errno;
+use sk_insn::Record;
+use sk_machine::{Images, Outcome, SeccompOperation};
+use sk_world::ProcStore;
+use std::alloc::{AllocError, Global};
+
+/// seccomp(2), by its operation.
+pub(crate) fn seccomp<S: ProcStore>(
+    store: &mut S,
+    images: &Images,
+    alloc: Global,
+    pid: u32,
+    call: &Record,
+) -> Result<Outcome, AllocError>
+    requires { IsTrue (is_some (at (S.contents store.old) pid)) }
+    ensures performed { IfOk result (λ outcome. ComesTo (S.contents store.old) pid (λ body. seccomp images.now (S.contents store.old) pid body (seccomp_operation_of (low call.now 0)) call.now) outcome (S.contents store.new)) }
+    ensures memory { OnErr result (IsTrue (option_map_or (is_read images.now) (seccomp_attaches (seccomp_operation_of (low call.now 0)) call.now) false)) }
+    ensures kept { OnErr result (S.contents store.new ≡ S.contents store.old) }
+{
+    match SeccompOperation::of(low(call, 0)) {
+        Some(SeccompOperation::SetModeFilter) => {
+            attach(store, images, alloc, pid, low(call, 1), register(call, 2))
+        }
+        Some(SeccompOperation::GetActionAvail) => {
+            Ok(returned(action_available(low(call, 1), low(call, 2))))
+        }
+        None => Ok(failed(Errno::Einval)),
+    }
+}
+
+fn action_available(flags: u32, value: u32) -> Result<u32, Errno>
+    ensures { result ≡ action_available flags value }
+{
+    if flags != 0 {
+        return Err(Errno::Einval);
+    }
+    if Action::of(value).value().is_some() && value % 65536 == 0 {
+        Ok(0)
+    } else {
+        Err(Errno::Eopnotsupp)
+    }
+}

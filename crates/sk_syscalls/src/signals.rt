@@ -1,0 +1,127 @@
+//! The calls by which a process changes its own signals, and asks for those that are pending.
+
+ghost use Rattle.std.specs.Prelude.{◌≡◌, ◌==◌, IsTrue};
+ghost use Rattle.std.specs.Option.{is_some};
+ghost use Rattle.std.specs.Result.{result_unwrap_or};
+ghost use Rattle.sk_creds.specs.Errno.{answer_of};
+ghost use Rattle.sk_world.specs.World.{at};
+ghost use Rattle.sk_machine.specs.SignalCalls.{resignals, can_be_caught, disposition_in, after_sigaction, after_sigprocmask, after_sigreturn};
+ghost use Rattle.sk_machine.specs.Performing.{pending_signals};
+ghost use Rattle.sk_syscalls.specs.Rows.{ComesTo};
+
+use crate::arguments::{low, register};
+use crate::outcome::done;
+use sk_creds::Errno;
+use sk_insn::Record;
+use sk_machine::Outcome;
+use sk_signal::number::{SIGKILL, SIGSTOP};
+use sk_signal::{Disposition, SigSet, SigState};
+use sk_world::{INIT, ProcStore};
+
+const SIG_BLOCK: u32 = 0;
+
+const SIG_UNBLOCK: u32 = 1;
+
+const SIG_SETMASK: u32 = 2;
+
+/// sigaction(2).
+pub(crate) fn rt_sigaction<S: ProcStore>(store: &mut S, pid: u32, call: &Record) -> Outcome
+    requires { IsTrue (is_some (at (S.contents store.old) pid)) }
+    ensures { ComesTo (S.contents store.old) pid (λ body. resignals (S.contents store.old) pid (after_sigaction pid call.now body.signals)) result (S.contents store.new) }
+{
+    match store.body_mut(pid) {
+        Some(body) => done(sigaction(&mut body.signals, pid, call)),
+        None => unreachable!(),
+    }
+}
+
+/// sigprocmask(2).
+pub(crate) fn rt_sigprocmask<S: ProcStore>(store: &mut S, pid: u32, call: &Record) -> Outcome
+    requires { IsTrue (is_some (at (S.contents store.old) pid)) }
+    ensures { ComesTo (S.contents store.old) pid (λ body. resignals (S.contents store.old) pid (after_sigprocmask call.now body.signals)) result (S.contents store.new) }
+{
+    match store.body_mut(pid) {
+        Some(body) => done(sigprocmask(&mut body.signals, call)),
+        None => unreachable!(),
+    }
+}
+
+/// sigreturn(2).
+pub(crate) fn rt_sigreturn<S: ProcStore>(store: &mut S, pid: u32) -> Outcome
+    requires { IsTrue (is_some (at (S.contents store.old) pid)) }
+    ensures { ComesTo (S.contents store.old) pid (λ body. resignals (S.contents store.old) pid (after_sigreturn body.signals.frames body.signals)) result (S.contents store.new) }
+{
+    match store.body_mut(pid) {
+        Some(body) => done(sigreturn(&mut body.signals)),
+        None => unreachable!(),
+    }
+}
+
+/// sigpending(2).
+pub(crate) fn rt_sigpending<S: ProcStore>(store: &S, pid: u32) -> Outcome
+    requires { IsTrue (is_some (at (S.contents store.now) pid)) }
+    ensures { ComesTo (S.contents store.now) pid (λ body. pending_signals (S.contents store.now) body.signals.pending) result (S.contents store.now) }
+{
+    match store.get(pid) {
+        Some(process) => Outcome::Signals(process.body.signals.pending()),
+        None => unreachable!(),
+    }
+}
+
+fn sigaction(signals: &mut SigState, pid: u32, call: &Record) -> Result<(), Errno>
+    ensures answer { result ≡ answer_of (after_sigaction pid call.now signals.old) }
+    ensures signals { signals.new ≡ result_unwrap_or (after_sigaction pid call.now signals.old) signals.old }
+{
+    let signal = low(call, 0);
+    if !can_be_caught(signal) {
+        return Err(Errno::Einval);
+    }
+    let disposition = disposition_in(register(call, 1), register(call, 2));
+    signals.set_action(signal as u8, disposition, pid == INIT);
+    Ok(())
+}
+
+fn can_be_caught(signal: u32) -> bool
+    ensures { result ≡ can_be_caught signal }
+{
+    (1..=31).contains(&signal) && signal != u32::from(SIGKILL) && signal != u32::from(SIGSTOP)
+}
+
+fn disposition_in(action: u64, mask: u64) -> Disposition
+    ensures { result ≡ disposition_in action mask }
+{
+    match action {
+        0 => Disposition::Default,
+        1 => Disposition::Ignore,
+        _ => Disposition::Handler {
+            program: action - 2,
+            mask: SigSet::from_bits_truncate(mask).blockable(),
+        },
+    }
+}
+
+fn sigprocmask(signals: &mut SigState, call: &Record) -> Result<(), Errno>
+    ensures answer { result ≡ answer_of (after_sigprocmask call.now signals.old) }
+    ensures signals { signals.new ≡ result_unwrap_or (after_sigprocmask call.now signals.old) signals.old }
+{
+    let set = SigSet::from_bits_truncate(register(call, 1));
+    let mask = match low(call, 0) {
+        SIG_BLOCK => signals.mask().union(set),
+        SIG_UNBLOCK => signals.mask().difference(set),
+        SIG_SETMASK => set,
+        _ => return Err(Errno::Einval),
+    };
+    signals.set_mask(mask);
+    Ok(())
+}
+
+fn sigreturn(signals: &mut SigState) -> Result<(), Errno>
+    ensures answer { result ≡ answer_of (after_sigreturn signals.old.frames signals.old) }
+    ensures signals { signals.new ≡ result_unwrap_or (after_sigreturn signals.old.frames signals.old) signals.old }
+{
+    if signals.pop_frame() {
+        Ok(())
+    } else {
+        Err(Errno::Einval)
+    }
+}
