@@ -1,5 +1,5 @@
 -- How a row is met by a change of the caller's body.
-use Rattle.std.proofs.Common.{◌≡◌, ◌∙◌, ℕ, ap, sym, refl, subst, Some, Result, Ok, Err, IfSome}
+use Rattle.std.proofs.Common.{◌≡◌, ◌∙◌, ℕ, ap, sym, refl, subst, Option, None, Some, Result, Ok, Err, IfSome}
 use Rattle.std.specs.Option.{option_map}
 use Rattle.std.specs.Result.{OnErr, result_unwrap_or}
 use Rattle.sk_creds.specs.declared.errno.Errno.{Errno}
@@ -9,12 +9,13 @@ use Rattle.sk_world.specs.declared.process.Proc.{Proc}
 use Rattle.sk_world.specs.World.{World, at, stored, body_changed, with_body}
 use Rattle.sk_world.proofs.Bodies.{kept_at, given_back}
 use Rattle.sk_machine.specs.declared.answer.Outcome.{Outcome}
-use Rattle.sk_machine.specs.Performed.{Performed, authorises}
+use Rattle.sk_machine.specs.Performed.{Performed, changes, authorises}
 use Rattle.sk_machine.specs.SignalCalls.{with_signals, resignals}
 use Rattle.sk_creds.specs.Errno.{answer_of}
 use Rattle.sk_creds.specs.declared.creds.Creds.{Creds}
 use Rattle.sk_machine.specs.Authority.{Authority, authority_of, with_authority, with_creds}
-use Rattle.sk_syscalls.specs.Rows.{ComesTo, done}
+use Rattle.sk_session.specs.Sessions.{answered}
+use Rattle.sk_syscalls.specs.Rows.{ComesTo, done, returned}
 
 -- what is shown at the caller's body
 pub comes_to : (w : World) (pid : ℕ) (row : Body → Performed) (outcome : Outcome) (after : World) (p : Proc) (b : Body)
@@ -80,6 +81,41 @@ pub has_other_ids : (w : World) (pid : ℕ) (r : Creds → Result Creds Errno) (
 has_other_ids w pid r p b answer creds outcome after is body answered state told made =
     has_authorised w pid (λ a. with_creds a (r a.creds)) p b answer (record b { creds = creds }) outcome after is body (answered ∙ answer_with_creds (authority_of b) (r b.creds))
     (ap (λ x. record b { creds = x }) state ∙ body_with_creds b (r b.creds)) told made
+
+-- a row that asks nothing of the caller
+pub comes_anyway : (w : World) (pid : ℕ) (row : Performed) (outcome : Outcome) (after : World) → outcome ≡ row.outcome → after ≡ row.world → ComesTo w pid (λ body. row) outcome after
+comes_anyway w pid row outcome after told made = elim (at w pid) as (λ o. IfSome o (λ p. record { outcome : outcome ≡ row.outcome; world : after ≡ row.world })) [
+  | None ↦ tt
+  | Some p ↦ record { outcome = told; world = made }
+]
+
+returned_changes : (w : World) (n : ℕ) (r : Result World Errno) → returned (answered n r) ≡ (changes w n r).outcome
+returned_changes w n (Ok after) = refl
+returned_changes w n (Err e) = refl
+
+world_changes : (w : World) (n : ℕ) (r : Result World Errno) → result_unwrap_or r w ≡ (changes w n r).world
+world_changes w n (Ok after) = refl
+world_changes w n (Err e) = refl
+
+-- a call that has made another world, or has failed
+pub has_changed : (w : World) (pid n : ℕ) (r asked : Result World Errno) (answer : Result ℕ Errno) (outcome : Outcome) (after : World)
+    → asked ≡ r → answer ≡ answered n asked → after ≡ result_unwrap_or asked w → outcome ≡ returned answer → ComesTo w pid (λ body. changes w n r) outcome after
+has_changed w pid n r asked answer outcome after same says made told =
+    comes_anyway w pid (changes w n r) outcome after (told ∙ ap returned (says ∙ ap (answered n) same) ∙ returned_changes w n r)
+    (made ∙ ap (λ x. result_unwrap_or x w) same ∙ world_changes w n r)
+
+-- the same of one that asks for the caller's ids
+pub has_changed_by : (w : World) (pid n : ℕ) (r : Creds → Result World Errno) (creds : Creds) (asked : Result World Errno) (answer : Result ℕ Errno) (outcome : Outcome) (after : World)
+    → IfSome (at w pid) (λ p. creds ≡ p.body.creds) → asked ≡ r creds → answer ≡ answered n asked → after ≡ result_unwrap_or asked w → outcome ≡ returned answer
+    → ComesTo w pid (λ body. changes w n (r body.creds)) outcome after
+has_changed_by w pid n r creds asked answer outcome after own same says made told =
+    elim (at w pid) as (λ o. IfSome o (λ p. creds ≡ p.body.creds) → IfSome o (λ p. record { outcome : outcome ≡ (changes w n (r p.body.creds)).outcome; world : after ≡ (changes w n (r p.body.creds)).world })) [
+      | None ↦ λ _. tt
+      | Some p ↦ λ is. record {
+        outcome = told ∙ ap returned (says ∙ ap (answered n) (same ∙ ap r is)) ∙ returned_changes w n (r p.body.creds);
+        world = made ∙ ap (λ x. result_unwrap_or x w) (same ∙ ap r is) ∙ world_changes w n (r p.body.creds);
+      }
+    ] own
 
 -- what holds anyway holds where there is an error
 pub on_err : {T E P : Type 0} (r : Result T E) → P → OnErr r P

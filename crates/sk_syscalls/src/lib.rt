@@ -4,7 +4,9 @@
 mod arguments;
 mod attaching;
 mod authority;
+mod groups;
 mod outcome;
 mod prctl;
+mod processes;
 mod seccomp;
 mod signals;

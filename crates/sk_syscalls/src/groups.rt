@@ -1,0 +1,63 @@
+//! The calls about process groups and sessions.
+
+ghost use Rattle.std.specs.Prelude.{◌≡◌, IsTrue};
+ghost use Rattle.std.specs.Option.{is_some};
+ghost use Rattle.sk_world.specs.World.{at};
+ghost use Rattle.sk_world.specs.Rules.{IsWorld};
+ghost use Rattle.sk_session.specs.Sessions.{group_of, after_setpgid, after_setsid, group_asked, session_asked};
+ghost use Rattle.sk_machine.specs.Arguments.{signed};
+ghost use Rattle.sk_machine.specs.Performed.{returns, asked, changes};
+ghost use Rattle.sk_syscalls.specs.Rows.{ComesTo};
+
+use crate::arguments::signed;
+use crate::outcome::returned;
+use sk_insn::Record;
+use sk_machine::Outcome;
+use sk_world::ProcStore;
+
+/// setpgid(2).
+pub(crate) fn setpgid<S: ProcStore>(store: &mut S, pid: u32, call: &Record) -> Outcome
+    requires rules { IsWorld (S.contents store.old) }
+    requires there { IsTrue (is_some (at (S.contents store.old) pid)) }
+    ensures { ComesTo (S.contents store.old) pid (λ body. changes (S.contents store.old) 0 (after_setpgid (S.contents store.old) pid (signed call.now 0) (signed call.now 1))) result (S.contents store.new) }
+{
+    returned(sk_session::setpgid(store, pid, signed(call, 0), signed(call, 1)))
+}
+
+/// setsid(2).
+pub(crate) fn setsid<S: ProcStore>(store: &mut S, pid: u32) -> Outcome
+    requires rules { IsWorld (S.contents store.old) }
+    requires there { IsTrue (is_some (at (S.contents store.old) pid)) }
+    ensures { ComesTo (S.contents store.old) pid (λ body. changes (S.contents store.old) pid (after_setsid (S.contents store.old) pid)) result (S.contents store.new) }
+{
+    returned(sk_session::setsid(store, pid))
+}
+
+/// getpgrp(2).
+pub(crate) fn getpgrp<S: ProcStore>(store: &S, pid: u32) -> Outcome
+    requires { IsTrue (is_some (at (S.contents store.now) pid)) }
+    ensures { ComesTo (S.contents store.now) pid (λ body. returns (S.contents store.now) (group_of (at (S.contents store.now) pid))) result (S.contents store.now) }
+{
+    match store.get(pid) {
+        Some(process) => returned(Ok(process.links.group)),
+        None => unreachable!(),
+    }
+}
+
+/// getpgid(2).
+pub(crate) fn getpgid<S: ProcStore>(store: &S, pid: u32, call: &Record) -> Outcome
+    requires rules { IsWorld (S.contents store.now) }
+    requires there { IsTrue (is_some (at (S.contents store.now) pid)) }
+    ensures { ComesTo (S.contents store.now) pid (λ body. asked (S.contents store.now) (group_asked (S.contents store.now) pid (signed call.now 0))) result (S.contents store.now) }
+{
+    returned(sk_session::getpgid(store, pid, signed(call, 0)))
+}
+
+/// getsid(2).
+pub(crate) fn getsid<S: ProcStore>(store: &S, pid: u32, call: &Record) -> Outcome
+    requires rules { IsWorld (S.contents store.now) }
+    requires there { IsTrue (is_some (at (S.contents store.now) pid)) }
+    ensures { ComesTo (S.contents store.now) pid (λ body. asked (S.contents store.now) (session_asked (S.contents store.now) pid (signed call.now 0))) result (S.contents store.now) }
+{
+    returned(sk_session::getsid(store, pid, signed(call, 0)))
+}

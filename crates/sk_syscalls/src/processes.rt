@@ -1,0 +1,69 @@
+//! The calls by which processes come and go, and wait, and ask for their numbers.
+
+ghost use Rattle.std.specs.Prelude.{◌≡◌, ◌&&◌, IsTrue, IfOk, OnErr};
+ghost use Rattle.std.specs.Option.{is_some};
+ghost use Rattle.sk_world.specs.World.{at, is_alive, parent_of, changed};
+ghost use Rattle.sk_world.specs.Rules.{IsWorld};
+ghost use Rattle.sk_world.specs.Forking.{fork_answer, has_room, has_filters};
+ghost use Rattle.sk_world.specs.declared.process.Waiting.TheVariants as waiting;
+ghost use Rattle.sk_machine.specs.Arguments.{low};
+ghost use Rattle.sk_machine.specs.Performed.{returns, waits, waiting_in};
+ghost use Rattle.sk_machine.specs.Performing.{forks, exit_status, end_of_caller};
+ghost use Rattle.sk_syscalls.specs.Rows.{ComesTo};
+
+use crate::arguments::low;
+use crate::outcome::returned;
+use sk_insn::Record;
+use sk_machine::Outcome;
+use sk_world::{ProcStore, Waiting};
+use std::alloc::AllocError;
+
+/// fork(2).
+pub(crate) fn fork<S: ProcStore>(store: &mut S, pid: u32) -> Result<Outcome, AllocError>
+    requires rules { IsWorld (S.contents store.old) }
+    requires alive { IsTrue (is_alive (at (S.contents store.old) pid)) }
+    ensures performed { IfOk result (λ outcome. ComesTo (S.contents store.old) pid (λ body. forks (S.contents store.old) pid (fork_answer (S.contents store.old))) outcome (S.contents store.new)) }
+    ensures memory { OnErr result (IsTrue (has_room (S.contents store.old) && has_filters (at (S.contents store.old) pid))) }
+    ensures kept { OnErr result (S.contents store.new ≡ S.contents store.old) }
+{
+    Ok(returned(sk_world::fork(store, pid)?))
+}
+
+/// exit(2), and exit_group(2), as a process has one thread. Of the code the low 8 bits are told.
+pub(crate) fn exit<S: ProcStore>(store: &mut S, pid: u32, call: &Record) -> Outcome
+    requires rules { IsWorld (S.contents store.old) }
+    requires alive { IsTrue (is_alive (at (S.contents store.old) pid)) }
+    ensures { ComesTo (S.contents store.old) pid (λ body. end_of_caller (S.contents store.old) pid (exit_status (low call.now 0))) result (S.contents store.new) }
+{
+    let status = low(call, 0) % 256 * 256;
+    sk_session::end(store, pid, status);
+    Outcome::Ended(status)
+}
+
+/// pause(2). It ends by a signal alone.
+pub(crate) fn pause<S: ProcStore>(store: &mut S, pid: u32) -> Outcome
+    requires { IsTrue (is_some (at (S.contents store.old) pid)) }
+    ensures { ComesTo (S.contents store.old) pid (λ body. waits (S.contents store.old) pid waiting.Pause) result (S.contents store.new) }
+{
+    wait_in(store, pid, Waiting::Pause);
+    Outcome::Waits
+}
+
+fn wait_in<S: ProcStore>(store: &mut S, pid: u32, what: Waiting)
+    ensures { S.contents store.new ≡ changed (S.contents store.old) pid (waiting_in what) }
+{
+    if let Some(body) = store.body_mut(pid) {
+        body.waiting = what;
+    }
+}
+
+/// getppid(2).
+pub(crate) fn getppid<S: ProcStore>(store: &S, pid: u32) -> Outcome
+    requires { IsTrue (is_some (at (S.contents store.now) pid)) }
+    ensures { ComesTo (S.contents store.now) pid (λ body. returns (S.contents store.now) (parent_of (at (S.contents store.now) pid))) result (S.contents store.now) }
+{
+    match store.get(pid) {
+        Some(process) => returned(Ok(process.links.parent)),
+        None => unreachable!(),
+    }
+}
