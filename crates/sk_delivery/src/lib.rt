@@ -3,9 +3,11 @@
 #![tactic(auto)]
 
 mod asking;
+mod delivering;
 mod killing;
 mod targets;
 mod waiting;
 
+pub use delivering::deliver;
 pub use killing::kill;
 pub use waiting::{resume, wait4};
