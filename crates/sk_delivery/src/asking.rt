@@ -1,9 +1,19 @@
 ghost use Rattle.std.specs.Prelude.{◌≡◌};
-ghost use Rattle.sk_world.specs.World.{at};
+ghost use Rattle.sk_world.specs.World.{at, parent_of};
 ghost use Rattle.sk_session.specs.Sessions.{group_of, session_of};
 ghost use Rattle.sk_machine.specs.Arguments.{who_meant};
 
 use sk_world::{ProcStore, Who};
+
+/// The parent of a process, 0 where it is not there.
+pub(crate) fn parent_of<S: ProcStore>(store: &S, pid: u32) -> u32
+    ensures { result ≡ parent_of (at (S.contents store.now) pid) }
+{
+    match store.get(pid) {
+        Some(process) => process.links.parent,
+        None => 0,
+    }
+}
 
 /// The group of a process, 0 where it is not there.
 pub(crate) fn group_of<S: ProcStore>(store: &S, pid: u32) -> u32

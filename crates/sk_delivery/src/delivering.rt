@@ -1,4 +1,4 @@
-ghost use Rattle.std.specs.Prelude.{◌≡◌, ◌==◌, ◌&&◌, not, if◌then◌else◌, length, IsTrue, IfSome};
+ghost use Rattle.std.specs.Prelude.{◌≡◌, ◌≢◌, ◌==◌, ◌&&◌, not, if◌then◌else◌, length, IsTrue, IfSome};
 ghost use Rattle.sk_signal.specs.declared.number.TheConstants.{SIGSYS};
 ghost use Rattle.sk_signal.specs.declared.state.TheConstants.{FRAMES};
 ghost use Rattle.sk_signal.specs.declared.disposition.DefaultAction.TheVariants as action;
@@ -6,13 +6,13 @@ ghost use Rattle.sk_signal.specs.SignalSet.{IsSignal};
 ghost use Rattle.sk_signal.specs.Actions.{default_action};
 ghost use Rattle.sk_signal.specs.SignalState.{disposition_of};
 ghost use Rattle.sk_world.specs.declared.process.TheConstants.{INIT};
-ghost use Rattle.sk_world.specs.World.{at, is_alive, parent_of, changed};
+ghost use Rattle.sk_world.specs.World.{at, is_alive, changed};
 ghost use Rattle.sk_world.specs.Rules.{IsWorld};
 ghost use Rattle.sk_session.specs.Orphans.{ended_and_hung_up};
 ghost use Rattle.sk_machine.specs.declared.answer.Effect.TheVariants.{Ended};
 ghost use Rattle.sk_machine.specs.Delivering.{is_waiting, is_in_call, in_handler, enters_handler, stopping, ignored, acts_by_default, taking, acted_on, delivered};
 
-use crate::asking::group_of;
+use crate::asking::{group_of, parent_of};
 use sk_machine::Effect;
 use sk_session::{end, orphaned};
 use sk_signal::number::{SIGCHLD, SIGKILL, SIGSEGV, SIGSYS};
@@ -26,14 +26,17 @@ pub fn deliver<S: ProcStore>(store: &mut S, pid: u32, signal: u8) -> Effect
     requires signal { IsSignal signal }
     ensures answer { IfSome (at (S.contents store.old) pid) (λ p. result ≡ (delivered (S.contents store.old) pid p.body signal).effect) }
     ensures world { IfSome (at (S.contents store.old) pid) (λ p. S.contents store.new ≡ (delivered (S.contents store.old) pid p.body signal).world) }
+    ensures rules { IsWorld (S.contents store.new) }
 {
     take(store, pid, signal);
     act(store, pid, signal)
 }
 
 fn take<S: ProcStore>(store: &mut S, pid: u32, signal: u8)
-    requires { IsSignal signal }
-    ensures { S.contents store.new ≡ changed (S.contents store.old) pid (taking signal) }
+    requires rules { IsWorld (S.contents store.old) }
+    requires signal { IsSignal signal }
+    ensures world { S.contents store.new ≡ changed (S.contents store.old) pid (taking signal) }
+    ensures rules { IsWorld (S.contents store.new) }
 {
     if let Some(body) = store.body_mut(pid) {
         body.signals.take(signal);
@@ -47,6 +50,7 @@ fn act<S: ProcStore>(store: &mut S, pid: u32, signal: u8) -> Effect
     requires signal { IsSignal signal }
     ensures answer { IfSome (at (S.contents store.old) pid) (λ p. result ≡ (acted_on (S.contents store.old) pid p.body signal).effect) }
     ensures world { IfSome (at (S.contents store.old) pid) (λ p. S.contents store.new ≡ (acted_on (S.contents store.old) pid p.body signal).world) }
+    ensures rules { IsWorld (S.contents store.new) }
 {
     if signal == SIGKILL {
         return terminate(store, pid, SIGKILL);
@@ -74,6 +78,7 @@ fn terminate<S: ProcStore>(store: &mut S, pid: u32, signal: u8) -> Effect
     requires alive { IsTrue (is_alive (at (S.contents store.old) pid)) }
     ensures answer { result ≡ Ended signal }
     ensures world { S.contents store.new ≡ ended_and_hung_up (S.contents store.old) pid signal }
+    ensures rules { IsWorld (S.contents store.new) }
 {
     let status = u32::from(signal);
     end(store, pid, status);
@@ -93,6 +98,7 @@ fn enter_handler<S: ProcStore>(
     requires signal { IsSignal signal }
     ensures answer { IfSome (at (S.contents store.old) pid) (λ p. result ≡ (enters_handler (S.contents store.old) pid p.body signal program mask).effect) }
     ensures world { IfSome (at (S.contents store.old) pid) (λ p. S.contents store.new ≡ (enters_handler (S.contents store.old) pid p.body signal program mask).world) }
+    ensures rules { IsWorld (S.contents store.new) }
 {
     let interrupted = is_in_call(store, pid);
     if push_frame(store, pid, signal, mask) {
@@ -122,9 +128,11 @@ fn is_waiting(waiting: Waiting) -> bool
 
 /// Whether there was room for the frame.
 fn push_frame<S: ProcStore>(store: &mut S, pid: u32, signal: u8, mask: SigSet) -> bool
-    requires { IsSignal signal }
+    requires rules { IsWorld (S.contents store.old) }
+    requires signal { IsSignal signal }
     ensures room { IfSome (at (S.contents store.old) pid) (λ p. result ≡ not (length p.body.signals.frames == FRAMES)) }
     ensures world { S.contents store.new ≡ (if result then changed (S.contents store.old) pid (in_handler signal mask) else S.contents store.old) }
+    ensures rules { IsWorld (S.contents store.new) }
 {
     match store.body_mut(pid) {
         Some(body) => begin_handler(body, signal, mask),
@@ -151,6 +159,7 @@ fn act_by_default<S: ProcStore>(store: &mut S, pid: u32, signal: u8) -> Effect
     requires signal { IsSignal signal }
     ensures answer { result ≡ (if (pid == INIT) && not (signal == SIGSYS) then ignored (S.contents store.old) else acts_by_default (S.contents store.old) pid signal (default_action signal)).effect }
     ensures world { S.contents store.new ≡ (if (pid == INIT) && not (signal == SIGSYS) then ignored (S.contents store.old) else acts_by_default (S.contents store.old) pid signal (default_action signal)).world }
+    ensures rules { IsWorld (S.contents store.new) }
 {
     if pid == INIT && signal != SIGSYS {
         return Effect::Ignored;
@@ -167,8 +176,11 @@ fn act_by_default<S: ProcStore>(store: &mut S, pid: u32, signal: u8) -> Effect
 /// group.
 fn stop<S: ProcStore>(store: &mut S, pid: u32, signal: u8) -> Effect
     requires rules { IsWorld (S.contents store.old) }
+    requires alive { IsTrue (is_alive (at (S.contents store.old) pid)) }
+    requires other { pid ≢ INIT }
     ensures answer { result ≡ (acts_by_default (S.contents store.old) pid signal action.Stop).effect }
     ensures world { S.contents store.new ≡ (acts_by_default (S.contents store.old) pid signal action.Stop).world }
+    ensures rules { IsWorld (S.contents store.new) }
 {
     if tty_stop(signal) && orphaned(store, group_of(store, pid)) {
         return Effect::Ignored;
@@ -180,20 +192,14 @@ fn stop<S: ProcStore>(store: &mut S, pid: u32, signal: u8) -> Effect
 }
 
 fn set_stopped<S: ProcStore>(store: &mut S, pid: u32, signal: u8)
-    ensures { S.contents store.new ≡ changed (S.contents store.old) pid (stopping signal) }
+    requires rules { IsWorld (S.contents store.old) }
+    requires alive { IsTrue (is_alive (at (S.contents store.old) pid)) }
+    requires other { pid ≢ INIT }
+    ensures world { S.contents store.new ≡ changed (S.contents store.old) pid (stopping signal) }
+    ensures rules { IsWorld (S.contents store.new) }
 {
     if let Some(body) = store.body_mut(pid) {
         body.life = Life::Stopped;
         body.note = Note::Stopped(signal);
-    }
-}
-
-/// The parent of a process, 0 where the process is not there.
-fn parent_of<S: ProcStore>(store: &S, pid: u32) -> u32
-    ensures { result ≡ parent_of (at (S.contents store.now) pid) }
-{
-    match store.get(pid) {
-        Some(process) => process.links.parent,
-        None => 0,
     }
 }

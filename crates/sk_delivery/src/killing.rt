@@ -25,6 +25,7 @@ pub fn kill<S: ProcStore>(
     requires rules { IsWorld (S.contents store.old) }
     ensures answer { result ≡ answered 0 (after_kill (S.contents store.old) caller creds target signal) }
     ensures world { S.contents store.new ≡ result_unwrap_or (after_kill (S.contents store.old) caller creds target signal) (S.contents store.old) }
+    ensures rules { IsWorld (S.contents store.new) }
 {
     if signal > 31 {
         return Err(Errno::Einval);
@@ -96,6 +97,7 @@ fn send_to_permitted<S: ProcStore>(store: &mut S, caller: u32, creds: Creds, who
     requires rules { IsWorld (S.contents store.old) }
     requires signal { IsSignal signal }
     ensures world { S.contents store.new ≡ sent_to_each (S.contents store.old) (filter (may_kill (S.contents store.old) caller creds signal) (filter (is_meant (S.contents store.old) caller who) (pids (S.contents store.old).procs))) signal }
+    ensures rules { IsWorld (S.contents store.new) }
 {
     let mut after = 0;
     while let Some(pid) = next_target(store, caller, who, after) {

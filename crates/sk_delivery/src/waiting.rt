@@ -22,6 +22,7 @@ pub fn wait4<S: ProcStore>(store: &mut S, caller: u32, call: &Record) -> Outcome
     requires there { IsTrue (is_some (at (S.contents store.old) caller)) }
     ensures answer { result ≡ (wait4 (S.contents store.old) caller call.now).outcome }
     ensures world { S.contents store.new ≡ (wait4 (S.contents store.old) caller call.now).world }
+    ensures rules { IsWorld (S.contents store.new) }
 {
     match request_of(store, caller, call) {
         Ok(request) => ask(store, caller, request),
@@ -35,6 +36,7 @@ pub fn resume<S: ProcStore>(store: &mut S, pid: u32, waiting: Waiting) -> Outcom
     requires there { IsTrue (is_some (at (S.contents store.old) pid)) }
     ensures answer { result ≡ (resumed (S.contents store.old) pid waiting).outcome }
     ensures world { S.contents store.new ≡ (resumed (S.contents store.old) pid waiting).world }
+    ensures rules { IsWorld (S.contents store.new) }
 {
     match waiting {
         Waiting::Asks(request) => ask_again(store, pid, request),
@@ -81,6 +83,7 @@ fn ask<S: ProcStore>(store: &mut S, caller: u32, request: Request) -> Outcome
     requires there { IsTrue (is_some (at (S.contents store.old) caller)) }
     ensures answer { result ≡ (polled (S.contents store.old) caller request (ready_of (S.contents store.old) caller request)).outcome }
     ensures world { S.contents store.new ≡ (polled (S.contents store.old) caller request (ready_of (S.contents store.old) caller request)).world }
+    ensures rules { IsWorld (S.contents store.new) }
 {
     match wait_poll(store, caller, &request) {
         Poll::Told { pid, status } => Outcome::Told { pid, status },
@@ -101,6 +104,7 @@ fn ask_again<S: ProcStore>(store: &mut S, pid: u32, request: Request) -> Outcome
     requires there { IsTrue (is_some (at (S.contents store.old) pid)) }
     ensures answer { result ≡ (polled_again (S.contents store.old) pid (ready_of (S.contents store.old) pid request)).outcome }
     ensures world { S.contents store.new ≡ (polled_again (S.contents store.old) pid (ready_of (S.contents store.old) pid request)).world }
+    ensures rules { IsWorld (S.contents store.new) }
 {
     let outcome = match wait_poll(store, pid, &request) {
         Poll::Told { pid, status } => Outcome::Told { pid, status },
@@ -112,7 +116,9 @@ fn ask_again<S: ProcStore>(store: &mut S, pid: u32, request: Request) -> Outcome
 }
 
 fn set_waiting<S: ProcStore>(store: &mut S, pid: u32, waiting: Waiting)
-    ensures { S.contents store.new ≡ changed (S.contents store.old) pid (waiting_in waiting) }
+    requires rules { IsWorld (S.contents store.old) }
+    ensures world { S.contents store.new ≡ changed (S.contents store.old) pid (waiting_in waiting) }
+    ensures rules { IsWorld (S.contents store.new) }
 {
     if let Some(body) = store.body_mut(pid) {
         body.waiting = waiting;

@@ -15,7 +15,6 @@ loop-pid-preserved g c =
     passed_over (g.S.ProcStore.contents c.args.store.now) (g.S.ProcStore.contents c.loop-pid.store) c.args.caller c.args.creds c.args.who c.args.signal c.loop-pid.after c.in-Some.pid c.loop-pid.invariant
     c.in-Some.ensures.next (sym c.may_kill.ensures ∙ c.if-may_kill.false)
 
-pub returns : goal.returns
-returns g c = record {
-  world = sending_ends (g.S.ProcStore.contents c.args.store.now) (g.S.ProcStore.contents c.loop-pid.store) c.args.caller c.args.creds c.args.who c.args.signal c.loop-pid.after c.loop-pid.invariant c.in_default.ensures.next;
-}
+pub returns-clause-world : goal.returns-clause-world
+returns-clause-world g c =
+    sending_ends (g.S.ProcStore.contents c.args.store.now) (g.S.ProcStore.contents c.loop-pid.store) c.args.caller c.args.creds c.args.who c.args.signal c.loop-pid.after c.loop-pid.invariant c.in_default.ensures.next
