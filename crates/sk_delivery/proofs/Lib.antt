@@ -1,0 +1,4 @@
+pub mod Options
+pub mod Listing
+pub mod Reaching
+pub mod Taking
