@@ -1,5 +1,5 @@
 -- How a row is met by a change of the caller's body.
-use Rattle.std.proofs.Common.{◌≡◌, ◌∙◌, ℕ, ap, sym, refl, subst, Option, None, Some, Result, Ok, Err, IfSome}
+use Rattle.std.proofs.Common.{◌≡◌, ◌∙◌, ℕ, ap, sym, refl, subst, None, Some, Result, Ok, Err, IfSome}
 use Rattle.std.specs.Option.{option_map}
 use Rattle.std.specs.Result.{OnErr, result_unwrap_or}
 use Rattle.sk_creds.specs.declared.errno.Errno.{Errno}

@@ -7,6 +7,7 @@ ghost use Rattle.sk_chain.specs.Chains.{cost_of};
 ghost use Rattle.sk_creds.specs.declared.errno.Errno.TheVariants.{Enomem};
 ghost use Rattle.sk_creds.specs.Errno.{answer_of};
 ghost use Rattle.sk_world.specs.World.{at};
+ghost use Rattle.sk_world.specs.Rules.{IsWorld};
 ghost use Rattle.sk_machine.specs.Given.{filter_image};
 ghost use Rattle.sk_machine.specs.Authority.{authority_of, with_authority, program_of, filtered, after_attach};
 ghost use Rattle.sk_machine.specs.Memory.{is_read};
@@ -32,11 +33,13 @@ pub(crate) fn attach<S: ProcStore>(
     flags: u32,
     image: u64,
 ) -> Result<Outcome, AllocError>
-    requires { IsTrue (is_some (at (S.contents store.old) pid)) }
+    requires rules { IsWorld (S.contents store.old) }
+    requires there { IsTrue (is_some (at (S.contents store.old) pid)) }
     ensures performed { IfOk result (λ outcome. ComesTo (S.contents store.old) pid (λ body. authorises (S.contents store.old) pid (after_attach images.now flags image (authority_of body))) outcome (S.contents store.new)) }
     ensures flags { OnErr result (flags ≡ 0) }
     ensures memory { OnErr result (IsTrue (is_read images.now image)) }
     ensures kept { OnErr result (S.contents store.new ≡ S.contents store.old) }
+    ensures rules { IsWorld (S.contents store.new) }
 {
     if flags != 0 {
         return Ok(failed(Errno::Einval));
@@ -71,9 +74,11 @@ fn filter_caller<S: ProcStore>(
     pid: u32,
     insns: Vec<Insn>,
 ) -> Result<Outcome, AllocError>
-    requires { IsTrue (is_some (at (S.contents store.old) pid)) }
+    requires rules { IsWorld (S.contents store.old) }
+    requires there { IsTrue (is_some (at (S.contents store.old) pid)) }
     ensures performed { IfOk result (λ outcome. ComesTo (S.contents store.old) pid (λ body. authorises (S.contents store.old) pid (filtered (authority_of body) (Ok insns.items))) outcome (S.contents store.new)) }
     ensures kept { OnErr result (S.contents store.new ≡ S.contents store.old) }
+    ensures rules { IsWorld (S.contents store.new) }
 {
     match store.body_mut(pid) {
         Some(body) => Ok(done(filter(body, alloc, insns)?)),

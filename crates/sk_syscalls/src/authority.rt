@@ -6,6 +6,7 @@ ghost use Rattle.sk_creds.specs.Creds.{after_setuid, after_setresuid, after_exec
 ghost use Rattle.std.specs.Result.{result_unwrap_or};
 ghost use Rattle.sk_creds.specs.Errno.{answer_of};
 ghost use Rattle.sk_world.specs.World.{at};
+ghost use Rattle.sk_world.specs.Rules.{IsWorld};
 ghost use Rattle.sk_machine.specs.Arguments.{register, low};
 ghost use Rattle.sk_machine.specs.Authority.{authority_of, with_creds, after_execve};
 ghost use Rattle.sk_machine.specs.Given.{mark_of};
@@ -58,8 +59,10 @@ pub(crate) fn getresuid<S: ProcStore>(store: &S, pid: u32) -> Outcome
 
 /// setuid(2).
 pub(crate) fn setuid<S: ProcStore>(store: &mut S, pid: u32, call: &Record) -> Outcome
-    requires { IsTrue (is_some (at (S.contents store.old) pid)) }
-    ensures { ComesTo (S.contents store.old) pid (λ body. authorises (S.contents store.old) pid (with_creds (authority_of body) (after_setuid (low call.now 0) body.creds))) result (S.contents store.new) }
+    requires rules { IsWorld (S.contents store.old) }
+    requires there { IsTrue (is_some (at (S.contents store.old) pid)) }
+    ensures performed { ComesTo (S.contents store.old) pid (λ body. authorises (S.contents store.old) pid (with_creds (authority_of body) (after_setuid (low call.now 0) body.creds))) result (S.contents store.new) }
+    ensures rules { IsWorld (S.contents store.new) }
 {
     match store.body_mut(pid) {
         Some(body) => done(take_id(&mut body.creds, call)),
@@ -69,8 +72,10 @@ pub(crate) fn setuid<S: ProcStore>(store: &mut S, pid: u32, call: &Record) -> Ou
 
 /// setresuid(2).
 pub(crate) fn setresuid<S: ProcStore>(store: &mut S, pid: u32, call: &Record) -> Outcome
-    requires { IsTrue (is_some (at (S.contents store.old) pid)) }
-    ensures { ComesTo (S.contents store.old) pid (λ body. authorises (S.contents store.old) pid (with_creds (authority_of body) (after_setresuid (low call.now 0) (low call.now 1) (low call.now 2) body.creds))) result (S.contents store.new) }
+    requires rules { IsWorld (S.contents store.old) }
+    requires there { IsTrue (is_some (at (S.contents store.old) pid)) }
+    ensures performed { ComesTo (S.contents store.old) pid (λ body. authorises (S.contents store.old) pid (with_creds (authority_of body) (after_setresuid (low call.now 0) (low call.now 1) (low call.now 2) body.creds))) result (S.contents store.new) }
+    ensures rules { IsWorld (S.contents store.new) }
 {
     match store.body_mut(pid) {
         Some(body) => done(take_ids(&mut body.creds, call)),
@@ -99,8 +104,10 @@ pub(crate) fn execve<S: ProcStore>(
     pid: u32,
     call: &Record,
 ) -> Outcome
-    requires { IsTrue (is_some (at (S.contents store.old) pid)) }
-    ensures { ComesTo (S.contents store.old) pid (λ body. execve (S.contents store.old) pid (after_execve (authority_of body) (mark_of images.now (register call.now 0)))) result (S.contents store.new) }
+    requires rules { IsWorld (S.contents store.old) }
+    requires there { IsTrue (is_some (at (S.contents store.old) pid)) }
+    ensures performed { ComesTo (S.contents store.old) pid (λ body. execve (S.contents store.old) pid (after_execve (authority_of body) (mark_of images.now (register call.now 0)))) result (S.contents store.new) }
+    ensures rules { IsWorld (S.contents store.new) }
 {
     match mark_of(images, register(call, 0)) {
         Some(mark) => execute(store, pid, mark),
@@ -115,8 +122,10 @@ fn mark_of(images: &Images, program: u64) -> Option<Mark>
 }
 
 fn execute<S: ProcStore>(store: &mut S, pid: u32, mark: Mark) -> Outcome
-    requires { IsTrue (is_some (at (S.contents store.old) pid)) }
-    ensures { ComesTo (S.contents store.old) pid (λ body. execve (S.contents store.old) pid (after_execve (authority_of body) (Some mark))) result (S.contents store.new) }
+    requires rules { IsWorld (S.contents store.old) }
+    requires there { IsTrue (is_some (at (S.contents store.old) pid)) }
+    ensures performed { ComesTo (S.contents store.old) pid (λ body. execve (S.contents store.old) pid (after_execve (authority_of body) (Some mark))) result (S.contents store.new) }
+    ensures rules { IsWorld (S.contents store.new) }
 {
     match store.body_mut(pid) {
         Some(body) => {

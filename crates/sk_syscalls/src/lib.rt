@@ -6,7 +6,10 @@ mod attaching;
 mod authority;
 mod groups;
 mod outcome;
+mod performing;
 mod prctl;
 mod processes;
 mod seccomp;
 mod signals;
+
+pub use performing::perform;

@@ -5,6 +5,7 @@ ghost use Rattle.std.specs.Option.{is_some, option_map_or};
 ghost use Rattle.std.specs.Result.{result_unwrap_or};
 ghost use Rattle.sk_creds.specs.Errno.{answer_of};
 ghost use Rattle.sk_world.specs.World.{at, changed};
+ghost use Rattle.sk_world.specs.Rules.{IsWorld};
 ghost use Rattle.sk_machine.specs.Arguments.{register, low, prctl_option_of};
 ghost use Rattle.sk_machine.specs.Authority.{authority_of, with_authority, after_no_new_privs, after_set_seccomp};
 ghost use Rattle.sk_machine.specs.Memory.{is_read, prctl_attaches};
@@ -32,10 +33,12 @@ pub(crate) fn prctl<S: ProcStore>(
     pid: u32,
     call: &Record,
 ) -> Result<Outcome, AllocError>
-    requires { IsTrue (is_some (at (S.contents store.old) pid)) }
+    requires rules { IsWorld (S.contents store.old) }
+    requires there { IsTrue (is_some (at (S.contents store.old) pid)) }
     ensures performed { IfOk result (λ outcome. ComesTo (S.contents store.old) pid (λ body. prctl images.now (S.contents store.old) pid body (prctl_option_of (low call.now 0)) call.now) outcome (S.contents store.new)) }
     ensures memory { OnErr result (IsTrue (option_map_or (is_read images.now) (prctl_attaches (prctl_option_of (low call.now 0)) call.now) false)) }
     ensures kept { OnErr result (S.contents store.new ≡ S.contents store.old) }
+    ensures rules { IsWorld (S.contents store.new) }
 {
     match PrctlOption::of(low(call, 0)) {
         Some(PrctlOption::SetSeccomp) => set_seccomp(store, images, alloc, pid, call),
@@ -55,10 +58,12 @@ fn set_seccomp<S: ProcStore>(
     pid: u32,
     call: &Record,
 ) -> Result<Outcome, AllocError>
-    requires { IsTrue (is_some (at (S.contents store.old) pid)) }
+    requires rules { IsWorld (S.contents store.old) }
+    requires there { IsTrue (is_some (at (S.contents store.old) pid)) }
     ensures performed { IfOk result (λ outcome. ComesTo (S.contents store.old) pid (λ body. authorises (S.contents store.old) pid (after_set_seccomp images.now call.now (authority_of body))) outcome (S.contents store.new)) }
     ensures memory { OnErr result (IsTrue (option_map_or (is_read images.now) (prctl_attaches (Some option.SetSeccomp) call.now) false)) }
     ensures kept { OnErr result (S.contents store.new ≡ S.contents store.old) }
+    ensures rules { IsWorld (S.contents store.new) }
 {
     if register(call, 1) == u64::from(SECCOMP_MODE_FILTER) {
         attach(store, images, alloc, pid, 0, register(call, 2))
@@ -88,8 +93,10 @@ fn seccomp_mode(body: &Body) -> u32
 }
 
 fn set_no_new_privs<S: ProcStore>(store: &mut S, pid: u32, call: &Record) -> Outcome
-    requires { IsTrue (is_some (at (S.contents store.old) pid)) }
-    ensures { ComesTo (S.contents store.old) pid (λ body. authorises (S.contents store.old) pid (after_no_new_privs call.now (authority_of body))) result (S.contents store.new) }
+    requires rules { IsWorld (S.contents store.old) }
+    requires there { IsTrue (is_some (at (S.contents store.old) pid)) }
+    ensures performed { ComesTo (S.contents store.old) pid (λ body. authorises (S.contents store.old) pid (after_no_new_privs call.now (authority_of body))) result (S.contents store.new) }
+    ensures rules { IsWorld (S.contents store.new) }
 {
     match store.body_mut(pid) {
         Some(body) => done(bind(body, call)),
@@ -140,8 +147,10 @@ fn set_child_subreaper<S: ProcStore>(
     pid: u32,
     call: &Record,
 ) -> Outcome
-    requires { IsTrue (is_some (at (S.contents store.old) pid)) }
-    ensures { ComesTo (S.contents store.old) pid (λ body. where_subreapers images.now.subreapers (S.contents store.old) (subreaper_set (S.contents store.old) pid call.now)) result (S.contents store.new) }
+    requires rules { IsWorld (S.contents store.old) }
+    requires there { IsTrue (is_some (at (S.contents store.old) pid)) }
+    ensures performed { ComesTo (S.contents store.old) pid (λ body. where_subreapers images.now.subreapers (S.contents store.old) (subreaper_set (S.contents store.old) pid call.now)) result (S.contents store.new) }
+    ensures rules { IsWorld (S.contents store.new) }
 {
     if !images.subreapers {
         return failed(Errno::Einval);
@@ -151,7 +160,8 @@ fn set_child_subreaper<S: ProcStore>(
 }
 
 fn mark_subreaper<S: ProcStore>(store: &mut S, pid: u32, mark: bool)
-    ensures { S.contents store.new ≡ changed (S.contents store.old) pid (with_subreaper mark) }
+    ensures world { S.contents store.new ≡ changed (S.contents store.old) pid (with_subreaper mark) }
+    ensures rules { IsWorld (S.contents store.old) → IsWorld (S.contents store.new) }
 {
     if let Some(body) = store.body_mut(pid) {
         body.subreaper = mark;

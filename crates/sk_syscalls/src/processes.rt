@@ -1,18 +1,21 @@
 //! The calls by which processes come and go, and wait, and ask for their numbers.
 
-ghost use Rattle.std.specs.Prelude.{◌≡◌, ◌&&◌, IsTrue, IfOk, OnErr};
+ghost use Rattle.std.specs.Prelude.{◌≡◌, ◌&&◌, IsTrue, IfOk, IfSome, OnErr};
 ghost use Rattle.std.specs.Option.{is_some};
 ghost use Rattle.sk_world.specs.World.{at, is_alive, parent_of, changed};
 ghost use Rattle.sk_world.specs.Rules.{IsWorld};
 ghost use Rattle.sk_world.specs.Forking.{fork_answer, has_room, has_filters};
 ghost use Rattle.sk_world.specs.declared.process.Waiting.TheVariants as waiting;
-ghost use Rattle.sk_machine.specs.Arguments.{low};
-ghost use Rattle.sk_machine.specs.Performed.{returns, waits, waiting_in};
+ghost use Rattle.sk_machine.specs.Arguments.{low, signed};
+ghost use Rattle.sk_machine.specs.Killing.{after_kill};
+ghost use Rattle.sk_machine.specs.WaitCalls.{wait4};
+ghost use Rattle.sk_machine.specs.Performed.{returns, changes, waits, waiting_in};
 ghost use Rattle.sk_machine.specs.Performing.{forks, exit_status, end_of_caller};
 ghost use Rattle.sk_syscalls.specs.Rows.{ComesTo};
 
-use crate::arguments::low;
+use crate::arguments::{low, signed};
 use crate::outcome::returned;
+use sk_creds::Creds;
 use sk_insn::Record;
 use sk_machine::Outcome;
 use sk_world::{ProcStore, Waiting};
@@ -25,6 +28,7 @@ pub(crate) fn fork<S: ProcStore>(store: &mut S, pid: u32) -> Result<Outcome, All
     ensures performed { IfOk result (λ outcome. ComesTo (S.contents store.old) pid (λ body. forks (S.contents store.old) pid (fork_answer (S.contents store.old))) outcome (S.contents store.new)) }
     ensures memory { OnErr result (IsTrue (has_room (S.contents store.old) && has_filters (at (S.contents store.old) pid))) }
     ensures kept { OnErr result (S.contents store.new ≡ S.contents store.old) }
+    ensures rules { IsWorld (S.contents store.new) }
 {
     Ok(returned(sk_world::fork(store, pid)?))
 }
@@ -33,7 +37,8 @@ pub(crate) fn fork<S: ProcStore>(store: &mut S, pid: u32) -> Result<Outcome, All
 pub(crate) fn exit<S: ProcStore>(store: &mut S, pid: u32, call: &Record) -> Outcome
     requires rules { IsWorld (S.contents store.old) }
     requires alive { IsTrue (is_alive (at (S.contents store.old) pid)) }
-    ensures { ComesTo (S.contents store.old) pid (λ body. end_of_caller (S.contents store.old) pid (exit_status (low call.now 0))) result (S.contents store.new) }
+    ensures performed { ComesTo (S.contents store.old) pid (λ body. end_of_caller (S.contents store.old) pid (exit_status (low call.now 0))) result (S.contents store.new) }
+    ensures rules { IsWorld (S.contents store.new) }
 {
     let status = low(call, 0) % 256 * 256;
     sk_session::end(store, pid, status);
@@ -42,15 +47,18 @@ pub(crate) fn exit<S: ProcStore>(store: &mut S, pid: u32, call: &Record) -> Outc
 
 /// pause(2). It ends by a signal alone.
 pub(crate) fn pause<S: ProcStore>(store: &mut S, pid: u32) -> Outcome
-    requires { IsTrue (is_some (at (S.contents store.old) pid)) }
-    ensures { ComesTo (S.contents store.old) pid (λ body. waits (S.contents store.old) pid waiting.Pause) result (S.contents store.new) }
+    requires rules { IsWorld (S.contents store.old) }
+    requires there { IsTrue (is_some (at (S.contents store.old) pid)) }
+    ensures performed { ComesTo (S.contents store.old) pid (λ body. waits (S.contents store.old) pid waiting.Pause) result (S.contents store.new) }
+    ensures rules { IsWorld (S.contents store.new) }
 {
     wait_in(store, pid, Waiting::Pause);
     Outcome::Waits
 }
 
 fn wait_in<S: ProcStore>(store: &mut S, pid: u32, what: Waiting)
-    ensures { S.contents store.new ≡ changed (S.contents store.old) pid (waiting_in what) }
+    ensures world { S.contents store.new ≡ changed (S.contents store.old) pid (waiting_in what) }
+    ensures rules { IsWorld (S.contents store.old) → IsWorld (S.contents store.new) }
 {
     if let Some(body) = store.body_mut(pid) {
         body.waiting = what;
@@ -66,4 +74,35 @@ pub(crate) fn getppid<S: ProcStore>(store: &S, pid: u32) -> Outcome
         Some(process) => returned(Ok(process.links.parent)),
         None => unreachable!(),
     }
+}
+
+/// kill(2).
+pub(crate) fn kill<S: ProcStore>(store: &mut S, pid: u32, call: &Record) -> Outcome
+    requires rules { IsWorld (S.contents store.old) }
+    requires there { IsTrue (is_some (at (S.contents store.old) pid)) }
+    ensures performed { ComesTo (S.contents store.old) pid (λ body. changes (S.contents store.old) 0 (after_kill (S.contents store.old) pid body.creds (signed call.now 0) (low call.now 1))) result (S.contents store.new) }
+    ensures rules { IsWorld (S.contents store.new) }
+{
+    let creds = creds_of(store, pid);
+    returned(sk_delivery::kill(store, pid, creds, signed(call, 0), low(call, 1)))
+}
+
+fn creds_of<S: ProcStore>(store: &S, pid: u32) -> Creds
+    requires { IsTrue (is_some (at (S.contents store.now) pid)) }
+    ensures { IfSome (at (S.contents store.now) pid) (λ p. result ≡ p.body.creds) }
+{
+    match store.get(pid) {
+        Some(process) => process.body.creds,
+        None => unreachable!(),
+    }
+}
+
+/// wait4(2).
+pub(crate) fn wait4<S: ProcStore>(store: &mut S, pid: u32, call: &Record) -> Outcome
+    requires rules { IsWorld (S.contents store.old) }
+    requires there { IsTrue (is_some (at (S.contents store.old) pid)) }
+    ensures performed { ComesTo (S.contents store.old) pid (λ body. wait4 (S.contents store.old) pid call.now) result (S.contents store.new) }
+    ensures rules { IsWorld (S.contents store.new) }
+{
+    sk_delivery::wait4(store, pid, call)
 }

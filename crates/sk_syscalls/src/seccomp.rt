@@ -3,6 +3,7 @@
 ghost use Rattle.std.specs.Prelude.{◌≡◌, false, IsTrue, IfOk, OnErr, Option};
 ghost use Rattle.std.specs.Option.{is_some, option_map_or};
 ghost use Rattle.sk_world.specs.World.{at};
+ghost use Rattle.sk_world.specs.Rules.{IsWorld};
 ghost use Rattle.sk_machine.specs.Arguments.{low, seccomp_operation_of};
 ghost use Rattle.sk_machine.specs.Memory.{is_read, seccomp_attaches};
 ghost use Rattle.sk_machine.specs.Performing.{seccomp, action_available};
@@ -26,10 +27,12 @@ pub(crate) fn seccomp<S: ProcStore>(
     pid: u32,
     call: &Record,
 ) -> Result<Outcome, AllocError>
-    requires { IsTrue (is_some (at (S.contents store.old) pid)) }
+    requires rules { IsWorld (S.contents store.old) }
+    requires there { IsTrue (is_some (at (S.contents store.old) pid)) }
     ensures performed { IfOk result (λ outcome. ComesTo (S.contents store.old) pid (λ body. seccomp images.now (S.contents store.old) pid body (seccomp_operation_of (low call.now 0)) call.now) outcome (S.contents store.new)) }
     ensures memory { OnErr result (IsTrue (option_map_or (is_read images.now) (seccomp_attaches (seccomp_operation_of (low call.now 0)) call.now) false)) }
     ensures kept { OnErr result (S.contents store.new ≡ S.contents store.old) }
+    ensures rules { IsWorld (S.contents store.new) }
 {
     match SeccompOperation::of(low(call, 0)) {
         Some(SeccompOperation::SetModeFilter) => {

@@ -5,6 +5,7 @@ ghost use Rattle.std.specs.Option.{is_some};
 ghost use Rattle.std.specs.Result.{result_unwrap_or};
 ghost use Rattle.sk_creds.specs.Errno.{answer_of};
 ghost use Rattle.sk_world.specs.World.{at};
+ghost use Rattle.sk_world.specs.Rules.{IsWorld};
 ghost use Rattle.sk_machine.specs.SignalCalls.{resignals, can_be_caught, disposition_in, after_sigaction, after_sigprocmask, after_sigreturn};
 ghost use Rattle.sk_machine.specs.Performing.{pending_signals};
 ghost use Rattle.sk_syscalls.specs.Rows.{ComesTo};
@@ -26,8 +27,10 @@ const SIG_SETMASK: u32 = 2;
 
 /// sigaction(2).
 pub(crate) fn rt_sigaction<S: ProcStore>(store: &mut S, pid: u32, call: &Record) -> Outcome
-    requires { IsTrue (is_some (at (S.contents store.old) pid)) }
-    ensures { ComesTo (S.contents store.old) pid (λ body. resignals (S.contents store.old) pid (after_sigaction pid call.now body.signals)) result (S.contents store.new) }
+    requires rules { IsWorld (S.contents store.old) }
+    requires there { IsTrue (is_some (at (S.contents store.old) pid)) }
+    ensures performed { ComesTo (S.contents store.old) pid (λ body. resignals (S.contents store.old) pid (after_sigaction pid call.now body.signals)) result (S.contents store.new) }
+    ensures rules { IsWorld (S.contents store.new) }
 {
     match store.body_mut(pid) {
         Some(body) => done(sigaction(&mut body.signals, pid, call)),
@@ -37,8 +40,10 @@ pub(crate) fn rt_sigaction<S: ProcStore>(store: &mut S, pid: u32, call: &Record)
 
 /// sigprocmask(2).
 pub(crate) fn rt_sigprocmask<S: ProcStore>(store: &mut S, pid: u32, call: &Record) -> Outcome
-    requires { IsTrue (is_some (at (S.contents store.old) pid)) }
-    ensures { ComesTo (S.contents store.old) pid (λ body. resignals (S.contents store.old) pid (after_sigprocmask call.now body.signals)) result (S.contents store.new) }
+    requires rules { IsWorld (S.contents store.old) }
+    requires there { IsTrue (is_some (at (S.contents store.old) pid)) }
+    ensures performed { ComesTo (S.contents store.old) pid (λ body. resignals (S.contents store.old) pid (after_sigprocmask call.now body.signals)) result (S.contents store.new) }
+    ensures rules { IsWorld (S.contents store.new) }
 {
     match store.body_mut(pid) {
         Some(body) => done(sigprocmask(&mut body.signals, call)),
@@ -48,8 +53,10 @@ pub(crate) fn rt_sigprocmask<S: ProcStore>(store: &mut S, pid: u32, call: &Recor
 
 /// sigreturn(2).
 pub(crate) fn rt_sigreturn<S: ProcStore>(store: &mut S, pid: u32) -> Outcome
-    requires { IsTrue (is_some (at (S.contents store.old) pid)) }
-    ensures { ComesTo (S.contents store.old) pid (λ body. resignals (S.contents store.old) pid (after_sigreturn body.signals.frames body.signals)) result (S.contents store.new) }
+    requires rules { IsWorld (S.contents store.old) }
+    requires there { IsTrue (is_some (at (S.contents store.old) pid)) }
+    ensures performed { ComesTo (S.contents store.old) pid (λ body. resignals (S.contents store.old) pid (after_sigreturn body.signals.frames body.signals)) result (S.contents store.new) }
+    ensures rules { IsWorld (S.contents store.new) }
 {
     match store.body_mut(pid) {
         Some(body) => done(sigreturn(&mut body.signals)),

@@ -4,8 +4,8 @@ use Rattle.sk_syscalls.proofs.Registers.{handed_on}
 use Rattle.sk_syscalls.proofs.Rows.{has_changed}
 use Rattle.sk_syscalls.proofs.groups.setpgid.Goals as goal
 
-pub returns : goal.returns
-returns g c =
+pub returns-clause-performed : goal.returns-clause-performed
+returns-clause-performed g c =
     let w = g.S.ProcStore.contents c.args.store.now in
     let call = c.args.call.now in
     has_changed w c.args.pid 0 (after_setpgid w c.args.pid (signed call 0) (signed call 1)) _ _ _ _

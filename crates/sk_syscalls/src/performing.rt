@@ -1,0 +1,84 @@
+//! Each call by its number.
+
+ghost use Rattle.std.specs.Prelude.{◌≡◌, IsTrue, IfOk, OnErr, Some};
+ghost use Rattle.std.specs.Option.{is_some};
+ghost use Rattle.sk_calls.specs.Syscalls.{syscall_of};
+ghost use Rattle.sk_world.specs.World.{at, is_alive};
+ghost use Rattle.sk_world.specs.Rules.{IsWorld};
+ghost use Rattle.sk_machine.specs.Memory.{may_grow};
+ghost use Rattle.sk_machine.specs.Performing.{row, performed};
+ghost use Rattle.sk_syscalls.specs.Rows.{ComesTo};
+
+use crate::outcome::{failed, returned};
+use crate::{authority, groups, prctl, processes, seccomp, signals};
+use sk_creds::Errno;
+use sk_insn::Record;
+use sk_machine::{Images, Outcome, Syscall};
+use sk_world::ProcStore;
+use std::alloc::{AllocError, Global};
+
+/// Performs the call of a process that lives.
+pub fn perform<S: ProcStore>(
+    store: &mut S,
+    images: &Images,
+    alloc: Global,
+    pid: u32,
+    call: &Record,
+) -> Result<Outcome, AllocError>
+    requires rules { IsWorld (S.contents store.old) }
+    requires alive { IsTrue (is_alive (at (S.contents store.old) pid)) }
+    ensures performed { IfOk result (λ outcome. ComesTo (S.contents store.old) pid (λ body. performed images.now (S.contents store.old) pid body call.now) outcome (S.contents store.new)) }
+    ensures memory { OnErr result (IsTrue (may_grow images.now (S.contents store.old) pid (syscall_of call.now.nr) call.now)) }
+    ensures kept { OnErr result (S.contents store.new ≡ S.contents store.old) }
+    ensures rules { IsWorld (S.contents store.new) }
+{
+    match Syscall::of(call.nr) {
+        Some(which) => perform_known(store, images, alloc, pid, which, call),
+        None => Ok(failed(Errno::Enosys)),
+    }
+}
+
+fn perform_known<S: ProcStore>(
+    store: &mut S,
+    images: &Images,
+    alloc: Global,
+    pid: u32,
+    which: Syscall,
+    call: &Record,
+) -> Result<Outcome, AllocError>
+    requires rules { IsWorld (S.contents store.old) }
+    requires alive { IsTrue (is_alive (at (S.contents store.old) pid)) }
+    ensures performed { IfOk result (λ outcome. ComesTo (S.contents store.old) pid (λ body. row images.now (S.contents store.old) pid body (Some which) call.now) outcome (S.contents store.new)) }
+    ensures memory { OnErr result (IsTrue (may_grow images.now (S.contents store.old) pid (Some which) call.now)) }
+    ensures kept { OnErr result (S.contents store.new ≡ S.contents store.old) }
+    ensures rules { IsWorld (S.contents store.new) }
+{
+    match which {
+        Syscall::Fork => processes::fork(store, pid),
+        Syscall::Prctl => prctl::prctl(store, images, alloc, pid, call),
+        Syscall::Seccomp => seccomp::seccomp(store, images, alloc, pid, call),
+        Syscall::RtSigaction => Ok(signals::rt_sigaction(store, pid, call)),
+        Syscall::RtSigprocmask => Ok(signals::rt_sigprocmask(store, pid, call)),
+        Syscall::RtSigreturn => Ok(signals::rt_sigreturn(store, pid)),
+        Syscall::RtSigpending => Ok(signals::rt_sigpending(store, pid)),
+        Syscall::SchedYield => Ok(returned(Ok(0))),
+        Syscall::Pause => Ok(processes::pause(store, pid)),
+        Syscall::Getpid => Ok(returned(Ok(pid))),
+        Syscall::Getppid => Ok(processes::getppid(store, pid)),
+        Syscall::Execve => Ok(authority::execve(store, images, pid, call)),
+        Syscall::Exit => Ok(processes::exit(store, pid, call)),
+        Syscall::ExitGroup => Ok(processes::exit(store, pid, call)),
+        Syscall::Wait4 => Ok(processes::wait4(store, pid, call)),
+        Syscall::Kill => Ok(processes::kill(store, pid, call)),
+        Syscall::Getuid => Ok(authority::getuid(store, pid)),
+        Syscall::Geteuid => Ok(authority::geteuid(store, pid)),
+        Syscall::Getresuid => Ok(authority::getresuid(store, pid)),
+        Syscall::Setuid => Ok(authority::setuid(store, pid, call)),
+        Syscall::Setresuid => Ok(authority::setresuid(store, pid, call)),
+        Syscall::Setpgid => Ok(groups::setpgid(store, pid, call)),
+        Syscall::Setsid => Ok(groups::setsid(store, pid)),
+        Syscall::Getpgrp => Ok(groups::getpgrp(store, pid)),
+        Syscall::Getpgid => Ok(groups::getpgid(store, pid, call)),
+        Syscall::Getsid => Ok(groups::getsid(store, pid, call)),
+    }
+}
