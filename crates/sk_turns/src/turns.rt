@@ -1,0 +1,87 @@
+ghost use Rattle.std.specs.Prelude.{◌≡◌, ◌&&◌, find, nat_lt};
+ghost use Rattle.sk_world.specs.Processes.{pids};
+ghost use Rattle.sk_world.specs.Rules.{IsWorld};
+ghost use Rattle.sk_machine.specs.Turns.{wait_ends, is_runnable, need_of, next_of};
+
+use crate::reasons::{halted, is_waiting, signal_for};
+use sk_machine::Need;
+use sk_world::{Life, Poll, ProcStore, Waiting, ready};
+
+/// Whether the process can run: it lives, and a signal is due, or it is not stopped and its call would not go on
+/// waiting.
+pub fn runnable<S: ProcStore>(store: &S, pid: u32) -> bool
+    requires { IsWorld (S.contents store.now) }
+    ensures { result ≡ is_runnable (S.contents store.now) pid }
+{
+    if halted(store).is_some() {
+        return false;
+    }
+    let Some(process) = store.get(pid) else {
+        return false;
+    };
+    let is_due = signal_for(&process.body).is_some();
+    match process.body.life {
+        Life::Zombie(_) => false,
+        Life::Stopped => is_due,
+        Life::Running => is_due || wait_ends(store, pid, process.body.waiting),
+    }
+}
+
+/// What the next event of the process is.
+pub fn need<S: ProcStore>(store: &S, pid: u32) -> Need
+    ensures { result ≡ need_of (S.contents store.now) pid }
+{
+    let Some(process) = store.get(pid) else {
+        return Need::Call;
+    };
+    if signal_for(&process.body).is_some() {
+        return Need::Deliver;
+    }
+    if is_waiting(process.body.waiting) {
+        Need::Resume
+    } else {
+        Need::Call
+    }
+}
+
+/// Whose turn is next, in round robin: the least pid above `last` of a process that can run, else the least of all.
+pub fn next_runnable<S: ProcStore>(store: &S, last: u32) -> Option<u32>
+    requires { IsWorld (S.contents store.now) }
+    ensures { result ≡ next_of (S.contents store.now) last }
+{
+    match first_runnable(store, last) {
+        Some(pid) => Some(pid),
+        None => first_runnable(store, 0),
+    }
+}
+
+/// The least pid above `after` of a process that can run.
+fn first_runnable<S: ProcStore>(store: &S, after: u32) -> Option<u32>
+    requires { IsWorld (S.contents store.now) }
+    ensures { result ≡ find (λ pid. nat_lt after pid && is_runnable (S.contents store.now) pid) (pids (S.contents store.now).procs) }
+{
+    let mut passed = after;
+    while let Some(pid) = store.next_pid(passed) {
+        if runnable(store, pid) {
+            return Some(pid);
+        }
+        passed = pid;
+    }
+    None
+}
+
+/// Whether the call that a process waits in would end now.
+fn wait_ends<S: ProcStore>(store: &S, pid: u32, waiting: Waiting) -> bool
+    requires { IsWorld (S.contents store.now) }
+    ensures { result ≡ wait_ends (S.contents store.now) pid waiting }
+{
+    match waiting {
+        Waiting::Nothing => true,
+        Waiting::Pause => false,
+        Waiting::Asks(request) => match ready(store, pid, &request) {
+            Poll::Told { pid: _, status: _ } => true,
+            Poll::NoMatch => true,
+            Poll::NotReady => false,
+        },
+    }
+}
