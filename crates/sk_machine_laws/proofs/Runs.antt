@@ -3,6 +3,10 @@ use Rattle.std.proofs.Common.{◌≡◌, ◌∙◌, ℕ, ap, sym, refl, subst, r
 use Rattle.std.specs.Option.{is_some}
 use Rattle.std.specs.List.{zip}
 use Rattle.std.proofs.lemmas.List.{reverse-append}
+use Rattle.sk_insn.specs.declared.insn.Insn.{Insn}
+use Rattle.sk_insn.specs.declared.record.Record.{Record}
+use Rattle.sk_chain.specs.Verdict.{values_of, IsLeast}
+use Rattle.sk_chain.proofs.Verdicts.{verdict_of_least}
 use Rattle.sk_world.specs.World.{World, at}
 use Rattle.sk_machine.specs.declared.event.Event.{Event}
 use Rattle.sk_machine.specs.Given.{GivenImages}
@@ -11,9 +15,9 @@ use Rattle.sk_machine.specs.Lines.{Line, Happening, history_after, authority_at}
 use Rattle.sk_machine_laws.specs.LineLaws.{line_after, GrowsFrom}
 use Rattle.sk_machine_laws.specs.RunLaws.{RunsAreLawful}
 use Rattle.sk_machine_laws.proofs.KeptEvents.{kept_run}
-use Rattle.sk_machine_laws.proofs.Accepted.{run_keeps_accepted}
+use Rattle.sk_machine_laws.proofs.Accepted.{run_keeps_accepted, accepted_return}
 use Rattle.sk_machine_laws.proofs.LineSteps.{authority_is_of_line}
-use Rattle.sk_machine_laws.proofs.Growing.{grows_calls, verdict_is_of_line, performed_meets_no_refusal}
+use Rattle.sk_machine_laws.proofs.Growing.{judged_by_filters, grows_calls, verdict_is_of_line, performed_meets_no_refusal}
 use Rattle.sk_machine_laws.proofs.Tellings.{end_is_told_to_parent, end_is_told_once}
 use Rattle.sk_machine_laws.proofs.Parents.{line_is_confined}
 
@@ -45,7 +49,13 @@ filters_stay images w earlier later pid there =
 pub runs_are_lawful : RunsAreLawful
 runs_are_lawful images w events rules accepted = record {
   rules = kept_run images w events rules;
-  accepted = run_keeps_accepted images w events accepted;
+  accepted = λ earlier later split. run_keeps_accepted images w earlier accepted;
+  returning = λ earlier later pid split there call. accepted_return (authority_at (world_after images w earlier) pid).programs (run_keeps_accepted images w earlier accepted pid there) call;
+  least = λ earlier later pid ip nr args verdict outcome split is.
+      let programs : List (List Insn) = (authority_at (world_after images w earlier) pid).programs in
+      let call : Record = record { nr = nr; ip = ip; args = args } in
+      let same = (judged_by_filters images (world_after images w earlier) pid ip nr args verdict outcome is).1 in
+      record { value = same; least = λ some. subst (IsLeast (values_of programs call)) (sym same) (verdict_of_least programs call some) };
   history = history_is images w events [] ∙ append_none (reverse (zip events (answers_of images w events)));
   authorities = authority_is_of_line images w events;
   filters = λ earlier later pid split there.

@@ -3,9 +3,11 @@
 use Rattle.std.specs.Prelude.{ℕ, ◌≡◌, ◌≢◌, ◌≤ℤ◌, ◌++◌, IsTrue, List, [], ◌∷◌, slice_get, Some, None}
 use Rattle.std.specs.Option.{is_some}
 use Rattle.std.specs.List.{list_any}
+use Rattle.sk_insn.specs.declared.insn.Insn.{Insn}
+use Rattle.sk_insn.specs.declared.record.Record.{Record}
 use Rattle.sk_insn.specs.Actions.{action_of, performs}
 use Rattle.sk_chain.specs.Precedence.{precedence_of}
-use Rattle.sk_chain.specs.Verdict.{values_of, verdict_of}
+use Rattle.sk_chain.specs.Verdict.{values_of, verdict_of, IsLeast}
 use Rattle.sk_world.specs.declared.process.TheConstants.{INIT}
 use Rattle.sk_world.specs.declared.process.Proc.{Proc}
 use Rattle.sk_world.specs.World.{World, at, parent_of}
@@ -19,13 +21,36 @@ use Rattle.sk_machine.specs.Given.{GivenImages}
 use Rattle.sk_machine.specs.Machine.{step_of, answers_of, world_after}
 use Rattle.sk_machine.specs.Lines.{is_fork_of, history_of, history_after, authority_of_line, authority_at}
 use Rattle.sk_machine_laws.specs.LineLaws.{line_after, GrowsFrom}
-use Rattle.sk_machine_laws.specs.FilterLaws.{HasAccepted}
+use Rattle.sk_machine_laws.specs.FilterLaws.{HasAccepted, AllReturn}
 use Rattle.sk_machine_laws.specs.TellingLaws.{told_by, IsEnd, HasEndedUnder}
 use Rattle.sk_machine_laws.specs.ConfinementLaws.{RefusesKill, LeavesAlone, ends_or_stops}
 
 -- the history of a run is that of its events and their answers
 abbrev pub HistoryIsOfAnswers : GivenImages → World → List Event → Type 0
 HistoryIsOfAnswers images w events = history_after images w events [] ≡ history_of events (answers_of images w events)
+
+-- at each point of the run, the first and the last too, the rules have accepted every filter that is in force
+abbrev pub FiltersAreAccepted : GivenImages → World → List Event → Type 0
+FiltersAreAccepted images w events = (earlier later : List Event) → events ≡ earlier ++ later → HasAccepted (world_after images w earlier)
+
+-- and on every call each of them returns within its own length, without meeting an absent byte, a scratch word that
+-- was not stored, or a missing instruction
+abbrev pub FiltersReturn : GivenImages → World → List Event → Type 0
+FiltersReturn images w events =
+    (earlier later : List Event) (pid : ℕ) → events ≡ earlier ++ later → IsTrue (is_some (at (world_after images w earlier) pid))
+    → (call : Record) → AllReturn (authority_at (world_after images w earlier) pid).programs call
+
+-- the number is the verdict of these filters on the call: the value whose action takes precedence over all others
+pub record IsVerdictOf (programs : List (List Insn)) (call : Record) (verdict : ℕ) : Type 0 where
+  pub value : verdict ≡ verdict_of programs call
+  pub least : programs ≢ [] → IsLeast (values_of programs call) verdict
+
+-- the verdict on each call of the run is that of its caller's filters before it
+abbrev pub VerdictsAreLeast : GivenImages → World → List Event → Type 0
+VerdictsAreLeast images w events =
+    (earlier later : List Event) (pid ip nr : ℕ) (args : List ℕ) (verdict : ℕ) (outcome : Outcome) → events ≡ earlier ++ Call pid ip nr args ∷ later
+    → (step_of images (world_after images w earlier) (Call pid ip nr args)).answer ≡ answer.Call verdict outcome
+    → IsVerdictOf (authority_at (world_after images w earlier) pid).programs (record { nr = nr; ip = ip; args = args }) verdict
 
 -- each process that is there afterwards comes from one that was there before, and its filters, ids and
 -- no_new_privs are those of its line
@@ -91,7 +116,9 @@ LinesAreConfined images w events =
 -- all of these, and what holds of the world afterwards
 pub record RunIsLawful (images : GivenImages) (w : World) (events : List Event) : Type 0 where
   pub rules : IsWorld (world_after images w events)
-  pub accepted : HasAccepted (world_after images w events)
+  pub accepted : FiltersAreAccepted images w events
+  pub returning : FiltersReturn images w events
+  pub least : VerdictsAreLeast images w events
   pub history : HistoryIsOfAnswers images w events
   pub authorities : AuthoritiesAreOfLines images w events
   pub filters : FiltersStay images w events
