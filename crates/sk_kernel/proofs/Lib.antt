@@ -1,0 +1,2 @@
+pub mod OfCaller
+pub mod Runs

@@ -1,0 +1,99 @@
+ghost use Rattle.std.specs.Prelude.{◌≡◌, IsTrue, None, IfSome, IfOk, OnOk, OnErr};
+ghost use Rattle.std.specs.Option.{is_some, unwrap_or};
+ghost use Rattle.sk_world.specs.World.{at, is_alive};
+ghost use Rattle.sk_world.specs.Rules.{IsWorld};
+ghost use Rattle.sk_machine.specs.Events.{pid_of};
+ghost use Rattle.sk_machine.specs.Delivering.{signal_for, signal_due, delivered};
+ghost use Rattle.sk_machine.specs.WaitCalls.{resumed};
+ghost use Rattle.sk_machine.specs.Machine.{reason_of, signal_answered, happened_to, step_of};
+ghost use Rattle.sk_machine.specs.Memory.{takes_memory};
+
+use crate::calls::call;
+use sk_delivery::{deliver, resume};
+use sk_insn::Record;
+use sk_machine::{Answer, Event, Images, Outcome};
+use sk_session::end;
+use sk_signal::number::SIGSEGV;
+use sk_turns::{reason, signal_due};
+use sk_world::ProcStore;
+use std::alloc::{AllocError, Global};
+
+/// One event.
+pub(crate) fn step<S: ProcStore>(
+    store: &mut S,
+    images: &Images,
+    alloc: Global,
+    event: &Event,
+) -> Result<Answer, AllocError>
+    requires rules { IsWorld (S.contents store.old) }
+    ensures answer { IfOk result (λ answer. answer ≡ (step_of images.now (S.contents store.old) event.now).answer) }
+    ensures world { OnOk result (S.contents store.new ≡ (step_of images.now (S.contents store.old) event.now).world) }
+    ensures memory { OnErr result (IsTrue (takes_memory images.now (S.contents store.old) event.now)) }
+    ensures kept { OnErr result (S.contents store.new ≡ S.contents store.old) }
+{
+    match reason(store, event) {
+        Some(reason) => Ok(Answer::NotNow(reason)),
+        None => happen(store, images, alloc, event),
+    }
+}
+
+/// An event that is possible.
+fn happen<S: ProcStore>(
+    store: &mut S,
+    images: &Images,
+    alloc: Global,
+    event: &Event,
+) -> Result<Answer, AllocError>
+    requires rules { IsWorld (S.contents store.old) }
+    requires possible { reason_of (S.contents store.old) event.now ≡ None }
+    ensures answer { IfOk result (λ answer. answer ≡ (happened_to images.now (S.contents store.old) event.now (at (S.contents store.old) (pid_of event.now))).answer) }
+    ensures world { OnOk result (S.contents store.new ≡ (happened_to images.now (S.contents store.old) event.now (at (S.contents store.old) (pid_of event.now))).world) }
+    ensures memory { OnErr result (IsTrue (takes_memory images.now (S.contents store.old) event.now)) }
+    ensures kept { OnErr result (S.contents store.new ≡ S.contents store.old) }
+{
+    match *event {
+        Event::Call { pid, ip, nr, args } => {
+            let record = Record { nr, ip, args };
+            call(store, images, alloc, pid, &record)
+        }
+        Event::Deliver { pid } => Ok(deliver_due(store, pid)),
+        Event::Resume { pid } => Ok(Answer::Resumed(resume_call(store, pid))),
+        Event::Fault { pid } => {
+            end(store, pid, u32::from(SIGSEGV));
+            Ok(Answer::Crashed)
+        }
+    }
+}
+
+/// Delivers the signal that is due.
+fn deliver_due<S: ProcStore>(store: &mut S, pid: u32) -> Answer
+    requires rules { IsWorld (S.contents store.old) }
+    requires alive { IsTrue (is_alive (at (S.contents store.old) pid)) }
+    requires due { IsTrue (is_some (signal_due (at (S.contents store.old) pid))) }
+    ensures answer { IfSome (at (S.contents store.old) pid)
+        (λ p. result ≡ (signal_answered (unwrap_or (signal_for p.body) 0) (delivered (S.contents store.old) pid p.body (unwrap_or (signal_for p.body) 0))).answer) }
+    ensures world { IfSome (at (S.contents store.old) pid)
+        (λ p. S.contents store.new ≡ (delivered (S.contents store.old) pid p.body (unwrap_or (signal_for p.body) 0)).world) }
+{
+    match signal_due(store, pid) {
+        Some(signal) => Answer::Signal {
+            signal,
+            effect: deliver(store, pid, signal),
+        },
+        None => unreachable!(),
+    }
+}
+
+/// A process that waits asks again.
+fn resume_call<S: ProcStore>(store: &mut S, pid: u32) -> Outcome
+    requires rules { IsWorld (S.contents store.old) }
+    requires there { IsTrue (is_some (at (S.contents store.old) pid)) }
+    ensures answer { IfSome (at (S.contents store.old) pid) (λ p. result ≡ (resumed (S.contents store.old) pid p.body.waiting).outcome) }
+    ensures world { IfSome (at (S.contents store.old) pid) (λ p. S.contents store.new ≡ (resumed (S.contents store.old) pid p.body.waiting).world) }
+{
+    let waiting = match store.get(pid) {
+        Some(process) => process.body.waiting,
+        None => unreachable!(),
+    };
+    resume(store, pid, waiting)
+}
