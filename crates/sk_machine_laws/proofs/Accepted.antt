@@ -29,13 +29,12 @@ use Rattle.sk_calls.specs.declared.syscall.Syscall.TheVariants as syscall
 use Rattle.sk_machine.specs.Given.{GivenImages, filter_image, mark_of}
 use Rattle.sk_calls.specs.Syscalls.{syscall_of}
 use Rattle.sk_machine.specs.Arguments.{register, low, prctl_option_of, seccomp_operation_of}
-use Rattle.sk_machine.specs.Authority.{Authority, authority_of, program_of, filtered, after_attach, with_creds, after_execve, after_no_new_privs, after_set_seccomp, after_prctl, after_seccomp, authority_after, authority_after_call}
-use Rattle.sk_machine.specs.Performed.{body_of, authority_at}
+use Rattle.sk_machine.specs.Authority.{Authority, program_of, filtered, after_attach, with_creds, after_execve, after_no_new_privs, after_set_seccomp, after_prctl, after_seccomp, authority_after, authority_after_call}
 use Rattle.sk_machine.specs.Machine.{step_of, world_after}
-use Rattle.sk_machine.specs.Lines.{line_before, calls_added, authority_after_calls}
+use Rattle.sk_machine.specs.Lines.{line_before, calls_added, authority_after_calls, authority_at}
 use Rattle.sk_machine_laws.specs.LineLaws.{happening}
 use Rattle.sk_machine_laws.specs.FilterLaws.{AreAccepted, HasAccepted, EventKeepsAccepted, RunKeepsAccepted, AllReturn, AcceptedReturn, AcceptedAreBounded, FiltersInForceAreAccepted, StepsInForceAreBounded}
-use Rattle.sk_machine_laws.proofs.LineSteps.{event_changes_authority}
+use Rattle.sk_machine_laws.proofs.LineSteps.{event_changes_authority, authority_in}
 
 -- accepted filters stay so
 abbrev Keeps : Authority → Authority → Type 0
@@ -133,13 +132,13 @@ pub accepted_are_bounded : AcceptedAreBounded
 accepted_are_bounded programs accepted = bounded programs accepted.limited
 
 -- process 1 starts without filters, and there is nobody else
-only_init : (b : Bool) → IsTrue (is_some (cond b (Some first_process) None)) → AreAccepted (authority_of (body_of (cond b (Some first_process) None))).programs
+only_init : (b : Bool) → IsTrue (is_some (cond b (Some first_process) None)) → AreAccepted (authority_in (cond b (Some first_process) None)).programs
 only_init true there = record { valid = tt; limited = omega arith }
 only_init false there = absurd (false≢true there)
 
 accepted_opening : HasAccepted opening
 accepted_opening pid =
-    subst (λ o. IsTrue (is_some o) → AreAccepted (authority_of (body_of o)).programs) (sym (get_store none INIT (Some first_process) pid)) (only_init (pid == INIT))
+    subst (λ o. IsTrue (is_some o) → AreAccepted (authority_in o).programs) (sym (get_store none INIT (Some first_process) pid)) (only_init (pid == INIT))
 
 pub filters_in_force_are_accepted : FiltersInForceAreAccepted
 filters_in_force_are_accepted images events = run_keeps_accepted images opening events accepted_opening

@@ -35,11 +35,12 @@ use Rattle.sk_session.specs.Orphans.{is_living_member, is_orphaned, is_left_orph
 use Rattle.sk_session.specs.Sessions.{group_of, pid_named, is_group, links_in_group, links_of_leader, may_regroup, put_into_group, regrouped, after_setpgid, after_setsid}
 use Rattle.sk_machine.specs.Arguments.{low}
 use Rattle.sk_machine.specs.Authority.{authority_of}
-use Rattle.sk_machine.specs.Performed.{Performed, body_of, returns, fails, asked, changes, waiting_in, waits}
+use Rattle.sk_machine.specs.Performed.{Performed, returns, fails, asked, changes, waiting_in, waits}
 use Rattle.sk_machine.specs.SignalCalls.{with_signals, resignals}
 use Rattle.sk_machine.specs.Killing.{targets, permitted, killed, after_kill}
 use Rattle.sk_machine.specs.WaitCalls.{are_wait_options, request_of, polled, wait4, polled_again, resumed}
 use Rattle.sk_machine.specs.Delivering.{Delivered, terminated_by, in_handler, enters_handler, stopping, ignored, acts_by_default, acts_by_disposition, taking, acted_on, delivered, stopped_by}
+use Rattle.sk_creds.specs.declared.creds.Creds.{Creds}
 
 -- a change of a process that leaves its authority and its mark
 abbrev pub IsOrdinary : (Body → Body) → Type 0
@@ -81,12 +82,12 @@ pub over_sent_to_each : (R : World → World → Type 0) (c : Carries R) (w : Wo
 over_sent_to_each R c w [] n = c.still w
 over_sent_to_each R c w (pid ∷ rest) n = c.twice w (sent w pid n) (sent_to_each (sent w pid n) rest n) (c.sent w pid n) (over_sent_to_each R c (sent w pid n) rest n)
 
-pub over_kill : (R : World → World → Type 0) (c : Carries R) (w : World) (caller : ℕ) (who : ℤ) (n : ℕ) → IfOk (after_kill w caller who n) (R w)
-over_kill R c w caller who n =
+pub over_kill : (R : World → World → Type 0) (c : Carries R) (w : World) (caller : ℕ) (creds : Creds) (who : ℤ) (n : ℕ) → IfOk (after_kill w caller creds who n) (R w)
+over_kill R c w caller creds who n =
     cond_both (not (nat_le n 31)) (Err Einval) _ (λ r. IfOk r (R w)) (λ _. tt)
     (λ _. cond_both (length (targets w caller who) == 0) (Err Esrch) _ (λ r. IfOk r (R w)) (λ _. tt)
-    (λ _. cond_both (length (permitted w caller who n) == 0) (Err Eperm) (Ok (killed w (permitted w caller who n) n)) (λ r. IfOk r (R w)) (λ _. tt)
-    (λ _. cond_both (n == 0) w (sent_to_each w (permitted w caller who n) n) (R w) (λ _. c.still w) (λ _. over_sent_to_each R c w (permitted w caller who n) n))))
+    (λ _. cond_both (length (permitted w caller creds who n) == 0) (Err Eperm) (Ok (killed w (permitted w caller creds who n) n)) (λ r. IfOk r (R w)) (λ _. tt)
+    (λ _. cond_both (n == 0) w (sent_to_each w (permitted w caller creds who n) n) (R w) (λ _. c.still w) (λ _. over_sent_to_each R c w (permitted w caller creds who n) n))))
 
 pub over_put : (R : World → World → Type 0) (c : Carries R) (w : World) (target group : ℕ) (r : Result (Unit {0}) Errno) → IfOk (put_into_group w target group r) (R w)
 over_put R c w target group (Ok _) = c.links w target (links_in_group group) (λ l. refl)
@@ -138,9 +139,9 @@ over_end R c w pid status there =
     cond_both (pid == INIT) after (each_hung_up after left) (R w) (λ _. c.ended w pid status there)
     (λ _. c.twice w after (each_hung_up after left) (c.ended w pid status there) (over_each_hung_up R c after left))
 
-over_handler : (R : World → World → Type 0) (c : Carries R) (w : World) (pid n program : ℕ) (mask : Signals) → IsTrue (is_some (at w pid)) → R w (enters_handler w pid n program mask).world
-over_handler R c w pid n program mask there =
-    cond_both (length (body_of (at w pid)).signals.frames == FRAMES) (terminated_by w pid SIGSEGV) _ (λ (d : Delivered). R w d.world) (λ _. over_end R c w pid SIGSEGV there)
+over_handler : (R : World → World → Type 0) (c : Carries R) (w : World) (pid : ℕ) (body : Body) (n program : ℕ) (mask : Signals) → IsTrue (is_some (at w pid)) → R w (enters_handler w pid body n program mask).world
+over_handler R c w pid body n program mask there =
+    cond_both (length body.signals.frames == FRAMES) (terminated_by w pid SIGSEGV) _ (λ (d : Delivered). R w d.world) (λ _. over_end R c w pid SIGSEGV there)
     (λ _. c.changed w pid (in_handler n mask) (λ body. (refl, refl)))
 
 over_stop : (R : World → World → Type 0) (c : Carries R) (w : World) (pid n : ℕ) → R w (stopped_by w pid n).world
@@ -155,17 +156,17 @@ over_default R c w pid n default.Stop there =
     cond_both (is_tty_stop n && is_orphaned w (group_of (at w pid))) (ignored w) (stopped_by w pid n) (λ (d : Delivered). R w d.world) (λ _. c.still w) (λ _. over_stop R c w pid n)
 over_default R c w pid n default.Terminate there = over_end R c w pid n there
 
-over_disposition : (R : World → World → Type 0) (c : Carries R) (w : World) (pid n : ℕ) (d : Disposition) → IsTrue (is_some (at w pid)) → R w (acts_by_disposition w pid n d).world
-over_disposition R c w pid n disposition.Ignore there = c.still w
-over_disposition R c w pid n (disposition.Handler program mask) there = over_handler R c w pid n program mask there
-over_disposition R c w pid n disposition.Default there =
+over_disposition : (R : World → World → Type 0) (c : Carries R) (w : World) (pid : ℕ) (body : Body) (n : ℕ) (d : Disposition) → IsTrue (is_some (at w pid)) → R w (acts_by_disposition w pid body n d).world
+over_disposition R c w pid body n disposition.Ignore there = c.still w
+over_disposition R c w pid body n (disposition.Handler program mask) there = over_handler R c w pid body n program mask there
+over_disposition R c w pid body n disposition.Default there =
     cond_both ((pid == INIT) && not (n == SIGSYS)) (ignored w) (acts_by_default w pid n (default_action n)) (λ (d : Delivered). R w d.world) (λ _. c.still w)
     (λ _. over_default R c w pid n (default_action n) there)
 
-over_acted_on : (R : World → World → Type 0) (c : Carries R) (w : World) (pid n : ℕ) → IsTrue (is_some (at w pid)) → R w (acted_on w pid n).world
-over_acted_on R c w pid n there =
+over_acted_on : (R : World → World → Type 0) (c : Carries R) (w : World) (pid : ℕ) (body : Body) (n : ℕ) → IsTrue (is_some (at w pid)) → R w (acted_on w pid body n).world
+over_acted_on R c w pid body n there =
     cond_both (n == SIGKILL) (terminated_by w pid SIGKILL) _ (λ (d : Delivered). R w d.world) (λ _. over_end R c w pid SIGKILL there)
-    (λ _. over_disposition R c w pid n (disposition_of (body_of (at w pid)).signals n) there)
+    (λ _. over_disposition R c w pid body n (disposition_of body.signals n) there)
 
 stays_there : (w : World) (pid : ℕ) (f : Body → Body) → IsTrue (is_some (at w pid)) → IsTrue (is_some (at (changed w pid f) pid))
 stays_there w pid f there = ap is_some (at_here w pid (option_map (body_changed f) (at w pid))) ∙ same (at w pid) ∙ there
@@ -174,10 +175,10 @@ stays_there w pid f there = ap is_some (at_here w pid (option_map (body_changed 
     same None = refl
     same (Some p) = refl
 
-pub over_delivered : (R : World → World → Type 0) (c : Carries R) (w : World) (pid n : ℕ) → IsTrue (is_some (at w pid)) → R w (delivered w pid n).world
-over_delivered R c w pid n there =
+pub over_delivered : (R : World → World → Type 0) (c : Carries R) (w : World) (pid : ℕ) (body : Body) (n : ℕ) → IsTrue (is_some (at w pid)) → R w (delivered w pid body n).world
+over_delivered R c w pid body n there =
     let took : World = changed w pid (taking n) in
-    c.twice w took (acted_on took pid n).world (c.changed w pid (taking n) (λ body. (refl, refl))) (over_acted_on R c took pid n (stays_there w pid (taking n) there))
+    c.twice w took (acted_on took pid (taking n body) n).world (c.changed w pid (taking n) (λ body. (refl, refl))) (over_acted_on R c took pid (taking n body) n (stays_there w pid (taking n) there))
 
 pub over_polled_again : (R : World → World → Type 0) (c : Carries R) (w : World) (pid : ℕ) (p : Poll) → R w (polled_again w pid p).world
 over_polled_again R c w pid (poll.Told child status) =

@@ -52,7 +52,6 @@ use Rattle.sk_session.specs.Orphans.{is_living_member, is_orphaned, is_left_orph
 use Rattle.sk_session.specs.Sessions.{group_of, pid_named, session_of, has_executed, is_group, is_group_of_session, may_move_child, may_join, put_into_group, regrouped, after_setpgid, after_setsid, group_asked, session_asked}
 use Rattle.sk_machine.specs.declared.event.Event.{Event}
 use Rattle.sk_machine.specs.declared.event.Event.TheVariants.{Call, Deliver, Resume, Fault}
-use Rattle.sk_machine.specs.declared.answer.Reason.{Reason}
 use Rattle.sk_machine.specs.declared.operation.PrctlOption.{PrctlOption}
 use Rattle.sk_machine.specs.declared.operation.PrctlOption.TheVariants as option
 use Rattle.sk_machine.specs.declared.operation.SeccompOperation.{SeccompOperation}
@@ -64,16 +63,17 @@ use Rattle.sk_machine.specs.Given.{GivenImages}
 use Rattle.sk_calls.specs.Syscalls.{syscall_of}
 use Rattle.sk_calls.proofs.SyscallTable.{number_of-syscall_of}
 use Rattle.sk_machine.specs.Arguments.{register, low, signed, prctl_option_of, seccomp_operation_of}
-use Rattle.sk_machine.specs.Authority.{Authority, with_authority, after_no_new_privs, after_set_seccomp, after_set_mode_filter}
-use Rattle.sk_machine.specs.Performed.{Performed, body_of, returns, fails, asked, changes, authority_at, authorises, waiting_in, waits}
+use Rattle.sk_machine.specs.Authority.{Authority, with_authority, authority_of, after_prctl, after_seccomp}
+use Rattle.sk_machine.specs.Performed.{Performed, returns, fails, asked, changes, authorises, waiting_in, waits}
 use Rattle.sk_machine.specs.SignalCalls.{with_signals, resignals, after_sigaction, after_sigprocmask, after_sigreturn}
 use Rattle.sk_machine.specs.WaitCalls.{are_wait_options, request_of, polled, wait4, polled_again, resumed}
 use Rattle.sk_machine.specs.Performing.{executing, execve, forks, exit_status, authorised, no_new_privs_asked, subreaper_set, subreaper_asked, where_subreapers, with_subreaper, prctl, action_available, seccomp, row}
-use Rattle.sk_machine.specs.Delivering.{Delivered, signal_due, terminated_by, in_handler, enters_handler, stopping, ignored, acts_by_default, acts_by_disposition, taking, acted_on, delivered, stopped_by}
-use Rattle.sk_machine.specs.Machine.{Stepped, judged, happened, reason_of, stepped, step_of}
+use Rattle.sk_machine.specs.Delivering.{Delivered, signal_for, terminated_by, in_handler, enters_handler, stopping, ignored, acts_by_default, acts_by_disposition, taking, acted_on, delivered, stopped_by}
+use Rattle.sk_machine.specs.Machine.{Stepped, judged, happened}
 use Rattle.sk_machine_laws.specs.ConfinementLaws.{RefusesKill, after_signals, is_of_an_end, IsTold, IsConfined, is_end, is_end_or_stop, ends_or_stops, EventIsConfined}
 use Rattle.sk_machine_laws.proofs.Growing.{lets_through}
-use Rattle.sk_machine_laws.proofs.KeptEvents.{possible_is_alive}
+use Rattle.sk_machine_laws.proofs.Happened.{at_step}
+use Rattle.sk_machine_laws.proofs.LineSteps.{authority_in}
 
 -- ---- which call is a kill
 abbrev is_kill_row : Option Syscall → Bool
@@ -289,74 +289,73 @@ spares_subreapers : (there : Bool) (w : World) (q : ℕ) (p : Performed) → Spa
 spares_subreapers true w q p spares = spares
 spares_subreapers false w q p spares = spares_world w q false
 
-spares_prctl : (images : GivenImages) (w : World) (pid q : ℕ) (which : Option PrctlOption) (call : Record) → q ≢ pid → Spares w q (prctl images w pid which call)
-spares_prctl images w pid q (Some option.SetNoNewPrivs) call ne = spares_authorises w pid q (after_no_new_privs call (authority_at w pid)) ne
-spares_prctl images w pid q (Some option.SetSeccomp) call ne = spares_authorises w pid q (after_set_seccomp images call (authority_at w pid)) ne
-spares_prctl images w pid q (Some option.GetSeccomp) call ne = spares_world w q false
-spares_prctl images w pid q (Some option.GetNoNewPrivs) call ne = spares_asked w q (no_new_privs_asked call (body_of (at w pid)).creds.no_new_privs)
-spares_prctl images w pid q (Some option.SetChildSubreaper) call ne =
+spares_prctl : (images : GivenImages) (w : World) (pid q : ℕ) (body : Body) (which : Option PrctlOption) (call : Record) → q ≢ pid → Spares w q (prctl images w pid body which call)
+spares_prctl images w pid q body (Some option.GetSeccomp) call ne = spares_world w q false
+spares_prctl images w pid q body (Some option.GetNoNewPrivs) call ne = spares_asked w q (no_new_privs_asked call body.creds.no_new_privs)
+spares_prctl images w pid q body (Some option.SetChildSubreaper) call ne =
     spares_subreapers images.subreapers w q (subreaper_set w pid call) (spares_changed w pid q (with_subreaper (not (register call 1 == 0))) false ne)
-spares_prctl images w pid q (Some option.GetChildSubreaper) call ne = spares_subreapers images.subreapers w q (subreaper_asked w pid) (spares_world w q false)
-spares_prctl images w pid q None call ne = spares_world w q false
+spares_prctl images w pid q body (Some option.GetChildSubreaper) call ne = spares_subreapers images.subreapers w q (subreaper_asked w body.subreaper) (spares_world w q false)
+spares_prctl images w pid q body None call ne = spares_world w q false
+spares_prctl images w pid q body setting call ne = spares_authorises w pid q (after_prctl images setting call (authority_of body)) ne
 
-spares_seccomp : (images : GivenImages) (w : World) (pid q : ℕ) (which : Option SeccompOperation) (call : Record) → q ≢ pid → Spares w q (seccomp images w pid which call)
-spares_seccomp images w pid q (Some operation.SetModeFilter) call ne = spares_authorises w pid q (after_set_mode_filter images call (authority_at w pid)) ne
-spares_seccomp images w pid q (Some operation.GetActionAvail) call ne = spares_asked w q (action_available (low call 1) (low call 2))
-spares_seccomp images w pid q None call ne = spares_world w q false
+spares_seccomp : (images : GivenImages) (w : World) (pid q : ℕ) (body : Body) (which : Option SeccompOperation) (call : Record) → q ≢ pid → Spares w q (seccomp images w pid body which call)
+spares_seccomp images w pid q body (Some operation.GetActionAvail) call ne = spares_asked w q (action_available (low call 1) (low call 2))
+spares_seccomp images w pid q body None call ne = spares_world w q false
+spares_seccomp images w pid q body setting call ne = spares_authorises w pid q (after_seccomp images setting call (authority_of body)) ne
 
 spares_ends : (w : World) (pid status q : ℕ) → IsApart w pid q → Alone q (at w q) true (at (ended_and_hung_up w pid status) q)
 spares_ends w pid status q apart = only_told q (at w q) (at (ended_and_hung_up w pid status) q) (end_told w pid status q apart)
 
 -- every call but kill(2)
-spares_row : (images : GivenImages) (w : World) (pid q : ℕ) (which : Option Syscall) (call : Record) → IsWorld w → IsApart w pid q → IsTrue (is_some (at w q)) → is_kill_row which ≡ false → Spares w q (row images w pid which call)
-spares_row images w pid q (Some syscall.RtSigaction) call rules apart there other = spares_resignals w pid q (after_sigaction pid call (body_of (at w pid)).signals) apart.other
-spares_row images w pid q (Some syscall.RtSigprocmask) call rules apart there other = spares_resignals w pid q (after_sigprocmask call (body_of (at w pid)).signals) apart.other
-spares_row images w pid q (Some syscall.RtSigreturn) call rules apart there other =
-    spares_resignals w pid q (after_sigreturn (body_of (at w pid)).signals.frames (body_of (at w pid)).signals) apart.other
-spares_row images w pid q (Some syscall.RtSigpending) call rules apart there other = spares_world w q false
-spares_row images w pid q (Some syscall.SchedYield) call rules apart there other = spares_world w q false
-spares_row images w pid q (Some syscall.Pause) call rules apart there other = spares_changed w pid q (waiting_in waiting.Pause) false apart.other
-spares_row images w pid q (Some syscall.Getpid) call rules apart there other = spares_world w q false
-spares_row images w pid q (Some syscall.Getppid) call rules apart there other = spares_world w q false
-spares_row images w pid q (Some syscall.Fork) call rules apart there other = spares_forks w pid q (has_room w) refl rules there
-spares_row images w pid q (Some syscall.Execve) call rules apart there other = spares_execve w pid q (authorised images w pid syscall.Execve call) apart.other
-spares_row images w pid q (Some syscall.Exit) call rules apart there other = spares_ends w pid (exit_status (low call 0)) q apart
-spares_row images w pid q (Some syscall.ExitGroup) call rules apart there other = spares_ends w pid (exit_status (low call 0)) q apart
-spares_row images w pid q (Some syscall.Wait4) call rules apart there other = spares_wait4 w pid q call apart
-spares_row images w pid q (Some syscall.Kill) call rules apart there other = absurd (false≢true (sym other))
-spares_row images w pid q (Some syscall.Getuid) call rules apart there other = spares_world w q false
-spares_row images w pid q (Some syscall.Geteuid) call rules apart there other = spares_world w q false
-spares_row images w pid q (Some syscall.Setuid) call rules apart there other = spares_authorises w pid q (authorised images w pid syscall.Setuid call) apart.other
-spares_row images w pid q (Some syscall.Setresuid) call rules apart there other = spares_authorises w pid q (authorised images w pid syscall.Setresuid call) apart.other
-spares_row images w pid q (Some syscall.Getresuid) call rules apart there other = spares_world w q false
-spares_row images w pid q (Some syscall.Setpgid) call rules apart there other = spares_setpgid w pid q (signed call 0) (signed call 1) apart
-spares_row images w pid q (Some syscall.Getpgrp) call rules apart there other = spares_world w q false
-spares_row images w pid q (Some syscall.Setsid) call rules apart there other = spares_setsid w pid q apart.other
-spares_row images w pid q (Some syscall.Getpgid) call rules apart there other = spares_asked w q (group_asked w pid (signed call 0))
-spares_row images w pid q (Some syscall.Getsid) call rules apart there other = spares_asked w q (session_asked w pid (signed call 0))
-spares_row images w pid q (Some syscall.Prctl) call rules apart there other = spares_prctl images w pid q (prctl_option_of (low call 0)) call apart.other
-spares_row images w pid q (Some syscall.Seccomp) call rules apart there other = spares_seccomp images w pid q (seccomp_operation_of (low call 0)) call apart.other
-spares_row images w pid q None call rules apart there other = spares_world w q false
+spares_row : (images : GivenImages) (w : World) (pid q : ℕ) (body : Body) (which : Option Syscall) (call : Record) → IsWorld w → IsApart w pid q → IsTrue (is_some (at w q)) → is_kill_row which ≡ false → Spares w q (row images w pid body which call)
+spares_row images w pid q body (Some syscall.RtSigaction) call rules apart there other = spares_resignals w pid q (after_sigaction pid call body.signals) apart.other
+spares_row images w pid q body (Some syscall.RtSigprocmask) call rules apart there other = spares_resignals w pid q (after_sigprocmask call body.signals) apart.other
+spares_row images w pid q body (Some syscall.RtSigreturn) call rules apart there other =
+    spares_resignals w pid q (after_sigreturn body.signals.frames body.signals) apart.other
+spares_row images w pid q body (Some syscall.RtSigpending) call rules apart there other = spares_world w q false
+spares_row images w pid q body (Some syscall.SchedYield) call rules apart there other = spares_world w q false
+spares_row images w pid q body (Some syscall.Pause) call rules apart there other = spares_changed w pid q (waiting_in waiting.Pause) false apart.other
+spares_row images w pid q body (Some syscall.Getpid) call rules apart there other = spares_world w q false
+spares_row images w pid q body (Some syscall.Getppid) call rules apart there other = spares_world w q false
+spares_row images w pid q body (Some syscall.Fork) call rules apart there other = spares_forks w pid q (has_room w) refl rules there
+spares_row images w pid q body (Some syscall.Execve) call rules apart there other = spares_execve w pid q (authorised images body syscall.Execve call) apart.other
+spares_row images w pid q body (Some syscall.Exit) call rules apart there other = spares_ends w pid (exit_status (low call 0)) q apart
+spares_row images w pid q body (Some syscall.ExitGroup) call rules apart there other = spares_ends w pid (exit_status (low call 0)) q apart
+spares_row images w pid q body (Some syscall.Wait4) call rules apart there other = spares_wait4 w pid q call apart
+spares_row images w pid q body (Some syscall.Kill) call rules apart there other = absurd (false≢true (sym other))
+spares_row images w pid q body (Some syscall.Getuid) call rules apart there other = spares_world w q false
+spares_row images w pid q body (Some syscall.Geteuid) call rules apart there other = spares_world w q false
+spares_row images w pid q body (Some syscall.Setuid) call rules apart there other = spares_authorises w pid q (authorised images body syscall.Setuid call) apart.other
+spares_row images w pid q body (Some syscall.Setresuid) call rules apart there other = spares_authorises w pid q (authorised images body syscall.Setresuid call) apart.other
+spares_row images w pid q body (Some syscall.Getresuid) call rules apart there other = spares_world w q false
+spares_row images w pid q body (Some syscall.Setpgid) call rules apart there other = spares_setpgid w pid q (signed call 0) (signed call 1) apart
+spares_row images w pid q body (Some syscall.Getpgrp) call rules apart there other = spares_world w q false
+spares_row images w pid q body (Some syscall.Setsid) call rules apart there other = spares_setsid w pid q apart.other
+spares_row images w pid q body (Some syscall.Getpgid) call rules apart there other = spares_asked w q (group_asked w pid (signed call 0))
+spares_row images w pid q body (Some syscall.Getsid) call rules apart there other = spares_asked w q (session_asked w pid (signed call 0))
+spares_row images w pid q body (Some syscall.Prctl) call rules apart there other = spares_prctl images w pid q body (prctl_option_of (low call 0)) call apart.other
+spares_row images w pid q body (Some syscall.Seccomp) call rules apart there other = spares_seccomp images w pid q body (seccomp_operation_of (low call 0)) call apart.other
+spares_row images w pid q body None call rules apart there other = spares_world w q false
 
-spares_judged : (images : GivenImages) (w : World) (pid q : ℕ) (call : Record) (verdict : ℕ) (a : Action) → IsWorld w → IsApart w pid q → IsTrue (is_some (at w q))
-    → (IsTrue (performs a) → is_kill_row (syscall_of call.nr) ≡ false) → Spares w q (judged images w pid call verdict a)
-spares_judged images w pid q call verdict action.Allow rules apart there other = spares_row images w pid q (syscall_of call.nr) call rules apart there (other refl)
-spares_judged images w pid q call verdict action.Log rules apart there other = spares_row images w pid q (syscall_of call.nr) call rules apart there (other refl)
-spares_judged images w pid q call verdict action.Trap rules apart there other = untouched q (at w q) false _ (forced_touches w pid q apart.other)
-spares_judged images w pid q call verdict action.Errno rules apart there other = spares_world w q false
-spares_judged images w pid q call verdict action.UserNotif rules apart there other = spares_world w q false
-spares_judged images w pid q call verdict action.Trace rules apart there other = spares_world w q false
-spares_judged images w pid q call verdict action.KillProcess rules apart there other = spares_ends w pid SIGSYS q apart
-spares_judged images w pid q call verdict action.KillThread rules apart there other = spares_ends w pid SIGSYS q apart
-spares_judged images w pid q call verdict action.Unknown rules apart there other = spares_ends w pid SIGSYS q apart
+spares_judged : (images : GivenImages) (w : World) (pid q : ℕ) (body : Body) (call : Record) (verdict : ℕ) (a : Action) → IsWorld w → IsApart w pid q → IsTrue (is_some (at w q))
+    → (IsTrue (performs a) → is_kill_row (syscall_of call.nr) ≡ false) → Spares w q (judged images w pid body call verdict a)
+spares_judged images w pid q body call verdict action.Allow rules apart there other = spares_row images w pid q body (syscall_of call.nr) call rules apart there (other refl)
+spares_judged images w pid q body call verdict action.Log rules apart there other = spares_row images w pid q body (syscall_of call.nr) call rules apart there (other refl)
+spares_judged images w pid q body call verdict action.Trap rules apart there other = untouched q (at w q) false _ (forced_touches w pid q apart.other)
+spares_judged images w pid q body call verdict action.Errno rules apart there other = spares_world w q false
+spares_judged images w pid q body call verdict action.UserNotif rules apart there other = spares_world w q false
+spares_judged images w pid q body call verdict action.Trace rules apart there other = spares_world w q false
+spares_judged images w pid q body call verdict action.KillProcess rules apart there other = spares_ends w pid SIGSYS q apart
+spares_judged images w pid q body call verdict action.KillThread rules apart there other = spares_ends w pid SIGSYS q apart
+spares_judged images w pid q body call verdict action.Unknown rules apart there other = spares_ends w pid SIGSYS q apart
 
 -- ---- deliveries and resumptions
 abbrev SparesBy : World → ℕ → Delivered → Type 0
 SparesBy w q d = Alone q (at w q) (is_end_or_stop d.effect) (at d.world q)
 
-spares_handled : (w : World) (pid n program : ℕ) (mask : Signals) (q : ℕ) → IsApart w pid q → SparesBy w q (enters_handler w pid n program mask)
-spares_handled w pid n program mask q apart =
-    cond_both (length (body_of (at w pid)).signals.frames == FRAMES) (terminated_by w pid SIGSEGV) _ (SparesBy w q) (λ _. spares_ends w pid SIGSEGV q apart)
+spares_handled : (w : World) (pid : ℕ) (body : Body) (n program : ℕ) (mask : Signals) (q : ℕ) → IsApart w pid q → SparesBy w q (enters_handler w pid body n program mask)
+spares_handled w pid body n program mask q apart =
+    cond_both (length body.signals.frames == FRAMES) (terminated_by w pid SIGSEGV) _ (SparesBy w q) (λ _. spares_ends w pid SIGSEGV q apart)
     (λ _. spares_changed w pid q (in_handler n mask) false apart.other)
 
 spares_default : (w : World) (pid n q : ℕ) (a : DefaultAction) → IsApart w pid q → SparesBy w q (acts_by_default w pid n a)
@@ -370,24 +369,24 @@ spares_default w pid n q default.Stop apart =
     (told_nothing q (at w q) (at stopped q) (at_other w pid _ q apart.other)) (sent_told stopped (parent_of (at w pid)) SIGCHLD q refl)))
 spares_default w pid n q default.Terminate apart = spares_ends w pid n q apart
 
-spares_done_by : (w : World) (pid n q : ℕ) (d : Disposition) → IsApart w pid q → SparesBy w q (acts_by_disposition w pid n d)
-spares_done_by w pid n q disposition.Ignore apart = spares_world w q false
-spares_done_by w pid n q (disposition.Handler program mask) apart = spares_handled w pid n program mask q apart
-spares_done_by w pid n q disposition.Default apart =
+spares_done_by : (w : World) (pid : ℕ) (body : Body) (n q : ℕ) (d : Disposition) → IsApart w pid q → SparesBy w q (acts_by_disposition w pid body n d)
+spares_done_by w pid body n q disposition.Ignore apart = spares_world w q false
+spares_done_by w pid body n q (disposition.Handler program mask) apart = spares_handled w pid body n program mask q apart
+spares_done_by w pid body n q disposition.Default apart =
     cond_both ((pid == INIT) && not (n == SIGSYS)) (ignored w) (acts_by_default w pid n (default_action n)) (SparesBy w q) (λ _. spares_world w q false)
     (λ _. spares_default w pid n q (default_action n) apart)
 
-spares_done : (w : World) (pid n q : ℕ) → IsApart w pid q → SparesBy w q (acted_on w pid n)
-spares_done w pid n q apart =
+spares_done : (w : World) (pid : ℕ) (body : Body) (n q : ℕ) → IsApart w pid q → SparesBy w q (acted_on w pid body n)
+spares_done w pid body n q apart =
     cond_both (n == SIGKILL) (terminated_by w pid SIGKILL) _ (SparesBy w q) (λ _. spares_ends w pid SIGKILL q apart)
-    (λ _. spares_done_by w pid n q (disposition_of (body_of (at w pid)).signals n) apart)
+    (λ _. spares_done_by w pid body n q (disposition_of body.signals n) apart)
 
-spares_delivered : (w : World) (pid n q : ℕ) → IsApart w pid q → SparesBy w q (delivered w pid n)
-spares_delivered w pid n q apart =
+spares_delivered : (w : World) (pid : ℕ) (body : Body) (n q : ℕ) → IsApart w pid q → SparesBy w q (delivered w pid body n)
+spares_delivered w pid body n q apart =
     let v : World = changed w pid (taking n) in
     let same : at v q ≡ at w q = at_other w pid _ q apart.other in
-    let d : Delivered = acted_on v pid n in
-    subst (λ base. Alone q base (is_end_or_stop d.effect) (at d.world q)) same (spares_done v pid n q (record {
+    let d : Delivered = acted_on v pid (taking n body) n in
+    subst (λ base. Alone q base (is_end_or_stop d.effect) (at d.world q)) same (spares_done v pid (taking n body) n q (record {
       other = apart.other;
       not_init = apart.not_init;
       no_child = λ is. apart.no_child (ap parent_of (sym same) ∙ is);
@@ -406,10 +405,9 @@ spares_resumed w pid q waiting.Nothing apart = spares_world w q false
 
 -- ---- events
 -- a call that is performed is no kill
-no_kill : (w : World) (pid : ℕ) (call : Record) → RefusesKill (authority_at w pid).programs
-    → IsTrue (performs (action_of (verdict_of (body_of (at w pid)).chain call))) → is_kill_row (syscall_of call.nr) ≡ false
-no_kill w pid call refuses performed =
-    let verdict : ℕ = verdict_of (body_of (at w pid)).chain call in
+no_kill : (body : Body) (call : Record) → RefusesKill body.chain → IsTrue (performs (action_of (verdict_of body.chain call))) → is_kill_row (syscall_of call.nr) ≡ false
+no_kill body call refuses performed =
+    let verdict : ℕ = verdict_of body.chain call in
     kill_number call.nr ∙ ne_eqb call.nr 62 (λ is.
     let before = refuses call is in
     let later = lets_through verdict performed in
@@ -418,15 +416,15 @@ no_kill w pid call refuses performed =
 abbrev SparesStep : World → ℕ → Stepped → Type 0
 SparesStep w q s = Alone q (at w q) (ends_or_stops s.answer) (at s.world q)
 
-spares_happened : (images : GivenImages) (w : World) (event : Event) (q : ℕ) → IsWorld w → IsApart w (pid_of event) q → IsTrue (is_some (at w q))
-    → RefusesKill (authority_at w (pid_of event)).programs → SparesStep w q (happened images w event)
-spares_happened images w (Call pid ip nr args) q rules apart there refuses =
+spares_happened : (images : GivenImages) (w : World) (body : Body) (event : Event) (q : ℕ) → IsWorld w → IsApart w (pid_of event) q → IsTrue (is_some (at w q))
+    → RefusesKill body.chain → SparesStep w q (happened images w body event)
+spares_happened images w body (Call pid ip nr args) q rules apart there refuses =
     let call : Record = record { nr = nr; ip = ip; args = args } in
-    let verdict : ℕ = verdict_of (body_of (at w pid)).chain call in
-    spares_judged images w pid q call verdict (action_of verdict) rules apart there (no_kill w pid call refuses)
-spares_happened images w (Deliver pid) q rules apart there refuses = spares_delivered w pid (unwrap_or (signal_due (at w pid)) 0) q apart
-spares_happened images w (Resume pid) q rules apart there refuses = spares_resumed w pid q (body_of (at w pid)).waiting apart
-spares_happened images w (Fault pid) q rules apart there refuses = spares_ends w pid SIGSEGV q apart
+    let verdict : ℕ = verdict_of body.chain call in
+    spares_judged images w pid q body call verdict (action_of verdict) rules apart there (no_kill body call refuses)
+spares_happened images w body (Deliver pid) q rules apart there refuses = spares_delivered w pid body (unwrap_or (signal_for body) 0) q apart
+spares_happened images w body (Resume pid) q rules apart there refuses = spares_resumed w pid q body.waiting apart
+spares_happened images w body (Fault pid) q rules apart there refuses = spares_ends w pid SIGSEGV q apart
 
 apart_of : (w : World) (inside : ℕ → Bool) (pid q : ℕ) → IsConfined w inside → IsTrue (inside pid) → inside q ≡ false → IsTrue (is_some (at w q)) → IsApart w pid q
 apart_of w inside pid q confined within outside there = record {
@@ -435,16 +433,10 @@ apart_of w inside pid q confined within outside there = record {
   no_child = λ is. false≢true (sym outside ∙ confined.children q there (ap inside is ∙ within));
 }
 
-spares_stepped : (images : GivenImages) (w : World) (event : Event) (o : Option Reason) (inside : ℕ → Bool) (q : ℕ) → reason_of w event ≡ o → IsWorld w → IsConfined w inside
-    → IsTrue (inside (pid_of event)) → inside q ≡ false → IsTrue (is_some (at w q)) → SparesStep w q (stepped images w event o)
-spares_stepped images w event (Some reason) inside q is rules confined within outside there = spares_world w q false
-spares_stepped images w event None inside q is rules confined within outside there =
-    let alive = possible_is_alive w event is in
-    spares_happened images w event q rules (apart_of w inside (pid_of event) q confined within outside there) there
-    (confined.refuses (pid_of event) (alive_is_there (at w (pid_of event)) alive) within)
-
 pub event_is_confined : EventIsConfined
-unfolding step_of
 event_is_confined images w event inside q rules confined within outside there =
-    let spares = spares_stepped images w event (reason_of w event) inside q refl rules confined within outside there in
+    let pid : ℕ = pid_of event in
+    let spares = at_step images w event (SparesStep w q) (λ _ _. spares_world w q false) (λ p is alive.
+    spares_happened images w p.body event q rules (apart_of w inside pid q confined within outside there) there
+    (subst RefusesKill (ap (λ o. (authority_in o).programs) is) (confined.refuses pid (alive_is_there (at w pid) alive) within))) in
     record { same = spares.same; told = spares.told }

@@ -25,7 +25,6 @@ use Rattle.sk_world.proofs.KeptEnd.{alive_is_there}
 use Rattle.sk_machine.specs.declared.event.Event.TheVariants.{Call}
 use Rattle.sk_machine.specs.declared.answer.Answer.TheVariants as answer
 use Rattle.sk_machine.specs.declared.answer.Outcome.{Outcome}
-use Rattle.sk_machine.specs.declared.answer.Reason.{Reason}
 use Rattle.sk_machine.specs.declared.images.Mark.{Mark}
 use Rattle.sk_machine.specs.declared.operation.PrctlOption.{PrctlOption}
 use Rattle.sk_machine.specs.declared.operation.PrctlOption.TheVariants as option
@@ -37,12 +36,11 @@ use Rattle.sk_machine.specs.Given.{GivenImages, filter_image, mark_of}
 use Rattle.sk_calls.specs.Syscalls.{syscall_of}
 use Rattle.sk_machine.specs.Arguments.{register, low, prctl_option_of, seccomp_operation_of}
 use Rattle.sk_machine.specs.Authority.{Authority, program_of, filtered, after_attach, with_creds, after_execve, after_no_new_privs, after_set_seccomp, after_prctl, after_seccomp, authority_after, authority_after_call}
-use Rattle.sk_machine.specs.Performed.{body_of, authority_at}
-use Rattle.sk_machine.specs.Machine.{reason_of, stepped, step_of, world_after}
-use Rattle.sk_machine.specs.Lines.{authority_after_calls, authority_of_line}
+use Rattle.sk_machine.specs.Machine.{step_of, world_after, Stepped}
+use Rattle.sk_machine.specs.Lines.{authority_after_calls, authority_of_line, authority_at}
 use Rattle.sk_machine_laws.specs.LineLaws.{line_after, GrowsFrom, LineKeepsFilters, VerdictIsOfLine, PerformedMeetsNoRefusal}
-use Rattle.sk_machine_laws.proofs.KeptEvents.{possible_is_alive}
-use Rattle.sk_machine_laws.proofs.LineSteps.{after_more, authority_is_of_line}
+use Rattle.sk_machine_laws.proofs.LineSteps.{after_more, authority_is_of_line, authority_in}
+use Rattle.sk_machine_laws.proofs.Happened.{at_step}
 
 grows_still : (a : Authority) → GrowsFrom a a
 grows_still a = record { newer = []; programs = refl; no_new_privs = λ set. set }
@@ -131,21 +129,22 @@ line_keeps_filters images calls more a =
     subst (GrowsFrom (authority_after_calls images calls a)) (sym (after_more images calls more a)) (grows_calls images more (authority_after_calls images calls a))
 
 -- ---- verdicts
-pub judged_by_filters : (images : GivenImages) (w : World) (pid ip nr : ℕ) (args : List ℕ) (verdict : ℕ) (outcome : Outcome) (o : Option Reason)
-    → reason_of w (Call pid ip nr args) ≡ o → (stepped images w (Call pid ip nr args) o).answer ≡ answer.Call verdict outcome
-    → IsTrue (is_some (at w pid)) × (verdict ≡ verdict_of (authority_at w pid).programs (record { nr = nr; ip = ip; args = args }))
-judged_by_filters images w pid ip nr args verdict outcome (Some reason) is made = cc
-judged_by_filters images w pid ip nr args verdict outcome None is made =
+-- the verdict in the answer to a call is that of the caller's filters
+abbrev JudgedByFilters : World → ℕ → Record → ℕ → Outcome → Stepped → Type 0
+JudgedByFilters w pid call verdict outcome s =
+    s.answer ≡ answer.Call verdict outcome → IsTrue (is_some (at w pid)) × (verdict ≡ verdict_of (authority_at w pid).programs call)
+
+pub judged_by_filters : (images : GivenImages) (w : World) (pid ip nr : ℕ) (args : List ℕ) (verdict : ℕ) (outcome : Outcome)
+    → JudgedByFilters w pid (record { nr = nr; ip = ip; args = args }) verdict outcome (step_of images w (Call pid ip nr args))
+judged_by_filters images w pid ip nr args verdict outcome =
     let call : Record = record { nr = nr; ip = ip; args = args } in
-    let told : ℕ = verdict_of (body_of (at w pid)).chain call in
-    let same : told ≡ verdict = cc in
-    (alive_is_there (at w pid) (possible_is_alive w (Call pid ip nr args) is), sym same)
+    at_step images w (Call pid ip nr args) (JudgedByFilters w pid call verdict outcome) (λ _ _ made. cc) (λ p there alive made.
+    let same : verdict_of p.body.chain call ≡ verdict = cc in
+    (alive_is_there (at w pid) alive, sym same ∙ ap (λ o. verdict_of (authority_in o).programs call) (sym there)))
 
 pub verdict_is_of_line : VerdictIsOfLine
-unfolding step_of
 verdict_is_of_line images w events pid ip nr args verdict outcome made =
-    let now : World = world_after images w events in
-    let judged = judged_by_filters images now pid ip nr args verdict outcome (reason_of now (Call pid ip nr args)) refl made in
+    let judged = judged_by_filters images (world_after images w events) pid ip nr args verdict outcome made in
     judged.1 ∙ ap (λ (a : Authority). verdict_of a.programs (record { nr = nr; ip = ip; args = args })) (authority_is_of_line images w events pid judged.0).1
 
 -- ---- a verdict that lets a call through

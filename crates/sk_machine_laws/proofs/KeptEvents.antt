@@ -1,7 +1,7 @@
 -- Every event keeps the rules of the world.
-use Rattle.std.proofs.Common.{◌≡◌, ◌≢◌, ◌∙◌, ℕ, ◌==◌, ◌&&◌, ap, sym, refl, subst, cond, not, Bool, true, false, length, nat_le, IsTrue, IfOk, ℤ, List, [], ◌∷◌, ◌⊎◌, inl, inr, Option, None, Some, Result, Ok, Err}
+use Rattle.std.proofs.Common.{◌≡◌, ◌≢◌, ◌∙◌, ℕ, ◌==◌, ◌&&◌, ap, sym, refl, subst, not, Bool, true, false, length, nat_le, IsTrue, IfOk, ℤ, List, [], ◌∷◌, ◌⊎◌, inl, inr, Option, None, Some, Result, Ok, Err}
 use Rattle.std.specs.Prelude.{filter}
-use Rattle.std.specs.Option.{is_some, unwrap_or, option_map}
+use Rattle.std.specs.Option.{unwrap_or, option_map}
 use Rattle.std.proofs.lemmas.Bool.{cond_both, eqb-true, eqb-false, not-true, not-false}
 use Rattle.sk_insn.specs.declared.record.Record.{Record}
 use Rattle.sk_insn.specs.declared.action.Action.{Action}
@@ -27,7 +27,7 @@ use Rattle.sk_world.specs.declared.request.Request.{Request}
 use Rattle.sk_world.specs.declared.request.Poll.{Poll}
 use Rattle.sk_world.specs.declared.request.Poll.TheVariants as poll
 use Rattle.sk_world.specs.Processes.{pids}
-use Rattle.sk_world.specs.World.{World, at, has_ended, has_stopped, is_stopped, is_zombie, is_halted, is_alive, parent_of, body_changed, changed, opening}
+use Rattle.sk_world.specs.World.{World, at, has_ended, has_stopped, is_alive, parent_of, body_changed, changed, opening}
 use Rattle.sk_world.specs.Rules.{IsWorld}
 use Rattle.sk_world.specs.Forking.{fork_answer}
 use Rattle.sk_world.specs.Sending.{sent, sent_to_each}
@@ -43,8 +43,6 @@ use Rattle.sk_session.specs.Sessions.{group_of, after_setpgid, after_setsid, gro
 use Rattle.sk_session.proofs.KeptLinks.{kept_setpgid, kept_setsid}
 use Rattle.sk_machine.specs.declared.event.Event.{Event}
 use Rattle.sk_machine.specs.declared.event.Event.TheVariants.{Call, Deliver, Resume, Fault}
-use Rattle.sk_machine.specs.declared.answer.Reason.{Reason}
-use Rattle.sk_machine.specs.declared.answer.Reason.TheVariants.{NoProcess, Zombie, Stopped, Halted}
 use Rattle.sk_machine.specs.declared.operation.PrctlOption.{PrctlOption}
 use Rattle.sk_machine.specs.declared.operation.PrctlOption.TheVariants as option
 use Rattle.sk_machine.specs.declared.operation.SeccompOperation.{SeccompOperation}
@@ -55,15 +53,17 @@ use Rattle.sk_machine.specs.Events.{pid_of}
 use Rattle.sk_machine.specs.Given.{GivenImages}
 use Rattle.sk_calls.specs.Syscalls.{syscall_of}
 use Rattle.sk_machine.specs.Arguments.{register, low, signed, prctl_option_of, seccomp_operation_of}
-use Rattle.sk_machine.specs.Authority.{Authority, with_authority, after_no_new_privs, after_set_seccomp, after_set_mode_filter}
-use Rattle.sk_machine.specs.Performed.{Performed, body_of, returns, fails, asked, changes, authority_at, authorises, waiting_in, waits}
+use Rattle.sk_machine.specs.Authority.{Authority, with_authority, authority_of, after_prctl, after_seccomp}
+use Rattle.sk_machine.specs.Performed.{Performed, returns, fails, asked, changes, authorises, waiting_in, waits}
 use Rattle.sk_machine.specs.SignalCalls.{with_signals, resignals, after_sigaction, after_sigprocmask, after_sigreturn}
 use Rattle.sk_machine.specs.Killing.{targets, permitted, killed, after_kill}
 use Rattle.sk_machine.specs.WaitCalls.{are_wait_options, request_of, polled, wait4, polled_again}
 use Rattle.sk_machine.specs.Performing.{executing, execve, forks, exit_status, authorised, no_new_privs_asked, subreaper_set, subreaper_asked, where_subreapers, with_subreaper, prctl, action_available, seccomp, row}
-use Rattle.sk_machine.specs.Delivering.{Delivered, signal_due, terminated_by, in_handler, enters_handler, stopping, stopped_by, ignored, acts_by_default, acts_by_disposition, taking, acted_on}
-use Rattle.sk_machine.specs.Machine.{judged, happened, is_kill, own_reason, reason_of, stepped, step_of}
+use Rattle.sk_machine.specs.Delivering.{Delivered, signal_for, terminated_by, in_handler, enters_handler, stopping, stopped_by, ignored, acts_by_default, acts_by_disposition, taking, acted_on}
+use Rattle.sk_machine.specs.Machine.{judged, happened, step_of}
 use Rattle.sk_machine_laws.specs.MachineLaws.{CallKeepsRules, DeliveryKeepsRules, ResumptionKeepsRules, EventKeepsRules, RunKeepsRules, ReachedHasRules}
+use Rattle.sk_machine_laws.proofs.Happened.{at_step}
+use Rattle.sk_creds.specs.declared.creds.Creds.{Creds}
 
 -- a change that leaves a process running, stopped or ended as it is
 kept_body : (w : World) (pid : ℕ) (f : Body → Body) → IsWorld w → ((body : Body) → (f body).life ≡ body.life) → IsWorld (changed w pid f)
@@ -102,12 +102,12 @@ kept_sent_to_each : (w : World) (to : List ℕ) (n : ℕ) → IsWorld w → IsWo
 kept_sent_to_each w [] n rules = rules
 kept_sent_to_each w (pid ∷ rest) n rules = kept_sent_to_each (sent w pid n) rest n (kept_sent w pid n rules)
 
-kept_kill : (w : World) (caller : ℕ) (who : ℤ) (n : ℕ) → IsWorld w → IfOk (after_kill w caller who n) IsWorld
-kept_kill w caller who n rules =
+kept_kill : (w : World) (caller : ℕ) (creds : Creds) (who : ℤ) (n : ℕ) → IsWorld w → IfOk (after_kill w caller creds who n) IsWorld
+kept_kill w caller creds who n rules =
     cond_both (not (nat_le n 31)) (Err Einval) _ (λ r. IfOk r IsWorld) (λ _. tt)
     (λ _. cond_both (length (targets w caller who) == 0) (Err Esrch) _ (λ r. IfOk r IsWorld) (λ _. tt)
-    (λ _. cond_both (length (permitted w caller who n) == 0) (Err Eperm) (Ok (killed w (permitted w caller who n) n)) (λ r. IfOk r IsWorld) (λ _. tt)
-    (λ _. cond_both (n == 0) w (sent_to_each w (permitted w caller who n) n) IsWorld (λ _. rules) (λ _. kept_sent_to_each w (permitted w caller who n) n rules))))
+    (λ _. cond_both (length (permitted w caller creds who n) == 0) (Err Eperm) (Ok (killed w (permitted w caller creds who n) n)) (λ r. IfOk r IsWorld) (λ _. tt)
+    (λ _. cond_both (n == 0) w (sent_to_each w (permitted w caller creds who n) n) IsWorld (λ _. rules) (λ _. kept_sent_to_each w (permitted w caller creds who n) n rules))))
 
 -- the end of a process, and the groups that it leaves orphaned, which are hung up
 kept_sent_to_group : (w : World) (group n : ℕ) → IsWorld w → IsWorld (sent_to_group w group n)
@@ -143,66 +143,65 @@ kept_subreapers : (there : Bool) (w : World) (p : Performed) → IsWorld w → I
 kept_subreapers true w p rules kept = kept
 kept_subreapers false w p rules kept = rules
 
-kept_prctl : (images : GivenImages) (w : World) (pid : ℕ) (which : Option PrctlOption) (call : Record) → IsWorld w → IsWorld (prctl images w pid which call).world
-kept_prctl images w pid (Some option.SetNoNewPrivs) call rules = kept_authorises w pid (after_no_new_privs call (authority_at w pid)) rules
-kept_prctl images w pid (Some option.SetSeccomp) call rules = kept_authorises w pid (after_set_seccomp images call (authority_at w pid)) rules
-kept_prctl images w pid (Some option.GetSeccomp) call rules = rules
-kept_prctl images w pid (Some option.GetNoNewPrivs) call rules = kept_asked w (no_new_privs_asked call (body_of (at w pid)).creds.no_new_privs) rules
-kept_prctl images w pid (Some option.SetChildSubreaper) call rules =
+kept_prctl : (images : GivenImages) (w : World) (pid : ℕ) (body : Body) (which : Option PrctlOption) (call : Record) → IsWorld w → IsWorld (prctl images w pid body which call).world
+kept_prctl images w pid body (Some option.GetSeccomp) call rules = rules
+kept_prctl images w pid body (Some option.GetNoNewPrivs) call rules = kept_asked w (no_new_privs_asked call body.creds.no_new_privs) rules
+kept_prctl images w pid body (Some option.SetChildSubreaper) call rules =
     kept_subreapers images.subreapers w (subreaper_set w pid call) rules (kept_body w pid (with_subreaper (not (register call 1 == 0))) rules (λ body. refl))
-kept_prctl images w pid (Some option.GetChildSubreaper) call rules = kept_subreapers images.subreapers w (subreaper_asked w pid) rules rules
-kept_prctl images w pid None call rules = rules
+kept_prctl images w pid body (Some option.GetChildSubreaper) call rules = kept_subreapers images.subreapers w (subreaper_asked w body.subreaper) rules rules
+kept_prctl images w pid body None call rules = rules
+kept_prctl images w pid body setting call rules = kept_authorises w pid (after_prctl images setting call (authority_of body)) rules
 
-kept_seccomp : (images : GivenImages) (w : World) (pid : ℕ) (which : Option SeccompOperation) (call : Record) → IsWorld w → IsWorld (seccomp images w pid which call).world
-kept_seccomp images w pid (Some operation.SetModeFilter) call rules = kept_authorises w pid (after_set_mode_filter images call (authority_at w pid)) rules
-kept_seccomp images w pid (Some operation.GetActionAvail) call rules = kept_asked w (action_available (low call 1) (low call 2)) rules
-kept_seccomp images w pid None call rules = rules
+kept_seccomp : (images : GivenImages) (w : World) (pid : ℕ) (body : Body) (which : Option SeccompOperation) (call : Record) → IsWorld w → IsWorld (seccomp images w pid body which call).world
+kept_seccomp images w pid body (Some operation.GetActionAvail) call rules = kept_asked w (action_available (low call 1) (low call 2)) rules
+kept_seccomp images w pid body None call rules = rules
+kept_seccomp images w pid body setting call rules = kept_authorises w pid (after_seccomp images setting call (authority_of body)) rules
 
-kept_row : (images : GivenImages) (w : World) (pid : ℕ) (which : Option Syscall) (call : Record) → IsWorld w → IsTrue (is_alive (at w pid)) → IsWorld (row images w pid which call).world
-kept_row images w pid (Some syscall.RtSigaction) call rules alive = kept_resignals w pid (after_sigaction pid call (body_of (at w pid)).signals) rules
-kept_row images w pid (Some syscall.RtSigprocmask) call rules alive = kept_resignals w pid (after_sigprocmask call (body_of (at w pid)).signals) rules
-kept_row images w pid (Some syscall.RtSigreturn) call rules alive =
-    kept_resignals w pid (after_sigreturn (body_of (at w pid)).signals.frames (body_of (at w pid)).signals) rules
-kept_row images w pid (Some syscall.RtSigpending) call rules alive = rules
-kept_row images w pid (Some syscall.SchedYield) call rules alive = rules
-kept_row images w pid (Some syscall.Pause) call rules alive = kept_body w pid (waiting_in waiting.Pause) rules (λ body. refl)
-kept_row images w pid (Some syscall.Getpid) call rules alive = rules
-kept_row images w pid (Some syscall.Getppid) call rules alive = rules
-kept_row images w pid (Some syscall.Fork) call rules alive = kept_forks w pid (fork_answer w) rules alive
-kept_row images w pid (Some syscall.Execve) call rules alive = kept_execve w pid (authorised images w pid syscall.Execve call) rules
-kept_row images w pid (Some syscall.Exit) call rules alive = kept_end w pid (exit_status (low call 0)) rules alive
-kept_row images w pid (Some syscall.ExitGroup) call rules alive = kept_end w pid (exit_status (low call 0)) rules alive
-kept_row images w pid (Some syscall.Wait4) call rules alive = kept_wait4 w pid call rules alive
-kept_row images w pid (Some syscall.Kill) call rules alive =
-    kept_changes w 0 (after_kill w pid (signed call 0) (low call 1)) rules (kept_kill w pid (signed call 0) (low call 1) rules)
-kept_row images w pid (Some syscall.Getuid) call rules alive = rules
-kept_row images w pid (Some syscall.Geteuid) call rules alive = rules
-kept_row images w pid (Some syscall.Setuid) call rules alive = kept_authorises w pid (authorised images w pid syscall.Setuid call) rules
-kept_row images w pid (Some syscall.Setresuid) call rules alive = kept_authorises w pid (authorised images w pid syscall.Setresuid call) rules
-kept_row images w pid (Some syscall.Getresuid) call rules alive = rules
-kept_row images w pid (Some syscall.Setpgid) call rules alive =
+kept_row : (images : GivenImages) (w : World) (pid : ℕ) (body : Body) (which : Option Syscall) (call : Record) → IsWorld w → IsTrue (is_alive (at w pid)) → IsWorld (row images w pid body which call).world
+kept_row images w pid body (Some syscall.RtSigaction) call rules alive = kept_resignals w pid (after_sigaction pid call body.signals) rules
+kept_row images w pid body (Some syscall.RtSigprocmask) call rules alive = kept_resignals w pid (after_sigprocmask call body.signals) rules
+kept_row images w pid body (Some syscall.RtSigreturn) call rules alive =
+    kept_resignals w pid (after_sigreturn body.signals.frames body.signals) rules
+kept_row images w pid body (Some syscall.RtSigpending) call rules alive = rules
+kept_row images w pid body (Some syscall.SchedYield) call rules alive = rules
+kept_row images w pid body (Some syscall.Pause) call rules alive = kept_body w pid (waiting_in waiting.Pause) rules (λ body. refl)
+kept_row images w pid body (Some syscall.Getpid) call rules alive = rules
+kept_row images w pid body (Some syscall.Getppid) call rules alive = rules
+kept_row images w pid body (Some syscall.Fork) call rules alive = kept_forks w pid (fork_answer w) rules alive
+kept_row images w pid body (Some syscall.Execve) call rules alive = kept_execve w pid (authorised images body syscall.Execve call) rules
+kept_row images w pid body (Some syscall.Exit) call rules alive = kept_end w pid (exit_status (low call 0)) rules alive
+kept_row images w pid body (Some syscall.ExitGroup) call rules alive = kept_end w pid (exit_status (low call 0)) rules alive
+kept_row images w pid body (Some syscall.Wait4) call rules alive = kept_wait4 w pid call rules alive
+kept_row images w pid body (Some syscall.Kill) call rules alive =
+    kept_changes w 0 (after_kill w pid body.creds (signed call 0) (low call 1)) rules (kept_kill w pid body.creds (signed call 0) (low call 1) rules)
+kept_row images w pid body (Some syscall.Getuid) call rules alive = rules
+kept_row images w pid body (Some syscall.Geteuid) call rules alive = rules
+kept_row images w pid body (Some syscall.Setuid) call rules alive = kept_authorises w pid (authorised images body syscall.Setuid call) rules
+kept_row images w pid body (Some syscall.Setresuid) call rules alive = kept_authorises w pid (authorised images body syscall.Setresuid call) rules
+kept_row images w pid body (Some syscall.Getresuid) call rules alive = rules
+kept_row images w pid body (Some syscall.Setpgid) call rules alive =
     kept_changes w 0 (after_setpgid w pid (signed call 0) (signed call 1)) rules (kept_setpgid w pid (signed call 0) (signed call 1) rules (alive_is_there (at w pid) alive))
-kept_row images w pid (Some syscall.Getpgrp) call rules alive = rules
-kept_row images w pid (Some syscall.Setsid) call rules alive = kept_changes w pid (after_setsid w pid) rules (kept_setsid w pid rules (alive_is_there (at w pid) alive))
-kept_row images w pid (Some syscall.Getpgid) call rules alive = kept_asked w (group_asked w pid (signed call 0)) rules
-kept_row images w pid (Some syscall.Getsid) call rules alive = kept_asked w (session_asked w pid (signed call 0)) rules
-kept_row images w pid (Some syscall.Prctl) call rules alive = kept_prctl images w pid (prctl_option_of (low call 0)) call rules
-kept_row images w pid (Some syscall.Seccomp) call rules alive = kept_seccomp images w pid (seccomp_operation_of (low call 0)) call rules
-kept_row images w pid None call rules alive = rules
+kept_row images w pid body (Some syscall.Getpgrp) call rules alive = rules
+kept_row images w pid body (Some syscall.Setsid) call rules alive = kept_changes w pid (after_setsid w pid) rules (kept_setsid w pid rules (alive_is_there (at w pid) alive))
+kept_row images w pid body (Some syscall.Getpgid) call rules alive = kept_asked w (group_asked w pid (signed call 0)) rules
+kept_row images w pid body (Some syscall.Getsid) call rules alive = kept_asked w (session_asked w pid (signed call 0)) rules
+kept_row images w pid body (Some syscall.Prctl) call rules alive = kept_prctl images w pid body (prctl_option_of (low call 0)) call rules
+kept_row images w pid body (Some syscall.Seccomp) call rules alive = kept_seccomp images w pid body (seccomp_operation_of (low call 0)) call rules
+kept_row images w pid body None call rules alive = rules
 
 pub kept_performed : CallKeepsRules
-kept_performed images w pid call rules alive = kept_row images w pid (syscall_of call.nr) call rules alive
+kept_performed images w pid body call rules alive = kept_row images w pid body (syscall_of call.nr) call rules alive
 
-kept_judged : (images : GivenImages) (w : World) (pid : ℕ) (call : Record) (verdict : ℕ) (a : Action) → IsWorld w → IsTrue (is_alive (at w pid)) → IsWorld (judged images w pid call verdict a).world
-kept_judged images w pid call verdict action.Allow rules alive = kept_performed images w pid call rules alive
-kept_judged images w pid call verdict action.Log rules alive = kept_performed images w pid call rules alive
-kept_judged images w pid call verdict action.Trap rules alive = kept_forced w pid rules
-kept_judged images w pid call verdict action.Errno rules alive = rules
-kept_judged images w pid call verdict action.UserNotif rules alive = rules
-kept_judged images w pid call verdict action.Trace rules alive = rules
-kept_judged images w pid call verdict action.KillProcess rules alive = kept_end w pid SIGSYS rules alive
-kept_judged images w pid call verdict action.KillThread rules alive = kept_end w pid SIGSYS rules alive
-kept_judged images w pid call verdict action.Unknown rules alive = kept_end w pid SIGSYS rules alive
+kept_judged : (images : GivenImages) (w : World) (pid : ℕ) (body : Body) (call : Record) (verdict : ℕ) (a : Action) → IsWorld w → IsTrue (is_alive (at w pid)) → IsWorld (judged images w pid body call verdict a).world
+kept_judged images w pid body call verdict action.Allow rules alive = kept_performed images w pid body call rules alive
+kept_judged images w pid body call verdict action.Log rules alive = kept_performed images w pid body call rules alive
+kept_judged images w pid body call verdict action.Trap rules alive = kept_forced w pid rules
+kept_judged images w pid body call verdict action.Errno rules alive = rules
+kept_judged images w pid body call verdict action.UserNotif rules alive = rules
+kept_judged images w pid body call verdict action.Trace rules alive = rules
+kept_judged images w pid body call verdict action.KillProcess rules alive = kept_end w pid SIGSYS rules alive
+kept_judged images w pid body call verdict action.KillThread rules alive = kept_end w pid SIGSYS rules alive
+kept_judged images w pid body call verdict action.Unknown rules alive = kept_end w pid SIGSYS rules alive
 
 -- ---- deliveries
 lives_on : (f : Body → Body) (o : Option Proc) → ((body : Body) → (f body).life ≡ body.life) → IsTrue (is_alive o) → IsTrue (is_alive (option_map (body_changed f) o))
@@ -212,9 +211,9 @@ lives_on f (Some p) same alive = ap (λ life. not (has_ended life)) (same p.body
 still_alive : (w : World) (pid : ℕ) (f : Body → Body) → ((body : Body) → (f body).life ≡ body.life) → IsTrue (is_alive (at w pid)) → IsTrue (is_alive (at (changed w pid f) pid))
 still_alive w pid f same alive = ap is_alive (at_here w pid (option_map (body_changed f) (at w pid))) ∙ lives_on f (at w pid) same alive
 
-kept_handled : (w : World) (pid n program : ℕ) (mask : Signals) → IsWorld w → IsTrue (is_alive (at w pid)) → IsWorld (enters_handler w pid n program mask).world
-kept_handled w pid n program mask rules alive =
-    cond_both (length (body_of (at w pid)).signals.frames == FRAMES) (terminated_by w pid SIGSEGV) _ (λ (d : Delivered). IsWorld d.world) (λ _. kept_end w pid SIGSEGV rules alive)
+kept_handled : (w : World) (pid : ℕ) (body : Body) (n program : ℕ) (mask : Signals) → IsWorld w → IsTrue (is_alive (at w pid)) → IsWorld (enters_handler w pid body n program mask).world
+kept_handled w pid body n program mask rules alive =
+    cond_both (length body.signals.frames == FRAMES) (terminated_by w pid SIGSEGV) _ (λ (d : Delivered). IsWorld d.world) (λ _. kept_end w pid SIGSEGV rules alive)
     (λ _. kept_body w pid (in_handler n mask) rules (λ body. refl))
 
 kept_stopped : (w : World) (pid n : ℕ) → IsWorld w → IsTrue (is_alive (at w pid)) → pid ≢ INIT → IsWorld (stopped_by w pid n).world
@@ -239,24 +238,24 @@ init_or_sigsys : (a b : Bool) → (a && not b) ≡ false → (a ≡ false) ⊎ (
 init_or_sigsys false b h = inl refl
 init_or_sigsys true b h = inr (not-false b h)
 
-kept_done_by : (w : World) (pid n : ℕ) (d : Disposition) → IsWorld w → IsTrue (is_alive (at w pid)) → IsWorld (acts_by_disposition w pid n d).world
-kept_done_by w pid n disposition.Ignore rules alive = rules
-kept_done_by w pid n (disposition.Handler program mask) rules alive = kept_handled w pid n program mask rules alive
-kept_done_by w pid n disposition.Default rules alive =
+kept_done_by : (w : World) (pid : ℕ) (body : Body) (n : ℕ) (d : Disposition) → IsWorld w → IsTrue (is_alive (at w pid)) → IsWorld (acts_by_disposition w pid body n d).world
+kept_done_by w pid body n disposition.Ignore rules alive = rules
+kept_done_by w pid body n (disposition.Handler program mask) rules alive = kept_handled w pid body n program mask rules alive
+kept_done_by w pid body n disposition.Default rules alive =
     cond_both ((pid == INIT) && not (n == SIGSYS)) (ignored w) (acts_by_default w pid n (default_action n)) (λ (d : Delivered). IsWorld d.world) (λ _. rules)
     (λ h. elim (init_or_sigsys (pid == INIT) (n == SIGSYS) h) [
       | inl other ↦ kept_default w pid n (default_action n) rules alive (eqb-false pid INIT other)
       | inr sigsys ↦ kept_sigsys w pid n rules alive (eqb-true n SIGSYS sigsys)
     ])
 
-kept_done : (w : World) (pid n : ℕ) → IsWorld w → IsTrue (is_alive (at w pid)) → IsWorld (acted_on w pid n).world
-kept_done w pid n rules alive =
+kept_done : (w : World) (pid : ℕ) (body : Body) (n : ℕ) → IsWorld w → IsTrue (is_alive (at w pid)) → IsWorld (acted_on w pid body n).world
+kept_done w pid body n rules alive =
     cond_both (n == SIGKILL) (terminated_by w pid SIGKILL) _ (λ (d : Delivered). IsWorld d.world) (λ _. kept_end w pid SIGKILL rules alive)
-    (λ _. kept_done_by w pid n (disposition_of (body_of (at w pid)).signals n) rules alive)
+    (λ _. kept_done_by w pid body n (disposition_of body.signals n) rules alive)
 
 pub kept_delivered : DeliveryKeepsRules
-kept_delivered w pid n rules alive =
-    kept_done (changed w pid (taking n)) pid n (kept_body w pid (taking n) rules (λ body. refl)) (still_alive w pid (taking n) (λ body. refl) alive)
+kept_delivered w pid body n rules alive =
+    kept_done (changed w pid (taking n)) pid (taking n body) n (kept_body w pid (taking n) rules (λ body. refl)) (still_alive w pid (taking n) (λ body. refl) alive)
 
 -- ---- a call in which a process waits
 kept_polled_again : (w : World) (pid : ℕ) (p : Poll) → IsWorld w → IsWorld (told w p) → IsWorld (polled_again w pid p).world
@@ -270,36 +269,17 @@ kept_resumed w pid waiting.Pause rules alive = rules
 kept_resumed w pid waiting.Nothing rules alive = rules
 
 -- ---- events
-pub kept_happened : (images : GivenImages) (w : World) (event : Event) → IsWorld w → IsTrue (is_alive (at w (pid_of event))) → IsWorld (happened images w event).world
-kept_happened images w (Call pid ip nr args) rules alive =
+pub kept_happened : (images : GivenImages) (w : World) (body : Body) (event : Event) → IsWorld w → IsTrue (is_alive (at w (pid_of event))) → IsWorld (happened images w body event).world
+kept_happened images w body (Call pid ip nr args) rules alive =
     let call : Record = record { nr = nr; ip = ip; args = args } in
-    let verdict : ℕ = verdict_of (body_of (at w pid)).chain call in
-    kept_judged images w pid call verdict (action_of verdict) rules alive
-kept_happened images w (Deliver pid) rules alive = kept_delivered w pid (unwrap_or (signal_due (at w pid)) 0) rules alive
-kept_happened images w (Resume pid) rules alive = kept_resumed w pid (body_of (at w pid)).waiting rules alive
-kept_happened images w (Fault pid) rules alive = kept_end w pid SIGSEGV rules alive
-
-there_and_no_zombie : (o : Option Proc) → IsTrue (is_some o) → is_zombie o ≡ false → IsTrue (is_alive o)
-there_and_no_zombie None there zombie = there
-there_and_no_zombie (Some p) there zombie = ap not zombie
-
--- an event that is possible is one of a process that is alive
-pub possible_is_alive : (w : World) (event : Event) → reason_of w event ≡ None → IsTrue (is_alive (at w (pid_of event)))
-possible_is_alive w event possible =
-    let o : Option Proc = at w (pid_of event) in
-    let stopped : Bool = is_stopped o && not (is_kill w event) in
-    cond_both (is_halted w) (Some Halted) _ (λ r. r ≡ None → IsTrue (is_alive o)) (λ _ is. cc)
-    (λ _. cond_both (not (is_some o)) (Some NoProcess) _ (λ r. r ≡ None → IsTrue (is_alive o)) (λ _ is. cc)
-    (λ there. cond_both (is_zombie o) (Some Zombie) (cond stopped (Some Stopped) (own_reason w event)) (λ r. r ≡ None → IsTrue (is_alive o)) (λ _ is. cc)
-    (λ living _. there_and_no_zombie o (not-false (is_some o) there) living))) possible
-
-kept_stepped : (images : GivenImages) (w : World) (event : Event) (o : Option Reason) → reason_of w event ≡ o → IsWorld w → IsWorld (stepped images w event o).world
-kept_stepped images w event (Some reason) is rules = rules
-kept_stepped images w event None is rules = kept_happened images w event rules (possible_is_alive w event is)
+    let verdict : ℕ = verdict_of body.chain call in
+    kept_judged images w pid body call verdict (action_of verdict) rules alive
+kept_happened images w body (Deliver pid) rules alive = kept_delivered w pid body (unwrap_or (signal_for body) 0) rules alive
+kept_happened images w body (Resume pid) rules alive = kept_resumed w pid body.waiting rules alive
+kept_happened images w body (Fault pid) rules alive = kept_end w pid SIGSEGV rules alive
 
 pub kept_step : EventKeepsRules
-unfolding step_of
-kept_step images w event rules = kept_stepped images w event (reason_of w event) refl rules
+kept_step images w event rules = at_step images w event (λ s. IsWorld s.world) (λ _ _. rules) (λ p there alive. kept_happened images w p.body event rules alive)
 
 pub kept_run : RunKeepsRules
 kept_run images w [] rules = rules

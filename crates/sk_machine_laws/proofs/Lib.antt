@@ -1,3 +1,4 @@
+pub mod Happened
 pub mod Unchanged
 pub mod KeptEvents
 pub mod Carrying

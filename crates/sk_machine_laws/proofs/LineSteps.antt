@@ -1,6 +1,6 @@
 -- What each event does to authorities, and that they are those of the lines.
 use Rattle.std.proofs.Common.{◌≡◌, ◌≢◌, ◌∙◌, ℕ, ◌==◌, ◌&&◌, ap, sym, refl, subst, cond, not, Bool, true, false, IsTrue, List, [], ◌∷◌, ◌++◌, Option, None, Some, Result, Ok, Err}
-use Rattle.std.specs.Option.{is_some, unwrap_or, option_to_list}
+use Rattle.std.specs.Option.{is_some, unwrap_or, option_to_list, option_map_or}
 use Rattle.std.specs.Result.{result_unwrap_or}
 use Rattle.std.proofs.lemmas.Bool.{false≢true, eqb-true, eqb-false, false_from_ne_true}
 use Rattle.sk_insn.specs.declared.record.Record.{Record}
@@ -26,7 +26,6 @@ use Rattle.sk_world.proofs.KeptEnd.{alive_is_there}
 use Rattle.sk_session.specs.Sessions.{after_setpgid, after_setsid, group_asked, session_asked}
 use Rattle.sk_machine.specs.declared.event.Event.{Event}
 use Rattle.sk_machine.specs.declared.event.Event.TheVariants.{Call, Deliver, Resume, Fault}
-use Rattle.sk_machine.specs.declared.answer.Reason.{Reason}
 use Rattle.sk_machine.specs.declared.operation.PrctlOption.{PrctlOption}
 use Rattle.sk_machine.specs.declared.operation.PrctlOption.TheVariants as option
 use Rattle.sk_machine.specs.declared.operation.SeccompOperation.{SeccompOperation}
@@ -38,18 +37,18 @@ use Rattle.sk_machine.specs.Given.{GivenImages}
 use Rattle.sk_calls.specs.Syscalls.{syscall_of}
 use Rattle.sk_calls.proofs.SyscallTable.{number_of-syscall_of}
 use Rattle.sk_machine.specs.Arguments.{register, low, signed, prctl_option_of, seccomp_operation_of}
-use Rattle.sk_machine.specs.Authority.{Authority, authority_of, with_authority, after_no_new_privs, after_set_seccomp, after_prctl, after_set_mode_filter, after_seccomp, authority_after}
-use Rattle.sk_machine.specs.Performed.{Performed, body_of, authority_at, authorises}
+use Rattle.sk_machine.specs.Authority.{Authority, authority_of, with_authority, after_prctl, after_seccomp, authority_after}
+use Rattle.sk_machine.specs.Performed.{Performed, authorises}
 use Rattle.sk_machine.specs.SignalCalls.{after_sigaction, after_sigprocmask, after_sigreturn}
 use Rattle.sk_machine.specs.Killing.{after_kill}
 use Rattle.sk_machine.specs.Performing.{executing, execve, forks, exit_status, no_new_privs_asked, subreaper_set, subreaper_asked, where_subreapers, with_subreaper, prctl, action_available, seccomp, row}
-use Rattle.sk_machine.specs.Delivering.{signal_due}
-use Rattle.sk_machine.specs.Machine.{Stepped, judged, happened, reason_of, stepped, step_of, world_after}
-use Rattle.sk_machine.specs.Lines.{Line, Happening, is_fork, has_returned, line_before, calls_added, line_of, authority_after_calls, history_after}
+use Rattle.sk_machine.specs.Delivering.{signal_for}
+use Rattle.sk_machine.specs.Machine.{Stepped, judged, happened, step_of, world_after}
+use Rattle.sk_machine.specs.Lines.{Line, Happening, is_fork, has_returned, line_before, calls_added, line_of, authority_after_calls, history_after, nobodys}
 use Rattle.sk_machine_laws.specs.LineLaws.{happening, EventChangesAuthority, AuthorityIsOfLine, LineComesFromInit}
-use Rattle.sk_machine_laws.proofs.KeptEvents.{possible_is_alive}
 use Rattle.sk_machine_laws.proofs.Carrying.{over_asked, over_changes, over_resignals, over_waits, over_kill, over_setpgid, over_setsid, over_wait4, over_end, over_delivered, over_resumed}
 use Rattle.sk_machine_laws.proofs.Authorities.{CameBy, Came, Keeps, came_still, came_at, came_by_rights, keeps_by_rights, keeps_still, keeps_changed, keeps}
+use Rattle.sk_machine_laws.proofs.Happened.{at_step}
 
 -- ---- which call is a fork
 abbrev pub is_fork_row : Option Syscall → Bool
@@ -89,26 +88,29 @@ abbrev changed_by : World → ℕ → (Authority → Body → Body) → Result A
 changed_by w pid g (Ok a) = changed w pid (g a)
 changed_by w pid g (Err e) = w
 
-step_here : (w : World) (pid : ℕ) (f : Authority → Result Authority Errno) (g : Authority → Body → Body) (r : Result Authority Errno)
-    → ((a : Authority) (body : Body) → authority_of (g a body) ≡ a) → r ≡ f (authority_at w pid) → CameBy (λ a. result_unwrap_or (f a) a) (at (changed_by w pid g r) pid) (at w pid)
-step_here w pid f g (Ok a) same is =
-    came_at w pid (λ x. result_unwrap_or (f x) x) (g a) (λ p there.
-    let old : Authority = authority_of p.body in
-    same a p.body ∙ ap (λ r. result_unwrap_or r old) (is ∙ ap (λ o. f (authority_of (body_of o))) there))
-step_here w pid f g (Err e) same is = λ p there.
-    let old : Authority = authority_of p.body in
-    (p, there, ap (λ r. result_unwrap_or r old) (is ∙ ap (λ o. f (authority_of (body_of o))) there))
+-- the process of a pid, where there is one, has this authority
+abbrev HasAuthority : World → ℕ → Authority → Type 0
+HasAuthority w pid a = (p : Proc) → at w pid ≡ Some p → authority_of p.body ≡ a
+
+own_authority : (w : World) (pid : ℕ) (p : Proc) → at w pid ≡ Some p → HasAuthority w pid (authority_of p.body)
+own_authority w pid p there q is = ap (λ o. authority_of (unwrap_or o p).body) (sym is ∙ there)
+
+step_here : (w : World) (pid : ℕ) (old : Authority) (f : Authority → Result Authority Errno) (g : Authority → Body → Body) (r : Result Authority Errno)
+    → ((a : Authority) (body : Body) → authority_of (g a body) ≡ a) → r ≡ f old → HasAuthority w pid old → CameBy (λ a. result_unwrap_or (f a) a) (at (changed_by w pid g r) pid) (at w pid)
+step_here w pid old f g (Ok a) same is own =
+    came_at w pid (λ x. result_unwrap_or (f x) x) (g a) (λ p there. same a p.body ∙ ap (λ r. result_unwrap_or r (authority_of p.body)) (is ∙ ap f (sym (own p there))))
+step_here w pid old f g (Err e) same is own = λ p there. (p, there, ap (λ r. result_unwrap_or r (authority_of p.body)) (is ∙ ap f (sym (own p there))))
 
 step_there : (w : World) (pid q : ℕ) (g : Authority → Body → Body) (r : Result Authority Errno) → q ≢ pid → Came (at (changed_by w pid g r) q) (at w q)
 step_there w pid q g (Ok a) other = subst (λ x. Came x (at w q)) (sym (at_other w pid _ q other)) (came_still (at w q))
 step_there w pid q g (Err e) other = came_still (at w q)
 
-step_authorised : (w : World) (pid q : ℕ) (f : Authority → Result Authority Errno) (g : Authority → Body → Body) (r : Result Authority Errno)
-    → ((a : Authority) (body : Body) → authority_of (g a body) ≡ a) → r ≡ f (authority_at w pid)
+step_authorised : (w : World) (pid q : ℕ) (old : Authority) (f : Authority → Result Authority Errno) (g : Authority → Body → Body) (r : Result Authority Errno)
+    → ((a : Authority) (body : Body) → authority_of (g a body) ≡ a) → r ≡ f old → HasAuthority w pid old
     → CameBy (cond ((pid == q) && true) (λ a. result_unwrap_or (f a) a) (λ a. a)) (at (changed_by w pid g r) q) (at w q)
-step_authorised w pid q f g r same is =
+step_authorised w pid q old f g r same is own =
     elim (pid == q) as (λ b. (pid == q) ≡ b → CameBy (cond (b && true) (λ a. result_unwrap_or (f a) a) (λ a. a)) (at (changed_by w pid g r) q) (at w q)) [
-      | true ↦ λ here. subst (λ k. CameBy (λ a. result_unwrap_or (f a) a) (at (changed_by w pid g r) k) (at w k)) (eqb-true pid q here) (step_here w pid f g r same is)
+      | true ↦ λ here. subst (λ k. CameBy (λ a. result_unwrap_or (f a) a) (at (changed_by w pid g r) k) (at w k)) (eqb-true pid q here) (step_here w pid old f g r same is own)
       | false ↦ λ other. step_there w pid q g r (λ e. eqb-false pid q other (sym e))
     ] refl
 
@@ -120,17 +122,17 @@ execve_world : (w : World) (pid : ℕ) (r : Result Authority Errno) → changed_
 execve_world w pid (Ok a) = refl
 execve_world w pid (Err e) = refl
 
-step_authorises : (w : World) (pid q : ℕ) (f : Authority → Result Authority Errno)
-    → CameBy (cond ((pid == q) && true) (λ a. result_unwrap_or (f a) a) (λ a. a)) (at (authorises w pid (f (authority_at w pid))).world q) (at w q)
-step_authorises w pid q f =
-    subst (λ v. CameBy (cond ((pid == q) && true) (λ a. result_unwrap_or (f a) a) (λ a. a)) (at v q) (at w q)) (authorises_world w pid (f (authority_at w pid)))
-    (step_authorised w pid q f with_authority (f (authority_at w pid)) (λ a body. refl) refl)
+step_authorises : (w : World) (pid q : ℕ) (old : Authority) (f : Authority → Result Authority Errno) → HasAuthority w pid old
+    → CameBy (cond ((pid == q) && true) (λ a. result_unwrap_or (f a) a) (λ a. a)) (at (authorises w pid (f old)).world q) (at w q)
+step_authorises w pid q old f own =
+    subst (λ v. CameBy (cond ((pid == q) && true) (λ a. result_unwrap_or (f a) a) (λ a. a)) (at v q) (at w q)) (authorises_world w pid (f old))
+    (step_authorised w pid q old f with_authority (f old) (λ a body. refl) refl own)
 
-step_execve : (w : World) (pid q : ℕ) (f : Authority → Result Authority Errno)
-    → CameBy (cond ((pid == q) && true) (λ a. result_unwrap_or (f a) a) (λ a. a)) (at (execve w pid (f (authority_at w pid))).world q) (at w q)
-step_execve w pid q f =
-    subst (λ v. CameBy (cond ((pid == q) && true) (λ a. result_unwrap_or (f a) a) (λ a. a)) (at v q) (at w q)) (execve_world w pid (f (authority_at w pid)))
-    (step_authorised w pid q f executing (f (authority_at w pid)) (λ a body. refl) refl)
+step_execve : (w : World) (pid q : ℕ) (old : Authority) (f : Authority → Result Authority Errno) → HasAuthority w pid old
+    → CameBy (cond ((pid == q) && true) (λ a. result_unwrap_or (f a) a) (λ a. a)) (at (execve w pid (f old)).world q) (at w q)
+step_execve w pid q old f own =
+    subst (λ v. CameBy (cond ((pid == q) && true) (λ a. result_unwrap_or (f a) a) (λ a. a)) (at v q) (at w q)) (execve_world w pid (f old))
+    (step_authorised w pid q old f executing (f old) (λ a body. refl) refl own)
 
 -- a row whose call leaves every authority
 step_quiet : (pid q : ℕ) (now before : Option Proc) → Came now before → CameBy (cond ((pid == q) && true) (λ a. a) (λ a. a)) now before
@@ -140,24 +142,23 @@ keeps_subreapers : (there : Bool) (w : World) (p : Performed) → Keeps w p.worl
 keeps_subreapers true w p kept = kept
 keeps_subreapers false w p kept = keeps_still w
 
-step_prctl : (images : GivenImages) (w : World) (pid q : ℕ) (which : Option PrctlOption) (call : Record)
-    → CameBy (cond ((pid == q) && true) (λ a. result_unwrap_or (after_prctl images which call a) a) (λ a. a)) (at (prctl images w pid which call).world q) (at w q)
-step_prctl images w pid q (Some option.SetNoNewPrivs) call = step_authorises w pid q (after_no_new_privs call)
-step_prctl images w pid q (Some option.SetSeccomp) call = step_authorises w pid q (after_set_seccomp images call)
-step_prctl images w pid q (Some option.GetSeccomp) call = step_quiet pid q _ (at w q) (keeps_still w q)
-step_prctl images w pid q (Some option.GetNoNewPrivs) call =
-    step_quiet pid q _ (at w q) (over_asked Keeps keeps w (no_new_privs_asked call (body_of (at w pid)).creds.no_new_privs) q)
-step_prctl images w pid q (Some option.SetChildSubreaper) call =
+step_prctl : (images : GivenImages) (w : World) (pid q : ℕ) (body : Body) (which : Option PrctlOption) (call : Record) → HasAuthority w pid (authority_of body)
+    → CameBy (cond ((pid == q) && true) (λ a. result_unwrap_or (after_prctl images which call a) a) (λ a. a)) (at (prctl images w pid body which call).world q) (at w q)
+step_prctl images w pid q body (Some option.GetSeccomp) call own = step_quiet pid q _ (at w q) (keeps_still w q)
+step_prctl images w pid q body (Some option.GetNoNewPrivs) call own =
+    step_quiet pid q _ (at w q) (over_asked Keeps keeps w (no_new_privs_asked call body.creds.no_new_privs) q)
+step_prctl images w pid q body (Some option.SetChildSubreaper) call own =
     step_quiet pid q _ (at w q) (keeps_subreapers images.subreapers w (subreaper_set w pid call) (keeps_changed w pid (with_subreaper (not (register call 1 == 0))) (λ body. refl)) q)
-step_prctl images w pid q (Some option.GetChildSubreaper) call = step_quiet pid q _ (at w q) (keeps_subreapers images.subreapers w (subreaper_asked w pid) (keeps_still w) q)
-step_prctl images w pid q None call = step_quiet pid q _ (at w q) (keeps_still w q)
+step_prctl images w pid q body (Some option.GetChildSubreaper) call own = step_quiet pid q _ (at w q) (keeps_subreapers images.subreapers w (subreaper_asked w body.subreaper) (keeps_still w) q)
+step_prctl images w pid q body None call own = step_quiet pid q _ (at w q) (keeps_still w q)
+step_prctl images w pid q body setting call own = step_authorises w pid q (authority_of body) (after_prctl images setting call) own
 
-step_seccomp : (images : GivenImages) (w : World) (pid q : ℕ) (which : Option SeccompOperation) (call : Record)
-    → CameBy (cond ((pid == q) && true) (λ a. result_unwrap_or (after_seccomp images which call a) a) (λ a. a)) (at (seccomp images w pid which call).world q) (at w q)
-step_seccomp images w pid q (Some operation.SetModeFilter) call = step_authorises w pid q (after_set_mode_filter images call)
-step_seccomp images w pid q (Some operation.GetActionAvail) call =
+step_seccomp : (images : GivenImages) (w : World) (pid q : ℕ) (body : Body) (which : Option SeccompOperation) (call : Record) → HasAuthority w pid (authority_of body)
+    → CameBy (cond ((pid == q) && true) (λ a. result_unwrap_or (after_seccomp images which call a) a) (λ a. a)) (at (seccomp images w pid body which call).world q) (at w q)
+step_seccomp images w pid q body (Some operation.GetActionAvail) call own =
     step_quiet pid q _ (at w q) (over_asked Keeps keeps w (action_available (low call 1) (low call 2)) q)
-step_seccomp images w pid q None call = step_quiet pid q _ (at w q) (keeps_still w q)
+step_seccomp images w pid q body None call own = step_quiet pid q _ (at w q) (keeps_still w q)
+step_seccomp images w pid q body setting call own = step_authorises w pid q (authority_of body) (after_seccomp images setting call) own
 
 and_true : (b c : Bool) → c ≡ true → (b && c) ≡ b
 and_true true c is = is
@@ -171,37 +172,37 @@ step_fork images w pid q call true room alive =
     (came_by_rights (at (forked w pid) q) (at w (cond ((q == fresh_of w) && has_room w) pid q)) (forked_rights w pid q alive)))
 step_fork images w pid q call false room alive = leaves ((pid == q) && true) (λ a. a) (at w q) (at w q) (λ a. refl) (came_still (at w q))
 
-step_row : (images : GivenImages) (w : World) (pid q : ℕ) (which : Option Syscall) (call : Record) → IsTrue (is_alive (at w pid)) → RowStep images w pid q call which (row images w pid which call)
-step_row images w pid q (Some syscall.RtSigaction) call alive = step_quiet pid q _ (at w q) (over_resignals Keeps keeps w pid (after_sigaction pid call (body_of (at w pid)).signals) q)
-step_row images w pid q (Some syscall.RtSigprocmask) call alive = step_quiet pid q _ (at w q) (over_resignals Keeps keeps w pid (after_sigprocmask call (body_of (at w pid)).signals) q)
-step_row images w pid q (Some syscall.RtSigreturn) call alive =
-    step_quiet pid q _ (at w q) (over_resignals Keeps keeps w pid (after_sigreturn (body_of (at w pid)).signals.frames (body_of (at w pid)).signals) q)
-step_row images w pid q (Some syscall.RtSigpending) call alive = step_quiet pid q _ (at w q) (keeps_still w q)
-step_row images w pid q (Some syscall.SchedYield) call alive = step_quiet pid q _ (at w q) (keeps_still w q)
-step_row images w pid q (Some syscall.Pause) call alive = step_quiet pid q _ (at w q) (over_waits Keeps keeps w pid waiting.Pause q)
-step_row images w pid q (Some syscall.Getpid) call alive = step_quiet pid q _ (at w q) (keeps_still w q)
-step_row images w pid q (Some syscall.Getppid) call alive = step_quiet pid q _ (at w q) (keeps_still w q)
-step_row images w pid q (Some syscall.Fork) call alive = step_fork images w pid q call (has_room w) refl alive
-step_row images w pid q (Some syscall.Execve) call alive = step_execve w pid q (authority_after images (Some syscall.Execve) call)
-step_row images w pid q (Some syscall.Exit) call alive = step_quiet pid q _ (at w q) (over_end Keeps keeps w pid (exit_status (low call 0)) (alive_is_there (at w pid) alive) q)
-step_row images w pid q (Some syscall.ExitGroup) call alive = step_quiet pid q _ (at w q) (over_end Keeps keeps w pid (exit_status (low call 0)) (alive_is_there (at w pid) alive) q)
-step_row images w pid q (Some syscall.Wait4) call alive = step_quiet pid q _ (at w q) (over_wait4 Keeps keeps w pid call q)
-step_row images w pid q (Some syscall.Kill) call alive =
-    step_quiet pid q _ (at w q) (over_changes Keeps keeps w 0 (after_kill w pid (signed call 0) (low call 1)) (over_kill Keeps keeps w pid (signed call 0) (low call 1)) q)
-step_row images w pid q (Some syscall.Getuid) call alive = step_quiet pid q _ (at w q) (keeps_still w q)
-step_row images w pid q (Some syscall.Geteuid) call alive = step_quiet pid q _ (at w q) (keeps_still w q)
-step_row images w pid q (Some syscall.Setuid) call alive = step_authorises w pid q (authority_after images (Some syscall.Setuid) call)
-step_row images w pid q (Some syscall.Setresuid) call alive = step_authorises w pid q (authority_after images (Some syscall.Setresuid) call)
-step_row images w pid q (Some syscall.Getresuid) call alive = step_quiet pid q _ (at w q) (keeps_still w q)
-step_row images w pid q (Some syscall.Setpgid) call alive =
+step_row : (images : GivenImages) (w : World) (pid q : ℕ) (body : Body) (which : Option Syscall) (call : Record) → HasAuthority w pid (authority_of body) → IsTrue (is_alive (at w pid)) → RowStep images w pid q call which (row images w pid body which call)
+step_row images w pid q body (Some syscall.RtSigaction) call own alive = step_quiet pid q _ (at w q) (over_resignals Keeps keeps w pid (after_sigaction pid call body.signals) q)
+step_row images w pid q body (Some syscall.RtSigprocmask) call own alive = step_quiet pid q _ (at w q) (over_resignals Keeps keeps w pid (after_sigprocmask call body.signals) q)
+step_row images w pid q body (Some syscall.RtSigreturn) call own alive =
+    step_quiet pid q _ (at w q) (over_resignals Keeps keeps w pid (after_sigreturn body.signals.frames body.signals) q)
+step_row images w pid q body (Some syscall.RtSigpending) call own alive = step_quiet pid q _ (at w q) (keeps_still w q)
+step_row images w pid q body (Some syscall.SchedYield) call own alive = step_quiet pid q _ (at w q) (keeps_still w q)
+step_row images w pid q body (Some syscall.Pause) call own alive = step_quiet pid q _ (at w q) (over_waits Keeps keeps w pid waiting.Pause q)
+step_row images w pid q body (Some syscall.Getpid) call own alive = step_quiet pid q _ (at w q) (keeps_still w q)
+step_row images w pid q body (Some syscall.Getppid) call own alive = step_quiet pid q _ (at w q) (keeps_still w q)
+step_row images w pid q body (Some syscall.Fork) call own alive = step_fork images w pid q call (has_room w) refl alive
+step_row images w pid q body (Some syscall.Execve) call own alive = step_execve w pid q (authority_of body) (authority_after images (Some syscall.Execve) call) own
+step_row images w pid q body (Some syscall.Exit) call own alive = step_quiet pid q _ (at w q) (over_end Keeps keeps w pid (exit_status (low call 0)) (alive_is_there (at w pid) alive) q)
+step_row images w pid q body (Some syscall.ExitGroup) call own alive = step_quiet pid q _ (at w q) (over_end Keeps keeps w pid (exit_status (low call 0)) (alive_is_there (at w pid) alive) q)
+step_row images w pid q body (Some syscall.Wait4) call own alive = step_quiet pid q _ (at w q) (over_wait4 Keeps keeps w pid call q)
+step_row images w pid q body (Some syscall.Kill) call own alive =
+    step_quiet pid q _ (at w q) (over_changes Keeps keeps w 0 (after_kill w pid body.creds (signed call 0) (low call 1)) (over_kill Keeps keeps w pid body.creds (signed call 0) (low call 1)) q)
+step_row images w pid q body (Some syscall.Getuid) call own alive = step_quiet pid q _ (at w q) (keeps_still w q)
+step_row images w pid q body (Some syscall.Geteuid) call own alive = step_quiet pid q _ (at w q) (keeps_still w q)
+step_row images w pid q body (Some syscall.Setuid) call own alive = step_authorises w pid q (authority_of body) (authority_after images (Some syscall.Setuid) call) own
+step_row images w pid q body (Some syscall.Setresuid) call own alive = step_authorises w pid q (authority_of body) (authority_after images (Some syscall.Setresuid) call) own
+step_row images w pid q body (Some syscall.Getresuid) call own alive = step_quiet pid q _ (at w q) (keeps_still w q)
+step_row images w pid q body (Some syscall.Setpgid) call own alive =
     step_quiet pid q _ (at w q) (over_changes Keeps keeps w 0 (after_setpgid w pid (signed call 0) (signed call 1)) (over_setpgid Keeps keeps w pid (signed call 0) (signed call 1)) q)
-step_row images w pid q (Some syscall.Getpgrp) call alive = step_quiet pid q _ (at w q) (keeps_still w q)
-step_row images w pid q (Some syscall.Setsid) call alive = step_quiet pid q _ (at w q) (over_changes Keeps keeps w pid (after_setsid w pid) (over_setsid Keeps keeps w pid) q)
-step_row images w pid q (Some syscall.Getpgid) call alive = step_quiet pid q _ (at w q) (over_asked Keeps keeps w (group_asked w pid (signed call 0)) q)
-step_row images w pid q (Some syscall.Getsid) call alive = step_quiet pid q _ (at w q) (over_asked Keeps keeps w (session_asked w pid (signed call 0)) q)
-step_row images w pid q (Some syscall.Prctl) call alive = step_prctl images w pid q (prctl_option_of (low call 0)) call
-step_row images w pid q (Some syscall.Seccomp) call alive = step_seccomp images w pid q (seccomp_operation_of (low call 0)) call
-step_row images w pid q None call alive = step_quiet pid q _ (at w q) (keeps_still w q)
+step_row images w pid q body (Some syscall.Getpgrp) call own alive = step_quiet pid q _ (at w q) (keeps_still w q)
+step_row images w pid q body (Some syscall.Setsid) call own alive = step_quiet pid q _ (at w q) (over_changes Keeps keeps w pid (after_setsid w pid) (over_setsid Keeps keeps w pid) q)
+step_row images w pid q body (Some syscall.Getpgid) call own alive = step_quiet pid q _ (at w q) (over_asked Keeps keeps w (group_asked w pid (signed call 0)) q)
+step_row images w pid q body (Some syscall.Getsid) call own alive = step_quiet pid q _ (at w q) (over_asked Keeps keeps w (session_asked w pid (signed call 0)) q)
+step_row images w pid q body (Some syscall.Prctl) call own alive = step_prctl images w pid q body (prctl_option_of (low call 0)) call own
+step_row images w pid q body (Some syscall.Seccomp) call own alive = step_seccomp images w pid q body (seccomp_operation_of (low call 0)) call own
+step_row images w pid q body None call own alive = step_quiet pid q _ (at w q) (keeps_still w q)
 
 -- ---- one event
 -- the same, where this call was performed, or none
@@ -220,51 +221,50 @@ one_call : (images : GivenImages) (b : Bool) (call : Record) (now before : Optio
 one_call images true call now before came = came
 one_call images false call now before came = came
 
-step_performed : (images : GivenImages) (w : World) (pid q : ℕ) (call : Record) → IsTrue (is_alive (at w pid))
-    → CallStep images w pid q (Some call) (row images w pid (syscall_of call.nr) call)
-step_performed images w pid q call alive =
-    let p : Performed = row images w pid (syscall_of call.nr) call in
+step_performed : (images : GivenImages) (w : World) (pid q : ℕ) (body : Body) (call : Record) → HasAuthority w pid (authority_of body) → IsTrue (is_alive (at w pid))
+    → CallStep images w pid q (Some call) (row images w pid body (syscall_of call.nr) call)
+step_performed images w pid q body call own alive =
+    let p : Performed = row images w pid body (syscall_of call.nr) call in
     let f : Authority → Authority = λ a. result_unwrap_or (authority_after images (syscall_of call.nr) call a) a in
     let by_number : CameBy (cond ((pid == q) && not ((call.nr == 57) && has_returned q p.outcome)) f (λ a. a)) (at p.world q) (at w (cond ((call.nr == 57) && has_returned q p.outcome) pid q)) =
     subst (λ b. CameBy (cond ((pid == q) && not (b && has_returned q p.outcome)) f (λ a. a)) (at p.world q) (at w (cond (b && has_returned q p.outcome) pid q)))
-    (fork_number call.nr) (step_row images w pid q (syscall_of call.nr) call alive) in
+    (fork_number call.nr) (step_row images w pid q body (syscall_of call.nr) call own alive) in
     one_call images ((pid == q) && not ((call.nr == 57) && has_returned q p.outcome)) call (at p.world q) (at w (cond ((call.nr == 57) && has_returned q p.outcome) pid q)) by_number
 
 step_refused : (images : GivenImages) (w : World) (pid q : ℕ) (p : Performed) → Keeps w p.world → CallStep images w pid q None p
 step_refused images w pid q p keeps = no_calls images ((pid == q) && true) (at p.world q) (at w q) (keeps q)
 
-step_judged : (images : GivenImages) (w : World) (pid q : ℕ) (call : Record) (verdict : ℕ) (a : Action) → IsTrue (is_alive (at w pid))
-    → CallStep images w pid q (cond (performs a) (Some call) None) (judged images w pid call verdict a)
-step_judged images w pid q call verdict action.Allow alive = step_performed images w pid q call alive
-step_judged images w pid q call verdict action.Log alive = step_performed images w pid q call alive
-step_judged images w pid q call verdict action.Trap alive = step_refused images w pid q (judged images w pid call verdict action.Trap) (keeps_by_rights w (forced w pid) (forced_rights w pid))
-step_judged images w pid q call verdict action.Errno alive = step_refused images w pid q (judged images w pid call verdict action.Errno) (keeps_still w)
-step_judged images w pid q call verdict action.UserNotif alive = step_refused images w pid q (judged images w pid call verdict action.UserNotif) (keeps_still w)
-step_judged images w pid q call verdict action.Trace alive = step_refused images w pid q (judged images w pid call verdict action.Trace) (keeps_still w)
-step_judged images w pid q call verdict action.KillProcess alive = step_refused images w pid q (judged images w pid call verdict action.KillProcess) (over_end Keeps keeps w pid SIGSYS (alive_is_there (at w pid) alive))
-step_judged images w pid q call verdict action.KillThread alive = step_refused images w pid q (judged images w pid call verdict action.KillThread) (over_end Keeps keeps w pid SIGSYS (alive_is_there (at w pid) alive))
-step_judged images w pid q call verdict action.Unknown alive = step_refused images w pid q (judged images w pid call verdict action.Unknown) (over_end Keeps keeps w pid SIGSYS (alive_is_there (at w pid) alive))
+step_judged : (images : GivenImages) (w : World) (pid q : ℕ) (body : Body) (call : Record) (verdict : ℕ) (a : Action) → HasAuthority w pid (authority_of body) → IsTrue (is_alive (at w pid))
+    → CallStep images w pid q (cond (performs a) (Some call) None) (judged images w pid body call verdict a)
+step_judged images w pid q body call verdict action.Allow own alive = step_performed images w pid q body call own alive
+step_judged images w pid q body call verdict action.Log own alive = step_performed images w pid q body call own alive
+step_judged images w pid q body call verdict action.Trap own alive = step_refused images w pid q (judged images w pid body call verdict action.Trap) (keeps_by_rights w (forced w pid) (forced_rights w pid))
+step_judged images w pid q body call verdict action.Errno own alive = step_refused images w pid q (judged images w pid body call verdict action.Errno) (keeps_still w)
+step_judged images w pid q body call verdict action.UserNotif own alive = step_refused images w pid q (judged images w pid body call verdict action.UserNotif) (keeps_still w)
+step_judged images w pid q body call verdict action.Trace own alive = step_refused images w pid q (judged images w pid body call verdict action.Trace) (keeps_still w)
+step_judged images w pid q body call verdict action.KillProcess own alive = step_refused images w pid q (judged images w pid body call verdict action.KillProcess) (over_end Keeps keeps w pid SIGSYS (alive_is_there (at w pid) alive))
+step_judged images w pid q body call verdict action.KillThread own alive = step_refused images w pid q (judged images w pid body call verdict action.KillThread) (over_end Keeps keeps w pid SIGSYS (alive_is_there (at w pid) alive))
+step_judged images w pid q body call verdict action.Unknown own alive = step_refused images w pid q (judged images w pid body call verdict action.Unknown) (over_end Keeps keeps w pid SIGSYS (alive_is_there (at w pid) alive))
 
 abbrev EventStep : GivenImages → World → Event → Stepped → ℕ → Type 0
 EventStep images w event s q =
     CameBy (authority_after_calls images (calls_added q (event, s.answer))) (at s.world q) (at w (line_before q (event, s.answer)))
 
-step_happened : (images : GivenImages) (w : World) (event : Event) (q : ℕ) → IsTrue (is_alive (at w (pid_of event))) → EventStep images w event (happened images w event) q
-step_happened images w (Call pid ip nr args) q alive =
+step_happened : (images : GivenImages) (w : World) (event : Event) (p : Proc) (q : ℕ) → at w (pid_of event) ≡ Some p → IsTrue (is_alive (at w (pid_of event)))
+    → EventStep images w event (happened images w p.body event) q
+step_happened images w (Call pid ip nr args) p q there alive =
     let call : Record = record { nr = nr; ip = ip; args = args } in
-    let verdict : ℕ = verdict_of (body_of (at w pid)).chain call in
-    step_judged images w pid q call verdict (action_of verdict) alive
-step_happened images w (Deliver pid) q alive = no_calls images ((pid == q) && true) _ (at w q) (over_delivered Keeps keeps w pid (unwrap_or (signal_due (at w pid)) 0) (alive_is_there (at w pid) alive) q)
-step_happened images w (Resume pid) q alive = no_calls images ((pid == q) && true) _ (at w q) (over_resumed Keeps keeps w pid (body_of (at w pid)).waiting q)
-step_happened images w (Fault pid) q alive = no_calls images ((pid == q) && true) _ (at w q) (over_end Keeps keeps w pid SIGSEGV (alive_is_there (at w pid) alive) q)
-
-step_stepped : (images : GivenImages) (w : World) (event : Event) (o : Option Reason) (q : ℕ) → reason_of w event ≡ o → EventStep images w event (stepped images w event o) q
-step_stepped images w event (Some reason) q is = no_calls images ((pid_of event == q) && true) (at w q) (at w q) (came_still (at w q))
-step_stepped images w event None q is = step_happened images w event q (possible_is_alive w event is)
+    let verdict : ℕ = verdict_of p.body.chain call in
+    step_judged images w pid q p.body call verdict (action_of verdict) (own_authority w pid p there) alive
+step_happened images w (Deliver pid) p q there alive =
+    no_calls images ((pid == q) && true) _ (at w q) (over_delivered Keeps keeps w pid p.body (unwrap_or (signal_for p.body) 0) (alive_is_there (at w pid) alive) q)
+step_happened images w (Resume pid) p q there alive = no_calls images ((pid == q) && true) _ (at w q) (over_resumed Keeps keeps w pid p.body.waiting q)
+step_happened images w (Fault pid) p q there alive = no_calls images ((pid == q) && true) _ (at w q) (over_end Keeps keeps w pid SIGSEGV (alive_is_there (at w pid) alive) q)
 
 pub step_event : (images : GivenImages) (w : World) (event : Event) (q : ℕ) → EventStep images w event (step_of images w event) q
-unfolding step_of
-step_event images w event q = step_stepped images w event (reason_of w event) q refl
+step_event images w event q =
+    at_step images w event (λ s. EventStep images w event s q) (λ _ _. no_calls images ((pid_of event == q) && true) (at w q) (at w q) (came_still (at w q)))
+    (λ p there alive. step_happened images w event p q there alive)
 
 -- ---- a list of events
 pub after_more : (images : GivenImages) (calls more : List Record) (a : Authority)
@@ -296,12 +296,16 @@ someone : (o : Option Proc) → IsTrue (is_some o) → (p : Proc) × (o ≡ Some
 someone None there = absurd (false≢true there)
 someone (Some p) there = (p, refl)
 
+-- the authority of a process, if it is there
+abbrev pub authority_in : Option Proc → Authority
+authority_in o = option_map_or (λ p. authority_of p.body) o nobodys
+
 by_origin : (f : Authority → Authority) (now before : Option Proc) → CameBy f now before → IsTrue (is_some now)
-    → IsTrue (is_some before) × (authority_of (body_of now) ≡ f (authority_of (body_of before)))
+    → IsTrue (is_some before) × (authority_in now ≡ f (authority_in before))
 by_origin f now before came there =
     let p = someone now there in
     let old = came p.0 p.1 in
-    (ap is_some old.1, ap (λ o. authority_of (body_of o)) p.1 ∙ old.2 ∙ ap (λ o. f (authority_of (body_of o))) (sym old.1))
+    (ap is_some old.1, ap authority_in p.1 ∙ old.2 ∙ ap (λ o. f (authority_in o)) (sym old.1))
 
 pub event_changes_authority : EventChangesAuthority
 event_changes_authority images w event pid there =

@@ -5,9 +5,8 @@ use Rattle.std.specs.List.{list_any}
 use Rattle.sk_world.specs.World.{World, at}
 use Rattle.sk_machine.specs.declared.event.Event.{Event}
 use Rattle.sk_machine.specs.Given.{GivenImages}
-use Rattle.sk_machine.specs.Performed.{authority_at}
 use Rattle.sk_machine.specs.Machine.{step_of, world_after}
-use Rattle.sk_machine.specs.Lines.{Happening, line_of, is_fork_of, history_after, authority_of_line}
+use Rattle.sk_machine.specs.Lines.{Happening, line_of, is_fork_of, history_after, authority_of_line, authority_at}
 use Rattle.sk_machine_laws.specs.TellingLaws.{told_by}
 use Rattle.sk_machine_laws.specs.AnyMachine.{world_by, history_by, GivesAuthorityByLine, TellsEndsOnce, HasMachineLaws}
 use Rattle.sk_machine_laws.proofs.LineSteps.{authority_is_of_line}

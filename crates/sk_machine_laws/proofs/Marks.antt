@@ -36,7 +36,6 @@ use Rattle.sk_world_laws.proofs.Locality.{sent_leaves}
 use Rattle.sk_session.specs.Sessions.{after_setpgid, after_setsid, group_asked, session_asked}
 use Rattle.sk_machine.specs.declared.event.Event.{Event}
 use Rattle.sk_machine.specs.declared.event.Event.TheVariants.{Call, Deliver, Resume, Fault}
-use Rattle.sk_machine.specs.declared.answer.Reason.{Reason}
 use Rattle.sk_machine.specs.declared.operation.PrctlOption.{PrctlOption}
 use Rattle.sk_machine.specs.declared.operation.PrctlOption.TheVariants as option
 use Rattle.sk_machine.specs.declared.operation.SeccompOperation.{SeccompOperation}
@@ -44,16 +43,16 @@ use Rattle.sk_machine.specs.declared.operation.SeccompOperation.TheVariants as o
 use Rattle.sk_machine.specs.Arguments.{low, signed, prctl_option_of, seccomp_operation_of}
 use Rattle.sk_machine.specs.Events.{pid_of}
 use Rattle.sk_machine.specs.Given.{GivenImages}
-use Rattle.sk_machine.specs.Authority.{Authority, with_authority, after_no_new_privs, after_set_seccomp, after_set_mode_filter}
-use Rattle.sk_machine.specs.Performed.{Performed, body_of, authority_at, authorises}
+use Rattle.sk_machine.specs.Authority.{Authority, with_authority, authority_of, after_prctl, after_seccomp}
+use Rattle.sk_machine.specs.Performed.{Performed, authorises}
 use Rattle.sk_machine.specs.SignalCalls.{after_sigaction, after_sigprocmask, after_sigreturn}
 use Rattle.sk_machine.specs.Killing.{after_kill}
 use Rattle.sk_machine.specs.Performing.{executing, execve, forks, exit_status, authorised, no_new_privs_asked, subreaper_set, subreaper_asked, where_subreapers, prctl, action_available, seccomp, row}
-use Rattle.sk_machine.specs.Delivering.{signal_due}
-use Rattle.sk_machine.specs.Machine.{judged, happened, reason_of, stepped, step_of}
+use Rattle.sk_machine.specs.Delivering.{signal_for}
+use Rattle.sk_machine.specs.Machine.{judged, happened, step_of}
 use Rattle.sk_machine_laws.specs.MachineLaws.{HasNoSubreapers, EventMarksNobody, RunMarksNobody, NobodyIsMarked}
 use Rattle.sk_machine_laws.proofs.Carrying.{Carries, over_asked, over_changes, over_resignals, over_waits, over_kill, over_setpgid, over_setsid, over_wait4, over_end, over_delivered, over_resumed}
-use Rattle.sk_machine_laws.proofs.KeptEvents.{possible_is_alive}
+use Rattle.sk_machine_laws.proofs.Happened.{at_step}
 
 -- no subreaper comes
 abbrev MarksNobody : World → World → Type 0
@@ -149,80 +148,76 @@ marks_where : (there : Bool) (w : World) (p : Performed) → there ≡ false →
 marks_where true w p is = absurd (false≢true (sym is))
 marks_where false w p is = λ none. none
 
-marks_prctl : (images : GivenImages) (w : World) (pid : ℕ) (which : Option PrctlOption) (call : Record) → images.subreapers ≡ false → MarksNobody w (prctl images w pid which call).world
-marks_prctl images w pid (Some option.SetNoNewPrivs) call is = marks_authorises w pid (after_no_new_privs call (authority_at w pid))
-marks_prctl images w pid (Some option.SetSeccomp) call is = marks_authorises w pid (after_set_seccomp images call (authority_at w pid))
-marks_prctl images w pid (Some option.GetSeccomp) call is = λ none. none
-marks_prctl images w pid (Some option.GetNoNewPrivs) call is = over_asked MarksNobody marks w (no_new_privs_asked call (body_of (at w pid)).creds.no_new_privs)
-marks_prctl images w pid (Some option.SetChildSubreaper) call is = marks_where images.subreapers w (subreaper_set w pid call) is
-marks_prctl images w pid (Some option.GetChildSubreaper) call is = marks_where images.subreapers w (subreaper_asked w pid) is
-marks_prctl images w pid None call is = λ none. none
+marks_prctl : (images : GivenImages) (w : World) (pid : ℕ) (body : Body) (which : Option PrctlOption) (call : Record) → images.subreapers ≡ false → MarksNobody w (prctl images w pid body which call).world
+marks_prctl images w pid body (Some option.GetSeccomp) call is = λ none. none
+marks_prctl images w pid body (Some option.GetNoNewPrivs) call is = over_asked MarksNobody marks w (no_new_privs_asked call body.creds.no_new_privs)
+marks_prctl images w pid body (Some option.SetChildSubreaper) call is = marks_where images.subreapers w (subreaper_set w pid call) is
+marks_prctl images w pid body (Some option.GetChildSubreaper) call is = marks_where images.subreapers w (subreaper_asked w body.subreaper) is
+marks_prctl images w pid body None call is = λ none. none
+marks_prctl images w pid body setting call is = marks_authorises w pid (after_prctl images setting call (authority_of body))
 
-marks_seccomp : (images : GivenImages) (w : World) (pid : ℕ) (which : Option SeccompOperation) (call : Record) → MarksNobody w (seccomp images w pid which call).world
-marks_seccomp images w pid (Some operation.SetModeFilter) call = marks_authorises w pid (after_set_mode_filter images call (authority_at w pid))
-marks_seccomp images w pid (Some operation.GetActionAvail) call = over_asked MarksNobody marks w (action_available (low call 1) (low call 2))
-marks_seccomp images w pid None call = λ none. none
+marks_seccomp : (images : GivenImages) (w : World) (pid : ℕ) (body : Body) (which : Option SeccompOperation) (call : Record) → MarksNobody w (seccomp images w pid body which call).world
+marks_seccomp images w pid body (Some operation.GetActionAvail) call = over_asked MarksNobody marks w (action_available (low call 1) (low call 2))
+marks_seccomp images w pid body None call = λ none. none
+marks_seccomp images w pid body setting call = marks_authorises w pid (after_seccomp images setting call (authority_of body))
 
-marks_row : (images : GivenImages) (w : World) (pid : ℕ) (which : Option Syscall) (call : Record) → images.subreapers ≡ false → IsTrue (is_some (at w pid)) → MarksNobody w (row images w pid which call).world
-marks_row images w pid (Some syscall.RtSigaction) call is there = over_resignals MarksNobody marks w pid (after_sigaction pid call (body_of (at w pid)).signals)
-marks_row images w pid (Some syscall.RtSigprocmask) call is there = over_resignals MarksNobody marks w pid (after_sigprocmask call (body_of (at w pid)).signals)
-marks_row images w pid (Some syscall.RtSigreturn) call is there =
-    over_resignals MarksNobody marks w pid (after_sigreturn (body_of (at w pid)).signals.frames (body_of (at w pid)).signals)
-marks_row images w pid (Some syscall.RtSigpending) call is there = λ none. none
-marks_row images w pid (Some syscall.SchedYield) call is there = λ none. none
-marks_row images w pid (Some syscall.Pause) call is there = over_waits MarksNobody marks w pid waiting.Pause
-marks_row images w pid (Some syscall.Getpid) call is there = λ none. none
-marks_row images w pid (Some syscall.Getppid) call is there = λ none. none
-marks_row images w pid (Some syscall.Fork) call is there = marks_forks w pid (fork_answer w)
-marks_row images w pid (Some syscall.Execve) call is there = marks_execve w pid (authorised images w pid syscall.Execve call)
-marks_row images w pid (Some syscall.Exit) call is there = over_end MarksNobody marks w pid (exit_status (low call 0)) there
-marks_row images w pid (Some syscall.ExitGroup) call is there = over_end MarksNobody marks w pid (exit_status (low call 0)) there
-marks_row images w pid (Some syscall.Wait4) call is there = over_wait4 MarksNobody marks w pid call
-marks_row images w pid (Some syscall.Kill) call is there =
-    over_changes MarksNobody marks w 0 (after_kill w pid (signed call 0) (low call 1)) (over_kill MarksNobody marks w pid (signed call 0) (low call 1))
-marks_row images w pid (Some syscall.Getuid) call is there = λ none. none
-marks_row images w pid (Some syscall.Geteuid) call is there = λ none. none
-marks_row images w pid (Some syscall.Setuid) call is there = marks_authorises w pid (authorised images w pid syscall.Setuid call)
-marks_row images w pid (Some syscall.Setresuid) call is there = marks_authorises w pid (authorised images w pid syscall.Setresuid call)
-marks_row images w pid (Some syscall.Getresuid) call is there = λ none. none
-marks_row images w pid (Some syscall.Setpgid) call is there =
+marks_row : (images : GivenImages) (w : World) (pid : ℕ) (body : Body) (which : Option Syscall) (call : Record) → images.subreapers ≡ false → IsTrue (is_some (at w pid)) → MarksNobody w (row images w pid body which call).world
+marks_row images w pid body (Some syscall.RtSigaction) call is there = over_resignals MarksNobody marks w pid (after_sigaction pid call body.signals)
+marks_row images w pid body (Some syscall.RtSigprocmask) call is there = over_resignals MarksNobody marks w pid (after_sigprocmask call body.signals)
+marks_row images w pid body (Some syscall.RtSigreturn) call is there =
+    over_resignals MarksNobody marks w pid (after_sigreturn body.signals.frames body.signals)
+marks_row images w pid body (Some syscall.RtSigpending) call is there = λ none. none
+marks_row images w pid body (Some syscall.SchedYield) call is there = λ none. none
+marks_row images w pid body (Some syscall.Pause) call is there = over_waits MarksNobody marks w pid waiting.Pause
+marks_row images w pid body (Some syscall.Getpid) call is there = λ none. none
+marks_row images w pid body (Some syscall.Getppid) call is there = λ none. none
+marks_row images w pid body (Some syscall.Fork) call is there = marks_forks w pid (fork_answer w)
+marks_row images w pid body (Some syscall.Execve) call is there = marks_execve w pid (authorised images body syscall.Execve call)
+marks_row images w pid body (Some syscall.Exit) call is there = over_end MarksNobody marks w pid (exit_status (low call 0)) there
+marks_row images w pid body (Some syscall.ExitGroup) call is there = over_end MarksNobody marks w pid (exit_status (low call 0)) there
+marks_row images w pid body (Some syscall.Wait4) call is there = over_wait4 MarksNobody marks w pid call
+marks_row images w pid body (Some syscall.Kill) call is there =
+    over_changes MarksNobody marks w 0 (after_kill w pid body.creds (signed call 0) (low call 1)) (over_kill MarksNobody marks w pid body.creds (signed call 0) (low call 1))
+marks_row images w pid body (Some syscall.Getuid) call is there = λ none. none
+marks_row images w pid body (Some syscall.Geteuid) call is there = λ none. none
+marks_row images w pid body (Some syscall.Setuid) call is there = marks_authorises w pid (authorised images body syscall.Setuid call)
+marks_row images w pid body (Some syscall.Setresuid) call is there = marks_authorises w pid (authorised images body syscall.Setresuid call)
+marks_row images w pid body (Some syscall.Getresuid) call is there = λ none. none
+marks_row images w pid body (Some syscall.Setpgid) call is there =
     over_changes MarksNobody marks w 0 (after_setpgid w pid (signed call 0) (signed call 1)) (over_setpgid MarksNobody marks w pid (signed call 0) (signed call 1))
-marks_row images w pid (Some syscall.Getpgrp) call is there = λ none. none
-marks_row images w pid (Some syscall.Setsid) call is there = over_changes MarksNobody marks w pid (after_setsid w pid) (over_setsid MarksNobody marks w pid)
-marks_row images w pid (Some syscall.Getpgid) call is there = over_asked MarksNobody marks w (group_asked w pid (signed call 0))
-marks_row images w pid (Some syscall.Getsid) call is there = over_asked MarksNobody marks w (session_asked w pid (signed call 0))
-marks_row images w pid (Some syscall.Prctl) call is there = marks_prctl images w pid (prctl_option_of (low call 0)) call is
-marks_row images w pid (Some syscall.Seccomp) call is there = marks_seccomp images w pid (seccomp_operation_of (low call 0)) call
-marks_row images w pid None call is there = λ none. none
+marks_row images w pid body (Some syscall.Getpgrp) call is there = λ none. none
+marks_row images w pid body (Some syscall.Setsid) call is there = over_changes MarksNobody marks w pid (after_setsid w pid) (over_setsid MarksNobody marks w pid)
+marks_row images w pid body (Some syscall.Getpgid) call is there = over_asked MarksNobody marks w (group_asked w pid (signed call 0))
+marks_row images w pid body (Some syscall.Getsid) call is there = over_asked MarksNobody marks w (session_asked w pid (signed call 0))
+marks_row images w pid body (Some syscall.Prctl) call is there = marks_prctl images w pid body (prctl_option_of (low call 0)) call is
+marks_row images w pid body (Some syscall.Seccomp) call is there = marks_seccomp images w pid body (seccomp_operation_of (low call 0)) call
+marks_row images w pid body None call is there = λ none. none
 
 -- ---- events
-marks_judged : (images : GivenImages) (w : World) (pid : ℕ) (call : Record) (verdict : ℕ) (a : Action) → images.subreapers ≡ false → IsTrue (is_some (at w pid)) → MarksNobody w (judged images w pid call verdict a).world
-marks_judged images w pid call verdict action.Allow is there = marks_row images w pid (syscall_of call.nr) call is there
-marks_judged images w pid call verdict action.Log is there = marks_row images w pid (syscall_of call.nr) call is there
-marks_judged images w pid call verdict action.Trap is there = marks_changed w pid (λ body. record body { signals = sigsys_forced body.signals }) (λ body. refl)
-marks_judged images w pid call verdict action.Errno is there = λ none. none
-marks_judged images w pid call verdict action.UserNotif is there = λ none. none
-marks_judged images w pid call verdict action.Trace is there = λ none. none
-marks_judged images w pid call verdict action.KillProcess is there = over_end MarksNobody marks w pid SIGSYS there
-marks_judged images w pid call verdict action.KillThread is there = over_end MarksNobody marks w pid SIGSYS there
-marks_judged images w pid call verdict action.Unknown is there = over_end MarksNobody marks w pid SIGSYS there
+marks_judged : (images : GivenImages) (w : World) (pid : ℕ) (body : Body) (call : Record) (verdict : ℕ) (a : Action) → images.subreapers ≡ false → IsTrue (is_some (at w pid)) → MarksNobody w (judged images w pid body call verdict a).world
+marks_judged images w pid body call verdict action.Allow is there = marks_row images w pid body (syscall_of call.nr) call is there
+marks_judged images w pid body call verdict action.Log is there = marks_row images w pid body (syscall_of call.nr) call is there
+marks_judged images w pid body call verdict action.Trap is there = marks_changed w pid (λ body. record body { signals = sigsys_forced body.signals }) (λ body. refl)
+marks_judged images w pid body call verdict action.Errno is there = λ none. none
+marks_judged images w pid body call verdict action.UserNotif is there = λ none. none
+marks_judged images w pid body call verdict action.Trace is there = λ none. none
+marks_judged images w pid body call verdict action.KillProcess is there = over_end MarksNobody marks w pid SIGSYS there
+marks_judged images w pid body call verdict action.KillThread is there = over_end MarksNobody marks w pid SIGSYS there
+marks_judged images w pid body call verdict action.Unknown is there = over_end MarksNobody marks w pid SIGSYS there
 
-marks_happened : (images : GivenImages) (w : World) (event : Event) → images.subreapers ≡ false → IsTrue (is_some (at w (pid_of event))) → MarksNobody w (happened images w event).world
-marks_happened images w (Call pid ip nr args) is there =
+marks_happened : (images : GivenImages) (w : World) (body : Body) (event : Event) → images.subreapers ≡ false → IsTrue (is_some (at w (pid_of event))) → MarksNobody w (happened images w body event).world
+marks_happened images w body (Call pid ip nr args) is there =
     let call : Record = record { nr = nr; ip = ip; args = args } in
-    let verdict : ℕ = verdict_of (body_of (at w pid)).chain call in
-    marks_judged images w pid call verdict (action_of verdict) is there
-marks_happened images w (Deliver pid) is there = over_delivered MarksNobody marks w pid (unwrap_or (signal_due (at w pid)) 0) there
-marks_happened images w (Resume pid) is there = over_resumed MarksNobody marks w pid (body_of (at w pid)).waiting
-marks_happened images w (Fault pid) is there = over_end MarksNobody marks w pid SIGSEGV there
-
-marks_stepped : (images : GivenImages) (w : World) (event : Event) (o : Option Reason) → reason_of w event ≡ o → images.subreapers ≡ false → MarksNobody w (stepped images w event o).world
-marks_stepped images w event (Some reason) possible is = λ none. none
-marks_stepped images w event None possible is = marks_happened images w event is (alive_is_there (at w (pid_of event)) (possible_is_alive w event possible))
+    let verdict : ℕ = verdict_of body.chain call in
+    marks_judged images w pid body call verdict (action_of verdict) is there
+marks_happened images w body (Deliver pid) is there = over_delivered MarksNobody marks w pid body (unwrap_or (signal_for body) 0) there
+marks_happened images w body (Resume pid) is there = over_resumed MarksNobody marks w pid body.waiting
+marks_happened images w body (Fault pid) is there = over_end MarksNobody marks w pid SIGSEGV there
 
 pub event_marks_nobody : EventMarksNobody
-unfolding step_of
-event_marks_nobody images w event is = marks_stepped images w event (reason_of w event) refl is
+event_marks_nobody images w event is =
+    at_step images w event (λ s. MarksNobody w s.world) (λ _ _ none. none)
+    (λ p there alive. marks_happened images w p.body event is (alive_is_there (at w (pid_of event)) alive))
 
 pub run_marks_nobody : RunMarksNobody
 run_marks_nobody images w [] is none = none

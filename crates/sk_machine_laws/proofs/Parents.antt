@@ -41,7 +41,6 @@ use Rattle.sk_world.proofs.Fresh.{fresh_in_range, fresh_absent}
 use Rattle.sk_session.specs.Sessions.{after_setpgid, after_setsid, group_asked, session_asked}
 use Rattle.sk_machine.specs.declared.event.Event.{Event}
 use Rattle.sk_machine.specs.declared.event.Event.TheVariants.{Call, Deliver, Resume, Fault}
-use Rattle.sk_machine.specs.declared.answer.Reason.{Reason}
 use Rattle.sk_machine.specs.declared.answer.Reason.TheVariants.{Halted}
 use Rattle.sk_machine.specs.declared.operation.PrctlOption.{PrctlOption}
 use Rattle.sk_machine.specs.declared.operation.PrctlOption.TheVariants as option
@@ -53,22 +52,23 @@ use Rattle.sk_machine.specs.Events.{pid_of}
 use Rattle.sk_machine.specs.Given.{GivenImages}
 use Rattle.sk_calls.specs.Syscalls.{syscall_of}
 use Rattle.sk_machine.specs.Arguments.{register, low, signed, prctl_option_of, seccomp_operation_of}
-use Rattle.sk_machine.specs.Authority.{Authority, with_authority, after_no_new_privs, after_set_seccomp, after_set_mode_filter}
-use Rattle.sk_machine.specs.Performed.{Performed, body_of, authority_at, authorises}
+use Rattle.sk_machine.specs.Authority.{Authority, with_authority, authority_of, after_prctl, after_seccomp}
+use Rattle.sk_machine.specs.Performed.{Performed, authorises}
 use Rattle.sk_machine.specs.SignalCalls.{after_sigaction, after_sigprocmask, after_sigreturn}
 use Rattle.sk_machine.specs.Killing.{after_kill}
 use Rattle.sk_machine.specs.Performing.{executing, execve, forks, exit_status, authorised, no_new_privs_asked, subreaper_set, subreaper_asked, where_subreapers, with_subreaper, prctl, action_available, seccomp, row}
-use Rattle.sk_machine.specs.Delivering.{signal_due}
-use Rattle.sk_machine.specs.Machine.{Stepped, judged, happened, reason_of, stepped, step_of, world_after}
-use Rattle.sk_machine.specs.Lines.{Happening, is_fork, has_returned, is_fork_of, line_before, calls_added, line_of, history_after}
+use Rattle.sk_machine.specs.Delivering.{signal_for}
+use Rattle.sk_machine.specs.Machine.{Stepped, judged, happened, reason_of, step_of, world_after}
+use Rattle.sk_machine.specs.Lines.{Happening, is_fork, has_returned, is_fork_of, line_before, calls_added, line_of, history_after, authority_at}
 use Rattle.sk_machine_laws.specs.LineLaws.{happening, line_after}
 use Rattle.sk_machine_laws.specs.ConfinementLaws.{RefusesKill, IsConfined, ConfinementStays, LineIsConfined}
 use Rattle.sk_machine_laws.proofs.Carrying.{Carries, over_asked, over_changes, over_resignals, over_waits, over_kill, over_setpgid, over_setsid, over_wait4, over_end, over_delivered, over_resumed}
-use Rattle.sk_machine_laws.proofs.KeptEvents.{kept_step, possible_is_alive}
+use Rattle.sk_machine_laws.proofs.KeptEvents.{kept_step}
 use Rattle.sk_machine_laws.proofs.Unchanged.{impossible_changes_nothing}
 use Rattle.sk_machine_laws.proofs.LineSteps.{is_fork_row, fork_number, event_changes_authority}
 use Rattle.sk_machine_laws.proofs.Growing.{grows_calls}
 use Rattle.sk_machine_laws.proofs.Confined.{event_is_confined}
+use Rattle.sk_machine_laws.proofs.Happened.{at_step}
 
 -- ---- whose child a process is
 -- a set of processes that has with each one all its children
@@ -257,20 +257,19 @@ moved_subreapers : (there : Bool) (w : World) (p : Performed) → Moves w p.worl
 moved_subreapers true w p moved = moved
 moved_subreapers false w p moved = moved_still w
 
-moved_prctl : (images : GivenImages) (w : World) (pid : ℕ) (which : Option PrctlOption) (call : Record) → Moves w (prctl images w pid which call).world
-moved_prctl images w pid (Some option.SetNoNewPrivs) call = moved_authorises w pid (after_no_new_privs call (authority_at w pid))
-moved_prctl images w pid (Some option.SetSeccomp) call = moved_authorises w pid (after_set_seccomp images call (authority_at w pid))
-moved_prctl images w pid (Some option.GetSeccomp) call = moved_still w
-moved_prctl images w pid (Some option.GetNoNewPrivs) call = over_asked Moves moves w (no_new_privs_asked call (body_of (at w pid)).creds.no_new_privs)
-moved_prctl images w pid (Some option.SetChildSubreaper) call =
+moved_prctl : (images : GivenImages) (w : World) (pid : ℕ) (body : Body) (which : Option PrctlOption) (call : Record) → Moves w (prctl images w pid body which call).world
+moved_prctl images w pid body (Some option.GetSeccomp) call = moved_still w
+moved_prctl images w pid body (Some option.GetNoNewPrivs) call = over_asked Moves moves w (no_new_privs_asked call body.creds.no_new_privs)
+moved_prctl images w pid body (Some option.SetChildSubreaper) call =
     moved_subreapers images.subreapers w (subreaper_set w pid call) (moved_changed w pid (with_subreaper (not (register call 1 == 0))))
-moved_prctl images w pid (Some option.GetChildSubreaper) call = moved_subreapers images.subreapers w (subreaper_asked w pid) (moved_still w)
-moved_prctl images w pid None call = moved_still w
+moved_prctl images w pid body (Some option.GetChildSubreaper) call = moved_subreapers images.subreapers w (subreaper_asked w body.subreaper) (moved_still w)
+moved_prctl images w pid body None call = moved_still w
+moved_prctl images w pid body setting call = moved_authorises w pid (after_prctl images setting call (authority_of body))
 
-moved_seccomp : (images : GivenImages) (w : World) (pid : ℕ) (which : Option SeccompOperation) (call : Record) → Moves w (seccomp images w pid which call).world
-moved_seccomp images w pid (Some operation.SetModeFilter) call = moved_authorises w pid (after_set_mode_filter images call (authority_at w pid))
-moved_seccomp images w pid (Some operation.GetActionAvail) call = over_asked Moves moves w (action_available (low call 1) (low call 2))
-moved_seccomp images w pid None call = moved_still w
+moved_seccomp : (images : GivenImages) (w : World) (pid : ℕ) (body : Body) (which : Option SeccompOperation) (call : Record) → Moves w (seccomp images w pid body which call).world
+moved_seccomp images w pid body (Some operation.GetActionAvail) call = over_asked Moves moves w (action_available (low call 1) (low call 2))
+moved_seccomp images w pid body None call = moved_still w
+moved_seccomp images w pid body setting call = moved_authorises w pid (after_seccomp images setting call (authority_of body))
 
 -- a process that this event has forked
 record IsForked (w after : World) (caller q : ℕ) : Type 0 where
@@ -310,78 +309,75 @@ comes_fork w pid q false room rules there = comes_moved w w pid q (moved_still w
 abbrev RowComes : World → ℕ → ℕ → Option Syscall → Performed → Type 0
 RowComes w pid q which p = Comes w p.world pid q (is_fork_row which && has_returned q p.outcome)
 
-comes_row : (images : GivenImages) (w : World) (pid q : ℕ) (which : Option Syscall) (call : Record) → IsWorld w → IsTrue (is_some (at w pid)) → RowComes w pid q which (row images w pid which call)
-comes_row images w pid q (Some syscall.RtSigaction) call rules there = comes_moved w _ pid q (over_resignals Moves moves w pid (after_sigaction pid call (body_of (at w pid)).signals) q)
-comes_row images w pid q (Some syscall.RtSigprocmask) call rules there = comes_moved w _ pid q (over_resignals Moves moves w pid (after_sigprocmask call (body_of (at w pid)).signals) q)
-comes_row images w pid q (Some syscall.RtSigreturn) call rules there =
-    comes_moved w _ pid q (over_resignals Moves moves w pid (after_sigreturn (body_of (at w pid)).signals.frames (body_of (at w pid)).signals) q)
-comes_row images w pid q (Some syscall.RtSigpending) call rules there = comes_moved w w pid q (moved_still w q)
-comes_row images w pid q (Some syscall.SchedYield) call rules there = comes_moved w w pid q (moved_still w q)
-comes_row images w pid q (Some syscall.Pause) call rules there = comes_moved w _ pid q (over_waits Moves moves w pid waiting.Pause q)
-comes_row images w pid q (Some syscall.Getpid) call rules there = comes_moved w w pid q (moved_still w q)
-comes_row images w pid q (Some syscall.Getppid) call rules there = comes_moved w w pid q (moved_still w q)
-comes_row images w pid q (Some syscall.Fork) call rules there = comes_fork w pid q (has_room w) refl rules there
-comes_row images w pid q (Some syscall.Execve) call rules there = comes_moved w _ pid q (moved_execve w pid (authorised images w pid syscall.Execve call) q)
-comes_row images w pid q (Some syscall.Exit) call rules there = comes_moved w _ pid q (over_end Moves moves w pid (exit_status (low call 0)) there q)
-comes_row images w pid q (Some syscall.ExitGroup) call rules there = comes_moved w _ pid q (over_end Moves moves w pid (exit_status (low call 0)) there q)
-comes_row images w pid q (Some syscall.Wait4) call rules there = comes_moved w _ pid q (over_wait4 Moves moves w pid call q)
-comes_row images w pid q (Some syscall.Kill) call rules there =
-    comes_moved w _ pid q (over_changes Moves moves w 0 (after_kill w pid (signed call 0) (low call 1)) (over_kill Moves moves w pid (signed call 0) (low call 1)) q)
-comes_row images w pid q (Some syscall.Getuid) call rules there = comes_moved w w pid q (moved_still w q)
-comes_row images w pid q (Some syscall.Geteuid) call rules there = comes_moved w w pid q (moved_still w q)
-comes_row images w pid q (Some syscall.Setuid) call rules there = comes_moved w _ pid q (moved_authorises w pid (authorised images w pid syscall.Setuid call) q)
-comes_row images w pid q (Some syscall.Setresuid) call rules there = comes_moved w _ pid q (moved_authorises w pid (authorised images w pid syscall.Setresuid call) q)
-comes_row images w pid q (Some syscall.Getresuid) call rules there = comes_moved w w pid q (moved_still w q)
-comes_row images w pid q (Some syscall.Setpgid) call rules there =
+comes_row : (images : GivenImages) (w : World) (pid q : ℕ) (body : Body) (which : Option Syscall) (call : Record) → IsWorld w → IsTrue (is_some (at w pid)) → RowComes w pid q which (row images w pid body which call)
+comes_row images w pid q body (Some syscall.RtSigaction) call rules there = comes_moved w _ pid q (over_resignals Moves moves w pid (after_sigaction pid call body.signals) q)
+comes_row images w pid q body (Some syscall.RtSigprocmask) call rules there = comes_moved w _ pid q (over_resignals Moves moves w pid (after_sigprocmask call body.signals) q)
+comes_row images w pid q body (Some syscall.RtSigreturn) call rules there =
+    comes_moved w _ pid q (over_resignals Moves moves w pid (after_sigreturn body.signals.frames body.signals) q)
+comes_row images w pid q body (Some syscall.RtSigpending) call rules there = comes_moved w w pid q (moved_still w q)
+comes_row images w pid q body (Some syscall.SchedYield) call rules there = comes_moved w w pid q (moved_still w q)
+comes_row images w pid q body (Some syscall.Pause) call rules there = comes_moved w _ pid q (over_waits Moves moves w pid waiting.Pause q)
+comes_row images w pid q body (Some syscall.Getpid) call rules there = comes_moved w w pid q (moved_still w q)
+comes_row images w pid q body (Some syscall.Getppid) call rules there = comes_moved w w pid q (moved_still w q)
+comes_row images w pid q body (Some syscall.Fork) call rules there = comes_fork w pid q (has_room w) refl rules there
+comes_row images w pid q body (Some syscall.Execve) call rules there = comes_moved w _ pid q (moved_execve w pid (authorised images body syscall.Execve call) q)
+comes_row images w pid q body (Some syscall.Exit) call rules there = comes_moved w _ pid q (over_end Moves moves w pid (exit_status (low call 0)) there q)
+comes_row images w pid q body (Some syscall.ExitGroup) call rules there = comes_moved w _ pid q (over_end Moves moves w pid (exit_status (low call 0)) there q)
+comes_row images w pid q body (Some syscall.Wait4) call rules there = comes_moved w _ pid q (over_wait4 Moves moves w pid call q)
+comes_row images w pid q body (Some syscall.Kill) call rules there =
+    comes_moved w _ pid q (over_changes Moves moves w 0 (after_kill w pid body.creds (signed call 0) (low call 1)) (over_kill Moves moves w pid body.creds (signed call 0) (low call 1)) q)
+comes_row images w pid q body (Some syscall.Getuid) call rules there = comes_moved w w pid q (moved_still w q)
+comes_row images w pid q body (Some syscall.Geteuid) call rules there = comes_moved w w pid q (moved_still w q)
+comes_row images w pid q body (Some syscall.Setuid) call rules there = comes_moved w _ pid q (moved_authorises w pid (authorised images body syscall.Setuid call) q)
+comes_row images w pid q body (Some syscall.Setresuid) call rules there = comes_moved w _ pid q (moved_authorises w pid (authorised images body syscall.Setresuid call) q)
+comes_row images w pid q body (Some syscall.Getresuid) call rules there = comes_moved w w pid q (moved_still w q)
+comes_row images w pid q body (Some syscall.Setpgid) call rules there =
     comes_moved w _ pid q (over_changes Moves moves w 0 (after_setpgid w pid (signed call 0) (signed call 1)) (over_setpgid Moves moves w pid (signed call 0) (signed call 1)) q)
-comes_row images w pid q (Some syscall.Getpgrp) call rules there = comes_moved w w pid q (moved_still w q)
-comes_row images w pid q (Some syscall.Setsid) call rules there = comes_moved w _ pid q (over_changes Moves moves w pid (after_setsid w pid) (over_setsid Moves moves w pid) q)
-comes_row images w pid q (Some syscall.Getpgid) call rules there = comes_moved w _ pid q (over_asked Moves moves w (group_asked w pid (signed call 0)) q)
-comes_row images w pid q (Some syscall.Getsid) call rules there = comes_moved w _ pid q (over_asked Moves moves w (session_asked w pid (signed call 0)) q)
-comes_row images w pid q (Some syscall.Prctl) call rules there = comes_moved w _ pid q (moved_prctl images w pid (prctl_option_of (low call 0)) call q)
-comes_row images w pid q (Some syscall.Seccomp) call rules there = comes_moved w _ pid q (moved_seccomp images w pid (seccomp_operation_of (low call 0)) call q)
-comes_row images w pid q None call rules there = comes_moved w w pid q (moved_still w q)
+comes_row images w pid q body (Some syscall.Getpgrp) call rules there = comes_moved w w pid q (moved_still w q)
+comes_row images w pid q body (Some syscall.Setsid) call rules there = comes_moved w _ pid q (over_changes Moves moves w pid (after_setsid w pid) (over_setsid Moves moves w pid) q)
+comes_row images w pid q body (Some syscall.Getpgid) call rules there = comes_moved w _ pid q (over_asked Moves moves w (group_asked w pid (signed call 0)) q)
+comes_row images w pid q body (Some syscall.Getsid) call rules there = comes_moved w _ pid q (over_asked Moves moves w (session_asked w pid (signed call 0)) q)
+comes_row images w pid q body (Some syscall.Prctl) call rules there = comes_moved w _ pid q (moved_prctl images w pid body (prctl_option_of (low call 0)) call q)
+comes_row images w pid q body (Some syscall.Seccomp) call rules there = comes_moved w _ pid q (moved_seccomp images w pid body (seccomp_operation_of (low call 0)) call q)
+comes_row images w pid q body None call rules there = comes_moved w w pid q (moved_still w q)
 
 -- ---- events
 abbrev CallComes : World → ℕ → ℕ → Option Record → Performed → Type 0
 CallComes w pid q o p = Comes w p.world pid q (is_fork o && has_returned q p.outcome)
 
-comes_performed : (images : GivenImages) (w : World) (pid q : ℕ) (call : Record) → IsWorld w → IsTrue (is_some (at w pid)) → CallComes w pid q (Some call) (row images w pid (syscall_of call.nr) call)
-comes_performed images w pid q call rules there =
-    let p : Performed = row images w pid (syscall_of call.nr) call in
-    subst (λ b. Comes w p.world pid q (b && has_returned q p.outcome)) (fork_number call.nr) (comes_row images w pid q (syscall_of call.nr) call rules there)
+comes_performed : (images : GivenImages) (w : World) (pid q : ℕ) (body : Body) (call : Record) → IsWorld w → IsTrue (is_some (at w pid)) → CallComes w pid q (Some call) (row images w pid body (syscall_of call.nr) call)
+comes_performed images w pid q body call rules there =
+    let p : Performed = row images w pid body (syscall_of call.nr) call in
+    subst (λ b. Comes w p.world pid q (b && has_returned q p.outcome)) (fork_number call.nr) (comes_row images w pid q body (syscall_of call.nr) call rules there)
 
-comes_judged : (images : GivenImages) (w : World) (pid q : ℕ) (call : Record) (verdict : ℕ) (a : Action) → IsWorld w → IsTrue (is_some (at w pid))
-    → CallComes w pid q (cond (performs a) (Some call) None) (judged images w pid call verdict a)
-comes_judged images w pid q call verdict action.Allow rules there = comes_performed images w pid q call rules there
-comes_judged images w pid q call verdict action.Log rules there = comes_performed images w pid q call rules there
-comes_judged images w pid q call verdict action.Trap rules there = comes_moved w (forced w pid) pid q (moved_changed w pid (λ body. record body { signals = sigsys_forced body.signals }) q)
-comes_judged images w pid q call verdict action.Errno rules there = comes_moved w w pid q (moved_still w q)
-comes_judged images w pid q call verdict action.UserNotif rules there = comes_moved w w pid q (moved_still w q)
-comes_judged images w pid q call verdict action.Trace rules there = comes_moved w w pid q (moved_still w q)
-comes_judged images w pid q call verdict action.KillProcess rules there = comes_moved w _ pid q (over_end Moves moves w pid SIGSYS there q)
-comes_judged images w pid q call verdict action.KillThread rules there = comes_moved w _ pid q (over_end Moves moves w pid SIGSYS there q)
-comes_judged images w pid q call verdict action.Unknown rules there = comes_moved w _ pid q (over_end Moves moves w pid SIGSYS there q)
+comes_judged : (images : GivenImages) (w : World) (pid q : ℕ) (body : Body) (call : Record) (verdict : ℕ) (a : Action) → IsWorld w → IsTrue (is_some (at w pid))
+    → CallComes w pid q (cond (performs a) (Some call) None) (judged images w pid body call verdict a)
+comes_judged images w pid q body call verdict action.Allow rules there = comes_performed images w pid q body call rules there
+comes_judged images w pid q body call verdict action.Log rules there = comes_performed images w pid q body call rules there
+comes_judged images w pid q body call verdict action.Trap rules there = comes_moved w (forced w pid) pid q (moved_changed w pid (λ body. record body { signals = sigsys_forced body.signals }) q)
+comes_judged images w pid q body call verdict action.Errno rules there = comes_moved w w pid q (moved_still w q)
+comes_judged images w pid q body call verdict action.UserNotif rules there = comes_moved w w pid q (moved_still w q)
+comes_judged images w pid q body call verdict action.Trace rules there = comes_moved w w pid q (moved_still w q)
+comes_judged images w pid q body call verdict action.KillProcess rules there = comes_moved w _ pid q (over_end Moves moves w pid SIGSYS there q)
+comes_judged images w pid q body call verdict action.KillThread rules there = comes_moved w _ pid q (over_end Moves moves w pid SIGSYS there q)
+comes_judged images w pid q body call verdict action.Unknown rules there = comes_moved w _ pid q (over_end Moves moves w pid SIGSYS there q)
 
 abbrev EventComes : World → Event → Stepped → ℕ → Type 0
 EventComes w event s q = Comes w s.world (pid_of event) q (is_fork_of q (event, s.answer))
 
-comes_happened : (images : GivenImages) (w : World) (event : Event) (q : ℕ) → IsWorld w → IsTrue (is_some (at w (pid_of event))) → EventComes w event (happened images w event) q
-comes_happened images w (Call pid ip nr args) q rules there =
+comes_happened : (images : GivenImages) (w : World) (body : Body) (event : Event) (q : ℕ) → IsWorld w → IsTrue (is_some (at w (pid_of event))) → EventComes w event (happened images w body event) q
+comes_happened images w body (Call pid ip nr args) q rules there =
     let call : Record = record { nr = nr; ip = ip; args = args } in
-    let verdict : ℕ = verdict_of (body_of (at w pid)).chain call in
-    comes_judged images w pid q call verdict (action_of verdict) rules there
-comes_happened images w (Deliver pid) q rules there = comes_moved w _ pid q (over_delivered Moves moves w pid (unwrap_or (signal_due (at w pid)) 0) there q)
-comes_happened images w (Resume pid) q rules there = comes_moved w _ pid q (over_resumed Moves moves w pid (body_of (at w pid)).waiting q)
-comes_happened images w (Fault pid) q rules there = comes_moved w _ pid q (over_end Moves moves w pid SIGSEGV there q)
-
-comes_stepped : (images : GivenImages) (w : World) (event : Event) (o : Option Reason) (q : ℕ) → reason_of w event ≡ o → IsWorld w → EventComes w event (stepped images w event o) q
-comes_stepped images w event (Some reason) q is rules = comes_moved w w (pid_of event) q (moved_still w q)
-comes_stepped images w event None q is rules = comes_happened images w event q rules (alive_is_there (at w (pid_of event)) (possible_is_alive w event is))
+    let verdict : ℕ = verdict_of body.chain call in
+    comes_judged images w pid q body call verdict (action_of verdict) rules there
+comes_happened images w body (Deliver pid) q rules there = comes_moved w _ pid q (over_delivered Moves moves w pid body (unwrap_or (signal_for body) 0) there q)
+comes_happened images w body (Resume pid) q rules there = comes_moved w _ pid q (over_resumed Moves moves w pid body.waiting q)
+comes_happened images w body (Fault pid) q rules there = comes_moved w _ pid q (over_end Moves moves w pid SIGSEGV there q)
 
 comes_step : (images : GivenImages) (w : World) (event : Event) (q : ℕ) → IsWorld w → EventComes w event (step_of images w event) q
-unfolding step_of
-comes_step images w event q rules = comes_stepped images w event (reason_of w event) q refl rules
+comes_step images w event q rules =
+    at_step images w event (λ s. EventComes w event s q) (λ _ _. comes_moved w w (pid_of event) q (moved_still w q))
+    (λ p there alive. comes_happened images w p.body event q rules (alive_is_there (at w (pid_of event)) alive))
 
 -- ---- confinement stays
 -- a filter more takes no precedence away

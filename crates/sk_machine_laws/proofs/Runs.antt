@@ -6,9 +6,8 @@ use Rattle.std.proofs.lemmas.List.{reverse-append}
 use Rattle.sk_world.specs.World.{World, at}
 use Rattle.sk_machine.specs.declared.event.Event.{Event}
 use Rattle.sk_machine.specs.Given.{GivenImages}
-use Rattle.sk_machine.specs.Performed.{authority_at}
 use Rattle.sk_machine.specs.Machine.{step_of, answers_of, world_after}
-use Rattle.sk_machine.specs.Lines.{Line, Happening, history_after}
+use Rattle.sk_machine.specs.Lines.{Line, Happening, history_after, authority_at}
 use Rattle.sk_machine_laws.specs.LineLaws.{line_after, GrowsFrom}
 use Rattle.sk_machine_laws.specs.RunLaws.{RunsAreLawful}
 use Rattle.sk_machine_laws.proofs.KeptEvents.{kept_run}

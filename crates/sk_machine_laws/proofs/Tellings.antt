@@ -34,7 +34,6 @@ use Rattle.sk_world.proofs.Telling.{ready_lowest}
 use Rattle.sk_session.specs.Sessions.{after_setpgid, after_setsid, group_asked, session_asked}
 use Rattle.sk_machine.specs.declared.event.Event.{Event}
 use Rattle.sk_machine.specs.declared.event.Event.TheVariants.{Call, Deliver, Resume, Fault}
-use Rattle.sk_machine.specs.declared.answer.Reason.{Reason}
 use Rattle.sk_machine.specs.declared.operation.PrctlOption.{PrctlOption}
 use Rattle.sk_machine.specs.declared.operation.PrctlOption.TheVariants as option
 use Rattle.sk_machine.specs.declared.operation.SeccompOperation.{SeccompOperation}
@@ -45,17 +44,18 @@ use Rattle.sk_machine.specs.Events.{pid_of}
 use Rattle.sk_machine.specs.Given.{GivenImages}
 use Rattle.sk_calls.specs.Syscalls.{syscall_of}
 use Rattle.sk_machine.specs.Arguments.{low, signed, prctl_option_of, seccomp_operation_of}
-use Rattle.sk_machine.specs.Authority.{Authority, after_no_new_privs, after_set_seccomp, after_set_mode_filter}
-use Rattle.sk_machine.specs.Performed.{Performed, body_of, returns, fails, asked, changes, authority_at, authorises, waiting_in, waits}
+use Rattle.sk_machine.specs.Authority.{Authority, authority_of, after_prctl, after_seccomp}
+use Rattle.sk_machine.specs.Performed.{Performed, returns, fails, asked, changes, authorises, waiting_in, waits}
 use Rattle.sk_machine.specs.SignalCalls.{resignals, after_sigaction, after_sigprocmask, after_sigreturn}
 use Rattle.sk_machine.specs.Killing.{after_kill}
 use Rattle.sk_machine.specs.WaitCalls.{are_wait_options, request_of, polled, wait4, polled_again, resumed}
 use Rattle.sk_machine.specs.Performing.{execve, forks, authorised, no_new_privs_asked, subreaper_set, subreaper_asked, where_subreapers, prctl, action_available, seccomp, row}
-use Rattle.sk_machine.specs.Machine.{judged, reason_of, stepped, step_of, world_after}
+use Rattle.sk_machine.specs.Machine.{judged, step_of, world_after, Stepped, happened}
 use Rattle.sk_machine.specs.Lines.{Happening, is_fork_of, line_before, history_after}
 use Rattle.sk_machine_laws.specs.LineLaws.{happening}
 use Rattle.sk_machine_laws.specs.TellingLaws.{told_in, told_by, IsEnd, HasEndedUnder, EndIsToldToParent, EndIsToldOnce}
 use Rattle.sk_machine_laws.proofs.LineSteps.{event_changes_authority}
+use Rattle.sk_machine_laws.proofs.Happened.{at_step}
 
 -- what a search tells
 found_status : (o : Option ℕ) (status_at : ℕ → ℕ) (b : Bool) (child status : ℕ)
@@ -182,60 +182,59 @@ tells_subreapers : (there : Bool) (w : World) (pid : ℕ) (p : Performed) → Te
 tells_subreapers true w pid p right = right
 tells_subreapers false w pid p right = λ child status is. nothing_told w w pid child status is
 
-tells_prctl : (images : GivenImages) (w : World) (pid : ℕ) (which : Option PrctlOption) (call : Record) → TellsRight w pid (prctl images w pid which call)
-tells_prctl images w pid (Some option.SetNoNewPrivs) call = tells_authorises w pid (after_no_new_privs call (authority_at w pid))
-tells_prctl images w pid (Some option.SetSeccomp) call = tells_authorises w pid (after_set_seccomp images call (authority_at w pid))
-tells_prctl images w pid (Some option.GetSeccomp) call = λ child status is. nothing_told w _ pid child status is
-tells_prctl images w pid (Some option.GetNoNewPrivs) call = tells_asked w pid (no_new_privs_asked call (body_of (at w pid)).creds.no_new_privs)
-tells_prctl images w pid (Some option.SetChildSubreaper) call = tells_subreapers images.subreapers w pid (subreaper_set w pid call) (λ child status is. nothing_told w _ pid child status is)
-tells_prctl images w pid (Some option.GetChildSubreaper) call = tells_subreapers images.subreapers w pid (subreaper_asked w pid) (λ child status is. nothing_told w _ pid child status is)
-tells_prctl images w pid None call = λ child status is. nothing_told w _ pid child status is
+tells_prctl : (images : GivenImages) (w : World) (pid : ℕ) (body : Body) (which : Option PrctlOption) (call : Record) → TellsRight w pid (prctl images w pid body which call)
+tells_prctl images w pid body (Some option.GetSeccomp) call = λ child status is. nothing_told w _ pid child status is
+tells_prctl images w pid body (Some option.GetNoNewPrivs) call = tells_asked w pid (no_new_privs_asked call body.creds.no_new_privs)
+tells_prctl images w pid body (Some option.SetChildSubreaper) call = tells_subreapers images.subreapers w pid (subreaper_set w pid call) (λ child status is. nothing_told w _ pid child status is)
+tells_prctl images w pid body (Some option.GetChildSubreaper) call = tells_subreapers images.subreapers w pid (subreaper_asked w body.subreaper) (λ child status is. nothing_told w _ pid child status is)
+tells_prctl images w pid body None call = λ child status is. nothing_told w _ pid child status is
+tells_prctl images w pid body setting call = tells_authorises w pid (after_prctl images setting call (authority_of body))
 
-tells_seccomp : (images : GivenImages) (w : World) (pid : ℕ) (which : Option SeccompOperation) (call : Record) → TellsRight w pid (seccomp images w pid which call)
-tells_seccomp images w pid (Some operation.SetModeFilter) call = tells_authorises w pid (after_set_mode_filter images call (authority_at w pid))
-tells_seccomp images w pid (Some operation.GetActionAvail) call = tells_asked w pid (action_available (low call 1) (low call 2))
-tells_seccomp images w pid None call = λ child status is. nothing_told w _ pid child status is
+tells_seccomp : (images : GivenImages) (w : World) (pid : ℕ) (body : Body) (which : Option SeccompOperation) (call : Record) → TellsRight w pid (seccomp images w pid body which call)
+tells_seccomp images w pid body (Some operation.GetActionAvail) call = tells_asked w pid (action_available (low call 1) (low call 2))
+tells_seccomp images w pid body None call = λ child status is. nothing_told w _ pid child status is
+tells_seccomp images w pid body setting call = tells_authorises w pid (after_seccomp images setting call (authority_of body))
 
-tells_row : (images : GivenImages) (w : World) (pid : ℕ) (which : Option Syscall) (call : Record) → TellsRight w pid (row images w pid which call)
-tells_row images w pid (Some syscall.RtSigaction) call = tells_resignals w pid (after_sigaction pid call (body_of (at w pid)).signals)
-tells_row images w pid (Some syscall.RtSigprocmask) call = tells_resignals w pid (after_sigprocmask call (body_of (at w pid)).signals)
-tells_row images w pid (Some syscall.RtSigreturn) call =
-    tells_resignals w pid (after_sigreturn (body_of (at w pid)).signals.frames (body_of (at w pid)).signals)
-tells_row images w pid (Some syscall.RtSigpending) call = λ child status is. nothing_told w _ pid child status is
-tells_row images w pid (Some syscall.SchedYield) call = λ child status is. nothing_told w _ pid child status is
-tells_row images w pid (Some syscall.Pause) call = λ child status is. nothing_told w _ pid child status is
-tells_row images w pid (Some syscall.Getpid) call = λ child status is. nothing_told w _ pid child status is
-tells_row images w pid (Some syscall.Getppid) call = λ child status is. nothing_told w _ pid child status is
-tells_row images w pid (Some syscall.Fork) call = tells_forks w pid (fork_answer w)
-tells_row images w pid (Some syscall.Execve) call = tells_execve w pid (authorised images w pid syscall.Execve call)
-tells_row images w pid (Some syscall.Exit) call = λ child status is. nothing_told w _ pid child status is
-tells_row images w pid (Some syscall.ExitGroup) call = λ child status is. nothing_told w _ pid child status is
-tells_row images w pid (Some syscall.Wait4) call = tells_wait4 w pid call
-tells_row images w pid (Some syscall.Kill) call = tells_changes w pid 0 (after_kill w pid (signed call 0) (low call 1))
-tells_row images w pid (Some syscall.Getuid) call = λ child status is. nothing_told w _ pid child status is
-tells_row images w pid (Some syscall.Geteuid) call = λ child status is. nothing_told w _ pid child status is
-tells_row images w pid (Some syscall.Setuid) call = tells_authorises w pid (authorised images w pid syscall.Setuid call)
-tells_row images w pid (Some syscall.Setresuid) call = tells_authorises w pid (authorised images w pid syscall.Setresuid call)
-tells_row images w pid (Some syscall.Getresuid) call = λ child status is. nothing_told w _ pid child status is
-tells_row images w pid (Some syscall.Setpgid) call = tells_changes w pid 0 (after_setpgid w pid (signed call 0) (signed call 1))
-tells_row images w pid (Some syscall.Getpgrp) call = λ child status is. nothing_told w _ pid child status is
-tells_row images w pid (Some syscall.Setsid) call = tells_changes w pid pid (after_setsid w pid)
-tells_row images w pid (Some syscall.Getpgid) call = tells_asked w pid (group_asked w pid (signed call 0))
-tells_row images w pid (Some syscall.Getsid) call = tells_asked w pid (session_asked w pid (signed call 0))
-tells_row images w pid (Some syscall.Prctl) call = tells_prctl images w pid (prctl_option_of (low call 0)) call
-tells_row images w pid (Some syscall.Seccomp) call = tells_seccomp images w pid (seccomp_operation_of (low call 0)) call
-tells_row images w pid None call = λ child status is. nothing_told w _ pid child status is
+tells_row : (images : GivenImages) (w : World) (pid : ℕ) (body : Body) (which : Option Syscall) (call : Record) → TellsRight w pid (row images w pid body which call)
+tells_row images w pid body (Some syscall.RtSigaction) call = tells_resignals w pid (after_sigaction pid call body.signals)
+tells_row images w pid body (Some syscall.RtSigprocmask) call = tells_resignals w pid (after_sigprocmask call body.signals)
+tells_row images w pid body (Some syscall.RtSigreturn) call =
+    tells_resignals w pid (after_sigreturn body.signals.frames body.signals)
+tells_row images w pid body (Some syscall.RtSigpending) call = λ child status is. nothing_told w _ pid child status is
+tells_row images w pid body (Some syscall.SchedYield) call = λ child status is. nothing_told w _ pid child status is
+tells_row images w pid body (Some syscall.Pause) call = λ child status is. nothing_told w _ pid child status is
+tells_row images w pid body (Some syscall.Getpid) call = λ child status is. nothing_told w _ pid child status is
+tells_row images w pid body (Some syscall.Getppid) call = λ child status is. nothing_told w _ pid child status is
+tells_row images w pid body (Some syscall.Fork) call = tells_forks w pid (fork_answer w)
+tells_row images w pid body (Some syscall.Execve) call = tells_execve w pid (authorised images body syscall.Execve call)
+tells_row images w pid body (Some syscall.Exit) call = λ child status is. nothing_told w _ pid child status is
+tells_row images w pid body (Some syscall.ExitGroup) call = λ child status is. nothing_told w _ pid child status is
+tells_row images w pid body (Some syscall.Wait4) call = tells_wait4 w pid call
+tells_row images w pid body (Some syscall.Kill) call = tells_changes w pid 0 (after_kill w pid body.creds (signed call 0) (low call 1))
+tells_row images w pid body (Some syscall.Getuid) call = λ child status is. nothing_told w _ pid child status is
+tells_row images w pid body (Some syscall.Geteuid) call = λ child status is. nothing_told w _ pid child status is
+tells_row images w pid body (Some syscall.Setuid) call = tells_authorises w pid (authorised images body syscall.Setuid call)
+tells_row images w pid body (Some syscall.Setresuid) call = tells_authorises w pid (authorised images body syscall.Setresuid call)
+tells_row images w pid body (Some syscall.Getresuid) call = λ child status is. nothing_told w _ pid child status is
+tells_row images w pid body (Some syscall.Setpgid) call = tells_changes w pid 0 (after_setpgid w pid (signed call 0) (signed call 1))
+tells_row images w pid body (Some syscall.Getpgrp) call = λ child status is. nothing_told w _ pid child status is
+tells_row images w pid body (Some syscall.Setsid) call = tells_changes w pid pid (after_setsid w pid)
+tells_row images w pid body (Some syscall.Getpgid) call = tells_asked w pid (group_asked w pid (signed call 0))
+tells_row images w pid body (Some syscall.Getsid) call = tells_asked w pid (session_asked w pid (signed call 0))
+tells_row images w pid body (Some syscall.Prctl) call = tells_prctl images w pid body (prctl_option_of (low call 0)) call
+tells_row images w pid body (Some syscall.Seccomp) call = tells_seccomp images w pid body (seccomp_operation_of (low call 0)) call
+tells_row images w pid body None call = λ child status is. nothing_told w _ pid child status is
 
-tells_judged : (images : GivenImages) (w : World) (pid : ℕ) (call : Record) (verdict : ℕ) (a : Action) → TellsRight w pid (judged images w pid call verdict a)
-tells_judged images w pid call verdict action.Allow = tells_row images w pid (syscall_of call.nr) call
-tells_judged images w pid call verdict action.Log = tells_row images w pid (syscall_of call.nr) call
-tells_judged images w pid call verdict action.Trap = λ child status is. nothing_told w _ pid child status is
-tells_judged images w pid call verdict action.Errno = λ child status is. nothing_told w _ pid child status is
-tells_judged images w pid call verdict action.UserNotif = λ child status is. nothing_told w _ pid child status is
-tells_judged images w pid call verdict action.Trace = λ child status is. nothing_told w _ pid child status is
-tells_judged images w pid call verdict action.KillProcess = λ child status is. nothing_told w _ pid child status is
-tells_judged images w pid call verdict action.KillThread = λ child status is. nothing_told w _ pid child status is
-tells_judged images w pid call verdict action.Unknown = λ child status is. nothing_told w _ pid child status is
+tells_judged : (images : GivenImages) (w : World) (pid : ℕ) (body : Body) (call : Record) (verdict : ℕ) (a : Action) → TellsRight w pid (judged images w pid body call verdict a)
+tells_judged images w pid body call verdict action.Allow = tells_row images w pid body (syscall_of call.nr) call
+tells_judged images w pid body call verdict action.Log = tells_row images w pid body (syscall_of call.nr) call
+tells_judged images w pid body call verdict action.Trap = λ child status is. nothing_told w _ pid child status is
+tells_judged images w pid body call verdict action.Errno = λ child status is. nothing_told w _ pid child status is
+tells_judged images w pid body call verdict action.UserNotif = λ child status is. nothing_told w _ pid child status is
+tells_judged images w pid body call verdict action.Trace = λ child status is. nothing_told w _ pid child status is
+tells_judged images w pid body call verdict action.KillProcess = λ child status is. nothing_told w _ pid child status is
+tells_judged images w pid body call verdict action.KillThread = λ child status is. nothing_told w _ pid child status is
+tells_judged images w pid body call verdict action.Unknown = λ child status is. nothing_told w _ pid child status is
 
 still_gone : (w : World) (pid k : ℕ) (f : Body → Body) → at w k ≡ None → at (changed w pid f) k ≡ None
 still_gone w pid k f gone =
@@ -262,21 +261,23 @@ tells_resumed w pid (waiting.Asks request) = tells_again w pid request (ready_of
 tells_resumed w pid waiting.Pause = λ child status is. nothing_told w _ pid child status is
 tells_resumed w pid waiting.Nothing = λ child status is. nothing_told w _ pid child status is
 
-tells_stepped : (images : GivenImages) (w : World) (event : Event) (o : Option Reason) (child status : ℕ) → told_by (stepped images w event o).answer ≡ Some (child, status)
-    → IsTold w (stepped images w event o).world (pid_of event) child status
-tells_stepped images w event (Some reason) child status is = nothing_told w _ (pid_of event) child status is
-tells_stepped images w (Call pid ip nr args) None child status is =
-    let call : Record = record { nr = nr; ip = ip; args = args } in
-    let verdict : ℕ = verdict_of (body_of (at w pid)).chain call in
-    tells_judged images w pid call verdict (action_of verdict) child status is
-tells_stepped images w (Deliver pid) None child status is = nothing_told w _ pid child status is
-tells_stepped images w (Resume pid) None child status is = tells_resumed w pid (body_of (at w pid)).waiting child status is
-tells_stepped images w (Fault pid) None child status is = nothing_told w _ pid child status is
+-- what is told by what a step comes to
+abbrev StepTells : World → ℕ → Stepped → Type 0
+StepTells w pid s = (child status : ℕ) → told_by s.answer ≡ Some (child, status) → IsTold w s.world pid child status
 
-tells_step : (images : GivenImages) (w : World) (event : Event) (child status : ℕ) → told_by (step_of images w event).answer ≡ Some (child, status)
-    → IsTold w (step_of images w event).world (pid_of event) child status
-unfolding step_of
-tells_step images w event child status is = tells_stepped images w event (reason_of w event) child status is
+tells_happened : (images : GivenImages) (w : World) (body : Body) (event : Event) → StepTells w (pid_of event) (happened images w body event)
+tells_happened images w body (Call pid ip nr args) child status is =
+    let call : Record = record { nr = nr; ip = ip; args = args } in
+    let verdict : ℕ = verdict_of body.chain call in
+    tells_judged images w pid body call verdict (action_of verdict) child status is
+tells_happened images w body (Deliver pid) child status is = nothing_told w _ pid child status is
+tells_happened images w body (Resume pid) child status is = tells_resumed w pid body.waiting child status is
+tells_happened images w body (Fault pid) child status is = nothing_told w _ pid child status is
+
+tells_step : (images : GivenImages) (w : World) (event : Event) → StepTells w (pid_of event) (step_of images w event)
+tells_step images w event =
+    at_step images w event (StepTells w (pid_of event)) (λ _ _ child status is. nothing_told w _ (pid_of event) child status is)
+    (λ p there alive. tells_happened images w p.body event)
 
 pub end_is_told_to_parent : EndIsToldToParent
 end_is_told_to_parent images w event child status is low =

@@ -25,21 +25,16 @@ use Rattle.sk_machine.specs.declared.answer.Reason.{Reason}
 use Rattle.sk_machine.specs.declared.answer.Reason.TheVariants as reason
 use Rattle.sk_machine.specs.Events.{pid_of}
 use Rattle.sk_machine.specs.Given.{GivenImages}
-use Rattle.sk_machine.specs.Performed.{body_of}
 use Rattle.sk_machine.specs.WaitCalls.{polled_again, resumed}
-use Rattle.sk_machine.specs.Delivering.{signal_due, is_waiting}
-use Rattle.sk_machine.specs.Machine.{Stepped, resume_answered, call_reason, own_reason, is_kill, reason_of, stepped, step_of, world_after}
-use Rattle.sk_machine.specs.Turns.{wait_ends, is_runnable, need_of, need_met_by}
+use Rattle.sk_machine.specs.Delivering.{signal_due, is_waiting, is_in_call}
+use Rattle.sk_machine.specs.Machine.{Stepped, resume_answered, call_reason, own_reason, is_kill, reason_of, stepped, step_of, world_after, happened_to}
+use Rattle.sk_machine.specs.Turns.{wait_ends, is_runnable, need_of, need_met_by, goes_on}
 use Rattle.sk_machine_laws.specs.TurnLaws.{IsTurn, NextIsTurn, NobodysTurn, RunnableHasEvent, IdleDoesNothing, EndIsFinal}
-
--- the call that the process of a pid waits in would end now, or it waits in none
-abbrev would_end : World → ℕ → Bool
-would_end w pid = wait_ends w pid (body_of (at w pid)).waiting
 
 -- ---- whose turn it is
 runs_there : (w : World) (k : ℕ) → IsTrue (is_runnable w k) → IsTrue (is_some (at w k))
 runs_there w k runs =
-    let both = and_parts (not (is_halted w) && is_alive (at w k)) (is_some (signal_due (at w k)) || (not (is_stopped (at w k)) && would_end w k)) runs in
+    let both = and_parts (not (is_halted w) && is_alive (at w k)) (is_some (signal_due (at w k)) || (not (is_stopped (at w k)) && goes_on w k (at w k))) runs in
     alive_is_there (at w k) (and_parts (not (is_halted w)) (is_alive (at w k)) both.0).1
 
 left_fails : (a b : Bool) → (a && b) ≡ false → b ≡ true → a ≡ false
@@ -118,17 +113,17 @@ delivery_meets false true waits end_of_caller runs = absurd (false≢true runs)
 delivery_meets false false true end_of_caller runs = (λ is. cc, λ is. cc)
 delivery_meets false false false end_of_caller runs = (λ is. cc, λ is. cc)
 
-own_meets : (w : World) (event : Event) → IsTrue (is_some (signal_due (at w (pid_of event))) || (not (is_stopped (at w (pid_of event))) && would_end w (pid_of event)))
+own_meets : (w : World) (event : Event) → IsTrue (is_some (signal_due (at w (pid_of event))) || (not (is_stopped (at w (pid_of event))) && goes_on w (pid_of event) (at w (pid_of event))))
     → (own (is_stopped (at w (pid_of event)) && not (is_kill w event)) (own_reason w event) ≡ None) ↔ (need_met_by event ≡ need_of w (pid_of event))
-own_meets w (Call pid ip nr args) runs = call_meets (is_some (signal_due (at w pid))) (is_stopped (at w pid)) (is_waiting (body_of (at w pid)).waiting) (would_end w pid) runs
-own_meets w (Deliver pid) runs = delivery_meets (is_some (signal_due (at w pid))) (is_stopped (at w pid)) (is_waiting (body_of (at w pid)).waiting) (would_end w pid) runs
-own_meets w (Resume pid) runs = resumption_meets (is_some (signal_due (at w pid))) (is_stopped (at w pid)) (is_waiting (body_of (at w pid)).waiting) (would_end w pid) runs
-own_meets w (Fault pid) runs = call_meets (is_some (signal_due (at w pid))) (is_stopped (at w pid)) (is_waiting (body_of (at w pid)).waiting) (would_end w pid) runs
+own_meets w (Call pid ip nr args) runs = call_meets (is_some (signal_due (at w pid))) (is_stopped (at w pid)) (is_in_call (at w pid)) (goes_on w pid (at w pid)) runs
+own_meets w (Deliver pid) runs = delivery_meets (is_some (signal_due (at w pid))) (is_stopped (at w pid)) (is_in_call (at w pid)) (goes_on w pid (at w pid)) runs
+own_meets w (Resume pid) runs = resumption_meets (is_some (signal_due (at w pid))) (is_stopped (at w pid)) (is_in_call (at w pid)) (goes_on w pid (at w pid)) runs
+own_meets w (Fault pid) runs = call_meets (is_some (signal_due (at w pid))) (is_stopped (at w pid)) (is_in_call (at w pid)) (goes_on w pid (at w pid)) runs
 
 pub runnable_has_event : RunnableHasEvent
 runnable_has_event w event runs =
     let o : Option Proc = at w (pid_of event) in
-    let both = and_parts (not (is_halted w) && is_alive o) (is_some (signal_due o) || (not (is_stopped o) && would_end w (pid_of event))) runs in
+    let both = and_parts (not (is_halted w) && is_alive o) (is_some (signal_due o) || (not (is_stopped o) && goes_on w (pid_of event) (at w (pid_of event)))) runs in
     let lives = and_parts (not (is_halted w)) (is_alive o) both.0 in
     let last : Option Reason = own (is_stopped o && not (is_kill w event)) (own_reason w event) in
     subst (λ r. (r ≡ None) ↔ (need_met_by event ≡ need_of w (pid_of event)))
@@ -143,11 +138,11 @@ none_found p (x ∷ xs) none =
     ap (λ b. cond b (Some x) (find p xs)) both.0 ∙ none_found p xs both.1
 
 -- a call that would not end goes on waiting
-goes_on : (w : World) (pid : ℕ) (what : Waiting) → wait_ends w pid what ≡ false → resumed w pid what ≡ record { outcome = Waits; world = w }
+keeps_waiting : (w : World) (pid : ℕ) (what : Waiting) → wait_ends w pid what ≡ false → resumed w pid what ≡ record { outcome = Waits; world = w }
 unfolding by_first
-goes_on w pid waiting.Nothing waits = refl
-goes_on w pid waiting.Pause waits = refl
-goes_on w pid (waiting.Asks request) waits =
+keeps_waiting w pid waiting.Nothing waits = refl
+keeps_waiting w pid waiting.Pause waits = refl
+keeps_waiting w pid (waiting.Asks request) waits =
     let both = or_parts (list_any (is_ready w pid request) (pids w.procs)) (not (has_match w pid request)) waits in
     let answer : Option ℕ → Poll → Poll = λ o none. option_map_or (λ k. poll.Told k (unwrap_or (status_of request.options (at w k)) 0)) o none in
     ap (polled_again w pid) (ready_first w pid request)
@@ -155,10 +150,14 @@ goes_on w pid (waiting.Asks request) waits =
     ∙ ap (λ b. polled_again w pid (cond b poll.NotReady poll.NoMatch)) (not-false (has_match w pid request) both.1)
 
 -- one that waits in no call would go on
-runs_on : (w : World) (pid : ℕ) (what : Waiting) → is_waiting what ≡ false → wait_ends w pid what ≡ true
-runs_on w pid waiting.Nothing is = refl
-runs_on w pid waiting.Pause is = absurd (false≢true (sym is))
-runs_on w pid (waiting.Asks request) is = absurd (false≢true (sym is))
+waits_in_none : (w : World) (pid : ℕ) (what : Waiting) → is_waiting what ≡ false → wait_ends w pid what ≡ true
+waits_in_none w pid waiting.Nothing is = refl
+waits_in_none w pid waiting.Pause is = absurd (false≢true (sym is))
+waits_in_none w pid (waiting.Asks request) is = absurd (false≢true (sym is))
+
+runs_on : (w : World) (pid : ℕ) (o : Option Proc) → IsTrue (is_some o) → is_in_call o ≡ false → goes_on w pid o ≡ true
+runs_on w pid None there free = absurd (false≢true there)
+runs_on w pid (Some p) there free = waits_in_none w pid p.body.waiting free
 
 -- one that lives and cannot run has no signal due, and is stopped or goes on waiting
 idle_parts : (halted : Bool) (o : Option Proc) (b : Bool) → (not halted && is_alive o && b) ≡ false → halted ≡ false → not (is_some o) ≡ false → is_zombie o ≡ false → b ≡ false
@@ -175,27 +174,31 @@ idle_waits false false end_of_caller idle moves = idle
 abbrev Idles : GivenImages → World → Event → Option Reason → Type 0
 Idles images w event o = IsTrue (is_some o) ⊎ (stepped images w event o ≡ record { answer = Resumed Waits; world = w })
 
-idle_call : (images : GivenImages) (w : World) (pid : ℕ) (event : Event) → would_end w pid ≡ false → Idles images w event (call_reason w pid)
-idle_call images w pid event waits =
-    let what : Waiting = (body_of (at w pid)).waiting in
-    cond_both (is_waiting what) (Some reason.Waiting) _ (Idles images w event) (λ _. inl refl)
-    (λ free. absurd (false≢true (sym waits ∙ runs_on w pid what free)))
+idle_call : (images : GivenImages) (w : World) (pid : ℕ) (event : Event) → IsTrue (is_some (at w pid)) → goes_on w pid (at w pid) ≡ false → Idles images w event (call_reason w pid)
+idle_call images w pid event there waits =
+    cond_both (is_in_call (at w pid)) (Some reason.Waiting) _ (Idles images w event) (λ _. inl refl)
+    (λ free. absurd (false≢true (sym waits ∙ runs_on w pid (at w pid) there free)))
 
-idle_own : (images : GivenImages) (w : World) (event : Event) → (is_some (signal_due (at w (pid_of event))) || (not (is_stopped (at w (pid_of event))) && would_end w (pid_of event))) ≡ false
+-- one that asks again goes on waiting
+asks_again : (images : GivenImages) (w : World) (pid : ℕ) (o : Option Proc) → IsTrue (is_some o) → goes_on w pid o ≡ false
+    → happened_to images w (Resume pid) o ≡ record { answer = Resumed Waits; world = w }
+asks_again images w pid None there waits = absurd (false≢true there)
+asks_again images w pid (Some p) there waits = ap resume_answered (keeps_waiting w pid p.body.waiting waits)
+
+idle_own : (images : GivenImages) (w : World) (event : Event) → IsTrue (is_some (at w (pid_of event))) → (is_some (signal_due (at w (pid_of event))) || (not (is_stopped (at w (pid_of event))) && goes_on w (pid_of event) (at w (pid_of event)))) ≡ false
     → (is_stopped (at w (pid_of event)) && not (is_kill w event)) ≡ false → Idles images w event (own_reason w event)
-idle_own images w (Call pid ip nr args) idle moves =
-    idle_call images w pid (Call pid ip nr args) (idle_waits (is_some (signal_due (at w pid))) (is_stopped (at w pid)) (would_end w pid) idle moves)
-idle_own images w (Fault pid) idle moves =
-    idle_call images w pid (Fault pid) (idle_waits (is_some (signal_due (at w pid))) (is_stopped (at w pid)) (would_end w pid) idle moves)
-idle_own images w (Deliver pid) idle moves =
-    let quiet = (or_parts (is_some (signal_due (at w pid))) (not (is_stopped (at w pid)) && would_end w pid) idle).0 in
+idle_own images w (Call pid ip nr args) there idle moves =
+    idle_call images w pid (Call pid ip nr args) there (idle_waits (is_some (signal_due (at w pid))) (is_stopped (at w pid)) (goes_on w pid (at w pid)) idle moves)
+idle_own images w (Fault pid) there idle moves =
+    idle_call images w pid (Fault pid) there (idle_waits (is_some (signal_due (at w pid))) (is_stopped (at w pid)) (goes_on w pid (at w pid)) idle moves)
+idle_own images w (Deliver pid) there idle moves =
+    let quiet = (or_parts (is_some (signal_due (at w pid))) (not (is_stopped (at w pid)) && goes_on w pid (at w pid)) idle).0 in
     cond_both (is_some (signal_due (at w pid))) None (Some reason.NothingWaits) (Idles images w (Deliver pid)) (λ due. absurd (false≢true (sym quiet ∙ due))) (λ _. inl refl)
-idle_own images w (Resume pid) idle moves =
-    let what : Waiting = (body_of (at w pid)).waiting in
-    let waits : would_end w pid ≡ false = idle_waits (is_some (signal_due (at w pid))) (is_stopped (at w pid)) (would_end w pid) idle moves in
-    cond_both (not (is_waiting what)) (Some reason.NothingWaits) _ (Idles images w (Resume pid)) (λ _. inl refl)
+idle_own images w (Resume pid) there idle moves =
+    let waits : goes_on w pid (at w pid) ≡ false = idle_waits (is_some (signal_due (at w pid))) (is_stopped (at w pid)) (goes_on w pid (at w pid)) idle moves in
+    cond_both (not (is_in_call (at w pid))) (Some reason.NothingWaits) _ (Idles images w (Resume pid)) (λ _. inl refl)
     (λ _. cond_both (is_some (signal_due (at w pid))) (Some reason.SignalFirst) None (Idles images w (Resume pid)) (λ _. inl refl)
-    (λ _. inr (ap resume_answered (goes_on w pid what waits))))
+    (λ _. inr (asks_again images w pid (at w pid) there waits)))
 
 pub idle_does_nothing : IdleDoesNothing
 unfolding step_of
@@ -205,9 +208,9 @@ idle_does_nothing images w event idle =
     cond_both (is_halted w) (Some reason.Halted) _ P (λ _. inl refl) (λ going.
     cond_both (not (is_some o)) (Some reason.NoProcess) _ P (λ _. inl refl) (λ there.
     cond_both (is_zombie o) (Some reason.Zombie) _ P (λ _. inl refl) (λ living.
-    let quiet = idle_parts (is_halted w) o (is_some (signal_due o) || (not (is_stopped o) && would_end w (pid_of event))) idle going there living in
+    let quiet = idle_parts (is_halted w) o (is_some (signal_due o) || (not (is_stopped o) && goes_on w (pid_of event) (at w (pid_of event)))) idle going there living in
     cond_both (is_stopped o && not (is_kill w event)) (Some reason.Stopped) (own_reason w event) P (λ _. inl refl)
-    (λ moves. idle_own images w event quiet moves))))
+    (λ moves. idle_own images w event (not-false (is_some o) there) quiet moves))))
 
 -- ---- where nobody can run
 impossible : (images : GivenImages) (w : World) (event : Event) (o : Option Reason) → IsTrue (is_some o) → (stepped images w event o).world ≡ w
@@ -236,7 +239,7 @@ nobody_runs : (w : World) → find (is_runnable w) (pids w.procs) ≡ None → (
 nobody_runs w none q =
     elim (is_some (at w q)) as (λ b. is_some (at w q) ≡ b → is_runnable w q ≡ false) [
       | true ↦ λ there. nobody_found (is_runnable w) w.procs.entries none q there
-      | false ↦ λ gone. absent (is_halted w) (at w q) (is_some (signal_due (at w q)) || (not (is_stopped (at w q)) && would_end w q)) gone
+      | false ↦ λ gone. absent (is_halted w) (at w q) (is_some (signal_due (at w q)) || (not (is_stopped (at w q)) && goes_on w q (at w q))) gone
     ] refl
 
 neither : (a b : Option ℕ) → option_or a b ≡ None → b ≡ None

@@ -41,85 +41,91 @@ use Rattle.sk_machine.specs.Events.{pid_of}
 use Rattle.sk_machine.specs.Given.{GivenImages}
 use Rattle.sk_calls.specs.Syscalls.{syscall_of}
 use Rattle.sk_machine.specs.Arguments.{low, signed, prctl_option_of, seccomp_operation_of}
-use Rattle.sk_machine.specs.Authority.{Authority, after_no_new_privs, after_set_seccomp, after_set_mode_filter}
-use Rattle.sk_machine.specs.Performed.{Performed, body_of, returns, fails, asked, changes, authority_at, authorises, waits}
+use Rattle.sk_machine.specs.Authority.{Authority, authority_of, after_prctl, after_seccomp}
+use Rattle.sk_machine.specs.Performed.{Performed, returns, fails, asked, changes, authorises, waits}
 use Rattle.sk_machine.specs.SignalCalls.{resignals, after_sigaction, after_sigprocmask, after_sigreturn}
 use Rattle.sk_machine.specs.Killing.{after_kill}
 use Rattle.sk_machine.specs.WaitCalls.{are_wait_options, request_of, polled, wait4}
 use Rattle.sk_machine.specs.Performing.{end_of_caller, execve, forks, authorised, seccomp_mode, no_new_privs_asked, subreaper_set, subreaper_asked, where_subreapers, prctl, action_available, seccomp, row}
-use Rattle.sk_machine.specs.Machine.{Stepped, judged, call_answered, called_with, happened, reason_of, stepped, step_of, end_status}
+use Rattle.sk_machine.specs.Machine.{Stepped, judged, call_answered, called_with, happened, stepped, step_of, end_status}
 use Rattle.sk_machine_laws.specs.MachineLaws.{ImpossibleChangesNothing, PossibleHappens, only_refuses, RefusedChangesNothing, TrapForcesSigsys, ends_caller, KillEndsCaller, FailedChangesNothing, HaltHasStatus}
+use Rattle.sk_machine_laws.proofs.Happened.{at_step}
+use Rattle.sk_world.specs.declared.process.Body.{Body}
 
 pub impossible_changes_nothing : ImpossibleChangesNothing
 unfolding step_of
 impossible_changes_nothing images w event reason is = ap (stepped images w event) is
 
-happens : (images : GivenImages) (w : World) (event : Event) (reason : Reason) → (happened images w event).answer ≡ answer.NotNow reason → ⊥
-happens images w (Call pid ip nr args) reason is = cc
-happens images w (Deliver pid) reason is = cc
-happens images w (Resume pid) reason is = cc
-happens images w (Fault pid) reason is = cc
+happens : (images : GivenImages) (w : World) (body : Body) (event : Event) (reason : Reason) → (happened images w body event).answer ≡ answer.NotNow reason → ⊥
+happens images w body (Call pid ip nr args) reason is = cc
+happens images w body (Deliver pid) reason is = cc
+happens images w body (Resume pid) reason is = cc
+happens images w body (Fault pid) reason is = cc
 
 pub possible_happens : PossibleHappens
-unfolding step_of
-possible_happens images w event reason none is = happens images w event reason (ap (λ o. (stepped images w event o).answer) (sym none) ∙ is)
+possible_happens images w event reason none =
+    at_step images w event (λ s. s.answer ≡ answer.NotNow reason → ⊥) (λ _ is _. absurd (false≢true (ap is_some (sym none ∙ is))))
+    (λ p there alive. happens images w p.body event reason)
 
 -- where the answer is a call's, what holds of a call with this verdict holds of the step
-at_call : (images : GivenImages) (w : World) (event : Event) (verdict : ℕ) (outcome : Outcome) (o : Option Reason) (P : ℕ → Stepped → Type 0)
-    → (stepped images w event o).answer ≡ answer.Call verdict outcome
-    → ((pid : ℕ) (call : Record) → (judged images w pid call verdict (action_of verdict)).outcome ≡ outcome → P pid (called_with images w pid call verdict))
-    → P (pid_of event) (stepped images w event o)
-at_call images w event verdict outcome (Some reason) P is made = cc
-at_call images w (Deliver pid) verdict outcome None P is made = cc
-at_call images w (Resume pid) verdict outcome None P is made = cc
-at_call images w (Fault pid) verdict outcome None P is made = cc
-at_call images w (Call pid ip nr args) verdict outcome None P is made =
+at_called : (images : GivenImages) (w : World) (body : Body) (event : Event) (verdict : ℕ) (outcome : Outcome) (P : ℕ → Stepped → Type 0)
+    → ((pid : ℕ) (body : Body) (call : Record) → (judged images w pid body call verdict (action_of verdict)).outcome ≡ outcome → P pid (called_with images w pid body call verdict))
+    → (happened images w body event).answer ≡ answer.Call verdict outcome → P (pid_of event) (happened images w body event)
+at_called images w body (Deliver pid) verdict outcome P made is = cc
+at_called images w body (Resume pid) verdict outcome P made is = cc
+at_called images w body (Fault pid) verdict outcome P made is = cc
+at_called images w body (Call pid ip nr args) verdict outcome P made is =
     let call : Record = record { nr = nr; ip = ip; args = args } in
-    let told : ℕ = verdict_of (body_of (at w pid)).chain call in
+    let told : ℕ = verdict_of body.chain call in
     let same : told ≡ verdict = cc in
-    let outcome_is : (judged images w pid call told (action_of told)).outcome ≡ outcome = cc in
-    subst (λ v. P pid (called_with images w pid call v)) (sym same)
-    (made pid call (subst (λ v. (judged images w pid call v (action_of v)).outcome ≡ outcome) same outcome_is))
+    let outcome_is : (judged images w pid body call told (action_of told)).outcome ≡ outcome = cc in
+    subst (λ v. P pid (called_with images w pid body call v)) (sym same)
+    (made pid body call (subst (λ v. (judged images w pid body call v (action_of v)).outcome ≡ outcome) same outcome_is))
 
-refused_world : (images : GivenImages) (w : World) (pid : ℕ) (call : Record) (verdict : ℕ) (a : Action) → IsTrue (only_refuses a) → (judged images w pid call verdict a).world ≡ w
-refused_world images w pid call errno action.Errno refuses = refl
-refused_world images w pid call errno action.UserNotif refuses = refl
-refused_world images w pid call errno action.Trace refuses = refl
-refused_world images w pid call errno action.KillProcess refuses = absurd (false≢true refuses)
-refused_world images w pid call errno action.KillThread refuses = absurd (false≢true refuses)
-refused_world images w pid call errno action.Trap refuses = absurd (false≢true refuses)
-refused_world images w pid call errno action.Log refuses = absurd (false≢true refuses)
-refused_world images w pid call errno action.Allow refuses = absurd (false≢true refuses)
-refused_world images w pid call errno action.Unknown refuses = absurd (false≢true refuses)
+at_call : (images : GivenImages) (w : World) (event : Event) (verdict : ℕ) (outcome : Outcome) (P : ℕ → Stepped → Type 0)
+    → (step_of images w event).answer ≡ answer.Call verdict outcome
+    → ((pid : ℕ) (body : Body) (call : Record) → (judged images w pid body call verdict (action_of verdict)).outcome ≡ outcome → P pid (called_with images w pid body call verdict))
+    → P (pid_of event) (step_of images w event)
+at_call images w event verdict outcome P is made =
+    at_step images w event (λ s. s.answer ≡ answer.Call verdict outcome → P (pid_of event) s) (λ _ _ is. cc)
+    (λ p there alive. at_called images w p.body event verdict outcome P made) is
+
+refused_world : (images : GivenImages) (w : World) (pid : ℕ) (body : Body) (call : Record) (verdict : ℕ) (a : Action) → IsTrue (only_refuses a) → (judged images w pid body call verdict a).world ≡ w
+refused_world images w pid body call errno action.Errno refuses = refl
+refused_world images w pid body call errno action.UserNotif refuses = refl
+refused_world images w pid body call errno action.Trace refuses = refl
+refused_world images w pid body call errno action.KillProcess refuses = absurd (false≢true refuses)
+refused_world images w pid body call errno action.KillThread refuses = absurd (false≢true refuses)
+refused_world images w pid body call errno action.Trap refuses = absurd (false≢true refuses)
+refused_world images w pid body call errno action.Log refuses = absurd (false≢true refuses)
+refused_world images w pid body call errno action.Allow refuses = absurd (false≢true refuses)
+refused_world images w pid body call errno action.Unknown refuses = absurd (false≢true refuses)
 
 pub refused_changes_nothing : RefusedChangesNothing
-unfolding step_of
 refused_changes_nothing images w event verdict outcome is refuses =
-    at_call images w event verdict outcome (reason_of w event) (λ _ s. s.world ≡ w) is
-    (λ pid call _. refused_world images w pid call verdict (action_of verdict) refuses)
+    at_call images w event verdict outcome (λ _ s. s.world ≡ w) is
+    (λ pid body call _. refused_world images w pid body call verdict (action_of verdict) refuses)
 
 pub trap_forces_sigsys : TrapForcesSigsys
-unfolding step_of
 trap_forces_sigsys images w event verdict outcome is trap =
-    at_call images w event verdict outcome (reason_of w event) (λ pid s. s ≡ record { answer = answer.Call verdict Trapped; world = forced w pid }) is
-    (λ pid call _. ap (λ a. call_answered verdict (judged images w pid call verdict a)) trap)
+    at_call images w event verdict outcome (λ pid s. s ≡ record { answer = answer.Call verdict Trapped; world = forced w pid }) is
+    (λ pid body call _. ap (λ a. call_answered verdict (judged images w pid body call verdict a)) trap)
 
-ended_by_filter : (images : GivenImages) (w : World) (pid : ℕ) (call : Record) (verdict : ℕ) (a : Action) → IsTrue (ends_caller a) → judged images w pid call verdict a ≡ end_of_caller w pid SIGSYS
-ended_by_filter images w pid call errno action.KillProcess kills = refl
-ended_by_filter images w pid call errno action.KillThread kills = refl
-ended_by_filter images w pid call errno action.Unknown kills = refl
-ended_by_filter images w pid call errno action.Errno kills = absurd (false≢true kills)
-ended_by_filter images w pid call errno action.UserNotif kills = absurd (false≢true kills)
-ended_by_filter images w pid call errno action.Trace kills = absurd (false≢true kills)
-ended_by_filter images w pid call errno action.Trap kills = absurd (false≢true kills)
-ended_by_filter images w pid call errno action.Log kills = absurd (false≢true kills)
-ended_by_filter images w pid call errno action.Allow kills = absurd (false≢true kills)
+ended_by_filter : (images : GivenImages) (w : World) (pid : ℕ) (body : Body) (call : Record) (verdict : ℕ) (a : Action) → IsTrue (ends_caller a) → judged images w pid body call verdict a ≡ end_of_caller w pid SIGSYS
+ended_by_filter images w pid body call errno action.KillProcess kills = refl
+ended_by_filter images w pid body call errno action.KillThread kills = refl
+ended_by_filter images w pid body call errno action.Unknown kills = refl
+ended_by_filter images w pid body call errno action.Errno kills = absurd (false≢true kills)
+ended_by_filter images w pid body call errno action.UserNotif kills = absurd (false≢true kills)
+ended_by_filter images w pid body call errno action.Trace kills = absurd (false≢true kills)
+ended_by_filter images w pid body call errno action.Trap kills = absurd (false≢true kills)
+ended_by_filter images w pid body call errno action.Log kills = absurd (false≢true kills)
+ended_by_filter images w pid body call errno action.Allow kills = absurd (false≢true kills)
 
 pub kill_ends_caller : KillEndsCaller
-unfolding step_of
 kill_ends_caller images w event verdict outcome is kills =
-    at_call images w event verdict outcome (reason_of w event) (λ pid s. s ≡ record { answer = answer.Call verdict (Ended SIGSYS); world = ended_and_hung_up w pid SIGSYS }) is
-    (λ pid call _. ap (call_answered verdict) (ended_by_filter images w pid call verdict (action_of verdict) kills))
+    at_call images w event verdict outcome (λ pid s. s ≡ record { answer = answer.Call verdict (Ended SIGSYS); world = ended_and_hung_up w pid SIGSYS }) is
+    (λ pid body call _. ap (call_answered verdict) (ended_by_filter images w pid body call verdict (action_of verdict) kills))
 
 -- where the outcome is an error, the world is as it was
 abbrev FailsClean : World → Performed → Type 0
@@ -168,66 +174,64 @@ clean_subreapers : (there : Bool) (w : World) (p : Performed) → FailsClean w p
 clean_subreapers true w p clean = clean
 clean_subreapers false w p clean = λ n is. refl
 
-clean_prctl : (images : GivenImages) (w : World) (pid : ℕ) (which : Option PrctlOption) (call : Record) → FailsClean w (prctl images w pid which call)
-clean_prctl images w pid (Some option.SetNoNewPrivs) call = clean_authorises w pid (after_no_new_privs call (authority_at w pid))
-clean_prctl images w pid (Some option.SetSeccomp) call = clean_authorises w pid (after_set_seccomp images call (authority_at w pid))
-clean_prctl images w pid (Some option.GetSeccomp) call = clean_returns w w (seccomp_mode (body_of (at w pid)).chain)
-clean_prctl images w pid (Some option.GetNoNewPrivs) call = clean_asked w (no_new_privs_asked call (body_of (at w pid)).creds.no_new_privs)
-clean_prctl images w pid (Some option.SetChildSubreaper) call = clean_subreapers images.subreapers w (subreaper_set w pid call) (λ n is. cc)
-clean_prctl images w pid (Some option.GetChildSubreaper) call = clean_subreapers images.subreapers w (subreaper_asked w pid) (λ n is. refl)
-clean_prctl images w pid None call = λ n is. refl
+clean_prctl : (images : GivenImages) (w : World) (pid : ℕ) (body : Body) (which : Option PrctlOption) (call : Record) → FailsClean w (prctl images w pid body which call)
+clean_prctl images w pid body (Some option.GetSeccomp) call = clean_returns w w (seccomp_mode body.chain)
+clean_prctl images w pid body (Some option.GetNoNewPrivs) call = clean_asked w (no_new_privs_asked call body.creds.no_new_privs)
+clean_prctl images w pid body (Some option.SetChildSubreaper) call = clean_subreapers images.subreapers w (subreaper_set w pid call) (λ n is. cc)
+clean_prctl images w pid body (Some option.GetChildSubreaper) call = clean_subreapers images.subreapers w (subreaper_asked w body.subreaper) (λ n is. refl)
+clean_prctl images w pid body None call = λ n is. refl
+clean_prctl images w pid body setting call = clean_authorises w pid (after_prctl images setting call (authority_of body))
 
-clean_seccomp : (images : GivenImages) (w : World) (pid : ℕ) (which : Option SeccompOperation) (call : Record) → FailsClean w (seccomp images w pid which call)
-clean_seccomp images w pid (Some operation.SetModeFilter) call = clean_authorises w pid (after_set_mode_filter images call (authority_at w pid))
-clean_seccomp images w pid (Some operation.GetActionAvail) call = clean_asked w (action_available (low call 1) (low call 2))
-clean_seccomp images w pid None call = λ n is. refl
+clean_seccomp : (images : GivenImages) (w : World) (pid : ℕ) (body : Body) (which : Option SeccompOperation) (call : Record) → FailsClean w (seccomp images w pid body which call)
+clean_seccomp images w pid body (Some operation.GetActionAvail) call = clean_asked w (action_available (low call 1) (low call 2))
+clean_seccomp images w pid body None call = λ n is. refl
+clean_seccomp images w pid body setting call = clean_authorises w pid (after_seccomp images setting call (authority_of body))
 
-clean_row : (images : GivenImages) (w : World) (pid : ℕ) (which : Option Syscall) (call : Record) → FailsClean w (row images w pid which call)
-clean_row images w pid (Some syscall.RtSigaction) call = clean_resignals w pid (after_sigaction pid call (body_of (at w pid)).signals)
-clean_row images w pid (Some syscall.RtSigprocmask) call = clean_resignals w pid (after_sigprocmask call (body_of (at w pid)).signals)
-clean_row images w pid (Some syscall.RtSigreturn) call =
-    clean_resignals w pid (after_sigreturn (body_of (at w pid)).signals.frames (body_of (at w pid)).signals)
-clean_row images w pid (Some syscall.RtSigpending) call = λ n is. refl
-clean_row images w pid (Some syscall.SchedYield) call = λ n is. refl
-clean_row images w pid (Some syscall.Pause) call = λ n is. cc
-clean_row images w pid (Some syscall.Getpid) call = λ n is. refl
-clean_row images w pid (Some syscall.Getppid) call = λ n is. refl
-clean_row images w pid (Some syscall.Fork) call = clean_forks w pid (fork_answer w)
-clean_row images w pid (Some syscall.Execve) call = clean_execve w pid (authorised images w pid syscall.Execve call)
-clean_row images w pid (Some syscall.Exit) call = λ n is. cc
-clean_row images w pid (Some syscall.ExitGroup) call = λ n is. cc
-clean_row images w pid (Some syscall.Wait4) call = clean_wait4 w pid call
-clean_row images w pid (Some syscall.Kill) call = clean_changes w 0 (after_kill w pid (signed call 0) (low call 1))
-clean_row images w pid (Some syscall.Getuid) call = λ n is. refl
-clean_row images w pid (Some syscall.Geteuid) call = λ n is. refl
-clean_row images w pid (Some syscall.Setuid) call = clean_authorises w pid (authorised images w pid syscall.Setuid call)
-clean_row images w pid (Some syscall.Setresuid) call = clean_authorises w pid (authorised images w pid syscall.Setresuid call)
-clean_row images w pid (Some syscall.Getresuid) call = λ n is. refl
-clean_row images w pid (Some syscall.Setpgid) call = clean_changes w 0 (after_setpgid w pid (signed call 0) (signed call 1))
-clean_row images w pid (Some syscall.Getpgrp) call = λ n is. refl
-clean_row images w pid (Some syscall.Setsid) call = clean_changes w pid (after_setsid w pid)
-clean_row images w pid (Some syscall.Getpgid) call = clean_asked w (group_asked w pid (signed call 0))
-clean_row images w pid (Some syscall.Getsid) call = clean_asked w (session_asked w pid (signed call 0))
-clean_row images w pid (Some syscall.Prctl) call = clean_prctl images w pid (prctl_option_of (low call 0)) call
-clean_row images w pid (Some syscall.Seccomp) call = clean_seccomp images w pid (seccomp_operation_of (low call 0)) call
-clean_row images w pid None call = λ n is. refl
+clean_row : (images : GivenImages) (w : World) (pid : ℕ) (body : Body) (which : Option Syscall) (call : Record) → FailsClean w (row images w pid body which call)
+clean_row images w pid body (Some syscall.RtSigaction) call = clean_resignals w pid (after_sigaction pid call body.signals)
+clean_row images w pid body (Some syscall.RtSigprocmask) call = clean_resignals w pid (after_sigprocmask call body.signals)
+clean_row images w pid body (Some syscall.RtSigreturn) call =
+    clean_resignals w pid (after_sigreturn body.signals.frames body.signals)
+clean_row images w pid body (Some syscall.RtSigpending) call = λ n is. refl
+clean_row images w pid body (Some syscall.SchedYield) call = λ n is. refl
+clean_row images w pid body (Some syscall.Pause) call = λ n is. cc
+clean_row images w pid body (Some syscall.Getpid) call = λ n is. refl
+clean_row images w pid body (Some syscall.Getppid) call = λ n is. refl
+clean_row images w pid body (Some syscall.Fork) call = clean_forks w pid (fork_answer w)
+clean_row images w pid body (Some syscall.Execve) call = clean_execve w pid (authorised images body syscall.Execve call)
+clean_row images w pid body (Some syscall.Exit) call = λ n is. cc
+clean_row images w pid body (Some syscall.ExitGroup) call = λ n is. cc
+clean_row images w pid body (Some syscall.Wait4) call = clean_wait4 w pid call
+clean_row images w pid body (Some syscall.Kill) call = clean_changes w 0 (after_kill w pid body.creds (signed call 0) (low call 1))
+clean_row images w pid body (Some syscall.Getuid) call = λ n is. refl
+clean_row images w pid body (Some syscall.Geteuid) call = λ n is. refl
+clean_row images w pid body (Some syscall.Setuid) call = clean_authorises w pid (authorised images body syscall.Setuid call)
+clean_row images w pid body (Some syscall.Setresuid) call = clean_authorises w pid (authorised images body syscall.Setresuid call)
+clean_row images w pid body (Some syscall.Getresuid) call = λ n is. refl
+clean_row images w pid body (Some syscall.Setpgid) call = clean_changes w 0 (after_setpgid w pid (signed call 0) (signed call 1))
+clean_row images w pid body (Some syscall.Getpgrp) call = λ n is. refl
+clean_row images w pid body (Some syscall.Setsid) call = clean_changes w pid (after_setsid w pid)
+clean_row images w pid body (Some syscall.Getpgid) call = clean_asked w (group_asked w pid (signed call 0))
+clean_row images w pid body (Some syscall.Getsid) call = clean_asked w (session_asked w pid (signed call 0))
+clean_row images w pid body (Some syscall.Prctl) call = clean_prctl images w pid body (prctl_option_of (low call 0)) call
+clean_row images w pid body (Some syscall.Seccomp) call = clean_seccomp images w pid body (seccomp_operation_of (low call 0)) call
+clean_row images w pid body None call = λ n is. refl
 
-clean_judged : (images : GivenImages) (w : World) (pid : ℕ) (call : Record) (verdict : ℕ) (a : Action) → FailsClean w (judged images w pid call verdict a)
-clean_judged images w pid call verdict action.Allow = clean_row images w pid (syscall_of call.nr) call
-clean_judged images w pid call verdict action.Log = clean_row images w pid (syscall_of call.nr) call
-clean_judged images w pid call verdict action.Trap = λ n is. cc
-clean_judged images w pid call verdict action.Errno = λ n is. refl
-clean_judged images w pid call verdict action.UserNotif = λ n is. refl
-clean_judged images w pid call verdict action.Trace = λ n is. refl
-clean_judged images w pid call verdict action.KillProcess = λ n is. cc
-clean_judged images w pid call verdict action.KillThread = λ n is. cc
-clean_judged images w pid call verdict action.Unknown = λ n is. cc
+clean_judged : (images : GivenImages) (w : World) (pid : ℕ) (body : Body) (call : Record) (verdict : ℕ) (a : Action) → FailsClean w (judged images w pid body call verdict a)
+clean_judged images w pid body call verdict action.Allow = clean_row images w pid body (syscall_of call.nr) call
+clean_judged images w pid body call verdict action.Log = clean_row images w pid body (syscall_of call.nr) call
+clean_judged images w pid body call verdict action.Trap = λ n is. cc
+clean_judged images w pid body call verdict action.Errno = λ n is. refl
+clean_judged images w pid body call verdict action.UserNotif = λ n is. refl
+clean_judged images w pid body call verdict action.Trace = λ n is. refl
+clean_judged images w pid body call verdict action.KillProcess = λ n is. cc
+clean_judged images w pid body call verdict action.KillThread = λ n is. cc
+clean_judged images w pid body call verdict action.Unknown = λ n is. cc
 
 pub failed_changes_nothing : FailedChangesNothing
-unfolding step_of
 failed_changes_nothing images w event verdict n is =
-    at_call images w event verdict (Returned (negsuc n)) (reason_of w event) (λ _ s. s.world ≡ w) is
-    (λ pid call failed. clean_judged images w pid call verdict (action_of verdict) n failed)
+    at_call images w event verdict (Returned (negsuc n)) (λ _ s. s.world ≡ w) is
+    (λ pid body call failed. clean_judged images w pid body call verdict (action_of verdict) n failed)
 
 -- ---- the status of a halted system
 ended_has_status : (o : Option Proc) → is_some (option_and_then (λ p. end_status p.body.life) o) ≡ is_zombie o

@@ -7,9 +7,8 @@ use Rattle.sk_world.specs.Rules.{IsWorld}
 use Rattle.sk_machine.specs.declared.event.Event.{Event}
 use Rattle.sk_machine.specs.Events.{pid_of}
 use Rattle.sk_machine.specs.Given.{GivenImages}
-use Rattle.sk_machine.specs.Performed.{authority_at}
 use Rattle.sk_machine.specs.Machine.{Stepped, step_of}
-use Rattle.sk_machine.specs.Lines.{Happening, line_of, is_fork_of, authority_of_line}
+use Rattle.sk_machine.specs.Lines.{Happening, line_of, is_fork_of, authority_of_line, authority_at}
 use Rattle.sk_machine_laws.specs.TellingLaws.{told_by, IsEnd}
 use Rattle.sk_machine_laws.specs.ConfinementLaws.{IsConfined, LeavesAlone, ends_or_stops}
 

@@ -25,9 +25,8 @@ use Rattle.sk_machine.specs.declared.answer.Effect.{Effect}
 use Rattle.sk_machine.specs.declared.answer.Effect.TheVariants as effect
 use Rattle.sk_machine.specs.Given.{GivenImages}
 use Rattle.sk_machine.specs.Events.{pid_of}
-use Rattle.sk_machine.specs.Performed.{authority_at}
 use Rattle.sk_machine.specs.Machine.{step_of, world_after}
-use Rattle.sk_machine.specs.Lines.{line_before}
+use Rattle.sk_machine.specs.Lines.{line_before, authority_at}
 use Rattle.sk_machine_laws.specs.LineLaws.{happening, line_after}
 
 -- the filters answer every kill(2) with an action that has precedence over SECCOMP_RET_LOG

@@ -8,8 +8,8 @@ use Rattle.sk_chain.specs.Chains.{cost_of, AllValid, StepsAreBounded}
 use Rattle.sk_world.specs.World.{World, at, opening}
 use Rattle.sk_machine.specs.declared.event.Event.{Event}
 use Rattle.sk_machine.specs.Given.{GivenImages}
-use Rattle.sk_machine.specs.Performed.{authority_at}
 use Rattle.sk_machine.specs.Machine.{step_of, world_after}
+use Rattle.sk_machine.specs.Lines.{authority_at}
 
 -- filters that seccomp(2) accepts: each is valid, and they hold to the path limit, which counts each with
 -- four more, but for the newest

@@ -14,9 +14,8 @@ use Rattle.sk_machine.specs.declared.answer.Answer.TheVariants as answer
 use Rattle.sk_machine.specs.declared.answer.Outcome.{Outcome}
 use Rattle.sk_machine.specs.Authority.{Authority}
 use Rattle.sk_machine.specs.Given.{GivenImages}
-use Rattle.sk_machine.specs.Performed.{authority_at}
 use Rattle.sk_machine.specs.Machine.{step_of, world_after}
-use Rattle.sk_machine.specs.Lines.{Line, Happening, line_before, calls_added, line_of, authority_after_calls, authority_of_line, history_after}
+use Rattle.sk_machine.specs.Lines.{Line, Happening, line_before, calls_added, line_of, authority_after_calls, authority_of_line, history_after, authority_at}
 
 -- an event with its answer
 abbrev pub happening : GivenImages → World → Event → Happening

@@ -6,6 +6,7 @@ use Rattle.sk_insn.specs.declared.action.Action.{Action}
 use Rattle.sk_insn.specs.declared.action.Action.TheVariants as action
 use Rattle.sk_insn.specs.Actions.{action_of}
 use Rattle.sk_signal.specs.declared.number.TheConstants.{SIGSYS}
+use Rattle.sk_world.specs.declared.process.Body.{Body}
 use Rattle.sk_world.specs.World.{World, at, is_alive, is_halted, opening}
 use Rattle.sk_world.specs.Rules.{IsWorld}
 use Rattle.sk_world.specs.Sending.{forced}
@@ -87,11 +88,13 @@ FailedChangesNothing =
 -- a performed call of a process that is alive keeps the rules of the world
 abbrev pub CallKeepsRules : Type 0
 CallKeepsRules =
-    (images : GivenImages) (w : World) (pid : ℕ) (call : Record) → IsWorld w → IsTrue (is_alive (at w pid)) → IsWorld (performed images w pid call).world
+    (images : GivenImages) (w : World) (pid : ℕ) (body : Body) (call : Record) → IsWorld w → IsTrue (is_alive (at w pid))
+    → IsWorld (performed images w pid body call).world
 
 -- so does the delivery of a signal to it
 abbrev pub DeliveryKeepsRules : Type 0
-DeliveryKeepsRules = (w : World) (pid n : ℕ) → IsWorld w → IsTrue (is_alive (at w pid)) → IsWorld (delivered w pid n).world
+DeliveryKeepsRules =
+    (w : World) (pid : ℕ) (body : Body) (n : ℕ) → IsWorld w → IsTrue (is_alive (at w pid)) → IsWorld (delivered w pid body n).world
 
 -- so does a call in which it waits
 abbrev pub ResumptionKeepsRules : Type 0

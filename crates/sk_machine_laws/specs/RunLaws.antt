@@ -16,9 +16,8 @@ use Rattle.sk_machine.specs.declared.answer.Answer.TheVariants as answer
 use Rattle.sk_machine.specs.declared.answer.Outcome.{Outcome}
 use Rattle.sk_machine.specs.Events.{pid_of}
 use Rattle.sk_machine.specs.Given.{GivenImages}
-use Rattle.sk_machine.specs.Performed.{authority_at}
 use Rattle.sk_machine.specs.Machine.{step_of, answers_of, world_after}
-use Rattle.sk_machine.specs.Lines.{is_fork_of, history_of, history_after, authority_of_line}
+use Rattle.sk_machine.specs.Lines.{is_fork_of, history_of, history_after, authority_of_line, authority_at}
 use Rattle.sk_machine_laws.specs.LineLaws.{line_after, GrowsFrom}
 use Rattle.sk_machine_laws.specs.FilterLaws.{HasAccepted}
 use Rattle.sk_machine_laws.specs.TellingLaws.{told_by, IsEnd, HasEndedUnder}

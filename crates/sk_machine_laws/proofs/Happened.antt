@@ -1,0 +1,46 @@
+-- What a step comes to, by the process whose event it is.
+use Rattle.std.proofs.Common.{◌≡◌, ◌&&◌, ap, refl, cond, not, Bool, false, IsTrue, Option, None, Some}
+use Rattle.std.specs.Option.{is_some}
+use Rattle.std.proofs.lemmas.Bool.{false≢true, cond_both, not-false}
+use Rattle.sk_world.specs.declared.process.Proc.{Proc}
+use Rattle.sk_world.specs.World.{World, at, is_alive, is_halted, is_stopped, is_zombie}
+use Rattle.sk_world.proofs.KeptEnd.{alive_is_there}
+use Rattle.sk_machine.specs.declared.event.Event.{Event}
+use Rattle.sk_machine.specs.declared.answer.Reason.{Reason}
+use Rattle.sk_machine.specs.declared.answer.Reason.TheVariants.{NoProcess, Zombie, Stopped, Halted}
+use Rattle.sk_machine.specs.Events.{pid_of}
+use Rattle.sk_machine.specs.Given.{GivenImages}
+use Rattle.sk_machine.specs.Machine.{Stepped, happened, is_kill, own_reason, reason_of, not_now, happened_to, stepped, step_of}
+
+there_and_no_zombie : (o : Option Proc) → IsTrue (is_some o) → is_zombie o ≡ false → IsTrue (is_alive o)
+there_and_no_zombie None there zombie = there
+there_and_no_zombie (Some p) there zombie = ap not zombie
+
+-- an event that is possible is one of a process that is alive
+pub possible_is_alive : (w : World) (event : Event) → reason_of w event ≡ None → IsTrue (is_alive (at w (pid_of event)))
+possible_is_alive w event possible =
+    let o : Option Proc = at w (pid_of event) in
+    let stopped : Bool = is_stopped o && not (is_kill w event) in
+    cond_both (is_halted w) (Some Halted) _ (λ r. r ≡ None → IsTrue (is_alive o)) (λ _ is. cc)
+    (λ _. cond_both (not (is_some o)) (Some NoProcess) _ (λ r. r ≡ None → IsTrue (is_alive o)) (λ _ is. cc)
+    (λ there. cond_both (is_zombie o) (Some Zombie) (cond stopped (Some Stopped) (own_reason w event)) (λ r. r ≡ None → IsTrue (is_alive o)) (λ _ is. cc)
+    (λ living _. there_and_no_zombie o (not-false (is_some o) there) living))) possible
+
+-- what holds of each event of a process that is alive holds of an event that is possible
+at_process : (images : GivenImages) (w : World) (event : Event) (o : Option Proc) (P : Stepped → Type 0) → at w (pid_of event) ≡ o → IsTrue (is_some o)
+    → ((p : Proc) → at w (pid_of event) ≡ Some p → P (happened images w p.body event)) → P (happened_to images w event o)
+at_process images w event None P is there holds = absurd (false≢true there)
+at_process images w event (Some p) P is there holds = holds p is
+
+at_reason : (images : GivenImages) (w : World) (event : Event) (o : Option Reason) (P : Stepped → Type 0) → reason_of w event ≡ o → ((reason : Reason) → reason_of w event ≡ Some reason → P (not_now w reason))
+    → ((p : Proc) → at w (pid_of event) ≡ Some p → IsTrue (is_alive (at w (pid_of event))) → P (happened images w p.body event)) → P (stepped images w event o)
+at_reason images w event (Some reason) P is refused possible = refused reason is
+at_reason images w event None P is refused possible =
+    let alive = possible_is_alive w event is in
+    at_process images w event (at w (pid_of event)) P refl (alive_is_there (at w (pid_of event)) alive) (λ p there. possible p there alive)
+
+-- what holds where an event is not possible, and where it happens to a process that is alive, holds of the step
+pub at_step : (images : GivenImages) (w : World) (event : Event) (P : Stepped → Type 0) → ((reason : Reason) → reason_of w event ≡ Some reason → P (not_now w reason))
+    → ((p : Proc) → at w (pid_of event) ≡ Some p → IsTrue (is_alive (at w (pid_of event))) → P (happened images w p.body event)) → P (step_of images w event)
+unfolding step_of
+at_step images w event P refused possible = at_reason images w event (reason_of w event) P refl refused possible
