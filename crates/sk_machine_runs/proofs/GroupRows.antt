@@ -1,5 +1,5 @@
 -- Each worked run of groups and sessions is what the definitions compute.
-use Rattle.std.proofs.Common.{refl}
+use Rattle.std.proofs.Common.{refl, ◌≡◌, ◌∙◌, ℕ, ap, List, [], ◌∷◌, None, Some}
 use Rattle.sk_insn.specs.Actions.{action_of}
 use Rattle.sk_insn.specs.Operations.{operation_of}
 use Rattle.sk_check.specs.FirstFault.{first_fault}
@@ -8,8 +8,12 @@ use Rattle.sk_signal.specs.SignalSet.{lowest, signals_to, signals_of}
 use Rattle.sk_signal.specs.Signalling.{opening as no_signal}
 use Rattle.sk_world.specs.Numbers.{fresh_of}
 use Rattle.sk_world.specs.Subreapers.{ancestors, new_parent}
-use Rattle.sk_machine.specs.Machine.{step_of}
-use Rattle.sk_machine_runs.specs.WorkedGroups.{KillsByIds, ContinuesWithinSession, RegroupsChild, RefusesToRegroup, FoundsSession, KillsNobody, KillsGroups, FindsZombie, LeavesZombie, LeavesSender, ConfinesKill, ChangesNothingConfined, EndsConfined, WorkedGroups}
+use Rattle.sk_machine.specs.Machine.{step_of, reason_of, world_after}
+use Rattle.sk_machine_runs.specs.WorkedGroups.{KillsByIds, ContinuesWithinSession, RegroupsChild, RefusesToRegroup, FoundsSession, KillsNobody, KillsGroups, FindsZombie, LeavesZombie, LeavesSender, ConfinesKill, ChangesNothingConfined, EndsConfined, WorkedGroups, no_kill, confinement, confined_kills}
+use Rattle.sk_world.specs.World.{World, at, opening}
+use Rattle.sk_machine.specs.declared.event.Event.{Event}
+use Rattle.sk_machine_runs.specs.Scripts.{kill, after, events_of, minus}
+use Rattle.sk_machine_runs.proofs.Stepping.{verdict_by, by_verdict}
 
 kills_by_ids : KillsByIds
 unfolding step_of fresh_of new_parent ancestors action_of operation_of first_fault empty contains insert retain remove difference union from_list lowest signals_to signals_of no_signal
@@ -55,9 +59,29 @@ confines_kill : ConfinesKill
 unfolding step_of fresh_of new_parent ancestors action_of operation_of first_fault empty contains insert retain remove difference union from_list lowest signals_to signals_of no_signal
 confines_kill = refl
 
+-- a kill(2) that the filters answer with EPERM changes nothing
+refuses : (w : World) (pid who : ℕ) → reason_of w (kill pid who 9) ≡ None
+    → verdict_by (record { nr = 62; ip = 0; args = who ∷ 9 ∷ 0 ∷ 0 ∷ 0 ∷ 0 ∷ [] }) (at w pid) ≡ Some 0x00050001 → (step_of no_kill w (kill pid who 9)).world ≡ w
+unfolding action_of
+refuses w pid who possible is = by_verdict no_kill w pid 0 62 (who ∷ 9 ∷ 0 ∷ 0 ∷ 0 ∷ 0 ∷ []) 0x00050001 (λ s. s.world ≡ w) possible is (λ body. refl)
+
+-- nor does any of these events
+abbrev EachChangesNothing : World → List Event → Type 0
+EachChangesNothing w [] = Unit {0}
+EachChangesNothing w (event ∷ events) = ((step_of no_kill w event).world ≡ w) × EachChangesNothing w events
+
+stays : (w : World) (events : List Event) → EachChangesNothing w events → world_after no_kill w events ≡ w
+stays w [] each = refl
+stays w (event ∷ events) each = ap (λ v. world_after no_kill v events) each.0 ∙ stays w events each.1
+
 changes_nothing_confined : ChangesNothingConfined
 unfolding step_of fresh_of new_parent ancestors action_of operation_of first_fault empty contains insert retain remove difference union from_list lowest signals_to signals_of no_signal
-changes_nothing_confined = refl
+changes_nothing_confined =
+    let w : World = after no_kill opening confinement in
+    stays w (events_of confined_kills) (
+      refuses w 2 4 refl refl,
+      (refuses w 2 (minus 1) refl refl, (refuses w 2 0 refl refl, (refuses w 3 4 refl refl, (refuses w 3 (minus 1) refl refl, (refuses w 3 0 refl refl, tt))))),
+    )
 
 ends_confined : EndsConfined
 unfolding step_of fresh_of new_parent ancestors action_of operation_of first_fault empty contains insert retain remove difference union from_list lowest signals_to signals_of no_signal

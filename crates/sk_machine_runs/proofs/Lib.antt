@@ -1,3 +1,4 @@
+pub mod Stepping
 mod CallRows
 mod SignalRows
 mod WaitRows

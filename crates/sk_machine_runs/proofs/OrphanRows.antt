@@ -1,5 +1,5 @@
 -- Each worked run of orphaned groups is what the definitions compute.
-use Rattle.std.proofs.Common.{refl}
+use Rattle.std.proofs.Common.{refl, ◌≡◌, ◌≢◌, ℕ, None, Some, [], ◌∷◌}
 use Rattle.sk_insn.specs.Actions.{action_of}
 use Rattle.sk_insn.specs.Operations.{operation_of}
 use Rattle.sk_check.specs.FirstFault.{first_fault}
@@ -8,8 +8,13 @@ use Rattle.sk_signal.specs.SignalSet.{lowest, signals_to, signals_of}
 use Rattle.sk_signal.specs.Signalling.{opening as no_signal}
 use Rattle.sk_world.specs.Numbers.{fresh_of}
 use Rattle.sk_world.specs.Subreapers.{ancestors, new_parent}
-use Rattle.sk_machine.specs.Machine.{step_of}
-use Rattle.sk_machine_runs.specs.WorkedOrphans.{HangsUpJob, TurnsOfJob, IgnoresTerminalStop, TurnsOfUnstopped, StopsBySigstopAlone, StopsWhereTied, HangsUpEachGroup, SparesRunningGroups, SparesOrphanedBefore, SparesTiedGroups, CountsNoZombies, ContinuesGroup, HangsUpAfterFilterKill, HangsUpAfterOtherKills, HangsUpAfterCrash, HangsUpAfterSignal, HaltHangsUpNobody, WorkedOrphans}
+use Rattle.sk_machine.specs.Machine.{step_of, reason_of}
+use Rattle.sk_machine_runs.specs.WorkedOrphans.{HangsUpJob, TurnsOfJob, IgnoresTerminalStop, TurnsOfUnstopped, StopsBySigstopAlone, StopsWhereTied, HangsUpEachGroup, SparesRunningGroups, SparesOrphanedBefore, SparesTiedGroups, CountsNoZombies, ContinuesGroup, HangsUpAfterFilterKill, HangsUpAfterOtherKills, HangsUpAfterCrash, HangsUpAfterSignal, HaltHangsUpNobody, WorkedOrphans, leaderless}
+use Rattle.sk_world.specs.World.{World, at}
+use Rattle.sk_world.specs.declared.process.TheConstants.{INIT}
+use Rattle.sk_world.proofs.Stored.{at_other}
+use Rattle.sk_machine_runs.specs.Scripts.{nothing_given, exit}
+use Rattle.sk_machine_runs.proofs.Stepping.{verdict_by, by_verdict}
 
 hangs_up_job : HangsUpJob
 unfolding step_of fresh_of new_parent ancestors action_of operation_of first_fault empty contains insert retain remove difference union from_list lowest signals_to signals_of no_signal
@@ -75,9 +80,16 @@ hangs_up_after_signal : HangsUpAfterSignal
 unfolding step_of fresh_of new_parent ancestors action_of operation_of first_fault empty contains insert retain remove difference union from_list lowest signals_to signals_of no_signal
 hangs_up_after_signal = refl
 
+-- an exit(2) of process 1 leaves every other one
+exits_alone : (w : World) (code q : ℕ) → q ≢ INIT → reason_of w (exit 1 code) ≡ None
+    → verdict_by (record { nr = 60; ip = 0; args = code ∷ 0 ∷ 0 ∷ 0 ∷ 0 ∷ 0 ∷ [] }) (at w 1) ≡ Some 0x7fff0000 → at (step_of nothing_given w (exit 1 code)).world q ≡ at w q
+unfolding action_of
+exits_alone w code q other possible is =
+    by_verdict nothing_given w 1 0 60 (code ∷ 0 ∷ 0 ∷ 0 ∷ 0 ∷ 0 ∷ []) 0x7fff0000 (λ s. at s.world q ≡ at w q) possible is (λ body. at_other w INIT _ q other)
+
 halt_hangs_up_nobody : HaltHangsUpNobody
 unfolding step_of fresh_of new_parent ancestors action_of operation_of first_fault empty contains insert retain remove difference union from_list lowest signals_to signals_of no_signal
-halt_hangs_up_nobody = refl
+halt_hangs_up_nobody = exits_alone leaderless 0 2 (λ e. cc) refl refl
 
 pub worked_orphans : WorkedOrphans
 worked_orphans = record {

@@ -1,5 +1,5 @@
 -- Runs that are worked out by hand: signals.
-use Rattle.std.specs.Prelude.{ℕ, zero, suc, ◌≡◌, [], ◌∷◌, List}
+use Rattle.std.specs.Prelude.{ℕ, zero, suc, ◌≡◌, [], ◌∷◌, List, Option, Some}
 use Rattle.sk_world.specs.declared.process.Life.TheVariants.{Zombie}
 use Rattle.sk_machine.specs.declared.answer.Answer.TheVariants as answer
 use Rattle.sk_machine.specs.declared.answer.Outcome.TheVariants.{Trapped, Ended}
@@ -11,13 +11,18 @@ use Rattle.sk_creds.specs.declared.errno.Errno.TheVariants.{Einval}
 use Rattle.sk_signal.specs.SignalSet.{Signals, signals_of}
 use Rattle.sk_world.specs.declared.process.TheConstants.{INIT}
 use Rattle.sk_world.specs.World.{World, at, opening}
-use Rattle.sk_machine.specs.Performed.{body_of}
 use Rattle.sk_machine.specs.Lines.{Happening}
 use Rattle.sk_machine_runs.specs.Scripts.{nothing_given, given, plain, for_number, minus, only, sigaction, sigprocmask, sigreturn, pause, getpid, fork, execve, kill, getppid, sigpending, exit_group, seccomp, gives, fails, waits, ends, executed, signals, resumes, delivers, handles, interrupts, not_now, Runs, after}
+use Rattle.std.specs.Option.{option_map}
+use Rattle.sk_world.specs.declared.process.Life.{Life}
 
--- the mask of a process
-abbrev pub mask_at : World → ℕ → Signals
-mask_at w pid = (body_of (at w pid)).signals.mask
+-- the mask of the process of a pid, if it is there
+abbrev pub mask_at : World → ℕ → Option Signals
+mask_at w pid = option_map (λ p. p.body.signals.mask) (at w pid)
+
+-- whether the process of a pid, if it is there, runs, or how it has ended
+abbrev pub life_at : World → ℕ → Option Life
+life_at w pid = option_map (λ p. p.body.life) (at w pid)
 
 -- a trapped call gets SIGSYS, whose handler runs and returns
 abbrev pub HandlesTrap : Type 0
@@ -91,7 +96,7 @@ blocks_all = (fork 1, gives 2) ∷ (sigprocmask 2 0 (minus 1), gives 0) ∷ []
 
 -- the mask has all signals but the two
 abbrev pub BlocksAllButKill : Type 0
-BlocksAllButKill = mask_at (after nothing_given opening blocks_all) 2 ≡ signals_of 0x7ffbfeff
+BlocksAllButKill = mask_at (after nothing_given opening blocks_all) 2 ≡ Some (signals_of 0x7ffbfeff)
 
 -- what is sent to it then
 abbrev pub BlocksAndEnds : Type 0
@@ -193,7 +198,7 @@ EndsWithoutRoomForFrame =
 -- it has ended by SIGSEGV
 abbrev pub HaltsWithoutRoomForFrame : Type 0
 HaltsWithoutRoomForFrame =
-    (body_of (at (after (given [] (plain ∷ [])) with_sixteen ((kill 1 1 10, gives 0) ∷ (Deliver 1, delivers 10 (effect.Ended 11)) ∷ [])) INIT)).life ≡ Zombie 11
+    life_at (after (given [] (plain ∷ [])) with_sixteen ((kill 1 1 10, gives 0) ∷ (Deliver 1, delivers 10 (effect.Ended 11)) ∷ [])) INIT ≡ Some (Zombie 11)
 
 -- all of these
 pub record WorkedSignals : Type 0 where

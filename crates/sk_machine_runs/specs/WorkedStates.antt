@@ -1,5 +1,5 @@
 -- Runs that are worked out by hand: what a call changes of its process, and what it leaves.
-use Rattle.std.specs.Prelude.{◌≡◌, ◌^◌, [], ◌∷◌, List}
+use Rattle.std.specs.Prelude.{◌≡◌, ◌^◌, [], ◌∷◌, List, Some}
 use Rattle.sk_creds.specs.declared.errno.Errno.TheVariants.{Eperm, Einval}
 use Rattle.sk_signal.specs.declared.disposition.Disposition.TheVariants.{Handler}
 use Rattle.sk_signal.specs.SignalSet.{signals_of}
@@ -8,10 +8,10 @@ use Rattle.sk_world.specs.World.{World, at, opening}
 use Rattle.sk_machine.specs.declared.answer.Effect.TheVariants as effect
 use Rattle.sk_machine.specs.declared.answer.Reason.TheVariants as reason
 use Rattle.sk_machine.specs.declared.event.Event.TheVariants.{Call, Deliver}
-use Rattle.sk_machine.specs.Performed.{body_of}
 use Rattle.sk_machine.specs.Lines.{Happening}
 use Rattle.sk_machine_runs.specs.Scripts.{nothing_given, given, plain, minus, only, sigaction, sigprocmask, sigreturn, getpid, fork, wait4, kill, getuid, setuid, geteuid, setpgid, getppid, setresuid, sigpending, prctl, gives, fails, told, signals, delivers, handles, not_now, Runs, after}
 use Rattle.sk_machine_runs.specs.WorkedSignals.{mask_at}
+use Rattle.std.specs.Option.{option_map}
 
 -- SIG_BLOCK adds to the mask, SIG_UNBLOCK takes from it, and SIG_SETMASK replaces it: sigprocmask(2)
 abbrev pub two_blocks : List Happening
@@ -19,25 +19,25 @@ two_blocks = (sigprocmask 1 0 0x200, gives 0) ∷ (sigprocmask 1 0 0x4, gives 0)
 
 -- both are blocked
 abbrev pub AddsToMask : Type 0
-AddsToMask = mask_at (after nothing_given opening two_blocks) 1 ≡ signals_of 0x204
+AddsToMask = mask_at (after nothing_given opening two_blocks) 1 ≡ Some (signals_of 0x204)
 
 -- one of them is unblocked, and another one that was not blocked
 abbrev pub TakesFromMask : Type 0
 TakesFromMask =
     mask_at (after nothing_given (after nothing_given opening two_blocks) ((sigprocmask 1 1 0x210, gives 0) ∷ [])) 1
-    ≡ signals_of 0x4
+    ≡ Some (signals_of 0x4)
 
 -- the mask is another one
 abbrev pub ReplacesMask : Type 0
 ReplacesMask =
     mask_at (after nothing_given (after nothing_given opening two_blocks) ((sigprocmask 1 2 0x210, gives 0) ∷ [])) 1
-    ≡ signals_of 0x210
+    ≡ Some (signals_of 0x210)
 
 -- neither a handler's mask nor the mask while it runs has SIGKILL and SIGSTOP: sigaction(2)
 abbrev pub KeepsKillOutOfHandlers : Type 0
 KeepsKillOutOfHandlers =
-    disposition_of (body_of (at (after (given [] (plain ∷ [])) opening ((sigaction 1 10 2 (minus 1), gives 0) ∷ [])) 1)).signals 10
-    ≡ Handler 0 (signals_of 0x7ffbfeff)
+    option_map (λ p. disposition_of p.body.signals 10) (at (after (given [] (plain ∷ [])) opening ((sigaction 1 10 2 (minus 1), gives 0) ∷ [])) 1)
+    ≡ Some (Handler 0 (signals_of 0x7ffbfeff))
 
 -- a handler within a handler: each return gives the mask back that was there when its handler began
 abbrev pub ReturnsOneByOne : Type 0

@@ -7,8 +7,7 @@ use Rattle.sk_machine.specs.declared.answer.Effect.TheVariants as effect
 use Rattle.sk_machine.specs.declared.answer.Reason.TheVariants as reason
 use Rattle.sk_machine.specs.declared.event.Event.TheVariants.{Deliver, Resume, Fault}
 use Rattle.sk_world.specs.declared.process.TheConstants.{INIT}
-use Rattle.sk_world.specs.World.{World, at, opening}
-use Rattle.sk_machine.specs.Performed.{body_of}
+use Rattle.sk_world.specs.World.{World, opening}
 use Rattle.sk_machine.specs.Lines.{Happening}
 use Rattle.sk_machine.specs.Given.{GivenImages}
 use Rattle.sk_machine_runs.specs.Scripts.{nothing_given, given, plain, set_user_id, for_number, pause, getpid, fork, exit, wait4, kill, gives, waits, ends, resumes, delivers, crashes, not_now, events_of, Runs, after}
@@ -20,6 +19,7 @@ use Rattle.sk_machine.specs.Turns.{is_runnable, need_of, next_of}
 use Rattle.sk_machine_runs.specs.WorkedCalls.{kept_filter}
 use Rattle.sk_machine_runs.specs.WorkedWaits.{no_zombies, crash, stop_and_continue, orphan}
 use Rattle.sk_machine_runs.specs.WorkedGroups.{kills_by_ids, regrouping}
+use Rattle.sk_machine_runs.specs.WorkedSignals.{life_at}
 
 -- every reason for which an event is not possible
 abbrev pub TellsReasons : Type 0
@@ -52,7 +52,7 @@ halted = after nothing_given opening ((fork 1, gives 2) ∷ (Fault 1, crashes) �
 
 -- process 1 has ended by SIGSEGV
 abbrev pub EndsSystem : Type 0
-EndsSystem = (body_of (at halted INIT)).life ≡ Zombie 11
+EndsSystem = life_at halted INIT ≡ Some (Zombie 11)
 
 -- and no event is possible
 abbrev pub HaltsAll : Type 0
