@@ -1,6 +1,6 @@
 -- Each wrong machine is refused by a run.
 use Rattle.std.proofs.Common.{◌≡◌, ◌∙◌, ℕ, ◌==◌, arith, ap, sym, refl, subst, cond, Bool, true, false, length, IsTrue, List, [], ◌∷◌, Some}
-use Rattle.std.specs.Option.{is_some}
+use Rattle.std.specs.Option.{is_some, option_map_or}
 use Rattle.std.specs.Ordering.{nat_cmp}
 use Rattle.std.specs.FinMap.Entries.{find}
 use Rattle.std.proofs.lemmas.Int.{ints}
@@ -19,13 +19,13 @@ use Rattle.sk_world.proofs.Maps.{same_number}
 use Rattle.sk_machine.specs.declared.event.Event.{Event}
 use Rattle.sk_machine.specs.Given.{GivenImages}
 use Rattle.sk_machine.specs.Authority.{Authority}
-use Rattle.sk_machine.specs.Performed.{body_of, authority_at}
 use Rattle.sk_machine.specs.Machine.{step_of, world_after}
 use Rattle.sk_machine_laws.specs.AnyMachine.{GivesAuthorityByLine, TellsEndsOnce, KeepsToConfined}
 use Rattle.sk_machine_laws.specs.ConfinementLaws.{RefusesKill, IsConfined}
 use Rattle.sk_machine_laws.proofs.KeptEvents.{kept_reached}
 use Rattle.sk_machine_runs.specs.Scripts.{nothing_given, given, plain, always, fork, execve, exit, wait4, kill, setuid, seccomp}
 use Rattle.sk_machine_wrongs.specs.WrongMachines.{forks_bare, forks_into_old, executes_bare, orphans_with_first_ids, leaves_zombies, performs_refused, WrongsAreRefused}
+use Rattle.sk_machine.specs.Lines.{authority_at}
 
 -- a filter that allows everything, and a program
 allowing : GivenImages
@@ -111,7 +111,7 @@ refused_performs : KeepsToConfined performs_refused → ⊥
 unfolding refusing beside step_of fresh_of new_parent ancestors action_of operation_of first_fault empty contains insert retain remove difference union from_list lowest signals_to signals_of no_signal
 refused_performs law =
     let alone = law refusing (world_after refusing opening beside) (kill 2 3 9) two 3 (kept_reached refusing beside) two_confined refl refl refl in
-    let pending : true ≡ false = ap (λ o. contains (body_of o).signals.pending 9) (alone.same refl) in
+    let pending : true ≡ false = ap (λ o. option_map_or (λ p. contains p.body.signals.pending 9) o false) (alone.same refl) in
     false≢true (sym pending)
 
 pub wrongs_are_refused : WrongsAreRefused

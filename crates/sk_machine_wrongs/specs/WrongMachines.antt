@@ -15,12 +15,13 @@ use Rattle.sk_machine.specs.declared.answer.Answer.{Answer}
 use Rattle.sk_machine.specs.declared.answer.Answer.TheVariants as answer
 use Rattle.sk_machine.specs.declared.answer.Outcome.TheVariants.{Returned, Executed, Ended}
 use Rattle.sk_machine.specs.Events.{pid_of}
-use Rattle.sk_machine.specs.Performed.{body_of}
 use Rattle.sk_machine.specs.Performing.{performed}
 use Rattle.sk_machine.specs.Machine.{step_of}
 use Rattle.sk_machine.specs.Lines.{is_fork_of}
 use Rattle.sk_machine_laws.specs.TellingLaws.{told_by}
 use Rattle.sk_machine_laws.specs.AnyMachine.{Machine, GivesAuthorityByLine, TellsEndsOnce, KeepsToConfined}
+use Rattle.sk_machine.specs.Given.{GivenImages}
+use Rattle.sk_insn.specs.declared.record.Record.{Record}
 
 -- the number that a call has returned
 abbrev pub number_in : Answer → Option ℕ
@@ -43,7 +44,7 @@ forks_bare images w event = with_child (λ before. bare) images w event
 
 -- fork(2) leaves the child the filters of another process, as one would that finds them in an old slot
 abbrev pub forks_into_old : Machine
-forks_into_old images w event = with_child (λ before body. record body { chain = (body_of (at before INIT)).chain }) images w event
+forks_into_old images w event = with_child (λ before body. record body { chain = option_map_or (λ p. p.body.chain) (at before INIT) body.chain }) images w event
 
 -- the call was an execve(2)
 abbrev pub has_executed : Answer → Bool
@@ -64,7 +65,9 @@ has_ended_caller other = false
 -- an orphan gets the ids of process 1
 abbrev pub with_first_ids : World → Event → ℕ → Proc → Option Proc
 with_first_ids before event k p =
-    Some (if is_child_of (pid_of event) (at before k) then body_changed (λ body. record body { creds = (body_of (at before INIT)).creds }) p else p)
+    Some (
+    if is_child_of (pid_of event) (at before k) then body_changed (λ body. record body { creds = option_map_or (λ p. p.body.creds) (at before INIT) body.creds }) p
+    else p)
 
 -- so do all children of a process that ends
 abbrev pub orphans_with_first_ids : Machine
@@ -87,11 +90,15 @@ abbrev pub is_refused : Answer → Bool
 is_refused (answer.Call verdict outcome) = is_errno (action_of verdict)
 is_refused other = false
 
+-- the world after a process, if it is there, has performed a call
+abbrev pub world_performed : GivenImages → World → ℕ → Record → World
+world_performed images w pid call = option_map_or (λ p. (performed images w pid p.body call).world) (at w pid) w
+
 -- a call that a filter answers with an error is performed all the same
 abbrev pub performs_refused : Machine
 performs_refused images w (Call pid ip nr args) =
     if is_refused (step_of images w (Call pid ip nr args)).answer
-    then record (step_of images w (Call pid ip nr args)) { world = (performed images w pid (record { nr = nr; ip = ip; args = args })).world }
+    then record (step_of images w (Call pid ip nr args)) { world = world_performed images w pid (record { nr = nr; ip = ip; args = args }) }
     else step_of images w (Call pid ip nr args)
 performs_refused images w event = step_of images w event
 
