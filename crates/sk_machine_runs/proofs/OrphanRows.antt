@@ -9,7 +9,7 @@ use Rattle.sk_signal.specs.Signalling.{opening as no_signal}
 use Rattle.sk_world.specs.Numbers.{fresh_of}
 use Rattle.sk_world.specs.Subreapers.{ancestors, new_parent}
 use Rattle.sk_machine.specs.Machine.{step_of, reason_of}
-use Rattle.sk_machine_runs.specs.WorkedOrphans.{HangsUpJob, TurnsOfJob, IgnoresTerminalStop, TurnsOfUnstopped, StopsBySigstopAlone, StopsWhereTied, HangsUpEachGroup, SparesRunningGroups, SparesOrphanedBefore, SparesTiedGroups, CountsNoZombies, ContinuesGroup, HangsUpAfterFilterKill, HangsUpAfterOtherKills, HangsUpAfterCrash, HangsUpAfterSignal, HaltHangsUpNobody, WorkedOrphans, leaderless}
+use Rattle.sk_machine_runs.specs.WorkedOrphans.{HangsUpJob, TurnsOfJob, IgnoresTerminalStop, TurnsOfUnstopped, StopsBySigstopAlone, StopsWhereTied, HangsUpEachGroup, SparesRunningGroups, SparesOrphanedBefore, SparesTiedGroups, CountsNoZombies, ContinuesGroup, HangsUpAfterFilterKill, HangsUpAfterOtherKills, HangsUpAfterCrash, HangsUpAfterSignal, HaltHangsUpNobody, WorkedOrphans, leaderless, HangsUpWithoutRoomForFrame}
 use Rattle.sk_world.specs.World.{World, at}
 use Rattle.sk_world.specs.declared.process.TheConstants.{INIT}
 use Rattle.sk_world.proofs.Stored.{at_other}
@@ -80,6 +80,10 @@ hangs_up_after_signal : HangsUpAfterSignal
 unfolding step_of fresh_of new_parent ancestors action_of operation_of first_fault empty contains insert retain remove difference union from_list lowest signals_to signals_of no_signal
 hangs_up_after_signal = refl
 
+hangs_up_without_room_for_frame : HangsUpWithoutRoomForFrame
+unfolding step_of fresh_of new_parent ancestors action_of operation_of first_fault empty contains insert retain remove difference union from_list lowest signals_to signals_of no_signal
+hangs_up_without_room_for_frame = refl
+
 -- an exit(2) of process 1 leaves every other one
 exits_alone : (w : World) (code q : ℕ) → q ≢ INIT → reason_of w (exit 1 code) ≡ None
     → verdict_by (record { nr = 60; ip = 0; args = code ∷ 0 ∷ 0 ∷ 0 ∷ 0 ∷ 0 ∷ [] }) (at w 1) ≡ Some 0x7fff0000 → at (step_of nothing_given w (exit 1 code)).world q ≡ at w q
@@ -109,5 +113,6 @@ worked_orphans = record {
   hangs_up_after_other_kills = hangs_up_after_other_kills;
   hangs_up_after_crash = hangs_up_after_crash;
   hangs_up_after_signal = hangs_up_after_signal;
+  hangs_up_without_room_for_frame = hangs_up_without_room_for_frame;
   halt_hangs_up_nobody = halt_hangs_up_nobody;
 }

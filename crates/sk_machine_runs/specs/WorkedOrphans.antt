@@ -9,6 +9,7 @@ use Rattle.sk_machine.specs.declared.event.Event.TheVariants.{Deliver, Resume, F
 use Rattle.sk_machine.specs.Lines.{Happening}
 use Rattle.sk_machine_runs.specs.Scripts.{nothing_given, given, plain, for_number, minus, only, sigaction, sigprocmask, sigreturn, sched_yield, getpid, fork, exit, wait4, kill, setpgid, getppid, setsid, sigpending, exit_group, seccomp, gives, waits, told, ends, signals, resumes, delivers, handles, crashes, not_now, Runs, after}
 use Rattle.sk_machine_runs.specs.WorkedTurns.{TakesTurns}
+use Rattle.sk_machine_runs.specs.WorkedSignals.{rounds}
 
 -- the end of a shell leaves the group of its job orphaned, which is stopped: it gets SIGHUP, and is continued
 abbrev pub stopped_job : List Happening
@@ -221,7 +222,7 @@ HangsUpAfterOtherKills =
     ∷ (Deliver 5, delivers 1 (effect.Ended 1))
     ∷ [])
 
--- a fault of its own, a signal, and one that finds no room for its handler's frame
+-- a fault of its own
 abbrev pub HangsUpAfterCrash : Type 0
 HangsUpAfterCrash =
     Runs nothing_given in_session (
@@ -231,6 +232,7 @@ HangsUpAfterCrash =
     ∷ (Deliver 3, delivers 1 (effect.Ended 1))
     ∷ [])
 
+-- a signal
 abbrev pub HangsUpAfterSignal : Type 0
 HangsUpAfterSignal =
     Runs nothing_given in_session (
@@ -238,6 +240,24 @@ HangsUpAfterSignal =
     ∷ (Deliver 3, delivers 19 effect.Stopped)
     ∷ (kill 1 2 9, gives 0)
     ∷ (Deliver 2, delivers 9 (effect.Ended 9))
+    ∷ (Deliver 3, delivers 1 (effect.Ended 1))
+    ∷ [])
+
+-- process 3 is stopped, and eight handlers of the leader run one in the other
+abbrev pub leader_with_eight : World
+leader_with_eight =
+    after (given [] (plain ∷ [])) in_session ((kill 2 3 19, gives 0) ∷ (Deliver 3, delivers 19 effect.Stopped) ∷ (sigaction 2 10 2 0, gives 0) ∷ rounds 2 8)
+
+-- eight more begin
+abbrev pub leader_with_sixteen : World
+leader_with_sixteen = after (given [] (plain ∷ [])) leader_with_eight (rounds 2 8)
+
+-- and a signal that finds no room for its handler's frame
+abbrev pub HangsUpWithoutRoomForFrame : Type 0
+HangsUpWithoutRoomForFrame =
+    Runs (given [] (plain ∷ [])) leader_with_sixteen (
+    (kill 2 2 10, gives 0)
+    ∷ (Deliver 2, delivers 10 (effect.Ended 11))
     ∷ (Deliver 3, delivers 1 (effect.Ended 1))
     ∷ [])
 
@@ -268,4 +288,5 @@ pub record WorkedOrphans : Type 0 where
   pub hangs_up_after_other_kills : HangsUpAfterOtherKills
   pub hangs_up_after_crash : HangsUpAfterCrash
   pub hangs_up_after_signal : HangsUpAfterSignal
+  pub hangs_up_without_room_for_frame : HangsUpWithoutRoomForFrame
   pub halt_hangs_up_nobody : HaltHangsUpNobody
