@@ -289,7 +289,8 @@ spares_subreapers : (there : Bool) (w : World) (q : ℕ) (p : Performed) → Spa
 spares_subreapers true w q p spares = spares
 spares_subreapers false w q p spares = spares_world w q false
 
-spares_prctl : (images : GivenImages) (w : World) (pid q : ℕ) (body : Body) (which : Option PrctlOption) (call : Record) → q ≢ pid → Spares w q (prctl images w pid body which call)
+spares_prctl : (images : GivenImages) (w : World) (pid q : ℕ) (body : Body) (which : Option PrctlOption) (call : Record) → q ≢ pid
+    → Spares w q (prctl images w pid body which call)
 spares_prctl images w pid q body (Some option.GetSeccomp) call ne = spares_world w q false
 spares_prctl images w pid q body (Some option.GetNoNewPrivs) call ne = spares_asked w q (no_new_privs_asked call body.creds.no_new_privs)
 spares_prctl images w pid q body (Some option.SetChildSubreaper) call ne =
@@ -298,7 +299,8 @@ spares_prctl images w pid q body (Some option.GetChildSubreaper) call ne = spare
 spares_prctl images w pid q body None call ne = spares_world w q false
 spares_prctl images w pid q body setting call ne = spares_authorises w pid q (after_prctl images setting call (authority_of body)) ne
 
-spares_seccomp : (images : GivenImages) (w : World) (pid q : ℕ) (body : Body) (which : Option SeccompOperation) (call : Record) → q ≢ pid → Spares w q (seccomp images w pid body which call)
+spares_seccomp : (images : GivenImages) (w : World) (pid q : ℕ) (body : Body) (which : Option SeccompOperation) (call : Record) → q ≢ pid
+    → Spares w q (seccomp images w pid body which call)
 spares_seccomp images w pid q body (Some operation.GetActionAvail) call ne = spares_asked w q (action_available (low call 1) (low call 2))
 spares_seccomp images w pid q body None call ne = spares_world w q false
 spares_seccomp images w pid q body setting call ne = spares_authorises w pid q (after_seccomp images setting call (authority_of body)) ne
@@ -307,7 +309,8 @@ spares_ends : (w : World) (pid status q : ℕ) → IsApart w pid q → Alone q (
 spares_ends w pid status q apart = only_told q (at w q) (at (ended_and_hung_up w pid status) q) (end_told w pid status q apart)
 
 -- every call but kill(2)
-spares_row : (images : GivenImages) (w : World) (pid q : ℕ) (body : Body) (which : Option Syscall) (call : Record) → IsWorld w → IsApart w pid q → IsTrue (is_some (at w q)) → is_kill_row which ≡ false → Spares w q (row images w pid body which call)
+spares_row : (images : GivenImages) (w : World) (pid q : ℕ) (body : Body) (which : Option Syscall) (call : Record) → IsWorld w → IsApart w pid q
+    → IsTrue (is_some (at w q)) → is_kill_row which ≡ false → Spares w q (row images w pid body which call)
 spares_row images w pid q body (Some syscall.RtSigaction) call rules apart there other = spares_resignals w pid q (after_sigaction pid call body.signals) apart.other
 spares_row images w pid q body (Some syscall.RtSigprocmask) call rules apart there other = spares_resignals w pid q (after_sigprocmask call body.signals) apart.other
 spares_row images w pid q body (Some syscall.RtSigreturn) call rules apart there other =
@@ -337,7 +340,8 @@ spares_row images w pid q body (Some syscall.Prctl) call rules apart there other
 spares_row images w pid q body (Some syscall.Seccomp) call rules apart there other = spares_seccomp images w pid q body (seccomp_operation_of (low call 0)) call apart.other
 spares_row images w pid q body None call rules apart there other = spares_world w q false
 
-spares_judged : (images : GivenImages) (w : World) (pid q : ℕ) (body : Body) (call : Record) (verdict : ℕ) (a : Action) → IsWorld w → IsApart w pid q → IsTrue (is_some (at w q))
+spares_judged : (images : GivenImages) (w : World) (pid q : ℕ) (body : Body) (call : Record) (verdict : ℕ) (a : Action) → IsWorld w → IsApart w pid q
+    → IsTrue (is_some (at w q))
     → (IsTrue (performs a) → is_kill_row (syscall_of call.nr) ≡ false) → Spares w q (judged images w pid body call verdict a)
 spares_judged images w pid q body call verdict action.Allow rules apart there other = spares_row images w pid q body (syscall_of call.nr) call rules apart there (other refl)
 spares_judged images w pid q body call verdict action.Log rules apart there other = spares_row images w pid q body (syscall_of call.nr) call rules apart there (other refl)

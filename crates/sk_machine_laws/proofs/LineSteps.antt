@@ -172,7 +172,8 @@ step_fork images w pid q call true room alive =
     (came_by_rights (at (forked w pid) q) (at w (cond ((q == fresh_of w) && has_room w) pid q)) (forked_rights w pid q alive)))
 step_fork images w pid q call false room alive = leaves ((pid == q) && true) (λ a. a) (at w q) (at w q) (λ a. refl) (came_still (at w q))
 
-step_row : (images : GivenImages) (w : World) (pid q : ℕ) (body : Body) (which : Option Syscall) (call : Record) → HasAuthority w pid (authority_of body) → IsTrue (is_alive (at w pid)) → RowStep images w pid q call which (row images w pid body which call)
+step_row : (images : GivenImages) (w : World) (pid q : ℕ) (body : Body) (which : Option Syscall) (call : Record)
+    → HasAuthority w pid (authority_of body) → IsTrue (is_alive (at w pid)) → RowStep images w pid q call which (row images w pid body which call)
 step_row images w pid q body (Some syscall.RtSigaction) call own alive = step_quiet pid q _ (at w q) (over_resignals Keeps keeps w pid (after_sigaction pid call body.signals) q)
 step_row images w pid q body (Some syscall.RtSigprocmask) call own alive = step_quiet pid q _ (at w q) (over_resignals Keeps keeps w pid (after_sigprocmask call body.signals) q)
 step_row images w pid q body (Some syscall.RtSigreturn) call own alive =
@@ -234,7 +235,8 @@ step_performed images w pid q body call own alive =
 step_refused : (images : GivenImages) (w : World) (pid q : ℕ) (p : Performed) → Keeps w p.world → CallStep images w pid q None p
 step_refused images w pid q p keeps = no_calls images ((pid == q) && true) (at p.world q) (at w q) (keeps q)
 
-step_judged : (images : GivenImages) (w : World) (pid q : ℕ) (body : Body) (call : Record) (verdict : ℕ) (a : Action) → HasAuthority w pid (authority_of body) → IsTrue (is_alive (at w pid))
+step_judged : (images : GivenImages) (w : World) (pid q : ℕ) (body : Body) (call : Record) (verdict : ℕ) (a : Action)
+    → HasAuthority w pid (authority_of body) → IsTrue (is_alive (at w pid))
     → CallStep images w pid q (cond (performs a) (Some call) None) (judged images w pid body call verdict a)
 step_judged images w pid q body call verdict action.Allow own alive = step_performed images w pid q body call own alive
 step_judged images w pid q body call verdict action.Log own alive = step_performed images w pid q body call own alive

@@ -90,7 +90,8 @@ at_call images w event verdict outcome P is made =
     at_step images w event (λ s. s.answer ≡ answer.Call verdict outcome → P (pid_of event) s) (λ _ _ is. cc)
     (λ p there alive. at_called images w p.body event verdict outcome P made) is
 
-refused_world : (images : GivenImages) (w : World) (pid : ℕ) (body : Body) (call : Record) (verdict : ℕ) (a : Action) → IsTrue (only_refuses a) → (judged images w pid body call verdict a).world ≡ w
+refused_world : (images : GivenImages) (w : World) (pid : ℕ) (body : Body) (call : Record) (verdict : ℕ) (a : Action) → IsTrue (only_refuses a)
+    → (judged images w pid body call verdict a).world ≡ w
 refused_world images w pid body call errno action.Errno refuses = refl
 refused_world images w pid body call errno action.UserNotif refuses = refl
 refused_world images w pid body call errno action.Trace refuses = refl
@@ -111,7 +112,8 @@ trap_forces_sigsys images w event verdict outcome is trap =
     at_call images w event verdict outcome (λ pid s. s ≡ record { answer = answer.Call verdict Trapped; world = forced w pid }) is
     (λ pid body call _. ap (λ a. call_answered verdict (judged images w pid body call verdict a)) trap)
 
-ended_by_filter : (images : GivenImages) (w : World) (pid : ℕ) (body : Body) (call : Record) (verdict : ℕ) (a : Action) → IsTrue (ends_caller a) → judged images w pid body call verdict a ≡ end_of_caller w pid SIGSYS
+ended_by_filter : (images : GivenImages) (w : World) (pid : ℕ) (body : Body) (call : Record) (verdict : ℕ) (a : Action) → IsTrue (ends_caller a)
+    → judged images w pid body call verdict a ≡ end_of_caller w pid SIGSYS
 ended_by_filter images w pid body call errno action.KillProcess kills = refl
 ended_by_filter images w pid body call errno action.KillThread kills = refl
 ended_by_filter images w pid body call errno action.Unknown kills = refl
@@ -182,7 +184,8 @@ clean_prctl images w pid body (Some option.GetChildSubreaper) call = clean_subre
 clean_prctl images w pid body None call = λ n is. refl
 clean_prctl images w pid body setting call = clean_authorises w pid (after_prctl images setting call (authority_of body))
 
-clean_seccomp : (images : GivenImages) (w : World) (pid : ℕ) (body : Body) (which : Option SeccompOperation) (call : Record) → FailsClean w (seccomp images w pid body which call)
+clean_seccomp : (images : GivenImages) (w : World) (pid : ℕ) (body : Body) (which : Option SeccompOperation) (call : Record)
+    → FailsClean w (seccomp images w pid body which call)
 clean_seccomp images w pid body (Some operation.GetActionAvail) call = clean_asked w (action_available (low call 1) (low call 2))
 clean_seccomp images w pid body None call = λ n is. refl
 clean_seccomp images w pid body setting call = clean_authorises w pid (after_seccomp images setting call (authority_of body))
@@ -217,7 +220,8 @@ clean_row images w pid body (Some syscall.Prctl) call = clean_prctl images w pid
 clean_row images w pid body (Some syscall.Seccomp) call = clean_seccomp images w pid body (seccomp_operation_of (low call 0)) call
 clean_row images w pid body None call = λ n is. refl
 
-clean_judged : (images : GivenImages) (w : World) (pid : ℕ) (body : Body) (call : Record) (verdict : ℕ) (a : Action) → FailsClean w (judged images w pid body call verdict a)
+clean_judged : (images : GivenImages) (w : World) (pid : ℕ) (body : Body) (call : Record) (verdict : ℕ) (a : Action)
+    → FailsClean w (judged images w pid body call verdict a)
 clean_judged images w pid body call verdict action.Allow = clean_row images w pid body (syscall_of call.nr) call
 clean_judged images w pid body call verdict action.Log = clean_row images w pid body (syscall_of call.nr) call
 clean_judged images w pid body call verdict action.Trap = λ n is. cc
