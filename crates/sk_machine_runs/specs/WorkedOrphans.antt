@@ -138,6 +138,19 @@ SparesRunningGroups =
     ∷ (getpid 3, gives 3)
     ∷ [])
 
+-- nor is one in which the process that ends was the only one stopped
+abbrev pub SparesWhereStoppedOneEnds : Type 0
+SparesWhereStoppedOneEnds =
+    Runs nothing_given in_session (
+    (fork 3, gives 5)
+    ∷ (kill 2 3 19, gives 0)
+    ∷ (Deliver 3, delivers 19 effect.Stopped)
+    ∷ (kill 2 3 9, gives 0)
+    ∷ (Deliver 3, delivers 9 (effect.Ended 9))
+    ∷ (Deliver 5, not_now reason.NothingWaits)
+    ∷ (getpid 5, gives 5)
+    ∷ [])
+
 -- nor is a group that was orphaned before
 abbrev pub SparesOrphanedBefore : Type 0
 SparesOrphanedBefore =
@@ -280,6 +293,7 @@ pub record WorkedOrphans : Type 0 where
   pub stops_where_tied : StopsWhereTied
   pub hangs_up_each_group : HangsUpEachGroup
   pub spares_running_groups : SparesRunningGroups
+  pub spares_where_stopped_one_ends : SparesWhereStoppedOneEnds
   pub spares_orphaned_before : SparesOrphanedBefore
   pub spares_tied_groups : SparesTiedGroups
   pub counts_no_zombies : CountsNoZombies
