@@ -9,7 +9,7 @@ use Rattle.sk_signal.specs.Signalling.{opening as no_signal}
 use Rattle.sk_world.specs.Numbers.{fresh_of}
 use Rattle.sk_world.specs.Subreapers.{ancestors, new_parent}
 use Rattle.sk_machine.specs.Machine.{step_of, reason_of}
-use Rattle.sk_machine_runs.specs.WorkedOrphans.{HangsUpJob, TurnsOfJob, IgnoresTerminalStop, TurnsOfUnstopped, StopsBySigstopAlone, StopsWhereTied, HangsUpEachGroup, SparesRunningGroups, SparesOrphanedBefore, SparesTiedGroups, CountsNoZombies, ContinuesGroup, HangsUpAfterFilterKill, HangsUpAfterOtherKills, HangsUpAfterCrash, HangsUpAfterSignal, HaltHangsUpNobody, WorkedOrphans, leaderless, HangsUpWithoutRoomForFrame, SparesWhereStoppedOneEnds}
+use Rattle.sk_machine_runs.specs.WorkedOrphans.{HangsUpJob, TurnsOfJob, IgnoresTerminalStop, TurnsOfUnstopped, StopsBySigstopAlone, StopsWhereTied, HangsUpEachGroup, SparesRunningGroups, SparesOrphanedBefore, SparesTiedGroups, CountsNoZombies, ContinuesGroup, HangsUpAfterFilterKill, HangsUpAfterOtherKills, HangsUpAfterCrash, HangsUpAfterSignal, HaltHangsUpNobody, WorkedOrphans, leaderless, HangsUpWithoutRoomForFrame, SparesWhereStoppedOneEnds, AnnouncesToNewParent}
 use Rattle.sk_world.specs.World.{World, at}
 use Rattle.sk_world.specs.declared.process.TheConstants.{INIT}
 use Rattle.sk_world.proofs.Stored.{at_other}
@@ -68,6 +68,10 @@ continues_group : ContinuesGroup
 unfolding step_of fresh_of new_parent ancestors action_of operation_of first_fault empty contains insert retain remove difference union from_list lowest signals_to signals_of no_signal
 continues_group = refl
 
+announces_to_new_parent : AnnouncesToNewParent
+unfolding step_of fresh_of new_parent ancestors action_of operation_of first_fault empty contains insert retain remove difference union from_list lowest signals_to signals_of no_signal
+announces_to_new_parent = refl
+
 hangs_up_after_filter_kill : HangsUpAfterFilterKill
 unfolding step_of fresh_of new_parent ancestors action_of operation_of first_fault empty contains insert retain remove difference union from_list lowest signals_to signals_of no_signal
 hangs_up_after_filter_kill = refl
@@ -114,6 +118,7 @@ worked_orphans = record {
   spares_tied_groups = spares_tied_groups;
   counts_no_zombies = counts_no_zombies;
   continues_group = continues_group;
+  announces_to_new_parent = announces_to_new_parent;
   hangs_up_after_filter_kill = hangs_up_after_filter_kill;
   hangs_up_after_other_kills = hangs_up_after_other_kills;
   hangs_up_after_crash = hangs_up_after_crash;

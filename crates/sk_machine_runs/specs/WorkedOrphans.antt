@@ -206,6 +206,21 @@ ContinuesGroup =
     ∷ (wait4 1 3 9, told 3 0xffff)
     ∷ [])
 
+-- it is the new parent that is told, and not the one that has ended: here process 1, whose child has not ended
+abbrev pub AnnouncesToNewParent : Type 0
+AnnouncesToNewParent =
+    Runs (given [] (plain ∷ [])) in_session (
+    (fork 3, gives 5)
+    ∷ (setpgid 3 5 0, gives 0)
+    ∷ (kill 3 5 19, gives 0)
+    ∷ (Deliver 5, delivers 19 effect.Stopped)
+    ∷ (sigaction 1 17 2 0, gives 0)
+    ∷ (sigprocmask 1 0 (only 17), gives 0)
+    ∷ (exit 3 0, ends 0)
+    ∷ (sigpending 1, signals (only 17))
+    ∷ (Deliver 5, delivers 1 (effect.Ended 1))
+    ∷ [])
+
 -- whatever ends the leader leaves the group orphaned: a kill by a filter
 abbrev pub HangsUpAfterFilterKill : Type 0
 HangsUpAfterFilterKill =
@@ -298,6 +313,7 @@ pub record WorkedOrphans : Type 0 where
   pub spares_tied_groups : SparesTiedGroups
   pub counts_no_zombies : CountsNoZombies
   pub continues_group : ContinuesGroup
+  pub announces_to_new_parent : AnnouncesToNewParent
   pub hangs_up_after_filter_kill : HangsUpAfterFilterKill
   pub hangs_up_after_other_kills : HangsUpAfterOtherKills
   pub hangs_up_after_crash : HangsUpAfterCrash
