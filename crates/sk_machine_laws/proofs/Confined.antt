@@ -1,7 +1,7 @@
 -- What an event leaves of a process that it is not meant to touch.
 use Rattle.std.proofs.Common.{◌≡◌, ◌≢◌, ◌∙◌, ℕ, ℤ, ◌==◌, ◌&&◌, arith, ap, sym, refl, subst, cond, not, Bool, true, false, length, IsTrue, List, [], ◌∷◌, ◌++◌, Option, None, Some, Result, Ok, Err}
 use Rattle.std.specs.Prelude.{filter}
-use Rattle.std.specs.Option.{is_some, unwrap_or, option_map, option_and_then}
+use Rattle.std.specs.Option.{is_some, option_map, option_and_then}
 use Rattle.std.specs.List.{list_all}
 use Rattle.std.specs.Result.{result_and}
 use Rattle.std.specs.Int.{is_negative}
@@ -72,7 +72,7 @@ use Rattle.sk_machine.specs.Delivering.{Delivered, signal_for, terminated_by, in
 use Rattle.sk_machine.specs.Machine.{Stepped, judged, happened}
 use Rattle.sk_machine_laws.specs.ConfinementLaws.{RefusesKill, after_signals, is_of_an_end, IsTold, IsConfined, is_end, is_end_or_stop, ends_or_stops, EventIsConfined}
 use Rattle.sk_machine_laws.proofs.Growing.{lets_through}
-use Rattle.sk_machine_laws.proofs.Happened.{at_step}
+use Rattle.sk_machine_laws.proofs.Happened.{at_step, at_delivery}
 use Rattle.sk_machine_laws.proofs.LineSteps.{authority_in}
 
 -- ---- which call is a kill
@@ -426,7 +426,7 @@ spares_happened images w body (Call pid ip nr args) q rules apart there refuses 
     let call : Record = record { nr = nr; ip = ip; args = args } in
     let verdict : ℕ = verdict_of body.chain call in
     spares_judged images w pid q body call verdict (action_of verdict) rules apart there (no_kill body call refuses)
-spares_happened images w body (Deliver pid) q rules apart there refuses = spares_delivered w pid body (unwrap_or (signal_for body) 0) q apart
+spares_happened images w body (Deliver pid) q rules apart there refuses = at_delivery w pid body (signal_for body) (SparesStep w q) (spares_world w q false) (λ n. spares_delivered w pid body n q apart)
 spares_happened images w body (Resume pid) q rules apart there refuses = spares_resumed w pid q body.waiting apart
 spares_happened images w body (Fault pid) q rules apart there refuses = spares_ends w pid SIGSEGV q apart
 

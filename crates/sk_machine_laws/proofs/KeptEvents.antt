@@ -1,7 +1,7 @@
 -- Every event keeps the rules of the world.
 use Rattle.std.proofs.Common.{◌≡◌, ◌≢◌, ◌∙◌, ℕ, ◌==◌, ◌&&◌, ap, sym, refl, subst, not, Bool, true, false, length, nat_le, IsTrue, IfOk, ℤ, List, [], ◌∷◌, ◌⊎◌, inl, inr, Option, None, Some, Result, Ok, Err}
 use Rattle.std.specs.Prelude.{filter}
-use Rattle.std.specs.Option.{unwrap_or, option_map}
+use Rattle.std.specs.Option.{option_map}
 use Rattle.std.proofs.lemmas.Bool.{cond_both, eqb-true, eqb-false, not-true, not-false}
 use Rattle.sk_insn.specs.declared.record.Record.{Record}
 use Rattle.sk_insn.specs.declared.action.Action.{Action}
@@ -62,7 +62,7 @@ use Rattle.sk_machine.specs.Performing.{executing, execve, forks, exit_status, a
 use Rattle.sk_machine.specs.Delivering.{Delivered, signal_for, terminated_by, in_handler, enters_handler, stopping, stopped_by, ignored, acts_by_default, acts_by_disposition, taking, acted_on}
 use Rattle.sk_machine.specs.Machine.{judged, happened, step_of}
 use Rattle.sk_machine_laws.specs.MachineLaws.{CallKeepsRules, DeliveryKeepsRules, ResumptionKeepsRules, EventKeepsRules, RunKeepsRules, ReachedHasRules}
-use Rattle.sk_machine_laws.proofs.Happened.{at_step}
+use Rattle.sk_machine_laws.proofs.Happened.{at_step, at_delivery}
 use Rattle.sk_creds.specs.declared.creds.Creds.{Creds}
 
 -- a change that leaves a process running, stopped or ended as it is
@@ -281,7 +281,7 @@ kept_happened images w body (Call pid ip nr args) rules alive =
     let call : Record = record { nr = nr; ip = ip; args = args } in
     let verdict : ℕ = verdict_of body.chain call in
     kept_judged images w pid body call verdict (action_of verdict) rules alive
-kept_happened images w body (Deliver pid) rules alive = kept_delivered w pid body (unwrap_or (signal_for body) 0) rules alive
+kept_happened images w body (Deliver pid) rules alive = at_delivery w pid body (signal_for body) (λ s. IsWorld s.world) rules (λ n. kept_delivered w pid body n rules alive)
 kept_happened images w body (Resume pid) rules alive = kept_resumed w pid body.waiting rules alive
 kept_happened images w body (Fault pid) rules alive = kept_end w pid SIGSEGV rules alive
 

@@ -48,7 +48,7 @@ use Rattle.sk_machine.specs.Lines.{Line, Happening, is_fork, has_returned, line_
 use Rattle.sk_machine_laws.specs.LineLaws.{happening, EventChangesAuthority, AuthorityIsOfLine, LineComesFromInit}
 use Rattle.sk_machine_laws.proofs.Carrying.{over_asked, over_changes, over_resignals, over_waits, over_kill, over_setpgid, over_setsid, over_wait4, over_end, over_delivered, over_resumed}
 use Rattle.sk_machine_laws.proofs.Authorities.{CameBy, Came, Keeps, came_still, came_at, came_by_rights, keeps_by_rights, keeps_still, keeps_changed, keeps}
-use Rattle.sk_machine_laws.proofs.Happened.{at_step}
+use Rattle.sk_machine_laws.proofs.Happened.{at_step, at_delivery}
 
 -- ---- which call is a fork
 abbrev pub is_fork_row : Option Syscall → Bool
@@ -259,7 +259,8 @@ step_happened images w (Call pid ip nr args) p q there alive =
     let verdict : ℕ = verdict_of p.body.chain call in
     step_judged images w pid q p.body call verdict (action_of verdict) (own_authority w pid p there) alive
 step_happened images w (Deliver pid) p q there alive =
-    no_calls images ((pid == q) && true) _ (at w q) (over_delivered Keeps keeps w pid p.body (unwrap_or (signal_for p.body) 0) (alive_is_there (at w pid) alive) q)
+    at_delivery w pid p.body (signal_for p.body) (λ s. EventStep images w (Deliver pid) s q) (no_calls images ((pid == q) && true) (at w q) (at w q) (came_still (at w q)))
+    (λ n. no_calls images ((pid == q) && true) _ (at w q) (over_delivered Keeps keeps w pid p.body n (alive_is_there (at w pid) alive) q))
 step_happened images w (Resume pid) p q there alive = no_calls images ((pid == q) && true) _ (at w q) (over_resumed Keeps keeps w pid p.body.waiting q)
 step_happened images w (Fault pid) p q there alive = no_calls images ((pid == q) && true) _ (at w q) (over_end Keeps keeps w pid SIGSEGV (alive_is_there (at w pid) alive) q)
 

@@ -1,6 +1,6 @@
 -- Where there are no subreapers no event makes one.
 use Rattle.std.proofs.Common.{◌≡◌, ◌∙◌, ℕ, ◌==◌, ◌&&◌, ap, sym, refl, cond, not, Bool, true, false, IsTrue, [], ◌∷◌, Option, None, Some, Result, Ok, Err}
-use Rattle.std.specs.Option.{is_some, unwrap_or, option_map, option_map_or, option_and_then}
+use Rattle.std.specs.Option.{is_some, option_map, option_map_or, option_and_then}
 use Rattle.std.proofs.lemmas.Bool.{false≢true, cond_both}
 use Rattle.sk_insn.specs.declared.record.Record.{Record}
 use Rattle.sk_insn.specs.declared.action.Action.{Action}
@@ -52,7 +52,7 @@ use Rattle.sk_machine.specs.Delivering.{signal_for}
 use Rattle.sk_machine.specs.Machine.{judged, happened, step_of}
 use Rattle.sk_machine_laws.specs.MachineLaws.{HasNoSubreapers, EventMarksNobody, RunMarksNobody, NobodyIsMarked}
 use Rattle.sk_machine_laws.proofs.Carrying.{Carries, over_asked, over_changes, over_resignals, over_waits, over_kill, over_setpgid, over_setsid, over_wait4, over_end, over_delivered, over_resumed}
-use Rattle.sk_machine_laws.proofs.Happened.{at_step}
+use Rattle.sk_machine_laws.proofs.Happened.{at_step, at_delivery}
 
 -- no subreaper comes
 abbrev MarksNobody : World → World → Type 0
@@ -215,7 +215,7 @@ marks_happened images w body (Call pid ip nr args) is there =
     let call : Record = record { nr = nr; ip = ip; args = args } in
     let verdict : ℕ = verdict_of body.chain call in
     marks_judged images w pid body call verdict (action_of verdict) is there
-marks_happened images w body (Deliver pid) is there = over_delivered MarksNobody marks w pid body (unwrap_or (signal_for body) 0) there
+marks_happened images w body (Deliver pid) is there = at_delivery w pid body (signal_for body) (λ s. MarksNobody w s.world) (λ none. none) (λ n. over_delivered MarksNobody marks w pid body n there)
 marks_happened images w body (Resume pid) is there = over_resumed MarksNobody marks w pid body.waiting
 marks_happened images w body (Fault pid) is there = over_end MarksNobody marks w pid SIGSEGV there
 

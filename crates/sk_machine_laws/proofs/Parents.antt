@@ -68,7 +68,7 @@ use Rattle.sk_machine_laws.proofs.Unchanged.{impossible_changes_nothing}
 use Rattle.sk_machine_laws.proofs.LineSteps.{is_fork_row, fork_number, event_changes_authority}
 use Rattle.sk_machine_laws.proofs.Growing.{grows_calls}
 use Rattle.sk_machine_laws.proofs.Confined.{event_is_confined}
-use Rattle.sk_machine_laws.proofs.Happened.{at_step}
+use Rattle.sk_machine_laws.proofs.Happened.{at_step, at_delivery}
 
 -- ---- whose child a process is
 -- a set of processes that has with each one all its children
@@ -374,7 +374,9 @@ comes_happened images w body (Call pid ip nr args) q rules there =
     let call : Record = record { nr = nr; ip = ip; args = args } in
     let verdict : ℕ = verdict_of body.chain call in
     comes_judged images w pid q body call verdict (action_of verdict) rules there
-comes_happened images w body (Deliver pid) q rules there = comes_moved w _ pid q (over_delivered Moves moves w pid body (unwrap_or (signal_for body) 0) there q)
+comes_happened images w body (Deliver pid) q rules there =
+    at_delivery w pid body (signal_for body) (λ s. EventComes w (Deliver pid) s q) (comes_moved w w pid q (moved_still w q))
+    (λ n. comes_moved w _ pid q (over_delivered Moves moves w pid body n there q))
 comes_happened images w body (Resume pid) q rules there = comes_moved w _ pid q (over_resumed Moves moves w pid body.waiting q)
 comes_happened images w body (Fault pid) q rules there = comes_moved w _ pid q (over_end Moves moves w pid SIGSEGV there q)
 

@@ -55,7 +55,8 @@ use Rattle.sk_machine.specs.Lines.{Happening, is_fork_of, line_before, history_a
 use Rattle.sk_machine_laws.specs.LineLaws.{happening}
 use Rattle.sk_machine_laws.specs.TellingLaws.{told_in, told_by, IsEnd, HasEndedUnder, EndIsToldToParent, EndIsToldOnce}
 use Rattle.sk_machine_laws.proofs.LineSteps.{event_changes_authority}
-use Rattle.sk_machine_laws.proofs.Happened.{at_step}
+use Rattle.sk_machine_laws.proofs.Happened.{at_step, at_delivery}
+use Rattle.sk_machine.specs.Delivering.{signal_for}
 
 -- what a search tells
 found_status : (o : Option ℕ) (status_at : ℕ → ℕ) (b : Bool) (child status : ℕ)
@@ -273,7 +274,8 @@ tells_happened images w body (Call pid ip nr args) child status is =
     let call : Record = record { nr = nr; ip = ip; args = args } in
     let verdict : ℕ = verdict_of body.chain call in
     tells_judged images w pid body call verdict (action_of verdict) child status is
-tells_happened images w body (Deliver pid) child status is = nothing_told w _ pid child status is
+tells_happened images w body (Deliver pid) child status is =
+    at_delivery w pid body (signal_for body) (StepTells w pid) (λ child status is. nothing_told w _ pid child status is) (λ n child status is. nothing_told w _ pid child status is) child status is
 tells_happened images w body (Resume pid) child status is = tells_resumed w pid body.waiting child status is
 tells_happened images w body (Fault pid) child status is = nothing_told w _ pid child status is
 

@@ -1,5 +1,5 @@
 -- What leaves the world as it is.
-use Rattle.std.proofs.Common.{◌≡◌, ◌∙◌, ℕ, negsuc, ◌==◌, ap, sym, refl, subst, not, Bool, true, false, IsTrue, Option, None, Some, Result, Ok, Err}
+use Rattle.std.proofs.Common.{◌≡◌, ◌∙◌, ℕ, negsuc, ◌==◌, ap, sym, refl, subst, not, Bool, true, false, IsTrue, Option, None, Some, Result, Ok, Err, cond, ◌&&◌}
 use Rattle.std.specs.Option.{is_some, option_and_then}
 use Rattle.std.proofs.lemmas.Bool.{false≢true, cond_both}
 use Rattle.sk_insn.specs.declared.record.Record.{Record}
@@ -19,7 +19,7 @@ use Rattle.sk_world.specs.declared.process.Waiting.TheVariants as waiting
 use Rattle.sk_world.specs.declared.request.Request.{Request}
 use Rattle.sk_world.specs.declared.request.Poll.{Poll}
 use Rattle.sk_world.specs.declared.request.Poll.TheVariants as poll
-use Rattle.sk_world.specs.World.{World, at, has_ended, is_zombie}
+use Rattle.sk_world.specs.World.{World, at, has_ended, is_zombie, is_halted, is_stopped}
 use Rattle.sk_world.specs.Sending.{forced}
 use Rattle.sk_session.specs.Orphans.{ended_and_hung_up}
 use Rattle.sk_world.specs.Forking.{fork_answer}
@@ -47,31 +47,54 @@ use Rattle.sk_machine.specs.SignalCalls.{resignals, after_sigaction, after_sigpr
 use Rattle.sk_machine.specs.Killing.{after_kill}
 use Rattle.sk_machine.specs.WaitCalls.{are_wait_options, request_of, polled, wait4}
 use Rattle.sk_machine.specs.Performing.{end_of_caller, execve, forks, authorised, seccomp_mode, no_new_privs_asked, subreaper_set, subreaper_asked, where_subreapers, prctl, action_available, seccomp, row}
-use Rattle.sk_machine.specs.Machine.{Stepped, judged, call_answered, called_with, happened, stepped, step_of, end_status}
+use Rattle.sk_machine.specs.Machine.{Stepped, judged, call_answered, called_with, happened, stepped, step_of, end_status, delivery, reason_of}
 use Rattle.sk_machine_laws.specs.MachineLaws.{ImpossibleChangesNothing, PossibleHappens, only_refuses, RefusedChangesNothing, TrapForcesSigsys, ends_caller, KillEndsCaller, FailedChangesNothing, HaltHasStatus}
-use Rattle.sk_machine_laws.proofs.Happened.{at_step}
+use Rattle.sk_machine_laws.proofs.Happened.{at_step, at_delivery}
 use Rattle.sk_world.specs.declared.process.Body.{Body}
+use Rattle.sk_machine.specs.declared.answer.Reason.TheVariants as reason
+use Rattle.sk_machine.specs.declared.answer.Reason.TheVariants.{NoProcess, NothingWaits, Halted}
+use Rattle.sk_machine.specs.Delivering.{signal_for, signal_due}
 
 pub impossible_changes_nothing : ImpossibleChangesNothing
 unfolding step_of
 impossible_changes_nothing images w event reason is = ap (stepped images w event) is
 
-happens : (images : GivenImages) (w : World) (body : Body) (event : Event) (reason : Reason) → (happened images w body event).answer ≡ answer.NotNow reason → ⊥
-happens images w body (Call pid ip nr args) reason is = cc
-happens images w body (Deliver pid) reason is = cc
-happens images w body (Resume pid) reason is = cc
-happens images w body (Fault pid) reason is = cc
+delivers : (w : World) (pid : ℕ) (body : Body) (o : Option ℕ) (reason : Reason) → IsTrue (is_some o) → (delivery w pid body o).answer ≡ answer.NotNow reason → ⊥
+delivers w pid body None reason due is = absurd (false≢true due)
+delivers w pid body (Some n) reason due is = cc
+
+-- a signal is due to a process to which a delivery is possible
+due_to : (w : World) (pid : ℕ) (p : Proc) → at w pid ≡ Some p → reason_of w (Deliver pid) ≡ None → IsTrue (is_some (signal_for p.body))
+due_to w pid p there possible =
+    let o : Option Proc = at w pid in
+    let due : Bool = is_some (signal_due o) in
+    let own : Option Reason = cond due None (Some NothingWaits) in
+    let P : Option Reason → Type 0 = λ r. r ≡ None → IsTrue due in
+    sym (ap (λ o. is_some (signal_due o)) there)
+    ∙ cond_both (is_halted w) (Some Halted) _ P (λ _ is. cc)
+    (λ _. cond_both (not (is_some o)) (Some NoProcess) _ P (λ _ is. cc)
+    (λ _. cond_both (is_zombie o) (Some reason.Zombie) _ P (λ _ is. cc)
+    (λ _. cond_both (is_stopped o && not due) (Some reason.Stopped) own P (λ _ is. cc)
+    (λ _. cond_both due None (Some NothingWaits) P (λ due _. due) (λ _ is. cc))))) possible
+
+happens : (images : GivenImages) (w : World) (event : Event) (p : Proc) (reason : Reason) → at w (pid_of event) ≡ Some p → reason_of w event ≡ None
+    → (happened images w p.body event).answer ≡ answer.NotNow reason → ⊥
+happens images w (Call pid ip nr args) p reason there possible is = cc
+happens images w (Deliver pid) p reason there possible is = delivers w pid p.body (signal_for p.body) reason (due_to w pid p there possible) is
+happens images w (Resume pid) p reason there possible is = cc
+happens images w (Fault pid) p reason there possible is = cc
 
 pub possible_happens : PossibleHappens
 possible_happens images w event reason none =
     at_step images w event (λ s. s.answer ≡ answer.NotNow reason → ⊥) (λ _ is _. absurd (false≢true (ap is_some (sym none ∙ is))))
-    (λ p there alive. happens images w p.body event reason)
+    (λ p there alive. happens images w event p reason there none)
 
 -- where the answer is a call's, what holds of a call with this verdict holds of the step
 at_called : (images : GivenImages) (w : World) (body : Body) (event : Event) (verdict : ℕ) (outcome : Outcome) (P : ℕ → Stepped → Type 0)
     → ((pid : ℕ) (body : Body) (call : Record) → (judged images w pid body call verdict (action_of verdict)).outcome ≡ outcome → P pid (called_with images w pid body call verdict))
     → (happened images w body event).answer ≡ answer.Call verdict outcome → P (pid_of event) (happened images w body event)
-at_called images w body (Deliver pid) verdict outcome P made is = cc
+at_called images w body (Deliver pid) verdict outcome P made is =
+    at_delivery w pid body (signal_for body) (λ s. s.answer ≡ answer.Call verdict outcome → P pid s) (λ is. cc) (λ n is. cc) is
 at_called images w body (Resume pid) verdict outcome P made is = cc
 at_called images w body (Fault pid) verdict outcome P made is = cc
 at_called images w body (Call pid ip nr args) verdict outcome P made is =
