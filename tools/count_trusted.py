@@ -3,7 +3,8 @@
 
 A promise names the files that it is said in; what these import from other definitions is read with them, and so
 on. Laws, worked runs, and what only code or proofs look at are imported by no definition, and so not counted;
-nor are imports and blank lines. Types are read in the sources, where they are declared."""
+nor are imports and blank lines. The lines of comments are told apart from those of the definitions that they say in
+words. Types are read in the sources, where they are declared."""
 import os
 import re
 import sys
@@ -15,6 +16,7 @@ PROMISES = [
     ("filters", ["sk_chain/Verdict", "sk_check/Valid", "sk_check/FirstFault"]),
     ("the kernel, with lines", ["sk_machine/Machine", "sk_machine/Lines"]),
     ("the kernel, with lines, turns and memory", ["sk_machine/Machine", "sk_machine/Lines", "sk_machine/Turns", "sk_machine/Memory"]),
+    ("scenarios", ["sk_setting/Scenario", "sk_setting/Faults"]),
 ]
 # Beside these, everything has the texts: each definition of what a command reads and writes.
 TEXTS = ["sk_asm/Assembly", "sk_listing/Listing", "sk_engines/EvalCommand", "sk_engines/CheckCommand", "sk_engines/AsmCommand", "sk_engines/ListCommand"]
@@ -46,9 +48,10 @@ def read_with(names):
 
 
 def count(name):
-    """Its lines, and how many of them are comments."""
-    lines = [line for line in lines_of(name) if line.strip() and not line.startswith(("use ", "pub use "))]
-    return len(lines), sum(1 for line in lines if line.startswith("--"))
+    """Its lines of definitions, and those of comments."""
+    lines = [line.strip() for line in lines_of(name) if line.strip() and not line.startswith(("use ", "pub use "))]
+    comments = sum(1 for line in lines if line.startswith("--"))
+    return len(lines) - comments, comments
 
 
 def main():
@@ -60,10 +63,10 @@ def main():
             sys.exit(f"no such definitions: {', '.join(missing)}")
         found = read_with(names)
         lines, comments = (sum(numbers) for numbers in zip(*map(count, found)))
-        print(f"lines to trust for {what}: {lines}, of them {comments} of comments, in {len(found)} files")
+        print(f"lines to trust for {what}: {lines}, and {comments} of comments, in {len(found)} files")
         if verbose:
             for name in sorted(found):
-                print(f"  {count(name)[0]:4} {name}")
+                print("  {:4} {:4} {}".format(*count(name), name))
 
 
 if __name__ == "__main__":

@@ -1,6 +1,6 @@
 -- The process machine: what every event comes to, and a list of events.
 use Rattle.std.specs.Prelude.{ℕ, Bool, false, not, ◌&&◌, if◌then◌else◌, pos, neg_ℤ, min, List, [], ◌∷◌, Option, None, Some}
-use Rattle.std.specs.Option.{is_some, unwrap_or, option_and_then, option_map_or}
+use Rattle.std.specs.Option.{is_some, option_and_then, option_map_or}
 use Rattle.sk_insn.specs.declared.record.Record.{Record}
 use Rattle.sk_insn.specs.declared.action.Action.{Action}
 use Rattle.sk_insn.specs.declared.action.Action.TheVariants as action
@@ -78,11 +78,18 @@ signal_answered n d = record { answer = answer.Signal n d.effect; world = d.worl
 abbrev pub resume_answered : Performed → Stepped
 resume_answered p = record { answer = answer.Resumed p.outcome; world = p.world }
 
+-- an event that is not possible changes nothing
+abbrev pub not_now : World → Reason → Stepped
+not_now w reason = record { answer = answer.NotNow reason; world = w }
+
+-- the delivery of this signal to a process with this body, if one is due
+abbrev pub delivery : World → ℕ → Body → Option ℕ → Stepped
+delivery w pid body o = option_map_or (λ n. signal_answered n (delivered w pid body n)) o (not_now w NothingWaits)
+
 -- an event that is possible, of a process with this body
 abbrev pub happened : GivenImages → World → Body → Event → Stepped
 happened images w body (Call pid ip nr args) = called images w pid body (record { nr = nr; ip = ip; args = args })
-happened images w body (Deliver pid) =
-    signal_answered (unwrap_or (signal_for body) 0) (delivered w pid body (unwrap_or (signal_for body) 0))
+happened images w body (Deliver pid) = delivery w pid body (signal_for body)
 happened images w body (Resume pid) = resume_answered (resumed w pid body.waiting)
 happened images w body (Fault pid) = record { answer = answer.Crashed; world = ended_and_hung_up w pid SIGSEGV }
 
@@ -126,10 +133,6 @@ reason_of w event =
     else if is_zombie (at w (pid_of event)) then Some Zombie
     else if is_stopped (at w (pid_of event)) && not (is_kill w event) then Some Stopped
     else own_reason w event
-
--- an event that is not possible changes nothing
-abbrev pub not_now : World → Reason → Stepped
-not_now w reason = record { answer = answer.NotNow reason; world = w }
 
 -- an event of this process, if it is there
 abbrev pub happened_to : GivenImages → World → Event → Option Proc → Stepped

@@ -139,7 +139,8 @@ over_end R c w pid status there =
     cond_both (pid == INIT) after (each_hung_up after left) (R w) (λ _. c.ended w pid status there)
     (λ _. c.twice w after (each_hung_up after left) (c.ended w pid status there) (over_each_hung_up R c after left))
 
-over_handler : (R : World → World → Type 0) (c : Carries R) (w : World) (pid : ℕ) (body : Body) (n program : ℕ) (mask : Signals) → IsTrue (is_some (at w pid)) → R w (enters_handler w pid body n program mask).world
+over_handler : (R : World → World → Type 0) (c : Carries R) (w : World) (pid : ℕ) (body : Body) (n program : ℕ) (mask : Signals)
+    → IsTrue (is_some (at w pid)) → R w (enters_handler w pid body n program mask).world
 over_handler R c w pid body n program mask there =
     cond_both (length body.signals.frames == FRAMES) (terminated_by w pid SIGSEGV) _ (λ (d : Delivered). R w d.world) (λ _. over_end R c w pid SIGSEGV there)
     (λ _. c.changed w pid (in_handler n mask) (λ body. (refl, refl)))
@@ -156,7 +157,8 @@ over_default R c w pid n default.Stop there =
     cond_both (is_tty_stop n && is_orphaned w (group_of (at w pid))) (ignored w) (stopped_by w pid n) (λ (d : Delivered). R w d.world) (λ _. c.still w) (λ _. over_stop R c w pid n)
 over_default R c w pid n default.Terminate there = over_end R c w pid n there
 
-over_disposition : (R : World → World → Type 0) (c : Carries R) (w : World) (pid : ℕ) (body : Body) (n : ℕ) (d : Disposition) → IsTrue (is_some (at w pid)) → R w (acts_by_disposition w pid body n d).world
+over_disposition : (R : World → World → Type 0) (c : Carries R) (w : World) (pid : ℕ) (body : Body) (n : ℕ) (d : Disposition)
+    → IsTrue (is_some (at w pid)) → R w (acts_by_disposition w pid body n d).world
 over_disposition R c w pid body n disposition.Ignore there = c.still w
 over_disposition R c w pid body n (disposition.Handler program mask) there = over_handler R c w pid body n program mask there
 over_disposition R c w pid body n disposition.Default there =
@@ -175,7 +177,8 @@ stays_there w pid f there = ap is_some (at_here w pid (option_map (body_changed 
     same None = refl
     same (Some p) = refl
 
-pub over_delivered : (R : World → World → Type 0) (c : Carries R) (w : World) (pid : ℕ) (body : Body) (n : ℕ) → IsTrue (is_some (at w pid)) → R w (delivered w pid body n).world
+pub over_delivered : (R : World → World → Type 0) (c : Carries R) (w : World) (pid : ℕ) (body : Body) (n : ℕ) → IsTrue (is_some (at w pid))
+    → R w (delivered w pid body n).world
 over_delivered R c w pid body n there =
     let took : World = changed w pid (taking n) in
     c.twice w took (acted_on took pid (taking n body) n).world (c.changed w pid (taking n) (λ body. (refl, refl))) (over_acted_on R c took pid (taking n body) n (stays_there w pid (taking n) there))

@@ -1,7 +1,7 @@
 -- What an event leaves of a process that it is not meant to touch.
 use Rattle.std.proofs.Common.{◌≡◌, ◌≢◌, ◌∙◌, ℕ, ℤ, ◌==◌, ◌&&◌, arith, ap, sym, refl, subst, cond, not, Bool, true, false, length, IsTrue, List, [], ◌∷◌, ◌++◌, Option, None, Some, Result, Ok, Err}
 use Rattle.std.specs.Prelude.{filter}
-use Rattle.std.specs.Option.{is_some, unwrap_or, option_map, option_and_then}
+use Rattle.std.specs.Option.{is_some, option_map, option_and_then}
 use Rattle.std.specs.List.{list_all}
 use Rattle.std.specs.Result.{result_and}
 use Rattle.std.specs.Int.{is_negative}
@@ -72,7 +72,7 @@ use Rattle.sk_machine.specs.Delivering.{Delivered, signal_for, terminated_by, in
 use Rattle.sk_machine.specs.Machine.{Stepped, judged, happened}
 use Rattle.sk_machine_laws.specs.ConfinementLaws.{RefusesKill, after_signals, is_of_an_end, IsTold, IsConfined, is_end, is_end_or_stop, ends_or_stops, EventIsConfined}
 use Rattle.sk_machine_laws.proofs.Growing.{lets_through}
-use Rattle.sk_machine_laws.proofs.Happened.{at_step}
+use Rattle.sk_machine_laws.proofs.Happened.{at_step, at_delivery}
 use Rattle.sk_machine_laws.proofs.LineSteps.{authority_in}
 
 -- ---- which call is a kill
@@ -289,7 +289,8 @@ spares_subreapers : (there : Bool) (w : World) (q : ℕ) (p : Performed) → Spa
 spares_subreapers true w q p spares = spares
 spares_subreapers false w q p spares = spares_world w q false
 
-spares_prctl : (images : GivenImages) (w : World) (pid q : ℕ) (body : Body) (which : Option PrctlOption) (call : Record) → q ≢ pid → Spares w q (prctl images w pid body which call)
+spares_prctl : (images : GivenImages) (w : World) (pid q : ℕ) (body : Body) (which : Option PrctlOption) (call : Record) → q ≢ pid
+    → Spares w q (prctl images w pid body which call)
 spares_prctl images w pid q body (Some option.GetSeccomp) call ne = spares_world w q false
 spares_prctl images w pid q body (Some option.GetNoNewPrivs) call ne = spares_asked w q (no_new_privs_asked call body.creds.no_new_privs)
 spares_prctl images w pid q body (Some option.SetChildSubreaper) call ne =
@@ -298,7 +299,8 @@ spares_prctl images w pid q body (Some option.GetChildSubreaper) call ne = spare
 spares_prctl images w pid q body None call ne = spares_world w q false
 spares_prctl images w pid q body setting call ne = spares_authorises w pid q (after_prctl images setting call (authority_of body)) ne
 
-spares_seccomp : (images : GivenImages) (w : World) (pid q : ℕ) (body : Body) (which : Option SeccompOperation) (call : Record) → q ≢ pid → Spares w q (seccomp images w pid body which call)
+spares_seccomp : (images : GivenImages) (w : World) (pid q : ℕ) (body : Body) (which : Option SeccompOperation) (call : Record) → q ≢ pid
+    → Spares w q (seccomp images w pid body which call)
 spares_seccomp images w pid q body (Some operation.GetActionAvail) call ne = spares_asked w q (action_available (low call 1) (low call 2))
 spares_seccomp images w pid q body None call ne = spares_world w q false
 spares_seccomp images w pid q body setting call ne = spares_authorises w pid q (after_seccomp images setting call (authority_of body)) ne
@@ -307,7 +309,8 @@ spares_ends : (w : World) (pid status q : ℕ) → IsApart w pid q → Alone q (
 spares_ends w pid status q apart = only_told q (at w q) (at (ended_and_hung_up w pid status) q) (end_told w pid status q apart)
 
 -- every call but kill(2)
-spares_row : (images : GivenImages) (w : World) (pid q : ℕ) (body : Body) (which : Option Syscall) (call : Record) → IsWorld w → IsApart w pid q → IsTrue (is_some (at w q)) → is_kill_row which ≡ false → Spares w q (row images w pid body which call)
+spares_row : (images : GivenImages) (w : World) (pid q : ℕ) (body : Body) (which : Option Syscall) (call : Record) → IsWorld w → IsApart w pid q
+    → IsTrue (is_some (at w q)) → is_kill_row which ≡ false → Spares w q (row images w pid body which call)
 spares_row images w pid q body (Some syscall.RtSigaction) call rules apart there other = spares_resignals w pid q (after_sigaction pid call body.signals) apart.other
 spares_row images w pid q body (Some syscall.RtSigprocmask) call rules apart there other = spares_resignals w pid q (after_sigprocmask call body.signals) apart.other
 spares_row images w pid q body (Some syscall.RtSigreturn) call rules apart there other =
@@ -337,7 +340,8 @@ spares_row images w pid q body (Some syscall.Prctl) call rules apart there other
 spares_row images w pid q body (Some syscall.Seccomp) call rules apart there other = spares_seccomp images w pid q body (seccomp_operation_of (low call 0)) call apart.other
 spares_row images w pid q body None call rules apart there other = spares_world w q false
 
-spares_judged : (images : GivenImages) (w : World) (pid q : ℕ) (body : Body) (call : Record) (verdict : ℕ) (a : Action) → IsWorld w → IsApart w pid q → IsTrue (is_some (at w q))
+spares_judged : (images : GivenImages) (w : World) (pid q : ℕ) (body : Body) (call : Record) (verdict : ℕ) (a : Action) → IsWorld w → IsApart w pid q
+    → IsTrue (is_some (at w q))
     → (IsTrue (performs a) → is_kill_row (syscall_of call.nr) ≡ false) → Spares w q (judged images w pid body call verdict a)
 spares_judged images w pid q body call verdict action.Allow rules apart there other = spares_row images w pid q body (syscall_of call.nr) call rules apart there (other refl)
 spares_judged images w pid q body call verdict action.Log rules apart there other = spares_row images w pid q body (syscall_of call.nr) call rules apart there (other refl)
@@ -422,7 +426,7 @@ spares_happened images w body (Call pid ip nr args) q rules apart there refuses 
     let call : Record = record { nr = nr; ip = ip; args = args } in
     let verdict : ℕ = verdict_of body.chain call in
     spares_judged images w pid q body call verdict (action_of verdict) rules apart there (no_kill body call refuses)
-spares_happened images w body (Deliver pid) q rules apart there refuses = spares_delivered w pid body (unwrap_or (signal_for body) 0) q apart
+spares_happened images w body (Deliver pid) q rules apart there refuses = at_delivery w pid body (signal_for body) (SparesStep w q) (spares_world w q false) (λ n. spares_delivered w pid body n q apart)
 spares_happened images w body (Resume pid) q rules apart there refuses = spares_resumed w pid q body.waiting apart
 spares_happened images w body (Fault pid) q rules apart there refuses = spares_ends w pid SIGSEGV q apart
 

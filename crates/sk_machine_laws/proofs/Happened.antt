@@ -1,5 +1,5 @@
 -- What a step comes to, by the process whose event it is.
-use Rattle.std.proofs.Common.{◌≡◌, ◌&&◌, ap, refl, cond, not, Bool, false, IsTrue, Option, None, Some}
+use Rattle.std.proofs.Common.{◌≡◌, ◌&&◌, ap, refl, cond, not, Bool, false, IsTrue, Option, None, Some, ℕ}
 use Rattle.std.specs.Option.{is_some}
 use Rattle.std.proofs.lemmas.Bool.{false≢true, cond_both, not-false}
 use Rattle.sk_world.specs.declared.process.Proc.{Proc}
@@ -7,10 +7,12 @@ use Rattle.sk_world.specs.World.{World, at, is_alive, is_halted, is_stopped, is_
 use Rattle.sk_world.proofs.KeptEnd.{alive_is_there}
 use Rattle.sk_machine.specs.declared.event.Event.{Event}
 use Rattle.sk_machine.specs.declared.answer.Reason.{Reason}
-use Rattle.sk_machine.specs.declared.answer.Reason.TheVariants.{NoProcess, Zombie, Stopped, Halted}
+use Rattle.sk_machine.specs.declared.answer.Reason.TheVariants.{NoProcess, Zombie, Stopped, Halted, NothingWaits}
 use Rattle.sk_machine.specs.Events.{pid_of}
 use Rattle.sk_machine.specs.Given.{GivenImages}
-use Rattle.sk_machine.specs.Machine.{Stepped, happened, is_kill, own_reason, reason_of, not_now, happened_to, stepped, step_of}
+use Rattle.sk_machine.specs.Machine.{Stepped, happened, is_kill, own_reason, reason_of, not_now, happened_to, stepped, step_of, signal_answered, delivery}
+use Rattle.sk_world.specs.declared.process.Body.{Body}
+use Rattle.sk_machine.specs.Delivering.{delivered}
 
 there_and_no_zombie : (o : Option Proc) → IsTrue (is_some o) → is_zombie o ≡ false → IsTrue (is_alive o)
 there_and_no_zombie None there zombie = there
@@ -44,3 +46,9 @@ pub at_step : (images : GivenImages) (w : World) (event : Event) (P : Stepped �
     → ((p : Proc) → at w (pid_of event) ≡ Some p → IsTrue (is_alive (at w (pid_of event))) → P (happened images w p.body event)) → P (step_of images w event)
 unfolding step_of
 at_step images w event P refused possible = at_reason images w event (reason_of w event) P refl refused possible
+
+-- what holds where no signal is due, and of the delivery of each, holds of the one that is due
+pub at_delivery : (w : World) (pid : ℕ) (body : Body) (o : Option ℕ) (P : Stepped → Type 0) → P (not_now w NothingWaits)
+    → ((n : ℕ) → P (signal_answered n (delivered w pid body n))) → P (delivery w pid body o)
+at_delivery w pid body None P none each = none
+at_delivery w pid body (Some n) P none each = each n

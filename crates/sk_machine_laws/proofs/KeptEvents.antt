@@ -1,7 +1,7 @@
 -- Every event keeps the rules of the world.
 use Rattle.std.proofs.Common.{◌≡◌, ◌≢◌, ◌∙◌, ℕ, ◌==◌, ◌&&◌, ap, sym, refl, subst, not, Bool, true, false, length, nat_le, IsTrue, IfOk, ℤ, List, [], ◌∷◌, ◌⊎◌, inl, inr, Option, None, Some, Result, Ok, Err}
 use Rattle.std.specs.Prelude.{filter}
-use Rattle.std.specs.Option.{unwrap_or, option_map}
+use Rattle.std.specs.Option.{option_map}
 use Rattle.std.proofs.lemmas.Bool.{cond_both, eqb-true, eqb-false, not-true, not-false}
 use Rattle.sk_insn.specs.declared.record.Record.{Record}
 use Rattle.sk_insn.specs.declared.action.Action.{Action}
@@ -62,7 +62,7 @@ use Rattle.sk_machine.specs.Performing.{executing, execve, forks, exit_status, a
 use Rattle.sk_machine.specs.Delivering.{Delivered, signal_for, terminated_by, in_handler, enters_handler, stopping, stopped_by, ignored, acts_by_default, acts_by_disposition, taking, acted_on}
 use Rattle.sk_machine.specs.Machine.{judged, happened, step_of}
 use Rattle.sk_machine_laws.specs.MachineLaws.{CallKeepsRules, DeliveryKeepsRules, ResumptionKeepsRules, EventKeepsRules, RunKeepsRules, ReachedHasRules}
-use Rattle.sk_machine_laws.proofs.Happened.{at_step}
+use Rattle.sk_machine_laws.proofs.Happened.{at_step, at_delivery}
 use Rattle.sk_creds.specs.declared.creds.Creds.{Creds}
 
 -- a change that leaves a process running, stopped or ended as it is
@@ -143,7 +143,8 @@ kept_subreapers : (there : Bool) (w : World) (p : Performed) → IsWorld w → I
 kept_subreapers true w p rules kept = kept
 kept_subreapers false w p rules kept = rules
 
-kept_prctl : (images : GivenImages) (w : World) (pid : ℕ) (body : Body) (which : Option PrctlOption) (call : Record) → IsWorld w → IsWorld (prctl images w pid body which call).world
+kept_prctl : (images : GivenImages) (w : World) (pid : ℕ) (body : Body) (which : Option PrctlOption) (call : Record) → IsWorld w
+    → IsWorld (prctl images w pid body which call).world
 kept_prctl images w pid body (Some option.GetSeccomp) call rules = rules
 kept_prctl images w pid body (Some option.GetNoNewPrivs) call rules = kept_asked w (no_new_privs_asked call body.creds.no_new_privs) rules
 kept_prctl images w pid body (Some option.SetChildSubreaper) call rules =
@@ -152,12 +153,14 @@ kept_prctl images w pid body (Some option.GetChildSubreaper) call rules = kept_s
 kept_prctl images w pid body None call rules = rules
 kept_prctl images w pid body setting call rules = kept_authorises w pid (after_prctl images setting call (authority_of body)) rules
 
-kept_seccomp : (images : GivenImages) (w : World) (pid : ℕ) (body : Body) (which : Option SeccompOperation) (call : Record) → IsWorld w → IsWorld (seccomp images w pid body which call).world
+kept_seccomp : (images : GivenImages) (w : World) (pid : ℕ) (body : Body) (which : Option SeccompOperation) (call : Record) → IsWorld w
+    → IsWorld (seccomp images w pid body which call).world
 kept_seccomp images w pid body (Some operation.GetActionAvail) call rules = kept_asked w (action_available (low call 1) (low call 2)) rules
 kept_seccomp images w pid body None call rules = rules
 kept_seccomp images w pid body setting call rules = kept_authorises w pid (after_seccomp images setting call (authority_of body)) rules
 
-kept_row : (images : GivenImages) (w : World) (pid : ℕ) (body : Body) (which : Option Syscall) (call : Record) → IsWorld w → IsTrue (is_alive (at w pid)) → IsWorld (row images w pid body which call).world
+kept_row : (images : GivenImages) (w : World) (pid : ℕ) (body : Body) (which : Option Syscall) (call : Record) → IsWorld w
+    → IsTrue (is_alive (at w pid)) → IsWorld (row images w pid body which call).world
 kept_row images w pid body (Some syscall.RtSigaction) call rules alive = kept_resignals w pid (after_sigaction pid call body.signals) rules
 kept_row images w pid body (Some syscall.RtSigprocmask) call rules alive = kept_resignals w pid (after_sigprocmask call body.signals) rules
 kept_row images w pid body (Some syscall.RtSigreturn) call rules alive =
@@ -192,7 +195,8 @@ kept_row images w pid body None call rules alive = rules
 pub kept_performed : CallKeepsRules
 kept_performed images w pid body call rules alive = kept_row images w pid body (syscall_of call.nr) call rules alive
 
-kept_judged : (images : GivenImages) (w : World) (pid : ℕ) (body : Body) (call : Record) (verdict : ℕ) (a : Action) → IsWorld w → IsTrue (is_alive (at w pid)) → IsWorld (judged images w pid body call verdict a).world
+kept_judged : (images : GivenImages) (w : World) (pid : ℕ) (body : Body) (call : Record) (verdict : ℕ) (a : Action) → IsWorld w
+    → IsTrue (is_alive (at w pid)) → IsWorld (judged images w pid body call verdict a).world
 kept_judged images w pid body call verdict action.Allow rules alive = kept_performed images w pid body call rules alive
 kept_judged images w pid body call verdict action.Log rules alive = kept_performed images w pid body call rules alive
 kept_judged images w pid body call verdict action.Trap rules alive = kept_forced w pid rules
@@ -211,7 +215,8 @@ lives_on f (Some p) same alive = ap (λ life. not (has_ended life)) (same p.body
 still_alive : (w : World) (pid : ℕ) (f : Body → Body) → ((body : Body) → (f body).life ≡ body.life) → IsTrue (is_alive (at w pid)) → IsTrue (is_alive (at (changed w pid f) pid))
 still_alive w pid f same alive = ap is_alive (at_here w pid (option_map (body_changed f) (at w pid))) ∙ lives_on f (at w pid) same alive
 
-kept_handled : (w : World) (pid : ℕ) (body : Body) (n program : ℕ) (mask : Signals) → IsWorld w → IsTrue (is_alive (at w pid)) → IsWorld (enters_handler w pid body n program mask).world
+kept_handled : (w : World) (pid : ℕ) (body : Body) (n program : ℕ) (mask : Signals) → IsWorld w → IsTrue (is_alive (at w pid))
+    → IsWorld (enters_handler w pid body n program mask).world
 kept_handled w pid body n program mask rules alive =
     cond_both (length body.signals.frames == FRAMES) (terminated_by w pid SIGSEGV) _ (λ (d : Delivered). IsWorld d.world) (λ _. kept_end w pid SIGSEGV rules alive)
     (λ _. kept_body w pid (in_handler n mask) rules (λ body. refl))
@@ -238,7 +243,8 @@ init_or_sigsys : (a b : Bool) → (a && not b) ≡ false → (a ≡ false) ⊎ (
 init_or_sigsys false b h = inl refl
 init_or_sigsys true b h = inr (not-false b h)
 
-kept_done_by : (w : World) (pid : ℕ) (body : Body) (n : ℕ) (d : Disposition) → IsWorld w → IsTrue (is_alive (at w pid)) → IsWorld (acts_by_disposition w pid body n d).world
+kept_done_by : (w : World) (pid : ℕ) (body : Body) (n : ℕ) (d : Disposition) → IsWorld w → IsTrue (is_alive (at w pid))
+    → IsWorld (acts_by_disposition w pid body n d).world
 kept_done_by w pid body n disposition.Ignore rules alive = rules
 kept_done_by w pid body n (disposition.Handler program mask) rules alive = kept_handled w pid body n program mask rules alive
 kept_done_by w pid body n disposition.Default rules alive =
@@ -269,12 +275,13 @@ kept_resumed w pid waiting.Pause rules alive = rules
 kept_resumed w pid waiting.Nothing rules alive = rules
 
 -- ---- events
-pub kept_happened : (images : GivenImages) (w : World) (body : Body) (event : Event) → IsWorld w → IsTrue (is_alive (at w (pid_of event))) → IsWorld (happened images w body event).world
+pub kept_happened : (images : GivenImages) (w : World) (body : Body) (event : Event) → IsWorld w → IsTrue (is_alive (at w (pid_of event)))
+    → IsWorld (happened images w body event).world
 kept_happened images w body (Call pid ip nr args) rules alive =
     let call : Record = record { nr = nr; ip = ip; args = args } in
     let verdict : ℕ = verdict_of body.chain call in
     kept_judged images w pid body call verdict (action_of verdict) rules alive
-kept_happened images w body (Deliver pid) rules alive = kept_delivered w pid body (unwrap_or (signal_for body) 0) rules alive
+kept_happened images w body (Deliver pid) rules alive = at_delivery w pid body (signal_for body) (λ s. IsWorld s.world) rules (λ n. kept_delivered w pid body n rules alive)
 kept_happened images w body (Resume pid) rules alive = kept_resumed w pid body.waiting rules alive
 kept_happened images w body (Fault pid) rules alive = kept_end w pid SIGSEGV rules alive
 

@@ -48,7 +48,7 @@ use Rattle.sk_machine.specs.Lines.{Line, Happening, is_fork, has_returned, line_
 use Rattle.sk_machine_laws.specs.LineLaws.{happening, EventChangesAuthority, AuthorityIsOfLine, LineComesFromInit}
 use Rattle.sk_machine_laws.proofs.Carrying.{over_asked, over_changes, over_resignals, over_waits, over_kill, over_setpgid, over_setsid, over_wait4, over_end, over_delivered, over_resumed}
 use Rattle.sk_machine_laws.proofs.Authorities.{CameBy, Came, Keeps, came_still, came_at, came_by_rights, keeps_by_rights, keeps_still, keeps_changed, keeps}
-use Rattle.sk_machine_laws.proofs.Happened.{at_step}
+use Rattle.sk_machine_laws.proofs.Happened.{at_step, at_delivery}
 
 -- ---- which call is a fork
 abbrev pub is_fork_row : Option Syscall → Bool
@@ -172,7 +172,8 @@ step_fork images w pid q call true room alive =
     (came_by_rights (at (forked w pid) q) (at w (cond ((q == fresh_of w) && has_room w) pid q)) (forked_rights w pid q alive)))
 step_fork images w pid q call false room alive = leaves ((pid == q) && true) (λ a. a) (at w q) (at w q) (λ a. refl) (came_still (at w q))
 
-step_row : (images : GivenImages) (w : World) (pid q : ℕ) (body : Body) (which : Option Syscall) (call : Record) → HasAuthority w pid (authority_of body) → IsTrue (is_alive (at w pid)) → RowStep images w pid q call which (row images w pid body which call)
+step_row : (images : GivenImages) (w : World) (pid q : ℕ) (body : Body) (which : Option Syscall) (call : Record)
+    → HasAuthority w pid (authority_of body) → IsTrue (is_alive (at w pid)) → RowStep images w pid q call which (row images w pid body which call)
 step_row images w pid q body (Some syscall.RtSigaction) call own alive = step_quiet pid q _ (at w q) (over_resignals Keeps keeps w pid (after_sigaction pid call body.signals) q)
 step_row images w pid q body (Some syscall.RtSigprocmask) call own alive = step_quiet pid q _ (at w q) (over_resignals Keeps keeps w pid (after_sigprocmask call body.signals) q)
 step_row images w pid q body (Some syscall.RtSigreturn) call own alive =
@@ -234,7 +235,8 @@ step_performed images w pid q body call own alive =
 step_refused : (images : GivenImages) (w : World) (pid q : ℕ) (p : Performed) → Keeps w p.world → CallStep images w pid q None p
 step_refused images w pid q p keeps = no_calls images ((pid == q) && true) (at p.world q) (at w q) (keeps q)
 
-step_judged : (images : GivenImages) (w : World) (pid q : ℕ) (body : Body) (call : Record) (verdict : ℕ) (a : Action) → HasAuthority w pid (authority_of body) → IsTrue (is_alive (at w pid))
+step_judged : (images : GivenImages) (w : World) (pid q : ℕ) (body : Body) (call : Record) (verdict : ℕ) (a : Action)
+    → HasAuthority w pid (authority_of body) → IsTrue (is_alive (at w pid))
     → CallStep images w pid q (cond (performs a) (Some call) None) (judged images w pid body call verdict a)
 step_judged images w pid q body call verdict action.Allow own alive = step_performed images w pid q body call own alive
 step_judged images w pid q body call verdict action.Log own alive = step_performed images w pid q body call own alive
@@ -257,7 +259,8 @@ step_happened images w (Call pid ip nr args) p q there alive =
     let verdict : ℕ = verdict_of p.body.chain call in
     step_judged images w pid q p.body call verdict (action_of verdict) (own_authority w pid p there) alive
 step_happened images w (Deliver pid) p q there alive =
-    no_calls images ((pid == q) && true) _ (at w q) (over_delivered Keeps keeps w pid p.body (unwrap_or (signal_for p.body) 0) (alive_is_there (at w pid) alive) q)
+    at_delivery w pid p.body (signal_for p.body) (λ s. EventStep images w (Deliver pid) s q) (no_calls images ((pid == q) && true) (at w q) (at w q) (came_still (at w q)))
+    (λ n. no_calls images ((pid == q) && true) _ (at w q) (over_delivered Keeps keeps w pid p.body n (alive_is_there (at w pid) alive) q))
 step_happened images w (Resume pid) p q there alive = no_calls images ((pid == q) && true) _ (at w q) (over_resumed Keeps keeps w pid p.body.waiting q)
 step_happened images w (Fault pid) p q there alive = no_calls images ((pid == q) && true) _ (at w q) (over_end Keeps keeps w pid SIGSEGV (alive_is_there (at w pid) alive) q)
 

@@ -1,6 +1,6 @@
 -- Where there are no subreapers no event makes one.
 use Rattle.std.proofs.Common.{◌≡◌, ◌∙◌, ℕ, ◌==◌, ◌&&◌, ap, sym, refl, cond, not, Bool, true, false, IsTrue, [], ◌∷◌, Option, None, Some, Result, Ok, Err}
-use Rattle.std.specs.Option.{is_some, unwrap_or, option_map, option_map_or, option_and_then}
+use Rattle.std.specs.Option.{is_some, option_map, option_map_or, option_and_then}
 use Rattle.std.proofs.lemmas.Bool.{false≢true, cond_both}
 use Rattle.sk_insn.specs.declared.record.Record.{Record}
 use Rattle.sk_insn.specs.declared.action.Action.{Action}
@@ -52,7 +52,7 @@ use Rattle.sk_machine.specs.Delivering.{signal_for}
 use Rattle.sk_machine.specs.Machine.{judged, happened, step_of}
 use Rattle.sk_machine_laws.specs.MachineLaws.{HasNoSubreapers, EventMarksNobody, RunMarksNobody, NobodyIsMarked}
 use Rattle.sk_machine_laws.proofs.Carrying.{Carries, over_asked, over_changes, over_resignals, over_waits, over_kill, over_setpgid, over_setsid, over_wait4, over_end, over_delivered, over_resumed}
-use Rattle.sk_machine_laws.proofs.Happened.{at_step}
+use Rattle.sk_machine_laws.proofs.Happened.{at_step, at_delivery}
 
 -- no subreaper comes
 abbrev MarksNobody : World → World → Type 0
@@ -148,7 +148,8 @@ marks_where : (there : Bool) (w : World) (p : Performed) → there ≡ false →
 marks_where true w p is = absurd (false≢true (sym is))
 marks_where false w p is = λ none. none
 
-marks_prctl : (images : GivenImages) (w : World) (pid : ℕ) (body : Body) (which : Option PrctlOption) (call : Record) → images.subreapers ≡ false → MarksNobody w (prctl images w pid body which call).world
+marks_prctl : (images : GivenImages) (w : World) (pid : ℕ) (body : Body) (which : Option PrctlOption) (call : Record) → images.subreapers ≡ false
+    → MarksNobody w (prctl images w pid body which call).world
 marks_prctl images w pid body (Some option.GetSeccomp) call is = λ none. none
 marks_prctl images w pid body (Some option.GetNoNewPrivs) call is = over_asked MarksNobody marks w (no_new_privs_asked call body.creds.no_new_privs)
 marks_prctl images w pid body (Some option.SetChildSubreaper) call is = marks_where images.subreapers w (subreaper_set w pid call) is
@@ -156,12 +157,14 @@ marks_prctl images w pid body (Some option.GetChildSubreaper) call is = marks_wh
 marks_prctl images w pid body None call is = λ none. none
 marks_prctl images w pid body setting call is = marks_authorises w pid (after_prctl images setting call (authority_of body))
 
-marks_seccomp : (images : GivenImages) (w : World) (pid : ℕ) (body : Body) (which : Option SeccompOperation) (call : Record) → MarksNobody w (seccomp images w pid body which call).world
+marks_seccomp : (images : GivenImages) (w : World) (pid : ℕ) (body : Body) (which : Option SeccompOperation) (call : Record)
+    → MarksNobody w (seccomp images w pid body which call).world
 marks_seccomp images w pid body (Some operation.GetActionAvail) call = over_asked MarksNobody marks w (action_available (low call 1) (low call 2))
 marks_seccomp images w pid body None call = λ none. none
 marks_seccomp images w pid body setting call = marks_authorises w pid (after_seccomp images setting call (authority_of body))
 
-marks_row : (images : GivenImages) (w : World) (pid : ℕ) (body : Body) (which : Option Syscall) (call : Record) → images.subreapers ≡ false → IsTrue (is_some (at w pid)) → MarksNobody w (row images w pid body which call).world
+marks_row : (images : GivenImages) (w : World) (pid : ℕ) (body : Body) (which : Option Syscall) (call : Record) → images.subreapers ≡ false
+    → IsTrue (is_some (at w pid)) → MarksNobody w (row images w pid body which call).world
 marks_row images w pid body (Some syscall.RtSigaction) call is there = over_resignals MarksNobody marks w pid (after_sigaction pid call body.signals)
 marks_row images w pid body (Some syscall.RtSigprocmask) call is there = over_resignals MarksNobody marks w pid (after_sigprocmask call body.signals)
 marks_row images w pid body (Some syscall.RtSigreturn) call is there =
@@ -194,7 +197,8 @@ marks_row images w pid body (Some syscall.Seccomp) call is there = marks_seccomp
 marks_row images w pid body None call is there = λ none. none
 
 -- ---- events
-marks_judged : (images : GivenImages) (w : World) (pid : ℕ) (body : Body) (call : Record) (verdict : ℕ) (a : Action) → images.subreapers ≡ false → IsTrue (is_some (at w pid)) → MarksNobody w (judged images w pid body call verdict a).world
+marks_judged : (images : GivenImages) (w : World) (pid : ℕ) (body : Body) (call : Record) (verdict : ℕ) (a : Action) → images.subreapers ≡ false
+    → IsTrue (is_some (at w pid)) → MarksNobody w (judged images w pid body call verdict a).world
 marks_judged images w pid body call verdict action.Allow is there = marks_row images w pid body (syscall_of call.nr) call is there
 marks_judged images w pid body call verdict action.Log is there = marks_row images w pid body (syscall_of call.nr) call is there
 marks_judged images w pid body call verdict action.Trap is there = marks_changed w pid (λ body. record body { signals = sigsys_forced body.signals }) (λ body. refl)
@@ -205,12 +209,13 @@ marks_judged images w pid body call verdict action.KillProcess is there = over_e
 marks_judged images w pid body call verdict action.KillThread is there = over_end MarksNobody marks w pid SIGSYS there
 marks_judged images w pid body call verdict action.Unknown is there = over_end MarksNobody marks w pid SIGSYS there
 
-marks_happened : (images : GivenImages) (w : World) (body : Body) (event : Event) → images.subreapers ≡ false → IsTrue (is_some (at w (pid_of event))) → MarksNobody w (happened images w body event).world
+marks_happened : (images : GivenImages) (w : World) (body : Body) (event : Event) → images.subreapers ≡ false → IsTrue (is_some (at w (pid_of event)))
+    → MarksNobody w (happened images w body event).world
 marks_happened images w body (Call pid ip nr args) is there =
     let call : Record = record { nr = nr; ip = ip; args = args } in
     let verdict : ℕ = verdict_of body.chain call in
     marks_judged images w pid body call verdict (action_of verdict) is there
-marks_happened images w body (Deliver pid) is there = over_delivered MarksNobody marks w pid body (unwrap_or (signal_for body) 0) there
+marks_happened images w body (Deliver pid) is there = at_delivery w pid body (signal_for body) (λ s. MarksNobody w s.world) (λ none. none) (λ n. over_delivered MarksNobody marks w pid body n there)
 marks_happened images w body (Resume pid) is there = over_resumed MarksNobody marks w pid body.waiting
 marks_happened images w body (Fault pid) is there = over_end MarksNobody marks w pid SIGSEGV there
 

@@ -68,7 +68,7 @@ use Rattle.sk_machine_laws.proofs.Unchanged.{impossible_changes_nothing}
 use Rattle.sk_machine_laws.proofs.LineSteps.{is_fork_row, fork_number, event_changes_authority}
 use Rattle.sk_machine_laws.proofs.Growing.{grows_calls}
 use Rattle.sk_machine_laws.proofs.Confined.{event_is_confined}
-use Rattle.sk_machine_laws.proofs.Happened.{at_step}
+use Rattle.sk_machine_laws.proofs.Happened.{at_step, at_delivery}
 
 -- ---- whose child a process is
 -- a set of processes that has with each one all its children
@@ -266,7 +266,8 @@ moved_prctl images w pid body (Some option.GetChildSubreaper) call = moved_subre
 moved_prctl images w pid body None call = moved_still w
 moved_prctl images w pid body setting call = moved_authorises w pid (after_prctl images setting call (authority_of body))
 
-moved_seccomp : (images : GivenImages) (w : World) (pid : ℕ) (body : Body) (which : Option SeccompOperation) (call : Record) → Moves w (seccomp images w pid body which call).world
+moved_seccomp : (images : GivenImages) (w : World) (pid : ℕ) (body : Body) (which : Option SeccompOperation) (call : Record)
+    → Moves w (seccomp images w pid body which call).world
 moved_seccomp images w pid body (Some operation.GetActionAvail) call = over_asked Moves moves w (action_available (low call 1) (low call 2))
 moved_seccomp images w pid body None call = moved_still w
 moved_seccomp images w pid body setting call = moved_authorises w pid (after_seccomp images setting call (authority_of body))
@@ -309,7 +310,8 @@ comes_fork w pid q false room rules there = comes_moved w w pid q (moved_still w
 abbrev RowComes : World → ℕ → ℕ → Option Syscall → Performed → Type 0
 RowComes w pid q which p = Comes w p.world pid q (is_fork_row which && has_returned q p.outcome)
 
-comes_row : (images : GivenImages) (w : World) (pid q : ℕ) (body : Body) (which : Option Syscall) (call : Record) → IsWorld w → IsTrue (is_some (at w pid)) → RowComes w pid q which (row images w pid body which call)
+comes_row : (images : GivenImages) (w : World) (pid q : ℕ) (body : Body) (which : Option Syscall) (call : Record) → IsWorld w
+    → IsTrue (is_some (at w pid)) → RowComes w pid q which (row images w pid body which call)
 comes_row images w pid q body (Some syscall.RtSigaction) call rules there = comes_moved w _ pid q (over_resignals Moves moves w pid (after_sigaction pid call body.signals) q)
 comes_row images w pid q body (Some syscall.RtSigprocmask) call rules there = comes_moved w _ pid q (over_resignals Moves moves w pid (after_sigprocmask call body.signals) q)
 comes_row images w pid q body (Some syscall.RtSigreturn) call rules there =
@@ -345,7 +347,8 @@ comes_row images w pid q body None call rules there = comes_moved w w pid q (mov
 abbrev CallComes : World → ℕ → ℕ → Option Record → Performed → Type 0
 CallComes w pid q o p = Comes w p.world pid q (is_fork o && has_returned q p.outcome)
 
-comes_performed : (images : GivenImages) (w : World) (pid q : ℕ) (body : Body) (call : Record) → IsWorld w → IsTrue (is_some (at w pid)) → CallComes w pid q (Some call) (row images w pid body (syscall_of call.nr) call)
+comes_performed : (images : GivenImages) (w : World) (pid q : ℕ) (body : Body) (call : Record) → IsWorld w → IsTrue (is_some (at w pid))
+    → CallComes w pid q (Some call) (row images w pid body (syscall_of call.nr) call)
 comes_performed images w pid q body call rules there =
     let p : Performed = row images w pid body (syscall_of call.nr) call in
     subst (λ b. Comes w p.world pid q (b && has_returned q p.outcome)) (fork_number call.nr) (comes_row images w pid q body (syscall_of call.nr) call rules there)
@@ -365,12 +368,15 @@ comes_judged images w pid q body call verdict action.Unknown rules there = comes
 abbrev EventComes : World → Event → Stepped → ℕ → Type 0
 EventComes w event s q = Comes w s.world (pid_of event) q (is_fork_of q (event, s.answer))
 
-comes_happened : (images : GivenImages) (w : World) (body : Body) (event : Event) (q : ℕ) → IsWorld w → IsTrue (is_some (at w (pid_of event))) → EventComes w event (happened images w body event) q
+comes_happened : (images : GivenImages) (w : World) (body : Body) (event : Event) (q : ℕ) → IsWorld w → IsTrue (is_some (at w (pid_of event)))
+    → EventComes w event (happened images w body event) q
 comes_happened images w body (Call pid ip nr args) q rules there =
     let call : Record = record { nr = nr; ip = ip; args = args } in
     let verdict : ℕ = verdict_of body.chain call in
     comes_judged images w pid q body call verdict (action_of verdict) rules there
-comes_happened images w body (Deliver pid) q rules there = comes_moved w _ pid q (over_delivered Moves moves w pid body (unwrap_or (signal_for body) 0) there q)
+comes_happened images w body (Deliver pid) q rules there =
+    at_delivery w pid body (signal_for body) (λ s. EventComes w (Deliver pid) s q) (comes_moved w w pid q (moved_still w q))
+    (λ n. comes_moved w _ pid q (over_delivered Moves moves w pid body n there q))
 comes_happened images w body (Resume pid) q rules there = comes_moved w _ pid q (over_resumed Moves moves w pid body.waiting q)
 comes_happened images w body (Fault pid) q rules there = comes_moved w _ pid q (over_end Moves moves w pid SIGSEGV there q)
 

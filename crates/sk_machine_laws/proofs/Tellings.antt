@@ -55,7 +55,8 @@ use Rattle.sk_machine.specs.Lines.{Happening, is_fork_of, line_before, history_a
 use Rattle.sk_machine_laws.specs.LineLaws.{happening}
 use Rattle.sk_machine_laws.specs.TellingLaws.{told_in, told_by, IsEnd, HasEndedUnder, EndIsToldToParent, EndIsToldOnce}
 use Rattle.sk_machine_laws.proofs.LineSteps.{event_changes_authority}
-use Rattle.sk_machine_laws.proofs.Happened.{at_step}
+use Rattle.sk_machine_laws.proofs.Happened.{at_step, at_delivery}
+use Rattle.sk_machine.specs.Delivering.{signal_for}
 
 -- what a search tells
 found_status : (o : Option ℕ) (status_at : ℕ → ℕ) (b : Bool) (child status : ℕ)
@@ -182,7 +183,8 @@ tells_subreapers : (there : Bool) (w : World) (pid : ℕ) (p : Performed) → Te
 tells_subreapers true w pid p right = right
 tells_subreapers false w pid p right = λ child status is. nothing_told w w pid child status is
 
-tells_prctl : (images : GivenImages) (w : World) (pid : ℕ) (body : Body) (which : Option PrctlOption) (call : Record) → TellsRight w pid (prctl images w pid body which call)
+tells_prctl : (images : GivenImages) (w : World) (pid : ℕ) (body : Body) (which : Option PrctlOption) (call : Record)
+    → TellsRight w pid (prctl images w pid body which call)
 tells_prctl images w pid body (Some option.GetSeccomp) call = λ child status is. nothing_told w _ pid child status is
 tells_prctl images w pid body (Some option.GetNoNewPrivs) call = tells_asked w pid (no_new_privs_asked call body.creds.no_new_privs)
 tells_prctl images w pid body (Some option.SetChildSubreaper) call = tells_subreapers images.subreapers w pid (subreaper_set w pid call) (λ child status is. nothing_told w _ pid child status is)
@@ -190,7 +192,8 @@ tells_prctl images w pid body (Some option.GetChildSubreaper) call = tells_subre
 tells_prctl images w pid body None call = λ child status is. nothing_told w _ pid child status is
 tells_prctl images w pid body setting call = tells_authorises w pid (after_prctl images setting call (authority_of body))
 
-tells_seccomp : (images : GivenImages) (w : World) (pid : ℕ) (body : Body) (which : Option SeccompOperation) (call : Record) → TellsRight w pid (seccomp images w pid body which call)
+tells_seccomp : (images : GivenImages) (w : World) (pid : ℕ) (body : Body) (which : Option SeccompOperation) (call : Record)
+    → TellsRight w pid (seccomp images w pid body which call)
 tells_seccomp images w pid body (Some operation.GetActionAvail) call = tells_asked w pid (action_available (low call 1) (low call 2))
 tells_seccomp images w pid body None call = λ child status is. nothing_told w _ pid child status is
 tells_seccomp images w pid body setting call = tells_authorises w pid (after_seccomp images setting call (authority_of body))
@@ -225,7 +228,8 @@ tells_row images w pid body (Some syscall.Prctl) call = tells_prctl images w pid
 tells_row images w pid body (Some syscall.Seccomp) call = tells_seccomp images w pid body (seccomp_operation_of (low call 0)) call
 tells_row images w pid body None call = λ child status is. nothing_told w _ pid child status is
 
-tells_judged : (images : GivenImages) (w : World) (pid : ℕ) (body : Body) (call : Record) (verdict : ℕ) (a : Action) → TellsRight w pid (judged images w pid body call verdict a)
+tells_judged : (images : GivenImages) (w : World) (pid : ℕ) (body : Body) (call : Record) (verdict : ℕ) (a : Action)
+    → TellsRight w pid (judged images w pid body call verdict a)
 tells_judged images w pid body call verdict action.Allow = tells_row images w pid body (syscall_of call.nr) call
 tells_judged images w pid body call verdict action.Log = tells_row images w pid body (syscall_of call.nr) call
 tells_judged images w pid body call verdict action.Trap = λ child status is. nothing_told w _ pid child status is
@@ -270,7 +274,8 @@ tells_happened images w body (Call pid ip nr args) child status is =
     let call : Record = record { nr = nr; ip = ip; args = args } in
     let verdict : ℕ = verdict_of body.chain call in
     tells_judged images w pid body call verdict (action_of verdict) child status is
-tells_happened images w body (Deliver pid) child status is = nothing_told w _ pid child status is
+tells_happened images w body (Deliver pid) child status is =
+    at_delivery w pid body (signal_for body) (StepTells w pid) (λ child status is. nothing_told w _ pid child status is) (λ n child status is. nothing_told w _ pid child status is) child status is
 tells_happened images w body (Resume pid) child status is = tells_resumed w pid body.waiting child status is
 tells_happened images w body (Fault pid) child status is = nothing_told w _ pid child status is
 

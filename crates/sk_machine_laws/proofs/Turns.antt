@@ -113,7 +113,8 @@ delivery_meets false true waits end_of_caller runs = absurd (false≢true runs)
 delivery_meets false false true end_of_caller runs = (λ is. cc, λ is. cc)
 delivery_meets false false false end_of_caller runs = (λ is. cc, λ is. cc)
 
-own_meets : (w : World) (event : Event) → IsTrue (is_some (signal_due (at w (pid_of event))) || (not (is_stopped (at w (pid_of event))) && goes_on w (pid_of event) (at w (pid_of event))))
+own_meets : (w : World) (event : Event)
+    → IsTrue (is_some (signal_due (at w (pid_of event))) || (not (is_stopped (at w (pid_of event))) && goes_on w (pid_of event) (at w (pid_of event))))
     → (own (is_stopped (at w (pid_of event)) && not (is_kill w event)) (own_reason w event) ≡ None) ↔ (need_met_by event ≡ need_of w (pid_of event))
 own_meets w (Call pid ip nr args) runs = call_meets (is_some (signal_due (at w pid))) (is_stopped (at w pid)) (is_in_call (at w pid)) (goes_on w pid (at w pid)) runs
 own_meets w (Deliver pid) runs = delivery_meets (is_some (signal_due (at w pid))) (is_stopped (at w pid)) (is_in_call (at w pid)) (goes_on w pid (at w pid)) runs
@@ -174,7 +175,8 @@ idle_waits false false end_of_caller idle moves = idle
 abbrev Idles : GivenImages → World → Event → Option Reason → Type 0
 Idles images w event o = IsTrue (is_some o) ⊎ (stepped images w event o ≡ record { answer = Resumed Waits; world = w })
 
-idle_call : (images : GivenImages) (w : World) (pid : ℕ) (event : Event) → IsTrue (is_some (at w pid)) → goes_on w pid (at w pid) ≡ false → Idles images w event (call_reason w pid)
+idle_call : (images : GivenImages) (w : World) (pid : ℕ) (event : Event) → IsTrue (is_some (at w pid)) → goes_on w pid (at w pid) ≡ false
+    → Idles images w event (call_reason w pid)
 idle_call images w pid event there waits =
     cond_both (is_in_call (at w pid)) (Some reason.Waiting) _ (Idles images w event) (λ _. inl refl)
     (λ free. absurd (false≢true (sym waits ∙ runs_on w pid (at w pid) there free)))
@@ -185,7 +187,8 @@ asks_again : (images : GivenImages) (w : World) (pid : ℕ) (o : Option Proc) �
 asks_again images w pid None there waits = absurd (false≢true there)
 asks_again images w pid (Some p) there waits = ap resume_answered (keeps_waiting w pid p.body.waiting waits)
 
-idle_own : (images : GivenImages) (w : World) (event : Event) → IsTrue (is_some (at w (pid_of event))) → (is_some (signal_due (at w (pid_of event))) || (not (is_stopped (at w (pid_of event))) && goes_on w (pid_of event) (at w (pid_of event)))) ≡ false
+idle_own : (images : GivenImages) (w : World) (event : Event) → IsTrue (is_some (at w (pid_of event)))
+    → (is_some (signal_due (at w (pid_of event))) || (not (is_stopped (at w (pid_of event))) && goes_on w (pid_of event) (at w (pid_of event)))) ≡ false
     → (is_stopped (at w (pid_of event)) && not (is_kill w event)) ≡ false → Idles images w event (own_reason w event)
 idle_own images w (Call pid ip nr args) there idle moves =
     idle_call images w pid (Call pid ip nr args) there (idle_waits (is_some (signal_due (at w pid))) (is_stopped (at w pid)) (goes_on w pid (at w pid)) idle moves)

@@ -1,5 +1,5 @@
 -- What leaves the world as it is.
-use Rattle.std.proofs.Common.{◌≡◌, ◌∙◌, ℕ, negsuc, ◌==◌, ap, sym, refl, subst, not, Bool, true, false, IsTrue, Option, None, Some, Result, Ok, Err}
+use Rattle.std.proofs.Common.{◌≡◌, ◌∙◌, ℕ, negsuc, ◌==◌, ap, sym, refl, subst, not, Bool, true, false, IsTrue, Option, None, Some, Result, Ok, Err, cond, ◌&&◌}
 use Rattle.std.specs.Option.{is_some, option_and_then}
 use Rattle.std.proofs.lemmas.Bool.{false≢true, cond_both}
 use Rattle.sk_insn.specs.declared.record.Record.{Record}
@@ -19,7 +19,7 @@ use Rattle.sk_world.specs.declared.process.Waiting.TheVariants as waiting
 use Rattle.sk_world.specs.declared.request.Request.{Request}
 use Rattle.sk_world.specs.declared.request.Poll.{Poll}
 use Rattle.sk_world.specs.declared.request.Poll.TheVariants as poll
-use Rattle.sk_world.specs.World.{World, at, has_ended, is_zombie}
+use Rattle.sk_world.specs.World.{World, at, has_ended, is_zombie, is_halted, is_stopped}
 use Rattle.sk_world.specs.Sending.{forced}
 use Rattle.sk_session.specs.Orphans.{ended_and_hung_up}
 use Rattle.sk_world.specs.Forking.{fork_answer}
@@ -47,31 +47,54 @@ use Rattle.sk_machine.specs.SignalCalls.{resignals, after_sigaction, after_sigpr
 use Rattle.sk_machine.specs.Killing.{after_kill}
 use Rattle.sk_machine.specs.WaitCalls.{are_wait_options, request_of, polled, wait4}
 use Rattle.sk_machine.specs.Performing.{end_of_caller, execve, forks, authorised, seccomp_mode, no_new_privs_asked, subreaper_set, subreaper_asked, where_subreapers, prctl, action_available, seccomp, row}
-use Rattle.sk_machine.specs.Machine.{Stepped, judged, call_answered, called_with, happened, stepped, step_of, end_status}
+use Rattle.sk_machine.specs.Machine.{Stepped, judged, call_answered, called_with, happened, stepped, step_of, end_status, delivery, reason_of}
 use Rattle.sk_machine_laws.specs.MachineLaws.{ImpossibleChangesNothing, PossibleHappens, only_refuses, RefusedChangesNothing, TrapForcesSigsys, ends_caller, KillEndsCaller, FailedChangesNothing, HaltHasStatus}
-use Rattle.sk_machine_laws.proofs.Happened.{at_step}
+use Rattle.sk_machine_laws.proofs.Happened.{at_step, at_delivery}
 use Rattle.sk_world.specs.declared.process.Body.{Body}
+use Rattle.sk_machine.specs.declared.answer.Reason.TheVariants as reason
+use Rattle.sk_machine.specs.declared.answer.Reason.TheVariants.{NoProcess, NothingWaits, Halted}
+use Rattle.sk_machine.specs.Delivering.{signal_for, signal_due}
 
 pub impossible_changes_nothing : ImpossibleChangesNothing
 unfolding step_of
 impossible_changes_nothing images w event reason is = ap (stepped images w event) is
 
-happens : (images : GivenImages) (w : World) (body : Body) (event : Event) (reason : Reason) → (happened images w body event).answer ≡ answer.NotNow reason → ⊥
-happens images w body (Call pid ip nr args) reason is = cc
-happens images w body (Deliver pid) reason is = cc
-happens images w body (Resume pid) reason is = cc
-happens images w body (Fault pid) reason is = cc
+delivers : (w : World) (pid : ℕ) (body : Body) (o : Option ℕ) (reason : Reason) → IsTrue (is_some o) → (delivery w pid body o).answer ≡ answer.NotNow reason → ⊥
+delivers w pid body None reason due is = absurd (false≢true due)
+delivers w pid body (Some n) reason due is = cc
+
+-- a signal is due to a process to which a delivery is possible
+due_to : (w : World) (pid : ℕ) (p : Proc) → at w pid ≡ Some p → reason_of w (Deliver pid) ≡ None → IsTrue (is_some (signal_for p.body))
+due_to w pid p there possible =
+    let o : Option Proc = at w pid in
+    let due : Bool = is_some (signal_due o) in
+    let own : Option Reason = cond due None (Some NothingWaits) in
+    let P : Option Reason → Type 0 = λ r. r ≡ None → IsTrue due in
+    sym (ap (λ o. is_some (signal_due o)) there)
+    ∙ cond_both (is_halted w) (Some Halted) _ P (λ _ is. cc)
+    (λ _. cond_both (not (is_some o)) (Some NoProcess) _ P (λ _ is. cc)
+    (λ _. cond_both (is_zombie o) (Some reason.Zombie) _ P (λ _ is. cc)
+    (λ _. cond_both (is_stopped o && not due) (Some reason.Stopped) own P (λ _ is. cc)
+    (λ _. cond_both due None (Some NothingWaits) P (λ due _. due) (λ _ is. cc))))) possible
+
+happens : (images : GivenImages) (w : World) (event : Event) (p : Proc) (reason : Reason) → at w (pid_of event) ≡ Some p → reason_of w event ≡ None
+    → (happened images w p.body event).answer ≡ answer.NotNow reason → ⊥
+happens images w (Call pid ip nr args) p reason there possible is = cc
+happens images w (Deliver pid) p reason there possible is = delivers w pid p.body (signal_for p.body) reason (due_to w pid p there possible) is
+happens images w (Resume pid) p reason there possible is = cc
+happens images w (Fault pid) p reason there possible is = cc
 
 pub possible_happens : PossibleHappens
 possible_happens images w event reason none =
     at_step images w event (λ s. s.answer ≡ answer.NotNow reason → ⊥) (λ _ is _. absurd (false≢true (ap is_some (sym none ∙ is))))
-    (λ p there alive. happens images w p.body event reason)
+    (λ p there alive. happens images w event p reason there none)
 
 -- where the answer is a call's, what holds of a call with this verdict holds of the step
 at_called : (images : GivenImages) (w : World) (body : Body) (event : Event) (verdict : ℕ) (outcome : Outcome) (P : ℕ → Stepped → Type 0)
     → ((pid : ℕ) (body : Body) (call : Record) → (judged images w pid body call verdict (action_of verdict)).outcome ≡ outcome → P pid (called_with images w pid body call verdict))
     → (happened images w body event).answer ≡ answer.Call verdict outcome → P (pid_of event) (happened images w body event)
-at_called images w body (Deliver pid) verdict outcome P made is = cc
+at_called images w body (Deliver pid) verdict outcome P made is =
+    at_delivery w pid body (signal_for body) (λ s. s.answer ≡ answer.Call verdict outcome → P pid s) (λ is. cc) (λ n is. cc) is
 at_called images w body (Resume pid) verdict outcome P made is = cc
 at_called images w body (Fault pid) verdict outcome P made is = cc
 at_called images w body (Call pid ip nr args) verdict outcome P made is =
@@ -90,7 +113,8 @@ at_call images w event verdict outcome P is made =
     at_step images w event (λ s. s.answer ≡ answer.Call verdict outcome → P (pid_of event) s) (λ _ _ is. cc)
     (λ p there alive. at_called images w p.body event verdict outcome P made) is
 
-refused_world : (images : GivenImages) (w : World) (pid : ℕ) (body : Body) (call : Record) (verdict : ℕ) (a : Action) → IsTrue (only_refuses a) → (judged images w pid body call verdict a).world ≡ w
+refused_world : (images : GivenImages) (w : World) (pid : ℕ) (body : Body) (call : Record) (verdict : ℕ) (a : Action) → IsTrue (only_refuses a)
+    → (judged images w pid body call verdict a).world ≡ w
 refused_world images w pid body call errno action.Errno refuses = refl
 refused_world images w pid body call errno action.UserNotif refuses = refl
 refused_world images w pid body call errno action.Trace refuses = refl
@@ -111,7 +135,8 @@ trap_forces_sigsys images w event verdict outcome is trap =
     at_call images w event verdict outcome (λ pid s. s ≡ record { answer = answer.Call verdict Trapped; world = forced w pid }) is
     (λ pid body call _. ap (λ a. call_answered verdict (judged images w pid body call verdict a)) trap)
 
-ended_by_filter : (images : GivenImages) (w : World) (pid : ℕ) (body : Body) (call : Record) (verdict : ℕ) (a : Action) → IsTrue (ends_caller a) → judged images w pid body call verdict a ≡ end_of_caller w pid SIGSYS
+ended_by_filter : (images : GivenImages) (w : World) (pid : ℕ) (body : Body) (call : Record) (verdict : ℕ) (a : Action) → IsTrue (ends_caller a)
+    → judged images w pid body call verdict a ≡ end_of_caller w pid SIGSYS
 ended_by_filter images w pid body call errno action.KillProcess kills = refl
 ended_by_filter images w pid body call errno action.KillThread kills = refl
 ended_by_filter images w pid body call errno action.Unknown kills = refl
@@ -182,7 +207,8 @@ clean_prctl images w pid body (Some option.GetChildSubreaper) call = clean_subre
 clean_prctl images w pid body None call = λ n is. refl
 clean_prctl images w pid body setting call = clean_authorises w pid (after_prctl images setting call (authority_of body))
 
-clean_seccomp : (images : GivenImages) (w : World) (pid : ℕ) (body : Body) (which : Option SeccompOperation) (call : Record) → FailsClean w (seccomp images w pid body which call)
+clean_seccomp : (images : GivenImages) (w : World) (pid : ℕ) (body : Body) (which : Option SeccompOperation) (call : Record)
+    → FailsClean w (seccomp images w pid body which call)
 clean_seccomp images w pid body (Some operation.GetActionAvail) call = clean_asked w (action_available (low call 1) (low call 2))
 clean_seccomp images w pid body None call = λ n is. refl
 clean_seccomp images w pid body setting call = clean_authorises w pid (after_seccomp images setting call (authority_of body))
@@ -217,7 +243,8 @@ clean_row images w pid body (Some syscall.Prctl) call = clean_prctl images w pid
 clean_row images w pid body (Some syscall.Seccomp) call = clean_seccomp images w pid body (seccomp_operation_of (low call 0)) call
 clean_row images w pid body None call = λ n is. refl
 
-clean_judged : (images : GivenImages) (w : World) (pid : ℕ) (body : Body) (call : Record) (verdict : ℕ) (a : Action) → FailsClean w (judged images w pid body call verdict a)
+clean_judged : (images : GivenImages) (w : World) (pid : ℕ) (body : Body) (call : Record) (verdict : ℕ) (a : Action)
+    → FailsClean w (judged images w pid body call verdict a)
 clean_judged images w pid body call verdict action.Allow = clean_row images w pid body (syscall_of call.nr) call
 clean_judged images w pid body call verdict action.Log = clean_row images w pid body (syscall_of call.nr) call
 clean_judged images w pid body call verdict action.Trap = λ n is. cc

@@ -9,7 +9,7 @@ use Rattle.sk_signal.specs.Signalling.{opening as no_signal}
 use Rattle.sk_world.specs.Numbers.{fresh_of}
 use Rattle.sk_world.specs.Subreapers.{ancestors, new_parent}
 use Rattle.sk_machine.specs.Machine.{step_of}
-use Rattle.sk_machine_runs.specs.WorkedEdges.{BlocksWhileHandling, EndsInitBySigsysKept, ForcesSigsysPastHandler, NeverStopsInit, ContinuesThoughBlocked, TellsStopsByChildSignal, KeepsStoppedFromAll, TakesDefaultActions, PutsSignalFirst, WaitsForFirstGroup, KeepsGroupAskedFor, WaitsForOwnChildren, WorkedEdges}
+use Rattle.sk_machine_runs.specs.WorkedEdges.{BlocksWhileHandling, EndsInitBySigsysKept, ForcesSigsysPastHandler, NeverStopsInit, ContinuesThoughBlocked, TellsStopsByChildSignal, KeepsStoppedFromAll, TakesDefaultActions, PutsSignalFirst, WaitsForFirstGroup, KeepsGroupAskedFor, WaitsForOwnChildren, WorkedEdges, DeliversInOrder, ForksWithoutPending, AnnouncesContinuing}
 
 blocks_while_handling : BlocksWhileHandling
 unfolding step_of fresh_of new_parent ancestors action_of operation_of first_fault empty contains insert retain remove difference union from_list lowest signals_to signals_of no_signal
@@ -59,6 +59,18 @@ waits_for_own_children : WaitsForOwnChildren
 unfolding step_of fresh_of new_parent ancestors action_of operation_of first_fault empty contains insert retain remove difference union from_list lowest signals_to signals_of no_signal
 waits_for_own_children = refl
 
+announces_continuing : AnnouncesContinuing
+unfolding step_of fresh_of new_parent ancestors action_of operation_of first_fault empty contains insert retain remove difference union from_list lowest signals_to signals_of no_signal
+announces_continuing = refl
+
+forks_without_pending : ForksWithoutPending
+unfolding step_of fresh_of new_parent ancestors action_of operation_of first_fault empty contains insert retain remove difference union from_list lowest signals_to signals_of no_signal
+forks_without_pending = refl
+
+delivers_in_order : DeliversInOrder
+unfolding step_of fresh_of new_parent ancestors action_of operation_of first_fault empty contains insert retain remove difference union from_list lowest signals_to signals_of no_signal
+delivers_in_order = refl
+
 pub worked_edges : WorkedEdges
 worked_edges = record {
   blocks_while_handling = blocks_while_handling;
@@ -73,4 +85,7 @@ worked_edges = record {
   waits_for_first_group = waits_for_first_group;
   keeps_group_asked_for = keeps_group_asked_for;
   waits_for_own_children = waits_for_own_children;
+  announces_continuing = announces_continuing;
+  forks_without_pending = forks_without_pending;
+  delivers_in_order = delivers_in_order;
 }

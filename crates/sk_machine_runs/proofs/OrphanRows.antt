@@ -9,7 +9,7 @@ use Rattle.sk_signal.specs.Signalling.{opening as no_signal}
 use Rattle.sk_world.specs.Numbers.{fresh_of}
 use Rattle.sk_world.specs.Subreapers.{ancestors, new_parent}
 use Rattle.sk_machine.specs.Machine.{step_of, reason_of}
-use Rattle.sk_machine_runs.specs.WorkedOrphans.{HangsUpJob, TurnsOfJob, IgnoresTerminalStop, TurnsOfUnstopped, StopsBySigstopAlone, StopsWhereTied, HangsUpEachGroup, SparesRunningGroups, SparesOrphanedBefore, SparesTiedGroups, CountsNoZombies, ContinuesGroup, HangsUpAfterFilterKill, HangsUpAfterOtherKills, HangsUpAfterCrash, HangsUpAfterSignal, HaltHangsUpNobody, WorkedOrphans, leaderless}
+use Rattle.sk_machine_runs.specs.WorkedOrphans.{HangsUpJob, TurnsOfJob, IgnoresTerminalStop, TurnsOfUnstopped, StopsBySigstopAlone, StopsWhereTied, HangsUpEachGroup, SparesRunningGroups, SparesOrphanedBefore, SparesTiedGroups, CountsNoZombies, ContinuesGroup, HangsUpAfterFilterKill, HangsUpAfterOtherKills, HangsUpAfterCrash, HangsUpAfterSignal, HaltHangsUpNobody, WorkedOrphans, leaderless, HangsUpWithoutRoomForFrame, SparesWhereStoppedOneEnds, AnnouncesToNewParent}
 use Rattle.sk_world.specs.World.{World, at}
 use Rattle.sk_world.specs.declared.process.TheConstants.{INIT}
 use Rattle.sk_world.proofs.Stored.{at_other}
@@ -48,6 +48,10 @@ spares_running_groups : SparesRunningGroups
 unfolding step_of fresh_of new_parent ancestors action_of operation_of first_fault empty contains insert retain remove difference union from_list lowest signals_to signals_of no_signal
 spares_running_groups = refl
 
+spares_where_stopped_one_ends : SparesWhereStoppedOneEnds
+unfolding step_of fresh_of new_parent ancestors action_of operation_of first_fault empty contains insert retain remove difference union from_list lowest signals_to signals_of no_signal
+spares_where_stopped_one_ends = refl
+
 spares_orphaned_before : SparesOrphanedBefore
 unfolding step_of fresh_of new_parent ancestors action_of operation_of first_fault empty contains insert retain remove difference union from_list lowest signals_to signals_of no_signal
 spares_orphaned_before = refl
@@ -64,6 +68,10 @@ continues_group : ContinuesGroup
 unfolding step_of fresh_of new_parent ancestors action_of operation_of first_fault empty contains insert retain remove difference union from_list lowest signals_to signals_of no_signal
 continues_group = refl
 
+announces_to_new_parent : AnnouncesToNewParent
+unfolding step_of fresh_of new_parent ancestors action_of operation_of first_fault empty contains insert retain remove difference union from_list lowest signals_to signals_of no_signal
+announces_to_new_parent = refl
+
 hangs_up_after_filter_kill : HangsUpAfterFilterKill
 unfolding step_of fresh_of new_parent ancestors action_of operation_of first_fault empty contains insert retain remove difference union from_list lowest signals_to signals_of no_signal
 hangs_up_after_filter_kill = refl
@@ -79,6 +87,10 @@ hangs_up_after_crash = refl
 hangs_up_after_signal : HangsUpAfterSignal
 unfolding step_of fresh_of new_parent ancestors action_of operation_of first_fault empty contains insert retain remove difference union from_list lowest signals_to signals_of no_signal
 hangs_up_after_signal = refl
+
+hangs_up_without_room_for_frame : HangsUpWithoutRoomForFrame
+unfolding step_of fresh_of new_parent ancestors action_of operation_of first_fault empty contains insert retain remove difference union from_list lowest signals_to signals_of no_signal
+hangs_up_without_room_for_frame = refl
 
 -- an exit(2) of process 1 leaves every other one
 exits_alone : (w : World) (code q : ℕ) → q ≢ INIT → reason_of w (exit 1 code) ≡ None
@@ -101,13 +113,16 @@ worked_orphans = record {
   stops_where_tied = stops_where_tied;
   hangs_up_each_group = hangs_up_each_group;
   spares_running_groups = spares_running_groups;
+  spares_where_stopped_one_ends = spares_where_stopped_one_ends;
   spares_orphaned_before = spares_orphaned_before;
   spares_tied_groups = spares_tied_groups;
   counts_no_zombies = counts_no_zombies;
   continues_group = continues_group;
+  announces_to_new_parent = announces_to_new_parent;
   hangs_up_after_filter_kill = hangs_up_after_filter_kill;
   hangs_up_after_other_kills = hangs_up_after_other_kills;
   hangs_up_after_crash = hangs_up_after_crash;
   hangs_up_after_signal = hangs_up_after_signal;
+  hangs_up_without_room_for_frame = hangs_up_without_room_for_frame;
   halt_hangs_up_nobody = halt_hangs_up_nobody;
 }

@@ -241,6 +241,55 @@ WaitsForOwnChildren =
     ∷ (wait4 1 (minus 1) 0, told 2 11)
     ∷ [])
 
+-- that a stopped process continues is announced to its parent, and of one that runs nothing is
+abbrev pub AnnouncesContinuing : Type 0
+AnnouncesContinuing =
+    Runs (given [] (plain ∷ [])) opening (
+    (fork 1, gives 2)
+    ∷ (fork 2, gives 3)
+    ∷ (kill 1 3 19, gives 0)
+    ∷ (Deliver 3, delivers 19 effect.Stopped)
+    ∷ (sigaction 2 17 2 0, gives 0)
+    ∷ (sigprocmask 2 0 (only 17), gives 0)
+    ∷ (sigpending 2, signals 0)
+    ∷ (kill 1 3 18, gives 0)
+    ∷ (sigpending 2, signals (only 17))
+    ∷ (sigprocmask 2 1 (only 17), gives 0)
+    ∷ (Deliver 2, handles 17 0)
+    ∷ (kill 1 3 18, gives 0)
+    ∷ (sigpending 2, signals 0)
+    ∷ [])
+
+-- a child has the mask of the one that forks, and none of its pending signals: fork(2)
+abbrev pub ForksWithoutPending : Type 0
+ForksWithoutPending =
+    Runs nothing_given opening (
+    (fork 1, gives 2)
+    ∷ (sigprocmask 2 0 (only 10), gives 0)
+    ∷ (kill 1 2 10, gives 0)
+    ∷ (fork 2, gives 3)
+    ∷ (sigpending 2, signals (only 10))
+    ∷ (sigpending 3, signals 0)
+    ∷ (kill 1 3 10, gives 0)
+    ∷ (sigpending 3, signals (only 10))
+    ∷ [])
+
+-- of the signals that are due SIGKILL is delivered first, and of the others the lowest number
+abbrev pub DeliversInOrder : Type 0
+DeliversInOrder =
+    Runs (given [] (plain ∷ [])) opening (
+    (fork 1, gives 2)
+    ∷ (sigaction 2 12 2 0, gives 0)
+    ∷ (sigaction 2 10 2 0, gives 0)
+    ∷ (kill 1 2 12, gives 0)
+    ∷ (kill 1 2 10, gives 0)
+    ∷ (Deliver 2, handles 10 0)
+    ∷ (Deliver 2, handles 12 0)
+    ∷ (kill 1 2 1, gives 0)
+    ∷ (kill 1 2 9, gives 0)
+    ∷ (Deliver 2, delivers 9 (effect.Ended 9))
+    ∷ [])
+
 -- all of these
 pub record WorkedEdges : Type 0 where
   pub blocks_while_handling : BlocksWhileHandling
@@ -255,3 +304,6 @@ pub record WorkedEdges : Type 0 where
   pub waits_for_first_group : WaitsForFirstGroup
   pub keeps_group_asked_for : KeepsGroupAskedFor
   pub waits_for_own_children : WaitsForOwnChildren
+  pub announces_continuing : AnnouncesContinuing
+  pub forks_without_pending : ForksWithoutPending
+  pub delivers_in_order : DeliversInOrder

@@ -9,6 +9,7 @@ use Rattle.sk_machine.specs.declared.event.Event.TheVariants.{Deliver, Resume, F
 use Rattle.sk_machine.specs.Lines.{Happening}
 use Rattle.sk_machine_runs.specs.Scripts.{nothing_given, given, plain, for_number, minus, only, sigaction, sigprocmask, sigreturn, sched_yield, getpid, fork, exit, wait4, kill, setpgid, getppid, setsid, sigpending, exit_group, seccomp, gives, waits, told, ends, signals, resumes, delivers, handles, crashes, not_now, Runs, after}
 use Rattle.sk_machine_runs.specs.WorkedTurns.{TakesTurns}
+use Rattle.sk_machine_runs.specs.WorkedSignals.{rounds}
 
 -- the end of a shell leaves the group of its job orphaned, which is stopped: it gets SIGHUP, and is continued
 abbrev pub stopped_job : List Happening
@@ -137,6 +138,19 @@ SparesRunningGroups =
     ∷ (getpid 3, gives 3)
     ∷ [])
 
+-- nor is one in which the process that ends was the only one stopped
+abbrev pub SparesWhereStoppedOneEnds : Type 0
+SparesWhereStoppedOneEnds =
+    Runs nothing_given in_session (
+    (fork 3, gives 5)
+    ∷ (kill 2 3 19, gives 0)
+    ∷ (Deliver 3, delivers 19 effect.Stopped)
+    ∷ (kill 2 3 9, gives 0)
+    ∷ (Deliver 3, delivers 9 (effect.Ended 9))
+    ∷ (Deliver 5, not_now reason.NothingWaits)
+    ∷ (getpid 5, gives 5)
+    ∷ [])
+
 -- nor is a group that was orphaned before
 abbrev pub SparesOrphanedBefore : Type 0
 SparesOrphanedBefore =
@@ -192,6 +206,21 @@ ContinuesGroup =
     ∷ (wait4 1 3 9, told 3 0xffff)
     ∷ [])
 
+-- it is the new parent that is told, and not the one that has ended: here process 1, whose child has not ended
+abbrev pub AnnouncesToNewParent : Type 0
+AnnouncesToNewParent =
+    Runs (given [] (plain ∷ [])) in_session (
+    (fork 3, gives 5)
+    ∷ (setpgid 3 5 0, gives 0)
+    ∷ (kill 3 5 19, gives 0)
+    ∷ (Deliver 5, delivers 19 effect.Stopped)
+    ∷ (sigaction 1 17 2 0, gives 0)
+    ∷ (sigprocmask 1 0 (only 17), gives 0)
+    ∷ (exit 3 0, ends 0)
+    ∷ (sigpending 1, signals (only 17))
+    ∷ (Deliver 5, delivers 1 (effect.Ended 1))
+    ∷ [])
+
 -- whatever ends the leader leaves the group orphaned: a kill by a filter
 abbrev pub HangsUpAfterFilterKill : Type 0
 HangsUpAfterFilterKill =
@@ -221,7 +250,7 @@ HangsUpAfterOtherKills =
     ∷ (Deliver 5, delivers 1 (effect.Ended 1))
     ∷ [])
 
--- a fault of its own, a signal, and one that finds no room for its handler's frame
+-- a fault of its own
 abbrev pub HangsUpAfterCrash : Type 0
 HangsUpAfterCrash =
     Runs nothing_given in_session (
@@ -231,6 +260,7 @@ HangsUpAfterCrash =
     ∷ (Deliver 3, delivers 1 (effect.Ended 1))
     ∷ [])
 
+-- a signal
 abbrev pub HangsUpAfterSignal : Type 0
 HangsUpAfterSignal =
     Runs nothing_given in_session (
@@ -238,6 +268,24 @@ HangsUpAfterSignal =
     ∷ (Deliver 3, delivers 19 effect.Stopped)
     ∷ (kill 1 2 9, gives 0)
     ∷ (Deliver 2, delivers 9 (effect.Ended 9))
+    ∷ (Deliver 3, delivers 1 (effect.Ended 1))
+    ∷ [])
+
+-- process 3 is stopped, and eight handlers of the leader run one in the other
+abbrev pub leader_with_eight : World
+leader_with_eight =
+    after (given [] (plain ∷ [])) in_session ((kill 2 3 19, gives 0) ∷ (Deliver 3, delivers 19 effect.Stopped) ∷ (sigaction 2 10 2 0, gives 0) ∷ rounds 2 8)
+
+-- eight more begin
+abbrev pub leader_with_sixteen : World
+leader_with_sixteen = after (given [] (plain ∷ [])) leader_with_eight (rounds 2 8)
+
+-- and a signal that finds no room for its handler's frame
+abbrev pub HangsUpWithoutRoomForFrame : Type 0
+HangsUpWithoutRoomForFrame =
+    Runs (given [] (plain ∷ [])) leader_with_sixteen (
+    (kill 2 2 10, gives 0)
+    ∷ (Deliver 2, delivers 10 (effect.Ended 11))
     ∷ (Deliver 3, delivers 1 (effect.Ended 1))
     ∷ [])
 
@@ -260,12 +308,15 @@ pub record WorkedOrphans : Type 0 where
   pub stops_where_tied : StopsWhereTied
   pub hangs_up_each_group : HangsUpEachGroup
   pub spares_running_groups : SparesRunningGroups
+  pub spares_where_stopped_one_ends : SparesWhereStoppedOneEnds
   pub spares_orphaned_before : SparesOrphanedBefore
   pub spares_tied_groups : SparesTiedGroups
   pub counts_no_zombies : CountsNoZombies
   pub continues_group : ContinuesGroup
+  pub announces_to_new_parent : AnnouncesToNewParent
   pub hangs_up_after_filter_kill : HangsUpAfterFilterKill
   pub hangs_up_after_other_kills : HangsUpAfterOtherKills
   pub hangs_up_after_crash : HangsUpAfterCrash
   pub hangs_up_after_signal : HangsUpAfterSignal
+  pub hangs_up_without_room_for_frame : HangsUpWithoutRoomForFrame
   pub halt_hangs_up_nobody : HaltHangsUpNobody

@@ -170,25 +170,25 @@ DropsHandlersAtExec =
     ∷ [])
 
 -- a handler may be interrupted by its own signal, where it lets it: each round begins one more
-abbrev pub rounds : ℕ → List Happening
-rounds zero = []
-rounds (suc n) = (kill 1 1 10, gives 0) ∷ (Deliver 1, handles 10 0) ∷ (sigprocmask 1 1 0x200, gives 0) ∷ rounds n
+abbrev pub rounds : ℕ → ℕ → List Happening
+rounds pid zero = []
+rounds pid (suc n) = (kill pid pid 10, gives 0) ∷ (Deliver pid, handles 10 0) ∷ (sigprocmask pid 1 0x200, gives 0) ∷ rounds pid n
 
 -- sixteen handlers run one in the other
 abbrev pub with_eight : World
-with_eight = after (given [] (plain ∷ [])) opening ((sigaction 1 10 2 0, gives 0) ∷ rounds 8)
+with_eight = after (given [] (plain ∷ [])) opening ((sigaction 1 10 2 0, gives 0) ∷ rounds 1 8)
 
 -- eight begin
 abbrev pub BeginsEightHandlers : Type 0
-BeginsEightHandlers = Runs (given [] (plain ∷ [])) opening ((sigaction 1 10 2 0, gives 0) ∷ rounds 8)
+BeginsEightHandlers = Runs (given [] (plain ∷ [])) opening ((sigaction 1 10 2 0, gives 0) ∷ rounds 1 8)
 
 -- and eight more
 abbrev pub BeginsEightMore : Type 0
-BeginsEightMore = Runs (given [] (plain ∷ [])) with_eight (rounds 8)
+BeginsEightMore = Runs (given [] (plain ∷ [])) with_eight (rounds 1 8)
 
 -- then sixteen run
 abbrev pub with_sixteen : World
-with_sixteen = after (given [] (plain ∷ [])) with_eight (rounds 8)
+with_sixteen = after (given [] (plain ∷ [])) with_eight (rounds 1 8)
 
 -- and SIGSEGV ends the process that has no room for the next
 abbrev pub EndsWithoutRoomForFrame : Type 0
