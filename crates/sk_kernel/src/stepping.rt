@@ -1,11 +1,11 @@
 ghost use Rattle.std.specs.Prelude.{◌≡◌, IsTrue, None, IfSome, IfOk, OnOk, OnErr};
-ghost use Rattle.std.specs.Option.{is_some, unwrap_or};
+ghost use Rattle.std.specs.Option.{is_some};
 ghost use Rattle.sk_world.specs.World.{at, is_alive};
 ghost use Rattle.sk_world.specs.Rules.{IsWorld};
 ghost use Rattle.sk_machine.specs.Events.{pid_of};
-ghost use Rattle.sk_machine.specs.Delivering.{signal_for, signal_due, delivered};
+ghost use Rattle.sk_machine.specs.Delivering.{signal_for, signal_due};
 ghost use Rattle.sk_machine.specs.WaitCalls.{resumed};
-ghost use Rattle.sk_machine.specs.Machine.{reason_of, signal_answered, happened_to, step_of};
+ghost use Rattle.sk_machine.specs.Machine.{reason_of, delivery, happened_to, step_of};
 ghost use Rattle.sk_machine.specs.Memory.{takes_memory};
 
 use crate::calls::call;
@@ -70,10 +70,8 @@ fn deliver_due<S: ProcStore>(store: &mut S, pid: u32) -> Answer
     requires rules { IsWorld (S.contents store.old) }
     requires alive { IsTrue (is_alive (at (S.contents store.old) pid)) }
     requires due { IsTrue (is_some (signal_due (at (S.contents store.old) pid))) }
-    ensures answer { IfSome (at (S.contents store.old) pid)
-        (λ p. result ≡ (signal_answered (unwrap_or (signal_for p.body) 0) (delivered (S.contents store.old) pid p.body (unwrap_or (signal_for p.body) 0))).answer) }
-    ensures world { IfSome (at (S.contents store.old) pid)
-        (λ p. S.contents store.new ≡ (delivered (S.contents store.old) pid p.body (unwrap_or (signal_for p.body) 0)).world) }
+    ensures answer { IfSome (at (S.contents store.old) pid) (λ p. result ≡ (delivery (S.contents store.old) pid p.body (signal_for p.body)).answer) }
+    ensures world { IfSome (at (S.contents store.old) pid) (λ p. S.contents store.new ≡ (delivery (S.contents store.old) pid p.body (signal_for p.body)).world) }
 {
     match signal_due(store, pid) {
         Some(signal) => Answer::Signal {
