@@ -35,7 +35,7 @@ pub(crate) fn attach<S: ProcStore>(
 ) -> Result<Outcome, AllocError>
     requires rules { IsWorld (S.contents store.old) }
     requires there { IsTrue (is_some (at (S.contents store.old) pid)) }
-    ensures performed { IfOk result (λ outcome. ComesTo (S.contents store.old) pid (λ body. authorises (S.contents store.old) pid (after_attach images.now flags image (authority_of body))) outcome (S.contents store.new)) }
+    ensures performed { IfOk result (λ outcome. ComesTo (S.contents store.old) pid (λ w body. authorises w pid (after_attach images.now flags image (authority_of body))) outcome (S.contents store.new)) }
     ensures flags { OnErr result (flags ≡ 0) }
     ensures memory { OnErr result (IsTrue (is_read images.now image)) }
     ensures kept { OnErr result (S.contents store.new ≡ S.contents store.old) }
@@ -76,7 +76,7 @@ fn filter_caller<S: ProcStore>(
 ) -> Result<Outcome, AllocError>
     requires rules { IsWorld (S.contents store.old) }
     requires there { IsTrue (is_some (at (S.contents store.old) pid)) }
-    ensures performed { IfOk result (λ outcome. ComesTo (S.contents store.old) pid (λ body. authorises (S.contents store.old) pid (filtered (authority_of body) (Ok insns.items))) outcome (S.contents store.new)) }
+    ensures performed { IfOk result (λ outcome. ComesTo (S.contents store.old) pid (λ w body. authorises w pid (filtered (authority_of body) (Ok insns.items))) outcome (S.contents store.new)) }
     ensures kept { OnErr result (S.contents store.new ≡ S.contents store.old) }
     ensures rules { IsWorld (S.contents store.new) }
 {
