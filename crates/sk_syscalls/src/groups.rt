@@ -19,7 +19,8 @@ use sk_world::ProcStore;
 pub(crate) fn setpgid<S: ProcStore>(store: &mut S, pid: u32, call: &Record) -> Outcome
     requires rules { IsWorld (S.contents store.old) }
     requires there { IsTrue (is_some (at (S.contents store.old) pid)) }
-    ensures performed { ComesTo (S.contents store.old) pid (λ w body. changes w 0 (after_setpgid w pid (signed call.now 0) (signed call.now 1))) result (S.contents store.new) }
+    ensures performed { ComesTo (S.contents store.old) pid
+        (λ w body. changes w 0 (after_setpgid w pid (signed call.now 0) (signed call.now 1))) result (S.contents store.new) }
     ensures rules { IsWorld (S.contents store.new) }
 {
     returned(sk_session::setpgid(store, pid, signed(call, 0), signed(call, 1)))

@@ -25,7 +25,8 @@ use std::alloc::AllocError;
 pub(crate) fn fork<S: ProcStore>(store: &mut S, pid: u32) -> Result<Outcome, AllocError>
     requires rules { IsWorld (S.contents store.old) }
     requires alive { IsTrue (is_alive (at (S.contents store.old) pid)) }
-    ensures performed { IfOk result (λ outcome. ComesTo (S.contents store.old) pid (λ w body. forks w pid (fork_answer w)) outcome (S.contents store.new)) }
+    ensures performed { IfOk result (λ outcome.
+        ComesTo (S.contents store.old) pid (λ w body. forks w pid (fork_answer w)) outcome (S.contents store.new)) }
     ensures memory { OnErr result (IsTrue (has_room (S.contents store.old) && has_filters (at (S.contents store.old) pid))) }
     ensures kept { OnErr result (S.contents store.new ≡ S.contents store.old) }
     ensures rules { IsWorld (S.contents store.new) }
@@ -37,7 +38,8 @@ pub(crate) fn fork<S: ProcStore>(store: &mut S, pid: u32) -> Result<Outcome, All
 pub(crate) fn exit<S: ProcStore>(store: &mut S, pid: u32, call: &Record) -> Outcome
     requires rules { IsWorld (S.contents store.old) }
     requires alive { IsTrue (is_alive (at (S.contents store.old) pid)) }
-    ensures performed { ComesTo (S.contents store.old) pid (λ w body. end_of_caller w pid (exit_status (low call.now 0))) result (S.contents store.new) }
+    ensures performed { ComesTo (S.contents store.old) pid
+        (λ w body. end_of_caller w pid (exit_status (low call.now 0))) result (S.contents store.new) }
     ensures rules { IsWorld (S.contents store.new) }
 {
     let status = low(call, 0) % 256 * 256;
@@ -80,7 +82,8 @@ pub(crate) fn getppid<S: ProcStore>(store: &S, pid: u32) -> Outcome
 pub(crate) fn kill<S: ProcStore>(store: &mut S, pid: u32, call: &Record) -> Outcome
     requires rules { IsWorld (S.contents store.old) }
     requires there { IsTrue (is_some (at (S.contents store.old) pid)) }
-    ensures performed { ComesTo (S.contents store.old) pid (λ w body. changes w 0 (after_kill w pid body.creds (signed call.now 0) (low call.now 1))) result (S.contents store.new) }
+    ensures performed { ComesTo (S.contents store.old) pid
+        (λ w body. changes w 0 (after_kill w pid body.creds (signed call.now 0) (low call.now 1))) result (S.contents store.new) }
     ensures rules { IsWorld (S.contents store.new) }
 {
     let creds = creds_of(store, pid);
