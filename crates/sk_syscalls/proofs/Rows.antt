@@ -18,11 +18,11 @@ use Rattle.sk_session.specs.Sessions.{answered}
 use Rattle.sk_syscalls.specs.Rows.{ComesTo, done, returned}
 
 -- what is shown at the caller's body
-pub comes_to : (w : World) (pid : ℕ) (row : Body → Performed) (outcome : Outcome) (after : World) (p : Proc) (b : Body)
-    → at w pid ≡ Some p → p.body ≡ b → outcome ≡ (row b).outcome → after ≡ (row b).world → ComesTo w pid row outcome after
+pub comes_to : (w : World) (pid : ℕ) (row : World → Body → Performed) (outcome : Outcome) (after : World) (p : Proc) (b : Body)
+    → at w pid ≡ Some p → p.body ≡ b → outcome ≡ (row w b).outcome → after ≡ (row w b).world → ComesTo w pid row outcome after
 comes_to w pid row outcome after p b is body told made =
-    subst (λ o. IfSome o (λ q. record { outcome : outcome ≡ (row q.body).outcome; world : after ≡ (row q.body).world })) (sym is)
-    (record { outcome = told ∙ ap (λ x. (row x).outcome) (sym body); world = made ∙ ap (λ x. (row x).world) (sym body) })
+    subst (λ o. IfSome o (λ q. record { outcome : outcome ≡ (row w q.body).outcome; world : after ≡ (row w q.body).world })) (sym is)
+    (record { outcome = told ∙ ap (λ x. (row w x).outcome) (sym body); world = made ∙ ap (λ x. (row w x).world) (sym body) })
 
 -- a body that is given back as it was
 pub put_back : (w : World) (pid : ℕ) (p : Proc) (b : Body) → at w pid ≡ Some p → p.body ≡ b → with_body w pid b ≡ w
@@ -43,9 +43,9 @@ done_resignals w pid (Err e) = refl
 -- a call that has changed the caller's signals, or has failed
 pub has_resignalled : (w : World) (pid : ℕ) (r : SignalState → Result SignalState Errno) (p : Proc) (b : Body) (answer : Result (Unit {0}) Errno) (s : SignalState) (outcome : Outcome) (after : World)
     → at w pid ≡ Some p → p.body ≡ b → answer ≡ answer_of (r b.signals) → s ≡ result_unwrap_or (r b.signals) b.signals
-    → outcome ≡ done answer → after ≡ with_body w pid (with_signals s b) → ComesTo w pid (λ body. resignals w pid (r body.signals)) outcome after
+    → outcome ≡ done answer → after ≡ with_body w pid (with_signals s b) → ComesTo w pid (λ v body. resignals v pid (r body.signals)) outcome after
 has_resignalled w pid r p b answer s outcome after is body answered state told made =
-    comes_to w pid (λ x. resignals w pid (r x.signals)) outcome after p b is body (told ∙ ap done answered ∙ done_resignals w pid (r b.signals))
+    comes_to w pid (λ v x. resignals v pid (r x.signals)) outcome after p b is body (told ∙ ap done answered ∙ done_resignals w pid (r b.signals))
     (made ∙ ap (λ x. with_body w pid (with_signals x b)) state ∙ resignalled w pid p b (r b.signals) is body)
 
 -- another authority
@@ -61,9 +61,9 @@ done_authorises w pid (Err e) = refl
 -- a call that has given the caller another authority, or has failed
 pub has_authorised : (w : World) (pid : ℕ) (r : Authority → Result Authority Errno) (p : Proc) (b : Body) (answer : Result (Unit {0}) Errno) (now : Body) (outcome : Outcome) (after : World)
     → at w pid ≡ Some p → p.body ≡ b → answer ≡ answer_of (r (authority_of b)) → now ≡ with_authority (result_unwrap_or (r (authority_of b)) (authority_of b)) b
-    → outcome ≡ done answer → after ≡ with_body w pid now → ComesTo w pid (λ body. authorises w pid (r (authority_of body))) outcome after
+    → outcome ≡ done answer → after ≡ with_body w pid now → ComesTo w pid (λ v body. authorises v pid (r (authority_of body))) outcome after
 has_authorised w pid r p b answer now outcome after is body answered state told made =
-    comes_to w pid (λ x. authorises w pid (r (authority_of x))) outcome after p b is body (told ∙ ap done answered ∙ done_authorises w pid (r (authority_of b)))
+    comes_to w pid (λ v x. authorises v pid (r (authority_of x))) outcome after p b is body (told ∙ ap done answered ∙ done_authorises w pid (r (authority_of b)))
     (made ∙ ap (with_body w pid) state ∙ authorised w pid p b (r (authority_of b)) is body)
 
 answer_with_creds : (a : Authority) (r : Result Creds Errno) → answer_of r ≡ answer_of (with_creds a r)
@@ -77,13 +77,13 @@ body_with_creds b (Err e) = refl
 -- a call that has given the caller other ids, or has failed
 pub has_other_ids : (w : World) (pid : ℕ) (r : Creds → Result Creds Errno) (p : Proc) (b : Body) (answer : Result (Unit {0}) Errno) (creds : Creds) (outcome : Outcome) (after : World)
     → at w pid ≡ Some p → p.body ≡ b → answer ≡ answer_of (r b.creds) → creds ≡ result_unwrap_or (r b.creds) b.creds
-    → outcome ≡ done answer → after ≡ with_body w pid (record b { creds = creds }) → ComesTo w pid (λ body. authorises w pid (with_creds (authority_of body) (r body.creds))) outcome after
+    → outcome ≡ done answer → after ≡ with_body w pid (record b { creds = creds }) → ComesTo w pid (λ v body. authorises v pid (with_creds (authority_of body) (r body.creds))) outcome after
 has_other_ids w pid r p b answer creds outcome after is body answered state told made =
     has_authorised w pid (λ a. with_creds a (r a.creds)) p b answer (record b { creds = creds }) outcome after is body (answered ∙ answer_with_creds (authority_of b) (r b.creds))
     (ap (λ x. record b { creds = x }) state ∙ body_with_creds b (r b.creds)) told made
 
 -- a row that asks nothing of the caller
-pub comes_anyway : (w : World) (pid : ℕ) (row : Performed) (outcome : Outcome) (after : World) → outcome ≡ row.outcome → after ≡ row.world → ComesTo w pid (λ body. row) outcome after
+pub comes_anyway : (w : World) (pid : ℕ) (row : Performed) (outcome : Outcome) (after : World) → outcome ≡ row.outcome → after ≡ row.world → ComesTo w pid (λ v body. row) outcome after
 comes_anyway w pid row outcome after told made = elim (at w pid) as (λ o. IfSome o (λ p. record { outcome : outcome ≡ row.outcome; world : after ≡ row.world })) [
   | None ↦ tt
   | Some p ↦ record { outcome = told; world = made }
@@ -99,7 +99,7 @@ world_changes w n (Err e) = refl
 
 -- a call that has made another world, or has failed
 pub has_changed : (w : World) (pid n : ℕ) (r asked : Result World Errno) (answer : Result ℕ Errno) (outcome : Outcome) (after : World)
-    → asked ≡ r → answer ≡ answered n asked → after ≡ result_unwrap_or asked w → outcome ≡ returned answer → ComesTo w pid (λ body. changes w n r) outcome after
+    → asked ≡ r → answer ≡ answered n asked → after ≡ result_unwrap_or asked w → outcome ≡ returned answer → ComesTo w pid (λ v body. changes v n r) outcome after
 has_changed w pid n r asked answer outcome after same says made told =
     comes_anyway w pid (changes w n r) outcome after (told ∙ ap returned (says ∙ ap (answered n) same) ∙ returned_changes w n r)
     (made ∙ ap (λ x. result_unwrap_or x w) same ∙ world_changes w n r)
@@ -107,7 +107,7 @@ has_changed w pid n r asked answer outcome after same says made told =
 -- the same of one that asks for the caller's ids
 pub has_changed_by : (w : World) (pid n : ℕ) (r : Creds → Result World Errno) (creds : Creds) (asked : Result World Errno) (answer : Result ℕ Errno) (outcome : Outcome) (after : World)
     → IfSome (at w pid) (λ p. creds ≡ p.body.creds) → asked ≡ r creds → answer ≡ answered n asked → after ≡ result_unwrap_or asked w → outcome ≡ returned answer
-    → ComesTo w pid (λ body. changes w n (r body.creds)) outcome after
+    → ComesTo w pid (λ v body. changes v n (r body.creds)) outcome after
 has_changed_by w pid n r creds asked answer outcome after own same says made told =
     elim (at w pid) as (λ o. IfSome o (λ p. creds ≡ p.body.creds) → IfSome o (λ p. record { outcome : outcome ≡ (changes w n (r p.body.creds)).outcome; world : after ≡ (changes w n (r p.body.creds)).world })) [
       | None ↦ λ _. tt

@@ -8,11 +8,12 @@ use Rattle.sk_machine.specs.declared.answer.Outcome.{Outcome}
 use Rattle.sk_machine.specs.declared.answer.Outcome.TheVariants.{Returned}
 use Rattle.sk_machine.specs.Performed.{Performed}
 
--- a call of the process of a pid has come to this outcome and to this world, as the row says of its body
-abbrev pub ComesTo : World → ℕ → (Body → Performed) → Outcome → World → Type 0
+-- a call of the process of a pid has come to this outcome and to this world, as the row says of the world before and of
+-- its body
+abbrev pub ComesTo : World → ℕ → (World → Body → Performed) → Outcome → World → Type 0
 ComesTo w pid row outcome after = IfSome (at w pid) (λ p. record {
-  outcome : outcome ≡ (row p.body).outcome;
-  world : after ≡ (row p.body).world;
+  outcome : outcome ≡ (row w p.body).outcome;
+  world : after ≡ (row w p.body).world;
 })
 
 -- what a call comes to that returns a number, or fails

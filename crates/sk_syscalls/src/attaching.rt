@@ -35,7 +35,8 @@ pub(crate) fn attach<S: ProcStore>(
 ) -> Result<Outcome, AllocError>
     requires rules { IsWorld (S.contents store.old) }
     requires there { IsTrue (is_some (at (S.contents store.old) pid)) }
-    ensures performed { IfOk result (λ outcome. ComesTo (S.contents store.old) pid (λ body. authorises (S.contents store.old) pid (after_attach images.now flags image (authority_of body))) outcome (S.contents store.new)) }
+    ensures performed { IfOk result (λ outcome.
+        ComesTo (S.contents store.old) pid (λ w body. authorises w pid (after_attach images.now flags image (authority_of body))) outcome (S.contents store.new)) }
     ensures flags { OnErr result (flags ≡ 0) }
     ensures memory { OnErr result (IsTrue (is_read images.now image)) }
     ensures kept { OnErr result (S.contents store.new ≡ S.contents store.old) }
@@ -56,7 +57,9 @@ fn program_of(
     alloc: Global,
     image: u64,
 ) -> Result<Result<Vec<Insn>, Errno>, AllocError>
-    ensures program { IfOk result (λ read. MatchResult read (λ insns. program_of (filter_image images.now image) ≡ Ok insns.items) (λ errno. program_of (filter_image images.now image) ≡ Err errno)) }
+    ensures program { IfOk result (λ read. MatchResult read
+        (λ insns. program_of (filter_image images.now image) ≡ Ok insns.items)
+        (λ errno. program_of (filter_image images.now image) ≡ Err errno)) }
     ensures memory { OnErr result (IsTrue (is_read images.now image)) }
 {
     let Some(bytes) = images.filters.get(image as usize) else {
@@ -76,7 +79,8 @@ fn filter_caller<S: ProcStore>(
 ) -> Result<Outcome, AllocError>
     requires rules { IsWorld (S.contents store.old) }
     requires there { IsTrue (is_some (at (S.contents store.old) pid)) }
-    ensures performed { IfOk result (λ outcome. ComesTo (S.contents store.old) pid (λ body. authorises (S.contents store.old) pid (filtered (authority_of body) (Ok insns.items))) outcome (S.contents store.new)) }
+    ensures performed { IfOk result (λ outcome.
+        ComesTo (S.contents store.old) pid (λ w body. authorises w pid (filtered (authority_of body) (Ok insns.items))) outcome (S.contents store.new)) }
     ensures kept { OnErr result (S.contents store.new ≡ S.contents store.old) }
     ensures rules { IsWorld (S.contents store.new) }
 {
@@ -88,7 +92,8 @@ fn filter_caller<S: ProcStore>(
 
 fn filter(body: &mut Body, alloc: Global, insns: Vec<Insn>) -> Result<Result<(), Errno>, AllocError>
     ensures answer { IfOk result (λ answer. answer ≡ answer_of (filtered (authority_of body.old) (Ok insns.items))) }
-    ensures body { OnOk result (body.new ≡ with_authority (result_unwrap_or (filtered (authority_of body.old) (Ok insns.items)) (authority_of body.old)) body.old) }
+    ensures body { OnOk result (body.new ≡ with_authority
+        (result_unwrap_or (filtered (authority_of body.old) (Ok insns.items)) (authority_of body.old)) body.old) }
     ensures kept { OnErr result (body.new ≡ body.old) }
 {
     if !body.creds.is_privileged() && !body.creds.no_new_privs {

@@ -24,7 +24,7 @@ use sk_world::{Body, ProcStore};
 /// getuid(2).
 pub(crate) fn getuid<S: ProcStore>(store: &S, pid: u32) -> Outcome
     requires { IsTrue (is_some (at (S.contents store.now) pid)) }
-    ensures { ComesTo (S.contents store.now) pid (λ body. returns (S.contents store.now) body.creds.real) result (S.contents store.now) }
+    ensures { ComesTo (S.contents store.now) pid (λ w body. returns w body.creds.real) result (S.contents store.now) }
 {
     match store.get(pid) {
         Some(process) => returned(Ok(process.body.creds.real)),
@@ -35,7 +35,7 @@ pub(crate) fn getuid<S: ProcStore>(store: &S, pid: u32) -> Outcome
 /// geteuid(2).
 pub(crate) fn geteuid<S: ProcStore>(store: &S, pid: u32) -> Outcome
     requires { IsTrue (is_some (at (S.contents store.now) pid)) }
-    ensures { ComesTo (S.contents store.now) pid (λ body. returns (S.contents store.now) body.creds.effective) result (S.contents store.now) }
+    ensures { ComesTo (S.contents store.now) pid (λ w body. returns w body.creds.effective) result (S.contents store.now) }
 {
     match store.get(pid) {
         Some(process) => returned(Ok(process.body.creds.effective)),
@@ -46,7 +46,7 @@ pub(crate) fn geteuid<S: ProcStore>(store: &S, pid: u32) -> Outcome
 /// getresuid(2).
 pub(crate) fn getresuid<S: ProcStore>(store: &S, pid: u32) -> Outcome
     requires { IsTrue (is_some (at (S.contents store.now) pid)) }
-    ensures { ComesTo (S.contents store.now) pid (λ body. ids (S.contents store.now) body.creds) result (S.contents store.now) }
+    ensures { ComesTo (S.contents store.now) pid (λ w body. ids w body.creds) result (S.contents store.now) }
 {
     match store.get(pid) {
         Some(process) => {
@@ -61,7 +61,8 @@ pub(crate) fn getresuid<S: ProcStore>(store: &S, pid: u32) -> Outcome
 pub(crate) fn setuid<S: ProcStore>(store: &mut S, pid: u32, call: &Record) -> Outcome
     requires rules { IsWorld (S.contents store.old) }
     requires there { IsTrue (is_some (at (S.contents store.old) pid)) }
-    ensures performed { ComesTo (S.contents store.old) pid (λ body. authorises (S.contents store.old) pid (with_creds (authority_of body) (after_setuid (low call.now 0) body.creds))) result (S.contents store.new) }
+    ensures performed { ComesTo (S.contents store.old) pid
+        (λ w body. authorises w pid (with_creds (authority_of body) (after_setuid (low call.now 0) body.creds))) result (S.contents store.new) }
     ensures rules { IsWorld (S.contents store.new) }
 {
     match store.body_mut(pid) {
@@ -74,7 +75,8 @@ pub(crate) fn setuid<S: ProcStore>(store: &mut S, pid: u32, call: &Record) -> Ou
 pub(crate) fn setresuid<S: ProcStore>(store: &mut S, pid: u32, call: &Record) -> Outcome
     requires rules { IsWorld (S.contents store.old) }
     requires there { IsTrue (is_some (at (S.contents store.old) pid)) }
-    ensures performed { ComesTo (S.contents store.old) pid (λ body. authorises (S.contents store.old) pid (with_creds (authority_of body) (after_setresuid (low call.now 0) (low call.now 1) (low call.now 2) body.creds))) result (S.contents store.new) }
+    ensures performed { ComesTo (S.contents store.old) pid
+        (λ w body. authorises w pid (with_creds (authority_of body) (after_setresuid (low call.now 0) (low call.now 1) (low call.now 2) body.creds))) result (S.contents store.new) }
     ensures rules { IsWorld (S.contents store.new) }
 {
     match store.body_mut(pid) {
@@ -106,7 +108,8 @@ pub(crate) fn execve<S: ProcStore>(
 ) -> Outcome
     requires rules { IsWorld (S.contents store.old) }
     requires there { IsTrue (is_some (at (S.contents store.old) pid)) }
-    ensures performed { ComesTo (S.contents store.old) pid (λ body. execve (S.contents store.old) pid (after_execve (authority_of body) (mark_of images.now (register call.now 0)))) result (S.contents store.new) }
+    ensures performed { ComesTo (S.contents store.old) pid
+        (λ w body. execve w pid (after_execve (authority_of body) (mark_of images.now (register call.now 0)))) result (S.contents store.new) }
     ensures rules { IsWorld (S.contents store.new) }
 {
     match mark_of(images, register(call, 0)) {
@@ -124,7 +127,8 @@ fn mark_of(images: &Images, program: u64) -> Option<Mark>
 fn execute<S: ProcStore>(store: &mut S, pid: u32, mark: Mark) -> Outcome
     requires rules { IsWorld (S.contents store.old) }
     requires there { IsTrue (is_some (at (S.contents store.old) pid)) }
-    ensures performed { ComesTo (S.contents store.old) pid (λ body. execve (S.contents store.old) pid (after_execve (authority_of body) (Some mark))) result (S.contents store.new) }
+    ensures performed { ComesTo (S.contents store.old) pid
+        (λ w body. execve w pid (after_execve (authority_of body) (Some mark))) result (S.contents store.new) }
     ensures rules { IsWorld (S.contents store.new) }
 {
     match store.body_mut(pid) {

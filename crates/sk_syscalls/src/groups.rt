@@ -19,7 +19,8 @@ use sk_world::ProcStore;
 pub(crate) fn setpgid<S: ProcStore>(store: &mut S, pid: u32, call: &Record) -> Outcome
     requires rules { IsWorld (S.contents store.old) }
     requires there { IsTrue (is_some (at (S.contents store.old) pid)) }
-    ensures performed { ComesTo (S.contents store.old) pid (λ body. changes (S.contents store.old) 0 (after_setpgid (S.contents store.old) pid (signed call.now 0) (signed call.now 1))) result (S.contents store.new) }
+    ensures performed { ComesTo (S.contents store.old) pid
+        (λ w body. changes w 0 (after_setpgid w pid (signed call.now 0) (signed call.now 1))) result (S.contents store.new) }
     ensures rules { IsWorld (S.contents store.new) }
 {
     returned(sk_session::setpgid(store, pid, signed(call, 0), signed(call, 1)))
@@ -29,7 +30,7 @@ pub(crate) fn setpgid<S: ProcStore>(store: &mut S, pid: u32, call: &Record) -> O
 pub(crate) fn setsid<S: ProcStore>(store: &mut S, pid: u32) -> Outcome
     requires rules { IsWorld (S.contents store.old) }
     requires there { IsTrue (is_some (at (S.contents store.old) pid)) }
-    ensures performed { ComesTo (S.contents store.old) pid (λ body. changes (S.contents store.old) pid (after_setsid (S.contents store.old) pid)) result (S.contents store.new) }
+    ensures performed { ComesTo (S.contents store.old) pid (λ w body. changes w pid (after_setsid w pid)) result (S.contents store.new) }
     ensures rules { IsWorld (S.contents store.new) }
 {
     returned(sk_session::setsid(store, pid))
@@ -38,7 +39,7 @@ pub(crate) fn setsid<S: ProcStore>(store: &mut S, pid: u32) -> Outcome
 /// getpgrp(2).
 pub(crate) fn getpgrp<S: ProcStore>(store: &S, pid: u32) -> Outcome
     requires { IsTrue (is_some (at (S.contents store.now) pid)) }
-    ensures { ComesTo (S.contents store.now) pid (λ body. returns (S.contents store.now) (group_of (at (S.contents store.now) pid))) result (S.contents store.now) }
+    ensures { ComesTo (S.contents store.now) pid (λ w body. returns w (group_of (at w pid))) result (S.contents store.now) }
 {
     match store.get(pid) {
         Some(process) => returned(Ok(process.links.group)),
@@ -50,7 +51,7 @@ pub(crate) fn getpgrp<S: ProcStore>(store: &S, pid: u32) -> Outcome
 pub(crate) fn getpgid<S: ProcStore>(store: &S, pid: u32, call: &Record) -> Outcome
     requires rules { IsWorld (S.contents store.now) }
     requires there { IsTrue (is_some (at (S.contents store.now) pid)) }
-    ensures { ComesTo (S.contents store.now) pid (λ body. asked (S.contents store.now) (group_asked (S.contents store.now) pid (signed call.now 0))) result (S.contents store.now) }
+    ensures { ComesTo (S.contents store.now) pid (λ w body. asked w (group_asked w pid (signed call.now 0))) result (S.contents store.now) }
 {
     returned(sk_session::getpgid(store, pid, signed(call, 0)))
 }
@@ -59,7 +60,7 @@ pub(crate) fn getpgid<S: ProcStore>(store: &S, pid: u32, call: &Record) -> Outco
 pub(crate) fn getsid<S: ProcStore>(store: &S, pid: u32, call: &Record) -> Outcome
     requires rules { IsWorld (S.contents store.now) }
     requires there { IsTrue (is_some (at (S.contents store.now) pid)) }
-    ensures { ComesTo (S.contents store.now) pid (λ body. asked (S.contents store.now) (session_asked (S.contents store.now) pid (signed call.now 0))) result (S.contents store.now) }
+    ensures { ComesTo (S.contents store.now) pid (λ w body. asked w (session_asked w pid (signed call.now 0))) result (S.contents store.now) }
 {
     returned(sk_session::getsid(store, pid, signed(call, 0)))
 }

@@ -17,7 +17,7 @@ use sk_machine::{Images, Outcome, Syscall};
 use sk_world::ProcStore;
 use std::alloc::{AllocError, Global};
 
-/// Performs the call of a process that lives.
+/// Performs a call of a process that lives. Whether its filters let the call through is asked before.
 pub fn perform<S: ProcStore>(
     store: &mut S,
     images: &Images,
@@ -27,7 +27,8 @@ pub fn perform<S: ProcStore>(
 ) -> Result<Outcome, AllocError>
     requires rules { IsWorld (S.contents store.old) }
     requires alive { IsTrue (is_alive (at (S.contents store.old) pid)) }
-    ensures performed { IfOk result (λ outcome. ComesTo (S.contents store.old) pid (λ body. performed images.now (S.contents store.old) pid body call.now) outcome (S.contents store.new)) }
+    ensures performed { IfOk result (λ outcome.
+        ComesTo (S.contents store.old) pid (λ w body. performed images.now w pid body call.now) outcome (S.contents store.new)) }
     ensures memory { OnErr result (IsTrue (may_grow images.now (S.contents store.old) pid (syscall_of call.now.nr) call.now)) }
     ensures kept { OnErr result (S.contents store.new ≡ S.contents store.old) }
     ensures rules { IsWorld (S.contents store.new) }
@@ -48,7 +49,8 @@ fn perform_known<S: ProcStore>(
 ) -> Result<Outcome, AllocError>
     requires rules { IsWorld (S.contents store.old) }
     requires alive { IsTrue (is_alive (at (S.contents store.old) pid)) }
-    ensures performed { IfOk result (λ outcome. ComesTo (S.contents store.old) pid (λ body. row images.now (S.contents store.old) pid body (Some which) call.now) outcome (S.contents store.new)) }
+    ensures performed { IfOk result (λ outcome.
+        ComesTo (S.contents store.old) pid (λ w body. row images.now w pid body (Some which) call.now) outcome (S.contents store.new)) }
     ensures memory { OnErr result (IsTrue (may_grow images.now (S.contents store.old) pid (Some which) call.now)) }
     ensures kept { OnErr result (S.contents store.new ≡ S.contents store.old) }
     ensures rules { IsWorld (S.contents store.new) }

@@ -35,7 +35,8 @@ pub(crate) fn prctl<S: ProcStore>(
 ) -> Result<Outcome, AllocError>
     requires rules { IsWorld (S.contents store.old) }
     requires there { IsTrue (is_some (at (S.contents store.old) pid)) }
-    ensures performed { IfOk result (λ outcome. ComesTo (S.contents store.old) pid (λ body. prctl images.now (S.contents store.old) pid body (prctl_option_of (low call.now 0)) call.now) outcome (S.contents store.new)) }
+    ensures performed { IfOk result (λ outcome.
+        ComesTo (S.contents store.old) pid (λ w body. prctl images.now w pid body (prctl_option_of (low call.now 0)) call.now) outcome (S.contents store.new)) }
     ensures memory { OnErr result (IsTrue (option_map_or (is_read images.now) (prctl_attaches (prctl_option_of (low call.now 0)) call.now) false)) }
     ensures kept { OnErr result (S.contents store.new ≡ S.contents store.old) }
     ensures rules { IsWorld (S.contents store.new) }
@@ -60,7 +61,8 @@ fn set_seccomp<S: ProcStore>(
 ) -> Result<Outcome, AllocError>
     requires rules { IsWorld (S.contents store.old) }
     requires there { IsTrue (is_some (at (S.contents store.old) pid)) }
-    ensures performed { IfOk result (λ outcome. ComesTo (S.contents store.old) pid (λ body. authorises (S.contents store.old) pid (after_set_seccomp images.now call.now (authority_of body))) outcome (S.contents store.new)) }
+    ensures performed { IfOk result (λ outcome.
+        ComesTo (S.contents store.old) pid (λ w body. authorises w pid (after_set_seccomp images.now call.now (authority_of body))) outcome (S.contents store.new)) }
     ensures memory { OnErr result (IsTrue (option_map_or (is_read images.now) (prctl_attaches (Some option.SetSeccomp) call.now) false)) }
     ensures kept { OnErr result (S.contents store.new ≡ S.contents store.old) }
     ensures rules { IsWorld (S.contents store.new) }
@@ -74,7 +76,7 @@ fn set_seccomp<S: ProcStore>(
 
 fn get_seccomp<S: ProcStore>(store: &S, pid: u32) -> Outcome
     requires { IsTrue (is_some (at (S.contents store.now) pid)) }
-    ensures { ComesTo (S.contents store.now) pid (λ body. returns (S.contents store.now) (seccomp_mode body.chain)) result (S.contents store.now) }
+    ensures { ComesTo (S.contents store.now) pid (λ w body. returns w (seccomp_mode body.chain)) result (S.contents store.now) }
 {
     match store.get(pid) {
         Some(process) => returned(Ok(seccomp_mode(&process.body))),
@@ -95,7 +97,8 @@ fn seccomp_mode(body: &Body) -> u32
 fn set_no_new_privs<S: ProcStore>(store: &mut S, pid: u32, call: &Record) -> Outcome
     requires rules { IsWorld (S.contents store.old) }
     requires there { IsTrue (is_some (at (S.contents store.old) pid)) }
-    ensures performed { ComesTo (S.contents store.old) pid (λ body. authorises (S.contents store.old) pid (after_no_new_privs call.now (authority_of body))) result (S.contents store.new) }
+    ensures performed { ComesTo (S.contents store.old) pid
+        (λ w body. authorises w pid (after_no_new_privs call.now (authority_of body))) result (S.contents store.new) }
     ensures rules { IsWorld (S.contents store.new) }
 {
     match store.body_mut(pid) {
@@ -106,7 +109,8 @@ fn set_no_new_privs<S: ProcStore>(store: &mut S, pid: u32, call: &Record) -> Out
 
 fn bind(body: &mut Body, call: &Record) -> Result<(), Errno>
     ensures answer { result ≡ answer_of (after_no_new_privs call.now (authority_of body.old)) }
-    ensures body { body.new ≡ with_authority (result_unwrap_or (after_no_new_privs call.now (authority_of body.old)) (authority_of body.old)) body.old }
+    ensures body { body.new ≡ with_authority
+        (result_unwrap_or (after_no_new_privs call.now (authority_of body.old)) (authority_of body.old)) body.old }
 {
     if register(call, 1) != 1 || !has_no_more(call) {
         return Err(Errno::Einval);
@@ -124,7 +128,8 @@ fn has_no_more(call: &Record) -> bool
 
 fn get_no_new_privs<S: ProcStore>(store: &S, pid: u32, call: &Record) -> Outcome
     requires { IsTrue (is_some (at (S.contents store.now) pid)) }
-    ensures { ComesTo (S.contents store.now) pid (λ body. asked (S.contents store.now) (no_new_privs_asked call.now body.creds.no_new_privs)) result (S.contents store.now) }
+    ensures { ComesTo (S.contents store.now) pid
+        (λ w body. asked w (no_new_privs_asked call.now body.creds.no_new_privs)) result (S.contents store.now) }
 {
     match store.get(pid) {
         Some(process) => returned(no_new_privs_asked(call, process.body.creds.no_new_privs)),
@@ -149,7 +154,8 @@ fn set_child_subreaper<S: ProcStore>(
 ) -> Outcome
     requires rules { IsWorld (S.contents store.old) }
     requires there { IsTrue (is_some (at (S.contents store.old) pid)) }
-    ensures performed { ComesTo (S.contents store.old) pid (λ body. where_subreapers images.now.subreapers (S.contents store.old) (subreaper_set (S.contents store.old) pid call.now)) result (S.contents store.new) }
+    ensures performed { ComesTo (S.contents store.old) pid
+        (λ w body. where_subreapers images.now.subreapers w (subreaper_set w pid call.now)) result (S.contents store.new) }
     ensures rules { IsWorld (S.contents store.new) }
 {
     if !images.subreapers {
@@ -170,7 +176,8 @@ fn mark_subreaper<S: ProcStore>(store: &mut S, pid: u32, mark: bool)
 
 fn get_child_subreaper<S: ProcStore>(store: &S, images: &Images, pid: u32) -> Outcome
     requires { IsTrue (is_some (at (S.contents store.now) pid)) }
-    ensures { ComesTo (S.contents store.now) pid (λ body. where_subreapers images.now.subreapers (S.contents store.now) (subreaper_asked (S.contents store.now) body.subreaper)) result (S.contents store.now) }
+    ensures { ComesTo (S.contents store.now) pid
+        (λ w body. where_subreapers images.now.subreapers w (subreaper_asked w body.subreaper)) result (S.contents store.now) }
 {
     if !images.subreapers {
         return failed(Errno::Einval);

@@ -25,7 +25,8 @@ use std::alloc::AllocError;
 pub(crate) fn fork<S: ProcStore>(store: &mut S, pid: u32) -> Result<Outcome, AllocError>
     requires rules { IsWorld (S.contents store.old) }
     requires alive { IsTrue (is_alive (at (S.contents store.old) pid)) }
-    ensures performed { IfOk result (λ outcome. ComesTo (S.contents store.old) pid (λ body. forks (S.contents store.old) pid (fork_answer (S.contents store.old))) outcome (S.contents store.new)) }
+    ensures performed { IfOk result (λ outcome.
+        ComesTo (S.contents store.old) pid (λ w body. forks w pid (fork_answer w)) outcome (S.contents store.new)) }
     ensures memory { OnErr result (IsTrue (has_room (S.contents store.old) && has_filters (at (S.contents store.old) pid))) }
     ensures kept { OnErr result (S.contents store.new ≡ S.contents store.old) }
     ensures rules { IsWorld (S.contents store.new) }
@@ -37,7 +38,8 @@ pub(crate) fn fork<S: ProcStore>(store: &mut S, pid: u32) -> Result<Outcome, All
 pub(crate) fn exit<S: ProcStore>(store: &mut S, pid: u32, call: &Record) -> Outcome
     requires rules { IsWorld (S.contents store.old) }
     requires alive { IsTrue (is_alive (at (S.contents store.old) pid)) }
-    ensures performed { ComesTo (S.contents store.old) pid (λ body. end_of_caller (S.contents store.old) pid (exit_status (low call.now 0))) result (S.contents store.new) }
+    ensures performed { ComesTo (S.contents store.old) pid
+        (λ w body. end_of_caller w pid (exit_status (low call.now 0))) result (S.contents store.new) }
     ensures rules { IsWorld (S.contents store.new) }
 {
     let status = low(call, 0) % 256 * 256;
@@ -49,7 +51,7 @@ pub(crate) fn exit<S: ProcStore>(store: &mut S, pid: u32, call: &Record) -> Outc
 pub(crate) fn pause<S: ProcStore>(store: &mut S, pid: u32) -> Outcome
     requires rules { IsWorld (S.contents store.old) }
     requires there { IsTrue (is_some (at (S.contents store.old) pid)) }
-    ensures performed { ComesTo (S.contents store.old) pid (λ body. waits (S.contents store.old) pid waiting.Pause) result (S.contents store.new) }
+    ensures performed { ComesTo (S.contents store.old) pid (λ w body. waits w pid waiting.Pause) result (S.contents store.new) }
     ensures rules { IsWorld (S.contents store.new) }
 {
     wait_in(store, pid, Waiting::Pause);
@@ -68,7 +70,7 @@ fn wait_in<S: ProcStore>(store: &mut S, pid: u32, what: Waiting)
 /// getppid(2).
 pub(crate) fn getppid<S: ProcStore>(store: &S, pid: u32) -> Outcome
     requires { IsTrue (is_some (at (S.contents store.now) pid)) }
-    ensures { ComesTo (S.contents store.now) pid (λ body. returns (S.contents store.now) (parent_of (at (S.contents store.now) pid))) result (S.contents store.now) }
+    ensures { ComesTo (S.contents store.now) pid (λ w body. returns w (parent_of (at w pid))) result (S.contents store.now) }
 {
     match store.get(pid) {
         Some(process) => returned(Ok(process.links.parent)),
@@ -80,7 +82,8 @@ pub(crate) fn getppid<S: ProcStore>(store: &S, pid: u32) -> Outcome
 pub(crate) fn kill<S: ProcStore>(store: &mut S, pid: u32, call: &Record) -> Outcome
     requires rules { IsWorld (S.contents store.old) }
     requires there { IsTrue (is_some (at (S.contents store.old) pid)) }
-    ensures performed { ComesTo (S.contents store.old) pid (λ body. changes (S.contents store.old) 0 (after_kill (S.contents store.old) pid body.creds (signed call.now 0) (low call.now 1))) result (S.contents store.new) }
+    ensures performed { ComesTo (S.contents store.old) pid
+        (λ w body. changes w 0 (after_kill w pid body.creds (signed call.now 0) (low call.now 1))) result (S.contents store.new) }
     ensures rules { IsWorld (S.contents store.new) }
 {
     let creds = creds_of(store, pid);
@@ -101,7 +104,7 @@ fn creds_of<S: ProcStore>(store: &S, pid: u32) -> Creds
 pub(crate) fn wait4<S: ProcStore>(store: &mut S, pid: u32, call: &Record) -> Outcome
     requires rules { IsWorld (S.contents store.old) }
     requires there { IsTrue (is_some (at (S.contents store.old) pid)) }
-    ensures performed { ComesTo (S.contents store.old) pid (λ body. wait4 (S.contents store.old) pid call.now) result (S.contents store.new) }
+    ensures performed { ComesTo (S.contents store.old) pid (λ w body. wait4 w pid call.now) result (S.contents store.new) }
     ensures rules { IsWorld (S.contents store.new) }
 {
     sk_delivery::wait4(store, pid, call)

@@ -29,7 +29,8 @@ pub(crate) fn seccomp<S: ProcStore>(
 ) -> Result<Outcome, AllocError>
     requires rules { IsWorld (S.contents store.old) }
     requires there { IsTrue (is_some (at (S.contents store.old) pid)) }
-    ensures performed { IfOk result (λ outcome. ComesTo (S.contents store.old) pid (λ body. seccomp images.now (S.contents store.old) pid body (seccomp_operation_of (low call.now 0)) call.now) outcome (S.contents store.new)) }
+    ensures performed { IfOk result (λ outcome.
+        ComesTo (S.contents store.old) pid (λ w body. seccomp images.now w pid body (seccomp_operation_of (low call.now 0)) call.now) outcome (S.contents store.new)) }
     ensures memory { OnErr result (IsTrue (option_map_or (is_read images.now) (seccomp_attaches (seccomp_operation_of (low call.now 0)) call.now) false)) }
     ensures kept { OnErr result (S.contents store.new ≡ S.contents store.old) }
     ensures rules { IsWorld (S.contents store.new) }

@@ -29,7 +29,8 @@ const SIG_SETMASK: u32 = 2;
 pub(crate) fn rt_sigaction<S: ProcStore>(store: &mut S, pid: u32, call: &Record) -> Outcome
     requires rules { IsWorld (S.contents store.old) }
     requires there { IsTrue (is_some (at (S.contents store.old) pid)) }
-    ensures performed { ComesTo (S.contents store.old) pid (λ body. resignals (S.contents store.old) pid (after_sigaction pid call.now body.signals)) result (S.contents store.new) }
+    ensures performed { ComesTo (S.contents store.old) pid
+        (λ w body. resignals w pid (after_sigaction pid call.now body.signals)) result (S.contents store.new) }
     ensures rules { IsWorld (S.contents store.new) }
 {
     match store.body_mut(pid) {
@@ -42,7 +43,8 @@ pub(crate) fn rt_sigaction<S: ProcStore>(store: &mut S, pid: u32, call: &Record)
 pub(crate) fn rt_sigprocmask<S: ProcStore>(store: &mut S, pid: u32, call: &Record) -> Outcome
     requires rules { IsWorld (S.contents store.old) }
     requires there { IsTrue (is_some (at (S.contents store.old) pid)) }
-    ensures performed { ComesTo (S.contents store.old) pid (λ body. resignals (S.contents store.old) pid (after_sigprocmask call.now body.signals)) result (S.contents store.new) }
+    ensures performed { ComesTo (S.contents store.old) pid
+        (λ w body. resignals w pid (after_sigprocmask call.now body.signals)) result (S.contents store.new) }
     ensures rules { IsWorld (S.contents store.new) }
 {
     match store.body_mut(pid) {
@@ -55,7 +57,8 @@ pub(crate) fn rt_sigprocmask<S: ProcStore>(store: &mut S, pid: u32, call: &Recor
 pub(crate) fn rt_sigreturn<S: ProcStore>(store: &mut S, pid: u32) -> Outcome
     requires rules { IsWorld (S.contents store.old) }
     requires there { IsTrue (is_some (at (S.contents store.old) pid)) }
-    ensures performed { ComesTo (S.contents store.old) pid (λ body. resignals (S.contents store.old) pid (after_sigreturn body.signals.frames body.signals)) result (S.contents store.new) }
+    ensures performed { ComesTo (S.contents store.old) pid
+        (λ w body. resignals w pid (after_sigreturn body.signals.frames body.signals)) result (S.contents store.new) }
     ensures rules { IsWorld (S.contents store.new) }
 {
     match store.body_mut(pid) {
@@ -67,7 +70,7 @@ pub(crate) fn rt_sigreturn<S: ProcStore>(store: &mut S, pid: u32) -> Outcome
 /// sigpending(2).
 pub(crate) fn rt_sigpending<S: ProcStore>(store: &S, pid: u32) -> Outcome
     requires { IsTrue (is_some (at (S.contents store.now) pid)) }
-    ensures { ComesTo (S.contents store.now) pid (λ body. pending_signals (S.contents store.now) body.signals.pending) result (S.contents store.now) }
+    ensures { ComesTo (S.contents store.now) pid (λ w body. pending_signals w body.signals.pending) result (S.contents store.now) }
 {
     match store.get(pid) {
         Some(process) => Outcome::Signals(process.body.signals.pending()),

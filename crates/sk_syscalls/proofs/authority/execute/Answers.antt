@@ -13,7 +13,7 @@ returns-clause-performed g c =
     let w = g.S.ProcStore.contents c.args.store.now in
     let there = c.in-Some.ensures.there in
     let b = c.in-Some.body.now in
-    comes_to w c.args.pid (λ body. execve w c.args.pid (after_execve (authority_of body) (Some c.args.mark))) _ _ there.0 b there.1 there.2 refl
+    comes_to w c.args.pid (λ v body. execve v c.args.pid (after_execve (authority_of body) (Some c.args.mark))) _ _ there.0 b there.1 there.2 refl
     (rw c.in-Some.is at (c.body_mut.follows.holds c.run.new.body)
     ∙ ap (with_body w c.args.pid) c.run.ensures
     ∙ given_back w c.args.pid (executing (record (authority_of b) { creds = after_exec c.args.mark.owner c.args.mark.setuid b.creds })) there.0 b there.1 there.2)
