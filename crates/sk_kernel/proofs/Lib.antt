@@ -1,2 +1,3 @@
 pub mod OfCaller
 pub mod Runs
+pub mod Backwards

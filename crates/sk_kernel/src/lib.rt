@@ -4,6 +4,7 @@
 
 mod calls;
 mod kernel;
+pub mod laws;
 mod stepping;
 
 pub use kernel::{Kernel, Stopped};

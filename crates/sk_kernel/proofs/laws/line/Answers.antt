@@ -1,0 +1,25 @@
+use Rattle.std.proofs.Common.{◌≡◌, ◌∙◌, ◌-◌, ℕ, arith, reverse, [], ap, subst}
+use Rattle.std.specs.Prelude.{take}
+use Rattle.sk_machine.specs.declared.event.Event.{Event}
+use Rattle.sk_machine.specs.declared.event.Event.TheVariants.{Call}
+use Rattle.sk_machine.specs.Lines.{Line, calls_added, line_before, with_calls, line_of, history_of}
+use Rattle.sk_kernel.proofs.Backwards.{line_back}
+use Rattle.sk_kernel.proofs.laws.line.Goals as goal
+use lib.ListN.{get_or}
+
+pub loop-left-preserved : goal.loop-left-preserved
+loop-left-preserved c =
+    let before = c.loop-left.invariant in
+    let back : ℕ = c.loop-left.left - 1 in
+    let answer = c.index-answers-left.result in
+    let line : Line = line_of (history_of c.args.events.now c.args.answers.now) c.args.pid in
+    let known = subst (λ n. with_calls (reverse c.loop-left.calls.items) (line_of (history_of (take n c.args.events.now) (take n c.args.answers.now)) c.loop-left.root) ≡ line)
+    (omega (arith, c.loop-left-test.true)) before.line in
+    let event : Event = get_or c.args.events.now back (Call 0 0 0 []) in
+    record {
+      within = omega (arith, before.within);
+      line = (λ i. with_calls (reverse ((rw c.in_ok-add.was at c.add.ensures) i)) (line_of (history_of (take back c.args.events.now) (take back c.args.answers.now)) ((c.line_before-root.ensures ∙ ap (λ a. line_before c.loop-left.root (event, a)) c.index-answers-left.is) i)))
+          ∙ line_back c.args.events.now c.args.answers.now back (Call 0 0 0 []) answer c.loop-left.root c.loop-left.calls.items c.call_added.result line
+          (omega (arith, before.within, c.loop-left-test.true)) (omega (arith, before.within, c.loop-left-test.true, c.requires.answered))
+          (c.call_added.ensures ∙ ap (λ a. calls_added c.loop-left.root (event, a)) c.index-answers-left.is) known;
+    }
