@@ -1,5 +1,5 @@
 -- Walks from one process that a signal is meant for to the next.
-use Rattle.std.proofs.Common.{◌≡◌, ◌∙◌, ◌<◌, ◌≤◌, ◌==◌, ⊎_elim, ℕ, arith, ap, sym, refl, subst, Bool, true, false, cond, not, ◌&&◌, ◌||◌, IsTrue, List, filter, length, Option, None, Some}
+use Rattle.std.proofs.Common.{◌≡◌, ◌∙◌, ◌<◌, ◌≤◌, ◌==◌, ⊎_elim, ℕ, arith, ap, sym, refl, subst, Bool, true, false, cond, not, ◌&&◌, ◌||◌, IsTrue, filter, length, Option, None, Some}
 use Rattle.std.specs.Option.{is_some, option_map, option_map_or}
 use Rattle.std.specs.List.{list_any}
 use Rattle.std.proofs.lemmas.Bool.{and_parts, cases_lt, cond_both}
@@ -24,16 +24,12 @@ use Rattle.sk_world.proofs.Walks.{above, none_above, next_above, pass_above, all
 use Rattle.sk_session.specs.Sessions.{session_of}
 use Rattle.sk_session.proofs.Walking.{nobody_at_0}
 use Rattle.sk_machine.specs.Killing.{is_meant, is_open_to, may_kill}
-use Rattle.sk_delivery.specs.Targets.{is_target}
+use Rattle.sk_delivery.specs.Targets.{is_target, meant, reached}
 use Rattle.sk_delivery.proofs.Listing.{kept_there, kept_both, some_kept}
 
 -- a process that is meant, and that the caller may send the signal to
 abbrev pub is_reached : World → ℕ → Creds → Who → ℕ → ℕ → Bool
 is_reached w caller creds who n q = is_target w caller who q && may_kill w caller creds n q
-
--- those that are sent to, as a list
-abbrev pub reached : World → ℕ → Creds → Who → ℕ → List ℕ
-reached w caller creds who n = filter (may_kill w caller creds n) (filter (is_meant w caller who) (pids w.procs))
 
 -- nobody has the pid 0
 no_target_at_0 : (w : World) (caller : ℕ) (who : Who) → IsWorld w → is_target w caller who 0 ≡ false
@@ -47,14 +43,14 @@ low_targets w caller who rules q le = subst (λ k. is_target w caller who k ≡ 
 
 -- ---- whether there is any
 
-meant_as_any : (w : World) (caller : ℕ) (who : Who) → not (length (filter (is_meant w caller who) (pids w.procs)) == 0) ≡ list_any (is_target w caller who) (pids w.procs)
+meant_as_any : (w : World) (caller : ℕ) (who : Who) → not (length (meant w caller who) == 0) ≡ list_any (is_target w caller who) (pids w.procs)
 meant_as_any w caller who =
     ap (λ xs. not (length xs == 0)) (kept_there (λ k. is_some (at w k)) (is_meant w caller who) w.procs.entries (λ k is. is))
     ∙ some_kept (is_target w caller who) (pids w.procs)
 
 -- the first of those that are meant says whether any is
 pub meant_found : (w : World) (caller : ℕ) (who : Who) (found : Option ℕ) → IsWorld w → IsNext (is_target w caller who) 0 found
-    → is_some found ≡ not (length (filter (is_meant w caller who) (pids w.procs)) == 0)
+    → is_some found ≡ not (length (meant w caller who) == 0)
 meant_found w caller who None rules none =
     sym (meant_as_any w caller who ∙ none_any (is_target w caller who) (pids w.procs) (beyond (is_target w caller who) (is_target w caller who) 0 (λ _ h. h) (low_targets w caller who rules) none))
 meant_found w caller who (Some pid) rules next =

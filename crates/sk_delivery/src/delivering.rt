@@ -1,4 +1,4 @@
-ghost use Rattle.std.specs.Prelude.{◌≡◌, ◌≢◌, ◌==◌, ◌&&◌, not, if◌then◌else◌, length, IsTrue, IfSome};
+ghost use Rattle.std.specs.Prelude.{◌≡◌, ◌≢◌, ◌==◌, not, if◌then◌else◌, length, IsTrue, IfSome};
 ghost use Rattle.sk_signal.specs.declared.number.TheConstants.{SIGSYS};
 ghost use Rattle.sk_signal.specs.declared.state.TheConstants.{FRAMES};
 ghost use Rattle.sk_signal.specs.declared.disposition.DefaultAction.TheVariants as action;
@@ -10,7 +10,7 @@ ghost use Rattle.sk_world.specs.World.{at, is_alive, changed};
 ghost use Rattle.sk_world.specs.Rules.{IsWorld};
 ghost use Rattle.sk_session.specs.Orphans.{ended_and_hung_up};
 ghost use Rattle.sk_machine.specs.declared.answer.Effect.TheVariants.{Ended};
-ghost use Rattle.sk_machine.specs.Delivering.{is_waiting, is_in_call, in_handler, enters_handler, stopping, ignored, acts_by_default, taking, acted_on, delivered};
+ghost use Rattle.sk_machine.specs.Delivering.{is_waiting, is_in_call, in_handler, enters_handler, stopping, acts_by_default, taking, acted_on, delivered};
 
 use crate::asking::{group_of, parent_of};
 use sk_machine::Effect;
@@ -43,7 +43,7 @@ fn take<S: ProcStore>(store: &mut S, pid: u32, signal: u8)
     }
 }
 
-/// Does what a signal that is pending no more does to the process.
+/// Does what a signal that is pending no more does to the process. By default process 1 minds only a SIGSYS.
 fn act<S: ProcStore>(store: &mut S, pid: u32, signal: u8) -> Effect
     requires rules { IsWorld (S.contents store.old) }
     requires alive { IsTrue (is_alive (at (S.contents store.old) pid)) }
@@ -56,7 +56,12 @@ fn act<S: ProcStore>(store: &mut S, pid: u32, signal: u8) -> Effect
         return terminate(store, pid, SIGKILL);
     }
     match disposition_of(store, pid, signal) {
-        Disposition::Default => act_by_default(store, pid, signal),
+        Disposition::Default => {
+            if pid == INIT && signal != SIGSYS {
+                return Effect::Ignored;
+            }
+            act_by_default(store, pid, signal)
+        }
         Disposition::Ignore => Effect::Ignored,
         Disposition::Handler { program, mask } => enter_handler(store, pid, signal, program, mask),
     }
@@ -152,18 +157,16 @@ fn begin_handler(body: &mut Body, signal: u8, mask: SigSet) -> bool
     has_room
 }
 
-/// Takes the default action, which process 1 minds only of a SIGSYS.
+/// Takes the default action of the signal.
 fn act_by_default<S: ProcStore>(store: &mut S, pid: u32, signal: u8) -> Effect
     requires rules { IsWorld (S.contents store.old) }
     requires alive { IsTrue (is_alive (at (S.contents store.old) pid)) }
     requires signal { IsSignal signal }
-    ensures answer { result ≡ (if (pid == INIT) && not (signal == SIGSYS) then ignored (S.contents store.old) else acts_by_default (S.contents store.old) pid signal (default_action signal)).effect }
-    ensures world { S.contents store.new ≡ (if (pid == INIT) && not (signal == SIGSYS) then ignored (S.contents store.old) else acts_by_default (S.contents store.old) pid signal (default_action signal)).world }
+    requires minded { pid ≡ INIT → signal ≡ SIGSYS }
+    ensures answer { result ≡ (acts_by_default (S.contents store.old) pid signal (default_action signal)).effect }
+    ensures world { S.contents store.new ≡ (acts_by_default (S.contents store.old) pid signal (default_action signal)).world }
     ensures rules { IsWorld (S.contents store.new) }
 {
-    if pid == INIT && signal != SIGSYS {
-        return Effect::Ignored;
-    }
     match default_action(signal) {
         DefaultAction::Terminate => terminate(store, pid, signal),
         DefaultAction::Stop => stop(store, pid, signal),

@@ -1,12 +1,12 @@
-ghost use Rattle.std.specs.Prelude.{◌≡◌, ◌==◌, not, filter, length};
+ghost use Rattle.std.specs.Prelude.{◌≡◌, ◌==◌, not, length};
 ghost use Rattle.std.specs.Result.{result_unwrap_or};
 ghost use Rattle.sk_signal.specs.SignalSet.{IsSignal};
-ghost use Rattle.sk_world.specs.Processes.{pids};
 ghost use Rattle.sk_world.specs.World.{at};
 ghost use Rattle.sk_world.specs.Rules.{IsWorld};
 ghost use Rattle.sk_world.specs.Sending.{sent_to_each};
 ghost use Rattle.sk_session.specs.Sessions.{answered};
-ghost use Rattle.sk_machine.specs.Killing.{is_meant, is_open_to, may_kill, after_kill};
+ghost use Rattle.sk_machine.specs.Killing.{is_open_to, may_kill, after_kill};
+ghost use Rattle.sk_delivery.specs.Targets.{meant, reached};
 
 use crate::asking::{group_of, session_of, who_meant};
 use crate::targets::next_target;
@@ -47,7 +47,7 @@ pub fn kill<S: ProcStore>(
 /// Whether there is a process that is meant.
 fn is_any_meant<S: ProcStore>(store: &S, caller: u32, who: Who) -> bool
     requires rules { IsWorld (S.contents store.now) }
-    ensures { result ≡ not (length (filter (is_meant (S.contents store.now) caller who) (pids (S.contents store.now).procs)) == 0) }
+    ensures { result ≡ not (length (meant (S.contents store.now) caller who) == 0) }
 {
     next_target(store, caller, who, 0).is_some()
 }
@@ -61,7 +61,7 @@ fn is_any_permitted<S: ProcStore>(
     signal: u8,
 ) -> bool
     requires rules { IsWorld (S.contents store.now) }
-    ensures { result ≡ not (length (filter (may_kill (S.contents store.now) caller creds signal) (filter (is_meant (S.contents store.now) caller who) (pids (S.contents store.now).procs))) == 0) }
+    ensures { result ≡ not (length (reached (S.contents store.now) caller creds who signal) == 0) }
 {
     let mut after = 0;
     while let Some(pid) = next_target(store, caller, who, after) {
@@ -96,7 +96,7 @@ fn is_open_to<S: ProcStore>(store: &S, creds: Creds, pid: u32) -> bool
 fn send_to_permitted<S: ProcStore>(store: &mut S, caller: u32, creds: Creds, who: Who, signal: u8)
     requires rules { IsWorld (S.contents store.old) }
     requires signal { IsSignal signal }
-    ensures world { S.contents store.new ≡ sent_to_each (S.contents store.old) (filter (may_kill (S.contents store.old) caller creds signal) (filter (is_meant (S.contents store.old) caller who) (pids (S.contents store.old).procs))) signal }
+    ensures world { S.contents store.new ≡ sent_to_each (S.contents store.old) (reached (S.contents store.old) caller creds who signal) signal }
     ensures rules { IsWorld (S.contents store.new) }
 {
     let mut after = 0;
