@@ -15,7 +15,8 @@ use Rattle.sk_creds.specs.Errno.{answer_of}
 use Rattle.sk_creds.specs.declared.creds.Creds.{Creds}
 use Rattle.sk_machine.specs.Authority.{Authority, authority_of, with_authority, with_creds}
 use Rattle.sk_session.specs.Sessions.{answered}
-use Rattle.sk_syscalls.specs.Rows.{ComesTo, done, returned}
+use Rattle.sk_syscalls.specs.Rows.{ComesTo}
+use Rattle.sk_syscalls.specs.views.Returned.{done, returned}
 
 -- what is shown at the caller's body
 pub comes_to : (w : World) (pid : ℕ) (row : World → Body → Performed) (outcome : Outcome) (after : World) (p : Proc) (b : Body)

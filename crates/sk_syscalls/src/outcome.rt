@@ -1,7 +1,7 @@
 //! What calls come to that return a number.
 
 ghost use Rattle.std.specs.Prelude.{◌≡◌, Ok, Err};
-ghost use Rattle.sk_syscalls.specs.Rows.{returned, done};
+ghost use Rattle.sk_syscalls.specs.views.Returned.{returned, done};
 
 use sk_creds::Errno;
 use sk_machine::Outcome;

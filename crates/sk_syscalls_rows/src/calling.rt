@@ -9,6 +9,9 @@ use std::alloc::{AllocError, Global};
 use std::process::Abort;
 use std::test::Fail;
 
+/// A call: the pid of its caller, its number, its first three arguments, and what it comes to.
+pub(crate) type Row = (u32, u32, [u64; 3], Outcome);
+
 /// The world as the system starts.
 pub(crate) fn opening(alloc: Global) -> Result<ListStore, AllocError>
     ensures { IfOk result IsWorld }
@@ -26,16 +29,32 @@ pub(crate) fn nothing_declared(alloc: Global) -> Images {
     }
 }
 
-/// A call of a process that lives, with these three arguments, comes to this.
-pub(crate) fn comes_to<R: Abort + AllocGlobal>(
+/// Makes the calls, one after the other, and compares what they come to.
+pub(crate) fn come_to<R: Abort + AllocGlobal>(
+    rt: &R,
+    store: &mut ListStore,
+    images: &Images,
+    rows: &[Row],
+) -> Result<(), Fail>
+    requires { IsWorld store.old }
+    ensures { IsWorld store.new }
+{
+    for (pid, nr, args, expected) in rows {
+        let outcome = make_call(rt, store, images, *pid, *nr, *args)?;
+        assert_eq!(rt; outcome, *expected);
+    }
+    Ok(())
+}
+
+/// A call of a process that lives.
+fn make_call<R: Abort + AllocGlobal>(
     rt: &R,
     store: &mut ListStore,
     images: &Images,
     pid: u32,
     nr: u32,
     args: [u64; 3],
-    expected: Outcome,
-) -> Result<(), Fail>
+) -> Result<Outcome, AllocError>
     requires { IsWorld store.old }
     ensures { IsWorld store.new }
 {
@@ -48,23 +67,5 @@ pub(crate) fn comes_to<R: Abort + AllocGlobal>(
         ip: 0,
         args: [args[0], args[1], args[2], 0, 0, 0],
     };
-    let outcome = perform(store, images, rt.alloc(), pid, &call)?;
-    assert_eq!(rt; outcome, expected);
-    Ok(())
-}
-
-/// A call that returns this number.
-pub(crate) fn returns<R: Abort + AllocGlobal>(
-    rt: &R,
-    store: &mut ListStore,
-    images: &Images,
-    pid: u32,
-    nr: u32,
-    args: [u64; 3],
-    number: i64,
-) -> Result<(), Fail>
-    requires { IsWorld store.old }
-    ensures { IsWorld store.new }
-{
-    comes_to(rt, store, images, pid, nr, args, Outcome::Returned(number))
+    perform(store, images, rt.alloc(), pid, &call)
 }

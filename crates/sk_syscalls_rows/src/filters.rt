@@ -1,13 +1,14 @@
-use crate::calling::{nothing_declared, opening, returns};
+use crate::calling::{come_to, nothing_declared, opening};
 use sk_machine::Images;
+use sk_machine::Outcome::Returned;
 use sk_table::{INIT, ListStore, ProcStore};
 use std::test::Fail;
+
+const SETUID: u32 = 105;
 
 const PRCTL: u32 = 157;
 
 const SECCOMP: u32 = 317;
-
-const SETUID: u32 = 105;
 
 const GET_SECCOMP: u64 = 21;
 
@@ -46,223 +47,40 @@ fn filters_of(store: &ListStore, pid: u32) -> Option<usize> {
 fn errors_of_attaching_come_in_order(rt: HostRuntime) -> Result<(), Fail> {
     let mut store = opening(rt.alloc())?;
     let images = images(&rt)?;
-    returns(
-        &rt,
-        &mut store,
-        &images,
-        INIT,
-        PRCTL,
-        [GET_SECCOMP, 0, 0],
-        0,
-    )?;
-    returns(
-        &rt,
-        &mut store,
-        &images,
-        INIT,
-        PRCTL,
-        [SET_SECCOMP, 2, 0],
-        0,
-    )?;
-    returns(
-        &rt,
-        &mut store,
-        &images,
-        INIT,
-        PRCTL,
-        [GET_SECCOMP, 0, 0],
-        2,
-    )?;
-    returns(
-        &rt,
-        &mut store,
-        &images,
-        INIT,
-        PRCTL,
-        [SET_SECCOMP, 1, 0],
-        -22,
-    )?;
-    returns(
-        &rt,
-        &mut store,
-        &images,
-        INIT,
-        SECCOMP,
-        [SET_MODE_FILTER, 1, 9],
-        -22,
-    )?;
-    returns(
-        &rt,
-        &mut store,
-        &images,
-        INIT,
-        SECCOMP,
-        [SET_MODE_FILTER, 0, 9],
-        -14,
-    )?;
-    returns(
-        &rt,
-        &mut store,
-        &images,
-        INIT,
-        SECCOMP,
-        [SET_MODE_FILTER, 0, 2],
-        -22,
-    )?;
-    returns(
-        &rt,
-        &mut store,
-        &images,
-        INIT,
-        SECCOMP,
-        [SET_MODE_FILTER, 0, 3],
-        -22,
-    )?;
-    returns(&rt, &mut store, &images, INIT, SETUID, [1000, 0, 0], 0)?;
-    returns(
-        &rt,
-        &mut store,
-        &images,
-        INIT,
-        SECCOMP,
-        [SET_MODE_FILTER, 0, 9],
-        -14,
-    )?;
-    returns(
-        &rt,
-        &mut store,
-        &images,
-        INIT,
-        SECCOMP,
-        [SET_MODE_FILTER, 0, 2],
-        -22,
-    )?;
-    returns(
-        &rt,
-        &mut store,
-        &images,
-        INIT,
-        SECCOMP,
-        [SET_MODE_FILTER, 0, 3],
-        -13,
-    )?;
-    returns(
-        &rt,
-        &mut store,
-        &images,
-        INIT,
-        PRCTL,
-        [SET_SECCOMP, 2, 0],
-        -13,
-    )?;
-    returns(
-        &rt,
-        &mut store,
-        &images,
-        INIT,
-        PRCTL,
-        [SET_NO_NEW_PRIVS, 1, 0],
-        0,
-    )?;
-    returns(
-        &rt,
-        &mut store,
-        &images,
-        INIT,
-        SECCOMP,
-        [SET_MODE_FILTER, 0, 0],
-        0,
-    )?;
+    let rows = [
+        (INIT, PRCTL, [GET_SECCOMP, 0, 0], Returned(0)),
+        (INIT, PRCTL, [SET_SECCOMP, 2, 0], Returned(0)),
+        (INIT, PRCTL, [GET_SECCOMP, 0, 0], Returned(2)),
+        (INIT, PRCTL, [SET_SECCOMP, 1, 0], Returned(-22)),
+        (INIT, SECCOMP, [SET_MODE_FILTER, 1, 9], Returned(-22)),
+        (INIT, SECCOMP, [SET_MODE_FILTER, 0, 9], Returned(-14)),
+        (INIT, SECCOMP, [SET_MODE_FILTER, 0, 2], Returned(-22)),
+        (INIT, SECCOMP, [SET_MODE_FILTER, 0, 3], Returned(-22)),
+        (INIT, SETUID, [1000, 0, 0], Returned(0)),
+        (INIT, SECCOMP, [SET_MODE_FILTER, 0, 9], Returned(-14)),
+        (INIT, SECCOMP, [SET_MODE_FILTER, 0, 2], Returned(-22)),
+        (INIT, SECCOMP, [SET_MODE_FILTER, 0, 3], Returned(-13)),
+        (INIT, PRCTL, [SET_SECCOMP, 2, 0], Returned(-13)),
+        (INIT, PRCTL, [SET_NO_NEW_PRIVS, 1, 0], Returned(0)),
+        (INIT, SECCOMP, [SET_MODE_FILTER, 0, 0], Returned(0)),
+    ];
+    come_to(&rt, &mut store, &images, &rows)?;
     assert_eq!(rt; filters_of(&store, INIT), Some(2));
     Ok(())
 }
 
-/// Seven filters of 4096 instructions count 28700, and an eighth would make that 32796.
+/// Seven filters of 4096 instructions count 28700, and with an eighth there are 32796.
 #[test]
 fn filters_are_attached_up_to_the_path_limit(rt: HostRuntime) -> Result<(), Fail> {
     let mut store = opening(rt.alloc())?;
     let images = images(&rt)?;
-    returns(
-        &rt,
-        &mut store,
-        &images,
-        INIT,
-        SECCOMP,
-        [SET_MODE_FILTER, 0, 1],
-        0,
-    )?;
-    returns(
-        &rt,
-        &mut store,
-        &images,
-        INIT,
-        SECCOMP,
-        [SET_MODE_FILTER, 0, 1],
-        0,
-    )?;
-    returns(
-        &rt,
-        &mut store,
-        &images,
-        INIT,
-        SECCOMP,
-        [SET_MODE_FILTER, 0, 1],
-        0,
-    )?;
-    returns(
-        &rt,
-        &mut store,
-        &images,
-        INIT,
-        SECCOMP,
-        [SET_MODE_FILTER, 0, 1],
-        0,
-    )?;
-    returns(
-        &rt,
-        &mut store,
-        &images,
-        INIT,
-        SECCOMP,
-        [SET_MODE_FILTER, 0, 1],
-        0,
-    )?;
-    returns(
-        &rt,
-        &mut store,
-        &images,
-        INIT,
-        SECCOMP,
-        [SET_MODE_FILTER, 0, 1],
-        0,
-    )?;
-    returns(
-        &rt,
-        &mut store,
-        &images,
-        INIT,
-        SECCOMP,
-        [SET_MODE_FILTER, 0, 1],
-        0,
-    )?;
-    returns(
-        &rt,
-        &mut store,
-        &images,
-        INIT,
-        SECCOMP,
-        [SET_MODE_FILTER, 0, 1],
-        -12,
-    )?;
-    returns(
-        &rt,
-        &mut store,
-        &images,
-        INIT,
-        SECCOMP,
-        [SET_MODE_FILTER, 0, 0],
-        0,
-    )?;
+    let long = (INIT, SECCOMP, [SET_MODE_FILTER, 0, 1], Returned(0));
+    come_to(&rt, &mut store, &images, &[long; 7])?;
+    let rows = [
+        (INIT, SECCOMP, [SET_MODE_FILTER, 0, 1], Returned(-12)),
+        (INIT, SECCOMP, [SET_MODE_FILTER, 0, 0], Returned(0)),
+    ];
+    come_to(&rt, &mut store, &images, &rows)?;
     assert_eq!(rt; filters_of(&store, INIT), Some(8));
     Ok(())
 }
@@ -271,53 +89,40 @@ fn filters_are_attached_up_to_the_path_limit(rt: HostRuntime) -> Result<(), Fail
 fn actions_are_told_by_their_values(rt: HostRuntime) -> Result<(), Fail> {
     let mut store = opening(rt.alloc())?;
     let images = nothing_declared(rt.alloc());
-    returns(
-        &rt,
-        &mut store,
-        &images,
-        INIT,
-        SECCOMP,
-        [GET_ACTION_AVAIL, 0, 0x7fff_0000],
-        0,
-    )?;
-    returns(
-        &rt,
-        &mut store,
-        &images,
-        INIT,
-        SECCOMP,
-        [GET_ACTION_AVAIL, 0, 0x8000_0000],
-        0,
-    )?;
-    returns(
-        &rt,
-        &mut store,
-        &images,
-        INIT,
-        SECCOMP,
-        [GET_ACTION_AVAIL, 0, 0x7fff_0001],
-        -95,
-    )?;
-    returns(
-        &rt,
-        &mut store,
-        &images,
-        INIT,
-        SECCOMP,
-        [GET_ACTION_AVAIL, 0, 0x7ffe_0000],
-        -95,
-    )?;
-    returns(
-        &rt,
-        &mut store,
-        &images,
-        INIT,
-        SECCOMP,
-        [GET_ACTION_AVAIL, 1, 0x7fff_0000],
-        -22,
-    )?;
-    returns(&rt, &mut store, &images, INIT, SECCOMP, [0, 0, 0], -22)?;
-    returns(&rt, &mut store, &images, INIT, SECCOMP, [3, 0, 0], -22)?;
-    returns(&rt, &mut store, &images, INIT, PRCTL, [1, 15, 0], -22)?;
-    Ok(())
+    let rows = [
+        (
+            INIT,
+            SECCOMP,
+            [GET_ACTION_AVAIL, 0, 0x7fff_0000],
+            Returned(0),
+        ),
+        (
+            INIT,
+            SECCOMP,
+            [GET_ACTION_AVAIL, 0, 0x8000_0000],
+            Returned(0),
+        ),
+        (
+            INIT,
+            SECCOMP,
+            [GET_ACTION_AVAIL, 0, 0x7fff_0001],
+            Returned(-95),
+        ),
+        (
+            INIT,
+            SECCOMP,
+            [GET_ACTION_AVAIL, 0, 0x7ffe_0000],
+            Returned(-95),
+        ),
+        (
+            INIT,
+            SECCOMP,
+            [GET_ACTION_AVAIL, 1, 0x7fff_0000],
+            Returned(-22),
+        ),
+        (INIT, SECCOMP, [0, 0, 0], Returned(-22)),
+        (INIT, SECCOMP, [3, 0, 0], Returned(-22)),
+        (INIT, PRCTL, [1, 15, 0], Returned(-22)),
+    ];
+    come_to(&rt, &mut store, &images, &rows)
 }

@@ -1,19 +1,20 @@
-use crate::calling::{comes_to, nothing_declared, opening, returns};
-use sk_machine::{Images, Mark, Outcome};
+use crate::calling::{come_to, nothing_declared, opening};
+use sk_machine::Outcome::{Executed, Ids, Returned};
+use sk_machine::{Images, Mark};
 use sk_table::INIT;
 use std::test::Fail;
 
+const EXECVE: u32 = 59;
+
 const GETUID: u32 = 102;
-
-const GETEUID: u32 = 107;
-
-const GETRESUID: u32 = 118;
 
 const SETUID: u32 = 105;
 
+const GETEUID: u32 = 107;
+
 const SETRESUID: u32 = 117;
 
-const EXECVE: u32 = 59;
+const GETRESUID: u32 = 118;
 
 const PRCTL: u32 = 157;
 
@@ -27,62 +28,30 @@ const GET_NO_NEW_PRIVS: u64 = 39;
 fn ids_are_set_and_told(rt: HostRuntime) -> Result<(), Fail> {
     let mut store = opening(rt.alloc())?;
     let images = nothing_declared(rt.alloc());
-    returns(&rt, &mut store, &images, INIT, GETUID, [0; 3], 0)?;
-    returns(&rt, &mut store, &images, INIT, SETUID, [NO_ID, 0, 0], -22)?;
-    returns(
-        &rt,
-        &mut store,
-        &images,
-        INIT,
-        SETRESUID,
-        [1000, 1001, NO_ID],
-        0,
-    )?;
-    comes_to(
-        &rt,
-        &mut store,
-        &images,
-        INIT,
-        GETRESUID,
-        [0; 3],
-        Outcome::Ids(1000, 1001, 0),
-    )?;
-    returns(&rt, &mut store, &images, INIT, GETUID, [0; 3], 1000)?;
-    returns(&rt, &mut store, &images, INIT, GETEUID, [0; 3], 1001)?;
-    returns(&rt, &mut store, &images, INIT, SETUID, [7, 0, 0], -1)?;
-    returns(
-        &rt,
-        &mut store,
-        &images,
-        INIT,
-        SETRESUID,
-        [7, NO_ID, NO_ID],
-        -1,
-    )?;
-    returns(&rt, &mut store, &images, INIT, SETUID, [0, 0, 0], 0)?;
-    comes_to(
-        &rt,
-        &mut store,
-        &images,
-        INIT,
-        GETRESUID,
-        [0; 3],
-        Outcome::Ids(1000, 0, 0),
-    )?;
-    Ok(())
+    let rows = [
+        (INIT, GETUID, [0; 3], Returned(0)),
+        (INIT, SETUID, [NO_ID, 0, 0], Returned(-22)),
+        (INIT, SETRESUID, [1000, 1001, NO_ID], Returned(0)),
+        (INIT, GETRESUID, [0; 3], Ids(1000, 1001, 0)),
+        (INIT, GETUID, [0; 3], Returned(1000)),
+        (INIT, GETEUID, [0; 3], Returned(1001)),
+        (INIT, SETUID, [7, 0, 0], Returned(-1)),
+        (INIT, SETRESUID, [7, NO_ID, NO_ID], Returned(-1)),
+        (INIT, SETUID, [0; 3], Returned(0)),
+        (INIT, GETRESUID, [0; 3], Ids(1000, 0, 0)),
+    ];
+    come_to(&rt, &mut store, &images, &rows)
 }
 
 /// The first program is set-user-ID and another user's, the second one the superuser's.
 fn programs(rt: &HostRuntime) -> Result<Images, Fail> {
     let mut images = nothing_declared(rt.alloc());
-    images.programs.push(Mark {
-        owner: 5,
-        setuid: true,
-    })?;
-    images.programs.push(Mark {
-        owner: 0,
-        setuid: true,
-    })?;
+    for owner in [5, 0] {
+        images.programs.push(Mark {
+            owner,
+            setuid: true,
+        })?;
+    }
     Ok(images)
 }
 
@@ -90,100 +59,22 @@ fn programs(rt: &HostRuntime) -> Result<Images, Fail> {
 fn execve_takes_the_owners_id_unless_it_is_bound(rt: HostRuntime) -> Result<(), Fail> {
     let mut store = opening(rt.alloc())?;
     let images = programs(&rt)?;
-    returns(&rt, &mut store, &images, INIT, SETUID, [1000, 0, 0], 0)?;
-    returns(&rt, &mut store, &images, INIT, EXECVE, [2, 0, 0], -2)?;
-    // All 64 bits of the program's number count.
-    returns(&rt, &mut store, &images, INIT, EXECVE, [1 << 32, 0, 0], -2)?;
-    comes_to(
-        &rt,
-        &mut store,
-        &images,
-        INIT,
-        EXECVE,
-        [0; 3],
-        Outcome::Executed,
-    )?;
-    comes_to(
-        &rt,
-        &mut store,
-        &images,
-        INIT,
-        GETRESUID,
-        [0; 3],
-        Outcome::Ids(1000, 5, 5),
-    )?;
-    returns(
-        &rt,
-        &mut store,
-        &images,
-        INIT,
-        PRCTL,
-        [GET_NO_NEW_PRIVS, 0, 0],
-        0,
-    )?;
-    returns(
-        &rt,
-        &mut store,
-        &images,
-        INIT,
-        PRCTL,
-        [SET_NO_NEW_PRIVS, 1, 0],
-        0,
-    )?;
-    comes_to(
-        &rt,
-        &mut store,
-        &images,
-        INIT,
-        EXECVE,
-        [1, 0, 0],
-        Outcome::Executed,
-    )?;
-    comes_to(
-        &rt,
-        &mut store,
-        &images,
-        INIT,
-        GETRESUID,
-        [0; 3],
-        Outcome::Ids(1000, 5, 5),
-    )?;
-    // It is never cleared.
-    returns(
-        &rt,
-        &mut store,
-        &images,
-        INIT,
-        PRCTL,
-        [SET_NO_NEW_PRIVS, 0, 0],
-        -22,
-    )?;
-    returns(
-        &rt,
-        &mut store,
-        &images,
-        INIT,
-        PRCTL,
-        [SET_NO_NEW_PRIVS, 1, 1],
-        -22,
-    )?;
-    returns(
-        &rt,
-        &mut store,
-        &images,
-        INIT,
-        PRCTL,
-        [GET_NO_NEW_PRIVS, 1, 0],
-        -22,
-    )?;
-    returns(
-        &rt,
-        &mut store,
-        &images,
-        INIT,
-        PRCTL,
-        [GET_NO_NEW_PRIVS, 0, 0],
-        1,
-    )?;
-    Ok(())
+    let rows = [
+        (INIT, SETUID, [1000, 0, 0], Returned(0)),
+        (INIT, EXECVE, [2, 0, 0], Returned(-2)),
+        // All 64 bits of the program's number count.
+        (INIT, EXECVE, [1 << 32, 0, 0], Returned(-2)),
+        (INIT, EXECVE, [0; 3], Executed),
+        (INIT, GETRESUID, [0; 3], Ids(1000, 5, 5)),
+        (INIT, PRCTL, [GET_NO_NEW_PRIVS, 0, 0], Returned(0)),
+        (INIT, PRCTL, [SET_NO_NEW_PRIVS, 1, 0], Returned(0)),
+        (INIT, EXECVE, [1, 0, 0], Executed),
+        (INIT, GETRESUID, [0; 3], Ids(1000, 5, 5)),
+        // It is never cleared.
+        (INIT, PRCTL, [SET_NO_NEW_PRIVS, 0, 0], Returned(-22)),
+        (INIT, PRCTL, [SET_NO_NEW_PRIVS, 1, 1], Returned(-22)),
+        (INIT, PRCTL, [GET_NO_NEW_PRIVS, 1, 0], Returned(-22)),
+        (INIT, PRCTL, [GET_NO_NEW_PRIVS, 0, 0], Returned(1)),
+    ];
+    come_to(&rt, &mut store, &images, &rows)
 }

@@ -1,5 +1,5 @@
-use crate::calling::{comes_to, nothing_declared, opening, returns};
-use sk_machine::Outcome;
+use crate::calling::{come_to, nothing_declared, opening};
+use sk_machine::Outcome::{Ended, Returned, Told, Waits};
 use sk_table::{INIT, ListStore, ProcStore, Waiting};
 use std::test::Fail;
 
@@ -46,66 +46,31 @@ fn waiting(store: &ListStore, pid: u32) -> Option<Waiting> {
 fn processes_come_and_go(rt: HostRuntime) -> Result<(), Fail> {
     let mut store = opening(rt.alloc())?;
     let images = nothing_declared(rt.alloc());
-    returns(&rt, &mut store, &images, INIT, FORK, [0; 3], 2)?;
-    returns(&rt, &mut store, &images, INIT, FORK, [0; 3], 3)?;
-    returns(&rt, &mut store, &images, 2, GETPID, [0; 3], 2)?;
-    returns(&rt, &mut store, &images, 2, GETPPID, [0; 3], 1)?;
-    returns(&rt, &mut store, &images, INIT, GETPPID, [0; 3], 0)?;
-    // Of 511 the low 8 bits are told.
-    comes_to(
-        &rt,
-        &mut store,
-        &images,
-        2,
-        EXIT,
-        [511, 0, 0],
-        Outcome::Ended(0xff00),
-    )?;
-    comes_to(
-        &rt,
-        &mut store,
-        &images,
-        INIT,
-        WAIT4,
-        [ANY, 0, 0],
-        Outcome::Told {
-            pid: 2,
-            status: 0xff00,
-        },
-    )?;
-    comes_to(
-        &rt,
-        &mut store,
-        &images,
-        3,
-        EXIT_GROUP,
-        [1, 0, 0],
-        Outcome::Ended(0x100),
-    )?;
-    comes_to(
-        &rt,
-        &mut store,
-        &images,
-        INIT,
-        WAIT4,
-        [ANY, 0, 0],
-        Outcome::Told {
-            pid: 3,
-            status: 0x100,
-        },
-    )?;
-    returns(&rt, &mut store, &images, INIT, WAIT4, [ANY, 0, 0], -10)?;
-    returns(&rt, &mut store, &images, INIT, SCHED_YIELD, [0; 3], 0)?;
-    returns(&rt, &mut store, &images, INIT, 1000, [0; 3], -38)?;
-    comes_to(
-        &rt,
-        &mut store,
-        &images,
-        INIT,
-        PAUSE,
-        [0; 3],
-        Outcome::Waits,
-    )?;
+    let first = Told {
+        pid: 2,
+        status: 0xff00,
+    };
+    let second = Told {
+        pid: 3,
+        status: 0x100,
+    };
+    let rows = [
+        (INIT, FORK, [0; 3], Returned(2)),
+        (INIT, FORK, [0; 3], Returned(3)),
+        (2, GETPID, [0; 3], Returned(2)),
+        (2, GETPPID, [0; 3], Returned(1)),
+        (INIT, GETPPID, [0; 3], Returned(0)),
+        // Of 511 the low 8 bits are told.
+        (2, EXIT, [511, 0, 0], Ended(0xff00)),
+        (INIT, WAIT4, [ANY, 0, 0], first),
+        (3, EXIT_GROUP, [1, 0, 0], Ended(0x100)),
+        (INIT, WAIT4, [ANY, 0, 0], second),
+        (INIT, WAIT4, [ANY, 0, 0], Returned(-10)),
+        (INIT, SCHED_YIELD, [0; 3], Returned(0)),
+        (INIT, 1000, [0; 3], Returned(-38)),
+        (INIT, PAUSE, [0; 3], Waits),
+    ];
+    come_to(&rt, &mut store, &images, &rows)?;
     assert_eq!(rt; waiting(&store, INIT), Some(Waiting::Pause));
     Ok(())
 }
@@ -114,89 +79,40 @@ fn processes_come_and_go(rt: HostRuntime) -> Result<(), Fail> {
 fn groups_and_sessions_are_set_and_told(rt: HostRuntime) -> Result<(), Fail> {
     let mut store = opening(rt.alloc())?;
     let images = nothing_declared(rt.alloc());
-    returns(&rt, &mut store, &images, INIT, FORK, [0; 3], 2)?;
-    returns(&rt, &mut store, &images, INIT, SETPGID, [2, ANY, 0], -22)?;
-    returns(&rt, &mut store, &images, INIT, SETPGID, [9, 0, 0], -3)?;
-    returns(&rt, &mut store, &images, INIT, SETPGID, [2, 0, 0], 0)?;
-    returns(&rt, &mut store, &images, INIT, GETPGID, [2, 0, 0], 2)?;
-    returns(&rt, &mut store, &images, 2, GETPGRP, [0; 3], 2)?;
-    returns(&rt, &mut store, &images, 2, GETSID, [0; 3], 1)?;
-    returns(&rt, &mut store, &images, 2, SETSID, [0; 3], -1)?;
-    returns(&rt, &mut store, &images, 2, SETPGID, [0, 1, 0], 0)?;
-    returns(&rt, &mut store, &images, 2, SETSID, [0; 3], 2)?;
-    returns(&rt, &mut store, &images, INIT, GETSID, [2, 0, 0], 2)?;
-    Ok(())
+    let rows = [
+        (INIT, FORK, [0; 3], Returned(2)),
+        (INIT, SETPGID, [2, ANY, 0], Returned(-22)),
+        (INIT, SETPGID, [9, 0, 0], Returned(-3)),
+        (INIT, SETPGID, [2, 0, 0], Returned(0)),
+        (INIT, GETPGID, [2, 0, 0], Returned(2)),
+        (2, GETPGRP, [0; 3], Returned(2)),
+        (2, GETSID, [0; 3], Returned(1)),
+        (2, SETSID, [0; 3], Returned(-1)),
+        (2, SETPGID, [0, 1, 0], Returned(0)),
+        (2, SETSID, [0; 3], Returned(2)),
+        (INIT, GETSID, [2, 0, 0], Returned(2)),
+    ];
+    come_to(&rt, &mut store, &images, &rows)
 }
 
 #[test]
 fn subreapers_are_marked_where_there_are_any(rt: HostRuntime) -> Result<(), Fail> {
     let mut store = opening(rt.alloc())?;
     let mut images = nothing_declared(rt.alloc());
-    returns(&rt, &mut store, &images, INIT, FORK, [0; 3], 2)?;
-    // All 64 bits of the mark count.
-    returns(
-        &rt,
-        &mut store,
-        &images,
-        2,
-        PRCTL,
-        [SET_CHILD_SUBREAPER, 1 << 32, 0],
-        0,
-    )?;
-    returns(
-        &rt,
-        &mut store,
-        &images,
-        2,
-        PRCTL,
-        [GET_CHILD_SUBREAPER, 0, 0],
-        1,
-    )?;
-    returns(
-        &rt,
-        &mut store,
-        &images,
-        INIT,
-        PRCTL,
-        [GET_CHILD_SUBREAPER, 0, 0],
-        0,
-    )?;
-    returns(
-        &rt,
-        &mut store,
-        &images,
-        2,
-        PRCTL,
-        [SET_CHILD_SUBREAPER, 0, 0],
-        0,
-    )?;
-    returns(
-        &rt,
-        &mut store,
-        &images,
-        2,
-        PRCTL,
-        [GET_CHILD_SUBREAPER, 0, 0],
-        0,
-    )?;
+    let rows = [
+        (INIT, FORK, [0; 3], Returned(2)),
+        // All 64 bits of the mark count.
+        (2, PRCTL, [SET_CHILD_SUBREAPER, 1 << 32, 0], Returned(0)),
+        (2, PRCTL, [GET_CHILD_SUBREAPER, 0, 0], Returned(1)),
+        (INIT, PRCTL, [GET_CHILD_SUBREAPER, 0, 0], Returned(0)),
+        (2, PRCTL, [SET_CHILD_SUBREAPER, 0, 0], Returned(0)),
+        (2, PRCTL, [GET_CHILD_SUBREAPER, 0, 0], Returned(0)),
+    ];
+    come_to(&rt, &mut store, &images, &rows)?;
     images.subreapers = false;
-    returns(
-        &rt,
-        &mut store,
-        &images,
-        2,
-        PRCTL,
-        [SET_CHILD_SUBREAPER, 1, 0],
-        -22,
-    )?;
-    returns(
-        &rt,
-        &mut store,
-        &images,
-        2,
-        PRCTL,
-        [GET_CHILD_SUBREAPER, 0, 0],
-        -22,
-    )?;
-    Ok(())
+    let refused = [
+        (2, PRCTL, [SET_CHILD_SUBREAPER, 1, 0], Returned(-22)),
+        (2, PRCTL, [GET_CHILD_SUBREAPER, 0, 0], Returned(-22)),
+    ];
+    come_to(&rt, &mut store, &images, &refused)
 }
