@@ -1,8 +1,9 @@
 #!/usr/bin/env python3
-"""refuse_memory.py PROGRAM FORKS: refuses each allocation of worked runs of PROGRAM in turn.
+"""refuse_memory.py PROGRAM FORKS READS: refuses each allocation of worked runs of PROGRAM and READS in turn.
 
 Each such run is to give the whole answer, or `skern: out of memory` with status 3, and nothing else; and whatever it
-gives, it is to have given back each block of memory that it took. There is a run for every text that refuses an input.
+gives, it is to have given back each block of memory that it took. There is a run of PROGRAM for every text that refuses
+an input. READS reads scenarios, and tells a sum over all values of what it read.
 FORKS is run with every allocation refused from its first line of output on, and on a small stack, and is to give its
 whole answer. Prints each run that gives something else, and at last 'N passed, M failed'."""
 import os
@@ -78,6 +79,118 @@ RUNS += [("eval", RECORD + f"filter {image}\n", f"filter 0 {text}\n", 1) for ima
 RUNS += [("eval", text, NOT_UNDERSTOOD.format(line), 1) for text, line in BAD_LINES]
 RUNS += [("asm", text, f"skern: line {line}: {why}\n", 1) for text, line, why in BAD_TEXTS]
 RUNS += [(word, " " * 1048577, "skern: line 0: over the limit\n", 1) for word in ("eval", "check", "asm", "list")]
+U64 = 2**64
+# Scenarios, with the setting that each stands for: turns, the mark of subreapers, images, and programs, which are an
+# owner, whether they set the user id, and calls; a call is its number, its arguments, and the program of its child.
+SETTINGS = [
+    ("", (1000, 0, [], [])),
+    ("""\
+filter f
+ldabs 0
+jeq 110 +0 +1
+ret errno/1
+ret allow
+end
+program init
+setuid 1000
+seccomp 1 0 @f
+prctl 38 1 0 0 0
+seccomp 1 0 @f
+fork kid
+wait4 -1 0 0
+end
+program kid
+execve @su
+end
+program su owner 0 setuid
+geteuid
+getppid
+end
+""", (1000, 0, [REFUSES_GETPPID], [
+        (0, 0, [(105, [1000], None), (317, [1], None), (157, [38, 1], None), (317, [1], None), (57, [], 1), (61, [U64 - 1], None)]),
+        (0, 0, [(59, [2], None)]),
+        (0, 1, [(107, [], None), (110, [], None)]),
+    ])),
+    ("""\
+; names stand before what they name
+program init owner 4294967294
+kill &again -0 0x10 @g 18446744073709551615 -9223372036854775808
+fork again
+call 4294967295 1 2 3 4 5 6
+end
+filter e
+end
+subreapers
+filter g
+ ; bytes
+bytes 0600 0000
+bytes
+bytes 0000fF 7f
+end
+program again setuid
+end
+turns 0007""", (7, 1, ["", "060000000000ff7f"], [
+        (4294967294, 0, [(62, [3, 0, 16, 1, U64 - 1, U64 - 2**63], None), (57, [], 1), (4294967295, [1, 2, 3, 4, 5, 6], None)]),
+        (0, 1, []),
+    ])),
+    ("""\
+filter f
+ldabs 0
+jeq 110 refused +0
+ret allow
+refused:
+ret errno/1
+end
+program init
+seccomp 1 0 @f
+prctl 22 2 @last
+end
+filter last
+bytes 06000000 0000ff7f
+end
+""", (1000, 0, ["2000000000000000" "150001006e000000" "060000000000ff7f" "0600000001000500", "060000000000ff7f"], [
+        (0, 0, [(317, [1], None), (157, [22, 2, 1], None)]),
+    ])),
+]
+# Texts that are no scenario.
+BAD_SCENARIOS = [
+    ("program init\ngetpid\n", 3, "not understood"),
+    ("program init\nexecve @x\nend\n", 2, "no such name"),
+    ("filter f\nret allow\nend\nprogram init\nfork f\nend\n", 5, "no such name"),
+    ("filter f\nja far\nend\nprogram init\nseccomp 1 0 @f\nend\n", 2, "no such name"),
+    ("filter f\nja far\nend\nprogram init\ngetp", 5, "not understood"),
+    ("filter f\nbytes 00\nbytes 0g\nend\n", 3, "not understood"),
+    ("filter f\nend\nprogram f\nend\n", 3, "not understood"),
+    ("program init\ngetpid\nend\nturns 0\n", 4, "over the limit"),
+    ("filter f\nbytes " + "00" * 120 + "\n" + ("bytes " + "00" * 120 + "\n") * 273 + "end\n", 275, "over the limit"),
+]
+
+
+def values_of(setting):
+    """All values of a setting, in the order in which READS takes them."""
+    turns, subreapers, images, programs = setting
+    yield from (turns, subreapers, len(images))
+    for image in map(bytes.fromhex, images):
+        yield len(image)
+        yield from image
+    yield len(programs)
+    for owner, setuid, calls in programs:
+        yield from (owner, setuid, len(calls))
+        for number, arguments, child in calls:
+            yield number
+            yield from arguments + [0] * (6 - len(arguments))
+            yield 0 if child is None else child + 1
+
+
+def told(setting):
+    total = 0
+    for value in values_of(setting):
+        total = (31 * total + value) % U64
+    return f"filters {len(setting[2])} programs {len(setting[3])} sum {total}\n"
+
+
+READINGS = [(text, told(setting), 0) for text, setting in SETTINGS]
+READINGS += [(text, f"skern: line {line}: {why}\n", 1) for text, line, why in BAD_SCENARIOS]
 MOST_ALLOCATIONS = 2000
 # Not enough for a call for each filter of FORKS' longest chain.
 STACK = 256 * 1024
@@ -86,9 +199,11 @@ FORKED = "6554 filters\n1000 forks, pids 501500 in sum\n1000 children with the f
 
 
 def main():
-    if len(sys.argv) != 3:
+    if len(sys.argv) != 4:
         sys.exit(__doc__)
-    program, forks = (os.path.abspath(name) for name in sys.argv[1:])
+    program, forks, reads = (os.path.abspath(name) for name in sys.argv[1:])
+    runs = [([program, word], text, output, status) for word, text, output, status in RUNS]
+    runs += [([reads], text, output, status) for text, output, status in READINGS]
     passed = failed = 0
     with tempfile.TemporaryDirectory() as folder:
         shim = os.path.join(folder, "refuse_memory.so")
@@ -114,12 +229,13 @@ def main():
                 failed += 1
                 print(f"forks: where memory is {memory} it gives {answer} and keeps {left} blocks")
 
-        for word, text, output, status in RUNS:
+        for words, text, output, status in runs:
+            word = os.path.basename(words[-1])
             whole = (output.encode(), status)
             refusals = 0
             for count in range(MOST_ALLOCATIONS):
                 # The first run refuses nothing.
-                answer, left = run([program, word], text, count)
+                answer, left = run(words, text, count)
                 if count > 0 and answer == (b"skern: out of memory\n", 3):
                     refusals += 1
                 elif answer != whole:

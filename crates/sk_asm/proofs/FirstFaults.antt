@@ -19,7 +19,7 @@ use Rattle.sk_asm.proofs.Meaning.{ok_is, bind_ok, checked-ok, checked-says, dist
 
 -- ---- steps
 
-err_is : {X : Type 0} (f g : AsmFault) → ◌≡◌ {A = Result X AsmFault} (Err f) (Err g) → f ≡ g
+pub err_is : {X : Type 0} (f g : AsmFault) → ◌≡◌ {A = Result X AsmFault} (Err f) (Err g) → f ≡ g
 err_is f g h = cc
 
 bind_err : {X Y : Type 0} (first : Result X AsmFault) (next : X → Result Y AsmFault) (f : AsmFault) → (first >>= next) ≡ Err f
@@ -224,7 +224,7 @@ jumps_place labels n at (to ∷ others) f h = elim h [
 
 module _ {X : Type 0} where
   -- a list is cut at a place in one way
-  cut_once : (xs ys tail other : List X) (a b : X) → xs ++ a ∷ tail ≡ ys ++ b ∷ other → length xs ≡ length ys → (xs ≡ ys) × (a ≡ b)
+  pub cut_once : (xs ys tail other : List X) (a b : X) → xs ++ a ∷ tail ≡ ys ++ b ∷ other → length xs ≡ length ys → (xs ≡ ys) × (a ≡ b)
   cut_once [] [] tail other a b e l = (refl, cc)
   cut_once [] (y ∷ ys) tail other a b e l = absurd (omega arith)
   cut_once (x ∷ xs) [] tail other a b e l = absurd (omega arith)

@@ -306,7 +306,7 @@ pub assembled_lines-stands : (n : ℕ) (lines : List (List ℕ)) (insns : List I
 unfolding assembled_lines
 assembled_lines-stands n lines insns h =
     let l = bind_ok (labelled n [] 0 lines) (λ labels. emitted labels n 0 lines) insns h in
-    let s = scanned n [] 0 lines l.0 (omega arith) given_once-none l.1 in
+    let s = scanned n [] 0 lines l.0 (omega arith) (given_once-none ℕ) l.1 in
     let e = subst (λ labels. emitted labels n 0 lines ≡ Ok insns) s.made l.2 in
     let stand = stands (labels_from 0 s.statements) n 0 lines s.statements insns s.says e in (
       s.statements,

@@ -41,14 +41,14 @@ None >>= next = None
 -- ---- words
 
 -- a number of 8, 16 or 32 bits
-abbrev pub byte_of : List ℕ → Option ℕ
-byte_of word = up_to (2 ^ 8 - 1) (number_of word)
+abbrev pub u8_of : List ℕ → Option ℕ
+u8_of word = up_to (2 ^ 8 - 1) (number_of word)
 
-abbrev pub half_of : List ℕ → Option ℕ
-half_of word = up_to (2 ^ 16 - 1) (number_of word)
+abbrev pub u16_of : List ℕ → Option ℕ
+u16_of word = up_to (2 ^ 16 - 1) (number_of word)
 
-abbrev pub word_of : List ℕ → Option ℕ
-word_of word = up_to (2 ^ 32 - 1) (number_of word)
+abbrev pub u32_of : List ℕ → Option ℕ
+u32_of word = up_to (2 ^ 32 - 1) (number_of word)
 
 -- a label's name, and a colon behind it
 unfoldable pub label_of : List ℕ → Option (List ℕ)
@@ -69,7 +69,7 @@ unfoldable pub action_with : List ℕ → List ℕ → Option ℕ
 action_with name number = do
   action ← action_named name
   value ← value_of action
-  given ← half_of number
+  given ← u16_of number
   Some (value + given)
 
 -- an action's name, alone or with a slash (47) and data
@@ -81,7 +81,7 @@ action_value word =
 
 -- what a filter returns: a number or an action
 unfoldable pub returned_value : List ℕ → Option ℕ
-returned_value word = option_or (word_of word) (action_value word)
+returned_value word = option_or (u32_of word) (action_value word)
 
 -- ---- lines
 
@@ -106,8 +106,8 @@ shape_of CopyToAccumulator = Bare
 -- a conditional jump
 unfoldable pub branching : ℕ → ℕ → List ℕ → List ℕ → Option Statement
 branching code k first second = do
-  jt ← destination_of byte_of first
-  jf ← destination_of byte_of second
+  jt ← destination_of u8_of first
+  jf ← destination_of u8_of second
   Some (Branches code k jt jf)
 
 -- an instruction of a shape and a code; fields that are not used are 0
@@ -117,7 +117,7 @@ shaped Bare code words = do
   Some (Plain (insn code 0 0 0))
 shaped Number code words = do
   word ← one_of words
-  k ← word_of word
+  k ← u32_of word
   Some (Plain (insn code 0 0 k))
 shaped Action code words = do
   word ← one_of words
@@ -125,11 +125,11 @@ shaped Action code words = do
   Some (Plain (insn code 0 0 k))
 shaped Target code words = do
   word ← one_of words
-  to ← destination_of word_of word
+  to ← destination_of u32_of word
   Some (Jumps code to)
 shaped Compare code words = do
   given ← three_of words
-  k ← word_of given.0
+  k ← u32_of given.0
   branching code k given.1 given.2
 shaped CompareIndex code words = do
   given ← two_of words
@@ -139,21 +139,21 @@ shaped CompareIndex code words = do
 unfoldable pub raw : List (List ℕ) → Option Statement
 raw words = do
   given ← four_of words
-  code ← half_of given.0
-  jt ← byte_of given.1
-  jf ← byte_of given.2
-  k ← word_of given.3
+  code ← u16_of given.0
+  jt ← u8_of given.1
+  jf ← u8_of given.2
+  k ← u32_of given.3
   Some (Plain (insn code jt jf k))
 
 -- an instruction: its first word, and the others
-unfoldable pub instruction_of : List ℕ → List (List ℕ) → Option Statement
-instruction_of first words =
+unfoldable pub instruction_said : List ℕ → List (List ℕ) → Option Statement
+instruction_said first words =
     if bytes_eq first (codes ".insn") then raw words
     else (operation_named first >>= λ operation. shaped (shape_of operation) (code_of operation) words)
 
 -- a label stands alone on its line
 abbrev pub marked_or : Option (List ℕ) → List ℕ → List (List ℕ) → Option Statement
-marked_or None first words = instruction_of first words
+marked_or None first words = instruction_said first words
 marked_or (Some name) first words = none_of words >>= λ none. Some (Marks name)
 
 unfoldable pub spoken : List (List ℕ) → Option Statement

@@ -2,7 +2,7 @@
 ghost use Rattle.std.specs.Prelude.{◌≡◌, ◌↔◌, ℕ, List, Ok, Err};
 ghost use Rattle.sk_insn.specs.declared.insn.Insn.{Insn};
 ghost use Rattle.sk_asm.specs.Assembly.{AssemblesText};
-ghost use Rattle.sk_asm.specs.LineFaults.{HasFault, IsFirstFault};
+ghost use Rattle.sk_asm.specs.LineFaults.{HasFault, IsFirstFault, IsFirstTextFault};
 ghost use Rattle.sk_asm.specs.Passes.{assembled, assembled_lines};
 ghost use Rattle.sk_asm.specs.declared.fault.AsmFault.{AsmFault};
 
@@ -13,11 +13,15 @@ pub fn passes_find_what_a_text_stands_for()
         → AssemblesText text insns → AssemblesText text others → insns ≡ others }
 {}
 
-/// The fault that the two passes find is the first of those that the lines have, and where they find instructions the
-/// lines have no fault.
+/// The fault that the two passes find is the first of those that the lines have, of which there is at most one, and where
+/// they find instructions the lines have no fault.
 pub fn passes_find_the_first_fault()
-    ensures first { (number : ℕ) (lines : List (List ℕ)) (fault : AsmFault)
-        → assembled_lines number lines ≡ Err fault → IsFirstFault number lines fault }
+    ensures exact { (number : ℕ) (lines : List (List ℕ)) (fault : AsmFault)
+        → (assembled_lines number lines ≡ Err fault) ↔ IsFirstFault number lines fault }
+    ensures one { (number : ℕ) (lines : List (List ℕ)) (fault other : AsmFault)
+        → IsFirstFault number lines fault → IsFirstFault number lines other → fault ≡ other }
+    ensures one_of_a_text { (text : List ℕ) (fault other : AsmFault)
+        → IsFirstTextFault text fault → IsFirstTextFault text other → fault ≡ other }
     ensures none { (number : ℕ) (lines : List (List ℕ)) (insns : List Insn) (fault : AsmFault)
         → assembled_lines number lines ≡ Ok insns → HasFault number lines fault → ⊥ }
 {}

@@ -2,7 +2,7 @@
 ghost use Rattle.std.specs.Prelude.{◌≡◌};
 ghost use Rattle.std.specs.Option.{option_map};
 ghost use Rattle.sk_text.specs.Lines.{words_of};
-ghost use Rattle.sk_asm.specs.Grammar.{Plain, insn, shaped, branching, raw, instruction_of, spoken, statement_of};
+ghost use Rattle.sk_asm.specs.Grammar.{Plain, insn, shaped, branching, raw, instruction_said, spoken, statement_of};
 ghost use Rattle.sk_asm.specs.Passes.{checked};
 ghost use Rattle.sk_asm.specs.Faults.{Answers};
 ghost use Rattle.sk_asm.specs.Views.{statement};
@@ -63,9 +63,9 @@ fn parse_words(mut words: Words<'_>) -> Option<Parsed<'_>>
     }
 }
 
-#[tactic(auto, unfolding(crate::specs::Grammar::instruction_of))]
+#[tactic(auto, unfolding(crate::specs::Grammar::instruction_said))]
 fn parse_instruction<'a>(first: &'a [u8], words: Words<'a>) -> Option<Parsed<'a>>
-    ensures exact { option_map statement result ≡ instruction_of first.now (words_of words.entry.0.now) }
+    ensures exact { option_map statement result ≡ instruction_said first.now (words_of words.entry.0.now) }
 {
     if is_word(first, b".insn") {
         return parse_fields(words);

@@ -1,7 +1,7 @@
 //! Words that are numbers, values, labels or destinations.
 ghost use Rattle.std.specs.Prelude.{◌≡◌};
 ghost use Rattle.std.specs.Option.{option_map};
-ghost use Rattle.sk_asm.specs.Grammar.{byte_of, half_of, word_of, label_of, destination_of, action_with, action_value, returned_value};
+ghost use Rattle.sk_asm.specs.Grammar.{u8_of, u16_of, u32_of, label_of, destination_of, action_with, action_value, returned_value};
 ghost use Rattle.sk_asm.specs.Views.{destination};
 
 use crate::statement::Target;
@@ -9,21 +9,21 @@ use sk_insn::Action;
 use sk_text::{cut, is_name, number_up_to};
 
 pub(crate) fn byte(word: &[u8]) -> Option<u8>
-    ensures value { result ≡ byte_of word.now }
+    ensures value { result ≡ u8_of word.now }
 {
     let number = number_up_to(word, 0xff)?;
     Some(number as u8)
 }
 
 pub(crate) fn half(word: &[u8]) -> Option<u16>
-    ensures value { result ≡ half_of word.now }
+    ensures value { result ≡ u16_of word.now }
 {
     let number = number_up_to(word, 0xffff)?;
     Some(number as u16)
 }
 
 pub(crate) fn word(word: &[u8]) -> Option<u32>
-    ensures value { result ≡ word_of word.now }
+    ensures value { result ≡ u32_of word.now }
 {
     let number = number_up_to(word, 0xffff_ffff)?;
     Some(number as u32)
@@ -44,7 +44,7 @@ pub(crate) fn label(word: &[u8]) -> Option<&[u8]>
 // A conditional jump's destination.
 #[tactic(auto, unfolding(crate::specs::Grammar::destination_of))]
 pub(crate) fn near(word: &[u8]) -> Option<Target<'_, u8>>
-    ensures to { option_map destination result ≡ destination_of byte_of word.now }
+    ensures to { option_map destination result ≡ destination_of u8_of word.now }
 {
     if word.starts_with(b"+") {
         let count = byte(&word[1..])?;
@@ -60,7 +60,7 @@ pub(crate) fn near(word: &[u8]) -> Option<Target<'_, u8>>
 // Another jump's destination.
 #[tactic(auto, unfolding(crate::specs::Grammar::destination_of))]
 pub(crate) fn far(text: &[u8]) -> Option<Target<'_, u32>>
-    ensures to { option_map destination result ≡ destination_of word_of text.now }
+    ensures to { option_map destination result ≡ destination_of u32_of text.now }
 {
     if text.starts_with(b"+") {
         let count = word(&text[1..])?;

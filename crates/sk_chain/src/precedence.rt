@@ -5,8 +5,7 @@ ghost use Rattle.sk_chain.specs.Precedence.{precedence_of};
 ghost use Rattle.sk_chain.specs.Choosing.{chosen};
 ghost use Rattle.sk_chain.specs.Verdict.{first_of};
 
-/// Lets a call through.
-pub(crate) const ALLOW: u32 = 0x7fff_0000;
+use sk_insn::ALLOW;
 
 /// The verdict of filters that answer these values, the newest first: the first value than whose action no other has
 /// precedence.

@@ -21,7 +21,7 @@ use sk_chain::{Chain, ChainFault, first_of};
 use sk_check::{CheckFault, Checked, check};
 use sk_ends::{Sink, Source};
 use sk_insn::{Action, Insn, NoImage, Record, read_image};
-use sk_interp::{Ran, run_on};
+use sk_interp::Ran;
 use sk_text::hex_word;
 use std::alloc::{AllocError, Global};
 use std::fmt::Write;
@@ -127,11 +127,10 @@ fn attach(chain: Chain, program: Checked) -> Result<Result<Chain, Refusal>, Allo
 fn chain_text(alloc: Global, call: &Record, chain: &Chain) -> Result<String, AllocError>
     ensures text { IfOk result (λ text. string_bytes text ≡ chain_text call.now chain.now) }
 {
-    let bytes = call.bytes();
     let mut text = String::new(alloc);
     let mut values = Vec::with_capacity(alloc, chain.len())?;
     for program in chain.programs() {
-        let ran = run_on(program, &bytes);
+        let ran = sk_interp::run(program, call);
         push_ran(&mut text, ran)?;
         values.push(ran.value)?;
     }

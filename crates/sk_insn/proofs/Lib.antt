@@ -1,4 +1,5 @@
 pub mod LittleEndian
 pub mod Images
 pub mod Records
+pub mod RecordWords
 pub mod OperationTable

@@ -16,6 +16,9 @@ pub enum Action {
     Unknown,
 }
 
+/// The value that lets a call through, with data 0.
+pub const ALLOW: u32 = 0x7fff_0000;
+
 const ACTIONS: [Action; 8] = [
     Action::KillProcess,
     Action::KillThread,
@@ -58,7 +61,7 @@ impl Action {
             Action::UserNotif => Some(0x7fc0_0000),
             Action::Trace => Some(0x7ff0_0000),
             Action::Log => Some(0x7ffc_0000),
-            Action::Allow => Some(0x7fff_0000),
+            Action::Allow => Some(ALLOW),
             Action::Unknown => None,
         }
     }

@@ -7,11 +7,11 @@ mod insn;
 mod operation;
 mod record;
 
-pub use action::Action;
+pub use action::{ALLOW, Action};
 pub use image::{ImageFault, MOST_INSNS, NoImage, read_image, read_insns, write_insns};
 pub use insn::Insn;
 pub use operation::{Arithmetic, Comparison, Operand, Operation, Register, decode};
-pub use record::{RECORD_LEN, Record};
+pub use record::{ARCHITECTURE, RECORD_LEN, Record};
 
 #[cfg(test)]
 mod tests;

@@ -1,4 +1,4 @@
-ghost use Rattle.std.specs.Prelude.{◌≡◌, ℕ, ◌+◌, ◌%◌, ◌<◌, ◌≤◌, ◌↔◌, length, drop, take, IsSome, IfSome};
+ghost use Rattle.std.specs.Prelude.{◌≡◌, ℕ, ◌+◌, ◌/◌, ◌%◌, ◌^◌, ◌==◌, ◌<◌, ◌≤◌, ◌↔◌, if◌then◌else◌, length, drop, take, IsSome, IfSome};
 ghost use Rattle.byteorder.specs.Endian.{little_number};
 
 use byteorder::{ByteOrder, LittleEndian};
@@ -17,7 +17,8 @@ pub struct Record {
     pub args: [u64; 6],
 }
 
-const ARCHITECTURE: u32 = 0xC000_003E;
+/// x86-64, as a filter sees it: `AUDIT_ARCH_X86_64` of linux/audit.h.
+pub const ARCHITECTURE: u32 = 0xC000_003E;
 
 impl Record {
     ghost use Rattle.sk_insn.specs.Record.{record_bytes, record_in, record_of, word_of, IsRecord};
@@ -39,13 +40,22 @@ impl Record {
         bytes
     }
 
-    /// The word that a filter loads from place `k`.
+    /// The word that a filter loads from place `k`. It is read from the fields: to make all the bytes takes longer.
+    #[inline(always)]
     pub fn word(&self, k: u8) -> u32
         requires aligned { k % 4 ≡ 0 }
         requires inside { k < 64 }
         ensures word { word_of self.now k ≡ Some result }
     {
-        LittleEndian::read_u32(&self.bytes()[k as usize..])
+        if k == 0 {
+            self.nr
+        } else if k == 4 {
+            ARCHITECTURE
+        } else if k < 16 {
+            half(self.ip, k)
+        } else {
+            half(self.args[(k as usize - 16) / 8], k)
+        }
     }
 
     /// The record that these bytes are; none where bytes 4 to 7 are not x86-64's.
@@ -79,6 +89,18 @@ impl Record {
                 u64_at(bytes, 56),
             ],
         }
+    }
+}
+
+// The lower half of a number at an even word, and the higher one at an odd word.
+#[inline(always)]
+fn half(number: u64, k: u8) -> u32
+    ensures half { result ≡ if k % 8 == 0 then number % 2 ^ 32 else number / 2 ^ 32 % 2 ^ 32 }
+{
+    if k % 8 == 0 {
+        (number % 0x1_0000_0000) as u32
+    } else {
+        (number >> 32) as u32
     }
 }
 

@@ -9,6 +9,6 @@ mod tests;
 mod together;
 mod walker;
 
-pub use interpreter::{Ran, run, run_on};
+pub use interpreter::{Ran, run};
 pub use together::walk_together;
 pub use walker::walk;

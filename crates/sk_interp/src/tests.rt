@@ -1,4 +1,4 @@
-use crate::{Ran, run, run_on, walk, walk_together};
+use crate::{Ran, run, walk, walk_together};
 use sk_check::{Checked, check};
 use sk_insn::{Insn, Record};
 use std::alloc::Global;
@@ -114,7 +114,6 @@ fn filters(rt: HostRuntime) -> Result<(), Fail> {
     for (program, nr, value, steps) in rows {
         let filter = checked(rt.alloc(), program)?;
         assert_eq!(rt; run(&filter, &call(nr)), Ran { value, steps });
-        assert_eq!(rt; run_on(&filter, &call(nr).bytes()), Ran { value, steps });
     }
     Ok(())
 }

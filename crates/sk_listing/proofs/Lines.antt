@@ -10,13 +10,13 @@ use Rattle.sk_insn.specs.declared.insn.Insn.{Insn}
 use Rattle.sk_insn.specs.declared.operation.Operation.{Operation}
 use Rattle.sk_insn.proofs.OperationTable.{operation_named-name_of}
 use Rattle.sk_asm.specs.Assembly.{SaysLine, StandFor}
-use Rattle.sk_asm.specs.Grammar.{Statement, Plain, Jumps, Branches, Further, branching, insn, instruction_of, label_of, raw, returned_value, shape_of, shaped, spoken, statement_of}
+use Rattle.sk_asm.specs.Grammar.{Statement, Plain, Jumps, Branches, Further, branching, insn, instruction_said, label_of, raw, returned_value, shape_of, shaped, spoken, statement_of}
 use Rattle.sk_asm.specs.declared.shape.Shape.{Shape}
 use Rattle.sk_asm.specs.declared.shape.Shape.TheVariants.{Bare, Number, Action, Target, Compare, CompareIndex}
 use Rattle.sk_listing.specs.Listing.{distance_word, field_words, unused_are_zero, operands_of, word_digits, words_as, words_for}
 use Rattle.sk_listing.specs.RoundTrip.{IsInRange}
 use Rattle.sk_listing.proofs.Words.{AreWords, IsWord, is_visible, joined-printable, length-joined, words_of-joined}
-use Rattle.sk_listing.proofs.Numerals.{IsWord-decimal, IsWord-distance, IsWord-half_digits, IsWord-word_digits, byte_of-decimal, far-distance, half_of-digits, near-distance, word_of-decimal, word_of-digits}
+use Rattle.sk_listing.proofs.Numerals.{IsWord-decimal, IsWord-distance, IsWord-half_digits, IsWord-word_digits, u8_of-decimal, far-distance, u16_of-digits, near-distance, u32_of-decimal, u32_of-digits}
 
 -- ---- first words
 
@@ -102,7 +102,7 @@ fields-are given jt jf k t f e = ap (λ (x : ℕ). insn given.code x given.jf gi
 
 returned_value-digits : (n : ℕ) → n < 2 ^ 32 → returned_value (word_digits n) ≡ Some n
 unfolding returned_value
-returned_value-digits n h = let read = word_of-digits n h in rw read refl
+returned_value-digits n h = let read = u32_of-digits n h in rw read refl
 
 module _ (given : Insn) (range : IsInRange given) where
   -- words that are read as a statement of this instruction, wherever it stands
@@ -141,7 +141,7 @@ module _ (given : Insn) (range : IsInRange given) where
   operands-read Number h =
       let zero = jumps_zero h in
       let same = fields-are given 0 0 given.k zero.0 zero.1 refl in
-      let k = word_of-decimal given.k range.k in
+      let k = u32_of-decimal given.k range.k in
       record { are_words = (IsWord-decimal given.k range.k, tt); few = omega arith; statement = Plain (insn given.code 0 0 given.k); read = rw k refl; stand = λ at. (same, tt) }
   operands-read Action h =
       let zero = jumps_zero h in
@@ -154,7 +154,7 @@ module _ (given : Insn) (range : IsInRange given) where
       let k = far-distance given.k range.k in
       record { are_words = (IsWord-distance given.k range.k, tt); few = omega arith; statement = Jumps given.code (Further given.k); read = rw k refl; stand = λ at. ((given.k, refl, same), tt) }
   operands-read Compare h =
-      let k = word_of-decimal given.k range.k in
+      let k = u32_of-decimal given.k range.k in
       record {
         are_words = (IsWord-decimal given.k range.k, (IsWord-distance given.jt near-jt, (IsWord-distance given.jf near-jf, tt)));
         few = omega arith;
@@ -173,13 +173,13 @@ module _ (given : Insn) (range : IsInRange given) where
       }
 
   raw-read : Reads 5 (field_words given) (spoken (field_words given))
-  unfolding spoken instruction_of raw
+  unfolding spoken instruction_said raw
   raw-read =
       let none = IsFirst-insn.no_label in
-      let code = half_of-digits given.code range.code in
-      let jt = byte_of-decimal given.jt range.jt in
-      let jf = byte_of-decimal given.jf range.jf in
-      let k = word_of-digits given.k range.k in
+      let code = u16_of-digits given.code range.code in
+      let jt = u8_of-decimal given.jt range.jt in
+      let jf = u8_of-decimal given.jf range.jf in
+      let k = u32_of-digits given.k range.k in
       record {
         are_words = (IsFirst-insn.is_word, (IsWord-half_digits given.code, (IsWord-decimal given.jt near-jt, (IsWord-decimal given.jf near-jf, (IsWord-word_digits given.k, tt)))));
         few = omega arith;
@@ -190,7 +190,7 @@ module _ (given : Insn) (range : IsInRange given) where
 
   form-read : (operation : Operation) → operation_of given.code ≡ Some operation → unused_are_zero (shape_of operation) given ≡ true
       → Reads 5 (name_of operation ∷ operands_of (shape_of operation) given) (spoken (name_of operation ∷ operands_of (shape_of operation) given))
-  unfolding spoken instruction_of
+  unfolding spoken instruction_said
   form-read operation h shaped_so =
       let named = operation_of-named given.code operation h in
       let none = named.name.no_label in

@@ -80,7 +80,7 @@ listing_assembles insns ranges few =
         list.statements,
         record {
           says = list.says;
-          once = rw (list.no_label 0) given_once-none;
+          once = rw (list.no_label 0) (given_once-none ℕ);
           few = few;
           stand = rw (list.no_label 0) (list.stand 0);
         },

@@ -18,7 +18,7 @@ use Rattle.sk_text.specs.Hexadecimal.{hex_half, hex_word}
 use Rattle.sk_text.specs.Numbers.{is_digit_in, number_in, number_of, up_to}
 use Rattle.sk_text.proofs.Cuts.{bytes_some}
 use Rattle.sk_text.proofs.Reading.{up_to-within}
-use Rattle.sk_asm.specs.Grammar.{Further, byte_of, destination_of, half_of, word_of}
+use Rattle.sk_asm.specs.Grammar.{Further, u8_of, destination_of, u16_of, u32_of}
 use Rattle.sk_listing.specs.Listing.{distance_word, half_digits, word_digits}
 use Rattle.sk_listing.proofs.Words.{IsWord, is_visible}
 
@@ -164,18 +164,18 @@ IsWord-half_digits n = let numeral = hex_half-numeral n in IsWord-hex (hex_half 
 
 -- ---- fields
 
-pub byte_of-decimal : (n : ℕ) → n < 2 ^ 8 → byte_of (decimal n) ≡ Some n
-byte_of-decimal n h = ap (up_to (2 ^ 8 - 1)) (number_of-decimal n (omega arith)) ∙ up_to-within (2 ^ 8 - 1) n (omega arith)
+pub u8_of-decimal : (n : ℕ) → n < 2 ^ 8 → u8_of (decimal n) ≡ Some n
+u8_of-decimal n h = ap (up_to (2 ^ 8 - 1)) (number_of-decimal n (omega arith)) ∙ up_to-within (2 ^ 8 - 1) n (omega arith)
 
-pub word_of-decimal : (n : ℕ) → n < 2 ^ 32 → word_of (decimal n) ≡ Some n
-word_of-decimal n h = ap (up_to (2 ^ 32 - 1)) (number_of-decimal n h) ∙ up_to-within (2 ^ 32 - 1) n (omega arith)
+pub u32_of-decimal : (n : ℕ) → n < 2 ^ 32 → u32_of (decimal n) ≡ Some n
+u32_of-decimal n h = ap (up_to (2 ^ 32 - 1)) (number_of-decimal n h) ∙ up_to-within (2 ^ 32 - 1) n (omega arith)
 
-pub word_of-digits : (n : ℕ) → n < 2 ^ 32 → word_of (word_digits n) ≡ Some n
-word_of-digits n h =
+pub u32_of-digits : (n : ℕ) → n < 2 ^ 32 → u32_of (word_digits n) ≡ Some n
+u32_of-digits n h =
     ap (up_to (2 ^ 32 - 1)) (number_of-hex (hex_word n) (hex_word-numeral n).0 ∙ ap Some (hex_word-value n h)) ∙ up_to-within (2 ^ 32 - 1) n (omega arith)
 
-pub half_of-digits : (n : ℕ) → n < 2 ^ 16 → half_of (half_digits n) ≡ Some n
-half_of-digits n h =
+pub u16_of-digits : (n : ℕ) → n < 2 ^ 16 → u16_of (half_digits n) ≡ Some n
+u16_of-digits n h =
     ap (up_to (2 ^ 16 - 1)) (number_of-hex (hex_half n) (hex_half-numeral n).0 ∙ ap Some (hex_half-value n h)) ∙ up_to-within (2 ^ 16 - 1) n (omega arith)
 
 -- ---- distances
@@ -186,10 +186,10 @@ IsWord-distance n h =
     let short = length-decimal-le 10 n (omega arith) (omega arith) (omega arith) in
     record { some = omega arith; short = omega arith; visible = digits-visible 10 (decimal n) (omega arith) numeral.0.1 }
 
-pub near-distance : (n : ℕ) → n < 2 ^ 8 → destination_of byte_of (distance_word n) ≡ Some (Further n)
+pub near-distance : (n : ℕ) → n < 2 ^ 8 → destination_of u8_of (distance_word n) ≡ Some (Further n)
 unfolding destination_of
-near-distance n h = let read = byte_of-decimal n h in rw read refl
+near-distance n h = let read = u8_of-decimal n h in rw read refl
 
-pub far-distance : (n : ℕ) → n < 2 ^ 32 → destination_of word_of (distance_word n) ≡ Some (Further n)
+pub far-distance : (n : ℕ) → n < 2 ^ 32 → destination_of u32_of (distance_word n) ≡ Some (Further n)
 unfolding destination_of
-far-distance n h = let read = word_of-decimal n h in rw read refl
+far-distance n h = let read = u32_of-decimal n h in rw read refl

@@ -18,4 +18,6 @@ pub use scenario::{Program, Scenario};
 pub use sk_setting::ScriptCall;
 
 #[cfg(test)]
+mod rows;
+#[cfg(test)]
 mod tests;

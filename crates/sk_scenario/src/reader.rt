@@ -49,12 +49,19 @@ fn read_twice(alloc: Global, text: &[u8]) -> Result<Scenario, ScenarioFault>
     let unknown: Option<&Names<'_>> = None;
     let first = read_lines(alloc, unknown, text)?;
     let second = read_again(alloc, &first.names, text)?;
-    Ok(Scenario {
-        turns: second.turns.unwrap_or(1000),
-        subreapers: second.subreapers,
-        filters: second.filters,
-        programs: second.programs,
-    })
+    Ok(setting(second))
+}
+
+// The scenario that was read.
+fn setting(read: Done<'_>) -> Scenario
+    ensures exact { result ≡ setting (gained read.entry) }
+{
+    Scenario {
+        turns: read.turns.unwrap_or(1000),
+        subreapers: read.subreapers,
+        filters: read.filters,
+        programs: read.programs,
+    }
 }
 
 // The lines of a text, by these names.

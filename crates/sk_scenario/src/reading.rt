@@ -83,8 +83,32 @@ fn is_open(current: &Block) -> bool
     !matches!(current, Block::Nothing)
 }
 
+// Reads line `n` in the block that is open.
+#[tactic(auto, unfolding(sk_setting::specs::Reading::within))]
+fn within(
+    alloc: Global,
+    known: Option<&Names<'_>>,
+    done: &mut Done<'_>,
+    n: usize,
+    current: Block,
+    line: &[u8],
+    ahead: &[u8],
+) -> Result<Block, ScenarioFault>
+    requires first { 1 ≤ n }
+    requires numbers { n + length ahead.now < 2 ^ 64 }
+    ensures exact { MatchResult result
+        (λ next. within (known_seen known.entry) n (gained done.old) (block_seen current) line.now (lines_of ahead.now) ≡ Ok (gained done.new, block_seen next))
+        (λ fault. IsFaultOf fault (within (known_seen known.entry) n (gained done.old) (block_seen current) line.now (lines_of ahead.now))) }
+{
+    if is_end(line) {
+        finish(alloc, done, current)?;
+        return Ok(Block::Nothing);
+    }
+    inside(alloc, known, n, current, line, ahead)
+}
+
 // Reads line `n`, with which the text ahead begins.
-#[tactic(auto, unfolding(sk_setting::specs::Reading::stepped, sk_setting::specs::Reading::within))]
+#[tactic(auto, unfolding(sk_setting::specs::Reading::stepped))]
 fn step<'a>(
     alloc: Global,
     known: Option<&Names<'_>>,
@@ -100,15 +124,11 @@ fn step<'a>(
         (λ next. stepped (known_seen known.entry) n (gained done.old) (block_seen current) line.now (lines_of ahead.now) ≡ Ok (gained done.new, block_seen next))
         (λ fault. IsFaultOf fault (stepped (known_seen known.entry) n (gained done.old) (block_seen current) line.now (lines_of ahead.now))) }
 {
-    if !is_open(&current) {
-        let said = read_top(n, line)?;
-        return start(alloc, done, n, said);
+    if is_open(&current) {
+        return within(alloc, known, done, n, current, line, ahead);
     }
-    if is_end(line) {
-        finish(alloc, done, current)?;
-        return Ok(Block::Nothing);
-    }
-    inside(alloc, known, n, current, line, ahead)
+    let said = read_top(n, line)?;
+    start(alloc, done, n, said)
 }
 
 // Whether all blocks are closed behind the last line, which line `n` would follow.

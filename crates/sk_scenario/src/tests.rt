@@ -86,6 +86,16 @@ fn tells_the_first_fault(rt: HostRuntime) {
         (b"program a\nkill 0 0 0 0 0 0 0\nend", line(2)),
         (b"filter a\nend\nprogram a\nend", line(3)),
         (b"; \t\nturns 0", line(1)),
+        (
+            b"filter f\nldabs 0\njeq 110 +0 +1\nret errno/1\nret allow\nend\nprogram init\nseccomp 1 0 @f\ngetp",
+            line(9),
+        ),
+        (
+            b"filter f\nldabs 0\njeq 110 +0 +1\nret errno/1\nret allow\nend\nprogram init\nseccomp 1 0 @f\ngetppid",
+            line(10),
+        ),
+        (b"program a\npause\nend  x\nend", line(3)),
+        (b"program a\npause\nend\nend", line(4)),
         (&spaces, limit(1)),
     ] {
         assert_eq!(rt; read(rt.alloc(), text).err(), Some(fault));
@@ -123,6 +133,10 @@ fn tells_what_is_over_a_limit(rt: HostRuntime) -> Result<(), Fail> {
         (b"filter f\n", b"ret 0\n", 4097, b"end", Some(limit(4098))),
         (b"", b"\n", 1_048_576, b"", None),
         (b"", b"\n", 1_048_577, b"", Some(limit(0))),
+        (b"\n\n", b" ", 255, b"\n", None),
+        (b"\n\n", b" ", 256, b"\n", Some(limit(3))),
+        (b"program a\nend", b" ", 252, b"", None),
+        (b"program a\nend", b" ", 253, b"", Some(limit(2))),
     ] {
         let text = repeated(alloc, first, middle, times, last)?;
         assert_eq!(rt; read(alloc, &text).err(), fault, "at {times}");

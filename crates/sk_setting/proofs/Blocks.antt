@@ -12,7 +12,7 @@ use Rattle.sk_insn.specs.declared.insn.Insn.{Insn}
 use Rattle.sk_asm.specs.declared.fault.AsmFault.{AsmFault}
 use Rattle.sk_asm.specs.declared.fault.AsmFault.TheVariants as asm
 use Rattle.sk_asm.specs.Assembly.{AssemblesBy}
-use Rattle.sk_asm.specs.Grammar.{Statement, Silent as Quiet, label_of, instruction_of, spoken, statement_of}
+use Rattle.sk_asm.specs.Grammar.{Statement, Silent as Quiet, label_of, instruction_said, spoken, statement_of}
 use Rattle.sk_asm.specs.Passes.{assembled_lines}
 use Rattle.sk_asm.proofs.Meaning.{assembled_lines-stands, assembled_lines-only}
 use Rattle.sk_setting.specs.declared.call.ScriptCall.{ScriptCall}
@@ -115,7 +115,7 @@ unfolding bytes_of
 bytes_of_other line piece f h = bytes_in_other (words_of line) piece (rw f at h)
 
 spoken_bytes : (words : List (List ℕ)) (statement : Statement) → begins_bytes words ≡ true → spoken words ≡ Some statement → ⊥
-unfolding spoken label_of instruction_of
+unfolding spoken label_of instruction_said
 spoken_bytes [] statement b h = cc
 spoken_bytes (first ∷ words) statement b h =
     let same = (bytes_eq-Decides first (codes "bytes")).0 b in

@@ -2,7 +2,6 @@ pub mod Blocks
 pub mod CodeLines
 pub mod Judging
 pub mod Least
-pub mod Names
 pub mod Parts
 pub mod Relation
 pub mod States

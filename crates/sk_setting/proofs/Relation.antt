@@ -5,9 +5,10 @@ use Rattle.std.specs.Option.{option_map_or}
 use Rattle.sk_text.specs.Lines.{lines_of}
 use Rattle.sk_setting.specs.Scenario.{Setting, names_from, Part, AreParts, turns_in, marks_in, AreTurns, IsMark, StandFor, IsScenario, IsScenarioText}
 use Rattle.sk_setting.specs.Reading.{◌>>=◌, Gained, Nothing, nothing_yet, reading, setting, scenario_of, scenario}
+use Rattle.sk_setting.specs.declared.call.Named.{Named}
 use Rattle.sk_setting.proofs.Steps.{ok_is, bind_ok}
 use Rattle.sk_setting.proofs.Parts.{building, parts_read, reading_parts}
-use Rattle.sk_setting.proofs.Names.{given_once-none}
+use Rattle.sk_asm.proofs.Distinct.{given_once-none}
 use Rattle.sk_setting.proofs.Whole.{TurnsAfter, MarksAfter, Fit, Found, names_built, found_all, made_all}
 
 turns_or : Option ℕ → ℕ
@@ -62,7 +63,7 @@ scenario_of-stands lines s h =
     let names = names_built None 1 nothing_yet parts.0 first.0 built in
     let again = sym (parts_read (Some first.0.names) 1 nothing_yet lines parts.0 parts.1) ∙ second.1 in
     let known = subst (λ names. building (Some names) 1 nothing_yet parts.0 ≡ Ok second.0) names again in
-    let f = found_all (names_from 0 0 parts.0) 1 nothing_yet parts.0 second.0 given_once-none (omega arith) (omega arith) known in
+    let f = found_all (names_from 0 0 parts.0) 1 nothing_yet parts.0 second.0 (given_once-none Named) (omega arith) (omega arith) known in
     subst (λ (other : Setting). IsScenario lines other) (ok_is (setting second.0) s second.2) (parts.0, stands lines parts.0 second.0 parts.1 f)
 
 -- ---- to the readings

@@ -10,7 +10,7 @@ use Rattle.sk_setting.specs.Reading.{◌>>=◌, Gained, Open, Nothing, Undecided
 use Rattle.sk_setting.proofs.Steps.{ok_is, bind_ok, filling, kind, kind_filling}
 use Rattle.sk_setting.proofs.Parts.{building}
 use Rattle.sk_setting.proofs.Blocks.{image_filled, image_fills, script_filled, script_fills, Knows}
-use Rattle.sk_setting.proofs.Names.{given_once-absent, given_once-push}
+use Rattle.sk_asm.proofs.Distinct.{given_once-absent, given_once-push}
 
 -- ---- lines that stand alone
 
