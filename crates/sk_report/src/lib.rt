@@ -1,0 +1,10 @@
+//! What the report of a scenario is, as definitions in `specs/`, and the text of one of its lines.
+#![tactic(auto)]
+
+mod level;
+mod rows;
+mod turn;
+
+pub use level::Level;
+pub use rows::worked_reports;
+pub use turn::{End, Turn};
