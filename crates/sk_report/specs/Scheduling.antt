@@ -4,7 +4,7 @@ use Rattle.std.specs.Option.{option_map_or}
 use Rattle.sk_calls.specs.declared.syscall.Syscall.TheVariants as syscall
 use Rattle.sk_calls.specs.Syscalls.{number_of}
 use Rattle.sk_setting.specs.declared.call.ScriptCall.{ScriptCall}
-use Rattle.sk_setting.specs.Scenario.{Setting}
+use Rattle.sk_setting.specs.Scenario.{Script, Setting}
 use Rattle.sk_world.specs.World.{World, opening}
 use Rattle.sk_machine.specs.declared.event.Event.{Event}
 use Rattle.sk_machine.specs.declared.event.Event.TheVariants.{Call, Deliver, Resume, Fault}
@@ -23,12 +23,12 @@ use Rattle.sk_report.specs.Levels.{Stack, Stacks, first_call, alone, stacks_afte
 -- ---- the event that is due
 
 -- the script of a program; one that is not declared has the empty script
-abbrev pub script_of : Setting → ℕ → List ScriptCall
-script_of setting program = option_map_or (λ script. script.calls) (slice_get setting.programs program) []
+abbrev pub script_of : List Script → ℕ → List ScriptCall
+script_of scripts program = option_map_or (λ script. script.calls) (slice_get scripts program) []
 
 -- the call of the script that is next, if one is left
-abbrev pub line_due : Setting → Stack → Option ScriptCall
-line_due setting s = slice_get (script_of setting s.top.program) s.top.position
+abbrev pub line_due : List Script → Stack → Option ScriptCall
+line_due scripts s = slice_get (script_of scripts s.top.program) s.top.position
 
 -- where a call stands, as filters see it
 abbrev pub address_of : ℕ → ℕ → ℕ
@@ -41,17 +41,17 @@ closing (level ∷ below) = number_of syscall.RtSigreturn
 
 -- the event of a process that makes a call of its own: the line that is due; where none is left the call that ends the script, and a
 -- fault where that was refused
-abbrev pub own_event : Setting → ℕ → Stack → Option ScriptCall → Event
-own_event setting pid s (Some line) = Call pid (address_of s.top.program s.top.position) line.nr line.args
-own_event setting pid s None =
+abbrev pub own_event : List Script → ℕ → Stack → Option ScriptCall → Event
+own_event scripts pid s (Some line) = Call pid (address_of s.top.program s.top.position) line.nr line.args
+own_event scripts pid s None =
     if s.top.refused then Fault pid
-    else Call pid (address_of s.top.program (length (script_of setting s.top.program))) (closing s.below) (replicate 6 0)
+    else Call pid (address_of s.top.program (length (script_of scripts s.top.program))) (closing s.below) (replicate 6 0)
 
 -- the event of a process by what it needs
-abbrev pub event_by : Setting → ℕ → Stack → Need → Event
-event_by setting pid s need.Deliver = Deliver pid
-event_by setting pid s need.Resume = Resume pid
-event_by setting pid s need.Call = own_event setting pid s (line_due setting s)
+abbrev pub event_by : List Script → ℕ → Stack → Need → Event
+event_by scripts pid s need.Deliver = Deliver pid
+event_by scripts pid s need.Resume = Resume pid
+event_by scripts pid s need.Call = own_event scripts pid s (line_due scripts s)
 
 -- ---- turns
 
@@ -76,13 +76,13 @@ images_of setting = record {
 
 -- the event that is due to this process
 abbrev pub event_of : Setting → Scheduled → ℕ → Event
-event_of setting s pid = event_by setting pid (s.stacks pid) (need_of s.world pid)
+event_of setting s pid = event_by setting.programs pid (s.stacks pid) (need_of s.world pid)
 
 -- what an event with its answer leads to
 abbrev pub followed : Setting → Scheduled → ℕ → Event → Stepped → Scheduled
 followed setting s pid event stepped = record {
   world = stepped.world;
-  stacks = stacks_after (line_due setting (s.stacks pid)) event stepped.answer s.stacks;
+  stacks = stacks_after (line_due setting.programs (s.stacks pid)) event stepped.answer s.stacks;
   last = pid;
   used = s.used + 1;
 }

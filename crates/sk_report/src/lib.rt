@@ -3,8 +3,10 @@
 
 mod level;
 mod rows;
+mod text;
 mod turn;
 
 pub use level::Level;
 pub use rows::worked_reports;
+pub use text::{Line, turn_line};
 pub use turn::{End, Turn};
