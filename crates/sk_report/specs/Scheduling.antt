@@ -10,6 +10,7 @@ use Rattle.sk_machine.specs.declared.event.Event.{Event}
 use Rattle.sk_machine.specs.declared.event.Event.TheVariants.{Call, Deliver, Resume, Fault}
 use Rattle.sk_machine.specs.declared.event.Need.{Need}
 use Rattle.sk_machine.specs.declared.event.Need.TheVariants as need
+use Rattle.sk_machine.specs.declared.images.Mark.{Mark}
 use Rattle.sk_machine.specs.Given.{GivenImages}
 use Rattle.sk_machine.specs.Machine.{Stepped, step_of, halted_of}
 use Rattle.sk_machine.specs.Turns.{need_of, next_of}
@@ -66,11 +67,15 @@ pub record Scheduled : Type 0 where
 abbrev pub opened : Scheduled
 opened = record { world = opening; stacks = λ pid. alone (first_call 0); last = 0; used = 0 }
 
+-- what execve(2) finds of a program
+abbrev pub mark_of_script : Script → Mark
+mark_of_script script = record { owner = script.owner; setuid = script.setuid }
+
 -- what calls name by numbers
 abbrev pub images_of : Setting → GivenImages
 images_of setting = record {
   filters = setting.filters;
-  programs = map (λ script. record { owner = script.owner; setuid = script.setuid }) setting.programs;
+  programs = map mark_of_script setting.programs;
   subreapers = setting.subreapers;
 }
 
