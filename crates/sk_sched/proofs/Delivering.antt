@@ -1,6 +1,5 @@
 -- What the engine leaves behind, by how its parts ended.
-use Rattle.std.proofs.Common.{◌≡◌, ◌⊎◌, ℕ, ◌<◌, ◌≤◌, List, [], length, take, Option, Some, None, Result, Ok, Err, IfSome, refl, sym, subst, arith, inl, inr}
-use Rattle.std.specs.Io.KnownBytes.{Appends}
+use Rattle.std.proofs.Common.{◌≡◌, ℕ, ◌<◌, ◌≤◌, List, length, take, Option, Some, None, Result, Ok, Err, IfSome, refl, sym, subst, arith, inl, inr}
 use Rattle.std.proofs.KnownBytes.{Appends-nil}
 use Rattle.std.proofs.Math.Logic.{⊎_elim}
 use Rattle.std.proofs.lemmas.Bool.{cases_lt}
@@ -12,7 +11,6 @@ use Rattle.sk_setting.specs.declared.fault.TextFault.TheVariants as text
 use Rattle.sk_setting.specs.Faults.{IsFirstFaultOfText}
 use Rattle.sk_setting.specs.Scenario.{Setting, IsScenarioText}
 use Rattle.sk_scenario.specs.declared.fault.ScenarioFault.{ScenarioFault}
-use Rattle.sk_scenario.specs.declared.fault.ScenarioFault.TheVariants as scenario
 use Rattle.sk_scenario.specs.Answers.{told, IsToldOf}
 use Rattle.sk_report.specs.declared.turn.End.{End}
 use Rattle.sk_report.specs.Report.{report_of}

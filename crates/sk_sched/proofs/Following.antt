@@ -1,5 +1,5 @@
 -- What a turn leads to, by what was asked and answered on the way.
-use Rattle.std.proofs.Common.{◌≡◌, ℕ, ◌+◌, nat_eq, map, List, Option, Result, Ok, Err, OnErr, refl, sym, ap, ◌∙◌}
+use Rattle.std.proofs.Common.{◌≡◌, ℕ, ◌+◌, nat_eq, map, List, Option, Result, Ok, Err, OnErr, refl, ap}
 use Rattle.std.specs.Option.{option_map_or}
 use Rattle.std.specs.Map.{lookup}
 use Rattle.std.specs.declared.hash.FoldHasher.{FoldHasher}

@@ -1,8 +1,8 @@
 -- A report is its next turn and the report from there; and how far it is out while the engine runs.
-use Rattle.std.proofs.Common.{◌≡◌, ℕ, zero, suc, ◌+◌, ◌-◌, ◌<◌, ◌≤◌, List, [], ◌∷◌, ◌++◌, length, take, map, Option, Some, None, Result, Ok, Err, refl, sym, ap, subst, ◌∙◌, arith, append-nil, append_assoc, rules}
+use Rattle.std.proofs.Common.{◌≡◌, ℕ, suc, ◌+◌, ◌-◌, ◌<◌, ◌≤◌, List, [], ◌∷◌, ◌++◌, length, take, map, Option, Result, Ok, Err, refl, sym, ap, subst, ◌∙◌, arith, append-nil, append_assoc}
 use Rattle.std.specs.List.{concat}
-use Rattle.std.specs.Io.KnownBytes.{Appends, Keeps}
-use Rattle.std.proofs.KnownBytes.{Appends-nil, Appends-trans, Appends-kept}
+use Rattle.std.specs.Io.KnownBytes.{Appends}
+use Rattle.std.proofs.KnownBytes.{Appends-nil, Appends-trans}
 use Rattle.std.proofs.Math.Logic.{⊎_elim}
 use Rattle.std.proofs.Math.Seq.{take-append_seam}
 use Rattle.std.proofs.lemmas.Bool.{cases_lt, lt-ltb, le-ltb}
@@ -69,13 +69,13 @@ uses_by setting s (Err end) n event answer e = cc
 uses_by setting s (Ok pid) n event answer e =
     ⊎_elim
     (λ lt.
-      let yes = lt-ltb s.used setting.turns lt in
-      let line = rw yes at e in
-      let number : n ≡ s.used + 1 = cc in
-      rw yes (record { left = lt; number = number; used = refl }))
+    let yes = lt-ltb s.used setting.turns lt in
+    let line = rw yes at e in
+    let number : n ≡ s.used + 1 = cc in
+    rw yes (record { left = lt; number = number; used = refl }))
     (λ le.
-      let line = rw (le-ltb s.used setting.turns le) at e in
-      cc)
+    let line = rw (le-ltb s.used setting.turns le) at e in
+    cc)
     (cases_lt s.used setting.turns)
 
 pub uses : (setting : Setting) (s : Scheduled) (n : ℕ) (event : Event) (answer : Answer) → turn_of setting s ≡ turn.Line n event answer → Used setting s (after_turn setting s) n
@@ -126,7 +126,7 @@ start setting s now e =
 text_underway : (report : Report) (setting : Setting) (s : Scheduled) (old now : Option (List ℕ)) (h : Underway report setting s old now) → text_of report ≡ turns_text h.out ++ text_of (rest_of setting s)
 text_underway report setting s old now h =
     let all : report.turns ++ turn.End report.end ∷ [] ≡ h.out ++ ((rest_of setting s).turns ++ turn.End (rest_of setting s).end ∷ []) =
-        rw (h.turns, h.end) (append_assoc h.out (rest_of setting s).turns (turn.End (rest_of setting s).end ∷ []))
+    rw (h.turns, h.end) (append_assoc h.out (rest_of setting s).turns (turn.End (rest_of setting s).end ∷ []))
     in
     ap (λ ts. concat (map line ts)) all ∙ lines_join h.out ((rest_of setting s).turns ++ turn.End (rest_of setting s).end ∷ [])
 
@@ -158,7 +158,7 @@ pub ends : (report : Report) (setting : Setting) (s : Scheduled) (old now new : 
 ends report setting s old now new end h is sent =
     let from : rest_of setting s ≡ ended end = next setting s ∙ ap (λ t. by_turn t (rest_of setting (after_turn setting s))) is in
     let text : text_of report ≡ turns_text h.out ++ line (turn.End end) =
-        text_next report setting s old now (turn.End end) h is ∙ ap (λ l. turns_text h.out ++ l) (append-nil (line (turn.End end)))
+    text_next report setting s old now (turn.End end) h is ∙ ap (λ l. turns_text h.out ++ l) (append-nil (line (turn.End end)))
     in
     (sym (h.end ∙ ap (λ r. r.end) from), subst (λ l. Appends old new l) (sym text) (Appends-trans old now new (turns_text h.out) (line (turn.End end)) h.sent sent))
 
@@ -185,7 +185,7 @@ rests report setting s old now done h is =
     let out : length h.out ≡ done = h.count ∙ sym is in
     let all : length report.turns ≡ length h.out + length (rest_of setting s).turns = ap length h.turns ∙ length-append h.out (rest_of setting s).turns in
     let first : take done report.turns ≡ h.out =
-        ap (λ k. take k report.turns) (sym out) ∙ ap (take (length h.out)) h.turns ∙ take-append_seam h.out (rest_of setting s).turns
+    ap (λ k. take k report.turns) (sym out) ∙ ap (take (length h.out)) h.turns ∙ take-append_seam h.out (rest_of setting s).turns
     in
     let within : done ≤ length report.turns = omega arith in
     (within, subst (λ ts. Appends old now (turns_text ts)) (sym first) h.sent)

@@ -1,5 +1,5 @@
 -- The code's levels as the definitions see them.
-use Rattle.std.specs.Prelude.{ℕ, nat_eq, List, reverse}
+use Rattle.std.specs.Prelude.{ℕ, nat_eq, reverse}
 use Rattle.std.specs.Option.{option_map_or}
 use Rattle.std.specs.declared.hash.FoldHasher.{FoldHasher}
 use Rattle.std.specs.declared.hash.BuildHasherDefault.{BuildHasherDefault}

@@ -100,7 +100,14 @@ impl<S: ProcStore> Machine<S> {
         let programs = self.programs.as_slice();
         let line = line_due(programs, &levels);
         let event = event_by(programs, pid, &levels, self.kernel.need(pid), line);
-        let answer = make(&mut self.kernel, &mut self.stacks, self.alloc, levels, line, event)?;
+        let answer = make(
+            &mut self.kernel,
+            &mut self.stacks,
+            self.alloc,
+            levels,
+            line,
+            event,
+        )?;
         self.last = pid;
         self.used += 1;
         Ok(Turn::Line {

@@ -63,12 +63,7 @@ pub(crate) fn event_by(
 }
 
 /// The event of a process that makes a call of its own.
-fn own_event(
-    programs: &[Program],
-    pid: u32,
-    levels: &Levels,
-    line: Option<ScriptCall>,
-) -> Event
+fn own_event(programs: &[Program], pid: u32, levels: &Levels, line: Option<ScriptCall>) -> Event
     requires room { IfSome line (λ _. levels.now.top.position < 2 ^ 63) }
     ensures event { result ≡ own_event programs.now pid (stack_of levels.now) line }
 {

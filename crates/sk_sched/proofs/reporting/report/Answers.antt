@@ -1,4 +1,4 @@
-use Rattle.std.proofs.Common.{◌≡◌, ◌∙◌, sym, ap}
+use Rattle.std.proofs.Common.{◌∙◌}
 use Rattle.sk_report.specs.Report.{report_of}
 use Rattle.sk_sched.specs.State.{setting_of, now_of}
 use Rattle.sk_sched.proofs.Underway.{begins_text, ends_text, goes_text, fewer}

@@ -1,7 +1,5 @@
-use Rattle.std.proofs.Common.{◌≡◌, ◌∙◌, sym, ap}
-use Rattle.sk_machine.specs.Turns.{need_of}
+use Rattle.std.proofs.Common.{◌∙◌, ap}
 use Rattle.sk_sched.specs.Views.{stack_of, stacks_of}
-use Rattle.sk_report.specs.Scheduling.{event_by}
 use Rattle.sk_sched.specs.State.{setting_of, now_of}
 use Rattle.sk_sched.proofs.Following.{on_err, same_entries, same_images, same_now, follows}
 use Rattle.sk_sched.proofs.machine.Machine.turn_by.Goals as goal
