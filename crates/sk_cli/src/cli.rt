@@ -3,8 +3,9 @@ ghost use Rattle.std.specs.Prelude.{◌≡◌, ◌≤◌, IfOk};
 
 use crate::word::{Word, word_in};
 use arrayvec::ArrayString;
-use sk_ends::{Sink, Source, send};
+use sk_ends::{Sink, Source, WriteFault, send};
 use sk_engines::{CommandFault, asm_engine, check_engine, eval_engine, list_engine};
+use sk_sched::{EngineFault, engine};
 use std::alloc::Global;
 use std::fmt::Write;
 
@@ -51,6 +52,7 @@ fn done<R: Source, W: Sink>(
     ensures status { IfOk result (λ status. status ≤ 2) }
 {
     match word_in(alloc, words)? {
+        Some(Word::Run) => run(alloc, reader, writer),
         Some(Word::Check) => check_engine(alloc, reader, writer),
         Some(Word::Eval) => eval_engine(alloc, reader, writer),
         Some(Word::Asm) => asm_engine(alloc, reader, writer),
@@ -60,4 +62,30 @@ fn done<R: Source, W: Sink>(
             Ok(REFUSED)
         }
     }
+}
+
+/// Runs a scenario. What is wrong with an input that is none is told here.
+fn run<R: Source, W: Sink>(
+    alloc: Global,
+    reader: &mut R,
+    writer: &mut W,
+) -> Result<u8, CommandFault>
+    ensures status { IfOk result (λ status. status ≤ 1) }
+{
+    match engine(alloc, reader, writer) {
+        Ok(_) => Ok(0),
+        Err(EngineFault::Scenario(fault)) => {
+            tell(writer, EngineFault::Scenario(fault))?;
+            Ok(1)
+        }
+        Err(EngineFault::Read) => Err(CommandFault::Read),
+        Err(EngineFault::Write) => Err(CommandFault::Write),
+        Err(EngineFault::Memory { .. }) => Err(CommandFault::Memory),
+    }
+}
+
+fn tell<W: Sink>(writer: &mut W, fault: EngineFault) -> Result<(), WriteFault> {
+    let mut line = ArrayString::<64>::new();
+    let _ = writeln!(line, "{fault}");
+    send(writer, line.as_bytes())
 }

@@ -52,7 +52,7 @@ fn words_say_what_to_do(rt: HostRuntime) -> Result<(), Fail> {
         (&["asm"], 1, b"skern: line 1: not understood\n"),
         (&["list"], 0, b"ret 0x7fff0000\n"),
         (&["eval"], 1, b"skern: line 1: not understood\n"),
-        (&["run"], 2, USAGE),
+        (&["run"], 1, b"skern: line 1: not understood\n"),
         (&["check", "check"], 2, USAGE),
         (&["CHECK"], 2, USAGE),
         (&["che"], 2, USAGE),

@@ -6,6 +6,7 @@ use std::alloc::{AllocError, Global};
 /// What the program does.
 #[derive(Clone, Copy, Debug, PartialEq, Eq)]
 pub enum Word {
+    Run,
     Check,
     Eval,
     Asm,
@@ -19,6 +20,7 @@ pub fn word_in(alloc: Global, words: &[String]) -> Result<Option<Word>, AllocErr
     }
     let parser = Command::new(alloc, "skern")
         .no_binary_name(true)
+        .subcommand(Command::new(alloc, "run"))?
         .subcommand(Command::new(alloc, "check"))?
         .subcommand(Command::new(alloc, "eval"))?
         .subcommand(Command::new(alloc, "asm"))?
@@ -34,6 +36,7 @@ pub fn word_in(alloc: Global, words: &[String]) -> Result<Option<Word>, AllocErr
 
 fn named(name: Option<&str>) -> Option<Word> {
     match name {
+        Some("run") => Some(Word::Run),
         Some("check") => Some(Word::Check),
         Some("eval") => Some(Word::Eval),
         Some("asm") => Some(Word::Asm),

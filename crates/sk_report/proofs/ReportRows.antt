@@ -1,0 +1,104 @@
+-- Each worked report is what the definitions compute.
+use Rattle.std.proofs.Common.{refl}
+use Rattle.std.specs.Fmt.{digits}
+use Rattle.sk_insn.specs.Actions.{action_of}
+use Rattle.sk_insn.specs.Operations.{operation_of}
+use Rattle.sk_check.specs.FirstFault.{first_fault}
+use Rattle.sk_signal.specs.Sets.{empty, contains, insert, retain, remove, difference, union, from_list}
+use Rattle.sk_signal.specs.SignalSet.{lowest, signals_to, signals_of}
+use Rattle.sk_signal.specs.Signalling.{opening as no_signal}
+use Rattle.sk_world.specs.Numbers.{fresh_of}
+use Rattle.sk_world.specs.Subreapers.{ancestors, new_parent}
+use Rattle.sk_machine.specs.Machine.{step_of}
+use Rattle.sk_report.specs.Text.{turn_text, happening_text, verdict_text, outcome_text, effect_text, end_text, call_name, hex}
+use Rattle.sk_report.specs.Report.{report_from}
+use Rattle.sk_report.specs.Rows.{ReportsRefused, ReportsTrapped, ReportsNothing, ReportsIdle, ReportsLimit, ReportsRefusedEnd, ReportsRefusedReturn, ReportsPositions, ReportsExec, ReportsStop, ReportsNumber, ReportsTrappedEnd, ReportsZero, ReportsReturnAlone, ReportsKept, ReportsKills, ReportsOrphan, WorkedReports}
+
+reports_refused : ReportsRefused
+unfolding digits report_from turn_text happening_text verdict_text outcome_text effect_text end_text call_name hex step_of fresh_of new_parent ancestors action_of operation_of first_fault empty contains insert retain remove difference union from_list lowest signals_to signals_of no_signal
+reports_refused = refl
+
+reports_trapped : ReportsTrapped
+unfolding digits report_from turn_text happening_text verdict_text outcome_text effect_text end_text call_name hex step_of fresh_of new_parent ancestors action_of operation_of first_fault empty contains insert retain remove difference union from_list lowest signals_to signals_of no_signal
+reports_trapped = refl
+
+reports_nothing : ReportsNothing
+unfolding digits report_from turn_text happening_text verdict_text outcome_text effect_text end_text call_name hex step_of fresh_of new_parent ancestors action_of operation_of first_fault empty contains insert retain remove difference union from_list lowest signals_to signals_of no_signal
+reports_nothing = refl
+
+reports_idle : ReportsIdle
+unfolding digits report_from turn_text happening_text verdict_text outcome_text effect_text end_text call_name hex step_of fresh_of new_parent ancestors action_of operation_of first_fault empty contains insert retain remove difference union from_list lowest signals_to signals_of no_signal
+reports_idle = refl
+
+reports_limit : ReportsLimit
+unfolding digits report_from turn_text happening_text verdict_text outcome_text effect_text end_text call_name hex step_of fresh_of new_parent ancestors action_of operation_of first_fault empty contains insert retain remove difference union from_list lowest signals_to signals_of no_signal
+reports_limit = refl
+
+reports_refused_end : ReportsRefusedEnd
+unfolding digits report_from turn_text happening_text verdict_text outcome_text effect_text end_text call_name hex step_of fresh_of new_parent ancestors action_of operation_of first_fault empty contains insert retain remove difference union from_list lowest signals_to signals_of no_signal
+reports_refused_end = refl
+
+reports_refused_return : ReportsRefusedReturn
+unfolding digits report_from turn_text happening_text verdict_text outcome_text effect_text end_text call_name hex step_of fresh_of new_parent ancestors action_of operation_of first_fault empty contains insert retain remove difference union from_list lowest signals_to signals_of no_signal
+reports_refused_return = refl
+
+reports_positions : ReportsPositions
+unfolding digits report_from turn_text happening_text verdict_text outcome_text effect_text end_text call_name hex step_of fresh_of new_parent ancestors action_of operation_of first_fault empty contains insert retain remove difference union from_list lowest signals_to signals_of no_signal
+reports_positions = refl
+
+reports_exec : ReportsExec
+unfolding digits report_from turn_text happening_text verdict_text outcome_text effect_text end_text call_name hex step_of fresh_of new_parent ancestors action_of operation_of first_fault empty contains insert retain remove difference union from_list lowest signals_to signals_of no_signal
+reports_exec = refl
+
+reports_stop : ReportsStop
+unfolding digits report_from turn_text happening_text verdict_text outcome_text effect_text end_text call_name hex step_of fresh_of new_parent ancestors action_of operation_of first_fault empty contains insert retain remove difference union from_list lowest signals_to signals_of no_signal
+reports_stop = refl
+
+reports_number : ReportsNumber
+unfolding digits report_from turn_text happening_text verdict_text outcome_text effect_text end_text call_name hex step_of fresh_of new_parent ancestors action_of operation_of first_fault empty contains insert retain remove difference union from_list lowest signals_to signals_of no_signal
+reports_number = refl
+
+reports_trapped_end : ReportsTrappedEnd
+unfolding digits report_from turn_text happening_text verdict_text outcome_text effect_text end_text call_name hex step_of fresh_of new_parent ancestors action_of operation_of first_fault empty contains insert retain remove difference union from_list lowest signals_to signals_of no_signal
+reports_trapped_end = refl
+
+reports_zero : ReportsZero
+unfolding digits report_from turn_text happening_text verdict_text outcome_text effect_text end_text call_name hex step_of fresh_of new_parent ancestors action_of operation_of first_fault empty contains insert retain remove difference union from_list lowest signals_to signals_of no_signal
+reports_zero = refl
+
+reports_return_alone : ReportsReturnAlone
+unfolding digits report_from turn_text happening_text verdict_text outcome_text effect_text end_text call_name hex step_of fresh_of new_parent ancestors action_of operation_of first_fault empty contains insert retain remove difference union from_list lowest signals_to signals_of no_signal
+reports_return_alone = refl
+
+reports_kept : ReportsKept
+unfolding digits report_from turn_text happening_text verdict_text outcome_text effect_text end_text call_name hex step_of fresh_of new_parent ancestors action_of operation_of first_fault empty contains insert retain remove difference union from_list lowest signals_to signals_of no_signal
+reports_kept = refl
+
+reports_kills : ReportsKills
+unfolding digits report_from turn_text happening_text verdict_text outcome_text effect_text end_text call_name hex step_of fresh_of new_parent ancestors action_of operation_of first_fault empty contains insert retain remove difference union from_list lowest signals_to signals_of no_signal
+reports_kills = refl
+
+reports_orphan : ReportsOrphan
+unfolding digits report_from turn_text happening_text verdict_text outcome_text effect_text end_text call_name hex step_of fresh_of new_parent ancestors action_of operation_of first_fault empty contains insert retain remove difference union from_list lowest signals_to signals_of no_signal
+reports_orphan = refl
+
+pub worked_reports : WorkedReports
+worked_reports = record {
+  refused = reports_refused;
+  trapped = reports_trapped;
+  nothing = reports_nothing;
+  idle = reports_idle;
+  limit = reports_limit;
+  refused_end = reports_refused_end;
+  refused_return = reports_refused_return;
+  positions = reports_positions;
+  exec = reports_exec;
+  stop = reports_stop;
+  number = reports_number;
+  trapped_end = reports_trapped_end;
+  zero = reports_zero;
+  return_alone = reports_return_alone;
+  kept = reports_kept;
+  kills = reports_kills;
+  orphan = reports_orphan;
+}

@@ -1,0 +1,5 @@
+pub mod Levels
+pub mod Scheduling
+pub mod Text
+pub mod Report
+pub mod Rows

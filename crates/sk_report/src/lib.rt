@@ -1,0 +1,12 @@
+//! What the report of a scenario is, as definitions in `specs/`, and the text of one of its lines.
+#![tactic(auto)]
+
+mod level;
+mod rows;
+mod text;
+mod turn;
+
+pub use level::Level;
+pub use rows::worked_reports;
+pub use text::{Line, turn_line};
+pub use turn::{End, Turn};

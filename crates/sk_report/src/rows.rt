@@ -1,0 +1,8 @@
+//! Reports that were worked out by hand. Nothing here does anything when it runs.
+ghost use Rattle.sk_report.specs.Rows.{WorkedReports};
+
+/// The definitions give the reports that were worked out.
+#[tactic(auto, using(crate::proofs::ReportRows::worked_reports))]
+pub fn worked_reports()
+    ensures law { WorkedReports }
+{}

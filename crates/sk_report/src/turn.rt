@@ -1,0 +1,23 @@
+use sk_machine::{Answer, Event};
+
+/// Why no further turn is made.
+#[derive(Clone, Copy, PartialEq, Eq, Debug)]
+pub enum End {
+    /// Process 1 has ended with this status, and with it the system.
+    Halt(u32),
+    /// No process can run.
+    Idle,
+    /// All turns are used.
+    Limit,
+}
+
+/// A turn: the event of a process with its answer, or the end.
+#[derive(Clone, Copy, PartialEq, Eq, Debug)]
+pub enum Turn {
+    Line {
+        turn: u32,
+        event: Event,
+        answer: Answer,
+    },
+    End(End),
+}

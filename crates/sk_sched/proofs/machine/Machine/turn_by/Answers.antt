@@ -1,0 +1,22 @@
+use Rattle.std.proofs.Common.{◌∙◌, ap}
+use Rattle.sk_sched.specs.Views.{stack_of, stacks_of}
+use Rattle.sk_sched.specs.State.{setting_of, now_of}
+use Rattle.sk_sched.proofs.Following.{on_err, same_entries, same_images, same_now, follows}
+use Rattle.sk_sched.proofs.machine.Machine.turn_by.Goals as goal
+
+pub returns-in_err-answer-clause-kept : goal.returns-in_err-answer-clause-kept
+returns-in_err-answer-clause-kept g c =
+    on_err _ _ (same_now _ _ _ _ _ _ c.in_err-answer.ensures.kept
+    (c.in_err-answer.ensures.kept_stacks ∙ same_entries c.args.self.now.stacks c.reserve.new.self c.reserve.ensures.entries))
+
+pub returns-clause-after : goal.returns-clause-after
+returns-clause-after g c =
+    follows (setting_of c.args.self.now) (now_of c.args.self.now) c.args.pid c.args.self.now.kernel.images (stacks_of c.reserve.new.self) (stack_of c.in_ok-levels.levels) c.line_due-line.result c.event_by-event.result c.in_ok-answer.answer _ _
+    (same_images c.args.self.now.kernel.images c.args.self.now.programs.items c.args.self.now.declared)
+    (same_entries c.args.self.now.stacks c.reserve.new.self c.reserve.ensures.entries)
+    (c.in_ok-levels.ensures.stack ∙ ap (stacks_of c.reserve.new.self) c.from.ensures)
+    (rw c.as_slice-programs.ensures.value at c.line_due-line.ensures.line)
+    (rw (c.as_slice-programs.ensures.value, c.need.ensures) at c.event_by-event.ensures.event)
+    c.in_ok-answer.ensures.answer
+    c.in_ok-answer.ensures.world
+    c.in_ok-answer.ensures.stacks

@@ -1,0 +1,139 @@
+//! The machine that makes the turns of a scenario.
+ghost use Rattle.std.specs.Prelude.{◌≡◌, ◌<◌, IfOk, OnOk, OnErr, map};
+ghost use Rattle.sk_report.specs.Scheduling.{opened, runner_of, turn_of, after_turn, turn_by, after_turn_by, mark_of_script};
+
+use crate::levels::Levels;
+use crate::making::{event_by, line_due, make};
+use crate::stacks::{Stacks, levels_at};
+use indexmap::IndexMap;
+use sk_kernel::{Images, Kernel, Mark};
+use sk_report::{End, Turn};
+use sk_scenario::{Program, Scenario};
+use sk_world::ProcStore;
+use std::alloc::{AllocError, Global};
+
+/// A scenario on its way: a kernel, and how far each process is in its scripts.
+#[derive(Drop)]
+pub struct Machine<S: ProcStore> {
+    kernel: Kernel<S>,
+    programs: Vec<Program>,
+    stacks: Stacks,
+    turns: u32,
+    last: u32,
+    used: u32,
+    alloc: Global,
+    ghost declared: { kernel.images.programs ≡ map mark_of_script programs.items },
+}
+
+impl<S: ProcStore> Machine<S> {
+    ghost use Rattle.sk_sched.specs.State.{setting_of, now_of};
+
+    /// The machine before the first turn. The scenario is dropped where memory is refused.
+    pub fn new(alloc: Global, scenario: Scenario) -> Result<Machine<S>, AllocError>
+        ensures opened { IfOk result (λ machine. now_of machine ≡ opened) }
+        ensures setting { IfOk result (λ machine. setting_of machine ≡ scenario) }
+    {
+        let Scenario {
+            turns,
+            subreapers,
+            filters,
+            programs,
+        } = scenario;
+        let marks = marks(alloc, programs.as_slice())?;
+        let images = Images {
+            filters,
+            programs: marks,
+            subreapers,
+        };
+        Ok(Machine {
+            kernel: Kernel::new(alloc, images)?,
+            programs,
+            stacks: IndexMap::new(alloc),
+            turns,
+            last: 0,
+            used: 0,
+            alloc,
+        })
+    }
+
+    /// The next turn. Once it is the end it is the same end at each later call. Where memory is refused nothing is
+    /// changed.
+    #[tactic(auto, unfolding(sk_report::specs::Scheduling::turn_of, sk_report::specs::Scheduling::after_turn))]
+    pub fn turn(&mut self) -> Result<Turn, AllocError>
+        ensures turn { IfOk result (λ turn. turn ≡ turn_of (setting_of self.old) (now_of self.old)) }
+        ensures after { OnOk result ((now_of self.new) ≡ after_turn (setting_of self.old) (now_of self.old)) }
+        ensures kept { OnErr result ((now_of self.new) ≡ (now_of self.old)) }
+        ensures setting { (setting_of self.new) ≡ (setting_of self.old) }
+    {
+        match self.runner() {
+            Err(end) => Ok(Turn::End(end)),
+            Ok(pid) => {
+                if self.used < self.turns {
+                    self.turn_by(pid)
+                } else {
+                    Ok(Turn::End(End::Limit))
+                }
+            }
+        }
+    }
+
+    /// Whose turn it is, or why nobody's is.
+    fn runner(&self) -> Result<u32, End>
+        ensures runner { result ≡ runner_of (now_of self.now) }
+    {
+        match self.kernel.halted() {
+            Some(status) => Err(End::Halt(status)),
+            None => self.kernel.next_runnable(self.last).ok_or(End::Idle),
+        }
+    }
+
+    /// The turn of this process.
+    fn turn_by(&mut self, pid: u32) -> Result<Turn, AllocError>
+        requires room { (now_of self.old).used < (setting_of self.old).turns }
+        ensures turn { IfOk result (λ turn. turn ≡ turn_by (setting_of self.old) (now_of self.old) pid) }
+        ensures after { OnOk result ((now_of self.new) ≡ after_turn_by (setting_of self.old) (now_of self.old) pid) }
+        ensures kept { OnErr result ((now_of self.new) ≡ (now_of self.old)) }
+        ensures setting { (setting_of self.new) ≡ (setting_of self.old) }
+    {
+        self.stacks.reserve(2)?;
+        let levels = levels_at(&self.stacks, self.alloc, u64::from(pid))?;
+        let programs = self.programs.as_slice();
+        let line = line_due(programs, &levels);
+        let event = event_by(programs, pid, &levels, self.kernel.need(pid), line);
+        let answer = make(
+            &mut self.kernel,
+            &mut self.stacks,
+            self.alloc,
+            levels,
+            line,
+            event,
+        )?;
+        self.last = pid;
+        self.used += 1;
+        Ok(Turn::Line {
+            turn: self.used,
+            event,
+            answer,
+        })
+    }
+}
+
+/// What execve(2) finds of each program.
+fn marks(alloc: Global, programs: &[Program]) -> Result<Vec<Mark>, AllocError>
+    ensures marks { IfOk result (λ marks. marks.items ≡ map mark_of_script programs.now) }
+{
+    let mut marks = Vec::new(alloc);
+    for program in programs {
+        marks.push(mark_of(program))?;
+    }
+    Ok(marks)
+}
+
+fn mark_of(program: &Program) -> Mark
+    ensures mark { result ≡ mark_of_script program.now }
+{
+    Mark {
+        owner: program.owner,
+        setuid: program.setuid,
+    }
+}

@@ -1,0 +1,73 @@
+//! The engine: it reads a scenario, and writes its report, each line before the next turn is made.
+ghost use Rattle.std.specs.Prelude.{◌≡◌, IfOk, IfSome, take};
+ghost use Rattle.sk_ends.specs.Reading.{ConsumesUpTo};
+ghost use Rattle.sk_report.specs.Scheduling.{opened};
+ghost use Rattle.sk_report.specs.Report.{report_of};
+ghost use Rattle.sk_sched.specs.State.{setting_of, now_of};
+ghost use Rattle.sk_sched.specs.Engine.{Delivers, Writes, CountsReads, CountsWrites};
+
+use crate::fault::EngineFault;
+use crate::machine::Machine;
+use sk_ends::{Sink, Source, WriteFault, send, take_up_to};
+use sk_report::{End, Turn, turn_line};
+use sk_scenario::read;
+use sk_table::ListStore;
+use sk_world::ProcStore;
+use std::alloc::{AllocError, Global};
+
+/// The most bytes that are read: one more than a scenario may have.
+const MOST_BYTES: usize = 1_048_577;
+
+/// Runs `skern run` over a reader and a writer.
+pub fn engine<R: Source, W: Sink>(
+    alloc: Global,
+    reader: &mut R,
+    writer: &mut W,
+) -> Result<End, EngineFault>
+    ensures told { IfSome (R.remaining reader.old) (λ input. Delivers input result (W.contents writer.old) (W.contents writer.new)) }
+    ensures limit { ConsumesUpTo 1048577 (R.remaining reader.old) (R.remaining reader.new) }
+    ensures reads { CountsReads result (R.failed reader.old) (R.failed reader.new) }
+    ensures writes { CountsWrites result (W.failed writer.old) (W.failed writer.new) }
+{
+    engine_with::<ListStore, R, W>(alloc, reader, writer)
+}
+
+/// The same over any store of processes.
+pub fn engine_with<S: ProcStore, R: Source, W: Sink>(
+    alloc: Global,
+    reader: &mut R,
+    writer: &mut W,
+) -> Result<End, EngineFault>
+    ensures told { IfSome (R.remaining reader.old) (λ input. Delivers input result (W.contents writer.old) (W.contents writer.new)) }
+    ensures limit { ConsumesUpTo 1048577 (R.remaining reader.old) (R.remaining reader.new) }
+    ensures reads { CountsReads result (R.failed reader.old) (R.failed reader.new) }
+    ensures writes { CountsWrites result (W.failed writer.old) (W.failed writer.new) }
+{
+    let input = take_up_to(alloc, reader, MOST_BYTES)?;
+    let scenario = read(alloc, input.as_slice())?;
+    let machine = Machine::<S>::new(alloc, scenario)?;
+    report(machine, writer)
+}
+
+/// Writes the report of a scenario.
+fn report<S: ProcStore, W: Sink>(machine: Machine<S>, writer: &mut W) -> Result<End, EngineFault>
+    requires opened { now_of machine ≡ opened }
+    ensures report { Writes (report_of (setting_of machine)) result (W.contents writer.old) (W.contents writer.new) }
+    ensures writes { CountsWrites result (W.failed writer.old) (W.failed writer.new) }
+{
+    let mut machine = machine;
+    let mut done = 0;
+    loop {
+        let Ok(turn) = machine.turn() else {
+            return Err(EngineFault::Memory { turns: done });
+        };
+        let line = turn_line(&turn);
+        let Ok(()) = send(writer, line.as_bytes()) else {
+            return Err(EngineFault::Write);
+        };
+        match turn {
+            Turn::Line { turn, .. } => done = turn,
+            Turn::End(end) => return Ok(end),
+        }
+    }
+}
