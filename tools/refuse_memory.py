@@ -195,7 +195,12 @@ MOST_ALLOCATIONS = 2000
 # Not enough for a call for each filter of FORKS' longest chain.
 STACK = 256 * 1024
 # What FORKS writes, with memory and without.
-FORKED = "6554 filters\n1000 forks, pids 501500 in sum\n1000 children with the filters\nmemory is "
+FORKED = "6554 filters\n"
+for store in ("list", "slots"):
+    # As many children as there is room for, and as many others once those are gone: 2 to 1024 and 1025 to 2047.
+    for pids in (range(2, 1025), range(1025, 2048)):
+        FORKED += f"{store}: 1023 forks, pids {sum(pids)} in sum, 1023 with the filters\n"
+FORKED += "memory is "
 
 
 def main():

@@ -1,9 +1,10 @@
-//! Forks a process that has as many filters as it can have. `tools/refuse_memory.py` runs this with
-//! all memory refused from the first line of output on: the forks take none.
+//! Forks a process that has as many filters as it can have until there is no room, takes the children out and
+//! forks as many others, over each store. `tools/refuse_memory.py` runs this with all memory refused from the
+//! first line of output on: the forks take none.
 #![tactic(auto)]
 
-ghost use Rattle.std.specs.Prelude.{◌≡◌};
-ghost use Rattle.sk_world.specs.World.{at, is_alive};
+ghost use Rattle.std.specs.Prelude.{◌≡◌, IfOk};
+ghost use Rattle.sk_world.specs.World.{at, is_alive, is_zombie};
 ghost use Rattle.sk_world.specs.Rules.{IsWorld};
 
 mod fault;
@@ -12,7 +13,7 @@ use fault::Fault;
 use sk_chain::Chain;
 use sk_check::{Checked, check};
 use sk_insn::read_insns;
-use sk_table::{INIT, Life, ListStore, ProcStore, fork, laws};
+use sk_table::{INIT, Life, ListStore, ProcStore, SlotStore, end, fork, laws, reap};
 use std::alloc::Global;
 use std::process::ExitCode;
 
@@ -22,7 +23,8 @@ const ALLOW: [u8; 8] = [0x06, 0, 0, 0, 0, 0, 0xff, 0x7f];
 // The most filters of one instruction that a process can have.
 const FILTERS: usize = 6554;
 
-const FORKS: u32 = 1000;
+// As many children as there is room for beside process 1.
+const FORKS: u32 = 1023;
 
 fn main(rt: HostRuntime) -> ExitCode {
     match run(&rt) {
@@ -36,18 +38,36 @@ fn main(rt: HostRuntime) -> ExitCode {
 
 fn run<R: Print + AllocGlobal>(rt: &R) -> Result<(), Fault> {
     let alloc = rt.alloc();
-    let mut store = ListStore::new(alloc)?;
+    let mut list = ListStore::new(alloc)?;
+    let mut slots = SlotStore::new(alloc)?;
     laws::rules_are_kept();
-    attach(&mut store, chain(alloc)?);
+    let filters = chain(alloc)?;
+    attach(&mut list, filters.share()?);
+    attach(&mut slots, filters);
     println!(rt; "{FILTERS} filters")?;
-    let sum = fork_all(&mut store)?;
-    println!(rt; "{FORKS} forks, pids {sum} in sum")?;
-    println!(rt;
-        "{} children with the filters",
-        children_with_filters(&store)
-    )?;
+    fork_twice(rt, "list", &mut list)?;
+    fork_twice(rt, "slots", &mut slots)?;
     let memory = Vec::<u8>::with_capacity(alloc, 1).is_ok();
     println!(rt; "memory is {}", if memory { "there" } else { "refused" })?;
+    Ok(())
+}
+
+// Fills the store, empties it and fills it with others.
+fn fork_twice<S: ProcStore, R: Print>(rt: &R, name: &str, store: &mut S) -> Result<(), Fault>
+    requires { IsWorld (S.contents store.old) }
+{
+    fill(rt, name, store)?;
+    take_all_out(store)?;
+    fill(rt, name, store)
+}
+
+fn fill<S: ProcStore, R: Print>(rt: &R, name: &str, store: &mut S) -> Result<(), Fault>
+    requires { IsWorld (S.contents store.old) }
+    ensures { IfOk result (λ _. IsWorld (S.contents store.new)) }
+{
+    let sum = fork_all(store)?;
+    let children = children_with_filters(store);
+    println!(rt; "{name}: {FORKS} forks, pids {sum} in sum, {children} with the filters")?;
     Ok(())
 }
 
@@ -71,9 +91,9 @@ fn allow(alloc: Global) -> Result<Checked, Fault> {
 }
 
 // Gives process 1 the filters.
-fn attach(store: &mut ListStore, chain: Chain)
-    requires { IsWorld store.old }
-    ensures { IsWorld store.new }
+fn attach<S: ProcStore>(store: &mut S, chain: Chain)
+    requires { IsWorld (S.contents store.old) }
+    ensures { IsWorld (S.contents store.new) }
 {
     if let Some(body) = store.body_mut(INIT) {
         body.chain = chain;
@@ -81,12 +101,13 @@ fn attach(store: &mut ListStore, chain: Chain)
 }
 
 // Forks process 1, and answers the sum of the children's pids.
-fn fork_all(store: &mut ListStore) -> Result<u64, Fault>
-    requires { IsWorld store.old }
+fn fork_all<S: ProcStore>(store: &mut S) -> Result<u64, Fault>
+    requires { IsWorld (S.contents store.old) }
+    ensures { IfOk result (λ _. IsWorld (S.contents store.new)) }
 {
     let mut sum: u64 = 0;
     for _forked in 0..FORKS {
-        if !is_alive(store) {
+        if !is_alive(store, INIT) {
             return Err(Fault::Refused);
         }
         match fork(store, INIT)? {
@@ -97,17 +118,55 @@ fn fork_all(store: &mut ListStore) -> Result<u64, Fault>
     Ok(sum)
 }
 
-fn is_alive(store: &ListStore) -> bool
-    ensures { result ≡ is_alive (at store.now INIT) }
+// Ends the children of process 1 and takes them out.
+fn take_all_out<S: ProcStore>(store: &mut S) -> Result<(), Fault>
+    requires { IsWorld (S.contents store.old) }
+    ensures { IfOk result (λ _. IsWorld (S.contents store.new)) }
 {
-    match store.get(INIT) {
-        Some(init) => !matches!(init.body.life, Life::Zombie(_)),
+    for _taken in 0..FORKS {
+        match store.next_child(INIT, INIT) {
+            Some(pid) => take_out(store, pid)?,
+            None => return Err(Fault::Refused),
+        }
+    }
+    Ok(())
+}
+
+fn take_out<S: ProcStore>(store: &mut S, pid: u32) -> Result<(), Fault>
+    requires { IsWorld (S.contents store.old) }
+    ensures { IfOk result (λ _. IsWorld (S.contents store.new)) }
+{
+    if pid == INIT || !is_alive(store, pid) {
+        return Err(Fault::Refused);
+    }
+    end(store, pid, 0);
+    if !is_zombie(store, pid) {
+        return Err(Fault::Refused);
+    }
+    reap(store, pid);
+    Ok(())
+}
+
+fn is_alive<S: ProcStore>(store: &S, pid: u32) -> bool
+    ensures { result ≡ is_alive (at (S.contents store.now) pid) }
+{
+    match store.get(pid) {
+        Some(process) => !matches!(process.body.life, Life::Zombie(_)),
+        None => false,
+    }
+}
+
+fn is_zombie<S: ProcStore>(store: &S, pid: u32) -> bool
+    ensures { result ≡ is_zombie (at (S.contents store.now) pid) }
+{
+    match store.get(pid) {
+        Some(process) => matches!(process.body.life, Life::Zombie(_)),
         None => false,
     }
 }
 
 // How many children of process 1 have its filters.
-fn children_with_filters(store: &ListStore) -> u32 {
+fn children_with_filters<S: ProcStore>(store: &S) -> u32 {
     let mut children = 0;
     let mut after = INIT;
     for _looked in 0..FORKS {
@@ -124,7 +183,7 @@ fn children_with_filters(store: &ListStore) -> u32 {
     children
 }
 
-fn has_filters(store: &ListStore, pid: u32) -> bool {
+fn has_filters<S: ProcStore>(store: &S, pid: u32) -> bool {
     match store.get(pid) {
         Some(process) => process.body.chain.len() == FILTERS,
         None => false,

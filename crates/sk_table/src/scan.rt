@@ -5,6 +5,7 @@ ghost use Rattle.sk_world.specs.Numbers.{next_number};
 ghost use Rattle.sk_world.specs.World.{IsNext};
 ghost use Rattle.sk_table.specs.Rows.{Distinct, row_has_number, free_row, is_sought, is_sought_pid};
 
+use sk_slots::next_number;
 use sk_world::{LAST_PID, Proc};
 
 // How many numbers there are to be given, from 2 to the last.
@@ -31,13 +32,6 @@ pub fn has_number(rows: &[Row], number: u32) -> bool
     rows.iter().any(|row| {
         row.pid == number || row.proc.links.group == number || row.proc.links.session == number
     })
-}
-
-/// The number after this one.
-pub fn next_number(number: u32) -> u32
-    ensures { result ≡ next_number number }
-{
-    if number < LAST_PID { number + 1 } else { 2 }
 }
 
 /// The first number after the last one given that no process has.

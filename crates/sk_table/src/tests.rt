@@ -1,41 +1,32 @@
-ghost use Rattle.std.specs.Prelude.{◌≡◌};
-ghost use Rattle.sk_world.specs.Rules.{IsWorld};
-
-use crate::first::first_process;
-use crate::{INIT, LAST_PID, Life, Links, ListStore, PROCESSES, ProcStore, fork, laws};
-use sk_creds::Errno;
-use std::alloc::{AllocError, Global};
+use crate::testing::{fork_of, has_no_room, insert, links, opening};
+use crate::{INIT, LAST_PID, ListStore, ProcStore, SlotStore};
 use std::process::Abort;
 use std::test::Fail;
 
-fn links(parent: u32, group: u32, session: u32) -> Links
-    ensures { result ≡ record { parent = parent; group = group; session = session } }
-{
-    Links {
-        parent,
-        group,
-        session,
-    }
-}
-
-/// Puts a process in that does nothing.
-fn insert(rt: &impl Abort, alloc: Global, store: &mut ListStore, pid: u32, links: Links) {
-    assert!(rt; pid >= 2 && pid <= LAST_PID && store.count() < PROCESSES);
-    assert!(rt; links.parent <= LAST_PID && links.group <= LAST_PID && links.session <= LAST_PID);
-    let mut proc = first_process(alloc);
-    proc.links = links;
-    match store.get(pid) {
-        Some(_) => assert!(rt; false),
-        None => store.insert(pid, proc),
-    }
+#[test]
+fn list_keeps_processes(rt: HostRuntime) -> Result<(), Fail> {
+    rows::<ListStore, HostRuntime>(&rt)
 }
 
 #[test]
-fn fresh_passes_over_groups_and_goes_round(rt: HostRuntime) -> Result<(), Fail> {
-    let mut store = ListStore::new(rt.alloc())?;
-    insert(&rt, rt.alloc(), &mut store, 5, links(INIT, 2, INIT));
+fn slots_keep_processes(rt: HostRuntime) -> Result<(), Fail> {
+    rows::<SlotStore, HostRuntime>(&rt)
+}
+
+fn rows<S: ProcStore, R: Abort + AllocGlobal>(rt: &R) -> Result<(), Fail> {
+    fresh_passes_over_groups_and_goes_round::<S, R>(rt)?;
+    store_keeps_three_processes::<S, R>(rt)?;
+    init_forks_until_there_is_no_room::<S, R>(rt)?;
+    Ok(())
+}
+
+fn fresh_passes_over_groups_and_goes_round<S: ProcStore, R: Abort + AllocGlobal>(
+    rt: &R,
+) -> Result<(), Fail> {
+    let mut store = S::new(rt.alloc())?;
+    insert(rt, rt.alloc(), &mut store, 5, links(INIT, 2, INIT));
     insert(
-        &rt,
+        rt,
         rt.alloc(),
         &mut store,
         LAST_PID,
@@ -47,11 +38,10 @@ fn fresh_passes_over_groups_and_goes_round(rt: HostRuntime) -> Result<(), Fail> 
     Ok(())
 }
 
-#[test]
-fn store_keeps_three_processes(rt: HostRuntime) -> Result<(), Fail> {
-    let mut store = ListStore::new(rt.alloc())?;
-    insert(&rt, rt.alloc(), &mut store, 9, links(INIT, INIT, INIT));
-    insert(&rt, rt.alloc(), &mut store, 5, links(INIT, INIT, INIT));
+fn store_keeps_three_processes<S: ProcStore, R: Abort + AllocGlobal>(rt: &R) -> Result<(), Fail> {
+    let mut store = S::new(rt.alloc())?;
+    insert(rt, rt.alloc(), &mut store, 9, links(INIT, INIT, INIT));
+    insert(rt, rt.alloc(), &mut store, 5, links(INIT, INIT, INIT));
     assert_eq!(rt; (store.count(), store.last()), (3, 5));
     for (after, next) in [(0, Some(1)), (1, Some(5)), (5, Some(9)), (9, None)] {
         assert_eq!(rt; store.next_pid(after), next);
@@ -84,26 +74,14 @@ fn store_keeps_three_processes(rt: HostRuntime) -> Result<(), Fail> {
     Ok(())
 }
 
-/// Forks process 1.
-fn fork_init(rt: &impl Abort, store: &mut ListStore) -> Result<Result<u32, Errno>, AllocError>
-    requires { IsWorld store.old }
-    ensures { IsWorld store.new }
-{
-    match store.get(INIT) {
-        Some(init) => assert!(rt; !matches!(init.body.life, Life::Zombie(_))),
-        None => assert!(rt; false),
-    }
-    fork(store, INIT)
-}
-
-#[test]
-fn init_forks_until_there_is_no_room(rt: HostRuntime) -> Result<(), Fail> {
-    let mut store = ListStore::new(rt.alloc())?;
-    laws::rules_are_kept();
+fn init_forks_until_there_is_no_room<S: ProcStore, R: Abort + AllocGlobal>(
+    rt: &R,
+) -> Result<(), Fail> {
+    let mut store = opening::<S>(rt.alloc())?;
     for pid in 2..=1024 {
-        assert_eq!(rt; fork_init(&rt, &mut store)?, Ok(pid));
+        assert_eq!(rt; fork_of(rt, &mut store, INIT)?, pid);
     }
-    assert_eq!(rt; fork_init(&rt, &mut store)?, Err(Errno::Eagain));
+    assert!(rt; has_no_room(rt, &mut store, INIT)?);
     assert_eq!(rt; (store.count(), store.last()), (1024, 1024));
     Ok(())
 }

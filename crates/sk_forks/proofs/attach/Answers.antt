@@ -12,13 +12,13 @@ same_proc p q e = cc
 
 -- the filters of a process neither end nor stop it
 pub returns-in-Some : goal.returns-in-Some
-returns-in-Some c =
+returns-in-Some g c =
     let body : Body = record c.in-Some.body.now { chain = c.args.chain } in
     let changed = rw c.in-Some.is at (c.body_mut.follows.holds body) in
     let there = c.in-Some.ensures.there in
-    let alike = λ (p : Proc). λ (e : at c.args.store.now INIT ≡ Some p). sym there.2 ∙ ap (λ (q : Proc). q.body) (same_proc there.0 p (sym there.1 ∙ e)) in
+    let alike = λ (p : Proc). λ (e : at (g.S.ProcStore.contents c.args.store.now) INIT ≡ Some p). sym there.2 ∙ ap (λ (q : Proc). q.body) (same_proc there.0 p (sym there.1 ∙ e)) in
     subst IsWorld (sym changed)
-    (kept_changed c.args.store.now INIT (λ old. body) c.requires (λ p e. record {
+    (kept_changed (g.S.ProcStore.contents c.args.store.now) INIT (λ old. body) c.requires (λ p e. record {
       ended = ap (λ (b : Body). has_ended b.life) (alike p e);
       init = λ _ h. subst (λ (b : Body). has_stopped b.life ≡ true) (alike p e) h;
     }))

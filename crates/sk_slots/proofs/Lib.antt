@@ -1,0 +1,4 @@
+pub mod Slotting
+pub mod Freely
+pub mod Writing
+pub mod Listing

@@ -1,0 +1,3 @@
+pub mod Free
+pub mod Slots
+pub mod SlotView
