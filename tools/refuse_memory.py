@@ -4,8 +4,10 @@
 Each such run is to give the whole answer, or `skern: out of memory` with status 3, and nothing else; and whatever it
 gives, it is to have given back each block of memory that it took. There is a run for every text that refuses an input.
 FORKS is run with every allocation refused from its first line of output on, and on a small stack, and is to give its
-whole answer. Prints each run that gives something else, and at last 'N passed, M failed'."""
+whole answer, over a store and in a kernel. The kernel is stopped by each allocation in turn, too, and is to go on with the same
+answers. Prints each run that gives something else, and at last 'N passed, M failed'."""
 import os
+import re
 import resource
 import subprocess
 import sys
@@ -83,6 +85,9 @@ MOST_ALLOCATIONS = 2000
 STACK = 256 * 1024
 # What FORKS writes, with memory and without.
 FORKED = "6554 filters\n1000 forks, pids 501500 in sum\n1000 children with the filters\nmemory is "
+# What FORKS writes by the word `stop`, and behind how many of its ten events a kernel wants memory: each that attaches a filter.
+ANSWERED = b"10 answers\n"
+ATTACHES = {0, 1, 3, 7, 8}
 
 
 def main():
@@ -106,13 +111,37 @@ def main():
             resource.setrlimit(resource.RLIMIT_STACK, (STACK, STACK))
 
         # The last line says that the shim did refuse.
-        for refused, memory in [(0, "there"), ("after-output", "refused")]:
-            answer, left = run([forks], "", refused, small_stack)
-            if answer == ((FORKED + memory + "\n").encode(), 0) and left == 0:
+        for words in [[forks], [forks, "kernel"]]:
+            for refused, memory in [(0, "there"), ("after-output", "refused")]:
+                answer, left = run(words, "", refused, small_stack)
+                if answer == ((FORKED + memory + "\n").encode(), 0) and left == 0:
+                    passed += 1
+                else:
+                    failed += 1
+                    print(f"forks: {words[1:]}: where memory is {memory} it gives {answer} and keeps {left} blocks")
+
+        stops = set()
+        refusals = 0
+        for count in range(MOST_ALLOCATIONS):
+            answer, left = run([forks, "stop"], "", count)
+            stopped = re.fullmatch(rb"(?:stopped after (\d+)\n)?" + ANSWERED, answer[0])
+            if left == 0 and (stopped and answer[1] == 0 or count > 0 and answer == (b"out of memory\n", 1)):
                 passed += 1
             else:
                 failed += 1
-                print(f"forks: where memory is {memory} it gives {answer} and keeps {left} blocks")
+                print(f"forks: stop: with allocation {count} refused it gives {answer} and keeps {left} blocks")
+            if stopped and stopped[1]:
+                stops.add(int(stopped[1]))
+            if answer != (ANSWERED, 0):
+                refusals += 1
+            # No allocation is left to refuse.
+            if count > refusals + 8:
+                break
+        if ATTACHES <= stops:
+            passed += 1
+        else:
+            failed += 1
+            print(f"forks: stop: it stopped after {sorted(stops)} alone")
 
         for word, text, output, status in RUNS:
             whole = (output.encode(), status)
