@@ -5,8 +5,10 @@ Each such run is to give the whole answer, or `skern: out of memory` with status
 gives, it is to have given back each block of memory that it took. There is a run of PROGRAM for every text that refuses
 an input. READS reads scenarios, and tells a sum over all values of what it read.
 FORKS is run with every allocation refused from its first line of output on, and on a small stack, and is to give its
-whole answer. Prints each run that gives something else, and at last 'N passed, M failed'."""
+whole answer, over a store and in a kernel. The kernel is stopped by each allocation in turn, too, and is to go on with the same
+answers. Prints each run that gives something else, and at last 'N passed, M failed'."""
 import os
+import re
 import resource
 import subprocess
 import sys
@@ -201,6 +203,10 @@ for store in ("list", "slots"):
     for pids in (range(2, 1025), range(1025, 2048)):
         FORKED += f"{store}: 1023 forks, pids {sum(pids)} in sum, 1023 with the filters\n"
 FORKED += "memory is "
+FORKED_IN_KERNEL = f"6554 filters\n1023 forks, pids {sum(range(2, 1025))} in sum\n1023 children with the filters\nmemory is "
+# What FORKS writes by the word `stop`, and behind how many of its ten events a kernel wants memory: each that attaches a filter.
+ANSWERED = b"10 answers\n"
+ATTACHES = {0, 1, 3, 7, 8}
 
 
 def main():
@@ -226,13 +232,37 @@ def main():
             resource.setrlimit(resource.RLIMIT_STACK, (STACK, STACK))
 
         # The last line says that the shim did refuse.
-        for refused, memory in [(0, "there"), ("after-output", "refused")]:
-            answer, left = run([forks], "", refused, small_stack)
-            if answer == ((FORKED + memory + "\n").encode(), 0) and left == 0:
+        for words, forked in [([forks], FORKED), ([forks, "kernel"], FORKED_IN_KERNEL)]:
+            for refused, memory in [(0, "there"), ("after-output", "refused")]:
+                answer, left = run(words, "", refused, small_stack)
+                if answer == ((forked + memory + "\n").encode(), 0) and left == 0:
+                    passed += 1
+                else:
+                    failed += 1
+                    print(f"forks: {words[1:]}: where memory is {memory} it gives {answer} and keeps {left} blocks")
+
+        stops = set()
+        refusals = 0
+        for count in range(MOST_ALLOCATIONS):
+            answer, left = run([forks, "stop"], "", count)
+            stopped = re.fullmatch(rb"(?:stopped after (\d+)\n)?" + ANSWERED, answer[0])
+            if left == 0 and (stopped and answer[1] == 0 or count > 0 and answer == (b"out of memory\n", 1)):
                 passed += 1
             else:
                 failed += 1
-                print(f"forks: where memory is {memory} it gives {answer} and keeps {left} blocks")
+                print(f"forks: stop: with allocation {count} refused it gives {answer} and keeps {left} blocks")
+            if stopped and stopped[1]:
+                stops.add(int(stopped[1]))
+            if answer != (ANSWERED, 0):
+                refusals += 1
+            # No allocation is left to refuse.
+            if count > refusals + 8:
+                break
+        if ATTACHES <= stops:
+            passed += 1
+        else:
+            failed += 1
+            print(f"forks: stop: it stopped after {sorted(stops)} alone")
 
         for words, text, output, status in runs:
             word = os.path.basename(words[-1])

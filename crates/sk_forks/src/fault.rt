@@ -1,5 +1,7 @@
 use sk_insn::ImageFault;
+use sk_kernel::Stopped;
 use std::alloc::AllocError;
+use std::io::ErrorKind;
 use std::{fmt, io};
 
 /// Why the forks are not done.
@@ -9,6 +11,8 @@ pub enum Fault {
     Refused,
     /// Memory was refused.
     Memory,
+    /// A kernel has stopped, and is not to go on.
+    Stopped,
     /// The output could not be written.
     Write,
 }
@@ -18,6 +22,7 @@ impl fmt::Display for Fault {
         f.write_str(match self {
             Fault::Refused => "refused",
             Fault::Memory => "out of memory",
+            Fault::Stopped => "stopped",
             Fault::Write => "writing failed",
         })
     }
@@ -26,6 +31,12 @@ impl fmt::Display for Fault {
 impl From<AllocError> for Fault {
     fn from(_refused: AllocError) -> Fault {
         Fault::Memory
+    }
+}
+
+impl From<Stopped> for Fault {
+    fn from(_stopped: Stopped) -> Fault {
+        Fault::Stopped
     }
 }
 
@@ -39,7 +50,10 @@ impl From<ImageFault> for Fault {
 }
 
 impl From<io::Error> for Fault {
-    fn from(_failed: io::Error) -> Fault {
-        Fault::Write
+    fn from(failed: io::Error) -> Fault {
+        match failed.kind() {
+            ErrorKind::OutOfMemory => Fault::Memory,
+            _ => Fault::Write,
+        }
     }
 }

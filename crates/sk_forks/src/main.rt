@@ -1,6 +1,7 @@
-//! Forks a process that has as many filters as it can have until there is no room, takes the children out and
-//! forks as many others, over each store. `tools/refuse_memory.py` runs this with all memory refused from the
-//! first line of output on: the forks take none.
+//! Forks a process that has as many filters as it can have: over each store until there is no room, and as many
+//! others once the children are out; or, by the word `kernel`, in a kernel. `tools/refuse_memory.py` runs this with
+//! all memory refused from the first line of output on: the forks take none. By the word `stop` a kernel goes on where
+//! want of memory has stopped it.
 #![tactic(auto)]
 
 ghost use Rattle.std.specs.Prelude.{◌≡◌, IfOk};
@@ -8,14 +9,18 @@ ghost use Rattle.sk_world.specs.World.{at, is_alive, is_zombie};
 ghost use Rattle.sk_world.specs.Rules.{IsWorld};
 
 mod fault;
+mod kernel;
 
 use fault::Fault;
+use kernel::{fork_in_kernel, go_on_after_a_stop};
 use sk_chain::Chain;
 use sk_check::{Checked, check};
 use sk_insn::read_insns;
 use sk_table::{INIT, Life, ListStore, ProcStore, SlotStore, end, fork, laws, reap};
 use std::alloc::Global;
+use std::env::Env;
 use std::process::ExitCode;
+use std::{env, io};
 
 // The bytes of `ret allow`.
 const ALLOW: [u8; 8] = [0x06, 0, 0, 0, 0, 0, 0xff, 0x7f];
@@ -27,13 +32,27 @@ const FILTERS: usize = 6554;
 const FORKS: u32 = 1023;
 
 fn main(rt: HostRuntime) -> ExitCode {
-    match run(&rt) {
+    match run_by_word(&rt) {
         Ok(()) => ExitCode::SUCCESS,
         Err(fault) => {
             let _ = println!(rt; "{fault}");
             ExitCode::FAILURE
         }
     }
+}
+
+fn run_by_word<R: Print + Env + AllocGlobal>(rt: &R) -> Result<(), Fault> {
+    match word(rt)?.as_deref() {
+        None => run(rt),
+        Some("kernel") => fork_in_kernel(rt),
+        Some("stop") => go_on_after_a_stop(rt),
+        Some(_) => Err(Fault::Refused),
+    }
+}
+
+// The word behind the program's name.
+fn word<R: Env + AllocGlobal>(rt: &R) -> io::Result<Option<String>> {
+    Ok(env::args(rt)?.skip(1).next())
 }
 
 fn run<R: Print + AllocGlobal>(rt: &R) -> Result<(), Fault> {

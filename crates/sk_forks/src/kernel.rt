@@ -1,0 +1,140 @@
+use crate::fault::Fault;
+use crate::{ALLOW, FILTERS, FORKS};
+use sk_calls::Syscall;
+use sk_kernel::{Answer, Event, Images, Kernel, Outcome, Stopped};
+use sk_table::{INIT, ListStore};
+use std::alloc::{AllocError, Global};
+
+/// Lets the kernel fork a process that has as many filters as it can have.
+pub(crate) fn fork_in_kernel<R: Print + AllocGlobal>(rt: &R) -> Result<(), Fault> {
+    let alloc = rt.alloc();
+    let mut kernel = Kernel::<ListStore>::new(alloc, images(alloc)?)?;
+    let attaches = repeated(alloc, call(INIT, Syscall::Seccomp, 1), FILTERS)?;
+    let forks = repeated(alloc, call(INIT, Syscall::Fork, 0), FORKS as usize)?;
+    let mut attached = Vec::new(alloc);
+    kernel.run(&attaches, &mut attached)?;
+    let mut forked = Vec::with_capacity(alloc, forks.len())?;
+    println!(rt; "{FILTERS} filters")?;
+    kernel.run(&forks, &mut forked)?;
+    println!(rt; "{FORKS} forks, pids {} in sum", sum_of(&forked))?;
+    println!(rt;
+        "{} children with the filters",
+        children_with_filters(&kernel)
+    )?;
+    let memory = Vec::<u8>::with_capacity(alloc, 1).is_ok();
+    println!(rt; "memory is {}", if memory { "there" } else { "refused" })?;
+    Ok(())
+}
+
+/// Lets the kernel go on where want of memory stops it once, and compares the answers.
+pub(crate) fn go_on_after_a_stop<R: Print + AllocGlobal>(rt: &R) -> Result<(), Fault> {
+    let alloc = rt.alloc();
+    let rows = rows();
+    let events = events_of(alloc, &rows)?;
+    let mut kernel = Kernel::<ListStore>::new(alloc, images(alloc)?)?;
+    let mut answers = Vec::new(alloc);
+    if let Err(Stopped { done }) = kernel.run(&events, &mut answers) {
+        println!(rt; "stopped after {done}")?;
+        kernel.run(&events[done.min(events.len())..], &mut answers)?;
+    }
+    for (answer, (_, expected)) in answers.iter().zip(rows) {
+        if *answer != expected {
+            return Err(Fault::Refused);
+        }
+    }
+    println!(rt; "{} answers", answers.len())?;
+    Ok(())
+}
+
+/// Process 1 and its child attach filters and fork, and the child ends.
+fn rows() -> [(Event, Answer); 10] {
+    [
+        (call(INIT, Syscall::Seccomp, 1), returned(0)),
+        (call(INIT, Syscall::Seccomp, 1), returned(0)),
+        (call(INIT, Syscall::Fork, 0), returned(2)),
+        (call(2, Syscall::Seccomp, 1), returned(0)),
+        (call(2, Syscall::Getpid, 0), returned(2)),
+        (call(2, Syscall::Fork, 0), returned(3)),
+        (call(3, Syscall::Getppid, 0), returned(2)),
+        (call(3, Syscall::Seccomp, 1), returned(0)),
+        (call(INIT, Syscall::Seccomp, 1), returned(0)),
+        (call(INIT, Syscall::Getpid, 0), returned(1)),
+    ]
+}
+
+fn events_of(alloc: Global, rows: &[(Event, Answer)]) -> Result<Vec<Event>, AllocError> {
+    let mut events = Vec::new(alloc);
+    for (event, _) in rows {
+        events.push(*event)?;
+    }
+    Ok(events)
+}
+
+fn images(alloc: Global) -> Result<Images, AllocError> {
+    let mut filters = Vec::new(alloc);
+    filters.push(ALLOW.to_vec(alloc)?)?;
+    Ok(Images {
+        filters,
+        programs: Vec::new(alloc),
+        subreapers: false,
+    })
+}
+
+/// A call with one register.
+fn call(pid: u32, call: Syscall, register: u64) -> Event {
+    Event::Call {
+        pid,
+        ip: 0,
+        nr: call.number(),
+        args: [register, 0, 0, 0, 0, 0],
+    }
+}
+
+/// What an allowed call returns.
+fn returned(value: i64) -> Answer {
+    Answer::Call {
+        verdict: 0x7fff_0000,
+        outcome: Outcome::Returned(value),
+    }
+}
+
+fn repeated(alloc: Global, event: Event, times: usize) -> Result<Vec<Event>, AllocError> {
+    let mut events = Vec::new(alloc);
+    for _ in 0..times {
+        events.push(event)?;
+    }
+    Ok(events)
+}
+
+/// The sum of what the calls returned.
+fn sum_of(answers: &[Answer]) -> u64 {
+    let mut sum: u64 = 0;
+    for answer in answers {
+        if let Answer::Call {
+            verdict: _,
+            outcome: Outcome::Returned(value),
+        } = *answer
+        {
+            sum = sum.saturating_add(value.unsigned_abs());
+        }
+    }
+    sum
+}
+
+/// How many of the processes that were forked have the filters of process 1.
+fn children_with_filters(kernel: &Kernel<ListStore>) -> u32 {
+    let mut children: u32 = 0;
+    for pid in 2..FORKS + 2 {
+        if has_filters(kernel, pid) {
+            children = children.saturating_add(1);
+        }
+    }
+    children
+}
+
+fn has_filters(kernel: &Kernel<ListStore>, pid: u32) -> bool {
+    match kernel.get(pid) {
+        Some(process) => process.body.chain.len() == FILTERS,
+        None => false,
+    }
+}
