@@ -11,7 +11,7 @@ use crate::machine::Machine;
 use sk_ends::{Sink, Source, WriteFault, send, take_up_to};
 use sk_report::{End, Turn, turn_line};
 use sk_scenario::read;
-use sk_table::ListStore;
+use sk_table::SlotStore;
 use sk_world::ProcStore;
 use std::alloc::{AllocError, Global};
 
@@ -29,7 +29,7 @@ pub fn engine<R: Source, W: Sink>(
     ensures reads { CountsReads result (R.failed reader.old) (R.failed reader.new) }
     ensures writes { CountsWrites result (W.failed writer.old) (W.failed writer.new) }
 {
-    engine_with::<ListStore, R, W>(alloc, reader, writer)
+    engine_with::<SlotStore, R, W>(alloc, reader, writer)
 }
 
 /// The same over any store of processes.
