@@ -1,0 +1,141 @@
+//! What `bench/run` measures of the stores: a task on standard input, done over and over, and a sum of all that
+//! came out of it.
+#![tactic(auto)]
+
+ghost use Rattle.std.specs.Prelude.{◌≡◌, IfOk};
+ghost use Rattle.sk_world.specs.World.{at, is_alive, is_zombie};
+ghost use Rattle.sk_world.specs.Rules.{IsWorld};
+
+mod fault;
+mod task;
+
+use fault::Fault;
+use sk_ends::{Counted, take_up_to};
+use sk_table::{INIT, Life, ListStore, ProcStore, SlotStore, end, fork, laws, reap};
+use std::process::ExitCode;
+use task::{Store, Task, Work};
+
+// The most bytes of a task.
+const MOST_BYTES: usize = 256;
+
+fn main(rt: HostRuntime) -> ExitCode {
+    match done(&rt) {
+        Ok(sum) => match println!(rt; "sum {sum}") {
+            Ok(()) => ExitCode::SUCCESS,
+            Err(_) => ExitCode::FAILURE,
+        },
+        Err(fault) => {
+            let _ = println!(rt; "{fault}");
+            ExitCode::FAILURE
+        }
+    }
+}
+
+// What the task of standard input comes to.
+fn done<R: Input + AllocGlobal>(rt: &R) -> Result<u32, Fault> {
+    let alloc = rt.alloc();
+    let mut reader = Counted::new(rt.reader());
+    let text = take_up_to(alloc, &mut reader, MOST_BYTES)?;
+    let task = Task::of(&text)?;
+    laws::rules_are_kept();
+    match task.store {
+        Store::List => sum_over(&mut ListStore::new(alloc)?, task),
+        Store::Slots => sum_over(&mut SlotStore::new(alloc)?, task),
+    }
+}
+
+fn sum_over<S: ProcStore>(store: &mut S, task: Task) -> Result<u32, Fault>
+    requires { IsWorld (S.contents store.old) }
+{
+    filled(store, task.processes)?;
+    match task.work {
+        Work::Fork => forked(store, task.rounds),
+        Work::NextChild => Ok(walked(store, task.rounds)),
+    }
+}
+
+// Forks process 1 until there are so many processes.
+fn filled<S: ProcStore>(store: &mut S, processes: u32) -> Result<(), Fault>
+    requires { IsWorld (S.contents store.old) }
+    ensures { IfOk result (λ _. IsWorld (S.contents store.new)) }
+{
+    for _forked in 1..processes {
+        child_of_init(store)?;
+    }
+    Ok(())
+}
+
+// Forks process 1 and takes the child out, and answers a sum of the pids.
+fn forked<S: ProcStore>(store: &mut S, rounds: u32) -> Result<u32, Fault>
+    requires { IsWorld (S.contents store.old) }
+{
+    let mut sum = 0u32;
+    for _round in 0..rounds {
+        let pid = child_of_init(store)?;
+        take_out(store, pid)?;
+        sum = sum.wrapping_add(pid);
+    }
+    Ok(sum)
+}
+
+// Asks for the children of process 1 in turn, and answers a sum of their pids.
+fn walked<S: ProcStore>(store: &S, rounds: u32) -> u32 {
+    let mut sum = 0u32;
+    let mut after = 0;
+    for _round in 0..rounds {
+        match store.next_child(INIT, after) {
+            Some(pid) => {
+                sum = sum.wrapping_add(pid);
+                after = pid;
+            }
+            None => after = 0,
+        }
+    }
+    sum
+}
+
+fn child_of_init<S: ProcStore>(store: &mut S) -> Result<u32, Fault>
+    requires { IsWorld (S.contents store.old) }
+    ensures { IfOk result (λ _. IsWorld (S.contents store.new)) }
+{
+    if !is_alive(store, INIT) {
+        return Err(Fault::Refused);
+    }
+    match fork(store, INIT)? {
+        Ok(pid) => Ok(pid),
+        Err(_) => Err(Fault::Refused),
+    }
+}
+
+fn take_out<S: ProcStore>(store: &mut S, pid: u32) -> Result<(), Fault>
+    requires { IsWorld (S.contents store.old) }
+    ensures { IfOk result (λ _. IsWorld (S.contents store.new)) }
+{
+    if pid == INIT || !is_alive(store, pid) {
+        return Err(Fault::Refused);
+    }
+    end(store, pid, 0);
+    if !is_zombie(store, pid) {
+        return Err(Fault::Refused);
+    }
+    reap(store, pid);
+    Ok(())
+}
+
+fn is_alive<S: ProcStore>(store: &S, pid: u32) -> bool
+    ensures { result ≡ is_alive (at (S.contents store.now) pid) }
+{
+    match store.get(pid) {
+        Some(process) => !matches!(process.body.life, Life::Zombie(_)),
+        None => false,
+    }
+}
+
+fn is_zombie<S: ProcStore>(store: &S, pid: u32) -> bool
+    ensures { result ≡ is_zombie (at (S.contents store.now) pid) }
+{
+    match store.get(pid) {
+        Some(process) => matches!(process.body.life, Life::Zombie(_)),
+        None => false,
+    }
+}
