@@ -58,8 +58,9 @@ fn report<S: ProcStore, W: Sink>(machine: Machine<S>, writer: &mut W) -> Result<
     let mut machine = machine;
     let mut done = 0;
     loop {
-        let Ok(turn) = machine.turn() else {
-            return Err(EngineFault::Memory { turns: done });
+        let turn = match machine.turn() {
+            Ok(turn) => turn,
+            Err(AllocError) => return Err(EngineFault::Memory { turns: done }),
         };
         let line = turn_line(&turn);
         let Ok(()) = send(writer, line.as_bytes()) else {

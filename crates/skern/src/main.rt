@@ -4,14 +4,21 @@
 use sk_cli::{CommandFault, command, failed};
 use sk_ends::Counted;
 use std::env::Env;
-use std::io::ErrorKind;
+use std::io::{BufWriter, ErrorKind, Write};
 use std::process::ExitCode;
 use std::{env, io};
 
+/// How many bytes are gathered before they are written.
+const BLOCK: usize = 65_536;
+
 fn main(rt: HostRuntime) -> ExitCode {
     let alloc = rt.alloc();
+    let Ok(output) = BufWriter::with_capacity(alloc, BLOCK, io::writer(&rt)) else {
+        let mut writer = Counted::new(io::writer(&rt));
+        return ExitCode::from(failed(&mut writer, CommandFault::Memory));
+    };
     let mut reader = Counted::new(rt.reader());
-    let mut writer = Counted::new(io::writer(&rt));
+    let mut writer = Counted::new(output);
     let status = match words(&rt) {
         Ok(words) => command(alloc, words.as_slice(), &mut reader, &mut writer),
         Err(error) if error.kind() == ErrorKind::OutOfMemory => failed(
@@ -21,9 +28,12 @@ fn main(rt: HostRuntime) -> ExitCode {
         // A word that is no text says nothing.
         Err(_) => command(alloc, &[], &mut reader, &mut writer),
     };
-    ExitCode::from(status)
+    let mut output = writer.into_inner();
+    match output.flush() {
+        Ok(()) => ExitCode::from(status),
+        Err(_) => ExitCode::from(3),
+    }
 }
-
 // The words behind the program's name.
 fn words<R: Env + AllocGlobal>(rt: &R) -> io::Result<Vec<String>> {
     let mut words = Vec::new(rt.alloc());

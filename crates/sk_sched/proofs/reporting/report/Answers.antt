@@ -4,8 +4,8 @@ use Rattle.sk_sched.specs.State.{setting_of, now_of}
 use Rattle.sk_sched.proofs.Underway.{begins_text, ends_text, goes_text, fewer}
 use Rattle.sk_sched.proofs.reporting.report.Goals as goal
 
-pub returns-in_default-send-clause-report : goal.returns-in_default-send-clause-report
-returns-in_default-send-clause-report g c =
+pub returns-in_default-clause-report : goal.returns-in_default-clause-report
+returns-in_default-clause-report g c =
     begins_text (report_of (setting_of c.args.machine)) (setting_of c.loop-turn.machine) (now_of c.loop-turn.machine) _ _ _ c.in-Ok.turn c.as_bytes.result.now
     c.loop-turn.invariant.underway c.in-Ok.ensures.turn (c.as_bytes.ensures.value ∙ c.deref.ensures.0 ∙ c.turn_line-line.ensures.text) c.send.ensures.front
 
