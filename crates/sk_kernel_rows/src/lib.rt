@@ -11,6 +11,8 @@ mod given;
 #[cfg(test)]
 mod group_rows;
 #[cfg(test)]
+mod line_rows;
+#[cfg(test)]
 mod orphan_rows;
 #[cfg(test)]
 mod play;

@@ -14,3 +14,5 @@ mod command_rows;
 mod eval_rows;
 #[cfg(test)]
 mod failing_ends;
+#[cfg(test)]
+mod report_rows;

@@ -11,11 +11,17 @@ use std::{env, io};
 /// How many bytes are gathered before they are written.
 const BLOCK: usize = 65_536;
 
+const FAILED: u8 = 3;
+
 fn main(rt: HostRuntime) -> ExitCode {
     let alloc = rt.alloc();
-    let Ok(output) = BufWriter::with_capacity(alloc, BLOCK, io::writer(&rt)) else {
-        let mut writer = Counted::new(io::writer(&rt));
-        return ExitCode::from(failed(&mut writer, CommandFault::Memory));
+    let output = match BufWriter::with_capacity(alloc, BLOCK, io::writer(&rt)) {
+        Ok(output) => output,
+        Err(error) if error.kind() == ErrorKind::OutOfMemory => {
+            let mut writer = Counted::new(io::writer(&rt));
+            return ExitCode::from(failed(&mut writer, CommandFault::Memory));
+        }
+        Err(_) => return ExitCode::from(FAILED),
     };
     let mut reader = Counted::new(rt.reader());
     let mut writer = Counted::new(output);
@@ -31,9 +37,10 @@ fn main(rt: HostRuntime) -> ExitCode {
     let mut output = writer.into_inner();
     match output.flush() {
         Ok(()) => ExitCode::from(status),
-        Err(_) => ExitCode::from(3),
+        Err(_) => ExitCode::from(FAILED),
     }
 }
+
 // The words behind the program's name.
 fn words<R: Env + AllocGlobal>(rt: &R) -> io::Result<Vec<String>> {
     let mut words = Vec::new(rt.alloc());
