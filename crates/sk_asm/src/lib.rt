@@ -16,6 +16,3 @@ pub use examples::{example_faults, example_texts};
 pub use fault::AsmFault;
 pub use passes::{assemble, assemble_block};
 pub use shape::Shape;
-
-#[cfg(test)]
-mod tests;

@@ -4,6 +4,3 @@
 mod syscall;
 
 pub use syscall::Syscall;
-
-#[cfg(test)]
-mod tests;

@@ -6,8 +6,6 @@ mod fault;
 pub mod laws;
 mod pass;
 mod places;
-#[cfg(test)]
-mod tests;
 mod words;
 
 pub use checked::{Checked, check};

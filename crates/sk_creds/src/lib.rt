@@ -8,6 +8,3 @@ pub mod laws;
 
 pub use creds::{Creds, NO_ID};
 pub use errno::Errno;
-
-#[cfg(test)]
-mod tests;

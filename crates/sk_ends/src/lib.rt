@@ -10,6 +10,3 @@ mod source;
 pub use counted::Counted;
 pub use sink::{Sink, WriteFault, send};
 pub use source::{ReadFault, Source, take_up_to};
-
-#[cfg(test)]
-mod tests;

@@ -6,6 +6,3 @@ mod uses;
 
 pub use index::Index;
 pub use uses::Uses;
-
-#[cfg(test)]
-mod tests;

@@ -12,6 +12,3 @@ pub use image::{ImageFault, MOST_INSNS, NoImage, read_image, read_insns, write_i
 pub use insn::Insn;
 pub use operation::{Arithmetic, Comparison, Operand, Operation, Register, decode};
 pub use record::{ARCHITECTURE, RECORD_LEN, Record};
-
-#[cfg(test)]
-mod tests;

@@ -4,8 +4,6 @@
 mod interpreter;
 pub mod laws;
 mod machine;
-#[cfg(test)]
-mod tests;
 mod together;
 mod walker;
 

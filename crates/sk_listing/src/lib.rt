@@ -6,6 +6,3 @@ mod line;
 mod listing;
 
 pub use listing::list;
-
-#[cfg(test)]
-mod tests;

@@ -12,6 +12,3 @@ pub use event::{Event, Need};
 pub use images::{Images, Mark};
 pub use operation::{PrctlOption, SeccompOperation};
 pub use sk_calls::Syscall;
-
-#[cfg(test)]
-mod tests;

@@ -4,6 +4,3 @@
 mod row;
 
 pub use row::{PAIRS, PairRow};
-
-#[cfg(test)]
-mod tests;

@@ -16,8 +16,3 @@ pub use fault::ScenarioFault;
 pub use reader::read;
 pub use scenario::{Program, Scenario};
 pub use sk_setting::ScriptCall;
-
-#[cfg(test)]
-mod rows;
-#[cfg(test)]
-mod tests;

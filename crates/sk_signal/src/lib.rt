@@ -11,6 +11,3 @@ mod state;
 pub use disposition::{DefaultAction, Disposition, default_action, tty_stop};
 pub use set::SigSet;
 pub use state::{FRAMES, SigState};
-
-#[cfg(test)]
-mod tests;

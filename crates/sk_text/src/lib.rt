@@ -15,6 +15,3 @@ pub use hexadecimal::{HexFault, bytes_of, bytes_of_text};
 pub use lines::{Lines, Words, cut, is_passed_over, is_printable};
 pub use numbers::{is_number, number_up_to};
 pub use words::{four_words, is_name, is_word, no_word, one_word, three_words, two_words};
-
-#[cfg(test)]
-mod tests;

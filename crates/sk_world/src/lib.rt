@@ -20,6 +20,3 @@ pub use sending::send;
 pub use store::ProcStore;
 pub use subreapers::reaper;
 pub use waiting::{ready, reap, wait_poll};
-
-#[cfg(test)]
-mod tests;

@@ -1,4 +1,4 @@
-use crate::{
+use sk_insn::{
     Action, Arithmetic, Comparison, ImageFault, Insn, NoImage, Operand, Operation, Record,
     Register, decode, read_image, read_insns, write_insns,
 };

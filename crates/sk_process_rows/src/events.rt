@@ -1,4 +1,4 @@
-use crate::{Event, PrctlOption, Reason, SeccompOperation};
+use sk_machine::{Event, PrctlOption, Reason, SeccompOperation};
 
 #[test]
 fn each_event_has_its_process(rt: HostRuntime) {

@@ -1,4 +1,4 @@
-use crate::PairRow;
+use sk_pairs::PairRow;
 use std::test::Fail;
 
 #[test]

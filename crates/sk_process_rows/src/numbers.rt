@@ -1,4 +1,4 @@
-use crate::NumberSet;
+use sk_numbers::NumberSet;
 
 #[test]
 fn members_come_in_rising_order(rt: HostRuntime) {

@@ -1,9 +1,9 @@
-use crate::{Body, INIT, Life, Links, Note, Proc, WaitOptions, Waiting};
 use bitflags::Flags;
 use sk_chain::Chain;
 use sk_creds::Creds;
 use sk_signal::number::{SIGTERM, SIGUSR1};
 use sk_signal::{SigSet, SigState};
+use sk_world::{Body, INIT, Life, Links, Note, Proc, WaitOptions, Waiting};
 use std::test::Fail;
 
 /// A user's process in group and session 7, which has executed a program, blocks SIGUSR1, and has

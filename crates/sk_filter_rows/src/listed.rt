@@ -1,7 +1,7 @@
 //! Lines of each form, and texts that assemble to what they list.
-use super::*;
 use sk_asm::assemble;
 use sk_insn::Insn;
+use sk_listing::{laws, list};
 use std::test::Fail;
 
 fn insn(code: u16, jt: u8, jf: u8, k: u32) -> Insn {

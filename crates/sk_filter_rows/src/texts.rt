@@ -1,5 +1,9 @@
 //! Each public function at words and texts whose answers the grammar gives.
-use super::*;
+use sk_text::{
+    HexDigits, HexFault, Lines, Words, bytes_of, bytes_of_text, cut, four_words, hex_half,
+    hex_word, is_name, is_number, is_passed_over, is_printable, is_word, no_word, number_up_to,
+    one_word, three_words, two_words,
+};
 use std::test::Fail;
 
 #[test]

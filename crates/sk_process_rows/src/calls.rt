@@ -1,4 +1,4 @@
-use crate::Syscall;
+use sk_calls::Syscall;
 
 #[test]
 fn calls_have_the_numbers_and_names_of_the_manual(rt: HostRuntime) {

@@ -1,5 +1,5 @@
 //! The worked scenarios, and what is read of each.
-use crate::{Program, Scenario, ScriptCall, read};
+use sk_scenario::{Program, Scenario, ScriptCall, read};
 use std::alloc::{AllocError, Global};
 use std::test::Fail;
 

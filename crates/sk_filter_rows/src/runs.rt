@@ -1,6 +1,6 @@
-use crate::{Ran, run, walk, walk_together};
 use sk_check::{Checked, check};
 use sk_insn::{Insn, Record};
+use sk_interp::{Ran, run, walk, walk_together};
 use std::alloc::Global;
 use std::test::Fail;
 

@@ -1,5 +1,5 @@
 //! Texts whose instructions or faults the grammar gives.
-use super::*;
+use sk_asm::{AsmFault, Shape, assemble, assemble_block, is_end};
 use sk_insn::Insn;
 use std::alloc::{AllocError, Global};
 use std::test::Fail;

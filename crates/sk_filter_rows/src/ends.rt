@@ -1,5 +1,5 @@
 //! Ends over memory that give or take a few bytes a call, and that fail at a call of their own.
-use super::*;
+use sk_ends::{Counted, ReadFault, Sink, Source, WriteFault, send, take_up_to};
 use std::cmp::min;
 use std::io;
 use std::io::{ErrorKind, Read, Write};

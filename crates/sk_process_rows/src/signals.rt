@@ -1,5 +1,5 @@
-use crate::number::{SIGCHLD, SIGCONT, SIGHUP, SIGKILL, SIGSYS, SIGTERM, SIGTSTP, SIGUSR1};
-use crate::{DefaultAction, Disposition, SigSet, SigState, default_action, tty_stop};
+use sk_signal::number::{SIGCHLD, SIGCONT, SIGHUP, SIGKILL, SIGSYS, SIGTERM, SIGTSTP, SIGUSR1};
+use sk_signal::{DefaultAction, Disposition, SigSet, SigState, default_action, tty_stop};
 
 fn handler() -> Disposition {
     Disposition::Handler {

@@ -1,4 +1,4 @@
-use crate::{CheckFault, check};
+use sk_check::{CheckFault, check};
 use sk_insn::Insn;
 use std::alloc::{AllocError, Global};
 use std::test::Fail;

@@ -1,4 +1,4 @@
-use crate::{Creds, Errno};
+use sk_creds::{Creds, Errno};
 
 fn ids(real: u32, effective: u32, saved: u32) -> Creds {
     Creds {

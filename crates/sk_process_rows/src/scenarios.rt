@@ -1,5 +1,5 @@
 //! Scenarios and what is read of them. The faults are those of the grammar, in the order of its rules.
-use crate::{ScenarioFault, read};
+use sk_scenario::{ScenarioFault, read};
 use std::alloc::{AllocError, Global};
 use std::test::Fail;
 

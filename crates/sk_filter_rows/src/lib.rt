@@ -1,0 +1,19 @@
+//! Each public function of the filter side at words, texts and filters whose answers the manuals give.
+#![tactic(auto)]
+
+#[cfg(test)]
+mod assembled;
+#[cfg(test)]
+mod chains;
+#[cfg(test)]
+mod checks;
+#[cfg(test)]
+mod ends;
+#[cfg(test)]
+mod instructions;
+#[cfg(test)]
+mod listed;
+#[cfg(test)]
+mod runs;
+#[cfg(test)]
+mod texts;
