@@ -54,11 +54,11 @@ none_pass p none (suc k) =
 -- ---- one word is written
 
 module _ (words : List ℕ) (n word : ℕ) (within : n / 64 < length words) where
-  has_bit-set_same : has_bit (set words (n / 64) word) n ≡ (bit_at word (n % 64) == 1)
+  pub has_bit-set_same : has_bit (set words (n / 64) word) n ≡ (bit_at word (n % 64) == 1)
   has_bit-set_same = ap (λ w. bit_at w (n % 64) == 1) (get_or-set_same words (n / 64) word 0 within)
 
   -- a word that keeps its other bits keeps the bit of each other number
-  has_bit-set_other : ((i : ℕ) → i < 64 → i ≢ n % 64 → bit_at word i ≡ bit_at (get_or words (n / 64) 0) i) → (q : ℕ) → q ≢ n → has_bit (set words (n / 64) word) q ≡ has_bit words q
+  pub has_bit-set_other : ((i : ℕ) → i < 64 → i ≢ n % 64 → bit_at word i ≡ bit_at (get_or words (n / 64) 0) i) → (q : ℕ) → q ≢ n → has_bit (set words (n / 64) word) q ≡ has_bit words q
   has_bit-set_other kept q differs =
       elim (cases_eq (q / 64) (n / 64)) [
         | inl same ↦ ap (λ x. x == 1) (rw (same, get_or-set_same words (n / 64) word 0 within) (kept (q % 64) (omega arith) (λ index. differs (omega arith))))

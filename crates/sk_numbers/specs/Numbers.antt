@@ -1,5 +1,5 @@
 -- Sets of numbers below 32768.
-use Rattle.std.specs.Prelude.{◌≡◌, ℕ, zero, suc, ◌/◌, ◌%◌, ◌<◌, ◌==◌, Bool, false, IsTrue, List, [], ◌∷◌, ◌++◌, filter, slice_index, Option, None, Some}
+use Rattle.std.specs.Prelude.{◌≡◌, ℕ, zero, suc, ◌/◌, ◌%◌, ◌<◌, ◌≤◌, ◌==◌, Bool, false, IsTrue, List, [], ◌∷◌, ◌++◌, filter, slice_index, Option, None, Some}
 use Rattle.std.specs.Int.{bit_at}
 use Rattle.std.specs.List.{list_any}
 
@@ -17,6 +17,12 @@ abbrev pub IsLeastAbove : (ℕ → Bool) → ℕ → Option ℕ → Type 0
 IsLeastAbove test after None = (n : ℕ) → after < n → test n ≡ false
 IsLeastAbove test after (Some least) =
     (after < least) × IsTrue (test least) × ((n : ℕ) → after < n → n < least → test n ≡ false)
+
+-- the least number not below this one that passes the test, or that there is none
+abbrev pub IsLeastFrom : (ℕ → Bool) → ℕ → Option ℕ → Type 0
+IsLeastFrom test start None = (n : ℕ) → start ≤ n → test n ≡ false
+IsLeastFrom test start (Some least) =
+    (start ≤ least) × IsTrue (test least) × ((n : ℕ) → start ≤ n → n < least → test n ≡ false)
 
 -- the least number that passes the test, or that there is none
 abbrev pub IsLeast : (ℕ → Bool) → Option ℕ → Type 0

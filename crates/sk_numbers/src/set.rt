@@ -1,6 +1,6 @@
-ghost use Rattle.std.specs.Prelude.{◌≡◌, ℕ, List, [], ◌+◌, ◌<◌, ◌≤◌, ◌==◌, ◌||◌, ◌&&◌, not, IfSome, IfNone};
+ghost use Rattle.std.specs.Prelude.{◌≡◌, ℕ, List, [], length, ◌+◌, ◌/◌, ◌^◌, ◌<◌, ◌≤◌, ◌==◌, ◌||◌, ◌&&◌, not, IfSome, IfNone};
 ghost use Rattle.std.specs.Int.{bit_at};
-ghost use Rattle.sk_numbers.specs.Numbers.{contains, IsLeast, IsLeastAbove};
+ghost use Rattle.sk_numbers.specs.Numbers.{contains, has_bit, IsLeast, IsLeastAbove, IsLeastFrom};
 
 use std::marker::Model;
 
@@ -10,18 +10,25 @@ pub const NUMBERS: u32 = 32768;
 // How many words there are, each with the bits of 64 numbers.
 const WORDS: usize = 512;
 
-/// A set of numbers below `NUMBERS`, in place: it takes no memory beside its own 4096 bytes.
+// How many words have the bits of all words.
+const GROUPS: usize = 8;
+
+/// A set of numbers below `NUMBERS`, in place: it takes no memory beside its own 4160 bytes. The next member is
+/// found in a few steps, however far it is.
 #[derive(Drop)]
 pub struct NumberSet {
     // Bit `n % 64` of `words[n / 64]` says whether the number `n` is a member.
     words: [u64; WORDS],
+    // Bit `i % 64` of `inhabited[i / 64]` says whether `words[i]` has a member.
+    inhabited: [u64; GROUPS],
 }
 
 /// The members, in rising order.
 impl Model for NumberSet {
-    ghost use Rattle.std.specs.Prelude.{◌≡◌, ℕ, List, length};
+    ghost use Rattle.std.specs.Prelude.{ℕ, List};
     ghost use Rattle.std.specs.Coded.{coded_list, coded_ℕ};
     ghost use Rattle.sk_numbers.specs.Numbers.{members_of};
+    ghost use Rattle.sk_numbers.specs.Summary.{IsSummed};
 
     ghost Value = { List ℕ };
 
@@ -29,7 +36,7 @@ impl Model for NumberSet {
 
     ghost view = { λ s. members_of s.words };
 
-    ghost invariant = { λ s. length s.words ≡ 512 };
+    ghost invariant = { λ s. IsSummed s.words s.inhabited };
 }
 
 impl NumberSet {
@@ -37,7 +44,10 @@ impl NumberSet {
     pub fn empty() -> NumberSet
         ensures { result ≡ [] }
     {
-        NumberSet { words: [0; WORDS] }
+        NumberSet {
+            words: [0; WORDS],
+            inhabited: [0; GROUPS],
+        }
     }
 
     /// Makes the number a member.
@@ -45,7 +55,9 @@ impl NumberSet {
         requires { number < NUMBERS }
         ensures { (n : ℕ) → contains self.new n ≡ ((n == number) || contains self.old n) }
     {
-        self.words[(number / 64) as usize] |= 1 << (number % 64);
+        let index = number / 64;
+        self.words[index as usize] |= 1 << (number % 64);
+        self.inhabited[(index / 64) as usize] |= 1 << (index % 64);
     }
 
     /// Takes the number out, if it is a member.
@@ -53,7 +65,11 @@ impl NumberSet {
         requires { number < NUMBERS }
         ensures { (n : ℕ) → contains self.new n ≡ (not (n == number) && contains self.old n) }
     {
-        self.words[(number / 64) as usize] &= !(1 << (number % 64));
+        let index = number / 64;
+        self.words[index as usize] &= !(1 << (number % 64));
+        if self.words[index as usize] == 0 {
+            self.inhabited[(index / 64) as usize] &= !(1 << (index % 64));
+        }
     }
 
     /// Whether the number is a member.
@@ -68,10 +84,7 @@ impl NumberSet {
         ensures least { IsLeast (contains self.now) result }
         ensures within { IfSome result (λ n. n < NUMBERS) }
     {
-        if self.contains(0) {
-            return Some(0);
-        }
-        self.next(0)
+        self.from(0)
     }
 
     /// The least member above `after`.
@@ -79,20 +92,40 @@ impl NumberSet {
         ensures next { IsLeastAbove (contains self.now) after result }
         ensures within { IfSome result (λ n. n < NUMBERS) }
     {
-        let words = &self.words;
-        if after >= NUMBERS - 1 {
-            return None;
-        }
-        let start = after + 1;
-        let mut bit = start % 64;
-        for index in start / 64..WORDS as u32 {
-            if let Some(found) = lowest_from(words[index as usize], bit) {
-                return Some(index * 64 + found);
-            }
-            bit = 0;
-        }
-        None
+        self.from(after.saturating_add(1))
     }
+
+    // The least member that is not below `start`.
+    fn from(&self, start: u32) -> Option<u32>
+        ensures least { IsLeastFrom (contains self.now) start result }
+        ensures within { IfSome result (λ n. n < NUMBERS) }
+    {
+        let index = start / 64;
+        let word = *self.words.get(index as usize)?;
+        if let Some(bit) = lowest_from(word, start % 64) {
+            return Some(index * 64 + bit);
+        }
+        let index = least_from(&self.inhabited, index + 1)?;
+        let bit = lowest_from(self.words[index as usize], 0)?;
+        Some(index * 64 + bit)
+    }
+}
+
+// The least bit of these words that is set and not below `start`.
+fn least_from(words: &[u64], start: u32) -> Option<u32>
+    requires long { length words.now ≡ 8 }
+    requires start { start ≤ 512 }
+    ensures least { IsLeastFrom (has_bit words.now) start result }
+    ensures within { IfSome result (λ n. n < 512) }
+{
+    let mut bit = start % 64;
+    for group in start / 64..8 {
+        if let Some(found) = lowest_from(words[group as usize], bit) {
+            return Some(group * 64 + found);
+        }
+        bit = 0;
+    }
+    None
 }
 
 // The lowest bit that is set, from `first` on.
@@ -100,6 +133,7 @@ fn lowest_from(word: u64, first: u32) -> Option<u32>
     requires { first < 64 }
     ensures found { IfSome result (λ bit. (first ≤ bit) × (bit < 64) × (bit_at word bit ≡ 1) × ((i : ℕ) → first ≤ i → i < bit → bit_at word i ≡ 0)) }
     ensures none { IfNone result ((i : ℕ) → first ≤ i → bit_at word i ≡ 0) }
+    ensures rest { IfNone result (word / 2 ^ first ≡ 0) }
 {
     let rest = word >> first;
     if rest == 0 {
