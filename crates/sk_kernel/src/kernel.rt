@@ -7,6 +7,7 @@ ghost use Rattle.sk_machine_laws.specs.RunLaws.{RunIsLawful};
 ghost use Rattle.sk_kernel.specs.State.{done_of};
 
 use crate::stepping;
+use sk_candidates::Candidates;
 use sk_machine::{Answer, Event, Images, Need};
 use sk_world::{Proc, ProcStore};
 use std::alloc::{AllocError, Global};
@@ -15,7 +16,7 @@ use std::marker::Model;
 /// A kernel: a store of processes, with the filters and programs that their calls name by numbers.
 #[derive(Drop)]
 pub struct Kernel<S: ProcStore> {
-    store: S,
+    store: Candidates<S>,
     images: Images,
     alloc: Global,
 }
@@ -35,9 +36,9 @@ impl<S: ProcStore> Model for Kernel<S> {
 
     ghost coded = { state_code };
 
-    ghost view = { λ kernel. record { images = kernel.images; world = S.contents kernel.store } };
+    ghost view = { λ kernel. record { images = kernel.images; world = kernel.store } };
 
-    ghost invariant = { λ kernel. IsWorld (S.contents kernel.store) × HasAccepted (S.contents kernel.store) };
+    ghost invariant = { λ kernel. IsWorld kernel.store × HasAccepted kernel.store };
 }
 
 impl<S: ProcStore> Kernel<S> {
@@ -46,7 +47,7 @@ impl<S: ProcStore> Kernel<S> {
         ensures opening { IfOk result (λ kernel. kernel ≡ record { images = images; world = opening }) }
     {
         Ok(Kernel {
-            store: S::new(alloc)?,
+            store: Candidates::new(alloc)?,
             images,
             alloc,
         })
@@ -124,7 +125,7 @@ impl<S: ProcStore> Kernel<S> {
     pub fn next_runnable(&self, after: u32) -> Option<u32>
         ensures { result ≡ next_of self.now.world after }
     {
-        sk_turns::next_runnable(&self.store, after)
+        self.store.next_runnable(after)
     }
 
     /// What the next event of a process that can run is.

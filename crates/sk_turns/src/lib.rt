@@ -1,9 +1,9 @@
-//! Whether an event is possible, which processes can run, what they need next, and whose turn it is, over any store.
-//! No call takes memory, and none changes anything. The definitions stand in `sk_machine`.
+//! Whether an event is possible, which processes can run, and what they need next, over any store. No call takes
+//! memory, and none changes anything. The definitions stand in `sk_machine`.
 #![tactic(auto)]
 
 mod reasons;
 mod turns;
 
 pub use reasons::{halted, reason, signal_due};
-pub use turns::{need, next_runnable, runnable};
+pub use turns::{need, runnable};

@@ -1,7 +1,6 @@
-ghost use Rattle.std.specs.Prelude.{◌≡◌, ◌&&◌, find, nat_lt};
-ghost use Rattle.sk_world.specs.Processes.{pids};
+ghost use Rattle.std.specs.Prelude.{◌≡◌};
 ghost use Rattle.sk_world.specs.Rules.{IsWorld};
-ghost use Rattle.sk_machine.specs.Turns.{wait_ends, is_runnable, need_of, next_of};
+ghost use Rattle.sk_machine.specs.Turns.{wait_ends, is_runnable, need_of};
 
 use crate::reasons::{halted, is_waiting, signal_for};
 use sk_machine::Need;
@@ -42,32 +41,6 @@ pub fn need<S: ProcStore>(store: &S, pid: u32) -> Need
     } else {
         Need::Call
     }
-}
-
-/// Whose turn is next, in round robin: the least pid above `last` of a process that can run, else the least of all.
-pub fn next_runnable<S: ProcStore>(store: &S, last: u32) -> Option<u32>
-    requires { IsWorld (S.contents store.now) }
-    ensures { result ≡ next_of (S.contents store.now) last }
-{
-    match first_runnable(store, last) {
-        Some(pid) => Some(pid),
-        None => first_runnable(store, 0),
-    }
-}
-
-/// The least pid above `after` of a process that can run.
-fn first_runnable<S: ProcStore>(store: &S, after: u32) -> Option<u32>
-    requires { IsWorld (S.contents store.now) }
-    ensures { result ≡ find (λ pid. nat_lt after pid && is_runnable (S.contents store.now) pid) (pids (S.contents store.now).procs) }
-{
-    let mut passed = after;
-    while let Some(pid) = store.next_pid(passed) {
-        if runnable(store, pid) {
-            return Some(pid);
-        }
-        passed = pid;
-    }
-    None
 }
 
 /// Whether the call that a process waits in would end now.

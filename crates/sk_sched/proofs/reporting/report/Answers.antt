@@ -1,8 +1,16 @@
-use Rattle.std.proofs.Common.{◌∙◌}
+use Rattle.std.proofs.Common.{◌∙◌, ap, refl, sym}
 use Rattle.sk_report.specs.Report.{report_of}
 use Rattle.sk_sched.specs.State.{setting_of, now_of}
-use Rattle.sk_sched.proofs.Underway.{begins_text, ends_text, goes_text, fewer}
+use Rattle.sk_sched.proofs.Underway.{start, begins_text, ends_text, goes_text, fewer}
 use Rattle.sk_sched.proofs.reporting.report.Goals as goal
+
+pub loop-turn-init : goal.loop-turn-init
+loop-turn-init g c = record {
+  underway = start (setting_of c.args.machine) (now_of c.args.machine) (g.W.Sink.contents c.args.writer.now) c.requires.opened;
+  same = refl;
+  done = sym (ap (λ s. s.used) c.requires.opened);
+  count = refl;
+}
 
 pub returns-in_default-clause-report : goal.returns-in_default-clause-report
 returns-in_default-clause-report g c =

@@ -17,9 +17,9 @@ loop-done-preserved g c =
 pub returns-in-Err-clause-lawful : goal.returns-in-Err-clause-lawful
 returns-in-Err-clause-lawful g c =
     subst (λ s. RunIsLawful s.images s.world (take c.loop-done.done c.args.events.now)) c.self.view_is
-    (runs_are_lawful c.self.inside.images (g.S.ProcStore.contents c.self.inside.store) (take c.loop-done.done c.args.events.now) c.self.invariant.0 c.self.invariant.1)
+    (runs_are_lawful c.self.inside.images c.self.inside.store (take c.loop-done.done c.args.events.now) c.self.invariant.0 c.self.invariant.1)
 
 pub returns-clause-lawful : goal.returns-clause-lawful
 returns-clause-lawful g c =
     subst (λ s. RunIsLawful s.images s.world c.args.events.now) c.self.view_is
-    (runs_are_lawful c.self.inside.images (g.S.ProcStore.contents c.self.inside.store) c.args.events.now c.self.invariant.0 c.self.invariant.1)
+    (runs_are_lawful c.self.inside.images c.self.inside.store c.args.events.now c.self.invariant.0 c.self.invariant.1)

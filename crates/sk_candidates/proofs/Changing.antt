@@ -1,0 +1,177 @@
+-- Who rests still, after a process was changed.
+use Rattle.std.proofs.Common.{◌≡◌, ◌≢◌, ◌∙◌, ◌≤◌, ℕ, arith, List, ap, sym, refl, subst, true, false, cond, ◌==◌, ◌&&◌, IsTrue, IsFalse, Option, None, Some}
+use Rattle.std.specs.Option.{is_some, option_map}
+use Rattle.std.proofs.lemmas.Bool.{false≢true, eqb-true, ne_eqb, and_parts}
+use Rattle.sk_world.specs.declared.process.Life.{Life}
+use Rattle.sk_world.specs.declared.process.Life.TheVariants.{Running, Stopped, Zombie}
+use Rattle.sk_world.specs.declared.process.Waiting.{Waiting}
+use Rattle.sk_world.specs.declared.process.Waiting.TheVariants as waiting
+use Rattle.sk_world.specs.declared.process.Body.{Body}
+use Rattle.sk_world.specs.declared.process.Links.{Links}
+use Rattle.sk_world.specs.declared.process.Proc.{Proc}
+use Rattle.sk_world.specs.declared.request.Request.{Request}
+use Rattle.sk_world.specs.declared.request.Who.{Who}
+use Rattle.sk_world.specs.declared.request.Who.TheVariants.{Child, Any, Group}
+use Rattle.sk_world.specs.World.{World, at, parent_of, stored, body_changed, links_changed, with_body, with_links, inserted}
+use Rattle.sk_world.specs.Waits.{is_asked_for, is_match, status_of}
+use Rattle.sk_world.proofs.Maps.{get_store}
+use Rattle.sk_world.proofs.Stored.{everywhere, at_here}
+use Rattle.sk_numbers.specs.Numbers.{contains}
+use Rattle.sk_world.specs.declared.process.TheConstants.{LAST_PID}
+use Rattle.sk_candidates.proofs.Idle.{unready_as}
+use Rattle.sk_candidates.specs.Noting.{AllRest, IsNoted}
+use Rattle.sk_candidates.specs.Resting.{has_tidings, is_news, IsStillAsking, KeepsWaiting, RestsBy, RestsAs, Rests}
+
+-- in another world, where it goes on asking whatever it asked
+module _ (w now : World) (pid : ℕ) (asks : (request : Request) → IsStillAsking w pid request → IsStillAsking now pid request) where
+  waits_on : (for : Waiting) → KeepsWaiting w pid for → KeepsWaiting now pid for
+  waits_on waiting.Nothing keeps = keeps
+  waits_on waiting.Pause keeps = keeps
+  waits_on (waiting.Asks request) keeps = asks request keeps
+
+  rests_by : (body : Body) (l : Life) → RestsBy w pid body l → RestsBy now pid body l
+  rests_by body (Zombie status) rests = rests
+  rests_by body Stopped rests = rests
+  rests_by body Running rests = (rests.0, waits_on body.waiting rests.1)
+
+  rests_on : (o : Option Proc) → RestsAs w pid o → RestsAs now pid o
+  rests_on None rests = tt
+  rests_on (Some p) rests = rests_by p.body p.body.life rests
+
+-- after the process of a pid became another, or went
+module _ (w : World) (pid : ℕ) (o : Option Proc) (q : ℕ) (none : IsFalse (is_news q o))
+    (keeps : (request : Request) → IsTrue (is_match q request pid (at w pid)) → IsTrue (is_match q request pid o)) where
+  asks_on : (request : Request) → IsStillAsking w q request → IsStillAsking (stored w pid o) q request
+  asks_on request asks =
+      let child = asks.matched.0 in
+      record {
+        matched = (
+          child,
+          subst (λ x. IsTrue (is_match q request child x)) (sym (get_store w.procs pid o child)) (
+              elim (child == pid) as (λ b. (child == pid) ≡ b → IsTrue (is_match q request child (cond b o (at w child)))) [
+                | true ↦ λ is.
+                    let same = eqb-true child pid is in
+                    subst (λ k. IsTrue (is_match q request k o)) (sym same) (keeps request (subst (λ k. IsTrue (is_match q request k (at w k))) same asks.matched.1))
+                | false ↦ λ _. asks.matched.1
+              ] refl),
+        );
+        unready = everywhere w pid o (λ k x. IsFalse (is_match q request k x && is_some (status_of request.options x))) (unready_as q request pid o none) (λ k ne. asks.unready k);
+      }
+
+  pub rests_stored : (q ≡ pid → RestsAs w q (at w q) → RestsAs w q o) → Rests w q → Rests (stored w pid o) q
+  rests_stored own rests =
+      rests_on w (stored w pid o) q asks_on (at (stored w pid o) q)
+      (subst (RestsAs w q) (sym (get_store w.procs pid o q)) (
+      elim (q == pid) as (λ b. (q == pid) ≡ b → RestsAs w q (cond b o (at w q))) [
+        | true ↦ λ is. own (eqb-true q pid is) rests
+        | false ↦ λ _. rests
+      ] refl))
+
+-- ---- the changes of a store
+
+same_asked : (who : Who) (pid : ℕ) (p : Proc) (body : Body) → is_asked_for who pid p ≡ is_asked_for who pid (record p { body = body })
+same_asked (Child child) pid p body = refl
+same_asked Any pid p body = refl
+same_asked (Group group) pid p body = refl
+
+same_match : (q : ℕ) (request : Request) (pid : ℕ) (body : Body) (o : Option Proc) → IsTrue (is_match q request pid o) → IsTrue (is_match q request pid (option_map (body_changed (λ old. body)) o))
+same_match q request pid body None match = match
+same_match q request pid body (Some p) match = sym (ap (λ b. (p.links.parent == q) && b) (same_asked request.who pid p body)) ∙ match
+
+-- a body was lent
+pub rests_lent : (w : World) (pid : ℕ) (body : Body) (q : ℕ) → q ≢ pid → IsFalse (is_news q (at (with_body w pid body) pid)) → Rests w q → Rests (with_body w pid body) q
+rests_lent w pid body q other none rests =
+    rests_stored w pid (option_map (body_changed (λ old. body)) (at w pid)) q
+    (subst (λ x. IsFalse (is_news q x)) (at_here w pid (option_map (body_changed (λ old. body)) (at w pid))) none)
+    (λ request match. same_match q request pid body (at w pid) match)
+    (λ same _. absurd (other same))
+    rests
+
+no_child : (q : ℕ) (request : Request) (pid : ℕ) (o : Option Proc) → q ≢ parent_of o → IsTrue (is_match q request pid o) → ⊥
+no_child q request pid None other match = false≢true match
+no_child q request pid (Some p) other match = other (sym (eqb-true p.links.parent q (and_parts (p.links.parent == q) (is_asked_for request.who pid p) match).0))
+
+no_news : (q : ℕ) (o : Option Proc) → q ≢ parent_of o → IsFalse (is_news q o)
+no_news q None other = refl
+no_news q (Some p) other = ap (λ b. b && has_tidings p.body) (ne_eqb p.links.parent q (λ e. other (sym e)))
+
+-- links were changed
+pub rests_relinked : (w : World) (pid : ℕ) (links : Links) (q : ℕ) → q ≢ parent_of (at w pid) → q ≢ links.parent → Rests w q → Rests (with_links w pid links) q
+rests_relinked w pid links q old new rests =
+    rests_stored w pid (option_map (links_changed (λ old. links)) (at w pid)) q
+    (no_news_new (at w pid))
+    (λ request match. absurd (no_child q request pid (at w pid) old match))
+    (λ same rests. same_body (at w pid) (subst (λ k. RestsAs w q (at w k)) same rests))
+    rests
+  where
+    no_news_new : (o : Option Proc) → IsFalse (is_news q (option_map (links_changed (λ old. links)) o))
+    no_news_new None = refl
+    no_news_new (Some p) = ap (λ b. b && has_tidings p.body) (ne_eqb links.parent q (λ e. new (sym e)))
+
+    same_body : (o : Option Proc) → RestsAs w q o → RestsAs w q (option_map (links_changed (λ old. links)) o)
+    same_body None rests = rests
+    same_body (Some p) rests = rests
+
+-- a process came
+pub rests_inserted : (w : World) (pid : ℕ) (p : Proc) (q : ℕ) → at w pid ≡ None → q ≢ pid → q ≢ p.links.parent → Rests w q → Rests (inserted w pid p) q
+rests_inserted w pid p q free other parent rests =
+    rests_on (stored w pid (Some p)) (inserted w pid p) q (λ request asks. record { matched = asks.matched; unready = asks.unready }) (at (stored w pid (Some p)) q)
+    (rests_stored w pid (Some p) q
+    (no_news q (Some p) parent)
+    (λ request match. absurd (false≢true (subst (λ o. IsTrue (is_match q request pid o)) free match)))
+    (λ same _. absurd (other same))
+    rests)
+
+-- a process went
+pub rests_removed : (w : World) (pid q : ℕ) → q ≢ parent_of (at w pid) → Rests w q → Rests (stored w pid None) q
+rests_removed w pid q other rests =
+    rests_stored w pid None q refl (λ request match. absurd (no_child q request pid (at w pid) other match)) (λ _ _. tt) rests
+
+-- ---- what is noted, after a change
+
+nobody_stored : (w : World) (pid : ℕ) (o : Option Proc) → at w 0 ≡ None → (0 ≡ pid → o ≡ None) → at (stored w pid o) 0 ≡ None
+nobody_stored w pid o nobody here =
+    get_store w.procs pid o 0
+    ∙ elim (0 == pid) as (λ b. (0 == pid) ≡ b → cond b o (at w 0) ≡ None) [
+      | true ↦ λ is. here (eqb-true 0 pid is)
+      | false ↦ λ _. nobody
+    ] refl
+
+nobody_mapped : (w : World) (pid : ℕ) (f : Proc → Proc) → at w 0 ≡ None → 0 ≡ pid → option_map f (at w pid) ≡ None
+nobody_mapped w pid f nobody same = ap (λ k. option_map f (at w k)) (sym same) ∙ ap (option_map f) nobody
+
+-- who is not noted now is another, and was not noted before
+abbrev pub Notes : ℕ → List ℕ → List ℕ → Type 0
+Notes pid before now = (n : ℕ) → n ≤ LAST_PID → IsFalse (contains now n) → (n ≢ pid) × IsFalse (contains before n)
+
+-- the same of two
+abbrev pub NotesBoth : ℕ → ℕ → List ℕ → List ℕ → Type 0
+NotesBoth one other before now = (n : ℕ) → n ≤ LAST_PID → IsFalse (contains now n) → (n ≢ one) × (n ≢ other) × IsFalse (contains before n)
+
+module _ (w : World) (nobody : at w 0 ≡ None) (before : List ℕ) (all : AllRest w before) (first : List ℕ) where
+  pub noted_lent : (pid : ℕ) (body : Body) → Notes pid before first → IsNoted (with_body w pid body) first pid
+  noted_lent pid body notes = record {
+    nobody = nobody_stored w pid (option_map (body_changed (λ old. body)) (at w pid)) nobody (nobody_mapped w pid (body_changed (λ old. body)) nobody);
+    others = λ q within out none. let was = notes q within out in rests_lent w pid body q was.0 none (all q within was.1);
+  }
+
+  pub noted_removed : (pid touched : ℕ) → Notes (parent_of (at w pid)) before first → IsNoted (stored w pid None) first touched
+  noted_removed pid touched notes = record {
+    nobody = nobody_stored w pid None nobody (λ _. refl);
+    others = λ q within out _. let was = notes q within out in rests_removed w pid q was.0 (all q within was.1);
+  }
+
+  pub noted_relinked : (pid : ℕ) (links : Links) (touched : ℕ) → NotesBoth (parent_of (at w pid)) links.parent before first → IsNoted (with_links w pid links) first touched
+  noted_relinked pid links touched notes = record {
+    nobody = nobody_stored w pid (option_map (links_changed (λ old. links)) (at w pid)) nobody (nobody_mapped w pid (links_changed (λ old. links)) nobody);
+    others = λ q within out _. let was = notes q within out in rests_relinked w pid links q was.0 was.1 (all q within was.2);
+  }
+
+  pub noted_inserted : (pid : ℕ) (p : Proc) (touched : ℕ) → at w pid ≡ None → 2 ≤ pid → NotesBoth pid p.links.parent before first → IsNoted (inserted w pid p) first touched
+  noted_inserted pid p touched free given notes = record {
+    nobody = nobody_stored w pid (Some p) nobody (λ same. absurd (not_0 same));
+    others = λ q within out _. let was = notes q within out in rests_inserted w pid p q free was.0 was.1 (all q within was.2);
+  }
+    where
+      not_0 : 0 ≡ pid → ⊥
+      not_0 same = omega (arith, same, given)

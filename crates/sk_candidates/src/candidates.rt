@@ -1,0 +1,222 @@
+ghost use Rattle.std.specs.Prelude.{◌≡◌, ◌≢◌, ℕ, ◌≤◌, ◌&&◌, None, IsFalse, find, nat_lt};
+ghost use Rattle.sk_numbers.specs.Numbers.{contains};
+ghost use Rattle.sk_world.specs.declared.process.TheConstants.{LAST_PID};
+ghost use Rattle.sk_world.specs.Processes.{pids};
+ghost use Rattle.sk_world.specs.World.{at, parent_of};
+ghost use Rattle.sk_world.specs.Rules.{IsWorld};
+ghost use Rattle.sk_machine.specs.Turns.{is_runnable, next_of};
+ghost use Rattle.sk_candidates.specs.Noting.{AllRest, OthersRest, PassesOver};
+
+use crate::resting::{hearer, rests};
+use sk_numbers::NumberSet;
+use sk_turns::runnable;
+use sk_world::{Body, INIT, LAST_PID, Links, Proc, ProcStore};
+use std::alloc::{AllocError, Global};
+use std::marker::Model;
+
+/// A store over another one, which notes each process that a change may have made runnable. A process that is not noted
+/// cannot run. It takes no memory of its own.
+#[derive(Drop)]
+pub struct Candidates<S: ProcStore> {
+    store: S,
+    noted: NumberSet,
+    // Who is looked at again before the next change: the process that the last one was about. To its parent it may be
+    // news.
+    touched: u32,
+}
+
+/// The processes of the store below, with the last pid given.
+impl<S: ProcStore> Model for Candidates<S> {
+    ghost use Rattle.sk_world.specs.World.{World};
+    ghost use Rattle.sk_world.specs.views.WorldCode.{world_code};
+    ghost use Rattle.sk_candidates.specs.Noting.{IsNoted};
+
+    ghost Value = { World };
+
+    ghost coded = { world_code };
+
+    ghost view = { λ c. S.contents c.store };
+
+    ghost invariant = { λ c. IsNoted (S.contents c.store) c.noted c.touched };
+}
+
+/// Notes a process, if there can be one with this pid.
+fn note(noted: &mut NumberSet, pid: u32)
+    ensures { (n : ℕ) → n ≤ LAST_PID → IsFalse (contains noted.new n) → (n ≢ pid) × IsFalse (contains noted.old n) }
+{
+    if pid <= LAST_PID {
+        noted.insert(pid);
+    }
+}
+
+fn note_both(noted: &mut NumberSet, one: u32, other: u32)
+    ensures { (n : ℕ) → n ≤ LAST_PID → IsFalse (contains noted.new n) → (n ≢ one) × (n ≢ other) × IsFalse (contains noted.old n) }
+{
+    note(noted, one);
+    note(noted, other);
+}
+
+/// Notes the parent to whom the process has something to tell.
+fn announce<S: ProcStore>(store: &S, noted: &mut NumberSet, pid: u32)
+    requires { OthersRest (S.contents store.now) noted.old pid }
+    ensures { AllRest (S.contents store.now) noted.new }
+{
+    if let Some(parent) = hearer(store, pid) {
+        note(noted, parent);
+    }
+}
+
+/// Takes the note of a process off that cannot run.
+fn pass_over<S: ProcStore>(store: &S, noted: &mut NumberSet, pid: u32)
+    requires nobody { at (S.contents store.now) 0 ≡ None }
+    requires noted { AllRest (S.contents store.now) noted.old }
+    ensures { AllRest (S.contents store.now) noted.new }
+{
+    if pid <= LAST_PID && rests(store, pid) {
+        noted.remove(pid);
+    }
+}
+
+/// Looks at the process that the last change was about, but where the next one is about the same.
+fn settle<S: ProcStore>(store: &S, noted: &mut NumberSet, touched: u32, next: u32)
+    requires nobody { at (S.contents store.now) 0 ≡ None }
+    requires noted { OthersRest (S.contents store.now) noted.old touched }
+    ensures { AllRest (S.contents store.now) noted.new }
+{
+    announce(store, noted, touched);
+    if touched != next {
+        pass_over(store, noted, touched);
+    }
+}
+
+/// The parent of a process, 0 where the process is not there.
+fn parent_of<S: ProcStore>(store: &S, pid: u32) -> u32
+    ensures { result ≡ parent_of (at (S.contents store.now) pid) }
+{
+    match store.get(pid) {
+        Some(process) => process.links.parent,
+        None => 0,
+    }
+}
+
+impl<S: ProcStore> Candidates<S> {
+    /// Whose turn is next, in round robin: the least pid above `last` of a process that can run, else the least of all.
+    /// Only who is noted is asked.
+    pub fn next_runnable(&self, last: u32) -> Option<u32>
+        requires { IsWorld self.now }
+        ensures { result ≡ next_of self.now last }
+    {
+        match self.first_runnable(last) {
+            Some(pid) => Some(pid),
+            None => self.first_runnable(0),
+        }
+    }
+
+    /// The least pid above `after` of a process that can run.
+    fn first_runnable(&self, after: u32) -> Option<u32>
+        requires { IsWorld self.now }
+        ensures { result ≡ find (λ pid. nat_lt after pid && is_runnable self.now pid) (pids self.now.procs) }
+    {
+        let mut passed = after;
+        while let Some(pid) = self.next_candidate(passed) {
+            if runnable(&self.store, pid) {
+                return Some(pid);
+            }
+            passed = pid;
+        }
+        None
+    }
+
+    /// The next pid that has to be asked above `after`: that of one that is noted, or that has something to hear.
+    fn next_candidate(&self, after: u32) -> Option<u32>
+        requires { IsWorld self.now }
+        ensures { PassesOver (is_runnable self.now) after result }
+    {
+        let noted = self.noted.next(after);
+        match hearer(&self.store, self.touched) {
+            Some(parent) if parent > after => match noted {
+                Some(pid) if pid < parent => Some(pid),
+                _ => Some(parent),
+            },
+            _ => noted,
+        }
+    }
+}
+
+impl<S: ProcStore> ProcStore for Candidates<S> {
+    ghost contents = { λ world. world };
+
+    fn new(alloc: Global) -> Result<Self, AllocError> {
+        let mut noted = NumberSet::empty();
+        noted.insert(INIT);
+        Ok(Candidates {
+            store: S::new(alloc)?,
+            noted,
+            touched: INIT,
+        })
+    }
+
+    fn get(&self, pid: u32) -> Option<&Proc> {
+        self.store.get(pid)
+    }
+
+    fn body_mut(&mut self, pid: u32) -> Option<&mut Body> {
+        settle(&self.store, &mut self.noted, self.touched, pid);
+        note(&mut self.noted, pid);
+        self.touched = pid;
+        match self.store.body_mut(pid) {
+            Some(body) => Some(body),
+            None => None,
+        }
+    }
+
+    fn relink(&mut self, pid: u32, links: Links) -> bool {
+        settle(&self.store, &mut self.noted, self.touched, links.parent);
+        note_both(&mut self.noted, parent_of(&self.store, pid), links.parent);
+        self.touched = links.parent;
+        self.store.relink(pid, links)
+    }
+
+    fn insert(&mut self, pid: u32, proc: Proc) {
+        settle(&self.store, &mut self.noted, self.touched, pid);
+        note_both(&mut self.noted, pid, proc.links.parent);
+        self.touched = pid;
+        self.store.insert(pid, proc);
+    }
+
+    fn remove(&mut self, pid: u32) -> Option<Proc> {
+        let parent = parent_of(&self.store, pid);
+        settle(&self.store, &mut self.noted, self.touched, parent);
+        note(&mut self.noted, parent);
+        self.touched = parent;
+        self.store.remove(pid)
+    }
+
+    fn next_child(&self, parent: u32, after: u32) -> Option<u32> {
+        self.store.next_child(parent, after)
+    }
+
+    fn next_member(&self, group: u32, after: u32) -> Option<u32> {
+        self.store.next_member(group, after)
+    }
+
+    fn next_pid(&self, after: u32) -> Option<u32> {
+        self.store.next_pid(after)
+    }
+
+    fn used(&self, number: u32) -> bool {
+        self.store.used(number)
+    }
+
+    fn count(&self) -> usize {
+        self.store.count()
+    }
+
+    fn last(&self) -> u32 {
+        self.store.last()
+    }
+
+    fn fresh(&self) -> u32 {
+        self.store.fresh()
+    }
+}

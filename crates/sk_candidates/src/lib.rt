@@ -1,0 +1,8 @@
+//! A store of processes that knows whose turn may come: who is no candidate cannot run, and is not asked when the next
+//! turn is given.
+#![tactic(auto)]
+
+mod candidates;
+mod resting;
+
+pub use candidates::Candidates;

@@ -1,0 +1,112 @@
+ghost use Rattle.std.specs.Prelude.{◌≡◌, ℕ, None, Some, IsTrue};
+ghost use Rattle.std.specs.Option.{is_some};
+ghost use Rattle.sk_world.specs.World.{at};
+ghost use Rattle.sk_world.specs.Waits.{is_asked_for, status_of_note, status_of_body};
+ghost use Rattle.sk_candidates.specs.Resting.{has_tidings, is_news, Rests, KeepsWaiting, IsStillAsking};
+
+use bitflags::Flags;
+use sk_turns::signal_due;
+use sk_world::{Body, Life, Note, Proc, ProcStore, Request, WaitOptions, Waiting, Who};
+
+/// The parent to whom the process has something to tell.
+pub(crate) fn hearer<S: ProcStore>(store: &S, pid: u32) -> Option<u32>
+    ensures { (q : ℕ) → IsTrue (is_news q (at (S.contents store.now) pid)) → result ≡ Some q }
+{
+    let Some(process) = store.get(pid) else {
+        return None;
+    };
+    has_tidings(&process.body).then_some(process.links.parent)
+}
+
+/// Whether the process cannot run, and will not before it changes or a child of it does.
+pub(crate) fn rests<S: ProcStore>(store: &S, pid: u32) -> bool
+    requires nobody { at (S.contents store.now) 0 ≡ None }
+    ensures { IsTrue result → Rests (S.contents store.now) pid }
+{
+    let is_due = signal_due(store, pid).is_some();
+    let Some(process) = store.get(pid) else {
+        return true;
+    };
+    match process.body.life {
+        Life::Zombie(_) => true,
+        Life::Stopped => !is_due,
+        Life::Running => !is_due && keeps_waiting(store, pid, process.body.waiting),
+    }
+}
+
+/// Whether a process that waits for this goes on waiting until a child changes.
+fn keeps_waiting<S: ProcStore>(store: &S, pid: u32, waiting: Waiting) -> bool
+    requires nobody { at (S.contents store.now) 0 ≡ None }
+    ensures { IsTrue result → KeepsWaiting (S.contents store.now) pid waiting }
+{
+    match waiting {
+        Waiting::Nothing => false,
+        Waiting::Pause => true,
+        Waiting::Asks(request) => is_still_asking(store, pid, request),
+    }
+}
+
+/// Whether a child matches the request, and none that does has anything to tell.
+fn is_still_asking<S: ProcStore>(store: &S, pid: u32, request: Request) -> bool
+    requires nobody { at (S.contents store.now) 0 ≡ None }
+    ensures { IsTrue result → IsStillAsking (S.contents store.now) pid request }
+{
+    let mut is_matched = false;
+    let mut after = 0;
+    while let Some(child) = store.next_child(pid, after) {
+        let Some(process) = store.get(child) else {
+            return false;
+        };
+        if is_asked_for(request.who, child, process) {
+            if has_status(request.options, &process.body) {
+                return false;
+            }
+            is_matched = true;
+        }
+        after = child;
+    }
+    is_matched
+}
+
+fn is_asked_for(who: Who, pid: u32, process: &Proc) -> bool
+    ensures { result ≡ is_asked_for who pid process.now }
+{
+    match who {
+        Who::Child(child) => pid == child,
+        Who::Any => true,
+        Who::Group(group) => process.links.group == group,
+    }
+}
+
+/// Whether a wait4(2) with these options is told of a process with this body.
+fn has_status(options: WaitOptions, body: &Body) -> bool
+    ensures { result ≡ is_some (status_of_body options body.now.note body.now.life) }
+{
+    match body.life {
+        Life::Zombie(_) => true,
+        Life::Stopped => has_status_of_note(options, body.note),
+        Life::Running => has_status_of_note(options, body.note),
+    }
+}
+
+fn has_status_of_note(options: WaitOptions, note: Note) -> bool
+    ensures { result ≡ is_some (status_of_note options note) }
+{
+    match note {
+        Note::Nothing => false,
+        Note::Stopped(_) => options.contains(WaitOptions::WUNTRACED),
+        Note::Continued => options.contains(WaitOptions::WCONTINUED),
+    }
+}
+
+/// Whether there is something to tell of the process: it has ended, or a stop or a continuation of it is untold.
+fn has_tidings(body: &Body) -> bool
+    ensures { result ≡ has_tidings body.now }
+{
+    let is_untold = match body.note {
+        Note::Nothing => false,
+        Note::Stopped(_) => true,
+        Note::Continued => true,
+    };
+    matches!(body.life, Life::Zombie(_)) || is_untold
+}
