@@ -1,7 +1,8 @@
 ghost use Rattle.std.specs.Prelude.{◌≡◌, ◌<◌, ◌≤◌, length, IfNone, IfSome};
 ghost use Rattle.sk_insn.specs.Operations.{operation_of};
 ghost use Rattle.sk_check.specs.Valid.{IsFirstFault};
-ghost use Rattle.sk_check.specs.Places.{fault_of, NoFaultBefore};
+ghost use Rattle.sk_check.specs.Places.{fault_of};
+ghost use Rattle.sk_check.specs.Fits.{NoFaultBefore};
 
 use crate::CheckFault;
 use crate::words::WORDS;

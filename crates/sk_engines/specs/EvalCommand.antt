@@ -9,7 +9,7 @@ use Rattle.sk_insn.specs.Instructions.{image_instructions}
 use Rattle.sk_check.specs.declared.fault.CheckFault.{CheckFault}
 use Rattle.sk_check.specs.FirstFault.{first_fault}
 use Rattle.sk_interp.specs.Meaning.{Meaning, Returned, Stuck, meaning_of}
-use Rattle.sk_chain.specs.Chains.{cost_of}
+use Rattle.sk_chain.specs.Chains.{path_limit, cost_of}
 use Rattle.sk_chain.specs.Verdict.{verdict_of}
 use Rattle.sk_text.specs.Hexadecimal.{hex_word}
 use Rattle.sk_text.specs.Lines.{lines_of}
@@ -25,7 +25,7 @@ use Rattle.sk_engines.specs.EvalInput.{nothing_yet, gathered}
 abbrev pub program_attached : List (List Insn) → List Insn → Option CheckFault → Result (List (List Insn)) Refusal
 program_attached chain program (Some fault) = Err (Program fault)
 program_attached chain program None =
-    if nat_lt 32768 (length program + cost_of chain) then Err PathLimit else Ok (program ∷ chain)
+    if nat_lt path_limit (length program + cost_of chain) then Err PathLimit else Ok (program ∷ chain)
 
 -- an image on top of a chain
 abbrev pub image_attached : List (List Insn) → Result (List Insn) NoImage → Result (List (List Insn)) Refusal
