@@ -3,9 +3,9 @@ ghost use Rattle.std.specs.Prelude.{Err, ◌≡◌, ◌≢◌, ◌+◌, ◌-◌,
 ghost use Rattle.sk_asm.specs.Assembly.{Assembles, AssemblesText, Finds};
 ghost use Rattle.sk_asm.specs.Block.{lines_in, until_end};
 ghost use Rattle.sk_insn.specs.declared.insn.Insn.{Insn};
-ghost use Rattle.sk_asm.specs.Faults.{Answers, IsFaultOf};
+ghost use Rattle.sk_asm.specs.Faults.{Answers, IsAsmFault};
 ghost use Rattle.sk_asm.specs.LineFaults.{IsFirstTextFault};
-ghost use Rattle.sk_asm.specs.Labels.{Labels as Places, place_of};
+ghost use Rattle.sk_asm.specs.Labels.{Labels as Places, label_place};
 ghost use Rattle.sk_asm.specs.Passes.{noted, counted, marked, labelled, landed, distance, resolved, emitted, assembled, assembled_lines, in_front};
 ghost use Rattle.sk_asm.specs.Views.{destination, statement, labels_in};
 ghost use Rattle.sk_text.specs.Lines.{lines_of};
@@ -98,7 +98,7 @@ fn note<'a>(
 ) -> Result<usize, AsmFault>
     ensures exact { MatchResult result
         (λ next. noted n (labels_in labels.old) at (statement parsed.entry) ≡ Ok (labels_in labels.new, next))
-        (λ fault. IsFaultOf fault (noted n (labels_in labels.old) at (statement parsed.entry))) }
+        (λ fault. IsAsmFault fault (noted n (labels_in labels.old) at (statement parsed.entry))) }
 {
     match parsed {
         Parsed::Silent => Ok(at),
@@ -122,7 +122,7 @@ fn count(n: usize, at: usize) -> Result<usize, AsmFault>
 fn mark<'a>(labels: &mut Labels<'a>, n: usize, at: usize, name: &'a [u8]) -> Result<usize, AsmFault>
     ensures exact { MatchResult result
         (λ next. marked n (labels_in labels.old) at name.now ≡ Ok (labels_in labels.new, next))
-        (λ fault. IsFaultOf fault (marked n (labels_in labels.old) at name.now)) }
+        (λ fault. IsAsmFault fault (marked n (labels_in labels.old) at name.now)) }
 {
     if labels.contains_key(name) {
         return Err(AsmFault::Twice { n });
@@ -238,7 +238,7 @@ fn landing(
     most: usize,
     name: &[u8],
 ) -> Result<usize, AsmFault>
-    ensures exact { Answers (λ count. count) result (landed n at most (place_of (labels_in labels.now) name.now)) }
+    ensures exact { Answers (λ count. count) result (landed n at most (label_place (labels_in labels.now) name.now)) }
     ensures bound { IfOk result (λ count. count ≤ most) }
 {
     match place(labels, name) {
@@ -250,7 +250,7 @@ fn landing(
 }
 
 fn place(labels: &Labels<'_>, name: &[u8]) -> Option<usize>
-    ensures place { result ≡ place_of (labels_in labels.now) name.now }
+    ensures place { result ≡ label_place (labels_in labels.now) name.now }
 {
     labels.get(name).copied()
 }
