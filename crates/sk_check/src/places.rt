@@ -49,7 +49,7 @@ fn place_fault(insn: &Insn, at: usize, count: usize) -> Option<CheckFault>
         ),
         Some(_) => return None,
     };
-    if fits { None } else { Some(fault) }
+    (!fits).then_some(fault)
 }
 
 /// The fault of a program whose last instruction is no return.

@@ -57,10 +57,8 @@ fn input<R: Source>(alloc: Global, reader: &mut R) -> Result<Vec<u8>, CommandFau
     ensures reads { CountsReads result (R.failed reader.old) (R.failed reader.new) }
     ensures no_write { result ≢ Err CommandFault.Write }
 {
-    match take_up_to(alloc, reader, MOST_BYTES + 1) {
-        Ok(bytes) => Ok(bytes),
-        Err(fault) => Err(CommandFault::from(fault)),
-    }
+    let bytes = take_up_to(alloc, reader, MOST_BYTES + 1)?;
+    Ok(bytes)
 }
 
 /// Sends the answer's text, and tells its status.
@@ -71,8 +69,6 @@ fn deliver<W: Sink>(writer: &mut W, reply: &Reply) -> Result<u8, CommandFault>
     ensures no_read { result ≢ Err CommandFault.Read }
     ensures no_memory { result ≢ Err CommandFault.Memory }
 {
-    match send(writer, reply.text().as_bytes()) {
-        Ok(()) => Ok(reply.status()),
-        Err(fault) => Err(CommandFault::from(fault)),
-    }
+    send(writer, reply.text().as_bytes())?;
+    Ok(reply.status())
 }
