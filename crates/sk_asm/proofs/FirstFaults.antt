@@ -1,5 +1,5 @@
 -- The fault that the two passes find is the first fault of the lines, and where they find none there is none.
-use Rattle.std.proofs.Common.{◌≡◌, ◌≤◌, ◌<◌, ◌+◌, ◌-◌, ◌^◌, ◌⊎◌, ◌∙◌, ap, arith, refl, sym, subst, ℕ, suc, List, [], ◌∷◌, ◌++◌, Option, Some, None, is_some, Result, Ok, Err, true, false, length, append-nil, append_assoc, inl, inr}
+use Rattle.std.proofs.Common.{◌≡◌, ◌≤◌, ◌<◌, ◌+◌, ◌-◌, ◌^◌, ◌⊎◌, ◌∙◌, ap, arith, refl, sym, subst, ℕ, List, [], ◌∷◌, ◌++◌, Option, Some, None, is_some, Result, Ok, Err, true, false, length, append-nil, append_assoc, inl, inr}
 use Rattle.std.specs.Prelude.{◌≢◌, IsTrue, IfErr}
 use Rattle.std.proofs.lemmas.Bool.{cases_Bool, cases_lt, lt-ltb, le-ltb, le-leb, lt-leb}
 use Rattle.std.proofs.lemmas.List.{length-append}
@@ -12,9 +12,9 @@ use Rattle.sk_asm.specs.declared.fault.AsmFault.TheVariants.{Line, Label, Twice,
 use Rattle.sk_asm.specs.Assembly.{SaysLine}
 use Rattle.sk_asm.specs.Faults.{◌>>=◌, Answers}
 use Rattle.sk_asm.specs.Grammar.{Destination, Further, Labelled, Statement, Silent, Marks, Plain, Jumps, Branches, insn, statement_of}
-use Rattle.sk_asm.specs.Labels.{Labels, place_of}
-use Rattle.sk_asm.specs.LineFaults.{said, size, given_at, destinations, instructions_said, labels_said, HasJumpFault, FirstJumpFault, AtLine, HasJumpFaultAt, HasFault, stage_of, line_of, GoesBefore, IsFirstFault, IsFirstTextFault}
-use Rattle.sk_asm.specs.Passes.{understood, checked, counted, marked, noted, labelled, landed, distance, resolved, in_front, emitted, assembled_lines, assembled}
+use Rattle.sk_asm.specs.Labels.{Labels, label_place}
+use Rattle.sk_asm.specs.LineFaults.{said, size, given_at, destinations, instructions_said, labels_said, HasJumpFault, FirstJumpFault, AtLine, HasJumpFaultAt, HasFault, stage_of, line_of, IsFirstFault, IsFirstTextFault}
+use Rattle.sk_asm.specs.Passes.{understood, checked, counted, noted, labelled, landed, distance, resolved, in_front, emitted, assembled_lines, assembled}
 use Rattle.sk_asm.proofs.Meaning.{ok_is, bind_ok, checked-ok, checked-says, distance-ok, counted-ok, marked-ok}
 
 -- ---- steps
@@ -65,12 +65,12 @@ counted-err n labels at f h = elim (cases_lt at 4096) [
 abbrev Unnoted : ℕ → Labels → ℕ → Statement → AsmFault → Type 0
 Unnoted n labels at s f =
     ((f ≡ TooLong n) × (size (Some s) ≡ 1) × (4096 ≤ at))
-    ⊎ ((f ≡ Twice n) × ((name : List ℕ) × (s ≡ Marks name) × IsTrue (is_some (place_of labels name))))
+    ⊎ ((f ≡ Twice n) × ((name : List ℕ) × (s ≡ Marks name) × IsTrue (is_some (label_place labels name))))
 
 noted-err : (n : ℕ) (labels : Labels) (at : ℕ) (s : Statement) (f : AsmFault) → noted n labels at s ≡ Err f → Unnoted n labels at s f
 unfolding noted
 noted-err n labels at Silent f h = cc
-noted-err n labels at (Marks name) f h = elim (cases_Bool (is_some (place_of labels name))) [
+noted-err n labels at (Marks name) f h = elim (cases_Bool (is_some (label_place labels name))) [
   | inl t ↦ inr (sym (err_is (Twice n) f (rw t at h)), (name, refl, t))
   | inr b ↦ let e = rw b at h in cc
 ]
@@ -101,13 +101,13 @@ noted-room n labels at (Plain given) next h one = (counted-ok n labels at next h
 noted-room n labels at (Jumps code to) next h one = (counted-ok n labels at next h).0
 noted-room n labels at (Branches code k jt jf) next h one = (counted-ok n labels at next h).0
 
-noted-new : (n : ℕ) (labels : Labels) (at : ℕ) (name : List ℕ) (next : Labels × ℕ) → noted n labels at (Marks name) ≡ Ok next → place_of labels name ≡ None
+noted-new : (n : ℕ) (labels : Labels) (at : ℕ) (name : List ℕ) (next : Labels × ℕ) → noted n labels at (Marks name) ≡ Ok next → label_place labels name ≡ None
 unfolding noted
 noted-new n labels at name next h = (marked-ok n labels at name next h).0
 
 -- ---- jumps
 
-landed-err : (labels : Labels) (name : List ℕ) (n at most : ℕ) (o : Option ℕ) (f : AsmFault) → place_of labels name ≡ o → landed n at most o ≡ Err f
+landed-err : (labels : Labels) (name : List ℕ) (n at most : ℕ) (o : Option ℕ) (f : AsmFault) → label_place labels name ≡ o → landed n at most o ≡ Err f
     → HasJumpFault labels n at most (Labelled name) f
 landed-err labels name n at most None f p h =
     subst (HasJumpFault labels n at most (Labelled name)) (err_is (Label n) f h) (refl, p)
@@ -130,7 +130,7 @@ landed-err labels name n at most (Some place) f p h = elim (cases_lt at place) [
 distance-err : (labels : Labels) (n at most : ℕ) (to : Destination) (f : AsmFault) → distance labels n at most to ≡ Err f → HasJumpFault labels n at most to f
 unfolding distance
 distance-err labels n at most (Further count) f h = cc
-distance-err labels n at most (Labelled name) f h = landed-err labels name n at most (place_of labels name) f refl h
+distance-err labels n at most (Labelled name) f h = landed-err labels name n at most (label_place labels name) f refl h
 
 some_is : (a b : ℕ) → ◌≡◌ {A = Option ℕ} (Some a) (Some b) → a ≡ b
 some_is a b h = cc
@@ -301,7 +301,7 @@ module _ (first : ℕ) (lines : List (List ℕ)) where
               omega (arith, room, most)
         ]
     taken s next says ok (Twice m) stage e h =
-        let again = only_here (λ before line. (name : List ℕ) × (said line ≡ Some (Marks name)) × IsTrue (is_some (place_of (labels_said 0 before) name))) m e h in
+        let again = only_here (λ before line. (name : List ℕ) × (said line ≡ Some (Marks name)) × IsTrue (is_some (label_place (labels_said 0 before) name))) m e h in
         let marks : s ≡ Marks again.0 = let a = said-says line s says in let b = again.1 in cc in
         let none = noted-new (first + length done) (labels_said 0 done) (instructions_said done) again.0 next
         (ap (noted (first + length done) (labels_said 0 done) (instructions_said done)) (sym marks) ∙ ok) in
@@ -336,7 +336,7 @@ module _ (first : ℕ) (lines : List (List ℕ)) where
           )
       | inr twice ↦
           subst (λ f. HasFault first lines f × (stage_of f ≡ 1) × (line_of f ≡ first + length done)) (sym twice.0) (
-            here (λ before line. (name : List ℕ) × (said line ≡ Some (Marks name)) × IsTrue (is_some (place_of (labels_said 0 before) name)))
+            here (λ before line. (name : List ℕ) × (said line ≡ Some (Marks name)) × IsTrue (is_some (label_place (labels_said 0 before) name)))
                 (twice.1.0, said-says line s says ∙ ap Some twice.1.1, twice.1.2),
             refl,
             refl,

@@ -4,7 +4,7 @@ use Rattle.std.proofs.lemmas.Bool.{cases_Bool}
 use Rattle.std.specs.Map.{lookup}
 use Rattle.std.specs.Str.{bytes_eq}
 use Rattle.indexmap.specs.IndexMap.{insert_entry}
-use Rattle.sk_asm.specs.Labels.{Labels, place_of}
+use Rattle.sk_asm.specs.Labels.{Labels, label_place}
 use Rattle.sk_asm.specs.Passes.{marked}
 use Rattle.sk_asm.specs.declared.fault.AsmFault.TheVariants.{Twice}
 
@@ -12,7 +12,7 @@ abbrev entries_in : List (Bor (List ℕ) × ℕ) → Labels
 entries_in entries = map (λ entry. (entry.0.now, entry.1)) entries
 
 -- a label is looked up by its bytes
-pub place_in_entries : (name : List ℕ) (entries : List (Bor (List ℕ) × ℕ)) → place_of (entries_in entries) name ≡ lookup (λ key. bytes_eq name key.now) entries
+pub place_in_entries : (name : List ℕ) (entries : List (Bor (List ℕ) × ℕ)) → label_place (entries_in entries) name ≡ lookup (λ key. bytes_eq name key.now) entries
 place_in_entries name [] = refl
 place_in_entries name (e ∷ entries) = ap (λ rest. cond (bytes_eq name e.0.now) (Some e.1) rest) (place_in_entries name entries)
 

@@ -8,7 +8,7 @@ use Rattle.sk_insn.specs.declared.insn.Insn.{Insn}
 use Rattle.sk_asm.specs.declared.fault.AsmFault.{AsmFault}
 use Rattle.sk_asm.specs.Faults.{◌>>=◌}
 use Rattle.sk_asm.specs.Grammar.{Destination, Further, Labelled, Statement, Silent, Marks, Plain, Jumps, Branches, insn, statement_of}
-use Rattle.sk_asm.specs.Labels.{Labels, place_of}
+use Rattle.sk_asm.specs.Labels.{Labels, label_place}
 use Rattle.sk_asm.specs.Passes.{understood, checked, counted, marked, noted, labelled, landed, distance, resolved, in_front, emitted, assembled_lines}
 use Rattle.sk_asm.specs.Assembly.{SaysLine, Says, labels_from, AreGivenOnce, IsDistance, IsJump, IsBranch, StandFor, Assembles}
 use Rattle.sk_asm.proofs.Distinct.{given_once-absent, given_once-push, given_once-none}
@@ -79,7 +79,7 @@ landed-is n at most count h =
 pub distance-ok : (labels : Labels) (n at most count : ℕ) (to : Destination) → distance labels n at most to ≡ Ok count → IsDistance labels at most count to
 unfolding distance
 distance-ok labels n at most count (Further given) h = sym (ok_is given count h)
-distance-ok labels n at most count (Labelled name) h = landed-ok n at most count (place_of labels name) h
+distance-ok labels n at most count (Labelled name) h = landed-ok n at most count (label_place labels name) h
 
 distance-is : (labels : Labels) (n at most count : ℕ) (to : Destination) → IsDistance labels at most count to → distance labels n at most to ≡ Ok count
 unfolding distance
@@ -115,10 +115,10 @@ is_some-none : {A : Type 0} (o : Option A) → is_some o ≡ false → o ≡ Non
 is_some-none None h = refl
 is_some-none (Some x) h = cc
 
-pub marked-ok : (n : ℕ) (labels : Labels) (at : ℕ) (name : List ℕ) (next : Labels × ℕ) → marked n labels at name ≡ Ok next → (place_of labels name ≡ None) × ((labels ++ (name, at) ∷ [], at) ≡ next)
-marked-ok n labels at name next h = elim (cases_Bool (is_some (place_of labels name))) [
+pub marked-ok : (n : ℕ) (labels : Labels) (at : ℕ) (name : List ℕ) (next : Labels × ℕ) → marked n labels at name ≡ Ok next → (label_place labels name ≡ None) × ((labels ++ (name, at) ∷ [], at) ≡ next)
+marked-ok n labels at name next h = elim (cases_Bool (is_some (label_place labels name))) [
   | inl t ↦ let e = rw t at h in cc
-  | inr f ↦ (is_some-none (place_of labels name) f, ok_is (labels ++ (name, at) ∷ [], at) next (rw f at h))
+  | inr f ↦ (is_some-none (label_place labels name) f, ok_is (labels ++ (name, at) ∷ [], at) next (rw f at h))
 ]
 
 -- the lines behind a line were scanned
@@ -239,7 +239,7 @@ module _ (n : ℕ) (labels : Labels) (at : ℕ) (line : List ℕ) (lines : List 
 counted-is : (n : ℕ) (labels : Labels) (at : ℕ) → at < 4096 → counted n labels at ≡ Ok (labels, at + 1)
 counted-is n labels at h = let t = lt-ltb at 4096 h in rw t refl
 
-marked-is : (n : ℕ) (labels : Labels) (at : ℕ) (name : List ℕ) → place_of labels name ≡ None → marked n labels at name ≡ Ok (labels ++ (name, at) ∷ [], at)
+marked-is : (n : ℕ) (labels : Labels) (at : ℕ) (name : List ℕ) → label_place labels name ≡ None → marked n labels at name ≡ Ok (labels ++ (name, at) ∷ [], at)
 marked-is n labels at name h = rw h refl
 
 labels-found : (n : ℕ) (labels : Labels) (at : ℕ) (lines : List (List ℕ)) (statements : List Statement) → Says lines statements → AreGivenOnce (labels ++ labels_from at statements) → at + count statements ≤ 4096

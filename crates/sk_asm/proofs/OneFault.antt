@@ -1,5 +1,5 @@
 -- Lines have at most one first fault.
-use Rattle.std.proofs.Common.{◌≡◌, ◌≤◌, ◌<◌, ◌+◌, ◌-◌, ◌⊎◌, ◌∙◌, ap, arith, refl, sym, subst, ℕ, List, [], ◌∷◌, ◌++◌, Option, Some, None, is_some, Result, Ok, Err, length, inl, inr}
+use Rattle.std.proofs.Common.{◌≡◌, ◌≤◌, ◌<◌, ◌-◌, ◌⊎◌, ◌∙◌, ap, arith, refl, sym, subst, ℕ, List, [], ◌∷◌, Some, None, is_some, Result, Ok, Err, length, inl, inr}
 use Rattle.std.specs.Prelude.{IsTrue}
 use Rattle.std.proofs.lemmas.Bool.{cases_lt, lt-ltb, le-leb, lt-leb}
 use Rattle.sk_insn.specs.declared.insn.Insn.{Insn}
@@ -7,14 +7,14 @@ use Rattle.sk_text.specs.Lines.{lines_of}
 use Rattle.sk_asm.specs.declared.fault.AsmFault.{AsmFault}
 use Rattle.sk_asm.specs.declared.fault.AsmFault.TheVariants.{Line, Label, Twice, Far, Back, TooLong, Memory}
 use Rattle.sk_asm.specs.Grammar.{Destination, Further, Labelled, Marks}
-use Rattle.sk_asm.specs.Labels.{Labels, place_of}
+use Rattle.sk_asm.specs.Labels.{Labels, label_place}
 use Rattle.sk_asm.specs.LineFaults.{said, size, destinations, instructions_said, labels_said, HasJumpFault, FirstJumpFault, AtLine, HasFault, stage_of, line_of, IsFirstFault, IsFirstTextFault}
-use Rattle.sk_asm.specs.Passes.{landed, assembled_lines, assembled}
-use Rattle.sk_asm.proofs.FirstFaults.{cut_once, err_is, passes_find_the_first, no_fault_where_assembled, first_of_a_text}
+use Rattle.sk_asm.specs.Passes.{landed, assembled_lines}
+use Rattle.sk_asm.proofs.FirstFaults.{cut_once, err_is, passes_find_the_first, no_fault_where_assembled}
 
 -- ---- faults of jumps
 
-landed-has : (labels : Labels) (n at most : ℕ) (name : List ℕ) (f : AsmFault) → HasJumpFault labels n at most (Labelled name) f → landed n at most (place_of labels name) ≡ Err f
+landed-has : (labels : Labels) (n at most : ℕ) (name : List ℕ) (f : AsmFault) → HasJumpFault labels n at most (Labelled name) f → landed n at most (label_place labels name) ≡ Err f
 landed-has labels n at most name (Label m) h = rw (h.1, h.0) refl
 landed-has labels n at most name (Back m) h = let t = le-leb h.1.0 at h.1.2 in rw (h.1.1, t, h.0) refl
 landed-has labels n at most name (Far m) h =
@@ -45,7 +45,7 @@ jumps_once labels n at (to ∷ others) f g h k = elim h [
 abbrev Behind : Labels → List (List ℕ) → List ℕ → AsmFault → Type 0
 Behind labels before line (Line n) = (length line ≤ 255) × (said line ≡ None)
 Behind labels before line (TooLong n) = (255 < length line) ⊎ ((size (said line) ≡ 1) × (4096 ≤ instructions_said before))
-Behind labels before line (Twice n) = (name : List ℕ) × (said line ≡ Some (Marks name)) × IsTrue (is_some (place_of (labels_said 0 before) name))
+Behind labels before line (Twice n) = (name : List ℕ) × (said line ≡ Some (Marks name)) × IsTrue (is_some (label_place (labels_said 0 before) name))
 Behind labels before line (Label n) = FirstJumpFault labels n (instructions_said before) (destinations (said line)) (Label n)
 Behind labels before line (Back n) = FirstJumpFault labels n (instructions_said before) (destinations (said line)) (Back n)
 Behind labels before line (Far n) = FirstJumpFault labels n (instructions_said before) (destinations (said line)) (Far n)

@@ -4,20 +4,20 @@ use Rattle.std.specs.Option.{option_len}
 use Rattle.sk_insn.specs.declared.insn.Insn.{Insn}
 use Rattle.sk_asm.specs.declared.fault.AsmFault.{AsmFault}
 use Rattle.sk_asm.specs.declared.fault.AsmFault.TheVariants.{Line, Label, Twice, Far, Back, TooLong, Memory}
-use Rattle.sk_asm.specs.Faults.{◌>>=◌, IsFaultOf}
+use Rattle.sk_asm.specs.Faults.{◌>>=◌, IsAsmFault}
 use Rattle.sk_asm.specs.Grammar.{Statement}
 use Rattle.sk_asm.specs.Labels.{Labels}
 use Rattle.sk_asm.specs.Passes.{checked, noted, labelled, resolved, emitted, in_front}
 
 -- a fault of a step is one of what goes on from it
-pub IsFaultOf-along : {X Y : Type 0} (fault : AsmFault) (first : Result X AsmFault) (whole : Result Y AsmFault) → (first ≡ Err fault → whole ≡ Err fault) → IsFaultOf fault first → IsFaultOf fault whole
-IsFaultOf-along (Line n) first whole on h = on h
-IsFaultOf-along (Label n) first whole on h = on h
-IsFaultOf-along (Twice n) first whole on h = on h
-IsFaultOf-along (Far n) first whole on h = on h
-IsFaultOf-along (Back n) first whole on h = on h
-IsFaultOf-along (TooLong n) first whole on h = on h
-IsFaultOf-along Memory first whole on h = tt
+pub IsAsmFault-along : {X Y : Type 0} (fault : AsmFault) (first : Result X AsmFault) (whole : Result Y AsmFault) → (first ≡ Err fault → whole ≡ Err fault) → IsAsmFault fault first → IsAsmFault fault whole
+IsAsmFault-along (Line n) first whole on h = on h
+IsAsmFault-along (Label n) first whole on h = on h
+IsAsmFault-along (Twice n) first whole on h = on h
+IsAsmFault-along (Far n) first whole on h = on h
+IsAsmFault-along (Back n) first whole on h = on h
+IsAsmFault-along (TooLong n) first whole on h = on h
+IsAsmFault-along Memory first whole on h = tt
 
 -- ---- the first pass
 
@@ -27,11 +27,11 @@ module _ (n : ℕ) (labels : Labels) (at : ℕ) (line : List ℕ) (lines rest : 
   unfolding labelled
   opened = sym so_far ∙ ap (labelled n labels at) cut
 
-  pub labelled-unchecked : (fault : AsmFault) → IsFaultOf fault (checked n line) → IsFaultOf fault total
-  labelled-unchecked fault h = IsFaultOf-along fault (checked n line) total (λ e. opened ∙ rw e refl) h
+  pub labelled-unchecked : (fault : AsmFault) → IsAsmFault fault (checked n line) → IsAsmFault fault total
+  labelled-unchecked fault h = IsAsmFault-along fault (checked n line) total (λ e. opened ∙ rw e refl) h
 
-  pub labelled-unnoted : (statement : Statement) (fault : AsmFault) → checked n line ≡ Ok statement → IsFaultOf fault (noted n labels at statement) → IsFaultOf fault total
-  labelled-unnoted statement fault c h = IsFaultOf-along fault (noted n labels at statement) total (λ e. opened ∙ rw (c, e) refl) h
+  pub labelled-unnoted : (statement : Statement) (fault : AsmFault) → checked n line ≡ Ok statement → IsAsmFault fault (noted n labels at statement) → IsAsmFault fault total
+  labelled-unnoted statement fault c h = IsAsmFault-along fault (noted n labels at statement) total (λ e. opened ∙ rw (c, e) refl) h
 
   pub labelled-turn : (statement : Statement) (after : Labels) (next : ℕ) → checked n line ≡ Ok statement → noted n labels at statement ≡ Ok (after, next) → labelled (n + 1) after next rest ≡ total
   labelled-turn statement after next c e = sym (opened ∙ rw (c, e) refl)
@@ -61,12 +61,12 @@ module _ (labels : Labels) (n at : ℕ) (front : List Insn) (line : List ℕ) (l
   unfolding emitted
   unrolled = sym so_far ∙ ap (λ l. after_front front (emitted labels n at l)) cut
 
-  pub emitted-unchecked : (fault : AsmFault) → IsFaultOf fault (checked n line) → IsFaultOf fault total
-  emitted-unchecked fault h = IsFaultOf-along fault (checked n line) total (λ e. unrolled ∙ rw e refl) h
+  pub emitted-unchecked : (fault : AsmFault) → IsAsmFault fault (checked n line) → IsAsmFault fault total
+  emitted-unchecked fault h = IsAsmFault-along fault (checked n line) total (λ e. unrolled ∙ rw e refl) h
 
-  pub emitted-unresolved : (statement : Statement) (here : ℕ) (fault : AsmFault) → checked n line ≡ Ok statement → here ≡ at → IsFaultOf fault (resolved labels n here statement) → IsFaultOf fault total
+  pub emitted-unresolved : (statement : Statement) (here : ℕ) (fault : AsmFault) → checked n line ≡ Ok statement → here ≡ at → IsAsmFault fault (resolved labels n here statement) → IsAsmFault fault total
   emitted-unresolved statement here fault c place h =
-      IsFaultOf-along fault (resolved labels n here statement) total (λ e. let r = ap (λ p. resolved labels n p statement) (sym place) ∙ e in unrolled ∙ rw (c, r) refl) h
+      IsAsmFault-along fault (resolved labels n here statement) total (λ e. let r = ap (λ p. resolved labels n p statement) (sym place) ∙ e in unrolled ∙ rw (c, r) refl) h
 
   pub emitted-turn : (statement : Statement) (here : ℕ) (given : Option Insn) (after : List Insn) → checked n line ≡ Ok statement → here ≡ at → resolved labels n here statement ≡ Ok given
       → length front ≡ at → after ≡ front ++ in_front given []

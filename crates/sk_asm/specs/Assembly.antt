@@ -8,7 +8,7 @@ use Rattle.sk_insn.specs.declared.insn.Insn.{Insn}
 use Rattle.sk_asm.specs.declared.fault.AsmFault.{AsmFault}
 use Rattle.sk_asm.specs.declared.fault.AsmFault.TheVariants.{Memory}
 use Rattle.sk_asm.specs.Grammar.{Destination, Further, Labelled, Statement, Silent, Marks, Plain, Jumps, Branches, insn, statement_of}
-use Rattle.sk_asm.specs.Labels.{Labels, place_of}
+use Rattle.sk_asm.specs.Labels.{Labels, label_place}
 
 -- a line of at most 255 printable bytes that says this
 pub record SaysLine (line : List ℕ) (statement : Statement) : Type 0 where
@@ -39,7 +39,7 @@ AreGivenOnce labels = IsDistinct bytes_eq (map (λ label. label.0) labels)
 -- so many instructions stand between the one at a place and the destination, which is not behind it
 abbrev pub IsDistance : Labels → ℕ → ℕ → ℕ → Destination → Type 0
 IsDistance labels at most count (Further given) = count ≡ given
-IsDistance labels at most count (Labelled name) = (place_of labels name ≡ Some (at + 1 + count)) × (count ≤ most)
+IsDistance labels at most count (Labelled name) = (label_place labels name ≡ Some (at + 1 + count)) × (count ≤ most)
 
 -- this is the jump of a code at a place
 abbrev pub IsJump : Labels → ℕ → ℕ → Destination → Insn → Type 0

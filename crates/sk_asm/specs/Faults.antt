@@ -10,11 +10,11 @@ abbrev pub ◌>>=◌ : {X Y : Type 0} → Result X AsmFault → (X → Result Y 
 (Err fault) >>= next = Err fault
 
 -- the fault is the given one; want of memory may come at any time
-abbrev pub IsFaultOf : {X : Type 0} → AsmFault → Result X AsmFault → Type 0
-IsFaultOf Memory given = Unit {0}
-IsFaultOf fault given = given ≡ Err fault
+abbrev pub IsAsmFault : {X : Type 0} → AsmFault → Result X AsmFault → Type 0
+IsAsmFault Memory given = Unit {0}
+IsAsmFault fault given = given ≡ Err fault
 
 -- an answer whose value, seen by view, is the given one, or whose fault is
 abbrev pub Answers : {X Y : Type 0} → (X → Y) → Result X AsmFault → Result Y AsmFault → Type 0
 Answers view (Ok value) given = given ≡ Ok (view value)
-Answers view (Err fault) given = IsFaultOf fault given
+Answers view (Err fault) given = IsAsmFault fault given

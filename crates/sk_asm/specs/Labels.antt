@@ -8,5 +8,5 @@ abbrev pub Labels : Type 0
 Labels = List (List ℕ × ℕ)
 
 -- the place of a label, if it is given
-abbrev pub place_of : Labels → List ℕ → Option ℕ
-place_of labels name = lookup (bytes_eq name) labels
+abbrev pub label_place : Labels → List ℕ → Option ℕ
+label_place labels name = lookup (bytes_eq name) labels

@@ -5,8 +5,8 @@ use Rattle.std.specs.List.{list_all}
 use Rattle.sk_text.specs.Lines.{lines_of, is_printable_byte}
 use Rattle.sk_asm.specs.declared.fault.AsmFault.{AsmFault}
 use Rattle.sk_asm.specs.declared.fault.AsmFault.TheVariants.{Line, Label, Twice, Far, Back, TooLong, Memory}
-use Rattle.sk_asm.specs.Grammar.{Destination, Further, Labelled, Statement, Silent, Marks, Plain, Jumps, Branches, statement_of}
-use Rattle.sk_asm.specs.Labels.{Labels, place_of}
+use Rattle.sk_asm.specs.Grammar.{Destination, Labelled, Statement, Marks, Plain, Jumps, Branches, statement_of}
+use Rattle.sk_asm.specs.Labels.{Labels, label_place}
 
 -- ---- what lines say
 
@@ -49,11 +49,11 @@ labels_said at (line ∷ lines) = given_at at (said line) ++ labels_said (at + s
 
 -- a jump of line n, from a place over so many instructions at most, has this fault
 abbrev pub HasJumpFault : Labels → ℕ → ℕ → ℕ → Destination → AsmFault → Type 0
-HasJumpFault labels n at most (Labelled name) (Label m) = (m ≡ n) × (place_of labels name ≡ None)
+HasJumpFault labels n at most (Labelled name) (Label m) = (m ≡ n) × (label_place labels name ≡ None)
 HasJumpFault labels n at most (Labelled name) (Back m) =
-    (m ≡ n) × ((place : ℕ) × (place_of labels name ≡ Some place) × (place ≤ at))
+    (m ≡ n) × ((place : ℕ) × (label_place labels name ≡ Some place) × (place ≤ at))
 HasJumpFault labels n at most (Labelled name) (Far m) =
-    (m ≡ n) × ((place : ℕ) × (place_of labels name ≡ Some place) × (at + 1 + most < place))
+    (m ≡ n) × ((place : ℕ) × (label_place labels name ≡ Some place) × (at + 1 + most < place))
 HasJumpFault labels n at most to fault = ⊥
 
 -- the first jump of a line that has a fault has this one
@@ -81,7 +81,7 @@ HasFault first lines (Line n) = AtLine first lines n (λ before line. (length li
 HasFault first lines (TooLong n) =
     AtLine first lines n (λ before line. (255 < length line) ⊎ ((size (said line) ≡ 1) × (4096 ≤ instructions_said before)))
 HasFault first lines (Twice n) =
-    AtLine first lines n (λ before line. (name : List ℕ) × (said line ≡ Some (Marks name)) × IsTrue (is_some (place_of (labels_said 0 before) name)))
+    AtLine first lines n (λ before line. (name : List ℕ) × (said line ≡ Some (Marks name)) × IsTrue (is_some (label_place (labels_said 0 before) name)))
 HasFault first lines (Label n) = HasJumpFaultAt first lines n (Label n)
 HasFault first lines (Back n) = HasJumpFaultAt first lines n (Back n)
 HasFault first lines (Far n) = HasJumpFaultAt first lines n (Far n)

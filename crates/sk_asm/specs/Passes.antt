@@ -10,7 +10,7 @@ use Rattle.sk_asm.specs.declared.fault.AsmFault.{AsmFault}
 use Rattle.sk_asm.specs.declared.fault.AsmFault.TheVariants.{Line, Label, Twice, Far, Back, TooLong}
 use Rattle.sk_asm.specs.Faults.{◌>>=◌}
 use Rattle.sk_asm.specs.Grammar.{Destination, Further, Labelled, Statement, Silent, Marks, Plain, Jumps, Branches, insn, statement_of}
-use Rattle.sk_asm.specs.Labels.{Labels, place_of}
+use Rattle.sk_asm.specs.Labels.{Labels, label_place}
 
 -- ---- a line by itself
 
@@ -34,7 +34,7 @@ counted n labels at = if nat_lt at 4096 then Ok (labels, at + 1) else Err (TooLo
 -- a label more, that is not given yet
 abbrev pub marked : ℕ → Labels → ℕ → List ℕ → Result (Labels × ℕ) AsmFault
 marked n labels at name =
-    if is_some (place_of labels name) then Err (Twice n) else Ok (labels ++ (name, at) ∷ [], at)
+    if is_some (label_place labels name) then Err (Twice n) else Ok (labels ++ (name, at) ∷ [], at)
 
 -- the labels and the count after the statement of line n
 unfoldable pub noted : ℕ → Labels → ℕ → Statement → Result (Labels × ℕ) AsmFault
@@ -64,7 +64,7 @@ landed n at most (Some place) =
 
 unfoldable pub distance : Labels → ℕ → ℕ → ℕ → Destination → Result ℕ AsmFault
 distance labels n at most (Further count) = Ok count
-distance labels n at most (Labelled name) = landed n at most (place_of labels name)
+distance labels n at most (Labelled name) = landed n at most (label_place labels name)
 
 -- the instruction at a place, if the statement of line n is one
 unfoldable pub resolved : Labels → ℕ → ℕ → Statement → Result (Option Insn) AsmFault

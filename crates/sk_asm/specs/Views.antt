@@ -11,9 +11,13 @@ use Rattle.sk_asm.specs.declared.statement.Parsed.TheVariants as parsed
 use Rattle.sk_asm.specs.Grammar.{Destination, Further, Labelled, Statement, Silent, Marks, Plain, Jumps, Branches}
 use Rattle.sk_asm.specs.Labels.{Labels}
 
+-- a distance is a number
+abbrev pub destination_by : {N : Type 0} → (N → ℕ) → Target N → Destination
+destination_by number (targets.Further count) = Further (number count)
+destination_by number (targets.Labelled name) = Labelled name.now
+
 abbrev pub destination : Target ℕ → Destination
-destination (targets.Further count) = Further count
-destination (targets.Labelled name) = Labelled name.now
+destination to = destination_by (λ count. count) to
 
 abbrev pub statement : Parsed → Statement
 statement parsed.Silent = Silent

@@ -2,6 +2,7 @@
 #![tactic(auto)]
 
 mod block;
+mod distance;
 mod examples;
 mod fault;
 pub mod laws;

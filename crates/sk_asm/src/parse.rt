@@ -10,7 +10,7 @@ ghost use Rattle.sk_asm.specs.Views.{statement};
 use crate::fault::AsmFault;
 use crate::shape::Shape;
 use crate::statement::Parsed;
-use crate::value::{byte, far, half, label, near, returned, word};
+use crate::value::{byte, destination, half, label, returned, word};
 use sk_insn::{Insn, Operation};
 use sk_text::{
     Words, four_words, is_passed_over, is_printable, is_word, no_word, one_word, three_words,
@@ -31,10 +31,7 @@ pub(crate) fn check_line(n: usize, line: &[u8]) -> Result<Parsed<'_>, AsmFault>
     if !is_printable(line) {
         return Err(AsmFault::Line { n });
     }
-    match parse_line(line) {
-        Some(parsed) => Ok(parsed),
-        None => Err(AsmFault::Line { n }),
-    }
+    parse_line(line).ok_or(AsmFault::Line { n })
 }
 
 #[tactic(auto, unfolding(crate::specs::Grammar::statement_of))]
@@ -92,7 +89,7 @@ fn parse_form<'a>(shape: Shape, code: u16, words: Words<'a>) -> Option<Parsed<'a
             Some(plain(code, k))
         }
         Shape::Target => {
-            let to = far(one_word(words)?)?;
+            let to = destination(one_word(words)?)?;
             Some(Parsed::Jump { code, to })
         }
         Shape::Compare => {
@@ -121,8 +118,8 @@ fn plain<'a>(code: u16, k: u32) -> Parsed<'a>
 fn branch<'a>(code: u16, k: u32, jt: &'a [u8], jf: &'a [u8]) -> Option<Parsed<'a>>
     ensures exact { option_map statement result ≡ branching code k jt.now jf.now }
 {
-    let jt = near(jt)?;
-    let jf = near(jf)?;
+    let jt = destination(jt)?;
+    let jf = destination(jf)?;
     Some(Parsed::Branch { code, k, jt, jf })
 }
 

@@ -3,14 +3,15 @@ ghost use Rattle.std.specs.Prelude.{Err, ◌≡◌, ◌≢◌, ◌+◌, ◌-◌,
 ghost use Rattle.sk_asm.specs.Assembly.{Assembles, AssemblesText, Finds};
 ghost use Rattle.sk_asm.specs.Block.{lines_in, until_end};
 ghost use Rattle.sk_insn.specs.declared.insn.Insn.{Insn};
-ghost use Rattle.sk_asm.specs.Faults.{Answers, IsFaultOf};
+ghost use Rattle.sk_asm.specs.Faults.{Answers, IsAsmFault};
 ghost use Rattle.sk_asm.specs.LineFaults.{IsFirstTextFault};
-ghost use Rattle.sk_asm.specs.Labels.{Labels as Places, place_of};
+ghost use Rattle.sk_asm.specs.Labels.{Labels as Places, label_place};
 ghost use Rattle.sk_asm.specs.Passes.{noted, counted, marked, labelled, landed, distance, resolved, emitted, assembled, assembled_lines, in_front};
-ghost use Rattle.sk_asm.specs.Views.{destination, statement, labels_in};
+ghost use Rattle.sk_asm.specs.Views.{destination_by, statement, labels_in};
 ghost use Rattle.sk_text.specs.Lines.{lines_of};
 
 use crate::block::BlockLines;
+use crate::distance::Distance;
 use crate::fault::AsmFault;
 use crate::parse::check_line;
 use crate::statement::{Parsed, Target};
@@ -98,7 +99,7 @@ fn note<'a>(
 ) -> Result<usize, AsmFault>
     ensures exact { MatchResult result
         (λ next. noted n (labels_in labels.old) at (statement parsed.entry) ≡ Ok (labels_in labels.new, next))
-        (λ fault. IsFaultOf fault (noted n (labels_in labels.old) at (statement parsed.entry))) }
+        (λ fault. IsAsmFault fault (noted n (labels_in labels.old) at (statement parsed.entry))) }
 {
     match parsed {
         Parsed::Silent => Ok(at),
@@ -122,7 +123,7 @@ fn count(n: usize, at: usize) -> Result<usize, AsmFault>
 fn mark<'a>(labels: &mut Labels<'a>, n: usize, at: usize, name: &'a [u8]) -> Result<usize, AsmFault>
     ensures exact { MatchResult result
         (λ next. marked n (labels_in labels.old) at name.now ≡ Ok (labels_in labels.new, next))
-        (λ fault. IsFaultOf fault (marked n (labels_in labels.old) at name.now)) }
+        (λ fault. IsAsmFault fault (marked n (labels_in labels.old) at name.now)) }
 {
     if labels.contains_key(name) {
         return Err(AsmFault::Twice { n });
@@ -158,10 +159,10 @@ fn emit(
 fn push_some(insns: &mut Vec<Insn>, given: Option<Insn>) -> Result<(), AllocError>
     ensures pushed { OnOk result (insns.new.items ≡ insns.old.items ++ in_front given []) }
 {
-    match given {
-        Some(insn) => Ok(insns.push(insn)?),
-        None => Ok(()),
+    if let Some(insn) = given {
+        insns.push(insn)?;
     }
+    Ok(())
 }
 
 // The instruction of line `n` at a place, if its statement is one.
@@ -178,7 +179,7 @@ fn resolve(
         Parsed::Silent | Parsed::Label(_) => Ok(None),
         Parsed::Plain(insn) => Ok(Some(insn)),
         Parsed::Jump { code, to } => {
-            let k = far_distance(labels, n, at, to)?;
+            let k = distance(labels, n, at, to)?;
             Ok(Some(Insn {
                 code,
                 jt: 0,
@@ -187,46 +188,26 @@ fn resolve(
             }))
         }
         Parsed::Branch { code, k, jt, jf } => {
-            let jt = near_distance(labels, n, at, jt)?;
-            let jf = near_distance(labels, n, at, jf)?;
+            let jt = distance(labels, n, at, jt)?;
+            let jf = distance(labels, n, at, jf)?;
             Ok(Some(Insn { code, jt, jf, k }))
         }
     }
 }
 
+// How many instructions a jump passes over.
 #[tactic(auto, unfolding(crate::specs::Passes::distance))]
-fn near_distance(
+fn distance<N: Distance>(
     labels: &Labels<'_>,
     n: usize,
     at: usize,
-    to: Target<'_, u8>,
-) -> Result<u8, AsmFault>
-    ensures exact { Answers (λ count. count) result (distance (labels_in labels.now) n at 255 (destination to.entry)) }
+    to: Target<'_, N>,
+) -> Result<N, AsmFault>
+    ensures exact { Answers N.number result (distance (labels_in labels.now) n at N.most (destination_by N.number to.entry)) }
 {
     match to {
         Target::Further(count) => Ok(count),
-        Target::Labelled(name) => {
-            let count = landing(labels, n, at, 255, name)?;
-            Ok(count as u8)
-        }
-    }
-}
-
-#[tactic(auto, unfolding(crate::specs::Passes::distance))]
-fn far_distance(
-    labels: &Labels<'_>,
-    n: usize,
-    at: usize,
-    to: Target<'_, u32>,
-) -> Result<u32, AsmFault>
-    ensures exact { Answers (λ count. count) result (distance (labels_in labels.now) n at (2 ^ 32 - 1) (destination to.entry)) }
-{
-    match to {
-        Target::Further(count) => Ok(count),
-        Target::Labelled(name) => {
-            let count = landing(labels, n, at, 0xffff_ffff, name)?;
-            Ok(count as u32)
-        }
+        Target::Labelled(name) => Ok(N::of(landing(labels, n, at, N::most(), name)?)),
     }
 }
 
@@ -238,7 +219,7 @@ fn landing(
     most: usize,
     name: &[u8],
 ) -> Result<usize, AsmFault>
-    ensures exact { Answers (λ count. count) result (landed n at most (place_of (labels_in labels.now) name.now)) }
+    ensures exact { Answers (λ count. count) result (landed n at most (label_place (labels_in labels.now) name.now)) }
     ensures bound { IfOk result (λ count. count ≤ most) }
 {
     match place(labels, name) {
@@ -250,7 +231,7 @@ fn landing(
 }
 
 fn place(labels: &Labels<'_>, name: &[u8]) -> Option<usize>
-    ensures place { result ≡ place_of (labels_in labels.now) name.now }
+    ensures place { result ≡ label_place (labels_in labels.now) name.now }
 {
     labels.get(name).copied()
 }

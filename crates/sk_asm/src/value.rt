@@ -2,8 +2,10 @@
 ghost use Rattle.std.specs.Prelude.{◌≡◌};
 ghost use Rattle.std.specs.Option.{option_map};
 ghost use Rattle.sk_asm.specs.Grammar.{u8_of, u16_of, u32_of, label_of, destination_of, action_with, action_value, returned_value};
-ghost use Rattle.sk_asm.specs.Views.{destination};
+ghost use Rattle.sk_asm.specs.Views.{destination_by};
+ghost use Rattle.sk_text.specs.Numbers.{number_of, up_to};
 
+use crate::distance::Distance;
 use crate::statement::Target;
 use sk_insn::Action;
 use sk_text::{cut, is_name, number_up_to};
@@ -38,39 +40,19 @@ pub(crate) fn label(word: &[u8]) -> Option<&[u8]>
         return None;
     }
     let name = &word[..word.len() - 1];
-    if is_name(name) { Some(name) } else { None }
+    is_name(name).then_some(name)
 }
 
-// A conditional jump's destination.
+// A jump's destination, with a distance as wide as its field.
 #[tactic(auto, unfolding(crate::specs::Grammar::destination_of))]
-pub(crate) fn near(word: &[u8]) -> Option<Target<'_, u8>>
-    ensures to { option_map destination result ≡ destination_of u8_of word.now }
+pub(crate) fn destination<N: Distance>(word: &[u8]) -> Option<Target<'_, N>>
+    ensures to { option_map (destination_by N.number) result ≡ destination_of (λ digits. up_to N.most (number_of digits)) word.now }
 {
     if word.starts_with(b"+") {
-        let count = byte(&word[1..])?;
+        let count = N::read(&word[1..])?;
         return Some(Target::Further(count));
     }
-    if is_name(word) {
-        Some(Target::Labelled(word))
-    } else {
-        None
-    }
-}
-
-// Another jump's destination.
-#[tactic(auto, unfolding(crate::specs::Grammar::destination_of))]
-pub(crate) fn far(text: &[u8]) -> Option<Target<'_, u32>>
-    ensures to { option_map destination result ≡ destination_of u32_of text.now }
-{
-    if text.starts_with(b"+") {
-        let count = word(&text[1..])?;
-        return Some(Target::Further(count));
-    }
-    if is_name(text) {
-        Some(Target::Labelled(text))
-    } else {
-        None
-    }
+    is_name(word).then_some(Target::Labelled(word))
 }
 
 #[tactic(auto, unfolding(crate::specs::Grammar::action_with))]
@@ -99,8 +81,5 @@ fn action_value(word: &[u8]) -> Option<u32>
 pub(crate) fn returned(text: &[u8]) -> Option<u32>
     ensures value { result ≡ returned_value text.now }
 {
-    match word(text) {
-        Some(number) => Some(number),
-        None => action_value(text),
-    }
+    word(text).or_else(|| action_value(text))
 }

@@ -1,17 +1,18 @@
 -- The first fault as a function is the first fault: its tests decide what the rules say.
-use Rattle.std.proofs.Common.{ℕ, zero, suc, ◌≡◌, ◌+◌, ◌<◌, ◌≤◌, ◌⊎◌, inl, inr, Bool, true, false, not, ◌||◌, List, [], ◌∷◌, Option, Some, None, length, refl, sym, subst, ap, ◌∙◌, arith}
-use Rattle.std.specs.Prelude.{slice_get, ◌==◌}
+use Rattle.std.proofs.Common.{ℕ, zero, suc, ◌≡◌, ◌<◌, ◌≤◌, ◌⊎◌, inl, inr, Bool, true, false, not, ◌||◌, List, [], ◌∷◌, Option, Some, None, length, refl, sym, subst, ap, ◌∙◌, arith}
+use Rattle.std.specs.Prelude.{slice_get, ◌==◌, IsSomeAnd}
+use Rattle.std.specs.Option.{option_map_or, option_and_then}
 use Rattle.std.proofs.lemmas.Bool.{cases_eq, eqb-true, eq-eqb, and_parts, and_from, or_cases, or_left, or_right, not-true, not-false, not_from_false, false_from_ne_true, true≢false}
 use Rattle.sk_insn.specs.declared.insn.Insn.{Insn}
 use Rattle.sk_insn.specs.declared.operation.Operation.{Operation}
-use Rattle.sk_insn.specs.declared.operation.Operation.TheVariants.{LoadScratch, StoreScratch, Jump, Branch, ReturnConstant, ReturnAccumulator}
 use Rattle.sk_insn.specs.Operations.{operation_of}
 use Rattle.sk_check.specs.declared.fault.CheckFault.{CheckFault}
 use Rattle.sk_check.specs.declared.fault.CheckFault.TheVariants.{Unstored}
-use Rattle.sk_check.specs.Paths.{At, Returns, LeadsTo, Loads, Stores, IsPath, NoneStores, IsUnstored}
+use Rattle.sk_check.specs.Paths.{Onward, Nowhere, To, Either, onward, loaded_word, stored_word, GoesTo, goes_to, Stores, At, IsPath, NoneStores, IsUnstored}
+use Rattle.sk_check.specs.Places.{unless}
 use Rattle.sk_check.proofs.Told.{unless-Some, unless-None}
 use Rattle.sk_check.proofs.ForwardPass.{at_only, forwards}
-use Rattle.sk_check.specs.FirstFault.{or_else, first_below, any_below, of_insn, returns, leads_to, stores, is_bare, unstored_of}
+use Rattle.sk_check.specs.FirstFault.{or_else, first_below, any_below, of_insn, is_bare, unstored_of}
 
 -- ---- tests
 
@@ -42,43 +43,28 @@ true-any_below (suc n) test k less e =
       | inr other ↦ or_right (test n) (any_below n test) (true-any_below n test k (omega arith) e)
     ]
 
--- ---- operations
+-- ---- places and words
 
-pub returns-true : (insn : Insn) (o : Option Operation) → returns o insn ≡ true → Returns o insn
-returns-true insn (Some ReturnConstant) e = tt
-returns-true insn (Some ReturnAccumulator) e = tt
-returns-true insn o e = cc
+goes_to-true : (next : ℕ) (on : Onward) → goes_to next on ≡ true → GoesTo next on
+goes_to-true next Nowhere e = cc
+goes_to-true next (To place) e = eqb-true _ _ e
+goes_to-true next (Either place other) e =
+    elim (or_cases (next == place) (next == other) e) [ inl a ↦ inl (eqb-true _ _ a) | inr b ↦ inr (eqb-true _ _ b) ]
 
-pub true-returns : (insn : Insn) (o : Option Operation) → Returns o insn → returns o insn ≡ true
-true-returns insn (Some ReturnConstant) h = refl
-true-returns insn (Some ReturnAccumulator) h = refl
-true-returns insn o h = absurd h
+true-goes_to : (next : ℕ) (on : Onward) → GoesTo next on → goes_to next on ≡ true
+true-goes_to next Nowhere h = absurd h
+true-goes_to next (To place) h = eq-eqb _ _ h
+true-goes_to next (Either place other) (inl h) = ap (λ b. b || (next == other)) (eq-eqb _ _ h)
+true-goes_to next (Either place other) (inr h) = or_right (next == place) (next == other) (eq-eqb _ _ h)
 
-leads_to-true : (place next : ℕ) (insn : Insn) (o : Option Operation) → leads_to place next o insn ≡ true → LeadsTo place next o insn
-leads_to-true place next insn (Some Jump) e = eqb-true _ _ e
-leads_to-true place next insn (Some (Branch comparison operand)) e =
-    elim (or_cases (next == place + 1 + insn.jt) (next == place + 1 + insn.jf) e) [ inl a ↦ inl (eqb-true _ _ a) | inr b ↦ inr (eqb-true _ _ b) ]
-leads_to-true place next insn (Some ReturnConstant) e = cc
-leads_to-true place next insn (Some ReturnAccumulator) e = cc
-leads_to-true place next insn o e = eqb-true _ _ e
+-- the word is this one
+is_word-true : (word : ℕ) (named : Option ℕ) → option_map_or (λ k. k == word) named false ≡ true → IsSomeAnd named (λ k. k ≡ word)
+is_word-true word None e = cc
+is_word-true word (Some k) e = eqb-true _ _ e
 
-true-leads_to : (place next : ℕ) (insn : Insn) (o : Option Operation) → LeadsTo place next o insn → leads_to place next o insn ≡ true
-true-leads_to place next insn (Some Jump) h = eq-eqb _ _ h
-true-leads_to place next insn (Some (Branch comparison operand)) (inl h) =
-    ap (λ b. b || (next == place + 1 + insn.jf)) (eq-eqb _ _ h)
-true-leads_to place next insn (Some (Branch comparison operand)) (inr h) =
-    or_right (next == place + 1 + insn.jt) (next == place + 1 + insn.jf) (eq-eqb _ _ h)
-true-leads_to place next insn (Some ReturnConstant) h = absurd h
-true-leads_to place next insn (Some ReturnAccumulator) h = absurd h
-true-leads_to place next insn o h = eq-eqb _ _ h
-
-stores-true : (word : ℕ) (insn : Insn) (o : Option Operation) → stores word o insn ≡ true → Stores word o insn
-stores-true word insn (Some (StoreScratch register)) e = eqb-true _ _ e
-stores-true word insn o e = cc
-
-true-stores : (word : ℕ) (insn : Insn) (o : Option Operation) → Stores word o insn → stores word o insn ≡ true
-true-stores word insn (Some (StoreScratch register)) h = eq-eqb _ _ h
-true-stores word insn o h = absurd h
+true-is_word : (word : ℕ) (named : Option ℕ) → IsSomeAnd named (λ k. k ≡ word) → option_map_or (λ k. k == word) named false ≡ true
+true-is_word word None h = absurd h
+true-is_word word (Some k) h = eq-eqb _ _ h
 
 -- ---- paths
 
@@ -87,7 +73,7 @@ bare_path insns word zero place e = ([], eqb-true _ _ e, tt)
 bare_path insns word (suc steps) place e =
     elim (or_cases (place == 0) _ e) [
       | inl start ↦ ([], eqb-true _ _ start, tt)
-      | inr some ↦ let found = any_below-true place _ some in let k = found.0 in let parts = and_parts _ _ found.2 in let at = at_test insns k _ parts.0 in let insn = at.0 in let goes = and_parts _ _ at.2 in let earlier = bare_path insns word steps k parts.1 in (k ∷ earlier.0, ((insn, at.1, leads_to-true k place insn (operation_of insn.code) goes.0), earlier.1), (λ store. true≢false (sym (true-stores word insn (operation_of insn.code) (at_only insns k insn (Stores word) at.1 store)) ∙ not-true _ goes.1), earlier.2))
+      | inr some ↦ let found = any_below-true place _ some in let k = found.0 in let parts = and_parts _ _ found.2 in let at = at_test insns k _ parts.0 in let insn = at.0 in let goes = and_parts _ _ at.2 in let earlier = bare_path insns word steps k parts.1 in (k ∷ earlier.0, ((insn, at.1, goes_to-true place (onward k (operation_of insn.code) insn) goes.0), earlier.1), (λ store. true≢false (sym (true-is_word word (stored_word (operation_of insn.code) insn) (at_only insns k insn (Stores word) at.1 store)) ∙ not-true _ goes.1), earlier.2))
     ]
 
 path_bare : (insns : List Insn) (word steps place : ℕ) (before : List ℕ) → IsPath insns place before → NoneStores insns word before → length before ≤ steps → is_bare insns word steps place ≡ true
@@ -95,7 +81,7 @@ path_bare insns word zero place [] path none most = eq-eqb _ _ path
 path_bare insns word zero place (k ∷ earlier) path none most = absurd (omega arith)
 path_bare insns word (suc steps) place [] path none most = or_left _ _ (eq-eqb _ _ path)
 path_bare insns word (suc steps) place (k ∷ earlier) ((insn, here, leads), path) (no_store, none) most =
-    or_right _ _ (true-any_below place _ k (forwards k place insn (operation_of insn.code) leads) (and_from _ _ (test_at insns k _ (insn, here, and_from _ _ (true-leads_to k place insn (operation_of insn.code) leads) (not_from_false _ (false_from_ne_true _ (λ store. no_store (insn, here, stores-true word insn (operation_of insn.code) store)))))) (path_bare insns word steps k earlier path none (omega arith))))
+    or_right _ _ (true-any_below place _ k (forwards k place insn (operation_of insn.code) leads) (and_from _ _ (test_at insns k _ (insn, here, and_from _ _ (true-goes_to place (onward k (operation_of insn.code) insn) leads) (not_from_false _ (false_from_ne_true _ (λ store. no_store (insn, here, is_word-true word (stored_word (operation_of insn.code) insn) store)))))) (path_bare insns word steps k earlier path none (omega arith))))
 
 path_length : (insns : List Insn) (place : ℕ) (before : List ℕ) → IsPath insns place before → length before ≤ place
 path_length insns place [] path = omega arith
@@ -141,22 +127,23 @@ first_below-Some (suc n) answer fault e =
 pub of_insn-None : (insns : List Insn) (place : ℕ) (says : Option Operation → Insn → Option CheckFault) → of_insn None (slice_get insns place) says ≡ None → (insn : Insn) → slice_get insns place ≡ Some insn → says (operation_of insn.code) insn ≡ None
 of_insn-None insns place says e insn here = subst (λ o. of_insn None o says ≡ None) here e
 
-loads_k : (insns : List Insn) (place : ℕ) (insn : Insn) (o : Option Operation) (fault : CheckFault) → unstored_of insns place o insn ≡ Some fault → Loads insn.k o insn × (is_bare insns insn.k place place ≡ true) × (Unstored place insn.k ≡ fault)
-loads_k insns place insn (Some (LoadScratch register)) fault e =
-    let told = unless-Some _ _ _ e in (refl, not-false _ told.0, told.1)
-loads_k insns place insn o fault e = cc
+-- the answer for a load is that some path to it stores no such word
+loads_bare : (insns : List Insn) (place : ℕ) (loaded : Option ℕ) (fault : CheckFault) → option_and_then (λ word. unless (not (is_bare insns word place place)) (Unstored place word)) loaded ≡ Some fault → (word : ℕ) × IsSomeAnd loaded (λ k. k ≡ word) × (is_bare insns word place place ≡ true) × (Unstored place word ≡ fault)
+loads_bare insns place None fault e = cc
+loads_bare insns place (Some word) fault e =
+    let told = unless-Some _ _ _ e in (word, refl, not-false _ told.0, told.1)
 
 pub unstored_of-Some : (insns : List Insn) (place : ℕ) (fault : CheckFault) → At insns place (λ o insn. unstored_of insns place o insn ≡ Some fault) → (word : ℕ) × (Unstored place word ≡ fault) × IsUnstored insns place word
 unstored_of-Some insns place fault (insn, here, e) =
-    let told = loads_k insns place insn (operation_of insn.code) fault e in
-    (insn.k, told.2, ((insn, here, told.0), bare_path insns insn.k place place told.1))
+    let told = loads_bare insns place (loaded_word (operation_of insn.code) insn) fault e in
+    (told.0, told.3, ((insn, here, told.1), bare_path insns told.0 place place told.2))
 
-never_none : (insns : List Insn) (place word : ℕ) (insn : Insn) (o : Option Operation) → Loads word o insn → is_bare insns word place place ≡ true → unstored_of insns place o insn ≡ None → ⊥
-never_none insns place word insn (Some (LoadScratch register)) loads bare e =
-    let stored : not (is_bare insns insn.k place place) ≡ true = unless-None _ _ e in
+never_none : (insns : List Insn) (place word : ℕ) (loaded : Option ℕ) → IsSomeAnd loaded (λ k. k ≡ word) → is_bare insns word place place ≡ true → option_and_then (λ word. unless (not (is_bare insns word place place)) (Unstored place word)) loaded ≡ None → ⊥
+never_none insns place word None loads bare e = absurd loads
+never_none insns place word (Some k) loads bare e =
+    let stored : not (is_bare insns k place place) ≡ true = unless-None _ _ e in
     true≢false (sym (subst (λ w. is_bare insns w place place ≡ true) (sym loads) bare) ∙ not-true _ stored)
-never_none insns place word insn o loads bare e = absurd loads
 
 pub unstored_of-None : (insns : List Insn) (place : ℕ) → of_insn None (slice_get insns place) (unstored_of insns place) ≡ None → (word : ℕ) → IsUnstored insns place word → ⊥
 unstored_of-None insns place e word ((insn, here, loads), (before, path, none)) =
-    never_none insns place word insn (operation_of insn.code) loads (path_bare insns word place place before path none (path_length insns place before path)) (of_insn-None insns place (unstored_of insns place) e insn here)
+    never_none insns place word (loaded_word (operation_of insn.code) insn) loads (path_bare insns word place place before path none (path_length insns place before path)) (of_insn-None insns place (unstored_of insns place) e insn here)

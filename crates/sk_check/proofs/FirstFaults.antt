@@ -1,23 +1,22 @@
 -- The first fault as a function is the first fault, stage by stage.
 use Rattle.std.proofs.Common.{ℕ, ◌≡◌, ◌+◌, ◌-◌, ◌<◌, ◌≤◌, inl, inr, false, true, slice_index_or, List, Option, Some, None, length, refl, sym, subst, ◌⊎◌, arith}
-use Rattle.std.specs.Prelude.{slice_get, nat_lt, nat_le}
+use Rattle.std.specs.Prelude.{slice_get, nat_lt, nat_le, IsSomeAnd}
 use Rattle.std.proofs.lemmas.Bool.{ltb-true, ltb-false, leb-true, leb-false}
 use Rattle.std.proofs.lemmas.Option.{slice_get-get_or}
 use Rattle.sk_insn.specs.declared.insn.Insn.{Insn}
-use Rattle.sk_insn.specs.declared.operation.Operation.{Operation}
-use Rattle.sk_insn.specs.declared.operation.Operation.TheVariants.{LoadScratch}
 use Rattle.sk_insn.specs.Operations.{operation_of}
 use Rattle.sk_check.specs.declared.fault.CheckFault.{CheckFault}
 use Rattle.sk_check.specs.declared.fault.CheckFault.TheVariants.{Empty, TooLong, NoReturn, Unstored}
-use Rattle.sk_check.specs.Paths.{At, Returns, Loads}
-use Rattle.sk_check.specs.Valid.{HasFault, IsValid, IsFirstFault, stage_of, place_of}
-use Rattle.sk_check.specs.Places.{unless, fault_of, NoFaultBefore}
-use Rattle.sk_check.specs.FirstFault.{or_else, first_below, of_insn, returns, unstored_of, own_fault, path_fault, first_fault}
+use Rattle.sk_check.specs.Paths.{loaded_word, Loads, returns, At}
+use Rattle.sk_check.specs.Valid.{HasFault, IsValid, IsFirstFault, stage_of, fault_place}
+use Rattle.sk_check.specs.Places.{unless, fault_of}
+use Rattle.sk_check.specs.Fits.{NoFaultBefore}
+use Rattle.sk_check.specs.FirstFault.{or_else, first_below, of_insn, unstored_of, own_fault, path_fault, first_fault}
 use Rattle.sk_check.proofs.Told.{unless-Some, unless-None}
 use Rattle.sk_check.proofs.PlaceFaults.{no_insn, of_insn-Some, own_fault_told, fault_of-is_fault}
 use Rattle.sk_check.proofs.ForwardPass.{at_only}
 use Rattle.sk_check.proofs.Stages.{length_bounds, first_at, all_fine, first_unstored_at, all_stored}
-use Rattle.sk_check.proofs.Decisions.{unstored_of-Some, unstored_of-None, first_below-None, first_below-Some, at_test, test_at, returns-true, true-returns}
+use Rattle.sk_check.proofs.Decisions.{unstored_of-Some, unstored_of-None, first_below-None, first_below-Some, at_test}
 
 -- an answer that tells the first fault of a stage, if the earlier stages have none
 pub record TellsStage (insns : List Insn) (stage : ℕ) (answer : Option CheckFault) : Type 0 where
@@ -38,7 +37,7 @@ tells_more insns stage None rest here later = record {
 }
 
 -- a fault that is alone in its stage
-first_alone : (insns : List Insn) (fault : CheckFault) → place_of fault ≡ 0 → HasFault insns fault → NoFaultBefore insns (stage_of fault) → IsFirstFault insns fault
+first_alone : (insns : List Insn) (fault : CheckFault) → fault_place fault ≡ 0 → HasFault insns fault → NoFaultBefore insns (stage_of fault) → IsFirstFault insns fault
 first_alone insns fault start has clear =
     (has, λ other before other_has. elim before [ inl earlier ↦ clear other earlier other_has | inr at ↦ omega arith ])
 
@@ -69,7 +68,7 @@ tells_place insns = record { none = λ clear e. all_fine insns clear (first_belo
     some clear fault e =
         let first = first_below-Some (length insns) (own_fault insns) fault e in
         let told = of_insn-Some insns first.place (fault_of first.place (length insns)) fault first.here in
-        first_at insns first.place fault clear first.before (fault_of-is_fault insns first.place told.0 (operation_of told.0.code) fault told.1 refl told.2)
+        first_at insns first.place fault clear first.before (fault_of-is_fault insns first.place told.0 fault told.1 told.2)
 
 tells_end : (insns : List Insn) → TellsStage insns 4 (unless (of_insn false (slice_get insns (length insns - 1)) returns) NoReturn)
 tells_end insns = record {
@@ -82,14 +81,16 @@ tells_end insns = record {
         let count = length_bounds insns (λ fault early. clear fault (omega arith)) in
         let last = slice_index_or insns (length insns - 1) no_insn in
         let here : slice_get insns (length insns - 1) ≡ Some last = slice_get-get_or insns (length insns - 1) no_insn (omega arith) in
-        (last, here, λ h. (let yes' : of_insn false (slice_get insns (length insns - 1)) returns ≡ true = test_at insns (length insns - 1) returns (last, here, true-returns last (operation_of last.code) h) in cc))
+        (last, here, subst (λ o. of_insn false o returns ≡ false) here e)
 
     none : NoFaultBefore insns 4 → of_insn false (slice_get insns (length insns - 1)) returns ≡ true → NoFaultBefore insns 5
     none clear e Empty early has = clear Empty (omega arith) has
     none clear e TooLong early has = clear TooLong (omega arith) has
     none clear e NoReturn early has =
         let at = at_test insns (length insns - 1) returns e in
-        at_only insns (length insns - 1) at.0 (λ o insn. Returns o insn → ⊥) at.1 has (returns-true at.0 (operation_of at.0.code) at.2)
+        let no_return : returns (operation_of at.0.code) at.0 ≡ false =
+        at_only insns (length insns - 1) at.0 (λ o insn. returns o insn ≡ false) at.1 has in
+        cc
     none clear e (Unstored place word) early has = omega arith
     none clear e fault early has = clear fault (omega arith) has
 
@@ -142,16 +143,17 @@ valid-first_fault insns valid =
 
 -- ---- there is one first fault
 
-loads_is_k : (word : ℕ) (insn : Insn) (o : Option Operation) → Loads word o insn → insn.k ≡ word
-loads_is_k word insn (Some (LoadScratch register)) loads = loads
-loads_is_k word insn o loads = absurd loads
+-- a load loads one word
+loads_one : (loaded : Option ℕ) (word other : ℕ) → IsSomeAnd loaded (λ k. k ≡ word) → IsSomeAnd loaded (λ k. k ≡ other) → word ≡ other
+loads_one None word other loads loads_other = absurd loads
+loads_one (Some k) word other loads loads_other = omega arith
 
 -- which fault it is, by its stage, where that stage has one kind
 pub record IsOfKind (fault : CheckFault) : Type 0 where
   pub empty : stage_of fault ≡ 1 → fault ≡ Empty
   pub too_long : stage_of fault ≡ 2 → fault ≡ TooLong
   pub no_return : stage_of fault ≡ 4 → fault ≡ NoReturn
-  pub unstored : stage_of fault ≡ 5 → (word : ℕ) × (fault ≡ Unstored (place_of fault) word)
+  pub unstored : stage_of fault ≡ 5 → (word : ℕ) × (fault ≡ Unstored (fault_place fault) word)
 
 kind : (fault : CheckFault) → IsOfKind fault
 kind Empty = record {
@@ -187,18 +189,16 @@ kind fault = record {
 
 same_word : (insns : List Insn) (place word other : ℕ) → At insns place (Loads word) → At insns place (Loads other) → word ≡ other
 same_word insns place word other (insn, here, loads) at =
-    let one : insn.k ≡ word = loads_is_k word insn (operation_of insn.code) loads in
-    let two : insn.k ≡ other = loads_is_k other insn (operation_of insn.code) (at_only insns place insn (Loads other) here at) in
-    omega arith
+    loads_one (loaded_word (operation_of insn.code) insn) word other loads (at_only insns place insn (Loads other) here at)
 
-same_fault : (insns : List Insn) (fault other : CheckFault) → HasFault insns fault → HasFault insns other → stage_of fault ≡ stage_of other → place_of fault ≡ place_of other → fault ≡ other
+same_fault : (insns : List Insn) (fault other : CheckFault) → HasFault insns fault → HasFault insns other → stage_of fault ≡ stage_of other → fault_place fault ≡ fault_place other → fault ≡ other
 same_fault insns Empty other has has_other stage place = sym ((kind other).empty (sym stage))
 same_fault insns TooLong other has has_other stage place = sym ((kind other).too_long (sym stage))
 same_fault insns NoReturn other has has_other stage place = sym ((kind other).no_return (sym stage))
 same_fault insns (Unstored at word) other has has_other stage place =
     let found = (kind other).unstored (sym stage) in
     let same = found.1 in
-    let there : HasFault insns (Unstored (place_of other) found.0) = subst (HasFault insns) same has_other in
+    let there : HasFault insns (Unstored (fault_place other) found.0) = subst (HasFault insns) same has_other in
     let loads : At insns at (Loads found.0) = subst (λ p. At insns p (Loads found.0)) (sym place) there.0 in
     let words : word ≡ found.0 = same_word insns at word found.0 has.0 loads in
     cc
@@ -212,8 +212,8 @@ one_first_fault insns fault other first first_other =
     let above : stage_of other < stage_of fault → ⊥ = λ less. first.1 other (inl less) first_other.0 in
     let below : stage_of fault < stage_of other → ⊥ = λ less. first_other.1 fault (inl less) first.0 in
     let stage : stage_of fault ≡ stage_of other = omega arith in
-    let after : place_of other < place_of fault → ⊥ = λ less. first.1 other (inr (sym stage, less)) first_other.0 in
-    let before : place_of fault < place_of other → ⊥ = λ less. first_other.1 fault (inr (stage, less)) first.0 in
+    let after : fault_place other < fault_place fault → ⊥ = λ less. first.1 other (inr (sym stage, less)) first_other.0 in
+    let before : fault_place fault < fault_place other → ⊥ = λ less. first_other.1 fault (inr (stage, less)) first.0 in
     same_fault insns fault other first.0 first_other.0 stage (omega arith)
 
 pub first-first_fault : (insns : List Insn) (fault : CheckFault) → IsFirstFault insns fault → first_fault insns ≡ Some fault

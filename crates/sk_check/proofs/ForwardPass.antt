@@ -10,7 +10,7 @@ use Rattle.sk_insn.specs.declared.insn.Insn.{Insn}
 use Rattle.sk_insn.specs.declared.operation.Operation.{Operation}
 use Rattle.sk_insn.specs.declared.operation.Operation.TheVariants.{Jump, Branch, ReturnConstant, ReturnAccumulator}
 use Rattle.sk_insn.specs.Operations.{operation_of}
-use Rattle.sk_check.specs.Paths.{At, LeadsTo, Loads, Stores, IsPath, NoneStores, IsUnstored}
+use Rattle.sk_check.specs.Paths.{LeadsTo, Loads, Stores, At, IsPath, NoneStores, IsUnstored}
 use Rattle.sk_check.specs.Sets.{Lacks, Spreads}
 
 -- ---- paths

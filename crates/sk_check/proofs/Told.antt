@@ -10,7 +10,3 @@ unless-Some false fault told e = (refl, (let same : fault ≡ told = cc in same)
 pub unless-None : (test : Bool) (fault : CheckFault) → unless test fault ≡ None → test ≡ true
 unless-None true fault e = refl
 unless-None false fault e = cc
-
-pub false-unless : (test : Bool) (fault : CheckFault) → test ≡ false → unless test fault ≡ Some fault
-false-unless true fault e = cc
-false-unless false fault e = refl

@@ -1,12 +1,13 @@
 -- The first fault of a program as a function, for definitions that go on with its answer. Valid says
 -- what it means: it is none exactly where IsValid holds, and else the fault of which IsFirstFault holds.
-use Rattle.std.specs.Prelude.{ℕ, zero, suc, ◌+◌, ◌-◌, ◌==◌, nat_lt, nat_le, Bool, true, false, not, ◌&&◌, ◌||◌, List, [], ◌∷◌, Option, Some, None, length, slice_get}
+use Rattle.std.specs.Prelude.{ℕ, zero, suc, ◌-◌, ◌==◌, nat_lt, nat_le, Bool, false, not, ◌&&◌, ◌||◌, List, [], ◌∷◌, Option, Some, None, length, slice_get}
+use Rattle.std.specs.Option.{option_and_then}
 use Rattle.sk_insn.specs.declared.insn.Insn.{Insn}
 use Rattle.sk_insn.specs.declared.operation.Operation.{Operation}
-use Rattle.sk_insn.specs.declared.operation.Operation.TheVariants.{LoadScratch, StoreScratch, Jump, Branch, ReturnConstant, ReturnAccumulator}
 use Rattle.sk_insn.specs.Operations.{operation_of}
 use Rattle.sk_check.specs.declared.fault.CheckFault.{CheckFault}
 use Rattle.sk_check.specs.declared.fault.CheckFault.TheVariants.{Empty, TooLong, NoReturn, Unstored}
+use Rattle.sk_check.specs.Paths.{leads_to, loaded_word, stores, returns}
 use Rattle.sk_check.specs.Places.{unless, fault_of}
 
 -- the first answer if there is one, else the second
@@ -15,9 +16,9 @@ or_else (Some fault) other = Some fault
 or_else None other = other
 
 -- the first answer that there is
-abbrev pub first_of : List (Option CheckFault) → Option CheckFault
-first_of [] = None
-first_of (answer ∷ answers) = or_else answer (first_of answers)
+abbrev pub first_answer : List (Option CheckFault) → Option CheckFault
+first_answer [] = None
+first_answer (answer ∷ answers) = or_else answer (first_answer answers)
 
 -- the first answer for a place below n
 abbrev pub first_below : ℕ → (ℕ → Option CheckFault) → Option CheckFault
@@ -34,23 +35,6 @@ abbrev pub of_insn : {X : Type 0} → X → Option Insn → (Option Operation �
 of_insn absent None says = absent
 of_insn absent (Some insn) says = says (operation_of insn.code) insn
 
-abbrev pub returns : Option Operation → Insn → Bool
-returns (Some ReturnConstant) insn = true
-returns (Some ReturnAccumulator) insn = true
-returns operation insn = false
-
-abbrev pub leads_to : ℕ → ℕ → Option Operation → Insn → Bool
-leads_to place next (Some Jump) insn = next == place + 1 + insn.k
-leads_to place next (Some (Branch comparison operand)) insn =
-    (next == place + 1 + insn.jt) || (next == place + 1 + insn.jf)
-leads_to place next (Some ReturnConstant) insn = false
-leads_to place next (Some ReturnAccumulator) insn = false
-leads_to place next operation insn = next == place + 1
-
-abbrev pub stores : ℕ → Option Operation → Insn → Bool
-stores word (Some (StoreScratch register)) insn = insn.k == word
-stores word operation insn = false
-
 -- some path of at most so many steps to the place stores no such word
 abbrev pub is_bare : List Insn → ℕ → ℕ → ℕ → Bool
 is_bare insns word zero place = place == 0
@@ -59,9 +43,8 @@ is_bare insns word (suc steps) place =
 
 -- a load of a word that is missing: a path to a place has no more steps than there are places before it
 abbrev pub unstored_of : List Insn → ℕ → Option Operation → Insn → Option CheckFault
-unstored_of insns place (Some (LoadScratch register)) insn =
-    unless (not (is_bare insns insn.k place place)) (Unstored place insn.k)
-unstored_of insns place operation insn = None
+unstored_of insns place operation insn =
+    option_and_then (λ word. unless (not (is_bare insns word place place)) (Unstored place word)) (loaded_word operation insn)
 
 -- the fault of the instruction at a place by itself
 abbrev pub own_fault : List Insn → ℕ → Option CheckFault
@@ -74,7 +57,7 @@ path_fault insns place = of_insn None (slice_get insns place) (unstored_of insns
 -- stage by stage: its length, its instructions one by one, its end, its paths
 unfoldable pub first_fault : List Insn → Option CheckFault
 first_fault insns =
-    first_of (unless (nat_lt 0 (length insns)) Empty ∷
+    first_answer (unless (nat_lt 0 (length insns)) Empty ∷
     unless (nat_le (length insns) 4096) TooLong ∷
     first_below (length insns) (own_fault insns) ∷
     unless (of_insn false (slice_get insns (length insns - 1)) returns) NoReturn ∷

@@ -1,6 +1,7 @@
 pub mod Paths
-pub mod Valid
 pub mod Places
+pub mod Valid
+pub mod Fits
 pub mod Sets
 pub mod FirstFault
 pub mod Examples

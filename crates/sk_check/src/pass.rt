@@ -1,12 +1,12 @@
 ghost use Rattle.std.specs.Prelude.{ℕ, ◌<◌, ◌≤◌, length, IfNone, IfSome};
 ghost use Rattle.sk_insn.specs.Operations.{operation_of};
-ghost use Rattle.sk_check.specs.Paths.{Loads};
+ghost use Rattle.sk_check.specs.Paths.{onward, loaded_word, stored_word, Loads};
 ghost use Rattle.sk_check.specs.Valid.{IsFirstFault, IsValid};
-ghost use Rattle.sk_check.specs.Places.{NoFaultBefore};
-ghost use Rattle.sk_check.specs.Sets.{Lacks, NamesWord, Spreads, StaysInside};
+ghost use Rattle.sk_check.specs.Fits.{AreInside, NoFaultBefore};
+ghost use Rattle.sk_check.specs.Sets.{Lacks, Spreads};
 
 use crate::CheckFault;
-use crate::words::{WordSet, has_word, meet, with_word};
+use crate::words::{WORDS, WordSet, has_word, meet, with_word};
 use sk_insn::{Insn, MOST_INSNS, Operation, decode};
 
 /// The first load of a scratch word that some path has not stored.
@@ -31,7 +31,7 @@ pub(crate) fn first_unstored(insns: &[Insn]) -> Option<CheckFault>
 
 /// The word that the instruction loads and the set lacks.
 fn missing_word(insn: &Insn, stored: WordSet) -> Option<u32>
-    requires { NamesWord (operation_of insn.now.code) insn.now }
+    requires { IfSome (loaded_word (operation_of insn.now.code) insn.now) (λ word. word < WORDS) }
     ensures none { IfNone result
         ((word : ℕ) → Loads word (operation_of insn.now.code) insn.now → Lacks stored word → ⊥) }
     ensures some { IfSome result (λ word. Loads word (operation_of insn.now.code) insn.now × Lacks stored word) }
@@ -46,7 +46,8 @@ fn missing_word(insn: &Insn, stored: WordSet) -> Option<u32>
 fn spread(stored: &mut [WordSet], at: usize, insn: &Insn)
     requires at { at < length stored.old }
     requires short { length stored.old ≤ 4096 }
-    requires inside { StaysInside at (length stored.old) (operation_of insn.now.code) insn.now }
+    requires inside { AreInside (length stored.old) (onward at (operation_of insn.now.code) insn.now) }
+    requires there { IfSome (stored_word (operation_of insn.now.code) insn.now) (λ word. word < WORDS) }
     ensures { Spreads at insn.now stored.old stored.new }
 {
     let here = stored[at];

@@ -1,7 +1,8 @@
 ghost use Rattle.std.specs.Prelude.{◌≡◌, ◌<◌, ◌≤◌, length, IfNone, IfSome};
 ghost use Rattle.sk_insn.specs.Operations.{operation_of};
 ghost use Rattle.sk_check.specs.Valid.{IsFirstFault};
-ghost use Rattle.sk_check.specs.Places.{fault_of, NoFaultBefore};
+ghost use Rattle.sk_check.specs.Places.{fault_of};
+ghost use Rattle.sk_check.specs.Fits.{NoFaultBefore};
 
 use crate::CheckFault;
 use crate::words::WORDS;
@@ -48,7 +49,7 @@ fn place_fault(insn: &Insn, at: usize, count: usize) -> Option<CheckFault>
         ),
         Some(_) => return None,
     };
-    if fits { None } else { Some(fault) }
+    (!fits).then_some(fault)
 }
 
 /// The fault of a program whose last instruction is no return.

@@ -7,7 +7,7 @@ use Rattle.sk_asm.specs.declared.fault.AsmFault.{AsmFault}
 use Rattle.sk_asm.specs.declared.fault.AsmFault.TheVariants.{Line, Label, Twice, Far, Back, TooLong, Memory}
 use Rattle.sk_asm.specs.LineFaults.{line_of}
 use Rattle.sk_asm.specs.Passes.{assembled}
-use Rattle.sk_engines.specs.Answer.{Answer, done, line, at_line, within_limit}
+use Rattle.sk_engines.specs.Output.{Output, done, line, at_line, within_limit}
 
 -- an instruction in 16 digits, a line of its own
 abbrev pub digits_line : Insn → List ℕ
@@ -24,9 +24,9 @@ fault_text (TooLong n) = codes "over the limit"
 fault_text Memory = []
 
 -- the answer on what a text was assembled to
-abbrev pub assembled_answer : Result (List Insn) AsmFault → Answer
+abbrev pub assembled_answer : Result (List Insn) AsmFault → Output
 assembled_answer (Ok insns) = done (flat_map digits_line insns)
 assembled_answer (Err fault) = at_line (line_of fault) (fault_text fault)
 
-abbrev pub asm_answer : List ℕ → Answer
+abbrev pub asm_answer : List ℕ → Output
 asm_answer input = within_limit (λ text. assembled_answer (assembled text)) input

@@ -3,13 +3,13 @@ use Rattle.std.specs.Prelude.{ℕ, ◌≡◌, Option, Result, Ok, Err, List, []}
 use Rattle.std.specs.Io.KnownBytes.{Appends}
 use Rattle.sk_ends.specs.Failures.{one_more}
 use Rattle.sk_ends.specs.Writing.{AppendsBeginning}
-use Rattle.sk_engines.specs.Answer.{Answer}
+use Rattle.sk_engines.specs.Output.{Output}
 use Rattle.sk_engines.specs.declared.fault.CommandFault.{CommandFault}
 use Rattle.sk_engines.specs.declared.fault.CommandFault.TheVariants.{Read, Write}
 
 -- the status is the answer's, and its text went out; where a write failed a beginning of it did, and where a read
 -- failed or memory was refused nothing
-abbrev pub Delivers : Answer → Result ℕ CommandFault → Option (List ℕ) → Option (List ℕ) → Type 0
+abbrev pub Delivers : Output → Result ℕ CommandFault → Option (List ℕ) → Option (List ℕ) → Type 0
 Delivers answer (Ok status) old new = (status ≡ answer.status) × Appends old new answer.text
 Delivers answer (Err Write) old new = AppendsBeginning old new answer.text
 Delivers answer (Err fault) old new = Appends old new []

@@ -9,13 +9,13 @@ use Rattle.sk_insn.specs.Instructions.{image_instructions}
 use Rattle.sk_check.specs.declared.fault.CheckFault.{CheckFault}
 use Rattle.sk_check.specs.FirstFault.{first_fault}
 use Rattle.sk_interp.specs.Meaning.{Meaning, Returned, Stuck, meaning_of}
-use Rattle.sk_chain.specs.Chains.{cost_of}
+use Rattle.sk_chain.specs.Chains.{path_limit, cost_of}
 use Rattle.sk_chain.specs.Verdict.{verdict_of}
 use Rattle.sk_text.specs.Hexadecimal.{hex_word}
 use Rattle.sk_text.specs.Lines.{lines_of}
 use Rattle.sk_engines.specs.declared.eval.Refusal.{Refusal}
 use Rattle.sk_engines.specs.declared.eval.Refusal.TheVariants.{Image, Program, PathLimit}
-use Rattle.sk_engines.specs.Answer.{Answer, done, refused, line, at_line, within_limit}
+use Rattle.sk_engines.specs.Output.{Output, done, refused, line, at_line, within_limit}
 use Rattle.sk_engines.specs.Judging.{no_image_text, check_fault_text}
 use Rattle.sk_engines.specs.EvalInput.{nothing_yet, gathered}
 
@@ -25,7 +25,7 @@ use Rattle.sk_engines.specs.EvalInput.{nothing_yet, gathered}
 abbrev pub program_attached : List (List Insn) → List Insn → Option CheckFault → Result (List (List Insn)) Refusal
 program_attached chain program (Some fault) = Err (Program fault)
 program_attached chain program None =
-    if nat_lt 32768 (length program + cost_of chain) then Err PathLimit else Ok (program ∷ chain)
+    if nat_lt path_limit (length program + cost_of chain) then Err PathLimit else Ok (program ∷ chain)
 
 -- an image on top of a chain
 abbrev pub image_attached : List (List Insn) → Result (List Insn) NoImage → Result (List (List Insn)) Refusal
@@ -69,17 +69,17 @@ refusal_text PathLimit = codes "refused path limit"
 
 -- ---- the answer
 
-abbrev pub refusal_answer : ℕ × Refusal → Answer
+abbrev pub refusal_answer : ℕ × Refusal → Output
 refusal_answer (number, refusal) =
     refused (codes "filter " ++ (decimal number ++ (codes " " ++ line (refusal_text refusal))))
 
-abbrev pub chained_answer : Record → Result (List (List Insn)) (ℕ × Refusal) → Answer
+abbrev pub chained_answer : Record → Result (List (List Insn)) (ℕ × Refusal) → Output
 chained_answer call (Ok chain) = done (chain_text call chain)
 chained_answer call (Err refusal) = refusal_answer refusal
 
-abbrev pub asked_answer : Result (Record × List (List ℕ)) ℕ → Answer
+abbrev pub asked_answer : Result (Record × List (List ℕ)) ℕ → Output
 asked_answer (Ok asked) = chained_answer asked.0 (chained 0 [] asked.1)
 asked_answer (Err number) = at_line number (codes "not understood")
 
-abbrev pub eval_answer : List ℕ → Answer
+abbrev pub eval_answer : List ℕ → Output
 eval_answer input = within_limit (λ text. asked_answer (gathered 1 nothing_yet (lines_of text))) input

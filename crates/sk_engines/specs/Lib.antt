@@ -1,5 +1,5 @@
 pub mod AsmCommand
-pub mod Answer
+pub mod Output
 pub mod CheckCommand
 pub mod EvalCommand
 pub mod EvalInput
@@ -10,4 +10,4 @@ pub mod Engine
 pub mod ListCommand
 pub mod OnImage
 pub mod Reading
-pub mod Told
+pub mod Reply

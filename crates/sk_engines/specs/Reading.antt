@@ -2,11 +2,11 @@
 use Rattle.std.specs.Prelude.{◌≡◌, List, Vec, Result, Ok, Err}
 use Rattle.std.specs.Global.{Global}
 use Rattle.sk_insn.specs.declared.insn.Insn.{Insn}
-use Rattle.sk_engines.specs.Answer.{Answer}
-use Rattle.sk_engines.specs.declared.told.Told.{Told}
-use Rattle.sk_engines.specs.Told.{answer_of}
+use Rattle.sk_engines.specs.Output.{Output}
+use Rattle.sk_engines.specs.declared.reply.Reply.{Reply}
+use Rattle.sk_engines.specs.Reply.{output_of}
 
 -- what is answered on its instructions is answered on the image, or this refusal
-abbrev pub ReadsImage : (List Insn → Answer) → Result (Vec Insn Global) Told → Answer → Type 0
+abbrev pub ReadsImage : (List Insn → Output) → Result (Vec Insn Global) Reply → Output → Type 0
 ReadsImage answer (Ok insns) given = given ≡ answer insns.items
-ReadsImage answer (Err told) given = given ≡ answer_of told
+ReadsImage answer (Err reply) given = given ≡ output_of reply

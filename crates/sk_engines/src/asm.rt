@@ -7,7 +7,7 @@ ghost use Rattle.sk_engines.specs.Engine.{Delivers, CountsReads, CountsWrites};
 
 use crate::engine::{Command, run};
 use crate::fault::CommandFault;
-use crate::told::Told;
+use crate::reply::Reply;
 use sk_asm::{AsmFault, assemble};
 use sk_ends::{Sink, Source};
 use sk_insn::Insn;
@@ -36,16 +36,16 @@ struct Assemble;
 impl Command for Assemble {
     ghost answers = { λ text. assembled_answer (assembled text) };
 
-    fn told(alloc: Global, text: &[u8]) -> Result<Told, AllocError> {
+    fn reply(alloc: Global, text: &[u8]) -> Result<Reply, AllocError> {
         match assemble(alloc, text) {
-            Ok(insns) => Ok(Told::Done(digits_of(alloc, &insns)?)),
+            Ok(insns) => Ok(Reply::Done(digits_of(alloc, &insns)?)),
             Err(AsmFault::Memory) => Err(AllocError),
-            Err(AsmFault::Line { n }) => Ok(Told::at_line(n, "not understood")),
-            Err(AsmFault::Label { n }) => Ok(Told::at_line(n, "no such name")),
-            Err(AsmFault::Twice { n }) => Ok(Told::at_line(n, "name given twice")),
-            Err(AsmFault::Far { n }) => Ok(Told::at_line(n, "jump too far")),
-            Err(AsmFault::Back { n }) => Ok(Told::at_line(n, "jump backwards")),
-            Err(AsmFault::TooLong { n }) => Ok(Told::at_line(n, "over the limit")),
+            Err(AsmFault::Line { n }) => Ok(Reply::at_line(n, "not understood")),
+            Err(AsmFault::Label { n }) => Ok(Reply::at_line(n, "no such name")),
+            Err(AsmFault::Twice { n }) => Ok(Reply::at_line(n, "name given twice")),
+            Err(AsmFault::Far { n }) => Ok(Reply::at_line(n, "jump too far")),
+            Err(AsmFault::Back { n }) => Ok(Reply::at_line(n, "jump backwards")),
+            Err(AsmFault::TooLong { n }) => Ok(Reply::at_line(n, "over the limit")),
         }
     }
 }

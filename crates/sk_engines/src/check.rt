@@ -3,17 +3,17 @@ ghost use Rattle.std.specs.Prelude.{◌≡◌, ◌≤◌, ◌++◌, IfOk, IfSome
 ghost use Rattle.std.specs.Fmt.{decimal};
 ghost use Rattle.sk_check.specs.FirstFault.{first_fault};
 ghost use Rattle.sk_ends.specs.Reading.{ConsumesUpTo};
-ghost use Rattle.sk_engines.specs.Answer.{done, line};
+ghost use Rattle.sk_engines.specs.Output.{done, line};
 ghost use Rattle.sk_engines.specs.CheckCommand.{check_answer, program_answer};
 ghost use Rattle.sk_engines.specs.Engine.{Delivers, CountsReads, CountsWrites};
 ghost use Rattle.sk_engines.specs.OnImage.{on_image};
-ghost use Rattle.sk_engines.specs.Told.{answer_of};
+ghost use Rattle.sk_engines.specs.Reply.{output_of};
 
 use crate::engine::{Command, run};
 use crate::fault::CommandFault;
 use crate::on_image::instructions_in;
 use crate::refusal::program_refused;
-use crate::told::{Line, Told, push_place};
+use crate::reply::{Line, Reply, push_place};
 use sk_check::check;
 use sk_ends::{Sink, Source};
 use sk_insn::Insn;
@@ -40,7 +40,7 @@ struct Check;
 impl Command for Check {
     ghost answers = { on_image program_answer };
 
-    fn told(alloc: Global, text: &[u8]) -> Result<Told, AllocError> {
+    fn reply(alloc: Global, text: &[u8]) -> Result<Reply, AllocError> {
         match instructions_in(alloc, text)? {
             Ok(insns) => Ok(judged(insns)),
             Err(refused) => Ok(refused),
@@ -48,8 +48,8 @@ impl Command for Check {
     }
 }
 
-fn judged(insns: Vec<Insn>) -> Told
-    ensures answer { answer_of result ≡ program_answer insns.items }
+fn judged(insns: Vec<Insn>) -> Reply
+    ensures answer { output_of result ≡ program_answer insns.items }
 {
     let count = insns.len();
     match check(insns) {
@@ -58,11 +58,11 @@ fn judged(insns: Vec<Insn>) -> Told
     }
 }
 
-fn accepted(count: usize) -> Told
-    ensures answer { answer_of result ≡ done (line (codes "ok " ++ decimal count)) }
+fn accepted(count: usize) -> Reply
+    ensures answer { output_of result ≡ done (line (codes "ok " ++ decimal count)) }
 {
     let mut text = Line::new();
     push_place(&mut text, "ok ", count);
     text.push_str("\n");
-    Told::Accepted(text)
+    Reply::Accepted(text)
 }

@@ -1,12 +1,12 @@
 //! What all commands do alike: they read the input, and send the answer.
 ghost use Rattle.std.specs.Prelude.{◌≡◌, ◌≢◌, ◌≤◌, ℕ, List, take, IfOk, IfSome, Err};
-ghost use Rattle.sk_engines.specs.Answer.{Answer, within_limit};
+ghost use Rattle.sk_engines.specs.Output.{Output, within_limit};
 ghost use Rattle.sk_ends.specs.Reading.{ConsumesUpTo};
 ghost use Rattle.sk_engines.specs.Engine.{Delivers, CountsReads, CountsWrites};
-ghost use Rattle.sk_engines.specs.Told.{answer_of};
+ghost use Rattle.sk_engines.specs.Reply.{output_of};
 
 use crate::fault::CommandFault;
-use crate::told::Told;
+use crate::reply::Reply;
 use sk_ends::{Sink, Source, send, take_up_to};
 use std::alloc::{AllocError, Global};
 
@@ -15,10 +15,10 @@ const MOST_BYTES: usize = 1_048_576;
 
 /// What a command answers on a text within the limit.
 pub trait Command {
-    ghost answers: { List ℕ → Answer };
+    ghost answers: { List ℕ → Output };
 
-    fn told(alloc: Global, text: &[u8]) -> Result<Told, AllocError>
-        ensures answer { IfOk result (λ told. answer_of told ≡ answers text.now) };
+    fn reply(alloc: Global, text: &[u8]) -> Result<Reply, AllocError>
+        ensures answer { IfOk result (λ reply. output_of reply ≡ answers text.now) };
 }
 
 /// Runs a command over a reader and a writer.
@@ -35,18 +35,18 @@ pub fn run<C: Command, R: Source, W: Sink>(
     ensures writes { CountsWrites result (W.failed writer.old) (W.failed writer.new) }
 {
     let input = input(alloc, reader)?;
-    let told = told_within_limit::<C>(alloc, &input)?;
-    deliver(writer, &told)
+    let reply = reply_within_limit::<C>(alloc, &input)?;
+    deliver(writer, &reply)
 }
 
-#[tactic(auto, unfolding(crate::specs::Answer::within_limit))]
-fn told_within_limit<C: Command>(alloc: Global, input: &[u8]) -> Result<Told, AllocError>
-    ensures answer { IfOk result (λ told. answer_of told ≡ within_limit C.answers input.now) }
+#[tactic(auto, unfolding(crate::specs::Output::within_limit))]
+fn reply_within_limit<C: Command>(alloc: Global, input: &[u8]) -> Result<Reply, AllocError>
+    ensures answer { IfOk result (λ reply. output_of reply ≡ within_limit C.answers input.now) }
 {
     if input.len() > MOST_BYTES {
-        return Ok(Told::at_line(0, "over the limit"));
+        return Ok(Reply::at_line(0, "over the limit"));
     }
-    C::told(alloc, input)
+    C::reply(alloc, input)
 }
 
 /// The input, of which one byte more than the limit decides that it is too long.
@@ -57,22 +57,18 @@ fn input<R: Source>(alloc: Global, reader: &mut R) -> Result<Vec<u8>, CommandFau
     ensures reads { CountsReads result (R.failed reader.old) (R.failed reader.new) }
     ensures no_write { result ≢ Err CommandFault.Write }
 {
-    match take_up_to(alloc, reader, MOST_BYTES + 1) {
-        Ok(bytes) => Ok(bytes),
-        Err(fault) => Err(CommandFault::from(fault)),
-    }
+    let bytes = take_up_to(alloc, reader, MOST_BYTES + 1)?;
+    Ok(bytes)
 }
 
 /// Sends the answer's text, and tells its status.
-fn deliver<W: Sink>(writer: &mut W, told: &Told) -> Result<u8, CommandFault>
-    ensures told { Delivers (answer_of told.now) result (W.contents writer.old) (W.contents writer.new) }
+fn deliver<W: Sink>(writer: &mut W, reply: &Reply) -> Result<u8, CommandFault>
+    ensures told { Delivers (output_of reply.now) result (W.contents writer.old) (W.contents writer.new) }
     ensures status { IfOk result (λ status. status ≤ 1) }
     ensures writes { CountsWrites result (W.failed writer.old) (W.failed writer.new) }
     ensures no_read { result ≢ Err CommandFault.Read }
     ensures no_memory { result ≢ Err CommandFault.Memory }
 {
-    match send(writer, told.text().as_bytes()) {
-        Ok(()) => Ok(told.status()),
-        Err(fault) => Err(CommandFault::from(fault)),
-    }
+    send(writer, reply.text().as_bytes())?;
+    Ok(reply.status())
 }

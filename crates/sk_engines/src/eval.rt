@@ -9,14 +9,14 @@ ghost use Rattle.sk_engines.specs.Gathering.{asked_of};
 ghost use Rattle.sk_engines.specs.EvalCommand.{eval_answer, asked_answer, chained_answer, refusal_answer, chained, image_attached, program_attached, chain_text, meaning_line, verdict_line, value_text, refusal_text};
 ghost use Rattle.sk_ends.specs.Reading.{ConsumesUpTo};
 ghost use Rattle.sk_engines.specs.Engine.{Delivers, CountsReads, CountsWrites};
-ghost use Rattle.sk_engines.specs.Told.{answer_of};
+ghost use Rattle.sk_engines.specs.Reply.{output_of};
 ghost use Rattle.arrayvec.specs.ArrayString.{array_string_len};
 
 use crate::engine::{Command, run};
 use crate::eval_input::{Asked, gather};
 use crate::fault::CommandFault;
 use crate::refusal::{push_check_fault, push_no_image};
-use crate::told::{Line, Told, push_place};
+use crate::reply::{Line, Reply, push_place};
 use sk_chain::{Chain, ChainFault, first_of};
 use sk_check::{CheckFault, Checked, check};
 use sk_ends::{Sink, Source};
@@ -58,21 +58,21 @@ struct Eval;
 impl Command for Eval {
     ghost answers = { λ text. asked_answer (gathered 1 nothing_yet (lines_of text)) };
 
-    fn told(alloc: Global, text: &[u8]) -> Result<Told, AllocError> {
+    fn reply(alloc: Global, text: &[u8]) -> Result<Reply, AllocError> {
         match gather(alloc, text)? {
-            Ok(asked) => asked_told(alloc, &asked),
-            Err(number) => Ok(Told::at_line(number, "not understood")),
+            Ok(asked) => asked_reply(alloc, &asked),
+            Err(number) => Ok(Reply::at_line(number, "not understood")),
         }
     }
 }
 
-fn asked_told(alloc: Global, asked: &Asked) -> Result<Told, AllocError>
-    ensures answer { IfOk result (λ told.
-        answer_of told ≡ chained_answer asked.now.call (chained 0 [] (map (λ image. image.items) asked.now.images.items))) }
+fn asked_reply(alloc: Global, asked: &Asked) -> Result<Reply, AllocError>
+    ensures answer { IfOk result (λ reply.
+        output_of reply ≡ chained_answer asked.now.call (chained 0 [] (map (λ image. image.items) asked.now.images.items))) }
 {
     match chain_of(alloc, &asked.images)? {
-        Ok(chain) => Ok(Told::Done(chain_text(alloc, &asked.call, &chain)?)),
-        Err((number, refusal)) => Ok(refusal_told(number, refusal)),
+        Ok(chain) => Ok(Reply::Done(chain_text(alloc, &asked.call, &chain)?)),
+        Err((number, refusal)) => Ok(refusal_reply(number, refusal)),
     }
 }
 
@@ -169,15 +169,15 @@ fn push_value(text: &mut String, value: u32) -> Result<(), AllocError>
     write!(text, "{digits} {name} data {given}")
 }
 
-fn refusal_told(number: usize, refusal: Refusal) -> Told
-    ensures answer { answer_of result ≡ refusal_answer (number, refusal) }
+fn refusal_reply(number: usize, refusal: Refusal) -> Reply
+    ensures answer { output_of result ≡ refusal_answer (number, refusal) }
 {
     let mut text = Line::new();
     push_place(&mut text, "filter ", number);
     text.push_str(" ");
     push_refusal(&mut text, refusal);
     text.push_str("\n");
-    Told::Refused(text)
+    Reply::Refused(text)
 }
 
 fn push_refusal(text: &mut Line, refusal: Refusal)

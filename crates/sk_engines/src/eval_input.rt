@@ -40,10 +40,10 @@ pub fn gather(alloc: Global, input: &[u8]) -> Result<Result<Asked, usize>, Alloc
     };
     let mut number = 1;
     for line in Lines(input) {
-        given = match with_line(alloc, given, line)? {
-            Some(given) => given,
-            None => return Ok(Err(number)),
+        let Some(next) = with_line(alloc, given, line)? else {
+            return Ok(Err(number));
         };
+        given = next;
         number += 1;
     }
     match given.call {

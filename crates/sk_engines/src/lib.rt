@@ -11,7 +11,7 @@ mod fault;
 mod list;
 mod on_image;
 mod refusal;
-mod told;
+mod reply;
 
 pub use asm::asm_engine;
 pub use check::check_engine;

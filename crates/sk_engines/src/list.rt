@@ -8,7 +8,7 @@ ghost use Rattle.sk_engines.specs.OnImage.{on_image};
 use crate::engine::{Command, run};
 use crate::fault::CommandFault;
 use crate::on_image::instructions_in;
-use crate::told::Told;
+use crate::reply::Reply;
 use sk_ends::{Sink, Source};
 use sk_listing::list;
 use std::alloc::{AllocError, Global};
@@ -34,9 +34,9 @@ struct List;
 impl Command for List {
     ghost answers = { on_image listed_answer };
 
-    fn told(alloc: Global, text: &[u8]) -> Result<Told, AllocError> {
+    fn reply(alloc: Global, text: &[u8]) -> Result<Reply, AllocError> {
         match instructions_in(alloc, text)? {
-            Ok(insns) => Ok(Told::Done(list(alloc, &insns)?)),
+            Ok(insns) => Ok(Reply::Done(list(alloc, &insns)?)),
             Err(refused) => Ok(refused),
         }
     }

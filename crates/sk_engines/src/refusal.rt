@@ -1,32 +1,32 @@
 //! The lines that refuse images and programs.
 ghost use Rattle.std.specs.Prelude.{◌≡◌, ◌≤◌, ◌+◌, ◌++◌};
 ghost use Rattle.arrayvec.specs.ArrayString.{array_string_len};
-ghost use Rattle.sk_engines.specs.Answer.{refused, line};
+ghost use Rattle.sk_engines.specs.Output.{refused, line};
 ghost use Rattle.sk_engines.specs.Judging.{no_image_text, check_fault_text};
-ghost use Rattle.sk_engines.specs.Told.{answer_of};
+ghost use Rattle.sk_engines.specs.Reply.{output_of};
 
-use crate::told::{Line, Told, push_number, push_place};
+use crate::reply::{Line, Reply, push_number, push_place};
 use sk_check::CheckFault;
 use sk_insn::NoImage;
 
 /// Bytes that are no image are refused.
-pub fn image_refused(why: NoImage) -> Told
-    ensures answer { answer_of result ≡ refused (line (no_image_text why)) }
+pub fn image_refused(why: NoImage) -> Reply
+    ensures answer { output_of result ≡ refused (line (no_image_text why)) }
 {
     let mut text = Line::new();
     push_no_image(&mut text, why);
     text.push_str("\n");
-    Told::Refused(text)
+    Reply::Refused(text)
 }
 
 /// A program is refused.
-pub fn program_refused(fault: CheckFault) -> Told
-    ensures answer { answer_of result ≡ refused (line (check_fault_text fault)) }
+pub fn program_refused(fault: CheckFault) -> Reply
+    ensures answer { output_of result ≡ refused (line (check_fault_text fault)) }
 {
     let mut text = Line::new();
     push_check_fault(&mut text, fault);
     text.push_str("\n");
-    Told::Refused(text)
+    Reply::Refused(text)
 }
 
 /// Appends why bytes are no image.

@@ -4,6 +4,10 @@ use Rattle.std.specs.Str.{bytes_eq}
 use Rattle.sk_insn.specs.declared.action.Action.{Action}
 use Rattle.sk_insn.specs.declared.action.Action.TheVariants.{KillProcess, KillThread, Trap, Errno, UserNotif, Trace, Log, Allow, Unknown}
 
+-- the value that lets a call through, with no data: SECCOMP_RET_ALLOW
+abbrev pub allow : ℕ
+allow = 0x7fff0000
+
 -- the value of a named action
 abbrev pub value_of : Action → Option ℕ
 value_of KillProcess = Some 0x80000000
@@ -13,7 +17,7 @@ value_of Errno = Some 0x00050000
 value_of UserNotif = Some 0x7fc00000
 value_of Trace = Some 0x7ff00000
 value_of Log = Some 0x7ffc0000
-value_of Allow = Some 0x7fff0000
+value_of Allow = Some allow
 value_of Unknown = None
 
 -- its word in the assembler and in reports

@@ -7,7 +7,7 @@ use Rattle.sk_insn.specs.declared.image.ImageFault.{ImageFault}
 use Rattle.sk_insn.specs.declared.record.Record.{Record}
 use Rattle.sk_insn.specs.Instructions.{instructions_of}
 use Rattle.sk_check.specs.FirstFault.{first_fault}
-use Rattle.sk_chain.specs.Chains.{cost_of}
+use Rattle.sk_chain.specs.Chains.{path_limit, cost_of}
 use Rattle.sk_creds.specs.declared.errno.Errno.{Errno}
 use Rattle.sk_creds.specs.declared.errno.Errno.TheVariants.{Enoent, Enomem, Eacces, Efault, Einval}
 use Rattle.sk_creds.specs.declared.creds.Creds.{Creds}
@@ -53,7 +53,7 @@ abbrev pub filtered : Authority → Result (List Insn) Errno → Result Authorit
 filtered a (Ok insns) =
     if not (is_privileged a.creds) && not a.creds.no_new_privs then Err Eacces
     else if is_some (first_fault insns) then Err Einval
-    else if nat_lt 32768 (length insns + cost_of a.programs) then Err Enomem
+    else if nat_lt path_limit (length insns + cost_of a.programs) then Err Enomem
     else Ok (record a { programs = insns ∷ a.programs })
 filtered a (Err e) = Err e
 

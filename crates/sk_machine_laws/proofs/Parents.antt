@@ -11,7 +11,7 @@ use Rattle.sk_insn.specs.declared.action.Action.TheVariants as action
 use Rattle.sk_insn.specs.Actions.{action_of, performs}
 use Rattle.sk_interp.specs.Meaning.{meaning_of}
 use Rattle.sk_chain.specs.Precedence.{precedence_of}
-use Rattle.sk_chain.specs.Verdict.{value_of, values_of, first_of, verdict_of, IsAtMost}
+use Rattle.sk_chain.specs.Verdict.{meaning_value, values_of, first_of, verdict_of, IsAtMost}
 use Rattle.sk_chain.proofs.Verdicts.{first_of-least}
 use Rattle.sk_creds.specs.declared.errno.Errno.{Errno}
 use Rattle.sk_creds.specs.declared.errno.Errno.TheVariants.{Eagain}
@@ -410,7 +410,7 @@ first_of_more xs ys some =
 
 values-append : (xs ys : List (List Insn)) (call : Record) → values_of (xs ++ ys) call ≡ values_of xs call ++ values_of ys call
 values-append [] ys call = refl
-values-append (x ∷ xs) ys call = ap (λ vs. value_of (meaning_of x call) ∷ vs) (values-append xs ys call)
+values-append (x ∷ xs) ys call = ap (λ vs. meaning_value (meaning_of x call) ∷ vs) (values-append xs ys call)
 
 -- no filter refuses nothing
 some_values : (programs : List (List Insn)) (call : Record) → precedence_of (verdict_of programs call) <ℤ precedence_of 0x7ffc0000 → values_of programs call ≢ []

@@ -1,21 +1,20 @@
 -- Laws on the filters in force: the rules have accepted each of them.
-use Rattle.std.specs.Prelude.{ℕ, ◌≤◌, IsTrue, List, [], ◌∷◌}
+use Rattle.std.specs.Prelude.{ℕ, IsTrue, List, [], ◌∷◌}
 use Rattle.std.specs.Option.{is_some}
 use Rattle.sk_insn.specs.declared.insn.Insn.{Insn}
 use Rattle.sk_insn.specs.declared.record.Record.{Record}
 use Rattle.sk_interp.specs.MeaningLaws.{ReturnsWithinLength}
-use Rattle.sk_chain.specs.Chains.{cost_of, AllValid, StepsAreBounded}
+use Rattle.sk_chain.specs.Chains.{IsWithinLimit, AllValid, StepsAreBounded}
 use Rattle.sk_world.specs.World.{World, at, opening}
 use Rattle.sk_machine.specs.declared.event.Event.{Event}
 use Rattle.sk_machine.specs.Given.{GivenImages}
 use Rattle.sk_machine.specs.Machine.{step_of, world_after}
 use Rattle.sk_machine.specs.Lines.{authority_at}
 
--- filters that seccomp(2) accepts: each is valid, and they hold to the path limit, which counts each with
--- four more, but for the newest
+-- filters that seccomp(2) accepts: each is valid, and they hold to the path limit
 pub record AreAccepted (programs : List (List Insn)) : Type 0 where
   pub valid : AllValid programs
-  pub limited : cost_of programs ≤ 32772
+  pub limited : IsWithinLimit programs
 
 -- so are those of every process of the world
 abbrev pub HasAccepted : World → Type 0

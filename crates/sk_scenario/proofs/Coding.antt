@@ -3,14 +3,14 @@ use Rattle.std.proofs.Common.{◌≡◌, ◌≢◌, refl, List, Option, Result}
 use Rattle.sk_insn.specs.declared.insn.Insn.{Insn}
 use Rattle.sk_asm.specs.declared.fault.AsmFault.{AsmFault}
 use Rattle.sk_asm.specs.declared.fault.AsmFault.TheVariants as asm
-use Rattle.sk_asm.specs.Faults.{IsFaultOf}
+use Rattle.sk_asm.specs.Faults.{IsAsmFault}
 use Rattle.sk_setting.specs.declared.fault.TextFault.{TextFault}
 use Rattle.sk_setting.specs.Scenario.{Names}
 use Rattle.sk_setting.specs.Reading.{Open, coded, held, fault_of}
 
 -- the fault that the assembler tells decides
 pub coded_by : (known : Option Names) (fault : AsmFault) (given : Result (List Insn) AsmFault) (answer : Result Open TextFault)
-    → fault ≢ asm.Memory → IsFaultOf fault given → held known (fault_of fault) ≡ answer → coded known given ≡ answer
+    → fault ≢ asm.Memory → IsAsmFault fault given → held known (fault_of fault) ≡ answer → coded known given ≡ answer
 unfolding coded
 coded_by known (asm.Line n) given answer not_memory h is = rw h is
 coded_by known (asm.Label n) given answer not_memory h is = rw h is

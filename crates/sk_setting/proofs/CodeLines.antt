@@ -9,7 +9,7 @@ use Rattle.sk_asm.specs.declared.fault.AsmFault.{AsmFault}
 use Rattle.sk_asm.specs.declared.fault.AsmFault.TheVariants.{Line, Label, Twice, Far, Back, TooLong, Memory}
 use Rattle.sk_asm.specs.Faults.{◌>>=◌}
 use Rattle.sk_asm.specs.Grammar.{Destination, Further, Labelled, Statement, Silent, Marks, Plain, Jumps, Branches, insn, statement_of}
-use Rattle.sk_asm.specs.Labels.{Labels, place_of}
+use Rattle.sk_asm.specs.Labels.{Labels, label_place}
 use Rattle.sk_asm.specs.Passes.{understood, checked, counted, noted, labelled, landed, distance, resolved, in_front, emitted, assembled_lines}
 
 -- the fault is told of a line from `first` on that stands before `last`
@@ -71,7 +71,7 @@ module _ (n : ℕ) where
   noted-here : (labels : Labels) (at : ℕ) (statement : Statement) (fault : AsmFault) → noted n labels at statement ≡ Err fault → IsWithin n (n + 1) fault
   unfolding noted
   noted-here labels at Silent fault h = cc
-  noted-here labels at (Marks name) fault h = elim (cases_Bool (is_some (place_of labels name))) [
+  noted-here labels at (Marks name) fault h = elim (cases_Bool (is_some (label_place labels name))) [
     | inl again ↦ subst (IsWithin n (n + 1)) (err_is {X = Labels × ℕ} (Twice n) fault (rw again at h)) (omega arith, omega arith)
     | inr once ↦ let g = rw once at h in cc
   ]
@@ -94,7 +94,7 @@ module _ (n : ℕ) where
   distance-here : (labels : Labels) (at most : ℕ) (to : Destination) (fault : AsmFault) → distance labels n at most to ≡ Err fault → IsWithin n (n + 1) fault
   unfolding distance
   distance-here labels at most (Further count) fault h = cc
-  distance-here labels at most (Labelled name) fault h = landed-here at most (place_of labels name) fault h
+  distance-here labels at most (Labelled name) fault h = landed-here at most (label_place labels name) fault h
 
   resolved-here : (labels : Labels) (at : ℕ) (statement : Statement) (fault : AsmFault) → resolved labels n at statement ≡ Err fault → IsWithin n (n + 1) fault
   unfolding resolved

@@ -13,7 +13,7 @@ use Rattle.sk_setting.specs.declared.call.Named.TheVariants as named
 use Rattle.sk_setting.specs.declared.fault.TextFault.{TextFault}
 use Rattle.sk_setting.specs.declared.fault.TextFault.TheVariants.{Line, Unresolved, Limit}
 use Rattle.sk_setting.specs.Grammar.{Silent, Turns, Subreapers, Filter, Program, Heading, Alone, Opens, heading_of, begins_bytes, bytes_of, Asked, asked_of}
-use Rattle.sk_setting.specs.Scenario.{Names, call_of}
+use Rattle.sk_setting.specs.Scenario.{Names, call_of, longest_image}
 
 -- what can be wrong with a line, in the order in which it counts: too many bytes, not understood, over
 -- another limit, a name that is not given
@@ -141,18 +141,18 @@ is_wrong_at_top said line Malformed = is_unprintable line || option_map_or (repe
 is_wrong_at_top said line Beyond = option_map_or (exceeds said) (heading_of line) false
 is_wrong_at_top said line Nameless = false
 
--- an image has at most 32776 bytes
+-- an image has at most so many bytes
 abbrev pub is_wrong_in_bytes : ℕ → List ℕ → Wrong → Bool
 is_wrong_in_bytes before line Excess = is_too_long line
 is_wrong_in_bytes before line Malformed = is_unprintable line || not (is_some (bytes_of line))
-is_wrong_in_bytes before line Beyond = nat_lt 32776 (before + bytes_given line)
+is_wrong_in_bytes before line Beyond = nat_lt longest_image (before + bytes_given line)
 is_wrong_in_bytes before line Nameless = false
 
 -- a line of assembler text is judged with its block
 abbrev pub is_wrong_in_filter : List ℕ → Wrong → Bool
 is_wrong_in_filter line Excess = is_too_long line
 is_wrong_in_filter line Malformed = is_unprintable line || (begins_bytes (words_of line) && not (is_some (bytes_of line)))
-is_wrong_in_filter line Beyond = begins_bytes (words_of line) && nat_lt 32776 (bytes_given line)
+is_wrong_in_filter line Beyond = begins_bytes (words_of line) && nat_lt longest_image (bytes_given line)
 is_wrong_in_filter line Nameless = false
 
 -- a name of the call is not given, or to a filter where a program is wanted

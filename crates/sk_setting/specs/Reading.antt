@@ -17,7 +17,7 @@ use Rattle.sk_setting.specs.declared.call.Named.TheVariants as named
 use Rattle.sk_setting.specs.declared.fault.TextFault.{TextFault}
 use Rattle.sk_setting.specs.declared.fault.TextFault.TheVariants.{Line, Unresolved, Limit}
 use Rattle.sk_setting.specs.Grammar.{Remark, Silent, Turns, Subreapers, Opening, Filter, Program, Heading, Alone, Opens, heading_of, begins_bytes, bytes_of, Asked, asked_of}
-use Rattle.sk_setting.specs.Scenario.{Script, Setting, Names, named_by, call_of}
+use Rattle.sk_setting.specs.Scenario.{Script, Setting, Names, named_by, call_of, longest_image}
 
 -- ---- answers
 
@@ -112,7 +112,7 @@ started n d (Opens opening) = opened n d opening
 -- ---- a line in a block
 
 abbrev pub limited : ℕ → List ℕ → Result Open TextFault
-limited n image = if nat_lt 32776 (length image) then Err (Limit n) else Ok (Bytes image)
+limited n image = if nat_lt longest_image (length image) then Err (Limit n) else Ok (Bytes image)
 
 -- what a fault of the assembler is in a scenario; its definition never has the last one
 abbrev pub fault_of : AsmFault → TextFault

@@ -95,12 +95,16 @@ program_number (named.Program number) = Some number
 
 -- ---- a filter's block
 
+-- the most bytes of an image: 4097 instructions of eight bytes, one more than a program may have
+abbrev pub longest_image : ℕ
+longest_image = 32776
+
 -- lines `bytes HEX`, whose bytes joined are the image
 pub record AreBytes (body : List (List ℕ)) (image : List ℕ) : Type 0 where
   pub pieces : List (List ℕ)
   pub says : Each (Says bytes_of) body pieces
   pub joined : image ≡ concat pieces
-  pub few : length image ≤ 32776
+  pub few : length image ≤ longest_image
 
 -- assembler lines, whose instructions are the image
 pub record AreCode (body : List (List ℕ)) (image : List ℕ) : Type 0 where

@@ -3,7 +3,7 @@
 ghost use Rattle.std.specs.Prelude.{◌≡◌, ◌+◌, ◌∷◌, nat_lt, length, if◌then◌else◌, IsTrue, IfOk, OnOk, OnErr, MatchResult, Ok, Err};
 ghost use Rattle.std.specs.Option.{is_some};
 ghost use Rattle.std.specs.Result.{result_unwrap_or};
-ghost use Rattle.sk_chain.specs.Chains.{cost_of};
+ghost use Rattle.sk_chain.specs.Chains.{path_limit, cost_of};
 ghost use Rattle.sk_creds.specs.declared.errno.Errno.TheVariants.{Enomem};
 ghost use Rattle.sk_creds.specs.Errno.{answer_of};
 ghost use Rattle.sk_world.specs.World.{at};
@@ -110,8 +110,8 @@ fn lengthen(
     alloc: Global,
     program: Checked,
 ) -> Result<Result<(), Errno>, AllocError>
-    ensures answer { IfOk result (λ answer. answer ≡ (if nat_lt 32768 (length program + cost_of chain.old) then Err Enomem else Ok tt)) }
-    ensures chain { OnOk result (chain.new ≡ (if nat_lt 32768 (length program + cost_of chain.old) then chain.old else program ∷ chain.old)) }
+    ensures answer { IfOk result (λ answer. answer ≡ (if nat_lt path_limit (length program + cost_of chain.old) then Err Enomem else Ok tt)) }
+    ensures chain { OnOk result (chain.new ≡ (if nat_lt path_limit (length program + cost_of chain.old) then chain.old else program ∷ chain.old)) }
     ensures kept { OnErr result (chain.new ≡ chain.old) }
 {
     match replace(chain, Chain::empty(alloc)).attach(program) {

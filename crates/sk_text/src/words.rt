@@ -50,10 +50,7 @@ fn is_letter(byte: u8) -> bool
 pub fn no_word(mut words: Words<'_>) -> Option<()>
     ensures none { result ≡ none_of (words_of words.entry.0.now) }
 {
-    match words.next() {
-        Some(_) => None,
-        None => Some(()),
-    }
+    words.next().is_none().then_some(())
 }
 
 /// The only word.

@@ -1,6 +1,7 @@
-use Rattle.std.proofs.Common.{◌≡◌, ◌∙◌, ap, sym, drop, List, [], ℕ, arith}
+use Rattle.std.proofs.Common.{◌≡◌, ◌∙◌, ap, sym, drop, [], arith}
 use Rattle.std.proofs.lemmas.List.{drop_all}
 use Rattle.std.specs.Option.{unwrap_or}
+use Rattle.sk_insn.specs.Actions.{allow}
 use Rattle.sk_chain.specs.Choosing.{chosen_of}
 use Rattle.sk_chain.proofs.Verdicts.{chosen_of-none}
 use Rattle.sk_chain.proofs.precedence.first_of.Goals as goal
@@ -11,6 +12,6 @@ returns c =
     let through : drop c.loop-value.value-index values ≡ [] = drop_all c.loop-value.value-index values (omega arith) in
     record {
       first = c.unwrap_or.ensures
-          ∙ ap (λ first. unwrap_or first 0x7fff0000) (sym (ap (chosen_of c.loop-value.first) through) ∙ c.loop-value.invariant)
+          ∙ ap (λ first. unwrap_or first allow) (sym (ap (chosen_of c.loop-value.first) through) ∙ c.loop-value.invariant)
           ∙ chosen_of-none values;
     }

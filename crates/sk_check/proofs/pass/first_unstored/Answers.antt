@@ -1,11 +1,11 @@
-use Rattle.std.proofs.Common.{ℕ, List, ◌≡◌, ◌<◌, ◌≤◌, length, Some, slice_index_or, below_more, arith}
-use Rattle.std.specs.Prelude.{slice_get}
+use Rattle.std.proofs.Common.{ℕ, List, ◌≡◌, ◌<◌, ◌≤◌, length, Option, Some, None, slice_index_or, below_more, arith}
+use Rattle.std.specs.Prelude.{slice_get, IsSomeAnd, IfSome}
 use Rattle.std.proofs.lemmas.Option.{slice_get-get_or}
 use Rattle.sk_insn.specs.declared.insn.Insn.{Insn}
 use Rattle.sk_insn.specs.Operations.{operation_of}
-use Rattle.sk_check.specs.Paths.{IsUnstored}
-use Rattle.sk_check.specs.Places.{NoFaultBefore}
-use Rattle.sk_check.proofs.PlaceFaults.{FitsAt, no_insn, loads_below, names_word, stays_in_room}
+use Rattle.sk_check.specs.Paths.{loaded_word, Loads, IsUnstored}
+use Rattle.sk_check.specs.Fits.{TakesConstant, NoFaultBefore}
+use Rattle.sk_check.proofs.PlaceFaults.{FitsAt, no_insn, loads_there, stores_there, stays_in_room}
 use Rattle.sk_check.proofs.ForwardPass.{counts_start, counts_more, lacks_unstored, unstored_lacks}
 use Rattle.sk_check.proofs.Stages.{length_bounds, fits_at, goes_on, first_unstored_at, all_stored}
 use Rattle.sk_check.proofs.pass.first_unstored.Goals as goal
@@ -15,6 +15,15 @@ short insns clear = (length_bounds insns (λ fault early. clear fault (omega ari
 
 fits : (insns : List Insn) → NoFaultBefore insns 5 → (place : ℕ) → FitsAt insns place
 fits insns clear = fits_at insns (λ fault early. clear fault (omega arith))
+
+-- a word that is loaded is there
+small : (loaded : Option ℕ) (word : ℕ) → IsSomeAnd loaded (λ k. k ≡ word) → IfSome loaded (λ k. k < 16) → word < 16
+small None word loads there = absurd loads
+small (Some k) word loads there = omega arith
+
+loads_below : (word : ℕ) (insn : Insn) → Loads word (operation_of insn.code) insn → TakesConstant (operation_of insn.code) insn → word < 16
+loads_below word insn loads takes =
+    small (loaded_word (operation_of insn.code) insn) word loads (loads_there insn (operation_of insn.code) takes)
 
 pub loop-at-init : goal.loop-at-init
 loop-at-init c = record {
@@ -35,7 +44,7 @@ missing_word-requires c =
     let insns = c.args.insns.now in
     let at = c.loop-at.at in
     let insn = slice_index_or insns at no_insn in
-    names_word at (length insns) insn (operation_of insn.code) (fits insns c.requires at insn (slice_get-get_or insns at no_insn c.loop-at-test.true))
+    loads_there insn (operation_of insn.code) (fits insns c.requires at insn (slice_get-get_or insns at no_insn c.loop-at-test.true)).0
 
 pub returns-in-Some-clause-first : goal.returns-in-Some-clause-first
 returns-in-Some-clause-first c =
@@ -48,7 +57,7 @@ returns-in-Some-clause-first c =
     let inside : at < length insns = c.loop-at-test.true in
     let loads = c.in-Some.ensures.some.0 in
     let lacks = c.in-Some.ensures.some.1 in
-    let below = loads_below at (length insns) word insn (operation_of insn.code) loads (fits insns c.requires at insn here) in
+    let below = loads_below word insn loads (fits insns c.requires at insn here).0 in
     first_unstored_at insns at word c.requires c.loop-at.invariant.stored (lacks_unstored insns at word insn c.loop-at.stored here (omega arith) below c.loop-at.invariant.counts loads lacks)
 
 pub spread-requires-clause-at : goal.spread-requires-clause-at
@@ -57,6 +66,13 @@ spread-requires-clause-at c =
     let inside : c.loop-at.at < length c.args.insns.now = c.loop-at-test.true in
     let room : length c.loop-at.stored ≡ 4096 = c.loop-at.invariant.room in
     omega arith
+
+pub spread-requires-clause-there : goal.spread-requires-clause-there
+spread-requires-clause-there c =
+    let insns = c.args.insns.now in
+    let at = c.loop-at.at in
+    let insn = slice_index_or insns at no_insn in
+    stores_there insn (operation_of insn.code) (fits insns c.requires at insn (slice_get-get_or insns at no_insn c.loop-at-test.true)).0
 
 pub spread-requires-clause-inside : goal.spread-requires-clause-inside
 spread-requires-clause-inside c =
@@ -82,7 +98,7 @@ loop-at-preserved c =
     record {
       room = omega arith;
       counts = counts_more insns at insn c.loop-at.stored c.spread.new.stored here below room c.loop-at.invariant.counts c.spread.ensures;
-      stored = below_more (λ place. (word : ℕ) → IsUnstored insns place word → ⊥) at c.loop-at.invariant.stored (λ word unstored. let both = unstored_lacks insns at word insn c.loop-at.stored here below (λ loads. loads_below at (length insns) word insn (operation_of insn.code) loads (fits insns c.requires at insn here)) c.loop-at.invariant.counts unstored in none word both.0 both.1);
+      stored = below_more (λ place. (word : ℕ) → IsUnstored insns place word → ⊥) at c.loop-at.invariant.stored (λ word unstored. let both = unstored_lacks insns at word insn c.loop-at.stored here below (λ loads. loads_below word insn loads (fits insns c.requires at insn here).0) c.loop-at.invariant.counts unstored in none word both.0 both.1);
     }
 
 pub returns-clause-none : goal.returns-clause-none

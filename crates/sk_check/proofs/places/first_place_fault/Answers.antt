@@ -1,7 +1,6 @@
-use Rattle.std.proofs.Common.{◌≡◌, ◌∙◌, Some, None, slice_index_or, refl, sym, below_more, arith}
+use Rattle.std.proofs.Common.{◌≡◌, ◌∙◌, Some, None, slice_index_or, sym, below_more, arith}
 use Rattle.std.specs.Prelude.{slice_get}
 use Rattle.std.proofs.lemmas.Option.{slice_get-get_or}
-use Rattle.sk_insn.specs.Operations.{operation_of}
 use Rattle.sk_check.specs.FirstFault.{own_fault}
 use Rattle.sk_check.proofs.PlaceFaults.{no_insn, fault_of-is_fault, own_fault_here}
 use Rattle.sk_check.proofs.Stages.{length_bounds, first_at, all_fine}
@@ -16,7 +15,7 @@ returns-in-Some-clause-first c =
     let at = c.loop-at.at in
     let insn = slice_index_or insns at no_insn in
     let here : slice_get insns at ≡ Some insn = slice_get-get_or insns at no_insn c.loop-at-test.true in
-    first_at insns at c.in-Some.fault c.requires c.loop-at.invariant (fault_of-is_fault insns at insn (operation_of insn.code) c.in-Some.fault here refl (sym c.in-Some.ensures))
+    first_at insns at c.in-Some.fault c.requires c.loop-at.invariant (fault_of-is_fault insns at insn c.in-Some.fault here (sym c.in-Some.ensures))
 
 pub loop-at-preserved : goal.loop-at-preserved
 loop-at-preserved c =

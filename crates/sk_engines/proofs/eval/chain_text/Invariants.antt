@@ -1,4 +1,4 @@
-use Rattle.std.proofs.Common.{◌≡◌, ◌++◌, flat_map, length, string_bytes, vec_len}
+use Rattle.std.proofs.Common.{◌≡◌, ◌++◌, flat_map, string_bytes}
 use Rattle.sk_interp.specs.Meaning.{meaning_of}
 use Rattle.sk_chain.specs.Verdict.{values_of}
 use Rattle.sk_engines.specs.EvalCommand.{meaning_line}

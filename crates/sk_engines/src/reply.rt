@@ -1,9 +1,9 @@
-//! What a command answers. A line that refuses an input is made in place, so that no judgement takes memory.
+//! What a command replies. A line that refuses an input is made in place, so that no judgement takes memory.
 ghost use Rattle.std.specs.Prelude.{◌≡◌, ◌≤◌, ◌+◌, ◌++◌, codes, length, string_bytes};
 ghost use Rattle.std.specs.Fmt.{decimal};
 ghost use Rattle.arrayvec.specs.ArrayString.{array_string_len};
-ghost use Rattle.sk_engines.specs.Answer.{done, refused, line, at_line};
-ghost use Rattle.sk_engines.specs.Told.{answer_of};
+ghost use Rattle.sk_engines.specs.Output.{done, refused, line, at_line};
+ghost use Rattle.sk_engines.specs.Reply.{output_of};
 
 use arrayvec::ArrayString;
 use itoa::{Buffer, Integer};
@@ -11,9 +11,9 @@ use itoa::{Buffer, Integer};
 /// A line of text in place.
 pub type Line = ArrayString<128>;
 
-/// What a command answers: a text, and by it an exit status.
+/// What a command replies: a text, and by it an exit status.
 #[derive(Drop)]
-pub enum Told {
+pub enum Reply {
     /// The command did its work, and this is its text.
     Done(String),
     /// The command did its work, and a line says so.
@@ -22,43 +22,43 @@ pub enum Told {
     Refused(Line),
 }
 
-impl Told {
+impl Reply {
     /// The text that is sent.
     pub fn text(&self) -> &str
-        ensures text { result.now ≡ (answer_of self.now).text }
+        ensures text { result.now ≡ (output_of self.now).text }
     {
         match self {
-            Told::Done(text) => text.as_str(),
-            Told::Accepted(line) | Told::Refused(line) => line.as_str(),
+            Reply::Done(text) => text.as_str(),
+            Reply::Accepted(line) | Reply::Refused(line) => line.as_str(),
         }
     }
 
     /// The exit status.
     pub fn status(&self) -> u8
-        ensures status { result ≡ (answer_of self.now).status }
+        ensures status { result ≡ (output_of self.now).status }
         ensures known { result ≤ 1 }
     {
         match self {
-            Told::Done(_) | Told::Accepted(_) => 0,
-            Told::Refused(_) => 1,
+            Reply::Done(_) | Reply::Accepted(_) => 0,
+            Reply::Refused(_) => 1,
         }
     }
 
     /// The input is refused with these words.
-    pub fn refused(why: &str) -> Told
+    pub fn refused(why: &str) -> Reply
         requires short { length why.now ≤ 64 }
-        ensures answer { answer_of result ≡ refused (line why.now) }
+        ensures answer { output_of result ≡ refused (line why.now) }
     {
         let mut text = Line::new();
         text.push_str(why);
         text.push_str("\n");
-        Told::Refused(text)
+        Reply::Refused(text)
     }
 
     /// What is wrong with a line.
-    pub fn at_line(number: usize, what: &str) -> Told
+    pub fn at_line(number: usize, what: &str) -> Reply
         requires short { length what.now ≤ 64 }
-        ensures answer { answer_of result ≡ at_line number what.now }
+        ensures answer { output_of result ≡ at_line number what.now }
     {
         let mut text = Line::new();
         text.push_str("skern: line ");
@@ -66,7 +66,7 @@ impl Told {
         text.push_str(": ");
         text.push_str(what);
         text.push_str("\n");
-        Told::Refused(text)
+        Reply::Refused(text)
     }
 }
 
