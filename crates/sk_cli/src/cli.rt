@@ -1,13 +1,14 @@
 //! The program over any reader and writer.
-ghost use Rattle.std.specs.Prelude.{◌≡◌, ◌≤◌, IfOk};
+ghost use Rattle.std.specs.Prelude.{◌≡◌, ◌≤◌, ◌⊎◌, IfOk};
 
 use crate::word::{Word, word_in};
 use arrayvec::ArrayString;
-use sk_ends::{Sink, Source, WriteFault, send};
+use sk_ends::{Counted, Sink, Source, WriteFault, send};
 use sk_engines::{CommandFault, asm_engine, check_engine, eval_engine, list_engine};
 use sk_sched::{EngineFault, engine};
 use std::alloc::Global;
-use std::fmt::Write;
+use std::fmt::Write as _;
+use std::io::{BufWriter, Write};
 
 const USAGE: &str = "usage: skern run|check|eval|asm|list\n";
 
@@ -41,6 +42,21 @@ pub fn failed<W: Sink>(writer: &mut W, fault: CommandFault) -> u8
     let _ = writeln!(line, "{fault}");
     let _ = send(writer, line.as_bytes());
     FAILED
+}
+
+/// Writes what is left in the block, and gives the exit status of it all. Where that fails the text of the failure
+/// goes past the block, once. A fault that was told before, with status 3, had its text in the block.
+pub fn finish<W: Write + Drop>(output: BufWriter<W>, status: u8) -> u8
+    ensures status { (result ≡ status) ⊎ (result ≡ 3) }
+{
+    let mut output = output;
+    let flushed = output.flush();
+    let (writer, _block) = output.into_parts();
+    match flushed {
+        Ok(()) => status,
+        Err(_) if status == FAILED => FAILED,
+        Err(_) => failed(&mut Counted::new(writer), CommandFault::Write),
+    }
 }
 
 fn done<R: Source, W: Sink>(

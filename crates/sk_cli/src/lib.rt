@@ -4,7 +4,7 @@
 mod cli;
 mod word;
 
-pub use cli::{command, failed};
+pub use cli::{command, failed, finish};
 pub use sk_engines::{CommandFault, asm_engine, check_engine, eval_engine, list_engine};
 
 #[cfg(test)]

@@ -1,7 +1,8 @@
-use crate::{CommandFault, command, failed};
+use crate::{CommandFault, command, failed, finish};
 use sk_ends::Counted;
+use std::alloc::{AllocError, Global};
 use std::io;
-use std::io::{ErrorKind, Read, Write};
+use std::io::{BufWriter, ErrorKind, Read, Write};
 use std::test::Fail;
 
 // A text, or an end that fails from the start.
@@ -24,6 +25,15 @@ struct Writer {
     failing: u64,
 }
 
+impl Writer {
+    fn new(alloc: Global, failing: u64) -> Writer {
+        Writer {
+            held: Vec::new(alloc),
+            failing,
+        }
+    }
+}
+
 impl Write for Writer {
     fn write(&mut self, bytes: &[u8]) -> io::Result<usize> {
         if self.failing > 0 {
@@ -42,6 +52,17 @@ impl Write for Writer {
 const USAGE: &[u8] = b"usage: skern run|check|eval|asm|list\n";
 
 const ALLOW: &[u8] = b"060000000000ff7f";
+
+const NO_REPORT: &[u8] = b"1 1 call exit_group allow/0 ended 0x0000\nend halt 0x0000\n";
+
+// The words of a command.
+fn words(alloc: Global, given: &[&str]) -> Result<Vec<String>, AllocError> {
+    let mut words = Vec::new(alloc);
+    for word in given {
+        words.push(word.to_string(alloc)?)?;
+    }
+    Ok(words)
+}
 
 #[test]
 fn words_say_what_to_do(rt: HostRuntime) -> Result<(), Fail> {
@@ -62,15 +83,9 @@ fn words_say_what_to_do(rt: HostRuntime) -> Result<(), Fail> {
         (&["--"], 2, USAGE),
     ];
     for (given, status, output) in rows {
-        let mut words = Vec::new(alloc);
-        for word in given {
-            words.push(word.to_string(alloc)?)?;
-        }
+        let words = words(alloc, given)?;
         let mut reader = Counted::new(Reader(Some(ALLOW)));
-        let mut writer = Counted::new(Writer {
-            held: Vec::new(alloc),
-            failing: 0,
-        });
+        let mut writer = Counted::new(Writer::new(alloc, 0));
         let answer = command(alloc, words.as_slice(), &mut reader, &mut writer);
         assert_eq!(rt; writer.into_inner().held.as_slice(), output, "at {given:?}");
         assert_eq!(rt; answer, status, "at {given:?}");
@@ -78,39 +93,100 @@ fn words_say_what_to_do(rt: HostRuntime) -> Result<(), Fail> {
     Ok(())
 }
 
+// What a command wrote, and its status, where its first so many writes failed.
+fn answer(
+    alloc: Global,
+    word: &str,
+    input: Option<&[u8]>,
+    failing: u64,
+) -> Result<(Vec<u8>, u8), AllocError> {
+    let words = words(alloc, &[word])?;
+    let mut reader = Counted::new(Reader(input));
+    let mut writer = Counted::new(Writer::new(alloc, failing));
+    let status = command(alloc, words.as_slice(), &mut reader, &mut writer);
+    Ok((writer.into_inner().held, status))
+}
+
 #[test]
 fn failures_are_told_once(rt: HostRuntime) -> Result<(), Fail> {
-    let alloc = rt.alloc();
-    let rows: [(Option<&[u8]>, u64, &[u8]); 4] = [
-        (None, 0, b"skern: reading failed\n"),
-        (None, 1, b""),
-        (Some(ALLOW), 1, b"skern: writing failed\n"),
-        (Some(ALLOW), 2, b""),
+    let rows: [(&str, Option<&[u8]>, u64, &[u8]); 10] = [
+        ("check", None, 0, b"skern: reading failed\n"),
+        ("check", None, 1, b""),
+        ("check", Some(ALLOW), 1, b"skern: writing failed\n"),
+        ("check", Some(ALLOW), 2, b""),
+        ("run", None, 0, b"skern: reading failed\n"),
+        ("run", None, 1, b""),
+        ("run", Some(b""), 1, b"skern: writing failed\n"),
+        ("run", Some(b""), 2, b""),
+        // The text of a scenario's fault can't be written.
+        ("run", Some(b"turns 0"), 1, b"skern: writing failed\n"),
+        ("run", Some(b"turns 0"), 2, b""),
     ];
-    for (input, failing, output) in rows {
-        let mut words = Vec::new(alloc);
-        words.push("check".to_string(alloc)?)?;
-        let mut reader = Counted::new(Reader(input));
-        let mut writer = Counted::new(Writer {
-            held: Vec::new(alloc),
-            failing,
-        });
-        let answer = command(alloc, words.as_slice(), &mut reader, &mut writer);
+    for (word, input, failing, output) in rows {
+        let (held, status) = answer(rt.alloc(), word, input, failing)?;
         assert_eq!(rt;
-            writer.into_inner().held.as_slice(),
+            held.as_slice(),
             output,
-            "with {failing} failing writes"
+            "{word} with {failing} failing writes"
         );
-        assert_eq!(rt; answer, 3, "with {failing} failing writes");
+        assert_eq!(rt; status, 3, "{word} with {failing} failing writes");
     }
-    let mut writer = Counted::new(Writer {
-        held: Vec::new(alloc),
-        failing: 0,
-    });
+    let mut writer = Counted::new(Writer::new(rt.alloc(), 0));
     assert_eq!(rt; failed(&mut writer, CommandFault::Memory), 3);
     assert_eq!(rt;
         writer.into_inner().held.as_slice(),
         b"skern: out of memory\n".as_slice()
     );
+    Ok(())
+}
+
+// The same where the output is written in blocks of so many bytes.
+fn answer_in_blocks(
+    alloc: Global,
+    block: usize,
+    word: &str,
+    input: &[u8],
+    failing: u64,
+) -> Result<(Vec<u8>, u8), io::Error> {
+    let words = words(alloc, &[word])?;
+    let mut held = Writer::new(alloc, failing);
+    let mut reader = Counted::new(Reader(Some(input)));
+    let mut writer = Counted::new(BufWriter::with_capacity(alloc, block, &mut held)?);
+    let status = command(alloc, words.as_slice(), &mut reader, &mut writer);
+    let status = finish(writer.into_inner(), status);
+    Ok((held.held, status))
+}
+
+#[test]
+fn blocks_are_written_at_the_end(rt: HostRuntime) -> Result<(), Fail> {
+    let rows: [(usize, &str, &[u8], u64, &[u8], u8); 10] = [
+        (64, "check", ALLOW, 0, b"ok 1\n", 0),
+        (64, "check", ALLOW, 1, b"skern: writing failed\n", 3),
+        (64, "check", ALLOW, 2, b"", 3),
+        (
+            64,
+            "run",
+            b"turns 0",
+            0,
+            b"skern: line 1: over the limit\n",
+            1,
+        ),
+        (64, "run", b"turns 0", 1, b"skern: writing failed\n", 3),
+        (64, "run", b"", 0, NO_REPORT, 0),
+        (64, "run", b"", 1, b"skern: writing failed\n", 3),
+        // A line that is longer than the block is written by itself.
+        (32, "run", b"", 0, NO_REPORT, 0),
+        (32, "run", b"", 1, b"skern: writing failed\n", 3),
+        (32, "run", b"", 2, b"", 3),
+    ];
+    for (block, word, input, failing, output, status) in rows {
+        let (held, answer) = answer_in_blocks(rt.alloc(), block, word, input, failing)?;
+        assert_eq!(rt;
+            held.as_slice(),
+            output,
+            "{word} with {failing} failing writes"
+        );
+        assert_eq!(rt; answer, status, "{word} with {failing} failing writes");
+    }
     Ok(())
 }

@@ -1,3 +1,4 @@
 pub mod Following
 pub mod Underway
 pub mod Delivering
+pub mod Happening

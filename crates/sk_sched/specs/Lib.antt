@@ -1,3 +1,4 @@
 pub mod Views
 pub mod State
 pub mod Engine
+pub mod ReportLaws

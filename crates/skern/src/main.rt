@@ -1,10 +1,10 @@
 //! The program `skern`, over the standard streams.
 #![tactic(auto)]
 
-use sk_cli::{CommandFault, command, failed};
+use sk_cli::{CommandFault, command, failed, finish};
 use sk_ends::Counted;
 use std::env::Env;
-use std::io::{BufWriter, ErrorKind, Write};
+use std::io::{BufWriter, ErrorKind};
 use std::process::ExitCode;
 use std::{env, io};
 
@@ -34,11 +34,7 @@ fn main(rt: HostRuntime) -> ExitCode {
         // A word that is no text says nothing.
         Err(_) => command(alloc, &[], &mut reader, &mut writer),
     };
-    let mut output = writer.into_inner();
-    match output.flush() {
-        Ok(()) => ExitCode::from(status),
-        Err(_) => ExitCode::from(FAILED),
-    }
+    ExitCode::from(finish(writer.into_inner(), status))
 }
 
 // The words behind the program's name.

@@ -1,0 +1,84 @@
+-- The event that is due to whoever has the turn is possible, and so it happens.
+use Rattle.std.proofs.Common.{◌≡◌, ◌∙◌, ℕ, zero, suc, ap, refl, sym, subst, IsTrue, List, [], slice_get, Option, None, Some, Result, Ok, Err}
+use Rattle.std.proofs.lemmas.Bool.{cond_both}
+use Rattle.sk_setting.specs.declared.call.ScriptCall.{ScriptCall}
+use Rattle.sk_setting.specs.Scenario.{Script, Setting}
+use Rattle.sk_machine.specs.declared.event.Event.{Event}
+use Rattle.sk_machine.specs.declared.event.Need.{Need}
+use Rattle.sk_machine.specs.declared.event.Need.TheVariants as need
+use Rattle.sk_machine.specs.declared.answer.Answer.TheVariants as answer
+use Rattle.sk_machine.specs.declared.answer.Reason.{Reason}
+use Rattle.sk_machine.specs.Events.{pid_of}
+use Rattle.sk_machine.specs.Machine.{halted_of}
+use Rattle.sk_machine.specs.Turns.{is_runnable, need_of, need_met_by, next_of}
+use Rattle.sk_machine_laws.proofs.Turns.{next_is_turn, runnable_has_event}
+use Rattle.sk_machine_laws.proofs.Unchanged.{possible_happens}
+use Rattle.sk_report.specs.declared.turn.End.{End}
+use Rattle.sk_report.specs.declared.turn.Turn.TheVariants as turn
+use Rattle.sk_report.specs.Levels.{Stack}
+use Rattle.sk_report.specs.Scheduling.{Scheduled, opened, line_due, own_event, event_by, event_of, images_of, runner_by, runner_of, stepped_by, turn_by, after_turn_by}
+use Rattle.sk_report.specs.Report.{Report, onto, ended, report_from}
+use Rattle.sk_sched.specs.ReportLaws.{DueIsPossible, EachTurnHappens}
+
+-- an event of this process that meets this need
+record Meets (pid : ℕ) (what : Need) (event : Event) : Type 0 where
+  of_it : pid_of event ≡ pid
+  met : need_met_by event ≡ what
+
+own_meets : (scripts : List Script) (pid : ℕ) (s : Stack) (line : Option ScriptCall) → Meets pid need.Call (own_event scripts pid s line)
+own_meets scripts pid s (Some line) = record { of_it = refl; met = refl }
+own_meets scripts pid s None =
+    cond_both s.top.refused _ _ (Meets pid need.Call) (λ _. record { of_it = refl; met = refl }) (λ _. record { of_it = refl; met = refl })
+
+due_meets : (scripts : List Script) (pid : ℕ) (s : Stack) (what : Need) → Meets pid what (event_by scripts pid s what)
+due_meets scripts pid s need.Deliver = record { of_it = refl; met = refl }
+due_meets scripts pid s need.Resume = record { of_it = refl; met = refl }
+due_meets scripts pid s need.Call = own_meets scripts pid s (line_due scripts s)
+
+pub due_is_possible : DueIsPossible
+due_is_possible setting s pid runs =
+    let meets = due_meets setting.programs pid (s.stacks pid) (need_of s.world pid) in
+    (runnable_has_event s.world (event_of setting s pid) (subst (λ q. IsTrue (is_runnable s.world q)) (sym meets.of_it) runs)).1
+    (meets.met ∙ ap (need_of s.world) (sym meets.of_it))
+
+-- whoever has the turn can run
+has_the_turn : (halted next : Option ℕ) (pid : ℕ) → runner_by halted next ≡ Ok pid → next ≡ Some pid
+has_the_turn (Some status) next pid is = cc
+has_the_turn None (Some first) pid is = cc
+has_the_turn None None pid is = cc
+
+happens_now : (setting : Setting) (s : Scheduled) (pid n : ℕ) (event : Event) (reason : Reason) → runner_of s ≡ Ok pid
+    → turn_by setting s pid ≡ turn.Line n event (answer.NotNow reason) → ⊥
+happens_now setting s pid n event reason runner is =
+    let runs = (next_is_turn s.world s.last pid (has_the_turn (halted_of s.world) (next_of s.world s.last) pid runner)).runs in
+    let not_now : (stepped_by setting s pid).answer ≡ answer.NotNow reason = cc in
+    possible_happens (images_of setting) s.world (event_of setting s pid) reason (due_is_possible setting s pid runs) not_now
+
+-- the report where so many turns are left, by whose turn it is
+abbrev by_runner : Setting → Scheduled → ℕ → Result ℕ End → Report
+by_runner setting s left r =
+    elim r [ Ok pid ↦ onto (turn_by setting s pid) (report_from left setting (after_turn_by setting s pid)) | Err end ↦ ended end ]
+
+nothing_stands : {X : Type 0} (place : ℕ) (x : X) → slice_get [] place ≡ Some x → ⊥
+nothing_stands zero x is = cc
+nothing_stands (suc place) x is = cc
+
+-- no turn of the report from here on, where so many are left, tells of an event that was not possible
+abbrev Happens : Setting → ℕ → Type 0
+Happens setting left =
+    (s : Scheduled) (place n : ℕ) (event : Event) (reason : Reason)
+    → slice_get (report_from left setting s).turns place ≡ Some (turn.Line n event (answer.NotNow reason)) → ⊥
+
+happens_by : (setting : Setting) (left : ℕ) → Happens setting left → (s : Scheduled) (r : Result ℕ End) (place n : ℕ) (event : Event) (reason : Reason) → runner_of s ≡ r
+    → slice_get (by_runner setting s left r).turns place ≡ Some (turn.Line n event (answer.NotNow reason)) → ⊥
+happens_by setting left rest s (Err end) place n event reason runner is = nothing_stands place _ is
+happens_by setting left rest s (Ok pid) zero n event reason runner is = happens_now setting s pid n event reason runner cc
+happens_by setting left rest s (Ok pid) (suc place) n event reason runner is = rest (after_turn_by setting s pid) place n event reason is
+
+happens_from : (setting : Setting) (left : ℕ) → Happens setting left
+unfolding report_from
+happens_from setting zero s place n event reason is = nothing_stands place _ is
+happens_from setting (suc left) s place n event reason is = happens_by setting left (happens_from setting left) s (runner_of s) place n event reason refl is
+
+pub each_turn_happens : EachTurnHappens
+each_turn_happens setting place n event reason = happens_from setting setting.turns opened place n event reason
