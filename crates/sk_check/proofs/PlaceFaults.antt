@@ -1,5 +1,5 @@
 -- An instruction's own fault is a fault of its program, and one without such a fault fits its place.
-use Rattle.std.proofs.Common.{ℕ, ◌≡◌, ◌+◌, ◌%◌, ◌<◌, ◌≤◌, inl, inr, Bool, false, List, Option, Some, None, length, refl, sym, subst, ap, ◌∙◌, arith}
+use Rattle.std.proofs.Common.{ℕ, ◌↔◌, ◌≡◌, ◌+◌, ◌%◌, ◌<◌, ◌≤◌, inl, inr, Bool, false, List, Option, Some, None, length, refl, sym, subst, ap, ◌∙◌, arith}
 use Rattle.std.specs.Prelude.{slice_get, nat_lt, ◌==◌, IfSome}
 use Rattle.std.proofs.lemmas.Bool.{ltb-true, eqb-true, and_parts}
 use Rattle.sk_insn.specs.declared.insn.Insn.{Insn}
@@ -24,19 +24,12 @@ pub record IsFaultAt (insns : List Insn) (place : ℕ) (fault : CheckFault) : Ty
   pub at : fault_place fault ≡ place
 
 -- a fault of the stage of single instructions is one that an instruction has by itself
-has_own : (insns : List Insn) (fault : CheckFault) → stage_of fault ≡ 3 → HasByItself insns fault → HasFault insns fault
-has_own insns Empty stage has = absurd (omega arith)
-has_own insns TooLong stage has = absurd (omega arith)
-has_own insns NoReturn stage has = absurd (omega arith)
-has_own insns (Unstored place word) stage has = absurd (omega arith)
-has_own insns fault stage has = has
-
-own_has : (insns : List Insn) (fault : CheckFault) → stage_of fault ≡ 3 → HasFault insns fault → HasByItself insns fault
-own_has insns Empty stage has = absurd (omega arith)
-own_has insns TooLong stage has = absurd (omega arith)
-own_has insns NoReturn stage has = absurd (omega arith)
-own_has insns (Unstored place word) stage has = absurd (omega arith)
-own_has insns fault stage has = has
+own_is : (insns : List Insn) (fault : CheckFault) → stage_of fault ≡ 3 → HasFault insns fault ↔ HasByItself insns fault
+own_is insns Empty stage = absurd (omega arith)
+own_is insns TooLong stage = absurd (omega arith)
+own_is insns NoReturn stage = absurd (omega arith)
+own_is insns (Unstored place word) stage = absurd (omega arith)
+own_is insns fault stage = (λ has. has, λ has. has)
 
 -- what is told of an instruction is a fault of that stage, at its place
 abbrev IsToldAt : ℕ → CheckFault → Type 0
@@ -64,7 +57,7 @@ fault_of-is_fault insns place insn told here h =
     let at = told_at place (length insns) insn (operation_of insn.code) told h in
     let by_itself : HasByItself insns told =
     subst (λ p. At insns p (λ o insn. fault_of p (length insns) o insn ≡ Some told)) (sym at.1) (insn, here, h) in
-    record { has = has_own insns told at.0 by_itself; stage = at.0; at = at.1 }
+    record { has = (own_is insns told at.0).1 by_itself; stage = at.0; at = at.1 }
 
 -- an instruction of which nothing is told fits its place
 pub fits_if_none : (place count : ℕ) (insn : Insn) (o : Option Operation) → fault_of place count o insn ≡ None → Fits place count o insn
@@ -90,7 +83,7 @@ own_fault_here insns place insn here = ap (λ o. of_insn None o (fault_of place 
 -- a fault of a single instruction is the one that is told of it
 pub own_fault_told : (insns : List Insn) (fault : CheckFault) → stage_of fault ≡ 3 → HasFault insns fault → own_fault insns (fault_place fault) ≡ Some fault
 own_fault_told insns fault stage has =
-    let at = own_has insns fault stage has in
+    let at = (own_is insns fault stage).0 has in
     own_fault_here insns (fault_place fault) at.0 at.1 ∙ at.2
 
 -- an answer of the instruction at a place
