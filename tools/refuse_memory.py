@@ -1,9 +1,9 @@
 #!/usr/bin/env python3
 """refuse_memory.py PROGRAM FORKS READS: refuses each allocation of worked runs of PROGRAM and READS in turn.
 
-Each such run is to give the whole answer, or `skern: out of memory` with status 3, and nothing else; and whatever it
-gives, it is to have given back each block of memory that it took. There is a run of PROGRAM for every text that refuses
-an input. READS reads scenarios, and tells a sum over all values of what it read.
+Each such run is to give the whole answer, or `skern: out of memory` with status 3, and nothing else, but for the lines of the turns
+that a scenario has made before; and whatever it gives, it is to have given back each block of memory that it took. There is a run of
+PROGRAM for every text that refuses an input, and for each scenario of `scenarios.txt`. READS reads scenarios, and tells a sum over all values of what it read.
 FORKS is run with every allocation refused from its first line of output on, and on a small stack, and is to give its
 whole answer, over a store and in a kernel. The kernel is stopped by each allocation in turn, too, and is to go on with the same
 answers. Prints each run that gives something else, and at last 'N passed, M failed'."""
@@ -191,8 +191,20 @@ def told(setting):
     return f"filters {len(setting[2])} programs {len(setting[3])} sum {total}\n"
 
 
+def worked_scenarios():
+    """Each scenario of scenarios.txt with its report: a title is behind '# ', and a line '>' stands between the two."""
+    with open(os.path.join(HERE, "scenarios.txt"), encoding="utf-8") as file:
+        for scenario in re.split(r"^# .*\n", file.read(), flags=re.M)[1:]:
+            yield re.fullmatch(r"(.*?)^>\n(.*)", scenario, flags=re.M | re.S).groups()
+
+
+SCENARIOS = [(text, report, 0) for text, report in worked_scenarios()]
+# The last one attaches its filter in turn 5, so one of its runs is refused memory behind four turns.
+FOUR_TURNS = SCENARIOS[-1][0]
+SCENARIOS += [(text, f"skern: line {line}: {why}\n", 1) for text, line, why in BAD_SCENARIOS]
 READINGS = [(text, told(setting), 0) for text, setting in SETTINGS]
 READINGS += [(text, f"skern: line {line}: {why}\n", 1) for text, line, why in BAD_SCENARIOS]
+OUT_OF_MEMORY = b"skern: out of memory\n"
 MOST_ALLOCATIONS = 2000
 # Not enough for a call for each filter of FORKS' longest chain.
 STACK = 256 * 1024
@@ -209,12 +221,27 @@ ANSWERED = b"10 answers\n"
 ATTACHES = {0, 1, 3, 7, 8}
 
 
+def fronts_of(report):
+    """What a report may have before want of memory is told: the lines of its first turns, none to all."""
+    lines = report.encode().splitlines(keepends=True)
+    return {b"".join(lines[:turns]) for turns in range(len(lines))}
+
+
+def front_of(output, status):
+    """What stands before the text that tells of want of memory; None where nothing tells of it."""
+    if status != 3 or not output.endswith(OUT_OF_MEMORY):
+        return None
+    return output[: -len(OUT_OF_MEMORY)]
+
+
 def main():
     if len(sys.argv) != 4:
         sys.exit(__doc__)
     program, forks, reads = (os.path.abspath(name) for name in sys.argv[1:])
-    runs = [([program, word], text, output, status) for word, text, output, status in RUNS]
-    runs += [([reads], text, output, status) for text, output, status in READINGS]
+    runs = [([program, word], text, output, status, {b""}) for word, text, output, status in RUNS]
+    runs += [([program, "run"], text, output, status, fronts_of(output)) for text, output, status in SCENARIOS]
+    runs += [([reads], text, output, status, {b""}) for text, output, status in READINGS]
+    turns = set()
     passed = failed = 0
     with tempfile.TemporaryDirectory() as folder:
         shim = os.path.join(folder, "refuse_memory.so")
@@ -264,15 +291,18 @@ def main():
             failed += 1
             print(f"forks: stop: it stopped after {sorted(stops)} alone")
 
-        for words, text, output, status in runs:
+        for words, text, output, status, fronts in runs:
             word = os.path.basename(words[-1])
             whole = (output.encode(), status)
             refusals = 0
             for count in range(MOST_ALLOCATIONS):
                 # The first run refuses nothing.
                 answer, left = run(words, text, count)
-                if count > 0 and answer == (b"skern: out of memory\n", 3):
+                front = front_of(*answer)
+                if count > 0 and front in fronts:
                     refusals += 1
+                    if text == FOUR_TURNS:
+                        turns.add(front.count(b"\n"))
                 elif answer != whole:
                     failed += 1
                     print(f"{word} on {text[:60]!r}: with allocation {count} refused it gives {answer}")
@@ -288,6 +318,11 @@ def main():
             else:
                 failed += 1
                 print(f"{word} on {text[:60]!r}: {MOST_ALLOCATIONS} allocations did not do")
+        if 4 in turns:
+            passed += 1
+        else:
+            failed += 1
+            print(f"run: want of memory came behind {sorted(turns)} turns alone")
     print(f"{passed} passed, {failed} failed")
     return 1 if failed else 0
 

@@ -21,140 +21,141 @@ fn asked(alloc: Global, call: &str, lines: &str) -> Result<Vec<u8>, AllocError> 
     Ok(text)
 }
 
-/// Filters, the oldest first, and what they answer.
+/// Calls, and filters, the oldest first, with their statuses and what they answer.
+const ROWS: [(&str, &str, u8, &str); 23] = [
+    (
+        GETPID,
+        "filter 060000000000ff7f\n",
+        0,
+        "return 0x7fff0000 allow data 0 steps 1\n",
+    ),
+    (
+        GETPPID,
+        "filter 2000000000000000 150000016e000000 0600000001000500 060000000000ff7f\n",
+        0,
+        "return 0x00050001 errno data 1 steps 3\n",
+    ),
+    (
+        GETPID,
+        "filter 2000000000000000 150000016e000000 0600000001000500 060000000000ff7f\n",
+        0,
+        "return 0x7fff0000 allow data 0 steps 3\n",
+    ),
+    (
+        GETPID,
+        "filter 0100000000000000 0000000005000000 3c00000000000000 060000000000ff7f\n",
+        0,
+        "return 0x00000000 kill_thread data 0 steps 3\n",
+    ),
+    (
+        GETPID,
+        "filter 0100000021000000 0000000001000000 6c00000000000000 1600000000000000\n",
+        0,
+        "return 0x00000002 kill_thread data 2 steps 4\n",
+    ),
+    (
+        GETPID,
+        "filter 0000000001000000 8400000000000000 1600000000000000\n",
+        0,
+        "return 0xffffffff unknown data 65535 steps 3\n",
+    ),
+    (
+        GETPID,
+        "filter 0000000007000000 0200000000000000 1500010007000000 0600000000000000 6000000000000000 1600000000000000\n",
+        0,
+        "return 0x00000007 kill_thread data 7 steps 5\n",
+    ),
+    (
+        GETPID,
+        "filter 0200000000000000 060000000000ff7f\n",
+        0,
+        "return 0x7fff0000 allow data 0 steps 2\n",
+    ),
+    (
+        GETPID,
+        "filter 1500000100000000 060000000000ff7f\n",
+        1,
+        "filter 0 refused 8 jump at 0\n",
+    ),
+    (GETPID, "filter \n", 1, "filter 0 refused image empty\n"),
+    (
+        GETPID,
+        "filter 060000000000ff7f\nfilter 4000000000000000\n",
+        1,
+        "filter 1 refused 3 code at 0\n",
+    ),
+    (GETPID, "", 0, "verdict 0x7fff0000 allow data 0\n"),
+    (
+        GETPID,
+        "filter 0600000002000500\nfilter 0600000001000500\n",
+        0,
+        "return 0x00050001 errno data 1 steps 1\nreturn 0x00050002 errno data 2 steps 1\nverdict 0x00050001 errno data 1\n",
+    ),
+    (
+        GETPID,
+        "filter 0600000000000080\nfilter 060000000000ff7f\n",
+        0,
+        "return 0x7fff0000 allow data 0 steps 1\nreturn 0x80000000 kill_process data 0 steps 1\nverdict 0x80000000 kill_process data 0\n",
+    ),
+    (
+        GETPID,
+        "filter 0600000000000600\nfilter 0600000001000500\n",
+        0,
+        "return 0x00050001 errno data 1 steps 1\nreturn 0x00060000 unknown data 0 steps 1\nverdict 0x00050001 errno data 1\n",
+    ),
+    (
+        GETPID,
+        "filter 0600000001000500\nfilter 0600000000000600\n",
+        0,
+        "return 0x00060000 unknown data 0 steps 1\nreturn 0x00050001 errno data 1 steps 1\nverdict 0x00050001 errno data 1\n",
+    ),
+    (
+        GETPID,
+        "filter 060000000000f07f\nfilter 060000000000fc7f\n",
+        0,
+        "return 0x7ffc0000 log data 0 steps 1\nreturn 0x7ff00000 trace data 0 steps 1\nverdict 0x7ff00000 trace data 0\n",
+    ),
+    (
+        GETPID,
+        "filter 060000000000fc7f\nfilter 060000000000fd7f\n",
+        0,
+        "return 0x7ffd0000 unknown data 0 steps 1\nreturn 0x7ffc0000 log data 0 steps 1\nverdict 0x7ffc0000 log data 0\n",
+    ),
+    (
+        GETPID,
+        "filter 0600000000000000\nfilter 060000000000ffff\n",
+        0,
+        "return 0xffff0000 unknown data 0 steps 1\nreturn 0x00000000 kill_thread data 0 steps 1\nverdict 0xffff0000 unknown data 0\n",
+    ),
+    (
+        GETPID,
+        "filter 060000000000ffff\nfilter 0600000000000080\n",
+        0,
+        "return 0x80000000 kill_process data 0 steps 1\nreturn 0xffff0000 unknown data 0 steps 1\nverdict 0x80000000 kill_process data 0\n",
+    ),
+    (
+        "27000000 3e000040",
+        "filter 060000000000ff7f\n",
+        1,
+        "skern: line 1: not understood\n",
+    ),
+    (
+        GETPID,
+        "filter 06000000000ff7f\n",
+        1,
+        "skern: line 2: not understood\n",
+    ),
+    (
+        GETPID,
+        "filter 0600\t0000000ff7f\n",
+        1,
+        "skern: line 2: not understood\n",
+    ),
+];
+
 #[test]
 fn filters_answer_worked_rows(rt: HostRuntime) -> Result<(), Fail> {
-    let rows = [
-        (
-            GETPID,
-            "filter 060000000000ff7f\n",
-            0,
-            "return 0x7fff0000 allow data 0 steps 1\n",
-        ),
-        (
-            GETPPID,
-            "filter 2000000000000000 150000016e000000 0600000001000500 060000000000ff7f\n",
-            0,
-            "return 0x00050001 errno data 1 steps 3\n",
-        ),
-        (
-            GETPID,
-            "filter 2000000000000000 150000016e000000 0600000001000500 060000000000ff7f\n",
-            0,
-            "return 0x7fff0000 allow data 0 steps 3\n",
-        ),
-        (
-            GETPID,
-            "filter 0100000000000000 0000000005000000 3c00000000000000 060000000000ff7f\n",
-            0,
-            "return 0x00000000 kill_thread data 0 steps 3\n",
-        ),
-        (
-            GETPID,
-            "filter 0100000021000000 0000000001000000 6c00000000000000 1600000000000000\n",
-            0,
-            "return 0x00000002 kill_thread data 2 steps 4\n",
-        ),
-        (
-            GETPID,
-            "filter 0000000001000000 8400000000000000 1600000000000000\n",
-            0,
-            "return 0xffffffff unknown data 65535 steps 3\n",
-        ),
-        (
-            GETPID,
-            "filter 0000000007000000 0200000000000000 1500010007000000 0600000000000000 6000000000000000 1600000000000000\n",
-            0,
-            "return 0x00000007 kill_thread data 7 steps 5\n",
-        ),
-        (
-            GETPID,
-            "filter 0200000000000000 060000000000ff7f\n",
-            0,
-            "return 0x7fff0000 allow data 0 steps 2\n",
-        ),
-        (
-            GETPID,
-            "filter 1500000100000000 060000000000ff7f\n",
-            1,
-            "filter 0 refused 8 jump at 0\n",
-        ),
-        (GETPID, "filter \n", 1, "filter 0 refused image empty\n"),
-        (
-            GETPID,
-            "filter 060000000000ff7f\nfilter 4000000000000000\n",
-            1,
-            "filter 1 refused 3 code at 0\n",
-        ),
-        (GETPID, "", 0, "verdict 0x7fff0000 allow data 0\n"),
-        (
-            GETPID,
-            "filter 0600000002000500\nfilter 0600000001000500\n",
-            0,
-            "return 0x00050001 errno data 1 steps 1\nreturn 0x00050002 errno data 2 steps 1\nverdict 0x00050001 errno data 1\n",
-        ),
-        (
-            GETPID,
-            "filter 0600000000000080\nfilter 060000000000ff7f\n",
-            0,
-            "return 0x7fff0000 allow data 0 steps 1\nreturn 0x80000000 kill_process data 0 steps 1\nverdict 0x80000000 kill_process data 0\n",
-        ),
-        (
-            GETPID,
-            "filter 0600000000000600\nfilter 0600000001000500\n",
-            0,
-            "return 0x00050001 errno data 1 steps 1\nreturn 0x00060000 unknown data 0 steps 1\nverdict 0x00050001 errno data 1\n",
-        ),
-        (
-            GETPID,
-            "filter 0600000001000500\nfilter 0600000000000600\n",
-            0,
-            "return 0x00060000 unknown data 0 steps 1\nreturn 0x00050001 errno data 1 steps 1\nverdict 0x00050001 errno data 1\n",
-        ),
-        (
-            GETPID,
-            "filter 060000000000f07f\nfilter 060000000000fc7f\n",
-            0,
-            "return 0x7ffc0000 log data 0 steps 1\nreturn 0x7ff00000 trace data 0 steps 1\nverdict 0x7ff00000 trace data 0\n",
-        ),
-        (
-            GETPID,
-            "filter 060000000000fc7f\nfilter 060000000000fd7f\n",
-            0,
-            "return 0x7ffd0000 unknown data 0 steps 1\nreturn 0x7ffc0000 log data 0 steps 1\nverdict 0x7ffc0000 log data 0\n",
-        ),
-        (
-            GETPID,
-            "filter 0600000000000000\nfilter 060000000000ffff\n",
-            0,
-            "return 0xffff0000 unknown data 0 steps 1\nreturn 0x00000000 kill_thread data 0 steps 1\nverdict 0xffff0000 unknown data 0\n",
-        ),
-        (
-            GETPID,
-            "filter 060000000000ffff\nfilter 0600000000000080\n",
-            0,
-            "return 0x80000000 kill_process data 0 steps 1\nreturn 0xffff0000 unknown data 0 steps 1\nverdict 0x80000000 kill_process data 0\n",
-        ),
-        (
-            "27000000 3e000040",
-            "filter 060000000000ff7f\n",
-            1,
-            "skern: line 1: not understood\n",
-        ),
-        (
-            GETPID,
-            "filter 06000000000ff7f\n",
-            1,
-            "skern: line 2: not understood\n",
-        ),
-        (
-            GETPID,
-            "filter 0600\t0000000ff7f\n",
-            1,
-            "skern: line 2: not understood\n",
-        ),
-    ];
-    for (call, lines, status, output) in rows {
+    for (call, lines, status, output) in ROWS {
         let text = asked(rt.alloc(), call, lines)?;
         let (answer, held) = Command::Eval.on(rt.alloc(), text.as_slice());
         assert_eq!(rt; held.as_slice(), output.as_bytes(), "at {lines}");
@@ -201,47 +202,48 @@ fn filters_have_their_limits(rt: HostRuntime) -> Result<(), Fail> {
     Ok(())
 }
 
-/// Lines that do not fit, by their numbers.
+/// Lines that do not fit: what stands before the record, whether there is one, what stands behind it, and the fault.
+const BAD_LINES: [(&str, bool, &str, &str); 9] = [
+    ("", false, "", "skern: line 1: not understood\n"),
+    (
+        "; a comment\n\n",
+        false,
+        "",
+        "skern: line 3: not understood\n",
+    ),
+    (
+        "filter 060000000000ff7f\n",
+        false,
+        "",
+        "skern: line 1: not understood\n",
+    ),
+    (
+        "record 270000003e0000c0\n",
+        false,
+        "",
+        "skern: line 1: not understood\n",
+    ),
+    ("; \x7f\n", true, "", "skern: line 1: not understood\n"),
+    ("\n", true, "record\n", "skern: line 3: not understood\n"),
+    (
+        "",
+        true,
+        "filters 060000000000ff7f",
+        "skern: line 2: not understood\n",
+    ),
+    (
+        "",
+        true,
+        "filter 0\nfilter zz",
+        "skern: line 2: not understood\n",
+    ),
+    ("filter\n", true, "", "skern: line 1: not understood\n"),
+];
+
 #[test]
 fn inputs_are_refused_by_their_first_line(rt: HostRuntime) -> Result<(), Fail> {
     let record = asked(rt.alloc(), GETPID, "")?;
-    let rows = [
-        ("", false, "", "skern: line 1: not understood\n"),
-        (
-            "; a comment\n\n",
-            false,
-            "",
-            "skern: line 3: not understood\n",
-        ),
-        (
-            "filter 060000000000ff7f\n",
-            false,
-            "",
-            "skern: line 1: not understood\n",
-        ),
-        (
-            "record 270000003e0000c0\n",
-            false,
-            "",
-            "skern: line 1: not understood\n",
-        ),
-        ("; \x7f\n", true, "", "skern: line 1: not understood\n"),
-        ("\n", true, "record\n", "skern: line 3: not understood\n"),
-        (
-            "",
-            true,
-            "filters 060000000000ff7f",
-            "skern: line 2: not understood\n",
-        ),
-        (
-            "",
-            true,
-            "filter 0\nfilter zz",
-            "skern: line 2: not understood\n",
-        ),
-        ("filter\n", true, "", "skern: line 1: not understood\n"),
-    ];
-    for (before, has_record, after, output) in rows {
+    for (before, has_record, after, output) in BAD_LINES {
         let mut text = Vec::new(rt.alloc());
         text.extend_from_slice(before.as_bytes())?;
         if has_record {

@@ -146,8 +146,8 @@ fn endless_readers_are_refused(rt: HostRuntime) {
 
 /// Gives line feeds for ever, and counts them.
 #[derive(Drop)]
-struct Endless {
-    taken: u64,
+pub struct Endless {
+    pub taken: u64,
 }
 
 impl std::io::Read for Endless {

@@ -15,4 +15,6 @@ mod eval_rows;
 #[cfg(test)]
 mod failing_ends;
 #[cfg(test)]
+mod failing_runs;
+#[cfg(test)]
 mod report_rows;

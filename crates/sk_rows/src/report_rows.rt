@@ -1,6 +1,20 @@
 use crate::{Reader, Writer};
 use sk_ends::Counted;
-use sk_sched::{End, engine};
+use sk_sched::{End, EngineFault, engine_with};
+use sk_table::{ListStore, ProcStore, SlotStore};
+use std::alloc::Global;
+use std::test::Fail;
+
+/// A filter and no_new_privs hold through fork and execve.
+pub const KEPT: &str =
+    "filter f\nldabs 0\njeq 110 +0 +1\nret errno/1\nret allow\nend\nprogram init\nsetuid 1000\nseccomp 1 0 @f\nprctl 38 1 0 0 0\nseccomp 1 0 @f\nfork kid\nwait4 -1 0 0\nend\nprogram kid\nexecve @su\nend\nprogram su owner 0 setuid\ngeteuid\ngetppid\nend\n";
+
+/// Its report.
+pub const KEPT_REPORT: &str =
+    "1 1 call setuid allow/0 0\n2 1 call seccomp allow/0 -13\n3 1 call prctl allow/0 0\n4 1 call seccomp allow/0 0\n5 1 call fork allow/0 2\n6 2 call execve allow/0 executed\n7 1 call wait4 allow/0 waits\n8 2 call geteuid allow/0 1000\n9 2 call getppid errno/1 -1\n10 2 call exit_group allow/0 ended 0x0000\n11 1 resume told 2 0x0000\n12 1 call exit_group allow/0 ended 0x0000\nend halt 0x0000\n";
+
+/// What a run without a scenario writes.
+pub const NO_REPORT: &str = "1 1 call exit_group allow/0 ended 0x0000\nend halt 0x0000\n";
 
 /// Scenarios with their reports and ends.
 const REPORTS: [(&str, &str, End); 25] = [
@@ -54,11 +68,7 @@ const REPORTS: [(&str, &str, End); 25] = [
         "1 1 call seccomp allow/0 0\n2 1 call getpid unknown/0 ended 0x001f\nend halt 0x001f\n",
         End::Halt(0x001f),
     ),
-    (
-        "filter f\nldabs 0\njeq 110 +0 +1\nret errno/1\nret allow\nend\nprogram init\nsetuid 1000\nseccomp 1 0 @f\nprctl 38 1 0 0 0\nseccomp 1 0 @f\nfork kid\nwait4 -1 0 0\nend\nprogram kid\nexecve @su\nend\nprogram su owner 0 setuid\ngeteuid\ngetppid\nend\n",
-        "1 1 call setuid allow/0 0\n2 1 call seccomp allow/0 -13\n3 1 call prctl allow/0 0\n4 1 call seccomp allow/0 0\n5 1 call fork allow/0 2\n6 2 call execve allow/0 executed\n7 1 call wait4 allow/0 waits\n8 2 call geteuid allow/0 1000\n9 2 call getppid errno/1 -1\n10 2 call exit_group allow/0 ended 0x0000\n11 1 resume told 2 0x0000\n12 1 call exit_group allow/0 ended 0x0000\nend halt 0x0000\n",
-        End::Halt(0x0000),
-    ),
+    (KEPT, KEPT_REPORT, End::Halt(0x0000)),
     (
         "program init\nrt_sigaction 17 1 0\nfork kid\nfork kid\nwait4 -1 0 0\nend\nprogram kid\nsched_yield\nexit 3\nend\n",
         "1 1 call rt_sigaction allow/0 0\n2 1 call fork allow/0 2\n3 2 call sched_yield allow/0 0\n4 1 call fork allow/0 3\n5 2 call exit allow/0 ended 0x0300\n6 3 call sched_yield allow/0 0\n7 1 call wait4 allow/0 waits\n8 3 call exit allow/0 ended 0x0300\n9 1 resume -10\n10 1 call exit_group allow/0 ended 0x0000\nend halt 0x0000\n",
@@ -131,13 +141,84 @@ const REPORTS: [(&str, &str, End); 25] = [
     ),
 ];
 
+/// Texts that are no scenario, with what is told of them.
+const FAULTS: [(&str, &str); 14] = [
+    ("turns 0\n", "skern: line 1: over the limit"),
+    ("subreapers\nsubreapers\n", "skern: line 2: not understood"),
+    ("program init\ngetpid\n", "skern: line 3: not understood"),
+    (
+        "program init\nexecve @x\nend\n",
+        "skern: line 2: no such name",
+    ),
+    (
+        "program a\nfork f\nend\nfilter f\nend\n",
+        "skern: line 2: no such name",
+    ),
+    (
+        "program init\nexecve @x\nend\nbogus\n",
+        "skern: line 4: not understood",
+    ),
+    (
+        "filter f\nldabs 0\njeq 110 +0 +1\nret errno/1\nret allow\nend\nprogram init\nseccomp 1 0 @f\ngetp",
+        "skern: line 9: not understood",
+    ),
+    (
+        "filter f\nldabs 0\njeq 110 +0 +1\nret errno/1\nret allow\nend\nprogram init\nseccomp 1 0 @f\ngetppid",
+        "skern: line 10: not understood",
+    ),
+    ("filter f\nja far\nend\n", "skern: line 2: no such name"),
+    (
+        "filter f\nback:\nja back\nend\n",
+        "skern: line 3: not understood",
+    ),
+    (
+        "filter f\nend\nprogram f\nend\n",
+        "skern: line 3: not understood",
+    ),
+    (
+        "program init\nkill 1 -9223372036854775809\nend\n",
+        "skern: line 2: not understood",
+    ),
+    (
+        "program init\ncall 4294967296\nend\n",
+        "skern: line 2: not understood",
+    ),
+    ("turns 100001\nturns\n", "skern: line 1: over the limit"),
+];
+
+/// Runs a text over a store, and gives what was answered and what was written.
+fn run<S: ProcStore>(alloc: Global, input: &str) -> (Result<End, EngineFault>, Vec<u8>) {
+    let mut reader = Counted::new(Reader::new(input.as_bytes()));
+    let mut writer = Counted::new(Writer::new(alloc));
+    let answer = engine_with::<S, _, _>(alloc, &mut reader, &mut writer);
+    (answer, writer.into_inner().held)
+}
+
 #[test]
 fn scenarios_have_the_worked_reports(rt: HostRuntime) {
     for (input, report, end) in REPORTS {
-        let mut reader = Counted::new(Reader::new(input.as_bytes()));
-        let mut writer = Counted::new(Writer::new(rt.alloc()));
-        let answer = engine(rt.alloc(), &mut reader, &mut writer);
-        assert_eq!(rt; writer.into_inner().held.as_slice(), report.as_bytes());
-        assert_eq!(rt; answer, Ok(end));
+        let over_slots = run::<SlotStore>(rt.alloc(), input);
+        let over_list = run::<ListStore>(rt.alloc(), input);
+        for (answer, held) in [over_slots, over_list] {
+            assert_eq!(rt; held.as_slice(), report.as_bytes());
+            assert_eq!(rt; answer, Ok(end));
+        }
     }
+}
+
+#[test]
+fn damaged_scenarios_have_one_fault(rt: HostRuntime) -> Result<(), Fail> {
+    for (input, text) in FAULTS {
+        let (answer, held) = run::<SlotStore>(rt.alloc(), input);
+        let Err(fault) = answer else {
+            return Err(Fail::new("no fault"));
+        };
+        assert_eq!(rt;
+            format!(in rt.alloc(); "{fault}")?.as_str(),
+            text,
+            "at {input}"
+        );
+        assert_eq!(rt; held.len(), 0, "at {input}");
+    }
+    Ok(())
 }
