@@ -1,0 +1,74 @@
+//! Whether the processes are what their lines make of them.
+
+use crate::alike::have_rights_alike;
+use crate::fault::Fault;
+use crate::images::images;
+use crate::pair::Pair;
+use crate::tally::{Kind, Tally};
+use sk_calls::Syscall;
+use sk_kernel::laws::{Call, line};
+use sk_kernel::{Event, Kernel};
+use sk_table::{INIT, ListStore, Proc};
+use std::alloc::Global;
+
+/// Whether each process that is there, zombies too, has the filters, ids and no_new_privs of its line. Process 1 had none of
+/// them before the events.
+pub(crate) fn check_lines(
+    alloc: Global,
+    pair: &Pair,
+    filters: &[Vec<u8>],
+    tally: &mut Tally,
+) -> Result<(), Fault> {
+    for pid in &pair.pids {
+        if let Some(process) = pair.slots.get(*pid) {
+            check_line(alloc, pair, filters, *pid, process)?;
+            tally.add(Kind::Compared);
+        }
+    }
+    Ok(())
+}
+
+// Makes the calls of the line in a new kernel, as process 1.
+fn check_line(
+    alloc: Global,
+    pair: &Pair,
+    filters: &[Vec<u8>],
+    pid: u32,
+    process: &Proc,
+) -> Result<(), Fault> {
+    if pair.events.len() != pair.answers.len() {
+        return Err(Fault::Lines);
+    }
+    let line = line(alloc, &pair.events, &pair.answers, pid)?;
+    let mut kernel = Kernel::<ListStore>::new(alloc, images(alloc, filters, false)?)?;
+    for call in line.calls.iter().filter(|call| may_change_rights(call)) {
+        kernel.step(as_init(call))?;
+    }
+    match kernel.get(INIT) {
+        Some(made) if line.root == INIT && have_rights_alike(made, process) => Ok(()),
+        _ => Err(Fault::Lines),
+    }
+}
+
+fn as_init(call: &Call) -> Event {
+    Event::Call {
+        pid: INIT,
+        ip: call.ip,
+        nr: call.nr,
+        args: call.args,
+    }
+}
+
+// By no other call filters, ids or no_new_privs change.
+fn may_change_rights(call: &Call) -> bool {
+    matches!(
+        Syscall::of(call.nr),
+        Some(
+            Syscall::Seccomp
+                | Syscall::Prctl
+                | Syscall::Setuid
+                | Syscall::Setresuid
+                | Syscall::Execve
+        )
+    )
+}
