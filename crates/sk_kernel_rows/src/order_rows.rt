@@ -1,5 +1,6 @@
 use crate::given::{Filter, Given, NOTHING, PLAIN, SET_USER_ID};
-use crate::row::{NONE, event_of};
+use crate::row::Act::Call;
+use crate::row::{Act, NONE};
 use sk_calls::Syscall;
 use sk_calls::Syscall::{
     Execve, ExitGroup, Fork, Geteuid, Getppid, Kill, Pause, Prctl, Seccomp, Setuid, Wait4,
@@ -11,8 +12,8 @@ use sk_table::{ListStore, ProcStore, SlotStore};
 use std::process::Abort;
 use std::test::Fail;
 
-/// The calls that a process makes one after the other, with their first registers.
-type Script = &'static [(Syscall, [i64; 3])];
+/// The calls that a process makes one after the other.
+type Script = &'static [Act];
 
 /// Processes from 1 on that make the calls of their scripts, in orders of their turns.
 struct Orders {
@@ -38,19 +39,19 @@ const SANDBOX: Orders = Orders {
     },
     scripts: &[
         &[
-            (Setuid, [1000, 0, 0]),
-            (Seccomp, [1, 0, 0]),
-            (Prctl, [38, 1, 0]),
-            (Seccomp, [1, 0, 0]),
-            (Fork, NONE),
-            (Wait4, [-1, 0, 0]),
-            (ExitGroup, NONE),
+            Call(1, Setuid, [1000, 0, 0]),
+            Call(1, Seccomp, [1, 0, 0]),
+            Call(1, Prctl, [38, 1, 0]),
+            Call(1, Seccomp, [1, 0, 0]),
+            Call(1, Fork, NONE),
+            Call(1, Wait4, [-1, 0, 0]),
+            Call(1, ExitGroup, NONE),
         ],
         &[
-            (Execve, [2, 0, 0]),
-            (Geteuid, NONE),
-            (Getppid, NONE),
-            (ExitGroup, NONE),
+            Call(2, Execve, [2, 0, 0]),
+            Call(2, Geteuid, NONE),
+            Call(2, Getppid, NONE),
+            Call(2, ExitGroup, NONE),
         ],
         &[],
     ],
@@ -73,14 +74,22 @@ const SANDBOX: Orders = Orders {
 const STRANGERS: Orders = Orders {
     given: NOTHING,
     scripts: &[
-        &[(Fork, NONE), (Fork, NONE), (Pause, NONE)],
-        &[(Kill, [1, 9, 0]), (Setuid, [1000, 0, 0]), (Pause, NONE)],
         &[
-            (Setuid, [1001, 0, 0]),
-            (Kill, [2, 15, 0]),
-            (Kill, [2, 18, 0]),
-            (Kill, [-1, 0, 0]),
-            (ExitGroup, NONE),
+            Call(1, Fork, NONE),
+            Call(1, Fork, NONE),
+            Call(1, Pause, NONE),
+        ],
+        &[
+            Call(2, Kill, [1, 9, 0]),
+            Call(2, Setuid, [1000, 0, 0]),
+            Call(2, Pause, NONE),
+        ],
+        &[
+            Call(3, Setuid, [1001, 0, 0]),
+            Call(3, Kill, [2, 15, 0]),
+            Call(3, Kill, [2, 18, 0]),
+            Call(3, Kill, [-1, 0, 0]),
+            Call(3, ExitGroup, NONE),
         ],
     ],
     orders: &[
@@ -221,8 +230,8 @@ impl Orders {
     /// The first call of its script that it has not made, or a fault where it has made all.
     fn next_call(&self, pid: u32, events: &[Event]) -> Event {
         let script = self.scripts.get(pid.saturating_sub(1) as usize);
-        match script.and_then(|script| script.get(calls_of(pid, events))) {
-            Some((call, registers)) => event_of(pid, call.number(), registers),
+        match script.and_then(|script| script.get(calls_of(pid, events)).copied()) {
+            Some(act) => act.event(),
             None => Event::Fault { pid },
         }
     }
