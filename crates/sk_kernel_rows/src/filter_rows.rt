@@ -1,6 +1,6 @@
 use crate::given::{Filter, Given, NOTHING};
 use crate::play::Sight::Halted;
-use crate::play::{add, play, play_and_see};
+use crate::play::{add, play, play_and_keep, play_and_see};
 use crate::row::Act::{Call, Resume};
 use crate::row::Came::{Ends, Gives, Judged, NotNow, Refused, Tells};
 use crate::row::NONE;
@@ -207,30 +207,36 @@ fn calls_that_every_filter_allows_are_allowed(rt: HostRuntime) -> Result<(), Fai
     )
 }
 
-/// Processes that may not kill change nothing for one outside.
+/// Processes that may not kill change nothing by it, and one outside stays as it is when they end.
 #[test]
 fn refused_kills_reach_nobody(rt: HostRuntime) -> Result<(), Fail> {
-    play(
-        &rt,
-        &Given {
-            filters: &[Filter::Text("ldabs 0\njeq 62 +0 +1\nret errno/1\nret allow\n")],
-            ..NOTHING
-        },
-        &[
-            (Call(1, Fork, NONE), Gives(2)),
-            (Call(2, Seccomp, [1, 0, 0]), Gives(0)),
-            (Call(2, Fork, NONE), Gives(3)),
-            (Call(1, Fork, NONE), Gives(4)),
-            (Call(2, Kill, [4, 9, 0]), Refused(1)),
-            (Call(3, Kill, [4, 9, 0]), Refused(1)),
-            (Call(2, Kill, [-1, 9, 0]), Refused(1)),
-            (Call(3, Kill, [-1, 9, 0]), Refused(1)),
-            (Call(2, Kill, [0, 9, 0]), Refused(1)),
-            (Call(3, Kill, [0, 9, 0]), Refused(1)),
-            (Call(3, Exit, NONE), Ends(0)),
-            (Call(2, Exit, NONE), Ends(0)),
-            (Resume(4), NotNow(Reason::NothingWaits)),
-            (Call(4, Getppid, NONE), Gives(1)),
-        ],
-    )
+    let given = Given {
+        filters: &[Filter::Text("ldabs 0\njeq 62 +0 +1\nret errno/1\nret allow\n")],
+        ..NOTHING
+    };
+    let forks = [
+        (Call(1, Fork, NONE), Gives(2)),
+        (Call(2, Seccomp, [1, 0, 0]), Gives(0)),
+        (Call(2, Fork, NONE), Gives(3)),
+        (Call(1, Fork, NONE), Gives(4)),
+    ];
+    let kills = [
+        (Call(2, Kill, [4, 9, 0]), Refused(1)),
+        (Call(3, Kill, [4, 9, 0]), Refused(1)),
+        (Call(2, Kill, [-1, 9, 0]), Refused(1)),
+        (Call(3, Kill, [-1, 9, 0]), Refused(1)),
+        (Call(2, Kill, [0, 9, 0]), Refused(1)),
+        (Call(3, Kill, [0, 9, 0]), Refused(1)),
+    ];
+    let ends = [
+        (Call(3, Exit, NONE), Ends(0)),
+        (Call(2, Exit, NONE), Ends(0)),
+        (Resume(4), NotNow(Reason::NothingWaits)),
+        (Call(4, Getppid, NONE), Gives(1)),
+    ];
+    play_and_keep(&rt, &given, &forks, &kills, &[1, 2, 3, 4])?;
+    let mut before = Vec::new(rt.alloc());
+    add(&mut before, &forks)?;
+    add(&mut before, &kills)?;
+    play_and_keep(&rt, &given, &before, &ends, &[4])
 }

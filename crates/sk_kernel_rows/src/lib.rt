@@ -13,11 +13,17 @@ mod group_rows;
 #[cfg(test)]
 mod line_rows;
 #[cfg(test)]
+mod order_rows;
+#[cfg(test)]
 mod orphan_rows;
+#[cfg(test)]
+mod picture;
 #[cfg(test)]
 mod play;
 #[cfg(test)]
 mod reaper_rows;
+#[cfg(test)]
+mod reuse_rows;
 #[cfg(test)]
 mod row;
 #[cfg(test)]

@@ -72,17 +72,23 @@ impl Act {
     }
 }
 
-fn event_of(pid: u32, nr: u32, registers: &[i64; 3]) -> Event {
-    let mut args = [0; 6];
-    for (arg, register) in args.iter_mut().zip(registers) {
-        *arg = register.cast_unsigned();
-    }
+/// The event of a call.
+pub(crate) fn event_of(pid: u32, nr: u32, registers: &[i64; 3]) -> Event {
     Event::Call {
         pid,
         ip: 0,
         nr,
-        args,
+        args: args_of(registers),
     }
+}
+
+/// The registers of a call, of which these are the first.
+pub(crate) fn args_of(registers: &[i64; 3]) -> [u64; 6] {
+    let mut args = [0; 6];
+    for (arg, register) in args.iter_mut().zip(registers) {
+        *arg = register.cast_unsigned();
+    }
+    args
 }
 
 impl Came {

@@ -1,6 +1,6 @@
 use crate::given::{Filter, Given, NOTHING};
 use crate::play::Sight::{Absent, Needs};
-use crate::play::{play, play_and_see};
+use crate::play::{play, play_and_keep, play_and_see};
 use crate::row::Act::{Call, Deliver, Fault, Resume};
 use crate::row::Came::{
     Crashes, Ends, Gives, Handles, Interrupts, Kills, NotNow, Refused, Resumed, Stops, Tells, Waits,
@@ -176,20 +176,20 @@ fn continuation_takes_the_place_of_the_stop(rt: HostRuntime) -> Result<(), Fail>
 
 #[test]
 fn child_that_was_told_is_gone(rt: HostRuntime) -> Result<(), Fail> {
-    play_and_see(
-        &rt,
-        &NOTHING,
-        &[
-            (Call(1, Fork, NONE), Gives(2)),
-            (Call(2, Exit, NONE), Ends(0)),
-            (Call(2, Getpid, NONE), NotNow(Reason::Zombie)),
-            (Call(1, Wait4, [2, 0, 0]), Tells(2, 0)),
-            (Call(1, Wait4, [2, 0, 0]), Gives(-10)),
-            (Call(2, Getpid, NONE), NotNow(Reason::NoProcess)),
-            (Deliver(2), NotNow(Reason::NoProcess)),
-            (Resume(2), NotNow(Reason::NoProcess)),
-            (Fault(2), NotNow(Reason::NoProcess)),
-        ],
-        &[Absent(2)],
-    )
+    let told = [
+        (Call(1, Fork, NONE), Gives(2)),
+        (Call(1, Fork, NONE), Gives(3)),
+        (Call(2, Exit, NONE), Ends(0)),
+        (Call(2, Getpid, NONE), NotNow(Reason::Zombie)),
+        (Call(1, Wait4, [2, 0, 0]), Tells(2, 0)),
+    ];
+    let asked = [
+        (Call(1, Wait4, [2, 0, 0]), Gives(-10)),
+        (Call(2, Getpid, NONE), NotNow(Reason::NoProcess)),
+        (Deliver(2), NotNow(Reason::NoProcess)),
+        (Resume(2), NotNow(Reason::NoProcess)),
+        (Fault(2), NotNow(Reason::NoProcess)),
+    ];
+    play_and_see(&rt, &NOTHING, &told, &[Absent(2)])?;
+    play_and_keep(&rt, &NOTHING, &told, &asked, &[1, 3])
 }
