@@ -2,7 +2,7 @@
 ghost use Rattle.std.specs.Prelude.{◌≡◌, ◌<◌, ◌≤◌, ℕ, Bool, MatchResult};
 ghost use Rattle.std.specs.Option.{option_map};
 ghost use Rattle.sk_setting.specs.Grammar.{asked_of};
-ghost use Rattle.sk_setting.specs.Scenario.{value_of, child_of, call_of, named_by, program_number, number_of as number_of_named};
+ghost use Rattle.sk_setting.specs.Scenario.{argument_value, child_of, call_of, named_by, program_number, number_of as number_of_named};
 ghost use Rattle.sk_setting.specs.Reading.{checked, resolved, called};
 ghost use Rattle.sk_setting.specs.declared.fault.TextFault.TheVariants.{Limit};
 ghost use Rattle.sk_scenario.specs.Answers.{Answers, Judges};
@@ -53,8 +53,8 @@ fn number_of(what: Named) -> u32
     }
 }
 
-fn value_of(names: &Names<'_>, argument: Argument<'_>) -> Option<u64>
-    ensures exact { result ≡ value_of (names_seen names.now) (argument_seen argument.entry) }
+fn argument_value(names: &Names<'_>, argument: Argument<'_>) -> Option<u64>
+    ensures exact { result ≡ argument_value (names_seen names.now) (argument_seen argument.entry) }
 {
     match argument {
         Argument::Plain(value) => Some(value),
@@ -87,12 +87,12 @@ fn child_of(names: &Names<'_>, child: Option<&[u8]>) -> Option<Option<u32>>
 fn call_of(names: &Names<'_>, call: CallLine<'_>) -> Option<ScriptCall>
     ensures exact { result ≡ call_of (names_seen names.now) (call_seen call.entry) }
 {
-    let a = value_of(names, call.arguments.a)?;
-    let b = value_of(names, call.arguments.b)?;
-    let c = value_of(names, call.arguments.c)?;
-    let d = value_of(names, call.arguments.d)?;
-    let e = value_of(names, call.arguments.e)?;
-    let f = value_of(names, call.arguments.f)?;
+    let a = argument_value(names, call.arguments.a)?;
+    let b = argument_value(names, call.arguments.b)?;
+    let c = argument_value(names, call.arguments.c)?;
+    let d = argument_value(names, call.arguments.d)?;
+    let e = argument_value(names, call.arguments.e)?;
+    let f = argument_value(names, call.arguments.f)?;
     let script = child_of(names, call.child)?;
     Some(ScriptCall {
         nr: call.nr,

@@ -118,14 +118,14 @@ IsImage body image = AreBytes body image ⊎ AreCode body image
 
 -- ---- a program's block
 
-abbrev pub value_of : Names → Argument → Option ℕ
-value_of names (Plain value) = Some value
-value_of names (NumberOf name) = option_map number_of (named_by names name)
-value_of names (HandlerOf name) = option_map (λ number. number + 2) (named_by names name >>= λ given. program_number given)
+abbrev pub argument_value : Names → Argument → Option ℕ
+argument_value names (Plain value) = Some value
+argument_value names (NumberOf name) = option_map number_of (named_by names name)
+argument_value names (HandlerOf name) = option_map (λ number. number + 2) (named_by names name >>= λ given. program_number given)
 
-abbrev pub values_of : Names → List Argument → Option (List ℕ)
-values_of names [] = Some []
-values_of names (argument ∷ arguments) = value_of names argument >>= λ value. values_of names arguments >>= λ values. Some (value ∷ values)
+abbrev pub argument_values : Names → List Argument → Option (List ℕ)
+argument_values names [] = Some []
+argument_values names (argument ∷ arguments) = argument_value names argument >>= λ value. argument_values names arguments >>= λ values. Some (value ∷ values)
 
 abbrev pub child_of : Names → Option (List ℕ) → Option (Option ℕ)
 child_of names None = Some None
@@ -134,7 +134,7 @@ child_of names (Some name) = option_map Some (named_by names name >>= λ given. 
 -- the call that a line asks for, where all of its names are given, and to programs where it wants these
 unfoldable pub call_of : Names → Asked → Option ScriptCall
 call_of names asked =
-    values_of names asked.arguments >>= λ values. child_of names asked.child >>= λ child.
+    argument_values names asked.arguments >>= λ values. child_of names asked.child >>= λ child.
     Some (record { nr = asked.nr; args = values; script = child })
 
 -- a program's block: its lines ask for these calls, one by one
