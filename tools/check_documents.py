@@ -95,7 +95,7 @@ def main():
     paths = tracked()
     judge(list(citations(paths)), "the repository stands alone")
     known = {word for path in paths if path.startswith("crates") for word in re.findall(r"[A-Za-z_]\w*", read(path) + path)}
-    for document in ("README.md", "docs/DEFINITIONS.md", "docs/MAP.md", "docs/DECISIONS.md"):
+    for document in ("README.md", "docs/PROVED.md", "docs/DEFINITIONS.md", "docs/MAP.md", "docs/DECISIONS.md"):
         judge(list(words_named(document, read(document), known)), "names")
     for document in (path for path in paths if path.endswith(".md")):
         text = read(document)
