@@ -1,12 +1,9 @@
 //! Texts whose instructions or faults the grammar gives.
+use crate::insns::insn;
 use sk_asm::{AsmFault, Shape, assemble, assemble_block, is_end};
 use sk_insn::Insn;
 use std::alloc::{AllocError, Global};
 use std::test::Fail;
-
-fn insn(code: u16, jt: u8, jf: u8, k: u32) -> Insn {
-    Insn { code, jt, jf, k }
-}
 
 // The first line, then so many times the second one, then the last ones.
 fn repeated(alloc: Global, first: &[u8], times: usize, last: &[u8]) -> Result<Vec<u8>, AllocError> {

@@ -1,54 +1,8 @@
+use crate::insns::{ALLOW, ja, jeq, ldabs, ldimm, ldmem, ret, reta, st, tax, with_k};
 use sk_check::{CheckFault, check};
 use sk_insn::Insn;
 use std::alloc::{AllocError, Global};
 use std::test::Fail;
-
-/// The action that lets a call through.
-const ALLOW: u32 = 0x7fff_0000;
-
-fn branch(code: u16, k: u32, jt: u8, jf: u8) -> Insn {
-    Insn { code, jt, jf, k }
-}
-
-fn with_k(code: u16, k: u32) -> Insn {
-    branch(code, k, 0, 0)
-}
-
-fn ldabs(k: u32) -> Insn {
-    with_k(0x20, k)
-}
-
-fn ldimm(k: u32) -> Insn {
-    with_k(0x00, k)
-}
-
-fn ldmem(k: u32) -> Insn {
-    with_k(0x60, k)
-}
-
-fn st(k: u32) -> Insn {
-    with_k(0x02, k)
-}
-
-fn ja(k: u32) -> Insn {
-    with_k(0x05, k)
-}
-
-fn jeq(k: u32, jt: u8, jf: u8) -> Insn {
-    branch(0x15, k, jt, jf)
-}
-
-fn tax() -> Insn {
-    with_k(0x07, 0)
-}
-
-fn ret(k: u32) -> Insn {
-    with_k(0x06, k)
-}
-
-fn reta() -> Insn {
-    with_k(0x16, 0)
-}
 
 /// How many instructions were found valid, or why the program is refused.
 fn outcome(alloc: Global, program: &[Insn]) -> Result<Result<usize, CheckFault>, AllocError> {

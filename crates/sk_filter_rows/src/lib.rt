@@ -10,6 +10,8 @@ mod checks;
 #[cfg(test)]
 mod ends;
 #[cfg(test)]
+mod insns;
+#[cfg(test)]
 mod instructions;
 #[cfg(test)]
 mod listed;

@@ -1,12 +1,9 @@
 //! Lines of each form, and texts that assemble to what they list.
+use crate::insns::insn;
 use sk_asm::assemble;
 use sk_insn::Insn;
 use sk_listing::{laws, list};
 use std::test::Fail;
-
-fn insn(code: u16, jt: u8, jf: u8, k: u32) -> Insn {
-    Insn { code, jt, jf, k }
-}
 
 #[test]
 fn lists_each_form(rt: HostRuntime) -> Result<(), Fail> {

@@ -1,54 +1,12 @@
+use crate::insns::{ALLOW, branch, jeq, ldabs, ldimm, ldmem, ldximm, ret, reta, st, with_k};
 use sk_check::{Checked, check};
 use sk_insn::{Insn, Record};
 use sk_interp::{Ran, run, walk, walk_together};
 use std::alloc::Global;
 use std::test::Fail;
 
-/// The action that lets a call through.
-const ALLOW: u32 = 0x7fff_0000;
-
 /// The action that refuses a call by error 1.
 const ERRNO_1: u32 = 0x0005_0001;
-
-fn branch(code: u16, k: u32, jt: u8, jf: u8) -> Insn {
-    Insn { code, jt, jf, k }
-}
-
-fn with_k(code: u16, k: u32) -> Insn {
-    branch(code, k, 0, 0)
-}
-
-fn ldabs(k: u32) -> Insn {
-    with_k(0x20, k)
-}
-
-fn ldimm(k: u32) -> Insn {
-    with_k(0x00, k)
-}
-
-fn ldximm(k: u32) -> Insn {
-    with_k(0x01, k)
-}
-
-fn ldmem(k: u32) -> Insn {
-    with_k(0x60, k)
-}
-
-fn st(k: u32) -> Insn {
-    with_k(0x02, k)
-}
-
-fn jeq(k: u32, jt: u8, jf: u8) -> Insn {
-    branch(0x15, k, jt, jf)
-}
-
-fn ret(k: u32) -> Insn {
-    with_k(0x06, k)
-}
-
-fn reta() -> Insn {
-    with_k(0x16, 0)
-}
 
 fn call(nr: u32) -> Record {
     Record {
