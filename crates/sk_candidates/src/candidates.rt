@@ -100,6 +100,15 @@ fn parent_of<S: ProcStore>(store: &S, pid: u32) -> u32
 }
 
 impl<S: ProcStore> Candidates<S> {
+    /// Looks at the process that the last change was about, which need not be asked again where it rests. No process
+    /// changes.
+    pub fn settle(&mut self)
+        ensures { self.new ≡ self.old }
+    {
+        settle(&self.store, &mut self.noted, self.touched, 0);
+        self.touched = 0;
+    }
+
     /// Whose turn is next, in round robin: the least pid above `last` of a process that can run, else the least of all.
     /// Only who is noted is asked.
     pub fn next_runnable(&self, last: u32) -> Option<u32>

@@ -62,7 +62,9 @@ impl<S: ProcStore> Kernel<S> {
         ensures kept { OnErr result (self.new.world ≡ self.old.world) }
         ensures images { self.new.images ≡ self.old.images }
     {
-        stepping::step(&mut self.store, &self.images, self.alloc, &event)
+        let answer = stepping::step(&mut self.store, &self.images, self.alloc, &event);
+        self.store.settle();
+        answer
     }
 
     /// Does these events in their order, and puts their answers behind the others. Where it stops for want of memory,

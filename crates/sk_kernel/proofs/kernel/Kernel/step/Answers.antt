@@ -1,7 +1,11 @@
+use Rattle.std.proofs.Common.{subst, sym}
+use Rattle.sk_world.specs.Rules.{IsWorld}
+use Rattle.sk_machine_laws.specs.FilterLaws.{HasAccepted}
 use Rattle.sk_kernel.proofs.Runs.{kept_by}
 use Rattle.sk_kernel.proofs.kernel.Kernel.step.Goals as goal
 
 pub invariant_of-self : goal.invariant_of-self
 invariant_of-self g c =
-    kept_by c.self.inside.images c.self.inside.store c.step.new.store c.args.event c.step.result c.step.ensures.world c.step.ensures.kept
-    c.self.invariant
+    subst (λ w. IsWorld w × HasAccepted w) (sym c.settle.ensures)
+    (kept_by c.self.inside.images c.self.inside.store c.step-answer.new.store c.args.event c.step-answer.result c.step-answer.ensures.world
+    c.step-answer.ensures.kept c.self.invariant)
