@@ -9,5 +9,5 @@ mod precedence;
 
 pub use chain::{Chain, ChainFault};
 pub use node::Programs;
-pub use precedence::first_of;
+pub use precedence::{first_of, sooner};
 pub use sk_insn::Action;

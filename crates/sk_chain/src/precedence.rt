@@ -19,8 +19,8 @@ pub fn first_of(values: &[u32]) -> u32
     first.unwrap_or(ALLOW)
 }
 
-/// The first value may stay where another one comes.
-pub(crate) fn sooner(first: Option<u32>, value: u32) -> Option<u32>
+/// The first value may stay where another one comes: of equal actions the first one does.
+pub fn sooner(first: Option<u32>, value: u32) -> Option<u32>
     ensures chosen { result ≡ chosen first value }
 {
     match first {

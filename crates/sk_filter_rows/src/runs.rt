@@ -1,7 +1,7 @@
 use crate::insns::{ALLOW, branch, jeq, ldabs, ldimm, ldmem, ldximm, ret, reta, st, with_k};
 use sk_check::{Checked, check};
-use sk_insn::{Insn, Record};
-use sk_interp::{Ran, run, walk, walk_together};
+use sk_insn::{Arithmetic, Comparison, Insn, Record};
+use sk_interp::{Ran, calculate, holds, run, walk, walk_together};
 use std::alloc::Global;
 use std::test::Fail;
 
@@ -23,6 +23,38 @@ fn checked(alloc: Global, program: &[Insn]) -> Result<Checked, Fail> {
         Ok(checked) => Ok(checked),
         Err((_, fault)) => Err(Fail::from(fault)),
     }
+}
+
+#[test]
+fn calculations_alone(rt: HostRuntime) -> Result<(), Fail> {
+    let rows = [
+        (Arithmetic::Add, u32::MAX, 2, 1),
+        (Arithmetic::Subtract, 1, 2, u32::MAX),
+        (Arithmetic::Multiply, 0x8000_0001, 2, 2),
+        (Arithmetic::Divide, 7, 2, 3),
+        (Arithmetic::Or, 12, 10, 14),
+        (Arithmetic::And, 12, 10, 8),
+        (Arithmetic::ShiftLeft, 3, 33, 6),
+        (Arithmetic::ShiftRight, 0x8000_0000, 31, 1),
+        (Arithmetic::ExclusiveOr, 12, 10, 6),
+    ];
+    for (arithmetic, a, b, number) in rows {
+        if b != 0 {
+            assert_eq!(rt; calculate(arithmetic, a, b), number, "{arithmetic:?}");
+        }
+    }
+    let tests = [
+        (Comparison::Equal, 2, 2, true),
+        (Comparison::Greater, 0x8000_0000, 1, true),
+        (Comparison::Greater, 2, 2, false),
+        (Comparison::GreaterOrEqual, 2, 2, true),
+        (Comparison::CommonBits, 12, 3, false),
+        (Comparison::CommonBits, 12, 4, true),
+    ];
+    for (comparison, a, b, answer) in tests {
+        assert_eq!(rt; holds(comparison, a, b), answer, "{comparison:?}");
+    }
+    Ok(())
 }
 
 #[test]

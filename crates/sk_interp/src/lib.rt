@@ -8,5 +8,6 @@ mod together;
 mod walker;
 
 pub use interpreter::{Ran, run};
+pub use machine::{calculate, holds};
 pub use together::walk_together;
 pub use walker::walk;

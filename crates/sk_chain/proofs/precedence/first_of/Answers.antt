@@ -3,7 +3,7 @@ use Rattle.std.proofs.lemmas.List.{drop_all}
 use Rattle.std.specs.Option.{unwrap_or}
 use Rattle.sk_insn.specs.Actions.{allow}
 use Rattle.sk_chain.specs.Choosing.{chosen_of}
-use Rattle.sk_chain.proofs.Verdicts.{chosen_of-none}
+use Rattle.sk_chain.proofs.Verdicts.{chosen_of_none}
 use Rattle.sk_chain.proofs.precedence.first_of.Goals as goal
 
 pub returns : goal.returns
@@ -13,5 +13,5 @@ returns c =
     record {
       first = c.unwrap_or.ensures
           ∙ ap (λ first. unwrap_or first allow) (sym (ap (chosen_of c.loop-value.first) through) ∙ c.loop-value.invariant)
-          ∙ chosen_of-none values;
+          ∙ chosen_of_none values;
     }
