@@ -57,8 +57,7 @@ pub fn input<R: Source>(alloc: Global, reader: &mut R) -> Result<Vec<u8>, Comman
     ensures reads { CountsReads result (R.failed reader.old) (R.failed reader.new) }
     ensures no_write { result ≢ Err CommandFault.Write }
 {
-    let bytes = take_up_to(alloc, reader, MOST_BYTES + 1)?;
-    Ok(bytes)
+    Ok(take_up_to(alloc, reader, MOST_BYTES + 1)?)
 }
 
 /// Sends the answer's text, and tells its status.

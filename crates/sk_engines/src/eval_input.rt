@@ -8,7 +8,7 @@ ghost use Rattle.sk_engines.specs.Gathering.{gathered_of, Takes, Gathers};
 
 use crate::filters::{MOST_FILTERS, bytes_in};
 use sk_insn::{RECORD_LEN, Record};
-use sk_text::{Lines, Words, is_passed_over, is_printable, is_word};
+use sk_text::{Lines, Words, is_passed_over, is_printable};
 use std::alloc::{AllocError, Global};
 
 /// What is asked: what these filters answer on this call.
@@ -43,13 +43,8 @@ pub fn gather(alloc: Global, input: &[u8]) -> Result<Result<Asked, usize>, Alloc
         given = next;
         number += 1;
     }
-    match given.call {
-        Some(call) => Ok(Ok(Asked {
-            call,
-            images: given.images,
-        })),
-        None => Ok(Err(number)),
-    }
+    let Given { call, images } = given;
+    Ok(call.map(|call| Asked { call, images }).ok_or(number))
 }
 
 #[tactic(auto, unfolding(crate::specs::EvalInput::with_line))]
@@ -68,15 +63,11 @@ fn with_line(alloc: Global, given: Given, line: &[u8]) -> Result<Option<Given>, 
 fn said(alloc: Global, given: Given, mut words: Words<'_>) -> Result<Option<Given>, AllocError>
     ensures exact { IfOk result (λ next. Takes next (said (gathered_of given) (words_of words.entry.0.now))) }
 {
-    let Some(word) = words.next() else {
-        return Ok(Some(given));
-    };
-    if is_word(word, b"record") {
-        with_record(alloc, given, words)
-    } else if is_word(word, b"filter") {
-        with_filter(alloc, given, words)
-    } else {
-        Ok(None)
+    match words.next() {
+        None => Ok(Some(given)),
+        Some(b"record") => with_record(alloc, given, words),
+        Some(b"filter") => with_filter(alloc, given, words),
+        Some(_) => Ok(None),
     }
 }
 
@@ -89,13 +80,10 @@ fn with_record(alloc: Global, given: Given, digits: Words<'_>) -> Result<Option<
     if given.call.is_some() {
         return Ok(None);
     }
-    match record_of(bytes.as_slice()) {
-        Some(call) => Ok(Some(Given {
-            call: Some(call),
-            images: given.images,
-        })),
-        None => Ok(None),
-    }
+    Ok(record_of(&bytes).map(|call| Given {
+        call: Some(call),
+        ..given
+    }))
 }
 
 fn with_filter(alloc: Global, given: Given, digits: Words<'_>) -> Result<Option<Given>, AllocError>
@@ -107,22 +95,14 @@ fn with_filter(alloc: Global, given: Given, digits: Words<'_>) -> Result<Option<
     if given.call.is_none() || given.images.len() >= MOST_FILTERS {
         return Ok(None);
     }
-    let mut images = given.images;
-    images.push(image)?;
-    Ok(Some(Given {
-        call: given.call,
-        images,
-    }))
+    let mut given = given;
+    given.images.push(image)?;
+    Ok(Some(given))
 }
 
 #[tactic(auto, unfolding(sk_insn::specs::Record::record_of))]
 fn record_of(bytes: &[u8]) -> Option<Record>
     ensures exact { result ≡ record_of bytes.now }
 {
-    if bytes.len() != RECORD_LEN {
-        return None;
-    }
-    let mut cells = [0; RECORD_LEN];
-    cells.copy_from_slice(bytes);
-    Record::of(&cells)
+    Record::of(bytes.as_array::<RECORD_LEN>()?)
 }
