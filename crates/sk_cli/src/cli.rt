@@ -90,8 +90,8 @@ fn run<R: Source, W: Sink>(
 {
     match engine(alloc, reader, writer) {
         Ok(_) => Ok(0),
-        Err(EngineFault::Scenario(fault)) => {
-            tell(writer, EngineFault::Scenario(fault))?;
+        Err(fault @ EngineFault::Scenario(_)) => {
+            tell(writer, fault)?;
             Ok(1)
         }
         Err(EngineFault::Read) => Err(CommandFault::Read),

@@ -26,21 +26,19 @@ pub fn word_in(alloc: Global, words: &[String]) -> Result<Option<Word>, AllocErr
         .subcommand(Command::new(alloc, "asm"))?
         .subcommand(Command::new(alloc, "list"))?;
     match parser.try_get_matches_from(words) {
-        Ok(matches) => Ok(named(matches.subcommand_name())),
-        Err(error) => match error.kind() {
-            ErrorKind::OutOfMemory => Err(AllocError),
-            _ => Ok(None),
-        },
+        Ok(matches) => Ok(matches.subcommand_name().and_then(named)),
+        Err(error) if error.kind() == ErrorKind::OutOfMemory => Err(AllocError),
+        Err(_) => Ok(None),
     }
 }
 
-fn named(name: Option<&str>) -> Option<Word> {
+fn named(name: &str) -> Option<Word> {
     match name {
-        Some("run") => Some(Word::Run),
-        Some("check") => Some(Word::Check),
-        Some("eval") => Some(Word::Eval),
-        Some("asm") => Some(Word::Asm),
-        Some("list") => Some(Word::List),
+        "run" => Some(Word::Run),
+        "check" => Some(Word::Check),
+        "eval" => Some(Word::Eval),
+        "asm" => Some(Word::Asm),
+        "list" => Some(Word::List),
         _ => None,
     }
 }

@@ -1,18 +1,15 @@
 //! The lines of the input of `eval`.
 ghost use Rattle.std.specs.Prelude.{◌≡◌, IfOk};
-ghost use Rattle.std.specs.Option.{option_map};
 ghost use Rattle.sk_text.specs.Lines.{lines_of, words_of};
 ghost use Rattle.sk_text.specs.Hexadecimal.{hex_bytes};
 ghost use Rattle.sk_insn.specs.Record.{record_of};
 ghost use Rattle.sk_engines.specs.EvalInput.{with_line, with_record, with_filter, said, gathered, nothing_yet};
 ghost use Rattle.sk_engines.specs.Gathering.{gathered_of, Takes, Gathers};
 
+use crate::filters::{MOST_FILTERS, bytes_in};
 use sk_insn::{RECORD_LEN, Record};
-use sk_text::{HexFault, Lines, Words, bytes_of, is_passed_over, is_printable, is_word};
+use sk_text::{Lines, Words, is_passed_over, is_printable};
 use std::alloc::{AllocError, Global};
-
-/// The most filters of an input.
-pub const MOST_FILTERS: usize = 32;
 
 /// What is asked: what these filters answer on this call.
 #[derive(Drop)]
@@ -46,13 +43,8 @@ pub fn gather(alloc: Global, input: &[u8]) -> Result<Result<Asked, usize>, Alloc
         given = next;
         number += 1;
     }
-    match given.call {
-        Some(call) => Ok(Ok(Asked {
-            call,
-            images: given.images,
-        })),
-        None => Ok(Err(number)),
-    }
+    let Given { call, images } = given;
+    Ok(call.map(|call| Asked { call, images }).ok_or(number))
 }
 
 #[tactic(auto, unfolding(crate::specs::EvalInput::with_line))]
@@ -71,15 +63,11 @@ fn with_line(alloc: Global, given: Given, line: &[u8]) -> Result<Option<Given>, 
 fn said(alloc: Global, given: Given, mut words: Words<'_>) -> Result<Option<Given>, AllocError>
     ensures exact { IfOk result (λ next. Takes next (said (gathered_of given) (words_of words.entry.0.now))) }
 {
-    let Some(word) = words.next() else {
-        return Ok(Some(given));
-    };
-    if is_word(word, b"record") {
-        with_record(alloc, given, words)
-    } else if is_word(word, b"filter") {
-        with_filter(alloc, given, words)
-    } else {
-        Ok(None)
+    match words.next() {
+        None => Ok(Some(given)),
+        Some(b"record") => with_record(alloc, given, words),
+        Some(b"filter") => with_filter(alloc, given, words),
+        Some(_) => Ok(None),
     }
 }
 
@@ -92,13 +80,10 @@ fn with_record(alloc: Global, given: Given, digits: Words<'_>) -> Result<Option<
     if given.call.is_some() {
         return Ok(None);
     }
-    match record_of(bytes.as_slice()) {
-        Some(call) => Ok(Some(Given {
-            call: Some(call),
-            images: given.images,
-        })),
-        None => Ok(None),
-    }
+    Ok(record_of(&bytes).map(|call| Given {
+        call: Some(call),
+        ..given
+    }))
 }
 
 fn with_filter(alloc: Global, given: Given, digits: Words<'_>) -> Result<Option<Given>, AllocError>
@@ -110,33 +95,14 @@ fn with_filter(alloc: Global, given: Given, digits: Words<'_>) -> Result<Option<
     if given.call.is_none() || given.images.len() >= MOST_FILTERS {
         return Ok(None);
     }
-    let mut images = given.images;
-    images.push(image)?;
-    Ok(Some(Given {
-        call: given.call,
-        images,
-    }))
-}
-
-// The bytes that digits are, where they are some.
-fn bytes_in(alloc: Global, digits: Words<'_>) -> Result<Option<Vec<u8>>, AllocError>
-    ensures exact { IfOk result (λ bytes. option_map (λ bytes. bytes.items) bytes ≡ hex_bytes (words_of digits.entry.0.now)) }
-{
-    match bytes_of(alloc, digits) {
-        Ok(bytes) => Ok(Some(bytes)),
-        Err(HexFault::NotHexadecimal) => Ok(None),
-        Err(HexFault::Memory) => Err(AllocError),
-    }
+    let mut given = given;
+    given.images.push(image)?;
+    Ok(Some(given))
 }
 
 #[tactic(auto, unfolding(sk_insn::specs::Record::record_of))]
 fn record_of(bytes: &[u8]) -> Option<Record>
     ensures exact { result ≡ record_of bytes.now }
 {
-    if bytes.len() != RECORD_LEN {
-        return None;
-    }
-    let mut cells = [0; RECORD_LEN];
-    cells.copy_from_slice(bytes);
-    Record::of(&cells)
+    Record::of(bytes.as_array::<RECORD_LEN>()?)
 }

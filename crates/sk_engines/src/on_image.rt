@@ -15,12 +15,10 @@ use std::alloc::{AllocError, Global};
 pub fn instructions_in(alloc: Global, digits: &[u8]) -> Result<Result<Vec<Insn>, Reply>, AllocError>
     ensures read { IfOk result (λ read. (answer : List Insn → Output) → ReadsImage answer read (on_image answer digits.now)) }
 {
-    match bytes_of_text(alloc, digits) {
-        Ok(image) => match read_image(alloc, &image)? {
-            Ok(insns) => Ok(Ok(insns)),
-            Err(why) => Ok(Err(image_refused(why))),
-        },
-        Err(HexFault::NotHexadecimal) => Ok(Err(Reply::refused("skern: not hexadecimal"))),
-        Err(HexFault::Memory) => Err(AllocError),
-    }
+    let image = match bytes_of_text(alloc, digits) {
+        Ok(image) => image,
+        Err(HexFault::NotHexadecimal) => return Ok(Err(Reply::refused("skern: not hexadecimal"))),
+        Err(HexFault::Memory) => return Err(AllocError),
+    };
+    Ok(read_image(alloc, &image)?.map_err(image_refused))
 }
