@@ -1,7 +1,12 @@
 -- What the pass knows of the states of a machine, while it follows every call with one of some numbers.
-use Rattle.std.specs.Prelude.{ℕ, ◌≡◌, ◌<◌, ◌⊎◌, List, Option, Some, None, slice_get}
+use Rattle.std.specs.Prelude.{ℕ, ◌≡◌, ◌+◌, ◌<◌, ◌⊎◌, List, Option, Some, None, slice_get, slice_set}
 use Rattle.sk_insn.specs.declared.insn.Insn.{Insn}
 use Rattle.sk_insn.specs.declared.record.Record.{Record}
+use Rattle.sk_insn.specs.declared.operation.Register.{Register}
+use Rattle.sk_insn.specs.declared.operation.Register.TheVariants.{Accumulator, Index}
+use Rattle.sk_insn.specs.declared.operation.Operand.{Operand}
+use Rattle.sk_insn.specs.declared.operation.Operand.TheVariants.{Constant, IndexRegister}
+use Rattle.sk_check.specs.Paths.{Onward, Nowhere, To, Either as Both}
 use Rattle.sk_interp.specs.Meaning.{State, Effect, GoesOn, Ends}
 use Rattle.sk_survey.specs.declared.known.Known.{Known}
 use Rattle.sk_survey.specs.declared.known.Known.TheVariants.{Any, Number, Is}
@@ -29,6 +34,24 @@ pub record DescribesState (knowledge : Knowledge) (call : Record) (s : State) : 
   pub x : Describes knowledge.x call s.x
   pub words : DescribesWords knowledge.words call s.stored
 
+-- the same, and of one register or scratch word this
+abbrev pub with_known : Register → Known → Knowledge → Knowledge
+with_known Accumulator known knowledge = record knowledge { a = known }
+with_known Index known knowledge = record knowledge { x = known }
+
+abbrev pub known_register : Register → Knowledge → Known
+known_register Accumulator knowledge = knowledge.a
+known_register Index knowledge = knowledge.x
+
+abbrev pub with_word : Register → ℕ → Knowledge → Knowledge
+with_word register k knowledge =
+    record knowledge { words = slice_set knowledge.words k (known_register register knowledge) }
+
+-- what is known of the right side of a calculation or a comparison
+abbrev pub known_operand : Operand → ℕ → Knowledge → Known
+known_operand Constant k knowledge = Is k
+known_operand IndexRegister k knowledge = knowledge.x
+
 -- as a valid filter may start: it loads no word before it stores it
 abbrev pub zeros : State
 zeros = record { a = 0; x = 0; stored = λ k. Some 0 }
@@ -43,3 +66,23 @@ Leads (Either a) insn after call e =
 Leads (End known) insn after call e = (value : ℕ) × (e ≡ Ends value) × Describes known call value
 Leads FollowingOrZero insn after call e =
     ((s : State) × (e ≡ GoesOn 0 s) × DescribesState after call s) ⊎ (e ≡ Ends 0)
+
+-- where control goes on from a place
+abbrev pub led : ℕ → Next → Insn → Onward
+led place (Skip skip) insn = To (place + 1 + skip)
+led place (Either a) insn = Both (place + 1 + insn.jt) (place + 1 + insn.jf)
+led place (End known) insn = Nowhere
+led place FollowingOrZero insn = To (place + 1)
+
+-- what is known at a place is so
+abbrev pub DescribedBy : Option (Option Knowledge) → Record → State → Type 0
+DescribedBy (Some (Some knowledge)) call s = DescribesState knowledge call s
+DescribedBy slot call s = ⊥
+
+abbrev pub DescribedAt : List (Option Knowledge) → ℕ → Record → State → Type 0
+DescribedAt slots place call s = DescribedBy (slice_get slots place) call s
+
+-- where an effect goes on, the state that it leaves is known there
+abbrev pub Spreads : ℕ → List (Option Knowledge) → Record → Effect → Type 0
+Spreads place slots call (GoesOn skip s) = DescribedAt slots (place + (1 + skip)) call s
+Spreads place slots call e = Unit {0}

@@ -1,5 +1,6 @@
-ghost use Rattle.std.specs.Prelude.{◌≡◌, ℕ, IsOk, IfOk, [], ◌∷◌, Some};
+ghost use Rattle.std.specs.Prelude.{◌≡◌, ℕ, IsOk, IfOk, IsTrue, [], ◌∷◌, Some};
 ghost use Rattle.sk_insn.specs.declared.record.Record.{Record};
+ghost use Rattle.sk_chain.specs.Choosing.{chosen};
 ghost use Rattle.sk_survey.specs.Answers.{answers_of, IsAmong, AreRising};
 ghost use Rattle.sk_survey.specs.Following.{Describes};
 
@@ -55,7 +56,13 @@ impl Answers {
     }
 
     /// What the first of a newer filter's value and an older one's can be.
-    pub(crate) fn before(self, alloc: Global, older: Answers) -> Result<Answers, AllocError> {
+    pub(crate) fn before(self, alloc: Global, older: Answers) -> Result<Answers, AllocError>
+        requires newer { AreRising (answers_of self) }
+        requires older { AreRising (answers_of older) }
+        ensures rising { IfOk result (λ answers. AreRising (answers_of answers)) }
+        ensures first { IfOk result (λ answers. (u s first : ℕ) → IsAmong u (answers_of self)
+            → IsAmong s (answers_of older) → chosen (Some u) s ≡ Some first → IsAmong first (answers_of answers)) }
+    {
         match (self, older) {
             (Answers::Among(newer), Answers::Among(older)) => Ok(Answers::Among(merge(
                 alloc, &newer, &older,
@@ -65,7 +72,9 @@ impl Answers {
     }
 
     /// Whether both are the same values.
-    pub(crate) fn same(&self, other: &Answers) -> bool {
+    pub(crate) fn same(&self, other: &Answers) -> bool
+        ensures { IsTrue result → answers_of self.now ≡ answers_of other.now }
+    {
         match (self, other) {
             (Answers::Any, Answers::Any) => true,
             (Answers::Among(values), Answers::Among(others)) => values.as_slice()

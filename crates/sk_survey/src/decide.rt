@@ -56,5 +56,8 @@ fn common_bits(k: u32, first: u32, last: u32) -> Option<bool>
         return Some(false);
     }
     let low = k.trailing_zeros();
-    (first >> low == last >> low).then_some(first & k != 0)
+    if first >> low != last >> low {
+        return None;
+    }
+    Some(holds(Comparison::CommonBits, first, k))
 }

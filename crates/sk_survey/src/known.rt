@@ -1,4 +1,8 @@
 //! What is known of numbers in a filter while nothing is known of a call but the range of its number.
+ghost use Rattle.std.specs.Prelude.{ℕ, ◌<◌, Option};
+ghost use Rattle.sk_insn.specs.declared.record.Record.{Record};
+ghost use Rattle.sk_interp.specs.Meaning.{State};
+ghost use Rattle.sk_survey.specs.Following.{Describes, DescribesWord, DescribesWords, DescribesState, zeros};
 
 /// What is known of a number.
 #[derive(Clone, Copy, Debug, PartialEq, Eq)]
@@ -12,10 +16,6 @@ pub enum Known {
 }
 
 impl Known {
-    ghost use Rattle.std.specs.Prelude.{◌≡◌, ℕ};
-    ghost use Rattle.sk_insn.specs.declared.record.Record.{Record};
-    ghost use Rattle.sk_survey.specs.Following.{Describes};
-
     /// What is known where paths meet: what both of them know.
     pub fn join(self, other: Known) -> Known
         ensures one { (call : Record) (n : ℕ) → Describes self call n → Describes result call n }
@@ -34,10 +34,6 @@ pub struct Knowledge {
 }
 
 impl Knowledge {
-    ghost use Rattle.std.specs.Prelude.{replicate};
-    ghost use Rattle.sk_interp.specs.Meaning.{State};
-    ghost use Rattle.sk_survey.specs.Following.{DescribesState, zeros};
-
     /// As a filter starts. It is known that it loads no word before it stores it: so each word may begin as 0.
     pub fn at_start() -> Knowledge
         ensures { (call : Record) → DescribesState result call zeros }
@@ -50,13 +46,14 @@ impl Knowledge {
     }
 
     /// What is known where paths meet.
-    pub fn join(&mut self, other: &Knowledge)
-        ensures one { (call : Record) (s : State) → DescribesState self.old call s → DescribesState self.new call s }
-        ensures other { (call : Record) (s : State) → DescribesState other.now call s → DescribesState self.new call s }
+    pub fn join(mut self, other: &Knowledge) -> Knowledge
+        ensures one { (call : Record) (s : State) → DescribesState self call s → DescribesState result call s }
+        ensures other { (call : Record) (s : State) → DescribesState other.now call s → DescribesState result call s }
     {
         self.a = self.a.join(other.a);
         self.x = self.x.join(other.x);
         join_words(&mut self.words, &other.words);
+        self
     }
 }
 
@@ -64,7 +61,7 @@ fn join_words(words: &mut [Known; 16], others: &[Known; 16])
     ensures one { (call : Record) (stored : ℕ → Option ℕ) → DescribesWords words.old call stored → DescribesWords words.new call stored }
     ensures other { (call : Record) (stored : ℕ → Option ℕ) → DescribesWords others.now call stored → DescribesWords words.new call stored }
 {
-    for (word, other) in words.iter_mut().zip(others) {
-        *word = word.join(*other);
+    for k in 0..16 {
+        words[k] = words[k].join(others[k]);
     }
 }

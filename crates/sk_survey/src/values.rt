@@ -1,5 +1,6 @@
 //! Values in rising order, each once.
-ghost use Rattle.std.specs.Prelude.{◌≡◌, ℕ, IsOk};
+ghost use Rattle.std.specs.Prelude.{◌≡◌, ℕ, ◌<◌, ◌≤◌, ◌<ℤ◌, ◌≢◌, length, slice_index, IsOk};
+ghost use Rattle.std.specs.Int.{cast_signed, w32};
 ghost use Rattle.sk_survey.specs.Answers.{IsOneOf, IsRising};
 
 use std::alloc::AllocError;
@@ -19,8 +20,13 @@ pub(crate) fn insert(values: &mut Vec<u32>, value: u32) -> Result<(), AllocError
     Ok(())
 }
 
-/// How many of the values come before this one.
-fn place_of(values: &[u32], value: u32) -> usize {
+/// The first place of a value that does not come before this one.
+fn place_of(values: &[u32], value: u32) -> usize
+    ensures within { result ≤ length values.now }
+    ensures before { (k : ℕ) → k < result → cast_signed w32 (slice_index values.now k) <ℤ cast_signed w32 value }
+    ensures behind { result < length values.now → value ≢ slice_index values.now result
+        → cast_signed w32 value <ℤ cast_signed w32 (slice_index values.now result) }
+{
     for (place, other) in values.iter().enumerate() {
         if value.cast_signed() <= other.cast_signed() {
             return place;
