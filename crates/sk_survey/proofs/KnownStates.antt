@@ -1,5 +1,5 @@
 -- States of which something is known, before and after an instruction.
-use Rattle.std.proofs.Common.{◌≡◌, ℕ, ◌+◌, ◌<◌, ◌==◌, nat_lt, ◌∙◌, ◌⊎◌, inl, inr, Bool, true, false, if◌then◌else◌, List, length, Option, Some, None, slice_get, set, refl, sym, ap, subst, arith}
+use Rattle.std.proofs.Common.{◌≡◌, ℕ, ◌+◌, ◌<◌, ◌==◌, inl, inr, Bool, true, false, if◌then◌else◌, List, length, Option, Some, slice_get, set, refl, sym, ap, subst, arith}
 use Rattle.std.proofs.lemmas.Bool.{eqb-true, eqb-false, lt-ltb}
 use Rattle.sk_insn.specs.declared.insn.Insn.{Insn}
 use Rattle.sk_insn.specs.declared.record.Record.{Record}
@@ -17,7 +17,7 @@ use Rattle.sk_survey.specs.declared.follow.Next.{Next}
 use Rattle.sk_survey.specs.declared.follow.Next.TheVariants.{Skip, Either}
 use Rattle.sk_survey.specs.declared.known.Known.{Known}
 use Rattle.sk_survey.specs.declared.known.Knowledge.{Knowledge}
-use Rattle.sk_survey.specs.Following.{Spreads, DescribedAt, Leads, known_operand, with_known, Describes, DescribesWord, DescribesWords, DescribesState, known_register, with_word}
+use Rattle.sk_survey.specs.Following.{Spreads, DescribedAt, Leads, known_operand, Describes, DescribesWord, DescribesWords, DescribesState, known_register, with_word}
 use Rattle.sk_survey.proofs.KnownWords.{word_set, word_other}
 
 register_known : (r : Register) (knowledge : Knowledge) (call : Record) (s : State) → DescribesState knowledge call s

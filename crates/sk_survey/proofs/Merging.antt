@@ -1,12 +1,12 @@
 -- The first of two values, told by the last values of their sets.
-use Rattle.std.proofs.Common.{◌≡◌, ℕ, zero, suc, ◌+◌, ◌%◌, ◌-◌, ◌^◌, ◌<◌, ◌≤◌, ◌⊎◌, inl, inr, Bool, true, false, if◌then◌else◌, List, [], ◌∷◌, length, take, Option, Some, None, slice_get, get_or, refl, sym, ap, subst, ◌∙◌, arith}
+use Rattle.std.proofs.Common.{◌≡◌, ℕ, zero, suc, ◌+◌, ◌%◌, ◌-◌, ◌^◌, ◌<◌, ◌≤◌, ◌⊎◌, inl, inr, Bool, true, false, if◌then◌else◌, List, [], ◌∷◌, length, take, Some, slice_get, get_or, refl, sym, ap, subst, arith}
 use Rattle.std.specs.Prelude.{ℤ, int_le, ◌<ℤ◌, ◌≤ℤ◌}
 use Rattle.std.specs.Int.{cast_signed, w32}
 use Rattle.std.proofs.lemmas.Bool.{cases_lt}
 use Rattle.std.proofs.lemmas.Int.{ints}
 use Rattle.sk_chain.specs.Precedence.{precedence_of}
 use Rattle.sk_chain.specs.Choosing.{chosen}
-use Rattle.sk_survey.specs.Answers.{IsOneOf, IsBelowAll, IsRising}
+use Rattle.sk_survey.specs.Answers.{IsOneOf, IsRising}
 
 -- the next one of a list
 pub one_of_more : (xs : List ℕ) (i value : ℕ) → i < length xs → IsOneOf value (take (i + 1) xs) → IsOneOf value (take i xs) ⊎ (value ≡ get_or xs i 0)

@@ -3,9 +3,8 @@ use Rattle.std.proofs.Common.{ℕ, zero, suc, ◌≡◌, ◌+◌, ◌<◌, ◌�
 use Rattle.std.proofs.lemmas.Bool.{cases_eq}
 use Rattle.sk_insn.specs.declared.insn.Insn.{Insn}
 use Rattle.sk_insn.specs.declared.record.Record.{Record}
-use Rattle.sk_insn.specs.declared.operation.Operation.{Operation}
 use Rattle.sk_insn.specs.Operations.{operation_of}
-use Rattle.sk_check.specs.Paths.{Onward, Nowhere, To, Either as Both, GoesTo, LeadsTo, onward}
+use Rattle.sk_check.specs.Paths.{Onward, Nowhere, To, Either as Both, GoesTo, onward}
 use Rattle.sk_check.specs.Fits.{AreInside}
 use Rattle.sk_check.specs.Valid.{IsValid}
 use Rattle.sk_check.proofs.ValidPrograms.{valid_count, valid_leads}

@@ -1,10 +1,9 @@
 -- Rows that tell, with one more row, or with more numbers in the last one.
-use Rattle.std.proofs.Common.{◌≡◌, ℕ, zero, suc, ◌+◌, ◌<◌, ◌≤◌, ◌⊎◌, inl, inr, List, [], ◌∷◌, ◌++◌, length, Option, Some, slice_get, set, refl, sym, ap, subst, ◌∙◌, arith}
+use Rattle.std.proofs.Common.{◌≡◌, ℕ, zero, suc, ◌+◌, ◌≤◌, inl, inr, List, [], ◌∷◌, ◌++◌, length, Option, Some, slice_get, set, refl, sym, subst, arith}
 use Rattle.std.proofs.lemmas.Bool.{cases_lt}
 use Rattle.sk_insn.specs.declared.insn.Insn.{Insn}
-use Rattle.sk_chain.specs.Verdict.{verdict_of}
 use Rattle.sk_survey.specs.declared.rows.Row.{Row}
-use Rattle.sk_survey.specs.Answers.{IsAmong, answers_of, ChainAnswersAmong}
+use Rattle.sk_survey.specs.Answers.{answers_of, ChainAnswersAmong}
 use Rattle.sk_survey.specs.Surveys.{Tell}
 
 pub tell_more : (programs : List (List Insn)) (rows : List Row) (from : ℕ) (row : Row) → Tell programs from row.first rows → row.first ≤ row.last

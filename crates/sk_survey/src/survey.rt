@@ -1,4 +1,6 @@
-ghost use Rattle.std.specs.Prelude.{◌≡◌, ◌≤◌, length, IfOk};
+ghost use Rattle.std.specs.Prelude.{◌≡◌, ◌≤◌, [], ◌∷◌, Some, length, IfOk, IsTrue};
+ghost use Rattle.sk_insn.specs.Actions.{allow};
+ghost use Rattle.sk_chain.specs.Chains.{is_always, IsAlwaysAllowed};
 
 use crate::answers::Answers;
 use crate::cuts::cuts;
@@ -45,6 +47,28 @@ impl Survey {
 
     /// The verdicts of the chain on calls with a number of the range, whatever else their records hold.
     pub fn chain(
+        &mut self,
+        alloc: Global,
+        chain: &Chain,
+        first: u32,
+        last: u32,
+    ) -> Result<Answers, AllocError>
+        requires range { first ≤ last }
+        ensures among { IfOk result (λ answers. ChainAnswersAmong chain.now first last (answers_of answers)) }
+        ensures rising { IfOk result (λ answers. AreRising (answers_of answers)) }
+
+        // A number in the chain's table has the one verdict that the table tells.
+        ensures always { first ≡ last → IsTrue (is_always chain.now first)
+            → IfOk result (λ answers. answers_of answers ≡ Some (allow ∷ [])) }
+    {
+        if is_settled(chain, first, last) {
+            return Answers::one(alloc, ALLOW);
+        }
+        self.follow_chain(alloc, chain, first, last)
+    }
+
+    /// The same by following each filter.
+    fn follow_chain(
         &mut self,
         alloc: Global,
         chain: &Chain,
@@ -108,4 +132,12 @@ impl Survey {
         )?;
         Ok(rows)
     }
+}
+
+/// Whether there is one number, and the chain's table tells that all its calls are allowed.
+fn is_settled(chain: &Chain, first: u32, last: u32) -> bool
+    ensures allowed { IsTrue result → (first ≡ last) × IsAlwaysAllowed chain.now first }
+    ensures settled { first ≡ last → IsTrue (is_always chain.now first) → IsTrue result }
+{
+    first == last && chain.always(first)
 }

@@ -1,4 +1,4 @@
-use Rattle.std.proofs.Common.{◌≡◌, ◌/◌, ◌^◌, nat_lt, ap, sym, ◌∙◌, arith}
+use Rattle.std.proofs.Common.{nat_lt, ap, sym, ◌∙◌, arith}
 use Rattle.sk_survey.proofs.Bits.{same_bits}
 use Rattle.sk_survey.proofs.decide.common_bits.Goals as goal
 

@@ -1,4 +1,4 @@
-use Rattle.std.proofs.Common.{◌≡◌, ◌==◌, ◌⊎◌, inl, inr, true, Some, get_or, refl, subst, sym, ap, ◌∙◌, eq-eqb}
+use Rattle.std.proofs.Common.{◌≡◌, ◌==◌, inl, inr, Some, get_or, refl, subst, sym, ap, ◌∙◌, eq-eqb}
 use Rattle.std.specs.Option.{option_eq}
 use Rattle.sk_chain.specs.Choosing.{chosen}
 use Rattle.sk_survey.specs.Answers.{IsOneOf}

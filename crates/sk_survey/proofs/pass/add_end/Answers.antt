@@ -1,4 +1,4 @@
-use Rattle.std.proofs.Common.{◌≡◌, ◌⊎◌, inl, inr, subst}
+use Rattle.std.proofs.Common.{◌≡◌, inl, inr, subst}
 use Rattle.sk_interp.specs.Meaning.{Ends}
 use Rattle.sk_survey.specs.Following.{Leads}
 use Rattle.sk_survey.proofs.pass.add_end.Goals as goal

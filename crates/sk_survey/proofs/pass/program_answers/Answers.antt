@@ -1,10 +1,10 @@
-use Rattle.std.proofs.Common.{◌≡◌, ℕ, ◌<◌, None, Some, length, slice_get, slice_index_or, length-set, set, refl, ap, ◌∙◌, sym, subst, arith}
+use Rattle.std.proofs.Common.{◌≡◌, ◌<◌, None, Some, length, slice_get, slice_index_or, length-set, set, refl, ap, ◌∙◌, sym, subst, arith}
 use Rattle.std.proofs.lemmas.Option.{slice_get-get_or}
 use Rattle.sk_insn.specs.declared.insn.Insn.{Insn}
 use Rattle.sk_check.proofs.ValidPrograms.{valid_count, valid_fits}
 use Rattle.sk_survey.specs.Answers.{IsRising}
 use Rattle.sk_survey.specs.Following.{zeros}
-use Rattle.sk_survey.proofs.Reaching.{starts, arrives, unknown_place, known_place, valid_inside, described_here, described_other}
+use Rattle.sk_survey.proofs.Reaching.{starts, unknown_place, known_place, valid_inside, described_here, described_other}
 use Rattle.sk_survey.proofs.pass.program_answers.Goals as goal
 use Rattle.sk_survey.proofs.pass.program_answers.Goals.{in-Some+in_ok-add_end, in_default}
 

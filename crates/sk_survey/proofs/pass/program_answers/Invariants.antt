@@ -1,4 +1,3 @@
-use Rattle.std.proofs.Common.{◌≡◌, length}
 use Rattle.sk_insn.specs.declared.record.Record.{Record}
 use Rattle.sk_survey.specs.Answers.{answers_of, AreRising, IsCallOf}
 use Rattle.sk_survey.proofs.Reaching.{IsFollowed}

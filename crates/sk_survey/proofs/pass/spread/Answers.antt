@@ -1,4 +1,3 @@
-use Rattle.std.proofs.Common.{sym}
 use Rattle.sk_survey.proofs.KnownStates.{either_spreads}
 use Rattle.sk_survey.proofs.pass.spread.Goals as goal
 

@@ -1,4 +1,4 @@
-use Rattle.std.proofs.Common.{◌≡◌, ◌+◌, ◌-◌, ◌<◌, length, Some, slice_get, refl, ap, subst, sym, arith}
+use Rattle.std.proofs.Common.{◌≡◌, ◌+◌, ◌-◌, length, Some, slice_get, refl, ap, subst, sym, arith}
 use Rattle.std.proofs.lemmas.Option.{slice_get_read}
 use Rattle.sk_survey.specs.Surveys.{Tell}
 use Rattle.sk_survey.proofs.Telling.{tell_more, tell_longer}

@@ -1,13 +1,11 @@
-use Rattle.std.proofs.Common.{◌≡◌, ◌==◌, false, subst, sym, ap, ◌∙◌, Some}
+use Rattle.std.proofs.Common.{◌≡◌, ◌==◌, false, subst, sym, ◌∙◌, Some}
 use Rattle.std.proofs.lemmas.Bool.{ne_eqb}
-use Rattle.sk_insn.specs.declared.insn.Insn.{Insn}
-use Rattle.sk_insn.specs.declared.record.Record.{Record}
 use Rattle.sk_insn.specs.declared.operation.Arithmetic.TheVariants.{Divide}
 use Rattle.sk_insn.specs.declared.operation.Operand.TheVariants.{IndexRegister}
 use Rattle.sk_insn.specs.declared.operation.Operation.TheVariants.{Compute}
 use Rattle.sk_check.specs.Fits.{TakesConstant}
-use Rattle.sk_interp.specs.Meaning.{State, operand}
-use Rattle.sk_survey.specs.Following.{Describes, DescribesState}
+use Rattle.sk_interp.specs.Meaning.{operand}
+use Rattle.sk_survey.specs.Following.{Describes}
 use Rattle.sk_survey.proofs.KnownStates.{operand_known, compute_leads}
 use Rattle.sk_survey.proofs.known.Knowledge.compute.Goals as goal
 use Rattle.sk_survey.proofs.known.Knowledge.compute.Goals.{in_default-via-in-Divide+in-Is+in_default, in_default-via-in_default}

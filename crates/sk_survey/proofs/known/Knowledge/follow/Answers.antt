@@ -1,4 +1,4 @@
-use Rattle.std.proofs.Common.{◌≡◌, ◌<◌, length, Some, ap, sym, ◌∙◌, arith}
+use Rattle.std.proofs.Common.{◌≡◌, length, Some, ap, sym, ◌∙◌, arith}
 use Rattle.sk_insn.specs.declared.operation.Operation.TheVariants.{StoreScratch}
 use Rattle.sk_insn.specs.Operations.{operation_of}
 use Rattle.sk_survey.proofs.KnownStates.{store_leads}

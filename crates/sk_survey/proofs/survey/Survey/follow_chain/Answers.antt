@@ -1,12 +1,12 @@
-use Rattle.std.proofs.Common.{◌≡◌, ℕ, Option, Some, subst, sym, ap, ◌∙◌}
+use Rattle.std.proofs.Common.{ℕ, Option, subst, sym, ap, ◌∙◌}
 use Rattle.sk_insn.specs.declared.record.Record.{Record}
 use Rattle.sk_interp.specs.Meaning.{meaning_of}
 use Rattle.sk_chain.specs.Choosing.{chosen, chosen_of}
 use Rattle.sk_chain.specs.Verdict.{meaning_value, values_of}
 use Rattle.sk_survey.specs.Answers.{answers_of, ChainAnswersAmong}
 use Rattle.sk_survey.proofs.Choosing.{IsFirstAmong, IsRisingSoFar, first_alone, first_before, verdict_among, verdict_alone, if_ok_then}
-use Rattle.sk_survey.proofs.survey.Survey.chain.Goals as goal
-use Rattle.sk_survey.proofs.survey.Survey.chain.Goals.{in-Some-newer+in_ok-before-in-Some-newer, in-None-newer}
+use Rattle.sk_survey.proofs.survey.Survey.follow_chain.Goals as goal
+use Rattle.sk_survey.proofs.survey.Survey.follow_chain.Goals.{in-Some-newer+in_ok-before-in-Some-newer, in-None-newer}
 
 pub before-requires-clause-newer : goal.before-requires-clause-newer
 before-requires-clause-newer c = subst IsRisingSoFar c.in-Some-newer.is c.loop-program.invariant.rising

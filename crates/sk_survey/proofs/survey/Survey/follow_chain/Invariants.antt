@@ -4,7 +4,7 @@ use Rattle.sk_chain.specs.Choosing.{chosen_of}
 use Rattle.sk_chain.specs.Verdict.{values_of}
 use Rattle.sk_survey.specs.Answers.{IsCallOf}
 use Rattle.sk_survey.proofs.Choosing.{IsFirstAmong, IsRisingSoFar}
-use Rattle.sk_survey.proofs.survey.Survey.chain.Given as goal
+use Rattle.sk_survey.proofs.survey.Survey.follow_chain.Given as goal
 
 abbrev pub invariant-loop-program : goal.invariant-loop-program
 invariant-loop-program l = record {
