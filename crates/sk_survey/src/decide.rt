@@ -50,7 +50,8 @@ fn decide_number(comparison: Comparison, k: u32, first: u32, last: u32) -> Optio
 /// the constant's lowest bit on.
 fn common_bits(k: u32, first: u32, last: u32) -> Option<bool>
     requires range { first ≤ last }
-    ensures { IfSome result (λ answer. (nr : ℕ) → first ≤ nr → nr ≤ last → holds Comparison.CommonBits nr k ≡ answer) }
+    ensures { IfSome result (λ answer. (nr : ℕ) → first ≤ nr → nr ≤ last
+        → holds Comparison.CommonBits nr k ≡ answer) }
 {
     if k == 0 {
         return Some(false);

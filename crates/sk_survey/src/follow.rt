@@ -158,7 +158,8 @@ fn known_where_it_holds(comparison: Comparison, a: Known, right: Known) -> Known
 
 /// What is known of a word of the record.
 fn loaded(place: u32, first: u32, last: u32) -> Known
-    ensures { (call : Record) (n : ℕ) → IsCallOf first last call → word_of call place ≡ Some n → Describes result call n }
+    ensures { (call : Record) (n : ℕ) → IsCallOf first last call → word_of call place ≡ Some n
+        → Describes result call n }
 {
     match place {
         0 if first == last => Known::Is(first),

@@ -58,8 +58,10 @@ impl Knowledge {
 }
 
 fn join_words(words: &mut [Known; 16], others: &[Known; 16])
-    ensures one { (call : Record) (stored : ℕ → Option ℕ) → DescribesWords words.old call stored → DescribesWords words.new call stored }
-    ensures other { (call : Record) (stored : ℕ → Option ℕ) → DescribesWords others.now call stored → DescribesWords words.new call stored }
+    ensures one { (call : Record) (stored : ℕ → Option ℕ) → DescribesWords words.old call stored
+        → DescribesWords words.new call stored }
+    ensures other { (call : Record) (stored : ℕ → Option ℕ) → DescribesWords others.now call stored
+        → DescribesWords words.new call stored }
 {
     for k in 0..16 {
         words[k] = words[k].join(others[k]);

@@ -68,7 +68,8 @@ fn spread(
     requires slots { length slots.old ≡ 4096 }
     requires place { place < 4096 }
     requires inside { AreInside 4096 (led place next insn.now) }
-    ensures kept { (q : ℕ) (call : Record) (s : State) → DescribedAt slots.old q call s → DescribedAt slots.new q call s }
+    ensures kept { (q : ℕ) (call : Record) (s : State) → DescribedAt slots.old q call s
+        → DescribedAt slots.new q call s }
     ensures spread { (call : Record) (e : Effect) → Leads next insn.now knowledge.now call e
         → Spreads place slots.new call e }
 {
@@ -91,8 +92,10 @@ fn spread(
 fn join_at(slots: &mut [Option<Knowledge>], place: usize, knowledge: &Knowledge)
     requires slots { length slots.old ≡ 4096 }
     requires place { place < 4096 }
-    ensures kept { (q : ℕ) (call : Record) (s : State) → DescribedAt slots.old q call s → DescribedAt slots.new q call s }
-    ensures joined { (call : Record) (s : State) → DescribesState knowledge.now call s → DescribedAt slots.new place call s }
+    ensures kept { (q : ℕ) (call : Record) (s : State) → DescribedAt slots.old q call s
+        → DescribedAt slots.new q call s }
+    ensures joined { (call : Record) (s : State) → DescribesState knowledge.now call s
+        → DescribedAt slots.new place call s }
 {
     slots[place] = Some(match slots[place] {
         Some(known) => known.join(knowledge),

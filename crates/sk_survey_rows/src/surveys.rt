@@ -2,6 +2,7 @@
 use crate::filters::{ALLOW, EPERM, branch, chain_of, filter, jeq, ldabs, ret, with_k};
 use sk_insn::Insn;
 use sk_survey::{Answers, Survey};
+use std::alloc::Global;
 use std::test::Fail;
 
 fn values(answers: &Answers) -> Option<&[u32]> {
@@ -87,31 +88,32 @@ fn programs(rt: HostRuntime) -> Result<(), Fail> {
     let alloc = rt.alloc();
     let mut survey = Survey::new(alloc)?;
     for (program, first, last, expected) in rows {
+        assert!(rt; first <= last);
         let answers = survey.program(alloc, &filter(alloc, program)?, first, last)?;
         assert_eq!(rt; values(&answers), expected);
     }
     Ok(())
 }
 
+/// Whether these are the verdicts of the chain of these filters, the newest first.
+fn tells(alloc: Global, programs: &[&[Insn]], expected: &[u32]) -> Result<bool, Fail> {
+    let chain = chain_of(alloc, programs)?;
+    let answers = Survey::new(alloc)?.chain(alloc, &chain, 0, u32::MAX)?;
+    Ok(values(&answers) == Some(expected))
+}
+
 #[test]
 fn chains(rt: HostRuntime) -> Result<(), Fail> {
-    let two: [Insn; 4] = [ldabs(16), jeq(7, 0, 1), ret(0x0005_0002), ret(ALLOW)];
-    let logs: [Insn; 1] = [ret(0x7ffc_0000)];
-    let kills: [Insn; 1] = [ret(0x8000_0000)];
-    let rows: [(&[&[Insn]], &[u32]); 6] = [
-        (&[], &[ALLOW]),
-        (&[&two], &[0x0005_0002, ALLOW]),
-        (&[&two, &logs], &[0x0005_0002, 0x7ffc_0000]),
-        (&[&logs, &two], &[0x0005_0002, 0x7ffc_0000]),
-        (&[&[ret(EPERM)], &two], &[EPERM]),
-        (&[&two, &kills, &logs], &[0x8000_0000]),
-    ];
     let alloc = rt.alloc();
-    let mut survey = Survey::new(alloc)?;
-    for (programs, expected) in rows {
-        let answers = survey.chain(alloc, &chain_of(alloc, programs)?, 0, u32::MAX)?;
-        assert_eq!(rt; values(&answers), Some(expected));
-    }
+    let two = [ldabs(16), jeq(7, 0, 1), ret(0x0005_0002), ret(ALLOW)];
+    let logs = [ret(0x7ffc_0000)];
+    let kills = [ret(0x8000_0000)];
+    assert!(rt; tells(alloc, &[], &[ALLOW])?);
+    assert!(rt; tells(alloc, &[&two], &[0x0005_0002, ALLOW])?);
+    assert!(rt; tells(alloc, &[&two, &logs], &[0x0005_0002, 0x7ffc_0000])?);
+    assert!(rt; tells(alloc, &[&logs, &two], &[0x0005_0002, 0x7ffc_0000])?);
+    assert!(rt; tells(alloc, &[&[ret(EPERM)], &two], &[EPERM])?);
+    assert!(rt; tells(alloc, &[&two, &kills, &logs], &[0x8000_0000])?);
     Ok(())
 }
 
