@@ -1,0 +1,141 @@
+//! Answers and surveys that are seen by eye.
+use crate::filters::{ALLOW, EPERM, branch, chain_of, filter, jeq, ldabs, ret, with_k};
+use sk_insn::Insn;
+use sk_survey::{Answers, Survey};
+use std::alloc::Global;
+use std::test::Fail;
+
+fn values(answers: &Answers) -> Option<&[u32]> {
+    match answers {
+        Answers::Any => None,
+        Answers::Among(values) => Some(values),
+    }
+}
+
+#[test]
+fn programs(rt: HostRuntime) -> Result<(), Fail> {
+    // Call 110 is refused, and call 9 where the low half of its first argument is 7.
+    let by_number: [Insn; 7] = [
+        ldabs(0),
+        jeq(110, 3, 0),
+        jeq(9, 0, 3),
+        ldabs(16),
+        jeq(7, 0, 1),
+        ret(EPERM),
+        ret(ALLOW),
+    ];
+    // Bit 30 of the number is refused.
+    let by_bit: [Insn; 4] = [
+        ldabs(0),
+        branch(0x45, 0x4000_0000, 0, 1),
+        ret(0),
+        ret(ALLOW),
+    ];
+    // From 400 on all is logged, above 500 it is refused.
+    let by_size: [Insn; 6] = [
+        ldabs(0),
+        branch(0x35, 400, 0, 3),
+        branch(0x25, 500, 0, 1),
+        ret(EPERM),
+        ret(0x7ffc_0000),
+        ret(ALLOW),
+    ];
+    // The low half of the first argument is the value.
+    let by_argument: [Insn; 2] = [ldabs(16), with_k(0x16, 0)];
+    // A division of 6 by an argument, which may be 0; and one by 3, whose answer is known.
+    let by_division: [Insn; 5] = [
+        ldabs(16),
+        with_k(0x07, 0),
+        with_k(0x00, 6),
+        with_k(0x3c, 0),
+        ret(2),
+    ];
+    let by_constant: [Insn; 4] = [
+        with_k(0x01, 3),
+        with_k(0x00, 6),
+        with_k(0x3c, 0),
+        with_k(0x16, 0),
+    ];
+    // A scratch word that holds 5 on one path and 5 on the other; and one that holds the argument on one.
+    let by_word: [Insn; 7] = [
+        ldabs(16),
+        jeq(1, 0, 2),
+        with_k(0x00, 5),
+        with_k(0x05, 0),
+        with_k(0x02, 3),
+        with_k(0x60, 3),
+        with_k(0x16, 0),
+    ];
+    let rows: [(&[Insn], u32, u32, Option<&[u32]>); 17] = [
+        (&by_number, 110, 110, Some(&[EPERM])),
+        (&by_number, 9, 9, Some(&[EPERM, ALLOW])),
+        (&by_number, 39, 39, Some(&[ALLOW])),
+        (&by_number, 111, u32::MAX, Some(&[ALLOW])),
+        (&by_number, 110, 111, Some(&[EPERM, ALLOW])),
+        (&by_bit, 0, 0x3fff_ffff, Some(&[ALLOW])),
+        (&by_bit, 0x4000_0000, 0x7fff_ffff, Some(&[0])),
+        (&by_bit, 0xc000_0000, u32::MAX, Some(&[0])),
+        (&by_bit, 0x3fff_ffff, 0x4000_0000, Some(&[0, ALLOW])),
+        (&by_size, 0, 399, Some(&[ALLOW])),
+        (&by_size, 400, 500, Some(&[0x7ffc_0000])),
+        (&by_size, 501, u32::MAX, Some(&[EPERM])),
+        (&by_size, 399, 501, Some(&[EPERM, 0x7ffc_0000, ALLOW])),
+        (&by_argument, 1, 1, None),
+        (&by_division, 1, 1, Some(&[0, 2])),
+        (&by_constant, 1, 1, Some(&[2])),
+        (&by_word, 1, 1, None),
+    ];
+    let alloc = rt.alloc();
+    let mut survey = Survey::new(alloc)?;
+    for (program, first, last, expected) in rows {
+        assert!(rt; first <= last);
+        let answers = survey.program(alloc, &filter(alloc, program)?, first, last)?;
+        assert_eq!(rt; values(&answers), expected);
+    }
+    Ok(())
+}
+
+/// Whether these are the verdicts of the chain of these filters, the newest first.
+fn tells(alloc: Global, programs: &[&[Insn]], expected: &[u32]) -> Result<bool, Fail> {
+    let chain = chain_of(alloc, programs)?;
+    let answers = Survey::new(alloc)?.chain(alloc, &chain, 0, u32::MAX)?;
+    Ok(values(&answers) == Some(expected))
+}
+
+#[test]
+fn chains(rt: HostRuntime) -> Result<(), Fail> {
+    let alloc = rt.alloc();
+    let two = [ldabs(16), jeq(7, 0, 1), ret(0x0005_0002), ret(ALLOW)];
+    let logs = [ret(0x7ffc_0000)];
+    let kills = [ret(0x8000_0000)];
+    assert!(rt; tells(alloc, &[], &[ALLOW])?);
+    assert!(rt; tells(alloc, &[&two], &[0x0005_0002, ALLOW])?);
+    assert!(rt; tells(alloc, &[&two, &logs], &[0x0005_0002, 0x7ffc_0000])?);
+    assert!(rt; tells(alloc, &[&logs, &two], &[0x0005_0002, 0x7ffc_0000])?);
+    assert!(rt; tells(alloc, &[&[ret(EPERM)], &two], &[EPERM])?);
+    assert!(rt; tells(alloc, &[&two, &kills, &logs], &[0x8000_0000])?);
+    Ok(())
+}
+
+#[test]
+fn rows_of_a_chain(rt: HostRuntime) -> Result<(), Fail> {
+    let refuses: [Insn; 4] = [ldabs(0), jeq(110, 0, 1), ret(EPERM), ret(ALLOW)];
+    let expected: [(u32, u32, u32); 6] = [
+        (0, 38, ALLOW),
+        (39, 39, ALLOW),
+        (40, 109, ALLOW),
+        (110, 110, EPERM),
+        (111, 0xffff_fffe, ALLOW),
+        (0xffff_ffff, 0xffff_ffff, ALLOW),
+    ];
+    let alloc = rt.alloc();
+    let chain = chain_of(alloc, &[&refuses])?;
+    let rows = Survey::new(alloc)?.rows(alloc, &chain, &[39, 0xffff_ffff])?;
+    assert_eq!(rt; rows.len(), expected.len());
+    for (row, (first, last, value)) in rows.iter().zip(expected) {
+        assert_eq!(rt; row.first, first);
+        assert_eq!(rt; row.last, last);
+        assert_eq!(rt; values(&row.answers), Some([value].as_slice()));
+    }
+    Ok(())
+}
