@@ -4,8 +4,8 @@ use Rattle.std.proofs.Math.Seq.{drop-cons}
 use Rattle.std.proofs.lemmas.List.{drop-map}
 use Rattle.sk_insn.specs.declared.insn.Insn.{Insn}
 use Rattle.sk_insn.specs.Instructions.{image_instructions}
-use Rattle.sk_engines.specs.declared.eval.Refusal.{Refusal}
-use Rattle.sk_engines.specs.EvalCommand.{chained, image_attached}
+use Rattle.sk_engines.specs.declared.filters.Refusal.{Refusal}
+use Rattle.sk_engines.specs.Filters.{chained, image_attached}
 
 -- the bytes of each image
 abbrev pub bytes_of : Vec ℕ Global → List ℕ

@@ -6,6 +6,7 @@ pub mod EvalInput
 pub mod Gathering
 pub mod Judging
 pub mod Faults
+pub mod Filters
 pub mod Engine
 pub mod ListCommand
 pub mod OnImage

@@ -11,7 +11,7 @@ use sk_ends::{Sink, Source, send, take_up_to};
 use std::alloc::{AllocError, Global};
 
 /// The most bytes of an input.
-const MOST_BYTES: usize = 1_048_576;
+pub const MOST_BYTES: usize = 1_048_576;
 
 /// What a command answers on a text within the limit.
 pub trait Command {
@@ -50,7 +50,7 @@ fn reply_within_limit<C: Command>(alloc: Global, input: &[u8]) -> Result<Reply, 
 }
 
 /// The input, of which one byte more than the limit decides that it is too long.
-fn input<R: Source>(alloc: Global, reader: &mut R) -> Result<Vec<u8>, CommandFault>
+pub fn input<R: Source>(alloc: Global, reader: &mut R) -> Result<Vec<u8>, CommandFault>
     ensures first { IfOk result (λ bytes.
         IfSome (R.remaining reader.old) (λ left. bytes.items ≡ take 1048577 left)) }
     ensures limit { ConsumesUpTo 1048577 (R.remaining reader.old) (R.remaining reader.new) }
@@ -62,7 +62,7 @@ fn input<R: Source>(alloc: Global, reader: &mut R) -> Result<Vec<u8>, CommandFau
 }
 
 /// Sends the answer's text, and tells its status.
-fn deliver<W: Sink>(writer: &mut W, reply: &Reply) -> Result<u8, CommandFault>
+pub fn deliver<W: Sink>(writer: &mut W, reply: &Reply) -> Result<u8, CommandFault>
     ensures told { Delivers (output_of reply.now) result (W.contents writer.old) (W.contents writer.new) }
     ensures status { IfOk result (λ status. status ≤ 1) }
     ensures writes { CountsWrites result (W.failed writer.old) (W.failed writer.new) }

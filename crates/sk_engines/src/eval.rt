@@ -1,41 +1,28 @@
 //! `skern eval`: what filters answer on a call, each by itself and all together.
-ghost use Rattle.std.specs.Prelude.{◌≡◌, ◌≤◌, ◌+◌, ◌++◌, IfOk, IfSome, OnOk, [], map, string_bytes};
-ghost use Rattle.sk_insn.specs.Instructions.{image_instructions};
-ghost use Rattle.sk_check.specs.FirstFault.{first_fault};
+ghost use Rattle.std.specs.Prelude.{◌≡◌, ◌≤◌, ◌++◌, IfOk, IfSome, OnOk, [], map, string_bytes};
 ghost use Rattle.sk_interp.specs.Meaning.{Returned};
 ghost use Rattle.sk_text.specs.Lines.{lines_of};
 ghost use Rattle.sk_engines.specs.EvalInput.{gathered, nothing_yet};
 ghost use Rattle.sk_engines.specs.Gathering.{asked_of};
-ghost use Rattle.sk_engines.specs.EvalCommand.{eval_answer, asked_answer, chained_answer, refusal_answer, chained, image_attached, program_attached, chain_text, meaning_line, verdict_line, value_text, refusal_text};
+ghost use Rattle.sk_engines.specs.Filters.{chained};
+ghost use Rattle.sk_engines.specs.EvalCommand.{eval_answer, asked_answer, chained_answer, chain_text, meaning_line, verdict_line, value_text};
 ghost use Rattle.sk_ends.specs.Reading.{ConsumesUpTo};
 ghost use Rattle.sk_engines.specs.Engine.{Delivers, CountsReads, CountsWrites};
 ghost use Rattle.sk_engines.specs.Reply.{output_of};
-ghost use Rattle.arrayvec.specs.ArrayString.{array_string_len};
 
 use crate::engine::{Command, run};
 use crate::eval_input::{Asked, gather};
 use crate::fault::CommandFault;
-use crate::refusal::{push_check_fault, push_no_image};
-use crate::reply::{Line, Reply, push_place};
-use sk_chain::{Chain, ChainFault, first_of};
-use sk_check::{CheckFault, Checked, check};
+use crate::filters::chain_of;
+use crate::refusal::refusal_reply;
+use crate::reply::Reply;
+use sk_chain::{Chain, first_of};
 use sk_ends::{Sink, Source};
-use sk_insn::{Action, Insn, NoImage, Record, read_image};
+use sk_insn::{Action, Record};
 use sk_interp::Ran;
 use sk_text::hex_word;
 use std::alloc::{AllocError, Global};
 use std::fmt::Write;
-
-/// Why a filter is not attached.
-#[derive(Clone, Copy, Debug, PartialEq, Eq)]
-pub enum Refusal {
-    /// Its bytes are no image.
-    Image(NoImage),
-    /// Its program is not valid.
-    Program(CheckFault),
-    /// The chain has no room for it.
-    PathLimit,
-}
 
 /// Runs `skern eval` over a reader and a writer. Nothing goes out before the input was read whole.
 pub fn eval_engine<R: Source, W: Sink>(
@@ -73,54 +60,6 @@ fn asked_reply(alloc: Global, asked: &Asked) -> Result<Reply, AllocError>
     match chain_of(alloc, &asked.images)? {
         Ok(chain) => Ok(Reply::Done(chain_text(alloc, &asked.call, &chain)?)),
         Err((number, refusal)) => Ok(refusal_reply(number, refusal)),
-    }
-}
-
-fn chain_of(
-    alloc: Global,
-    images: &[Vec<u8>],
-) -> Result<Result<Chain, (usize, Refusal)>, AllocError>
-    ensures chain { IfOk result (λ chain. chain ≡ chained 0 [] (map (λ image. image.items) images.now)) }
-{
-    let mut chain = Chain::empty(alloc);
-    for (number, image) in images.iter().enumerate() {
-        chain = match attach_image(alloc, chain, image.as_slice())? {
-            Ok(chain) => chain,
-            Err(refusal) => return Ok(Err((number, refusal))),
-        };
-    }
-    Ok(Ok(chain))
-}
-
-fn attach_image(
-    alloc: Global,
-    chain: Chain,
-    image: &[u8],
-) -> Result<Result<Chain, Refusal>, AllocError>
-    ensures chain { IfOk result (λ attached. attached ≡ image_attached chain (image_instructions image.now)) }
-{
-    match read_image(alloc, image)? {
-        Ok(insns) => attach_program(chain, insns),
-        Err(why) => Ok(Err(Refusal::Image(why))),
-    }
-}
-
-fn attach_program(chain: Chain, insns: Vec<Insn>) -> Result<Result<Chain, Refusal>, AllocError>
-    ensures chain { IfOk result (λ attached. attached ≡ program_attached chain insns.items (first_fault insns.items)) }
-{
-    match check(insns) {
-        Ok(program) => attach(chain, program),
-        Err((_, fault)) => Ok(Err(Refusal::Program(fault))),
-    }
-}
-
-fn attach(chain: Chain, program: Checked) -> Result<Result<Chain, Refusal>, AllocError>
-    ensures chain { IfOk result (λ attached. attached ≡ program_attached chain program None) }
-{
-    match chain.attach(program) {
-        Ok(chain) => Ok(Ok(chain)),
-        Err((_, _, ChainFault::PathLimit)) => Ok(Err(Refusal::PathLimit)),
-        Err((_, _, ChainFault::Memory)) => Err(AllocError),
     }
 }
 
@@ -167,27 +106,4 @@ fn push_value(text: &mut String, value: u32) -> Result<(), AllocError>
     let name = Action::of(value).name();
     let given = value % 0x1_0000;
     write!(text, "{digits} {name} data {given}")
-}
-
-fn refusal_reply(number: usize, refusal: Refusal) -> Reply
-    ensures answer { output_of result ≡ refusal_answer (number, refusal) }
-{
-    let mut text = Line::new();
-    push_place(&mut text, "filter ", number);
-    text.push_str(" ");
-    push_refusal(&mut text, refusal);
-    text.push_str("\n");
-    Reply::Refused(text)
-}
-
-fn push_refusal(text: &mut Line, refusal: Refusal)
-    requires room { array_string_len text.old + 78 ≤ 128 }
-    ensures text { text.new.bytes ≡ text.old.bytes ++ refusal_text refusal }
-    ensures growth { array_string_len text.new ≤ array_string_len text.old + 78 }
-{
-    match refusal {
-        Refusal::Image(why) => push_no_image(text, why),
-        Refusal::Program(fault) => push_check_fault(text, fault),
-        Refusal::PathLimit => text.push_str("refused path limit"),
-    }
 }

@@ -1,18 +1,15 @@
 //! The lines of the input of `eval`.
 ghost use Rattle.std.specs.Prelude.{◌≡◌, IfOk};
-ghost use Rattle.std.specs.Option.{option_map};
 ghost use Rattle.sk_text.specs.Lines.{lines_of, words_of};
 ghost use Rattle.sk_text.specs.Hexadecimal.{hex_bytes};
 ghost use Rattle.sk_insn.specs.Record.{record_of};
 ghost use Rattle.sk_engines.specs.EvalInput.{with_line, with_record, with_filter, said, gathered, nothing_yet};
 ghost use Rattle.sk_engines.specs.Gathering.{gathered_of, Takes, Gathers};
 
+use crate::filters::{MOST_FILTERS, bytes_in};
 use sk_insn::{RECORD_LEN, Record};
-use sk_text::{HexFault, Lines, Words, bytes_of, is_passed_over, is_printable, is_word};
+use sk_text::{Lines, Words, is_passed_over, is_printable, is_word};
 use std::alloc::{AllocError, Global};
-
-/// The most filters of an input.
-pub const MOST_FILTERS: usize = 32;
 
 /// What is asked: what these filters answer on this call.
 #[derive(Drop)]
@@ -116,17 +113,6 @@ fn with_filter(alloc: Global, given: Given, digits: Words<'_>) -> Result<Option<
         call: given.call,
         images,
     }))
-}
-
-// The bytes that digits are, where they are some.
-fn bytes_in(alloc: Global, digits: Words<'_>) -> Result<Option<Vec<u8>>, AllocError>
-    ensures exact { IfOk result (λ bytes. option_map (λ bytes. bytes.items) bytes ≡ hex_bytes (words_of digits.entry.0.now)) }
-{
-    match bytes_of(alloc, digits) {
-        Ok(bytes) => Ok(Some(bytes)),
-        Err(HexFault::NotHexadecimal) => Ok(None),
-        Err(HexFault::Memory) => Err(AllocError),
-    }
 }
 
 #[tactic(auto, unfolding(sk_insn::specs::Record::record_of))]

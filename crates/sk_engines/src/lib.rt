@@ -1,5 +1,5 @@
 //! The commands as functions from an input to a text and an exit status, and their engines over a
-//! reader and a writer.
+//! reader and a writer. What reads filters and tells what is wrong with them serves other commands too.
 #![tactic(auto)]
 
 mod asm;
@@ -8,6 +8,7 @@ mod engine;
 mod eval;
 mod eval_input;
 mod fault;
+mod filters;
 mod list;
 mod on_image;
 mod refusal;
@@ -15,6 +16,10 @@ mod reply;
 
 pub use asm::asm_engine;
 pub use check::check_engine;
+pub use engine::{MOST_BYTES, deliver, input};
 pub use eval::eval_engine;
 pub use fault::CommandFault;
+pub use filters::{MOST_FILTERS, Refusal, bytes_in, chain_of};
 pub use list::list_engine;
+pub use refusal::refusal_reply;
+pub use reply::{Line, Reply};

@@ -1,10 +1,12 @@
-//! The lines that refuse images and programs.
+//! The lines that refuse images, programs and filters.
 ghost use Rattle.std.specs.Prelude.{◌≡◌, ◌≤◌, ◌+◌, ◌++◌};
 ghost use Rattle.arrayvec.specs.ArrayString.{array_string_len};
 ghost use Rattle.sk_engines.specs.Output.{refused, line};
+ghost use Rattle.sk_engines.specs.Filters.{refusal_answer, refusal_text};
 ghost use Rattle.sk_engines.specs.Judging.{no_image_text, check_fault_text};
 ghost use Rattle.sk_engines.specs.Reply.{output_of};
 
+use crate::filters::Refusal;
 use crate::reply::{Line, Reply, push_number, push_place};
 use sk_check::CheckFault;
 use sk_insn::NoImage;
@@ -27,6 +29,31 @@ pub fn program_refused(fault: CheckFault) -> Reply
     push_check_fault(&mut text, fault);
     text.push_str("\n");
     Reply::Refused(text)
+}
+
+/// The filter with this number, from 0 on, is refused.
+pub fn refusal_reply(number: usize, refusal: Refusal) -> Reply
+    ensures answer { output_of result ≡ refusal_answer (number, refusal) }
+{
+    let mut text = Line::new();
+    push_place(&mut text, "filter ", number);
+    text.push_str(" ");
+    push_refusal(&mut text, refusal);
+    text.push_str("\n");
+    Reply::Refused(text)
+}
+
+// Appends why a filter is refused.
+fn push_refusal(text: &mut Line, refusal: Refusal)
+    requires room { array_string_len text.old + 78 ≤ 128 }
+    ensures text { text.new.bytes ≡ text.old.bytes ++ refusal_text refusal }
+    ensures growth { array_string_len text.new ≤ array_string_len text.old + 78 }
+{
+    match refusal {
+        Refusal::Image(why) => push_no_image(text, why),
+        Refusal::Program(fault) => push_check_fault(text, fault),
+        Refusal::PathLimit => text.push_str("refused path limit"),
+    }
 }
 
 /// Appends why bytes are no image.

@@ -1,8 +1,8 @@
 use Rattle.std.proofs.Common.{sym, ◌∙◌, ap}
 use Rattle.sk_insn.specs.Instructions.{image_instructions}
-use Rattle.sk_engines.specs.EvalCommand.{image_attached}
+use Rattle.sk_engines.specs.Filters.{image_attached}
 use Rattle.sk_engines.proofs.Chaining.{bytes_of, chained_at}
-use Rattle.sk_engines.proofs.eval.chain_of.Goals as goal
+use Rattle.sk_engines.proofs.filters.chain_of.Goals as goal
 
 pub returns-in-Err : goal.returns-in-Err
 returns-in-Err c =

@@ -1,6 +1,6 @@
 use Rattle.std.proofs.Common.{◌≡◌, [], map, drop}
-use Rattle.sk_engines.specs.EvalCommand.{chained}
-use Rattle.sk_engines.proofs.eval.chain_of.Given as goal
+use Rattle.sk_engines.specs.Filters.{chained}
+use Rattle.sk_engines.proofs.filters.chain_of.Given as goal
 
 abbrev pub invariant-loop-number : goal.invariant-loop-number
 invariant-loop-number l =
