@@ -109,10 +109,7 @@ fn with_filter(alloc: Global, given: Given, digits: Words<'_>) -> Result<Option<
 }
 
 // One filter more, where there is room for it.
-fn with_image(
-    images: Vec<Vec<u8>>,
-    image: Vec<u8>,
-) -> Result<Option<Vec<Vec<u8>>>, AllocError>
+fn with_image(images: Vec<Vec<u8>>, image: Vec<u8>) -> Result<Option<Vec<Vec<u8>>>, AllocError>
     ensures exact { IfOk result (λ more. TakesImage more (with_image (images_of images) image.items)) }
 {
     if images.len() >= MOST_FILTERS {
