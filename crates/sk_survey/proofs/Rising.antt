@@ -1,0 +1,52 @@
+-- Rising values, with one more.
+use Rattle.std.proofs.Common.{◌≡◌, ◌≢◌, ℕ, zero, suc, ◌+◌, ◌^◌, ◌<◌, ◌≤◌, ◌⊎◌, inl, inr, List, [], ◌∷◌, ◌++◌, length, take, drop, Some, None, slice_get, get_or, refl, arith}
+use Rattle.std.specs.Prelude.{ℤ, ◌<ℤ◌, ◌≤ℤ◌}
+use Rattle.std.specs.List.{insert}
+use Rattle.std.specs.Int.{cast_signed, w32}
+use Rattle.std.proofs.lemmas.Int.{ints}
+use Rattle.sk_survey.specs.Answers.{IsOneOf, IsBelowAll, IsRising}
+
+pub signed_apart : (m n : ℕ) → m < 2 ^ 32 → n < 2 ^ 32 → m ≢ n → cast_signed w32 m ≤ℤ cast_signed w32 n → cast_signed w32 m <ℤ cast_signed w32 n
+signed_apart m n fits fits' apart le = grind (arith, ints)
+
+signed_trans : (a b c : ℤ) → a <ℤ b → b <ℤ c → a <ℤ c
+signed_trans a b c h k = omega (arith, ints)
+
+below_trans : (value other : ℕ) (values : List ℕ) → cast_signed w32 value <ℤ cast_signed w32 other → IsBelowAll other values → IsBelowAll value values
+below_trans value other [] less below = tt
+below_trans value other (first ∷ values) less below =
+    (signed_trans (cast_signed w32 value) (cast_signed w32 other) (cast_signed w32 first) less below.0, below_trans value other values less below.1)
+
+below_insert : (least value place : ℕ) (values : List ℕ) → cast_signed w32 least <ℤ cast_signed w32 value → IsBelowAll least values → IsBelowAll least (insert values place value)
+below_insert least value zero values less below = (less, below)
+below_insert least value (suc place) [] less below = (less, tt)
+below_insert least value (suc place) (first ∷ values) less below = (below.0, below_insert least value place values less below.1)
+
+pub rising_insert : (values : List ℕ) (place value : ℕ) → IsRising values
+    → ((k : ℕ) → k < place → k < length values → cast_signed w32 (get_or values k 0) <ℤ cast_signed w32 value)
+    → (place < length values → cast_signed w32 value <ℤ cast_signed w32 (get_or values place 0))
+    → IsRising (insert values place value)
+rising_insert [] zero value rising before behind = (tt, tt)
+rising_insert [] (suc place) value rising before behind = (tt, tt)
+rising_insert (first ∷ values) zero value rising before behind =
+    let less = behind (omega arith) in ((less, below_trans value first values less rising.0), rising)
+rising_insert (first ∷ values) (suc place) value rising before behind = (
+  below_insert first value place values (before 0 (omega arith) (omega arith)) rising.0,
+  rising_insert values place value rising.1 (λ k below inside. before (suc k) (omega arith) (omega arith)) (λ inside. behind (omega arith)),
+)
+
+pub one_kept : (values : List ℕ) (place value other : ℕ) → IsOneOf other values → IsOneOf other (insert values place value)
+one_kept values zero value other is = inr is
+one_kept [] (suc place) value other is = absurd is
+one_kept (first ∷ values) (suc place) value other (inl same) = inl same
+one_kept (first ∷ values) (suc place) value other (inr is) = inr (one_kept values place value other is)
+
+pub one_added : (values : List ℕ) (place value : ℕ) → IsOneOf value (insert values place value)
+one_added values zero value = inl refl
+one_added [] (suc place) value = inl refl
+one_added (first ∷ values) (suc place) value = inr (one_added values place value)
+
+pub one_at : (values : List ℕ) (place value : ℕ) → slice_get values place ≡ Some value → IsOneOf value values
+one_at [] place value here = cc
+one_at (first ∷ values) zero value here = inl cc
+one_at (first ∷ values) (suc place) value here = inr (one_at values place value here)

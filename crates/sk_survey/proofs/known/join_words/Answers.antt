@@ -1,0 +1,30 @@
+use Rattle.std.proofs.Common.{◌≡◌, ℕ, ◌<◌, ◌⊎◌, inl, inr, Option, length, slice_get, set, length-set, subst, sym, ◌∙◌, arith}
+use Rattle.std.proofs.lemmas.Bool.{cases_eq}
+use Rattle.sk_insn.specs.declared.record.Record.{Record}
+use Rattle.sk_survey.specs.Following.{DescribesWord}
+use Rattle.sk_survey.proofs.KnownWords.{word_joined, word_set, word_known}
+use Rattle.sk_survey.proofs.known.join_words.Goals as goal
+
+pub loop-k-preserved : goal.loop-k-preserved
+loop-k-preserved c =
+    let k = c.loop-k.k in
+    let words = c.loop-k.words in
+    let others = c.args.others.now in
+    let known = c.join.result in
+    let inside : k < length words = let sized = c.loop-k.invariant.sized in omega arith in
+    let inside' : k < length others = omega arith in
+    let kept = λ (j : ℕ) (call : Record) (word : Option ℕ) (is : DescribesWord (slice_get words j) call word).
+    word_joined words k j known _ call word inside (λ n. c.join.ensures.one call n) is in
+    let sized : length (set words k known) ≡ 16 = length-set words k known ∙ c.loop-k.invariant.sized in
+    record {
+      sized = sized;
+      one = λ j below call word is. kept j call word (c.loop-k.invariant.one j below call word is);
+      other = λ j below call word is. elim (cases_eq j k) as (λ _. DescribesWord (slice_get (set words k known) j) call word) [
+        | inl same ↦
+            subst (λ i. DescribesWord (slice_get (set words k known) i) call word) (sym same)
+            (word_set words k known call word inside
+            (word_known others k known _ call word inside' (λ n. c.join.ensures.other call n)
+            (subst (λ i. DescribesWord (slice_get others i) call word) same is)))
+        | inr other ↦ kept j call word (c.loop-k.invariant.other j (omega arith) call word is)
+      ];
+    }

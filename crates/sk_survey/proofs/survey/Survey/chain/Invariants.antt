@@ -1,0 +1,14 @@
+use Rattle.std.proofs.Common.{◌≡◌, ℕ, Option, None}
+use Rattle.sk_insn.specs.declared.record.Record.{Record}
+use Rattle.sk_chain.specs.Choosing.{chosen_of}
+use Rattle.sk_chain.specs.Verdict.{values_of}
+use Rattle.sk_survey.specs.Answers.{IsCallOf}
+use Rattle.sk_survey.proofs.Choosing.{IsFirstAmong, IsRisingSoFar}
+use Rattle.sk_survey.proofs.survey.Survey.chain.Given as goal
+
+abbrev pub invariant-loop-program : goal.invariant-loop-program
+invariant-loop-program l = record {
+  rising : IsRisingSoFar l.newer;
+  followed : (call : Record) → IsCallOf l.first l.last call
+      → (first : Option ℕ) × IsFirstAmong first l.newer × (chosen_of first (values_of l.program-iterator call) ≡ chosen_of None (values_of l.fn.chain call));
+}

@@ -1,0 +1,88 @@
+-- What the pass knows of the states of a machine, while it follows every call with one of some numbers.
+use Rattle.std.specs.Prelude.{ℕ, ◌≡◌, ◌+◌, ◌<◌, ◌⊎◌, List, Option, Some, None, slice_get, slice_set}
+use Rattle.sk_insn.specs.declared.insn.Insn.{Insn}
+use Rattle.sk_insn.specs.declared.record.Record.{Record}
+use Rattle.sk_insn.specs.declared.operation.Register.{Register}
+use Rattle.sk_insn.specs.declared.operation.Register.TheVariants.{Accumulator, Index}
+use Rattle.sk_insn.specs.declared.operation.Operand.{Operand}
+use Rattle.sk_insn.specs.declared.operation.Operand.TheVariants.{Constant, IndexRegister}
+use Rattle.sk_check.specs.Paths.{Onward, Nowhere, To, Either as Both}
+use Rattle.sk_interp.specs.Meaning.{State, Effect, GoesOn, Ends}
+use Rattle.sk_survey.specs.declared.known.Known.{Known}
+use Rattle.sk_survey.specs.declared.known.Known.TheVariants.{Any, Number, Is}
+use Rattle.sk_survey.specs.declared.known.Knowledge.{Knowledge}
+use Rattle.sk_survey.specs.declared.follow.Next.{Next}
+use Rattle.sk_survey.specs.declared.follow.Next.TheVariants.{Skip, Either, End, FollowingOrZero}
+
+-- what is known of a number is so
+abbrev pub Describes : Known → Record → ℕ → Type 0
+Describes Any call n = Unit {0}
+Describes Number call n = n ≡ call.nr
+Describes (Is k) call n = n ≡ k
+
+-- a scratch word is there, and what is known of it is so
+abbrev pub DescribesWord : Option Known → Record → Option ℕ → Type 0
+DescribesWord (Some known) call (Some n) = Describes known call n
+DescribesWord known call word = ⊥
+
+abbrev pub DescribesWords : List Known → Record → (ℕ → Option ℕ) → Type 0
+DescribesWords words call stored = (k : ℕ) → k < 16 → DescribesWord (slice_get words k) call (stored k)
+
+-- what is known of a machine is so
+pub record DescribesState (knowledge : Knowledge) (call : Record) (s : State) : Type 0 where
+  pub a : Describes knowledge.a call s.a
+  pub x : Describes knowledge.x call s.x
+  pub words : DescribesWords knowledge.words call s.stored
+
+-- the same, and of one register or scratch word this
+abbrev pub with_known : Register → Known → Knowledge → Knowledge
+with_known Accumulator known knowledge = record knowledge { a = known }
+with_known Index known knowledge = record knowledge { x = known }
+
+abbrev pub known_register : Register → Knowledge → Known
+known_register Accumulator knowledge = knowledge.a
+known_register Index knowledge = knowledge.x
+
+abbrev pub with_word : Register → ℕ → Knowledge → Knowledge
+with_word register k knowledge =
+    record knowledge { words = slice_set knowledge.words k (known_register register knowledge) }
+
+-- what is known of the right side of a calculation or a comparison
+abbrev pub known_operand : Operand → ℕ → Knowledge → Known
+known_operand Constant k knowledge = Is k
+known_operand IndexRegister k knowledge = knowledge.x
+
+-- as a valid filter may start: it loads no word before it stores it
+abbrev pub zeros : State
+zeros = record { a = 0; x = 0; stored = λ k. Some 0 }
+
+-- an effect is one of those that an instruction was found to have, with this known after it
+abbrev pub Leads : Next → Insn → Knowledge → Record → Effect → Type 0
+Leads (Skip skip) insn after call e = (s : State) × (e ≡ GoesOn skip s) × DescribesState after call s
+Leads (Either a) insn after call e =
+    (s : State)
+    × (((e ≡ GoesOn insn.jt s) × DescribesState (record after { a = a }) call s)
+    ⊎ ((e ≡ GoesOn insn.jf s) × DescribesState after call s))
+Leads (End known) insn after call e = (value : ℕ) × (e ≡ Ends value) × Describes known call value
+Leads FollowingOrZero insn after call e =
+    ((s : State) × (e ≡ GoesOn 0 s) × DescribesState after call s) ⊎ (e ≡ Ends 0)
+
+-- where control goes on from a place
+abbrev pub led : ℕ → Next → Insn → Onward
+led place (Skip skip) insn = To (place + 1 + skip)
+led place (Either a) insn = Both (place + 1 + insn.jt) (place + 1 + insn.jf)
+led place (End known) insn = Nowhere
+led place FollowingOrZero insn = To (place + 1)
+
+-- what is known at a place is so
+abbrev pub DescribedBy : Option (Option Knowledge) → Record → State → Type 0
+DescribedBy (Some (Some knowledge)) call s = DescribesState knowledge call s
+DescribedBy slot call s = ⊥
+
+abbrev pub DescribedAt : List (Option Knowledge) → ℕ → Record → State → Type 0
+DescribedAt slots place call s = DescribedBy (slice_get slots place) call s
+
+-- where an effect goes on, the state that it leaves is known there
+abbrev pub Spreads : ℕ → List (Option Knowledge) → Record → Effect → Type 0
+Spreads place slots call (GoesOn skip s) = DescribedAt slots (place + (1 + skip)) call s
+Spreads place slots call e = Unit {0}

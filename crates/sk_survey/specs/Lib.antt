@@ -1,0 +1,4 @@
+pub mod Answers
+pub mod Surveys
+pub mod Following
+pub mod AnswersLaws

@@ -1,0 +1,52 @@
+ghost use Rattle.std.specs.Prelude.{◌≡◌, ℕ, ◌+◌, ◌-◌, ◌<◌, ◌≤◌, List, length, slice_get, Some, OnOk, IsTrue};
+ghost use Rattle.sk_insn.specs.declared.insn.Insn.{Insn};
+ghost use Rattle.sk_survey.specs.Answers.{answers_of, ChainAnswersAmong};
+ghost use Rattle.sk_survey.specs.Surveys.{Tell};
+ghost use Rattle.sk_survey.specs.declared.rows.Row.{Row};
+
+use crate::answers::Answers;
+use std::alloc::AllocError;
+
+/// Neighbouring numbers with the same answers.
+#[derive(Debug, Drop)]
+pub struct Row {
+    pub first: u32,
+    pub last: u32,
+    pub answers: Answers,
+}
+
+/// Adds a row behind the others, or its numbers to the last one where that tells the same and neither stands alone.
+pub(crate) fn add_row(rows: &mut Vec<Row>, alone: &[u32], row: Row) -> Result<(), AllocError>
+    ensures { OnOk result ((programs : List (List Insn)) (from : ℕ) → Tell programs from row.first rows.old.items
+        → row.first ≤ row.last → ChainAnswersAmong programs row.first row.last (answers_of row.answers)
+        → Tell programs from (row.last + 1) rows.new.items) }
+{
+    if continues(rows, alone, &row) {
+        let latest = rows.len() - 1;
+        rows[latest].last = row.last;
+    } else {
+        rows.push(row)?;
+    }
+    Ok(())
+}
+
+/// Whether the last of the rows tells the same as this one, and neither stands alone.
+fn continues(rows: &[Row], alone: &[u32], row: &Row) -> bool
+    ensures some { IsTrue result → 0 < length rows.now }
+    ensures same { IsTrue result → (before : Row) → slice_get rows.now (length rows.now - 1) ≡ Some before
+        → answers_of before.answers ≡ answers_of row.now.answers }
+{
+    match rows.last() {
+        Some(before) => {
+            !stands_alone(alone, row.first)
+                && !stands_alone(alone, before.first)
+                && before.answers.same(&row.answers)
+        }
+        None => false,
+    }
+}
+
+/// Whether the number is one of those.
+fn stands_alone(alone: &[u32], number: u32) -> bool {
+    alone.binary_search(&number).is_ok()
+}

@@ -1,0 +1,111 @@
+ghost use Rattle.std.specs.Prelude.{◌≡◌, ◌≤◌, length, IfOk};
+
+use crate::answers::Answers;
+use crate::cuts::cuts;
+use crate::known::Knowledge;
+use crate::pass::program_answers;
+use crate::rows::{Row, add_row};
+use sk_chain::Chain;
+use sk_check::Checked;
+use sk_insn::{ALLOW, MOST_INSNS};
+use std::alloc::{AllocError, Global};
+
+/// The memory for following a program, which is taken once and used for every number.
+#[derive(Drop)]
+pub struct Survey {
+    slots: Vec<Option<Knowledge>>,
+    ghost full: { length slots.items ≡ 4096 },
+}
+
+impl Survey {
+    ghost use Rattle.sk_survey.specs.Answers.{answers_of, AnswersAmong, ChainAnswersAmong, AreRising};
+    ghost use Rattle.sk_survey.specs.Surveys.{IsSurveyFrom};
+
+    /// One slot for each place of the longest program.
+    pub fn new(alloc: Global) -> Result<Survey, AllocError> {
+        Ok(Survey {
+            slots: vec![in alloc; None; MOST_INSNS]?,
+        })
+    }
+
+    /// The values that the program answers to calls with a number of the range, whatever else their records hold.
+    pub fn program(
+        &mut self,
+        alloc: Global,
+        program: &Checked,
+        first: u32,
+        last: u32,
+    ) -> Result<Answers, AllocError>
+        requires range { first ≤ last }
+        ensures among { IfOk result (λ answers. AnswersAmong program.now first last (answers_of answers)) }
+        ensures rising { IfOk result (λ answers. AreRising (answers_of answers)) }
+    {
+        program_answers(alloc, &mut self.slots, program, first, last)
+    }
+
+    /// The verdicts of the chain on calls with a number of the range, whatever else their records hold.
+    pub fn chain(
+        &mut self,
+        alloc: Global,
+        chain: &Chain,
+        first: u32,
+        last: u32,
+    ) -> Result<Answers, AllocError>
+        requires range { first ≤ last }
+        ensures among { IfOk result (λ answers. ChainAnswersAmong chain.now first last (answers_of answers)) }
+        ensures rising { IfOk result (λ answers. AreRising (answers_of answers)) }
+    {
+        let mut newer = None;
+        for program in chain.programs() {
+            let older = self.program(alloc, program, first, last)?;
+            newer = Some(match newer {
+                Some(newer) => Answers::before(newer, alloc, older)?,
+                None => older,
+            });
+        }
+        match newer {
+            Some(answers) => Ok(answers),
+            None => Answers::one(alloc, ALLOW),
+        }
+    }
+
+    /// What the chain answers to every call: rows that tell all numbers in order. Each number of `alone`, which
+    /// rises, has a row by itself.
+    pub fn rows(
+        &mut self,
+        alloc: Global,
+        chain: &Chain,
+        alone: &[u32],
+    ) -> Result<Vec<Row>, AllocError>
+        ensures survey { IfOk result (λ rows. IsSurveyFrom chain.now 0 rows.items) }
+    {
+        let mut rows = Vec::new(alloc);
+        let mut first = 0u32;
+        for cut in &cuts(alloc, chain, alone)? {
+            if first < *cut {
+                let answers = self.chain(alloc, chain, first, *cut - 1)?;
+                add_row(
+                    &mut rows,
+                    alone,
+                    Row {
+                        first,
+                        last: *cut - 1,
+                        answers,
+                    },
+                )?;
+                first = *cut;
+            }
+        }
+        let answers = self.chain(alloc, chain, first, u32::MAX)?;
+        add_row(
+            &mut rows,
+            alone,
+            Row {
+                first,
+                last: u32::MAX,
+                answers,
+            },
+        )?;
+        Ok(rows)
+    }
+}
