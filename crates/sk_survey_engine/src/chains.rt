@@ -1,9 +1,9 @@
 //! The chains that an input gives.
-ghost use Rattle.std.specs.Prelude.{◌≡◌, ◌+◌, ◌<◌, ◌^◌, IfOk, Ok, [], length};
+ghost use Rattle.std.specs.Prelude.{◌≡◌, ◌+◌, ◌<◌, ◌^◌, IfOk, Ok, [], length, map};
 ghost use Rattle.sk_text.specs.Lines.{lines_of};
 ghost use Rattle.sk_engines.specs.Filters.{chained};
 ghost use Rattle.sk_survey_engine.specs.Input.{gathered, nothing_yet};
-ghost use Rattle.sk_survey_engine.specs.Gathering.{gathered_of, images_of};
+ghost use Rattle.sk_survey_engine.specs.Gathering.{gathered_of};
 ghost use Rattle.sk_survey_engine.specs.Asked.{asked_of, chains_of, with_second};
 ghost use Rattle.sk_survey_engine.specs.Chains.{Reads};
 
@@ -57,10 +57,10 @@ fn second_chain(
     alloc: Global,
     count: usize,
     first: Chain,
-    images: &Vec<Vec<u8>>,
+    images: &[Vec<u8>],
 ) -> Result<Result<Chains, Reply>, AllocError>
-    requires fits { count + length images.now.items < 2 ^ 64 }
-    ensures asked { IfOk result (λ read. Reads read (with_second count first (chained 0 [] (images_of images.now)))) }
+    requires fits { count + length images.now < 2 ^ 64 }
+    ensures asked { IfOk result (λ read. Reads read (with_second count first (chained 0 [] (map (λ image. image.items) images.now)))) }
 {
     match chain_of(alloc, images)? {
         Ok(second) => Ok(Ok(Chains {
