@@ -9,7 +9,7 @@ use Rattle.sk_engines.specs.Output.{Output}
 use Rattle.sk_engines.specs.Engine.{Delivers}
 use Rattle.sk_survey_engine.specs.declared.options.Options.{Options}
 use Rattle.sk_survey_engine.specs.Asked.{asked_of}
-use Rattle.sk_survey_engine.specs.Lines.{IsAnswer}
+use Rattle.sk_survey_engine.specs.Telling.{IsAnswer}
 use Rattle.sk_survey_engine.specs.Delivering.{DeliversOne}
 
 -- an input over the limit, and what is taken of it, are refused alike

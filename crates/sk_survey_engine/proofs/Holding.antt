@@ -5,10 +5,9 @@ use Rattle.std.proofs.lemmas.List.{map-append}
 use Rattle.std.proofs.lemmas.List.Elements.{All-append}
 use Rattle.sk_insn.specs.declared.insn.Insn.{Insn}
 use Rattle.sk_survey.specs.declared.rows.Row.{Row}
-use Rattle.sk_survey.specs.Answers.{ChainAnswersAmong, answers_of}
 use Rattle.sk_survey.specs.Surveys.{Tell}
 use Rattle.sk_survey_engine.specs.declared.line.Line.{Line}
-use Rattle.sk_survey_engine.specs.Lines.{row_of}
+use Rattle.sk_survey_engine.specs.Lines.{row_of, Holds}
 
 one_holds : {X : Type 0} (P : X → Type 0) (x : X) → P x → All P (x ∷ [])
 one_holds P x h zero d less = h
@@ -17,10 +16,7 @@ one_holds P x h (suc k) d less = absurd (omega arith)
 pub one_more_holds : {X : Type 0} (P : X → Type 0) (xs : List X) (x : X) → All P xs → P x → All P (xs ++ x ∷ [])
 one_more_holds P xs x all h = All-append P xs (x ∷ []) all (one_holds P x h)
 
-abbrev pub Holds : List (List Insn) → Row → Type 0
-Holds programs row = ChainAnswersAmong programs row.first row.last (answers_of row.answers)
-
-rows_hold : (programs : List (List Insn)) (from end : ℕ) (rows : List Row) → Tell programs from end rows → All (Holds programs) rows
+pub rows_hold : (programs : List (List Insn)) (from end : ℕ) (rows : List Row) → Tell programs from end rows → All (Holds programs) rows
 rows_hold programs from end [] told k d less = absurd (omega arith)
 rows_hold programs from end (row ∷ rows) told zero d less = told.3
 rows_hold programs from end (row ∷ rows) told (suc k) d less = rows_hold programs (row.last + 1) end rows told.4 k d (omega arith)

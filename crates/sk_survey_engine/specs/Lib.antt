@@ -5,3 +5,5 @@ pub mod Text
 pub mod Lines
 pub mod Delivering
 pub mod Chains
+pub mod Differences
+pub mod Telling

@@ -1,8 +1,7 @@
 -- What the lines of a survey say of the chains.
-use Rattle.std.specs.Prelude.{ℕ, ◌≡◌, ◌+◌, ◌^◌, Bool, true, false, List, [], map, Option, Some, None, Result, Ok, Err, IfSome}
+use Rattle.std.specs.Prelude.{ℕ, ◌≡◌, ◌+◌, ◌^◌, Bool, true, false, List, [], map, Option, Some, None, IfSome}
 use Rattle.std.specs.List.{All}
 use Rattle.sk_insn.specs.declared.insn.Insn.{Insn}
-use Rattle.sk_engines.specs.Output.{Output, done}
 use Rattle.sk_survey.specs.declared.rows.Row.{Row}
 use Rattle.sk_survey.specs.Answers.{ChainAnswersAmong, answers_of}
 use Rattle.sk_survey.specs.Surveys.{Tell}
@@ -11,8 +10,6 @@ use Rattle.sk_survey_engine.specs.declared.line.Line.{Line}
 use Rattle.sk_survey_engine.specs.declared.line.Shown.{Shown}
 use Rattle.sk_survey_engine.specs.declared.line.Sign.TheVariants as sign
 use Rattle.sk_survey_engine.specs.declared.options.Options.{Options}
-use Rattle.sk_survey_engine.specs.Asked.{Asked}
-use Rattle.sk_survey_engine.specs.Text.{lines_text}
 
 -- the numbers that are told: all, or the one that is wanted
 abbrev pub first_told : Option ℕ → ℕ
@@ -41,9 +38,13 @@ pub record Shows (programs : List (List Insn)) (examples : Bool) (row : Row) (sh
   pub values : map (λ it. it.value) shown ≡ wanted_values examples (answers_of row.answers)
   pub found : All (IsShown programs row) shown
 
+-- a row holds of its numbers
+abbrev pub Holds : List (List Insn) → Row → Type 0
+Holds programs row = ChainAnswersAmong programs row.first row.last (answers_of row.answers)
+
 -- one line of a chain
 pub record IsLineOf (programs : List (List Insn)) (examples : Bool) (line : Line) : Type 0 where
-  pub answers : ChainAnswersAmong programs line.row.first line.row.last (answers_of line.row.answers)
+  pub answers : Holds programs line.row
   pub shows : Shows programs examples line.row line.shown.items
 
 -- the lines of one chain: their rows tell all numbers that are wanted
@@ -59,16 +60,3 @@ IsLineOfEither examples first second line = elim line.sign [
   | sign.First ↦ IsLineOf first examples line
   | sign.Second ↦ IsLineOf second examples line
 ]
-
--- the lines of what is asked. Where there are two chains, each line holds; that a number in no line is answered alike by
--- both is not said here
-abbrev pub Tells : Options → Asked → List Line → Type 0
-Tells options asked lines = elim asked.second [
-  | None ↦ AreLinesOf options asked.first lines
-  | Some second ↦ All (IsLineOfEither options.examples asked.first second) lines
-]
-
--- an answer of the command
-abbrev pub IsAnswer : Options → Result Asked Output → Output → Type 0
-IsAnswer options (Err refused) output = output ≡ refused
-IsAnswer options (Ok asked) output = (lines : List Line) × Tells options asked lines × (output ≡ done (lines_text lines))

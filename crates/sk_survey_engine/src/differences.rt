@@ -1,8 +1,9 @@
 //! The lines that tell where a second chain answers in another way than a first one.
-ghost use Rattle.std.specs.Prelude.{◌≡◌, ◌≤◌, ◌-◌, IfOk, OnOk};
+ghost use Rattle.std.specs.Prelude.{◌≡◌, ◌≤◌, ◌++◌, map, flat_map, IfOk, OnOk};
 ghost use Rattle.std.specs.List.{All};
-ghost use Rattle.sk_survey.specs.Answers.{answers_of, ChainAnswersAmong};
-ghost use Rattle.sk_survey_engine.specs.Lines.{IsLineOf, IsLineOfEither};
+ghost use Rattle.sk_survey.specs.Answers.{answers_of};
+ghost use Rattle.sk_survey_engine.specs.Lines.{Holds, IsLineOf, IsLineOfEither};
+ghost use Rattle.sk_survey_engine.specs.Differences.{told_of, same_values, piece, pieces, AreDifferences};
 
 use crate::line::{Line, Sign};
 use crate::lines::{rows_of, shown_of};
@@ -20,37 +21,69 @@ pub fn differences(
     first: &Chain,
     second: &Chain,
 ) -> Result<Vec<Line>, AllocError>
-    ensures lines { IfOk result (λ lines. All (IsLineOfEither options.examples first.now second.now) lines.items) }
+    ensures lines { IfOk result (λ lines. AreDifferences options first.now second.now lines.items) }
 {
     let rows = rows_of(alloc, options.call, first)?;
     let others = rows_of(alloc, options.call, second)?;
     let mut lines = Vec::new(alloc);
-    let mut at = 0;
-    let mut other_at = 0;
-    while at < rows.len() && other_at < others.len() {
-        let row = &rows[at];
-        let other = &others[other_at];
-        push_piece(
-            alloc,
-            &mut lines,
-            options.examples,
-            first,
-            row,
-            second,
-            other,
-        )?;
-        let to = min(row.last, other.last);
-        if row.last == to {
-            at += 1;
-        }
-        if other.last == to {
-            other_at += 1;
-        }
-    }
+    push_all_pieces(
+        alloc,
+        &mut lines,
+        options.examples,
+        first,
+        &rows,
+        second,
+        &others,
+    )?;
     Ok(lines)
 }
 
+// The lines of all rows of the first chain.
+fn push_all_pieces(
+    alloc: Global,
+    lines: &mut Vec<Line>,
+    examples: bool,
+    first: &Chain,
+    rows: &[Row],
+    second: &Chain,
+    others: &[Row],
+) -> Result<(), AllocError>
+    requires rows { All (Holds first.now) rows.now }
+    requires others { All (Holds second.now) others.now }
+    ensures told { OnOk result (map told_of lines.new.items ≡ map told_of lines.old.items ++ pieces rows.now others.now) }
+    ensures lines { OnOk result (All (IsLineOfEither examples first.now second.now) lines.old.items
+        → All (IsLineOfEither examples first.now second.now) lines.new.items) }
+{
+    for row in rows {
+        push_pieces(alloc, lines, examples, first, row, second, others)?;
+    }
+    Ok(())
+}
+
+// The lines of the numbers of a row of which the rows of the second chain tell other values.
+fn push_pieces(
+    alloc: Global,
+    lines: &mut Vec<Line>,
+    examples: bool,
+    first: &Chain,
+    row: &Row,
+    second: &Chain,
+    others: &[Row],
+) -> Result<(), AllocError>
+    requires row { Holds first.now row.now }
+    requires others { All (Holds second.now) others.now }
+    ensures told { OnOk result (map told_of lines.new.items ≡ map told_of lines.old.items ++ flat_map (piece row.now) others.now) }
+    ensures lines { OnOk result (All (IsLineOfEither examples first.now second.now) lines.old.items
+        → All (IsLineOfEither examples first.now second.now) lines.new.items) }
+{
+    for other in others {
+        push_piece(alloc, lines, examples, first, row, second, other)?;
+    }
+    Ok(())
+}
+
 // The lines of the numbers that stand in both rows, where the answers are not the same.
+#[tactic(auto, unfolding(crate::specs::Differences::piece))]
 fn push_piece(
     alloc: Global,
     lines: &mut Vec<Line>,
@@ -60,8 +93,9 @@ fn push_piece(
     second: &Chain,
     other: &Row,
 ) -> Result<(), AllocError>
-    requires row { ChainAnswersAmong first.now row.now.first row.now.last (answers_of row.now.answers) }
-    requires other { ChainAnswersAmong second.now other.now.first other.now.last (answers_of other.now.answers) }
+    requires row { Holds first.now row.now }
+    requires other { Holds second.now other.now }
+    ensures told { OnOk result (map told_of lines.new.items ≡ map told_of lines.old.items ++ piece row.now other.now) }
     ensures lines { OnOk result (All (IsLineOfEither examples first.now second.now) lines.old.items
         → All (IsLineOfEither examples first.now second.now) lines.new.items) }
 {
@@ -75,7 +109,9 @@ fn push_piece(
 }
 
 // Whether these are the same values.
-fn is_same(answers: &Answers, others: &Answers) -> bool {
+fn is_same(answers: &Answers, others: &Answers) -> bool
+    ensures same { result ≡ same_values (answers_of answers.now) (answers_of others.now) }
+{
     match (answers, others) {
         (Answers::Any, Answers::Any) => true,
         (Answers::Among(values), Answers::Among(others)) => values.as_slice() == others.as_slice(),
@@ -93,10 +129,11 @@ fn line(
     first: u32,
     last: u32,
 ) -> Result<Line, AllocError>
-    requires row { ChainAnswersAmong chain.now row.now.first row.now.last (answers_of row.now.answers) }
+    requires row { Holds chain.now row.now }
     requires lower { row.now.first ≤ first }
     requires upper { last ≤ row.now.last }
-    ensures sign { IfOk result (λ line. line.sign ≡ sign) }
+    ensures told { IfOk result (λ line. told_of line ≡
+        record { sign = sign; first = first; last = last; values = answers_of row.now.answers }) }
     ensures line { IfOk result (IsLineOf chain.now examples) }
 {
     let row = Row {

@@ -5,7 +5,7 @@ ghost use Rattle.sk_engines.specs.Engine.{CountsReads, CountsWrites};
 ghost use Rattle.sk_engines.specs.Reply.{output_of};
 ghost use Rattle.sk_survey_engine.specs.Asked.{asked_of};
 ghost use Rattle.sk_survey_engine.specs.Chains.{asked_in};
-ghost use Rattle.sk_survey_engine.specs.Lines.{IsAnswer, Tells};
+ghost use Rattle.sk_survey_engine.specs.Telling.{IsAnswer, Tells};
 ghost use Rattle.sk_survey_engine.specs.Delivering.{DeliversOne};
 
 use crate::chains::{Chains, chains_in};
