@@ -11,8 +11,16 @@ pub fn options_in(alloc: Global, words: &[String]) -> Result<Option<Options>, Al
     let parser = Command::new(alloc, "survey")
         .no_binary_name(true)
         .arg(Arg::new(alloc, "call").long("call").action(ArgAction::Set))?
-        .arg(Arg::new(alloc, "examples").long("examples").action(ArgAction::SetTrue))?
-        .arg(Arg::new(alloc, "diff").long("diff").action(ArgAction::SetTrue))?;
+        .arg(
+            Arg::new(alloc, "examples")
+                .long("examples")
+                .action(ArgAction::SetTrue),
+        )?
+        .arg(
+            Arg::new(alloc, "diff")
+                .long("diff")
+                .action(ArgAction::SetTrue),
+        )?;
     let matches = match parser.try_get_matches_from(words) {
         Ok(matches) => matches,
         Err(error) => match error.kind() {

@@ -1,8 +1,8 @@
 //! The program `survey`, over the standard streams.
 #![tactic(auto)]
 
-use sk_survey_cli::{CommandFault, command, failed, finish};
 use sk_ends::Counted;
+use sk_survey_cli::{CommandFault, command, failed, finish};
 use std::env::Env;
 use std::io::{BufWriter, ErrorKind};
 use std::process::ExitCode;
