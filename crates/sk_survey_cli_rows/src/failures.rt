@@ -4,21 +4,57 @@ use std::test::Fail;
 
 #[test]
 fn inputs_that_are_refused(rt: HostRuntime) -> Result<(), Fail> {
-    let rows: [(&[&str], &[&str], &[u8]); 11] = [
-        (&[], &["record 00\n"], b"skern: line 1: not understood\n"),
-        (&[], &[ALL, "filter 0\n"], b"skern: line 2: not understood\n"),
-        (&[], &[ALL, "against\n", ALL], b"skern: line 2: not understood\n"),
-        (&["--diff"], &[ALL, "\n"], b"skern: line 3: not understood\n"),
-        (&["--diff"], &[ALL, "against\n", "against\n"], b"skern: line 3: not understood\n"),
-        (&["--diff"], &[ALL, "against now\n"], b"skern: line 2: not understood\n"),
-        (&[], &["filter\n"], b"filter 0 refused image empty\n"),
-        (&[], &[ALL, "filter 0600\n"], b"filter 1 refused image ragged\n"),
-        (&[], &["filter 0700000000000000\n"], b"filter 0 refused 9 no return\n"),
-        (&["--diff"], &[ALL, GETPID, "against\n", GETPID, "filter 0600\n"], b"filter 3 refused image ragged\n"),
-        (&["--diff"], &["filter\n", "against\n", "filter 0600\n"], b"filter 0 refused image empty\n"),
+    let rows: [(bool, &[&str], &[u8]); 11] = [
+        (false, &["record 00\n"], b"skern: line 1: not understood\n"),
+        (
+            false,
+            &[ALL, "filter 0\n"],
+            b"skern: line 2: not understood\n",
+        ),
+        (
+            false,
+            &[ALL, "against\n", ALL],
+            b"skern: line 2: not understood\n",
+        ),
+        (true, &[ALL, "\n"], b"skern: line 3: not understood\n"),
+        (
+            true,
+            &[ALL, "against\n", "against\n"],
+            b"skern: line 3: not understood\n",
+        ),
+        (
+            true,
+            &[ALL, "against now\n"],
+            b"skern: line 2: not understood\n",
+        ),
+        (false, &["filter\n"], b"filter 0 refused image empty\n"),
+        (
+            false,
+            &[ALL, "filter 0600\n"],
+            b"filter 1 refused image ragged\n",
+        ),
+        (
+            false,
+            &["filter 0700000000000000\n"],
+            b"filter 0 refused 9 no return\n",
+        ),
+        (
+            true,
+            &[ALL, GETPID, "against\n", GETPID, "filter 0600\n"],
+            b"filter 3 refused image ragged\n",
+        ),
+        (
+            true,
+            &["filter\n", "against\n", "filter 0600\n"],
+            b"filter 0 refused image empty\n",
+        ),
     ];
-    for (words, lines, output) in rows {
-        let (held, status) = answer(rt.alloc(), words, Some(lines), 0)?;
+    for (two, lines, output) in rows {
+        let (held, status) = if two {
+            answer(rt.alloc(), &["--diff"], Some(lines), 0)?
+        } else {
+            answer(rt.alloc(), &[], Some(lines), 0)?
+        };
         assert_eq!(rt; held.as_slice(), output);
         assert_eq!(rt; status, 1);
     }
@@ -32,7 +68,10 @@ fn a_thirty_third_filter(rt: HostRuntime) -> Result<(), Fail> {
     assert_eq!(rt; held.as_slice(), b"0 read allow/0\n".as_slice());
     assert_eq!(rt; status, 0);
     let (held, _) = answer(rt.alloc(), &[], Some(&lines), 0)?;
-    assert_eq!(rt; held.as_slice(), b"skern: line 33: not understood\n".as_slice());
+    assert_eq!(rt;
+        held.as_slice(),
+        b"skern: line 33: not understood\n".as_slice()
+    );
     // Each chain has room for as many.
     lines[16] = "against\n";
     let (held, _) = answer(rt.alloc(), &["--diff"], Some(&lines), 0)?;

@@ -1,5 +1,6 @@
 use crate::filters::{
-    ALL, ARGUMENT, DIVISION, DIVISION_BY_ZERO, FLAG, FROM_1000, GETPID, LONG_ARGUMENT, MASKED, SCRATCH, X32_BY_JGE, X32_BY_JSET,
+    ALL, ARGUMENT, DIVISION, DIVISION_BY_ZERO, FLAG, FROM_1000, GETPID, LONG_ARGUMENT, MASKED,
+    SCRATCH, X32_BY_JGE, X32_BY_JSET,
 };
 use crate::running::answer;
 use std::test::Fail;
@@ -12,11 +13,27 @@ fn one_number(rt: HostRuntime) -> Result<(), Fail> {
         (&[ALL], "39", b"39 getpid allow/0\n"),
         (&[ALL], "423", b"423 - allow/0\n"),
         (&[X32_BY_JGE], "1073741823", b"1073741823 - allow/0\n"),
-        (&[X32_BY_JGE], "1073741824", b"1073741824 - kill_process/0\n"),
-        (&[X32_BY_JGE], "4294967295", b"4294967295 - kill_process/0\n"),
-        (&[X32_BY_JSET], "1073741863", b"1073741863 - kill_process/0\n"),
+        (
+            &[X32_BY_JGE],
+            "1073741824",
+            b"1073741824 - kill_process/0\n",
+        ),
+        (
+            &[X32_BY_JGE],
+            "4294967295",
+            b"4294967295 - kill_process/0\n",
+        ),
+        (
+            &[X32_BY_JSET],
+            "1073741863",
+            b"1073741863 - kill_process/0\n",
+        ),
         (&[X32_BY_JSET], "2147483687", b"2147483687 - allow/0\n"),
-        (&[X32_BY_JSET], "3221225472", b"3221225472 - kill_process/0\n"),
+        (
+            &[X32_BY_JSET],
+            "3221225472",
+            b"3221225472 - kill_process/0\n",
+        ),
         (&[LONG_ARGUMENT], "read", b"0 read errno/1 | allow/0\n"),
         (&[MASKED], "read", b"0 read errno/1 | allow/0\n"),
         (&[DIVISION], "read", b"0 read kill_thread/0 | errno/1\n"),
@@ -24,13 +41,29 @@ fn one_number(rt: HostRuntime) -> Result<(), Fail> {
         (&[ARGUMENT], "read", b"0 read any\n"),
         (&[SCRATCH], "getpid", b"39 getpid errno/1\n"),
         (&[SCRATCH], "read", b"0 read allow/0\n"),
-        (&[GETPID, FLAG], "getpid", b"39 getpid kill_process/0 | errno/1\n"),
-        (&[FLAG, GETPID], "getpid", b"39 getpid kill_process/0 | errno/1\n"),
-        (&[GETPID, FLAG], "read", b"0 read kill_process/0 | allow/0\n"),
+        (
+            &[GETPID, FLAG],
+            "getpid",
+            b"39 getpid kill_process/0 | errno/1\n",
+        ),
+        (
+            &[FLAG, GETPID],
+            "getpid",
+            b"39 getpid kill_process/0 | errno/1\n",
+        ),
+        (
+            &[GETPID, FLAG],
+            "read",
+            b"0 read kill_process/0 | allow/0\n",
+        ),
         (&[ARGUMENT, GETPID], "getpid", b"39 getpid any\n"),
         (&[FROM_1000], "999", b"999 - allow/0\n"),
         (&[FROM_1000], "1000", b"1000 - kill_process/0\n"),
-        (&["; a comment\n", "\n", GETPID], "getpid", b"39 getpid errno/1\n"),
+        (
+            &["; a comment\n", "\n", GETPID],
+            "getpid",
+            b"39 getpid errno/1\n",
+        ),
         (&[FROM_1000, X32_BY_JGE], "clone3", b"435 clone3 allow/0\n"),
     ];
     for (lines, call, output) in rows {
@@ -82,15 +115,19 @@ fn all_numbers(rt: HostRuntime) -> Result<(), Fail> {
 }
 
 // A record of call 39 whose words are 0.
-const ZEROS: &str = "270000003e0000c00000000000000000000000000000000000000000000000000000000000000000000000000000000000000000000000000000000000000000";
+const ZEROS: &str =
+    "270000003e0000c00000000000000000000000000000000000000000000000000000000000000000000000000000000000000000000000000000000000000000";
 
 // The same with this first argument.
-const FIVE: &str = "270000003e0000c00000000000000000050000000000000000000000000000000000000000000000000000000000000000000000000000000000000000000000";
+const FIVE: &str =
+    "270000003e0000c00000000000000000050000000000000000000000000000000000000000000000000000000000000000000000000000000000000000000000";
 
-const ONE: &str = "270000003e0000c00000000000000000010000000000000000000000000000000000000000000000000000000000000000000000000000000000000000000000";
+const ONE: &str =
+    "270000003e0000c00000000000000000010000000000000000000000000000000000000000000000000000000000000000000000000000000000000000000000";
 
 // The same with this second argument.
-const SECOND: &str = "270000003e0000c00000000000000000000000000000000030000000000000000000000000000000000000000000000000000000000000000000000000000000";
+const SECOND: &str =
+    "270000003e0000c00000000000000000000000000000000030000000000000000000000000000000000000000000000000000000000000000000000000000000";
 
 #[test]
 fn calls_are_shown(rt: HostRuntime) -> Result<(), Fail> {
@@ -99,17 +136,26 @@ fn calls_are_shown(rt: HostRuntime) -> Result<(), Fail> {
         (
             &[LONG_ARGUMENT],
             "39 getpid errno/1 | allow/0\n",
-            &[("  errno/1 filter 0 at 4 record ", FIVE), ("  allow/0 filter 0 at 5 record ", ZEROS)],
+            &[
+                ("  errno/1 filter 0 at 4 record ", FIVE),
+                ("  allow/0 filter 0 at 5 record ", ZEROS),
+            ],
         ),
         (
             &[MASKED],
             "39 getpid errno/1 | allow/0\n",
-            &[("  errno/1 filter 0 at 3 record ", SECOND), ("  allow/0 filter 0 at 4 record ", ZEROS)],
+            &[
+                ("  errno/1 filter 0 at 3 record ", SECOND),
+                ("  allow/0 filter 0 at 4 record ", ZEROS),
+            ],
         ),
         (
             &[GETPID, FLAG],
             "39 getpid kill_process/0 | errno/1\n",
-            &[("  kill_process/0 filter 1 at 2 record ", ONE), ("  errno/1 filter 0 at 2 record ", ZEROS)],
+            &[
+                ("  kill_process/0 filter 1 at 2 record ", ONE),
+                ("  errno/1 filter 0 at 2 record ", ZEROS),
+            ],
         ),
         (&[ARGUMENT], "39 getpid any\n", &[]),
         (&[], "39 getpid allow/0\n", &[("  allow/0 ?", "")]),
@@ -136,7 +182,10 @@ fn differences(rt: HostRuntime) -> Result<(), Fail> {
     let rows: [(&[&str], &[u8]); 6] = [
         (&[ALL, AGAINST, ALL], b""),
         (&[AGAINST], b""),
-        (&[ALL, AGAINST, GETPID], b"- 39 getpid allow/0\n+ 39 getpid errno/1\n"),
+        (
+            &[ALL, AGAINST, GETPID],
+            b"- 39 getpid allow/0\n+ 39 getpid errno/1\n",
+        ),
         (
             &[FROM_1000, AGAINST, ALL],
             b"- 1000-4294967295 - kill_process/0\n+ 1000-4294967295 - allow/0\n",
