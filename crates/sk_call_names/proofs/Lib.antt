@@ -1,0 +1,3 @@
+pub mod Places
+pub mod Naming
+pub mod Numbering

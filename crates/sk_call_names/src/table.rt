@@ -1,0 +1,81 @@
+ghost use Rattle.std.specs.Prelude.{◌≡◌, ◌≢◌, ℕ, ◌<◌, ◌++◌, length, map, slice_get, is_some, if◌then◌else◌, [], ◌∷◌, Some, IfOk, OnOk, IfNone, IfSome};
+ghost use Rattle.std.specs.Option.{option_map};
+ghost use Rattle.sk_call_names.specs.Names.{name_of, named_from};
+
+use crate::names::{EARLY, LATE};
+use std::alloc::{AllocError, Global};
+
+/// The first number of the second table.
+const FIRST_LATE: u32 = 424;
+
+/// No number from here on has a name.
+const COUNT: u32 = FIRST_LATE + LATE.len() as u32;
+
+/// The name of a call's number, if it is one.
+#[tactic(auto, unfolding(crate::specs::Names::name_of))]
+pub fn name(nr: u32) -> Option<&'static str>
+    ensures name { option_map (λ name. name.now) result ≡ name_of nr }
+{
+    if nr < FIRST_LATE {
+        name_at(&EARLY, nr as usize)
+    } else {
+        name_at(&LATE, (nr - FIRST_LATE) as usize)
+    }
+}
+
+/// The number of the call with this name, if there is one.
+#[tactic(auto, unfolding(crate::specs::Names::name_of))]
+pub fn number(name: &[u8]) -> Option<u32>
+    ensures found { IfSome result (λ nr. name_of nr ≡ Some name.now) }
+    ensures none { IfNone result ((nr : ℕ) → name_of nr ≢ Some name.now) }
+{
+    match place_of(&EARLY, name) {
+        Some(place) => Some(place as u32),
+        None => Some(FIRST_LATE + place_of(&LATE, name)? as u32),
+    }
+}
+
+/// The numbers of all calls that have a name, in rising order.
+pub fn numbers(alloc: Global) -> Result<Vec<u32>, AllocError>
+    ensures all { IfOk result (λ numbers. numbers.items ≡ named_from 451 0) }
+{
+    named_below(alloc, COUNT)
+}
+
+fn named_below(alloc: Global, count: u32) -> Result<Vec<u32>, AllocError>
+    ensures all { IfOk result (λ numbers. numbers.items ≡ named_from count 0) }
+{
+    let mut numbers = Vec::new(alloc);
+    for nr in 0..count {
+        push_named(&mut numbers, nr)?;
+    }
+    Ok(numbers)
+}
+
+fn push_named(numbers: &mut Vec<u32>, nr: u32) -> Result<(), AllocError>
+    ensures pushed { OnOk result (numbers.new.items ≡ (if is_some (name_of nr) then numbers.old.items ++ nr ∷ [] else numbers.old.items)) }
+{
+    if name(nr).is_some() {
+        numbers.push(nr)?;
+    }
+    Ok(())
+}
+
+fn name_at(names: &[&'static str], place: usize) -> Option<&'static str>
+    ensures name { option_map (λ name. name.now) result ≡ slice_get (map (λ name. name.now) names.now) place }
+{
+    names.get(place).copied()
+}
+
+fn place_of(names: &[&'static str], wanted: &[u8]) -> Option<usize>
+    ensures found { IfSome result (λ place. slice_get (map (λ name. name.now) names.now) place ≡ Some wanted.now) }
+    ensures within { IfSome result (λ place. place < length names.now) }
+    ensures none { IfNone result ((place : ℕ) → slice_get (map (λ name. name.now) names.now) place ≢ Some wanted.now) }
+{
+    for (place, name) in names.iter().enumerate() {
+        if name.as_bytes() == wanted {
+            return Some(place);
+        }
+    }
+    None
+}

@@ -1,0 +1,8 @@
+//! The program `survey` as a function of its words, a reader and a writer.
+#![tactic(auto)]
+
+mod cli;
+mod words;
+
+pub use cli::{command, failed, finish};
+pub use sk_engines::CommandFault;

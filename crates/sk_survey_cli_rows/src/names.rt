@@ -1,0 +1,30 @@
+use sk_call_names::{name, number, numbers};
+use std::test::Fail;
+
+#[test]
+fn names_and_numbers(rt: HostRuntime) -> Result<(), Fail> {
+    let rows: [(u32, Option<&str>); 10] = [
+        (0, Some("read")),
+        (39, Some("getpid")),
+        (334, Some("rseq")),
+        (335, None),
+        (423, None),
+        (424, Some("pidfd_send_signal")),
+        (435, Some("clone3")),
+        (450, Some("set_mempolicy_home_node")),
+        (451, None),
+        (u32::MAX, None),
+    ];
+    for (nr, known) in rows {
+        assert_eq!(rt; name(nr), known);
+        if let Some(known) = known {
+            assert_eq!(rt; number(known.as_bytes()), Some(nr));
+        }
+    }
+    assert_eq!(rt; number(b"no_such_call"), None);
+    assert_eq!(rt; number(b""), None);
+    let all = numbers(rt.alloc())?;
+    assert_eq!(rt; all.len(), 362);
+    assert!(rt; all.contains(&334) && all.contains(&424) && !all.contains(&423));
+    Ok(())
+}

@@ -1,0 +1,40 @@
+-- What holds of each element, and of one more.
+use Rattle.std.proofs.Common.{◌≡◌, ℕ, zero, suc, ◌+◌, ◌<◌, List, [], ◌∷◌, ◌++◌, length, slice_index_or, map, arith, ap, ◌∙◌, append_assoc, sym, subst}
+use Rattle.std.specs.List.{All}
+use Rattle.std.proofs.lemmas.List.{map-append}
+use Rattle.std.proofs.lemmas.List.Elements.{All-append}
+use Rattle.sk_insn.specs.declared.insn.Insn.{Insn}
+use Rattle.sk_survey.specs.declared.rows.Row.{Row}
+use Rattle.sk_survey.specs.Surveys.{Tell}
+use Rattle.sk_survey_engine.specs.declared.line.Line.{Line}
+use Rattle.sk_survey_engine.specs.Lines.{row_of, Holds}
+
+one_holds : {X : Type 0} (P : X → Type 0) (x : X) → P x → All P (x ∷ [])
+one_holds P x h zero d less = h
+one_holds P x h (suc k) d less = absurd (omega arith)
+
+pub one_more_holds : {X : Type 0} (P : X → Type 0) (xs : List X) (x : X) → All P xs → P x → All P (xs ++ x ∷ [])
+one_more_holds P xs x all h = All-append P xs (x ∷ []) all (one_holds P x h)
+
+pub rows_hold : (programs : List (List Insn)) (from end : ℕ) (rows : List Row) → Tell programs from end rows → All (Holds programs) rows
+rows_hold programs from end [] told k d less = absurd (omega arith)
+rows_hold programs from end (row ∷ rows) told zero d less = told.3
+rows_hold programs from end (row ∷ rows) told (suc k) d less = rows_hold programs (row.last + 1) end rows told.4 k d (omega arith)
+
+-- each row of those that tell some numbers holds of its own
+pub row_holds : (programs : List (List Insn)) (from end : ℕ) (rows : List Row) (k : ℕ) (row : Row) → Tell programs from end rows → k < length rows → row ≡ slice_index_or rows k row → Holds programs row
+row_holds programs from end rows k row told less is =
+    subst (Holds programs) (sym is) (rows_hold programs from end rows told k row less)
+
+-- with one line more behind them
+pub still_hold : (P : Line → Type 0) (lines next : List Line) (line : Line) → next ≡ lines ++ line ∷ [] → All P lines → P line → All P next
+still_hold P lines next line is all h = subst (All P) (sym is) (one_more_holds P lines line all h)
+
+pub one_line_more : (lines next : List Line) (line : Line) (row : Row) (left rest all : List Row) → next ≡ lines ++ line ∷ [] → line.row ≡ row → left ≡ row ∷ rest → map row_of lines ++ left ≡ all → map row_of next ++ rest ≡ all
+one_line_more lines next line row left rest all is same steps so_far =
+    ap (λ xs. map row_of xs ++ rest) is
+    ∙ ap (λ xs. xs ++ rest) (map-append row_of lines (line ∷ []))
+    ∙ append_assoc (map row_of lines) (line.row ∷ []) rest
+    ∙ ap (λ r. map row_of lines ++ (r ∷ rest)) same
+    ∙ ap (λ xs. map row_of lines ++ xs) (sym steps)
+    ∙ so_far

@@ -1,0 +1,28 @@
+use Rattle.std.proofs.Common.{sym, subst}
+use Rattle.std.specs.List.{All}
+use Rattle.std.proofs.lemmas.List.Elements.{All-nil}
+use Rattle.sk_survey_engine.specs.Lines.{Holds, IsLineOfEither}
+use Rattle.sk_survey_engine.proofs.Holding.{rows_hold}
+use Rattle.sk_survey_engine.proofs.differences.differences.Goals as goal
+
+pub push_all_pieces-requires-clause-rows : goal.push_all_pieces-requires-clause-rows
+push_all_pieces-requires-clause-rows c =
+    subst (All (Holds c.args.first.now)) (sym c.deref.ensures.value)
+    (rows_hold c.args.first.now _ _ c.in_ok-rows.rows.items c.in_ok-rows.ensures.rows)
+
+pub push_all_pieces-requires-clause-others : goal.push_all_pieces-requires-clause-others
+push_all_pieces-requires-clause-others c =
+    subst (All (Holds c.args.second.now)) (sym c.deref-2.ensures.value)
+    (rows_hold c.args.second.now _ _ c.in_ok-others.others.items c.in_ok-others.ensures.rows)
+
+pub returns : goal.returns
+returns c = record {
+  lines = record {
+    rows = c.in_ok-rows.rows.items;
+    others = c.in_ok-others.others.items;
+    tell_first = c.in_ok-rows.ensures.rows;
+    tell_second = c.in_ok-others.ensures.rows;
+    told = rw (c.new-lines.ensures.items, c.deref.ensures.value, c.deref-2.ensures.value) at c.in_ok-push_all_pieces.ensures.told;
+    hold = c.in_ok-push_all_pieces.ensures.lines (subst (All (IsLineOfEither c.args.options.examples c.args.first.now c.args.second.now)) (sym c.new-lines.ensures.items) (All-nil (IsLineOfEither c.args.options.examples c.args.first.now c.args.second.now)));
+  };
+}

@@ -1,0 +1,10 @@
+use Rattle.std.proofs.Common.{◌≡◌, map, take}
+use Rattle.std.specs.List.{All}
+use Rattle.sk_survey_engine.specs.Lines.{IsShown}
+use Rattle.sk_survey_engine.proofs.lines.values_shown.Given as goal
+
+abbrev pub invariant-loop-value : goal.invariant-loop-value
+invariant-loop-value l = record {
+  values : map (λ it. it.value) l.shown.items ≡ take l.value-index l.values;
+  found : All (IsShown l.chain l.row) l.shown.items;
+}

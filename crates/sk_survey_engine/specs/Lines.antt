@@ -1,0 +1,62 @@
+-- What the lines of a survey say of the chains.
+use Rattle.std.specs.Prelude.{ℕ, ◌≡◌, ◌+◌, ◌^◌, Bool, true, false, List, [], map, Option, Some, None, IfSome}
+use Rattle.std.specs.List.{All}
+use Rattle.sk_insn.specs.declared.insn.Insn.{Insn}
+use Rattle.sk_survey.specs.declared.rows.Row.{Row}
+use Rattle.sk_survey.specs.Answers.{ChainAnswersAmong, answers_of}
+use Rattle.sk_survey.specs.Surveys.{Tell}
+use Rattle.sk_survey_examples.specs.Examples.{IsExample}
+use Rattle.sk_survey_engine.specs.declared.line.Line.{Line}
+use Rattle.sk_survey_engine.specs.declared.line.Shown.{Shown}
+use Rattle.sk_survey_engine.specs.declared.line.Sign.TheVariants as sign
+use Rattle.sk_survey_engine.specs.declared.options.Options.{Options}
+
+-- the numbers that are told: all, or the one that is wanted
+abbrev pub first_told : Option ℕ → ℕ
+first_told None = 0
+first_told (Some nr) = nr
+
+abbrev pub end_told : Option ℕ → ℕ
+end_told None = 2 ^ 32
+end_told (Some nr) = nr + 1
+
+abbrev pub row_of : Line → Row
+row_of line = line.row
+
+-- the values that calls are looked for
+abbrev pub wanted_values : Bool → Option (List ℕ) → List ℕ
+wanted_values false values = []
+wanted_values true None = []
+wanted_values true (Some values) = values
+
+-- a call that is shown has one of the row's numbers, and the verdict on it is the value
+abbrev pub IsShown : List (List Insn) → Row → Shown → Type 0
+IsShown programs row shown = IfSome shown.found (IsExample programs row.first row.last shown.value)
+
+-- below a row stand its values, each with a call that was found for it or without one
+pub record Shows (programs : List (List Insn)) (examples : Bool) (row : Row) (shown : List Shown) : Type 0 where
+  pub values : map (λ it. it.value) shown ≡ wanted_values examples (answers_of row.answers)
+  pub found : All (IsShown programs row) shown
+
+-- a row holds of its numbers
+abbrev pub Holds : List (List Insn) → Row → Type 0
+Holds programs row = ChainAnswersAmong programs row.first row.last (answers_of row.answers)
+
+-- one line of a chain
+pub record IsLineOf (programs : List (List Insn)) (examples : Bool) (line : Line) : Type 0 where
+  pub answers : Holds programs line.row
+  pub shows : Shows programs examples line.row line.shown.items
+
+-- the lines of one chain: their rows tell all numbers that are wanted
+pub record AreLinesOf (options : Options) (programs : List (List Insn)) (lines : List Line) : Type 0 where
+  pub rows : Tell programs (first_told options.call) (end_told options.call) (map row_of lines)
+  pub plain : All (λ line. line.sign ≡ sign.None) lines
+  pub shows : All (λ line. Shows programs options.examples line.row line.shown.items) lines
+
+-- a line of two chains is one of the chain that its sign says
+abbrev pub IsLineOfEither : Bool → List (List Insn) → List (List Insn) → Line → Type 0
+IsLineOfEither examples first second line = elim line.sign [
+  | sign.None ↦ ⊥
+  | sign.First ↦ IsLineOf first examples line
+  | sign.Second ↦ IsLineOf second examples line
+]

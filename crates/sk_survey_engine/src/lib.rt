@@ -1,0 +1,14 @@
+//! The command `survey`: what filters answer to every call, by its number, over a reader and a writer.
+#![tactic(auto)]
+
+mod chains;
+mod differences;
+mod engine;
+mod gathering;
+mod line;
+mod lines;
+mod options;
+mod text;
+
+pub use engine::survey_engine;
+pub use options::Options;

@@ -1,0 +1,32 @@
+-- The filter at a place of a chain, where those before it are passed.
+use Rattle.std.proofs.Common.{◌≡◌, ℕ, zero, suc, ◌+◌, ◌<◌, List, [], ◌∷◌, length, drop, slice_get, Some, arith, sym, ap, ◌∙◌}
+use Rattle.std.specs.Option.{option_map}
+use Rattle.std.proofs.lemmas.List.{length-drop, drop-drop}
+use Rattle.std.proofs.lemmas.Option.{slice_get-map}
+use Rattle.sk_insn.specs.declared.insn.Insn.{Insn}
+use Rattle.sk_insn.specs.declared.record.Record.{Record}
+use Rattle.sk_interp.specs.Meaning.{Returned, meaning_of}
+use Rattle.sk_chain.specs.Verdict.{meaning_value, values_of}
+
+at_front : {X : Type 0} (xs : List X) (n : ℕ) (x : X) (rest : List X) → drop n xs ≡ x ∷ rest → slice_get xs n ≡ Some x
+at_front [] zero x rest e = cc
+at_front [] (suc n) x rest e = cc
+at_front (y ∷ ys) zero x rest e = cc
+at_front (y ∷ ys) (suc n) x rest e = at_front ys n x rest e
+
+-- how many are passed where so many are left
+pub is_within : {X : Type 0} (xs : List X) (n : ℕ) (x : X) (left rest : List X) → left ≡ drop n xs → left ≡ x ∷ rest → n < length xs
+is_within xs n x left rest at next =
+    let e = sym at ∙ next in
+    let l = length-drop n xs in
+    let m = ap length e in
+    omega (arith, l, m)
+
+pub passed : {X : Type 0} (xs : List X) (n : ℕ) (x : X) (left rest : List X) → left ≡ drop n xs → left ≡ x ∷ rest → rest ≡ drop (n + 1) xs
+passed xs n x left rest at next = ap (drop 1) (sym next ∙ at) ∙ drop-drop 1 n xs
+
+pub answers_at : (programs : List (List Insn)) (call : Record) (n : ℕ) (program : List Insn) (left rest : List (List Insn)) (value steps : ℕ) → left ≡ drop n programs → left ≡ program ∷ rest → meaning_of program call ≡ Returned value steps → slice_get (values_of programs call) n ≡ Some value
+answers_at programs call n program left rest value steps at next meaning =
+    slice_get-map (λ insns. meaning_value (meaning_of insns call)) programs n
+    ∙ ap (option_map (λ insns. meaning_value (meaning_of insns call))) (at_front programs n program rest (sym at ∙ next))
+    ∙ ap (λ m. Some (meaning_value m)) meaning

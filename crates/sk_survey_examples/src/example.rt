@@ -1,0 +1,84 @@
+ghost use Rattle.std.specs.Prelude.{◌≡◌, ◌+◌, ℕ, IfOk, IfSome, length, slice_get, Some};
+ghost use Rattle.sk_chain.specs.Verdict.{values_of};
+ghost use Rattle.sk_survey_examples.specs.Examples.{IsExample};
+
+use crate::tracing::{end_of, push_turns};
+use sk_chain::Chain;
+use sk_insn::Record;
+use sk_interp::run;
+use std::alloc::{AllocError, Global};
+
+/// How many calls are tried for one value.
+const MOST_CALLS: usize = 512;
+
+/// A call, and where the verdict on it comes from.
+#[derive(Clone, Copy, Debug, PartialEq, Eq)]
+pub struct Example {
+    /// The call.
+    pub call: Record,
+    /// The number of the filter whose value is the verdict, where the oldest is 0.
+    pub filter: usize,
+    /// The place of the instruction at which that filter ends.
+    pub place: usize,
+}
+
+/// A call of one of these numbers on which the verdict is the value, where the search finds one. It begins with a call
+/// whose words are 0, and goes on with calls that turn a conditional jump on the way of one that was tried.
+pub fn find(
+    alloc: Global,
+    chain: &Chain,
+    first: u32,
+    last: u32,
+    value: u32,
+) -> Result<Option<Example>, AllocError>
+    ensures found { IfOk result (λ found. IfSome found (IsExample chain.now first last value)) }
+{
+    let mut calls = Vec::new(alloc);
+    calls.push(Record {
+        nr: first,
+        ip: 0,
+        args: [0; 6],
+    })?;
+    for tried in 0..MOST_CALLS {
+        let Some(call) = calls.get(tried).copied() else {
+            return Ok(None);
+        };
+        if let Some(found) = shown(chain, first, last, value, call) {
+            return Ok(Some(found));
+        }
+        for program in chain.programs() {
+            push_turns(&mut calls, program, &call, first, last)?;
+        }
+    }
+    Ok(None)
+}
+
+// What a call shows, if it is an example.
+fn shown(chain: &Chain, first: u32, last: u32, value: u32, call: Record) -> Option<Example>
+    ensures found { IfSome result (IsExample chain.now first last value) }
+{
+    if call.nr < first || call.nr > last || chain.verdict(&call) != value {
+        return None;
+    }
+    let (filter, place) = answering(chain, &call, value)?;
+    Some(Example {
+        call,
+        filter,
+        place,
+    })
+}
+
+// The newest filter that answers the value, and where it ends.
+fn answering(chain: &Chain, call: &Record, value: u32) -> Option<(usize, usize)>
+    ensures filter { IfSome result (λ found. (newer : ℕ) × (newer + 1 + found.0 ≡ length chain.now)
+        × (slice_get (values_of chain.now call.now) newer ≡ Some value)) }
+{
+    let mut older = chain.len();
+    for program in chain.programs() {
+        older -= 1;
+        if run(program, call).value == value {
+            return Some((older, end_of(program, call)));
+        }
+    }
+    None
+}

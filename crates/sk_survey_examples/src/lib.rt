@@ -1,0 +1,8 @@
+//! Calls on which a chain of filters answers a value that is looked for.
+#![tactic(auto)]
+
+mod example;
+mod origin;
+mod tracing;
+
+pub use example::{Example, find};

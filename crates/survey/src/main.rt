@@ -1,0 +1,47 @@
+//! The program `survey`, over the standard streams.
+#![tactic(auto)]
+
+use sk_ends::Counted;
+use sk_survey_cli::{CommandFault, command, failed, finish};
+use std::env::Env;
+use std::io::{BufWriter, ErrorKind};
+use std::process::ExitCode;
+use std::{env, io};
+
+/// How many bytes are gathered before they are written.
+const BLOCK: usize = 65_536;
+
+const FAILED: u8 = 3;
+
+fn main(rt: HostRuntime) -> ExitCode {
+    let alloc = rt.alloc();
+    let output = match BufWriter::with_capacity(alloc, BLOCK, io::writer(&rt)) {
+        Ok(output) => output,
+        Err(error) if error.kind() == ErrorKind::OutOfMemory => {
+            let mut writer = Counted::new(io::writer(&rt));
+            return ExitCode::from(failed(&mut writer, CommandFault::Memory));
+        }
+        Err(_) => return ExitCode::from(FAILED),
+    };
+    let mut reader = Counted::new(rt.reader());
+    let mut writer = Counted::new(output);
+    let status = match words(&rt) {
+        Ok(words) => command(alloc, words.as_slice(), &mut reader, &mut writer),
+        Err(error) if error.kind() == ErrorKind::OutOfMemory => failed(
+            &mut writer,
+            CommandFault::Memory,
+        ),
+        // A word that is no text says nothing.
+        Err(_) => command(alloc, &[], &mut reader, &mut writer),
+    };
+    ExitCode::from(finish(writer.into_inner(), status))
+}
+
+// The words behind the program's name.
+fn words<R: Env + AllocGlobal>(rt: &R) -> io::Result<Vec<String>> {
+    let mut words = Vec::new(rt.alloc());
+    for word in env::args(rt)?.skip(1) {
+        words.push(word)?;
+    }
+    Ok(words)
+}
