@@ -17,6 +17,4 @@ mod failing_ends;
 #[cfg(test)]
 mod failing_runs;
 #[cfg(test)]
-mod given_rows;
-#[cfg(test)]
 mod report_rows;
