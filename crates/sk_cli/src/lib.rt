@@ -2,10 +2,9 @@
 #![tactic(auto)]
 
 mod cli;
-mod word;
 
-pub use cli::{command, failed, finish};
-pub use sk_engines::{CommandFault, asm_engine, check_engine, eval_engine, list_engine};
+pub use cli::command;
+pub use sk_engines::{CommandFault, FAILED, failed, finish, words_of};
 
 #[cfg(test)]
 mod tests;

@@ -11,6 +11,7 @@ mod fault;
 mod filters;
 mod list;
 mod on_image;
+mod program;
 mod refusal;
 mod reply;
 
@@ -21,5 +22,6 @@ pub use eval::eval_engine;
 pub use fault::CommandFault;
 pub use filters::{MOST_FILTERS, Refusal, bytes_in, chain_of};
 pub use list::list_engine;
+pub use program::{FAILED, failed, finish, tell_usage, words_of};
 pub use refusal::refusal_reply;
 pub use reply::{Line, Reply};

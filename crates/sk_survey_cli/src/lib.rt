@@ -4,5 +4,5 @@
 mod cli;
 mod words;
 
-pub use cli::{command, failed, finish};
-pub use sk_engines::CommandFault;
+pub use cli::command;
+pub use sk_engines::{CommandFault, FAILED, failed, finish, words_of};

@@ -1,17 +1,14 @@
 //! The program `skern`, over the standard streams.
 #![tactic(auto)]
 
-use sk_cli::{CommandFault, command, failed, finish};
+use sk_cli::{CommandFault, FAILED, command, failed, finish, words_of};
 use sk_ends::Counted;
-use std::env::Env;
+use std::io;
 use std::io::{BufWriter, ErrorKind};
 use std::process::ExitCode;
-use std::{env, io};
 
 /// How many bytes are gathered before they are written.
 const BLOCK: usize = 65_536;
-
-const FAILED: u8 = 3;
 
 fn main(rt: HostRuntime) -> ExitCode {
     let alloc = rt.alloc();
@@ -25,7 +22,7 @@ fn main(rt: HostRuntime) -> ExitCode {
     };
     let mut reader = Counted::new(rt.reader());
     let mut writer = Counted::new(output);
-    let status = match words(&rt) {
+    let status = match words_of(&rt) {
         Ok(words) => command(alloc, words.as_slice(), &mut reader, &mut writer),
         Err(error) if error.kind() == ErrorKind::OutOfMemory => failed(
             &mut writer,
@@ -35,13 +32,4 @@ fn main(rt: HostRuntime) -> ExitCode {
         Err(_) => command(alloc, &[], &mut reader, &mut writer),
     };
     ExitCode::from(finish(writer.into_inner(), status))
-}
-
-// The words behind the program's name.
-fn words<R: Env + AllocGlobal>(rt: &R) -> io::Result<Vec<String>> {
-    let mut words = Vec::new(rt.alloc());
-    for word in env::args(rt)?.skip(1) {
-        words.push(word)?;
-    }
-    Ok(words)
 }

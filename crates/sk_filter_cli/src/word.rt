@@ -6,7 +6,15 @@ use std::alloc::{AllocError, Global};
 /// What the program does.
 #[derive(Clone, Copy, Debug, PartialEq, Eq)]
 pub enum Word {
+    /// Runs a scenario.
     Run,
+    /// Answers of filters.
+    Filters(FilterWord),
+}
+
+/// What it does with filters.
+#[derive(Clone, Copy, Debug, PartialEq, Eq)]
+pub enum FilterWord {
     Check,
     Eval,
     Asm,
@@ -35,10 +43,10 @@ pub fn word_in(alloc: Global, words: &[String]) -> Result<Option<Word>, AllocErr
 fn named(name: &str) -> Option<Word> {
     match name {
         "run" => Some(Word::Run),
-        "check" => Some(Word::Check),
-        "eval" => Some(Word::Eval),
-        "asm" => Some(Word::Asm),
-        "list" => Some(Word::List),
+        "check" => Some(Word::Filters(FilterWord::Check)),
+        "eval" => Some(Word::Filters(FilterWord::Eval)),
+        "asm" => Some(Word::Filters(FilterWord::Asm)),
+        "list" => Some(Word::Filters(FilterWord::List)),
         _ => None,
     }
 }

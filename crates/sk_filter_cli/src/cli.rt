@@ -1,0 +1,58 @@
+//! The filter commands over any reader and writer.
+ghost use Rattle.std.specs.Prelude.{◌≤◌, IfOk};
+
+use crate::word::{FilterWord, Word, word_in};
+use sk_ends::{Sink, Source};
+use sk_engines::{
+    CommandFault, asm_engine, check_engine, eval_engine, failed, list_engine, tell_usage,
+};
+use std::alloc::Global;
+
+const USAGE: &str = "usage: skern check|eval|asm|list\n";
+
+/// Does what the words say of filters, as `skern` does, and gives the exit status: 0 where the work is done, 1 where
+/// the input is refused, 2 for other words, 3 where memory or a device failed. Every text goes to the writer.
+pub fn command<R: Source, W: Sink>(
+    alloc: Global,
+    words: &[String],
+    reader: &mut R,
+    writer: &mut W,
+) -> u8
+    ensures status { result ≤ 3 }
+{
+    match done(alloc, words, reader, writer) {
+        Ok(status) => status,
+        Err(fault) => failed(writer, fault),
+    }
+}
+
+fn done<R: Source, W: Sink>(
+    alloc: Global,
+    words: &[String],
+    reader: &mut R,
+    writer: &mut W,
+) -> Result<u8, CommandFault>
+    ensures status { IfOk result (λ status. status ≤ 2) }
+{
+    match word_in(alloc, words)? {
+        Some(Word::Filters(word)) => filter_command(alloc, word, reader, writer),
+        Some(Word::Run) | None => Ok(tell_usage(writer, USAGE)?),
+    }
+}
+
+/// Does what the word says of filters, and gives the status: 0 where the work is done, 1 where the input is refused.
+pub fn filter_command<R: Source, W: Sink>(
+    alloc: Global,
+    word: FilterWord,
+    reader: &mut R,
+    writer: &mut W,
+) -> Result<u8, CommandFault>
+    ensures status { IfOk result (λ status. status ≤ 1) }
+{
+    match word {
+        FilterWord::Check => check_engine(alloc, reader, writer),
+        FilterWord::Eval => eval_engine(alloc, reader, writer),
+        FilterWord::Asm => asm_engine(alloc, reader, writer),
+        FilterWord::List => list_engine(alloc, reader, writer),
+    }
+}
