@@ -6,3 +6,4 @@ pub mod Reaching
 pub mod Telling
 pub mod Merging
 pub mod Choosing
+pub mod ChainEnds

@@ -1,12 +1,14 @@
 -- The first of two values, told by the last values of their sets.
-use Rattle.std.proofs.Common.{◌≡◌, ℕ, zero, suc, ◌+◌, ◌%◌, ◌-◌, ◌^◌, ◌<◌, ◌≤◌, ◌⊎◌, inl, inr, Bool, true, false, if◌then◌else◌, List, [], ◌∷◌, length, take, Some, slice_get, get_or, refl, sym, ap, subst, arith}
+use Rattle.std.proofs.Common.{◌≡◌, ℕ, zero, suc, ◌+◌, ◌%◌, ◌-◌, ◌^◌, ◌<◌, ◌≤◌, ◌⊎◌, ◌==◌, inl, inr, Bool, true, false, if◌then◌else◌, List, [], ◌∷◌, length, take, Option, Some, None, slice_get, get_or, refl, sym, ap, subst, arith}
 use Rattle.std.specs.Prelude.{ℤ, int_le, ◌<ℤ◌, ◌≤ℤ◌}
 use Rattle.std.specs.Int.{cast_signed, w32}
-use Rattle.std.proofs.lemmas.Bool.{cases_lt}
+use Rattle.std.proofs.lemmas.Bool.{cases_lt, eqb-true}
+use Rattle.std.specs.Option.{option_eq}
 use Rattle.std.proofs.lemmas.Int.{ints}
 use Rattle.sk_chain.specs.Precedence.{precedence_of}
 use Rattle.sk_chain.specs.Choosing.{chosen}
 use Rattle.sk_survey.specs.Answers.{IsOneOf, IsRising}
+use Rattle.sk_survey.proofs.Rising.{one_at}
 
 -- the next one of a list
 pub one_of_more : (xs : List ℕ) (i value : ℕ) → i < length xs → IsOneOf value (take (i + 1) xs) → IsOneOf value (take i xs) ⊎ (value ≡ get_or xs i 0)
@@ -17,6 +19,18 @@ one_of_more xs i value inside is = let e : i + 1 ≡ suc i = omega arith in go x
   go (x ∷ xs) zero inside (inr is) = absurd is
   go (x ∷ xs) (suc i) inside (inl same) = inl (inl same)
   go (x ∷ xs) (suc i) inside (inr is) = elim (go xs i (omega arith) is) [ inl before ↦ inl (inr before) | inr same ↦ inr same ]
+
+pub same_option : (o : Option ℕ) (x : ℕ) → option_eq (λ a b. a == b) o (Some x) ≡ true → o ≡ Some x
+same_option None x e = cc
+same_option (Some y) x e = ap Some (eqb-true y x e)
+
+-- what is added is one of a list of which this holds
+pub only_added : (values old xs : List ℕ) (i x : ℕ) (Stays : ℕ → Type 0) → slice_get xs i ≡ Some x → Stays x
+    → ((value : ℕ) → IsOneOf value values → IsOneOf value old ⊎ (IsOneOf value xs × Stays value))
+    → (value : ℕ) → IsOneOf value values ⊎ (value ≡ x) → IsOneOf value old ⊎ (IsOneOf value xs × Stays value)
+only_added values old xs i x Stays here stays only value (inl before) = only value before
+only_added values old xs i x Stays here stays only value (inr same) =
+    inr (subst (λ v. IsOneOf v xs × Stays v) (sym same) (one_at xs i x here, stays))
 
 -- a greater value has no sooner action
 apart : (m n : ℕ) → m < 2147483648 → 2147483648 ≤ n → n < 2 ^ 32 → cast_signed w32 m <ℤ cast_signed w32 n → ⊥

@@ -1,5 +1,5 @@
 -- Rising values, with one more.
-use Rattle.std.proofs.Common.{◌≡◌, ◌≢◌, ℕ, zero, suc, ◌^◌, ◌<◌, inl, inr, List, [], ◌∷◌, length, Some, slice_get, get_or, refl, arith}
+use Rattle.std.proofs.Common.{◌≡◌, ◌≢◌, ℕ, zero, suc, ◌^◌, ◌<◌, ◌⊎◌, inl, inr, List, [], ◌∷◌, length, Some, slice_get, get_or, refl, arith}
 use Rattle.std.specs.Prelude.{ℤ, ◌<ℤ◌, ◌≤ℤ◌}
 use Rattle.std.specs.List.{insert}
 use Rattle.std.specs.Int.{cast_signed, w32}
@@ -45,6 +45,15 @@ pub one_added : (values : List ℕ) (place value : ℕ) → IsOneOf value (inser
 one_added values zero value = inl refl
 one_added [] (suc place) value = inl refl
 one_added (first ∷ values) (suc place) value = inr (one_added values place value)
+
+pub one_inserted : (values : List ℕ) (place value other : ℕ) → IsOneOf other (insert values place value) → IsOneOf other values ⊎ (other ≡ value)
+one_inserted values zero value other (inl same) = inr same
+one_inserted values zero value other (inr is) = inl is
+one_inserted [] (suc place) value other (inl same) = inr same
+one_inserted [] (suc place) value other (inr is) = absurd is
+one_inserted (first ∷ values) (suc place) value other (inl same) = inl (inl same)
+one_inserted (first ∷ values) (suc place) value other (inr is) =
+    elim (one_inserted values place value other is) [ inl there ↦ inl (inr there) | inr same ↦ inr same ]
 
 pub one_at : (values : List ℕ) (place value : ℕ) → slice_get values place ≡ Some value → IsOneOf value values
 one_at [] place value here = cc

@@ -67,6 +67,17 @@ Leads (End known) insn after call e = (value : ℕ) × (e ≡ Ends value) × Des
 Leads FollowingOrZero insn after call e =
     ((s : State) × (e ≡ GoesOn 0 s) × DescribesState after call s) ⊎ (e ≡ Ends 0)
 
+-- the values that are told of a number of which this is known: the call's number, in a range, stands for any value
+abbrev pub StandsFor : Known → ℕ → Type 0
+StandsFor (Is k) value = value ≡ k
+StandsFor known value = Unit {0}
+
+-- the values that are told of an end, where an instruction was found to lead to one
+abbrev pub TellsEnd : Next → ℕ → Type 0
+TellsEnd (End known) value = StandsFor known value
+TellsEnd FollowingOrZero value = value ≡ 0
+TellsEnd next value = ⊥
+
 -- where control goes on from a place
 abbrev pub led : ℕ → Next → Insn → Onward
 led place (Skip skip) insn = To (place + 1 + skip)

@@ -1,4 +1,5 @@
 pub mod Answers
+pub mod Ends
 pub mod Surveys
 pub mod Following
 pub mod AnswersLaws

@@ -1,8 +1,9 @@
-ghost use Rattle.std.specs.Prelude.{◌≡◌, ℕ, IsOk, IfOk, IsTrue, [], ◌∷◌, Some};
+ghost use Rattle.std.specs.Prelude.{◌≡◌, ℕ, ◌⊎◌, IsOk, IfOk, IsTrue, [], ◌∷◌, Some};
 ghost use Rattle.sk_insn.specs.declared.record.Record.{Record};
 ghost use Rattle.sk_chain.specs.Choosing.{chosen};
 ghost use Rattle.sk_survey.specs.Answers.{answers_of, IsAmong, AreRising};
-ghost use Rattle.sk_survey.specs.Following.{Describes};
+ghost use Rattle.sk_survey.specs.Ends.{OnlyFirsts};
+ghost use Rattle.sk_survey.specs.Following.{Describes, StandsFor};
 
 use crate::known::Known;
 use crate::merge::merge;
@@ -33,6 +34,8 @@ impl Answers {
         ensures kept { (value : ℕ) → IsAmong value (answers_of self.old) → IsAmong value (answers_of self.new) }
         ensures added { IsOk result
             → (call : Record) (value : ℕ) → Describes known call value → IsAmong value (answers_of self.new) }
+        ensures only { (value : ℕ) → IsAmong value (answers_of self.new)
+            → IsAmong value (answers_of self.old) ⊎ StandsFor known value }
     {
         match known {
             Known::Is(value) => self.add_value(value),
@@ -48,6 +51,8 @@ impl Answers {
         ensures rising { AreRising (answers_of self.new) }
         ensures kept { (other : ℕ) → IsAmong other (answers_of self.old) → IsAmong other (answers_of self.new) }
         ensures added { IsOk result → IsAmong value (answers_of self.new) }
+        ensures only { (other : ℕ) → IsAmong other (answers_of self.new)
+            → IsAmong other (answers_of self.old) ⊎ (other ≡ value) }
     {
         match self {
             Answers::Any => Ok(()),
@@ -62,6 +67,7 @@ impl Answers {
         ensures rising { IfOk result (λ answers. AreRising (answers_of answers)) }
         ensures first { IfOk result (λ answers. (u s first : ℕ) → IsAmong u (answers_of self)
             → IsAmong s (answers_of older) → chosen (Some u) s ≡ Some first → IsAmong first (answers_of answers)) }
+        ensures only { IfOk result (λ answers. OnlyFirsts (answers_of self) (answers_of older) (answers_of answers)) }
     {
         match (self, older) {
             (Answers::Among(newer), Answers::Among(older)) => Ok(Answers::Among(merge(

@@ -7,7 +7,8 @@ ghost use Rattle.sk_check.specs.Paths.{onward};
 ghost use Rattle.sk_check.specs.Fits.{TakesConstant, AreInside};
 ghost use Rattle.sk_interp.specs.Meaning.{State, effect, calculated, holds};
 ghost use Rattle.sk_survey.specs.Answers.{IsCallOf};
-ghost use Rattle.sk_survey.specs.Following.{Describes, DescribesState, Leads, led, known_operand, with_known, with_word};
+ghost use Rattle.sk_survey.specs.Ends.{MayEndWith};
+ghost use Rattle.sk_survey.specs.Following.{Describes, DescribesState, Leads, TellsEnd, led, known_operand, with_known, with_word};
 
 use crate::decide::decide;
 use crate::known::{Knowledge, Known};
@@ -36,6 +37,7 @@ impl Knowledge {
             → Leads result insn.now self.new call (effect (operation_of insn.now.code) insn.now call s) }
         ensures inside { (count place : ℕ) → AreInside count (onward place (operation_of insn.now.code) insn.now)
             → AreInside count (led place result insn.now) }
+        ensures ends { (value : ℕ) → TellsEnd result value → MayEndWith value (operation_of insn.now.code) insn.now }
     {
         match decode(insn.code) {
             Some(Operation::LoadRecord) => self.set(
@@ -107,6 +109,8 @@ impl Knowledge {
         ensures leads { (call : Record) (s : State) → DescribesState self.old call s
             → Leads result insn.now self.new call (effect (Some (Operation.Compute arithmetic operand)) insn.now call s) }
         ensures inside { (count place : ℕ) → place + 1 < count → AreInside count (led place result insn.now) }
+        ensures ends { (value : ℕ) → TellsEnd result value
+            → MayEndWith value (Some (Operation.Compute arithmetic operand)) insn.now }
     {
         let right = self.right(operand, insn.k);
         match (arithmetic, right) {
@@ -135,6 +139,7 @@ impl Knowledge {
             → Leads result insn.now self.now call (effect (Some (Operation.Branch comparison operand)) insn.now call s) }
         ensures inside { (count place : ℕ) → place + 1 + insn.now.jt < count → place + 1 + insn.now.jf < count
             → AreInside count (led place result insn.now) }
+        ensures ends { (value : ℕ) → TellsEnd result value → ⊥ }
     {
         let right = self.right(operand, insn.k);
         match decide(comparison, self.a, right, first, last) {

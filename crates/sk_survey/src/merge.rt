@@ -1,7 +1,8 @@
 //! The first of a newer and an older value, over all that they can be.
-ghost use Rattle.std.specs.Prelude.{◌≡◌, ℕ, Some, IfOk, IsOk};
+ghost use Rattle.std.specs.Prelude.{◌≡◌, ℕ, ◌⊎◌, Some, IfOk, IsOk};
 ghost use Rattle.sk_chain.specs.Choosing.{chosen};
 ghost use Rattle.sk_survey.specs.Answers.{IsOneOf, IsRising};
+ghost use Rattle.sk_survey.specs.Ends.{IsFirstOfBoth};
 
 use crate::values::insert;
 use sk_chain::sooner;
@@ -16,6 +17,8 @@ pub(crate) fn merge(alloc: Global, newer: &[u32], older: &[u32]) -> Result<Vec<u
     ensures rising { IfOk result (λ values. IsRising values.items) }
     ensures first { IfOk result (λ values. (u s first : ℕ) → IsOneOf u newer.now → IsOneOf s older.now
         → chosen (Some u) s ≡ Some first → IsOneOf first values.items) }
+    ensures only { IfOk result (λ values. (value : ℕ) → IsOneOf value values.items
+        → IsFirstOfBoth newer.now older.now value) }
 {
     let mut values = Vec::new(alloc);
     if newer.is_empty() || older.is_empty() {
@@ -33,6 +36,8 @@ fn add_staying(values: &mut Vec<u32>, newer: &[u32], older: u32) -> Result<(), A
     ensures kept { (other : ℕ) → IsOneOf other values.old.items → IsOneOf other values.new.items }
     ensures added { IsOk result → (value : ℕ) → IsOneOf value newer.now → chosen (Some value) older ≡ Some value
         → IsOneOf value values.new.items }
+    ensures only { (value : ℕ) → IsOneOf value values.new.items → IsOneOf value values.old.items
+        ⊎ (IsOneOf value newer.now × (chosen (Some value) older ≡ Some value)) }
 {
     for value in newer {
         if sooner(Some(*value), older) == Some(*value) {
@@ -49,6 +54,8 @@ fn add_coming(values: &mut Vec<u32>, older: &[u32], newer: u32) -> Result<(), Al
     ensures kept { (other : ℕ) → IsOneOf other values.old.items → IsOneOf other values.new.items }
     ensures added { IsOk result → (value : ℕ) → IsOneOf value older.now → chosen (Some newer) value ≡ Some value
         → IsOneOf value values.new.items }
+    ensures only { (value : ℕ) → IsOneOf value values.new.items → IsOneOf value values.old.items
+        ⊎ (IsOneOf value older.now × (chosen (Some newer) value ≡ Some value)) }
 {
     for value in older {
         if sooner(Some(newer), *value) == Some(*value) {

@@ -1,11 +1,12 @@
 //! One pass over a program, which follows all paths of all calls with a number of a range.
-ghost use Rattle.std.specs.Prelude.{◌≡◌, ℕ, ◌≤◌, ◌<◌, length, IfOk, IsOk};
+ghost use Rattle.std.specs.Prelude.{◌≡◌, ℕ, ◌≤◌, ◌<◌, ◌⊎◌, length, IfOk, IsOk};
 ghost use Rattle.sk_insn.specs.declared.record.Record.{Record};
 ghost use Rattle.sk_check.specs.Fits.{AreInside};
 ghost use Rattle.sk_interp.specs.Meaning.{State, Effect, Ends};
 ghost use Rattle.sk_insn.specs.declared.insn.Insn.{Insn};
 ghost use Rattle.sk_survey.specs.declared.known.Knowledge.{Knowledge};
-ghost use Rattle.sk_survey.specs.Following.{DescribesState, DescribedAt, Leads, Spreads, led};
+ghost use Rattle.sk_survey.specs.Ends.{OnlyEnds};
+ghost use Rattle.sk_survey.specs.Following.{DescribesState, DescribedAt, Leads, Spreads, TellsEnd, led};
 ghost use Rattle.sk_survey.specs.Answers.{answers_of, AnswersAmong, IsAmong, AreRising};
 
 use crate::answers::Answers;
@@ -28,6 +29,7 @@ pub(crate) fn program_answers(
     requires range { first ≤ last }
     ensures among { IfOk result (λ answers. AnswersAmong program.now first last (answers_of answers)) }
     ensures rising { IfOk result (λ answers. AreRising (answers_of answers)) }
+    ensures only { IfOk result (λ answers. OnlyEnds program.now (answers_of answers)) }
 {
     let mut answers = Answers::Among(Vec::new(alloc));
     slots[0] = Some(Knowledge::at_start());
@@ -49,6 +51,8 @@ fn add_end(answers: &mut Answers, next: Next) -> Result<(), AllocError>
     ensures kept { (value : ℕ) → IsAmong value (answers_of answers.old) → IsAmong value (answers_of answers.new) }
     ensures added { IsOk result → (insn : Insn) (after : Knowledge) (call : Record) (value : ℕ)
         → Leads next insn after call (Ends value) → IsAmong value (answers_of answers.new) }
+    ensures only { (value : ℕ) → IsAmong value (answers_of answers.new)
+        → IsAmong value (answers_of answers.old) ⊎ TellsEnd next value }
 {
     match next {
         Next::End(known) => answers.add(known),

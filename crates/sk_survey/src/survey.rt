@@ -21,6 +21,7 @@ pub struct Survey {
 
 impl Survey {
     ghost use Rattle.sk_survey.specs.Answers.{answers_of, AnswersAmong, ChainAnswersAmong, AreRising};
+    ghost use Rattle.sk_survey.specs.Ends.{OnlyEnds, OnlyVerdicts};
     ghost use Rattle.sk_survey.specs.Surveys.{IsSurveyFrom};
 
     /// One slot for each place of the longest program.
@@ -41,6 +42,7 @@ impl Survey {
         requires range { first ≤ last }
         ensures among { IfOk result (λ answers. AnswersAmong program.now first last (answers_of answers)) }
         ensures rising { IfOk result (λ answers. AreRising (answers_of answers)) }
+        ensures only { IfOk result (λ answers. OnlyEnds program.now (answers_of answers)) }
     {
         program_answers(alloc, &mut self.slots, program, first, last)
     }
@@ -56,6 +58,7 @@ impl Survey {
         requires range { first ≤ last }
         ensures among { IfOk result (λ answers. ChainAnswersAmong chain.now first last (answers_of answers)) }
         ensures rising { IfOk result (λ answers. AreRising (answers_of answers)) }
+        ensures only { IfOk result (λ answers. OnlyVerdicts chain.now first last (answers_of answers)) }
 
         // A number in the chain's table has the one verdict that the table tells.
         ensures always { first ≡ last → IsTrue (is_always chain.now first)
@@ -78,6 +81,7 @@ impl Survey {
         requires range { first ≤ last }
         ensures among { IfOk result (λ answers. ChainAnswersAmong chain.now first last (answers_of answers)) }
         ensures rising { IfOk result (λ answers. AreRising (answers_of answers)) }
+        ensures only { IfOk result (λ answers. OnlyVerdicts chain.now first last (answers_of answers)) }
     {
         let mut newer = None;
         for program in chain.programs() {

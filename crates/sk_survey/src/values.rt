@@ -1,5 +1,5 @@
 //! Values in rising order, each once.
-ghost use Rattle.std.specs.Prelude.{◌≡◌, ℕ, ◌<◌, ◌≤◌, ◌<ℤ◌, ◌≢◌, length, slice_index, IsOk};
+ghost use Rattle.std.specs.Prelude.{◌≡◌, ℕ, ◌<◌, ◌≤◌, ◌<ℤ◌, ◌≢◌, ◌⊎◌, length, slice_index, IsOk};
 ghost use Rattle.std.specs.Int.{cast_signed, w32};
 ghost use Rattle.sk_survey.specs.Answers.{IsOneOf, IsRising};
 
@@ -11,6 +11,7 @@ pub(crate) fn insert(values: &mut Vec<u32>, value: u32) -> Result<(), AllocError
     ensures rising { IsRising values.new.items }
     ensures kept { (other : ℕ) → IsOneOf other values.old.items → IsOneOf other values.new.items }
     ensures added { IsOk result → IsOneOf value values.new.items }
+    ensures only { (other : ℕ) → IsOneOf other values.new.items → IsOneOf other values.old.items ⊎ (other ≡ value) }
 {
     let place = place_of(values, value);
     match values.get(place) {

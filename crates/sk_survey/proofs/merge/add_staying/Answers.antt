@@ -2,7 +2,8 @@ use Rattle.std.proofs.Common.{◌≡◌, ◌==◌, inl, inr, Some, get_or, refl,
 use Rattle.std.specs.Option.{option_eq}
 use Rattle.sk_chain.specs.Choosing.{chosen}
 use Rattle.sk_survey.specs.Answers.{IsOneOf}
-use Rattle.sk_survey.proofs.Merging.{one_of_more}
+use Rattle.std.proofs.lemmas.Option.{slice_get-get_or}
+use Rattle.sk_survey.proofs.Merging.{one_of_more, same_option, only_added}
 use Rattle.sk_survey.proofs.merge.add_staying.Goals as goal
 use Rattle.sk_survey.proofs.merge.add_staying.Goals.{then-eq+in_ok-insert, else-eq}
 
@@ -19,6 +20,10 @@ loop-value-preserved c =
           | inl earlier ↦ w.insert.ensures.kept value (before.added value earlier chooses)
           | inr same ↦ subst (λ v. IsOneOf v w.insert.new.values.items) (sym same) (w.in_ok-insert.ensures.added refl)
         ];
+        only = λ value is.
+            only_added _ _ xs i (get_or xs i 0) (λ v. chosen (Some v) c.args.older ≡ Some v) (slice_get-get_or xs i 0 c.loop-value-test.true)
+            (sym c.sooner.ensures.chosen ∙ same_option c.sooner.result (get_or xs i 0) (sym c.eq.ensures ∙ w.if-eq.true)) before.only
+            value (w.insert.ensures.only value is);
       })
       | else-eq w ↦ rw w.values-is (record {
         rising = before.rising;
@@ -32,8 +37,18 @@ loop-value-preserved c =
               let unequal = w.if-eq.false in
               cc
         ];
+        only = before.only;
       })
     ]
 
 pub returns-in_err-insert-clause-kept : goal.returns-in_err-insert-clause-kept
 returns-in_err-insert-clause-kept c = λ other is. c.insert.ensures.kept other (c.loop-value.invariant.kept other is)
+
+pub returns-in_err-insert-clause-only : goal.returns-in_err-insert-clause-only
+returns-in_err-insert-clause-only c =
+    let xs = c.args.newer.now in
+    let i = c.loop-value.value-index in
+    λ value is.
+    only_added _ _ xs i (get_or xs i 0) (λ v. chosen (Some v) c.args.older ≡ Some v) (slice_get-get_or xs i 0 c.loop-value-test.true)
+    (sym c.sooner.ensures.chosen ∙ same_option c.sooner.result (get_or xs i 0) (sym c.eq.ensures ∙ c.if-eq.true))
+    c.loop-value.invariant.only value (c.insert.ensures.only value is)

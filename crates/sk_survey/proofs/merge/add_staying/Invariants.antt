@@ -1,4 +1,4 @@
-use Rattle.std.proofs.Common.{◌≡◌, ℕ, Some, take}
+use Rattle.std.proofs.Common.{◌≡◌, ℕ, ◌⊎◌, Some, take}
 use Rattle.sk_chain.specs.Choosing.{chosen}
 use Rattle.sk_survey.specs.Answers.{IsOneOf, IsRising}
 use Rattle.sk_survey.proofs.merge.add_staying.Given as goal
@@ -8,4 +8,5 @@ invariant-loop-value l = record {
   rising : IsRising l.values.items;
   kept : (other : ℕ) → IsOneOf other l.initial.values.items → IsOneOf other l.values.items;
   added : (value : ℕ) → IsOneOf value (take l.value-index l.newer) → chosen (Some value) l.older ≡ Some value → IsOneOf value l.values.items;
+  only : (value : ℕ) → IsOneOf value l.values.items → IsOneOf value l.initial.values.items ⊎ (IsOneOf value l.newer × (chosen (Some value) l.older ≡ Some value));
 }

@@ -1,7 +1,9 @@
-use Rattle.std.proofs.Common.{◌≢◌, ◌-◌, length, get_or, refl, sym, ◌∙◌, arith}
+use Rattle.std.proofs.Common.{◌≢◌, ◌-◌, length, get_or, inl, inr, refl, subst, sym, ◌∙◌, arith}
 use Rattle.std.proofs.lemmas.Bool.{eqb-false}
 use Rattle.std.proofs.lemmas.Option.{slice_get-get_or}
+use Rattle.sk_survey.specs.Answers.{IsOneOf}
 use Rattle.sk_survey.proofs.Merging.{first_among}
+use Rattle.sk_survey.proofs.Rising.{one_at}
 use Rattle.sk_survey.proofs.merge.merge.Goals as goal
 
 pub returns-clause-first : goal.returns-clause-first
@@ -17,3 +19,22 @@ returns-clause-first c =
     (omega arith) (slice_get-get_or newer i 0 (omega arith)) (omega arith) (slice_get-get_or older j 0 (omega arith))
     (λ value is stays. c.add_coming.ensures.kept value (c.in_ok-add_staying.ensures.added refl value is stays))
     (λ value is comes. c.in_ok-add_coming.ensures.added refl value is comes)
+
+pub returns-clause-only : goal.returns-clause-only
+returns-clause-only c =
+    λ value is.
+    let newer = c.args.newer.now in
+    let older = c.args.older.now in
+    let some : length newer ≢ 0 = eqb-false (length newer) 0 (sym c.is_empty.ensures ∙ c.if-is_empty.false) in
+    let some' : length older ≢ 0 = eqb-false (length older) 0 (sym c.is_empty-else-is_empty.ensures ∙ c.if-is_empty-2.false) in
+    let i = length newer - 1 in
+    let j = length older - 1 in
+    let latest = one_at newer i (get_or newer i 0) (slice_get-get_or newer i 0 (omega arith)) in
+    let latest' = one_at older j (get_or older j 0) (slice_get-get_or older j 0 (omega arith)) in
+    elim (c.add_coming.ensures.only value is) [
+      | inl before ↦ elim (c.add_staying.ensures.only value before) [
+        | inl none ↦ absurd (subst (IsOneOf value) c.new-values.ensures.items none)
+        | inr stays ↦ (value, get_or older j 0, stays.0, latest', stays.1)
+      ]
+      | inr comes ↦ (get_or newer i 0, value, latest, comes.0, comes.1)
+    ]

@@ -1,6 +1,7 @@
-use Rattle.std.proofs.Common.{◌≡◌, inl, inr, subst}
+use Rattle.std.proofs.Common.{◌≡◌, ◌⊎◌, inl, inr, subst, sym}
 use Rattle.sk_interp.specs.Meaning.{Ends}
-use Rattle.sk_survey.specs.Following.{Leads}
+use Rattle.sk_survey.specs.Answers.{IsAmong, answers_of}
+use Rattle.sk_survey.specs.Following.{Leads, TellsEnd}
 use Rattle.sk_survey.proofs.pass.add_end.Goals as goal
 
 pub returns-in-FollowingOrZero-clause-added : goal.returns-in-FollowingOrZero-clause-added
@@ -11,3 +12,9 @@ returns-in-FollowingOrZero-clause-added c =
       | inr e ↦ cc
     ] in
     c.add-in-FollowingOrZero.ensures.added ok call value zero
+
+pub returns-in-FollowingOrZero-clause-only : goal.returns-in-FollowingOrZero-clause-only
+returns-in-FollowingOrZero-clause-only c =
+    λ value among.
+    subst (λ next. IsAmong value (answers_of c.args.answers.now) ⊎ TellsEnd next value) (sym c.in-FollowingOrZero.is)
+    (c.add-in-FollowingOrZero.ensures.only value among)

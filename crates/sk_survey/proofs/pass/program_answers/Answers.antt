@@ -1,8 +1,8 @@
-use Rattle.std.proofs.Common.{◌≡◌, ◌<◌, None, Some, length, slice_get, slice_index_or, length-set, set, refl, ap, ◌∙◌, sym, subst, arith}
+use Rattle.std.proofs.Common.{◌≡◌, ◌<◌, None, Some, length, slice_get, slice_index_or, length-set, set, inl, inr, refl, ap, ◌∙◌, sym, subst, arith}
 use Rattle.std.proofs.lemmas.Option.{slice_get-get_or}
 use Rattle.sk_insn.specs.declared.insn.Insn.{Insn}
 use Rattle.sk_check.proofs.ValidPrograms.{valid_count, valid_fits}
-use Rattle.sk_survey.specs.Answers.{IsRising}
+use Rattle.sk_survey.specs.Answers.{IsOneOf, IsRising}
 use Rattle.sk_survey.specs.Following.{zeros}
 use Rattle.sk_survey.proofs.Reaching.{starts, unknown_place, known_place, valid_inside, described_here, described_other}
 use Rattle.sk_survey.proofs.pass.program_answers.Goals as goal
@@ -18,6 +18,7 @@ loop-place-init c = record {
       starts c.args.program.now c.insns-insn-items.ensures.valid
       (set c.args.slots.now 0 (Some c.at_start.result)) (Some c.new.result.items) call
       (described_here c.args.slots.now 0 c.at_start.result call zeros (let long = c.requires.slots in omega arith) (c.at_start.ensures call));
+  only = λ value among. absurd (subst (IsOneOf value) c.new.ensures.items among);
 }
 
 pub bounds : goal.bounds
@@ -79,10 +80,15 @@ loop-place-preserved c =
                 (λ value among. w.add_end.ensures.kept value among)
                 (λ value leads. w.in_ok-add_end.ensures.added refl insn w.follow-next.new.self call value leads)
                 (c.loop-place.invariant.followed call within);
+            only = λ value among. elim (w.add_end.ensures.only value among) [
+              | inl before ↦ c.loop-place.invariant.only value before
+              | inr tells ↦ (place, (insn, here, w.follow-next.ensures.ends value tells))
+            ];
           })
       | in_default w ↦
           rw (w.slots-is, w.answers-is) (record {
             rising = c.loop-place.invariant.rising;
             followed = λ call within. unknown_place program slots _ place call (slot ∙ ap Some w.in_default.is) (c.loop-place.invariant.followed call within);
+            only = c.loop-place.invariant.only;
           })
     ]

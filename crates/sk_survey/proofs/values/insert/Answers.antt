@@ -3,7 +3,7 @@ use Rattle.std.specs.Prelude.{◌<ℤ◌}
 use Rattle.std.specs.Int.{cast_signed, w32}
 use Rattle.std.proofs.lemmas.Option.{slice_get-get_or}
 use Rattle.sk_survey.specs.Answers.{IsOneOf, IsRising}
-use Rattle.sk_survey.proofs.Rising.{rising_insert, one_kept, one_added, one_at}
+use Rattle.sk_survey.proofs.Rising.{rising_insert, one_kept, one_added, one_inserted, one_at}
 use Rattle.sk_survey.proofs.values.insert.Goals as goal
 use Rattle.sk_survey.proofs.values.insert.Goals.{in_default-via-in-Some+else-there-value, in_default-via-in_default}
 
@@ -45,3 +45,9 @@ returns-in_ok-insert-in_default-clause-added c =
     λ ok.
     subst (IsOneOf c.args.value) (sym c.in_ok-insert-in_default.ensures.items)
     (one_added c.args.values.now.items c.place_of-place.result c.args.value)
+
+pub returns-in_ok-insert-in_default-clause-only : goal.returns-in_ok-insert-in_default-clause-only
+returns-in_ok-insert-in_default-clause-only c =
+    λ other is.
+    one_inserted c.args.values.now.items c.place_of-place.result c.args.value other
+    (subst (IsOneOf other) c.in_ok-insert-in_default.ensures.items is)

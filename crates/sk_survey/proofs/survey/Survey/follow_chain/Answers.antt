@@ -1,9 +1,11 @@
-use Rattle.std.proofs.Common.{ℕ, Option, subst, sym, ap, ◌∙◌}
+use Rattle.std.proofs.Common.{ℕ, Option, [], ◌∷◌, inr, subst, sym, ap, ◌∙◌}
 use Rattle.sk_insn.specs.declared.record.Record.{Record}
 use Rattle.sk_interp.specs.Meaning.{meaning_of}
 use Rattle.sk_chain.specs.Choosing.{chosen, chosen_of}
 use Rattle.sk_chain.specs.Verdict.{meaning_value, values_of}
 use Rattle.sk_survey.specs.Answers.{answers_of, ChainAnswersAmong}
+use Rattle.sk_survey.specs.Ends.{MayEndAnyhow, OnlyVerdicts}
+use Rattle.sk_survey.proofs.ChainEnds.{IsReachedSoFar, reached_alone, reached_before, only_verdicts, allow_alone}
 use Rattle.sk_survey.proofs.Choosing.{IsFirstAmong, IsRisingSoFar, first_alone, first_before, verdict_among, verdict_alone, if_ok_then}
 use Rattle.sk_survey.proofs.survey.Survey.follow_chain.Goals as goal
 use Rattle.sk_survey.proofs.survey.Survey.follow_chain.Goals.{in-Some-newer+in_ok-before-in-Some-newer, in-None-newer}
@@ -15,6 +17,10 @@ pub loop-program-preserved : goal.loop-program-preserved
 loop-program-preserved c =
     let older = c.in_ok-older.older in
     let through = λ (call : Record) (first : Option ℕ). ap (λ left. chosen_of first (values_of left call)) c.in-Some.ensures.steps in
+    let insns = c.in-Some.program.now in
+    let left = c.next.new.self in
+    let only = subst (λ left. IsReachedSoFar c.args.chain.now left c.loop-program.newer) c.in-Some.ensures.steps c.loop-program.invariant.only in
+    let anyhow = subst (λ left. MayEndAnyhow left → MayEndAnyhow c.args.chain.now) c.in-Some.ensures.steps c.loop-program.invariant.anyhow in
     elim c.match-newer-3.branch [
       | in-Some-newer+in_ok-before-in-Some-newer w ↦ rw w.newer-is (record {
         rising = w.in_ok-before-in-Some-newer.ensures.rising;
@@ -27,6 +33,10 @@ loop-program-preserved c =
               first_before so_far.0 value w.in-Some-newer.newer older _ first among w.in_ok-before-in-Some-newer.ensures.first,
               sym (through call so_far.0) ∙ so_far.2,
             );
+        only = reached_before c.args.chain.now left insns (answers_of w.in-Some-newer.newer) (answers_of older) _ anyhow
+            (subst (IsReachedSoFar c.args.chain.now (insns ∷ left)) w.in-Some-newer.is only)
+            c.in_ok-older.ensures.only w.in_ok-before-in-Some-newer.ensures.only;
+        anyhow = λ any. anyhow (inr any);
       })
       | in-None-newer w ↦ rw w.newer-is (record {
         rising = c.in_ok-older.ensures.rising;
@@ -36,6 +46,9 @@ loop-program-preserved c =
             let among = c.in_ok-older.ensures.among call within in
             let first = subst (IsFirstAmong so_far.0) w.in-None-newer.is so_far.1 in
             (chosen so_far.0 value, first_alone so_far.0 value older first among, sym (through call so_far.0) ∙ so_far.2);
+        only = reached_alone c.args.chain.now left insns (answers_of older) anyhow
+            (subst (IsReachedSoFar c.args.chain.now (insns ∷ left)) w.in-None-newer.is only) c.in_ok-older.ensures.only;
+        anyhow = λ any. anyhow (inr any);
       })
     ]
 
@@ -55,3 +68,17 @@ returns-in-None-newer-2-clause-among c =
     let through = ap (λ left. chosen_of so_far.0 (values_of left call)) c.in-None.ensures.steps.0 in
     verdict_alone so_far.0 (values_of c.args.chain.now call) answers (sym through ∙ so_far.2)
     (subst (IsFirstAmong so_far.0) c.in-None-newer-2.is so_far.1) told)
+
+pub returns-in-Some-newer-2-clause-only : goal.returns-in-Some-newer-2-clause-only
+returns-in-Some-newer-2-clause-only c =
+    let only = subst (λ left. IsReachedSoFar c.args.chain.now left c.loop-program.newer) c.in-None.ensures.steps.0 c.loop-program.invariant.only in
+    only_verdicts c.args.chain.now c.args.first c.args.last (answers_of c.in-Some-newer-2.answers)
+    (subst (IsReachedSoFar c.args.chain.now []) c.in-Some-newer-2.is only)
+
+pub returns-in-None-newer-2-clause-only : goal.returns-in-None-newer-2-clause-only
+returns-in-None-newer-2-clause-only c =
+    let only = subst (λ left. IsReachedSoFar c.args.chain.now left c.loop-program.newer) c.in-None.ensures.steps.0 c.loop-program.invariant.only in
+    if_ok_then _ (λ answers. OnlyVerdicts c.args.chain.now c.args.first c.args.last (answers_of answers)) c.one.result c.one.ensures.one
+    (λ answers told.
+    allow_alone c.args.chain.now c.args.first c.args.last (answers_of answers)
+    (subst (IsReachedSoFar c.args.chain.now []) c.in-None-newer-2.is only) told)

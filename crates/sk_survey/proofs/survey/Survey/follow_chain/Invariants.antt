@@ -3,6 +3,8 @@ use Rattle.sk_insn.specs.declared.record.Record.{Record}
 use Rattle.sk_chain.specs.Choosing.{chosen_of}
 use Rattle.sk_chain.specs.Verdict.{values_of}
 use Rattle.sk_survey.specs.Answers.{IsCallOf}
+use Rattle.sk_survey.specs.Ends.{MayEndAnyhow}
+use Rattle.sk_survey.proofs.ChainEnds.{IsReachedSoFar}
 use Rattle.sk_survey.proofs.Choosing.{IsFirstAmong, IsRisingSoFar}
 use Rattle.sk_survey.proofs.survey.Survey.follow_chain.Given as goal
 
@@ -11,4 +13,6 @@ invariant-loop-program l = record {
   rising : IsRisingSoFar l.newer;
   followed : (call : Record) → IsCallOf l.first l.last call
       → (first : Option ℕ) × IsFirstAmong first l.newer × (chosen_of first (values_of l.program-iterator call) ≡ chosen_of None (values_of l.fn.chain call));
+  only : IsReachedSoFar l.fn.chain l.program-iterator l.newer;
+  anyhow : MayEndAnyhow l.program-iterator → MayEndAnyhow l.fn.chain;
 }
