@@ -3,6 +3,8 @@ pub mod KnownWords
 pub mod KnownStates
 pub mod Rising
 pub mod Reaching
+pub mod WithoutArguments
+pub mod Settling
 pub mod Telling
 pub mod Merging
 pub mod Choosing

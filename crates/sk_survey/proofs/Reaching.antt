@@ -55,10 +55,14 @@ all_inside count (To place) lands = lands place refl
 all_inside count (Both place other) lands = (lands place (inl refl), lands other (inr refl))
 
 pub valid_inside : (insns : List Insn) → IsValid insns → (place : ℕ) (insn : Insn) → slice_get insns place ≡ Some insn
-    → AreInside 4096 (onward place (operation_of insn.code) insn)
+    → AreInside (length insns) (onward place (operation_of insn.code) insn)
 valid_inside insns valid place insn here =
-    all_inside 4096 (onward place (operation_of insn.code) insn)
-    (λ next goes. let lands = valid_leads insns valid place next (insn, here, goes) in let few = valid_count insns valid in omega arith)
+    all_inside (length insns) (onward place (operation_of insn.code) insn) (λ next goes. valid_leads insns valid place next (insn, here, goes))
+
+pub more_inside : (count more : ℕ) (w : Onward) → count ≤ more → AreInside count w → AreInside more w
+more_inside count more Nowhere le inside = tt
+more_inside count more (To place) le inside = omega arith
+more_inside count more (Both place other) le inside = let below = inside.0 in let below' = inside.1 in (omega arith, omega arith)
 
 -- at the start
 pub starts : (insns : List Insn) → IsValid insns → (slots : List (Option Knowledge)) (values : Option (List ℕ)) (call : Record)

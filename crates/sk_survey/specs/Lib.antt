@@ -1,5 +1,6 @@
 pub mod Answers
 pub mod Ends
+pub mod Settling
 pub mod Surveys
 pub mod Following
 pub mod AnswersLaws

@@ -4,6 +4,8 @@ use Rattle.sk_chain.specs.Choosing.{chosen_of}
 use Rattle.sk_chain.specs.Verdict.{values_of}
 use Rattle.sk_survey.specs.Answers.{IsCallOf}
 use Rattle.sk_survey.specs.Ends.{MayEndAnyhow}
+use Rattle.sk_survey.specs.Settling.{AllSettle}
+use Rattle.sk_survey.proofs.Settling.{TellsOneSoFar}
 use Rattle.sk_survey.proofs.ChainEnds.{IsReachedSoFar}
 use Rattle.sk_survey.proofs.Choosing.{IsFirstAmong, IsRisingSoFar}
 use Rattle.sk_survey.proofs.survey.Survey.follow_chain.Given as goal
@@ -14,5 +16,6 @@ invariant-loop-program l = record {
   followed : (call : Record) → IsCallOf l.first l.last call
       → (first : Option ℕ) × IsFirstAmong first l.newer × (chosen_of first (values_of l.program-iterator call) ≡ chosen_of None (values_of l.fn.chain call));
   only : IsReachedSoFar l.fn.chain l.program-iterator l.newer;
+  settled : l.first ≡ l.last → AllSettle l.fn.chain l.first → AllSettle l.program-iterator l.first × TellsOneSoFar l.newer;
   anyhow : MayEndAnyhow l.program-iterator → MayEndAnyhow l.fn.chain;
 }
