@@ -19,10 +19,13 @@ without_argument insn = if loads_argument (operation_of insn.code) insn then rec
 abbrev pub without_arguments : List Insn → List Insn
 without_arguments insns = map without_argument insns
 
--- without those loads the filter still returns, on some call of the number
+-- without those loads the filter still comes to the value, on some call of the number
+abbrev pub SettlesOn : List Insn → ℕ → ℕ → Type 0
+SettlesOn insns nr value =
+    (call : Record) × (call.nr ≡ nr) × ((steps : ℕ) × (meaning_of (without_arguments insns) call ≡ Returned value steps))
+
 abbrev pub Settles : List Insn → ℕ → Type 0
-Settles insns nr =
-    (call : Record) × (call.nr ≡ nr) × ((value : ℕ) × (steps : ℕ) × (meaning_of (without_arguments insns) call ≡ Returned value steps))
+Settles insns nr = (value : ℕ) × SettlesOn insns nr value
 
 -- so does each filter of a chain
 abbrev pub AllSettle : List (List Insn) → ℕ → Type 0

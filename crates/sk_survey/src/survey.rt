@@ -23,7 +23,7 @@ pub struct Survey {
 
 impl Survey {
     ghost use Rattle.sk_survey.specs.Answers.{answers_of, AnswersAmong, ChainAnswersAmong, AreRising};
-    ghost use Rattle.sk_survey.specs.Ends.{OnlyEnds, OnlyVerdicts};
+    ghost use Rattle.sk_survey.specs.Ends.{OnlyComing, OnlyVerdicts};
     ghost use Rattle.sk_survey.specs.Settling.{Settles, AllSettle, TellsOne};
     ghost use Rattle.sk_survey.specs.Surveys.{IsSurveyFrom};
 
@@ -45,7 +45,7 @@ impl Survey {
         requires range { first ≤ last }
         ensures among { IfOk result (λ answers. AnswersAmong program.now first last (answers_of answers)) }
         ensures rising { IfOk result (λ answers. AreRising (answers_of answers)) }
-        ensures only { IfOk result (λ answers. OnlyEnds program.now (answers_of answers)) }
+        ensures only { IfOk result (λ answers. OnlyComing program.now first last (answers_of answers)) }
         ensures settled { first ≡ last → Settles program.now first
             → IfOk result (λ answers. TellsOne (answers_of answers)) }
     {

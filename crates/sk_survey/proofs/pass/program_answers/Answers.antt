@@ -138,19 +138,27 @@ loop-place-preserved c =
           })
     ]
 
+pub returns-clause-only : goal.returns-clause-only
+returns-clause-only c =
+    λ value among. (
+      c.loop-place.invariant.only value among,
+      λ one other settles. (c.loop-place.invariant.settled one settles.0 other settles.2.0 settles.1 settles.2.1).0 value among,
+    )
+
 pub returns-clause-settled : goal.returns-clause-settled
 returns-clause-settled c =
     λ one settles.
-    let call = settles.0 in
-    let same = settles.1 in
-    let value = settles.2.0 in
+    let value = settles.0 in
+    let on = settles.1 in
+    let call = on.0 in
+    let same = on.1 in
     let program = c.args.program.now in
     let long = ap length c.insns-insn-items.ensures.insns in
     let test = c.loop-place-test.false in
     let past : length program ≤ c.loop-place.place = omega arith in
     let within : (c.args.first ≤ call.nr) × (call.nr ≤ c.args.last) = (omega arith, omega arith) in
     one_told (answers_of c.loop-place.answers) value _
-    (c.loop-place.invariant.settled one call value settles.2.1 same settles.2.2).0
+    (c.loop-place.invariant.settled one call value on.2.0 same on.2.1).0
     (arrives program c.loop-place.slots _ call c.loop-place.place past (c.loop-place.invariant.followed call within))
     c.loop-place.invariant.rising
 
