@@ -8,8 +8,7 @@ use Rattle.std.proofs.lemmas.Int.{ints}
 use Rattle.sk_insn.specs.declared.insn.Insn.{Insn}
 use Rattle.sk_insn.specs.declared.record.Record.{Record}
 use Rattle.sk_insn.specs.Operations.{operation_of}
-use Rattle.sk_check.specs.Paths.{Onward, Nowhere, To, Either as Both, GoesTo}
-use Rattle.sk_check.specs.Fits.{AreInside}
+use Rattle.sk_check.specs.Paths.{Onward, Nowhere, To, Either as Both, GoesTo, LeadsTo}
 use Rattle.sk_check.specs.Valid.{IsValid}
 use Rattle.sk_check.proofs.ValidPrograms.{valid_count, valid_leads}
 use Rattle.sk_interp.specs.Meaning.{Meaning, Returned, Stuck, State, Effect, effect, after_step, then_follows, meaning, meaning_of}
@@ -23,7 +22,7 @@ use Rattle.sk_survey.specs.declared.known.Knowledge.{Knowledge}
 use Rattle.sk_survey.specs.declared.follow.Next.{Next}
 use Rattle.sk_survey.specs.declared.follow.Next.TheVariants.{Skip, Either, End, FollowingOrZero}
 use Rattle.sk_survey.specs.Answers.{IsOneOf, IsAmong, IsRising, AreRising, answers_of}
-use Rattle.sk_survey.specs.Ends.{IsFirstOfBoth}
+use Rattle.sk_survey.specs.Ends.{IsFirstOfBoth, IsCome}
 use Rattle.sk_survey.specs.Following.{DescribesState, Leads, TellsEnd, IsWhole, LeadsOneWay, IsUnknown, led, zeros}
 use Rattle.sk_survey.specs.Settling.{loads_argument, without_argument, without_arguments, TellsOne}
 use Rattle.sk_survey.proofs.WithoutArguments.{bare, no_operation, here_without, zeros_without}
@@ -104,11 +103,41 @@ led_ahead place (Either a) insn q (inr goes) = omega arith
 led_ahead place (End known) insn q goes = absurd goes
 led_ahead place FollowingOrZero insn q goes = omega arith
 
-pub goes_inside : (count : ℕ) (w : Onward) (q : ℕ) → AreInside count w → GoesTo q w → q < count
-goes_inside count Nowhere q inside goes = absurd goes
-goes_inside count (To place) q inside goes = omega arith
-goes_inside count (Both place other) q inside (inl goes) = let below = inside.0 in omega arith
-goes_inside count (Both place other) q inside (inr goes) = let below = inside.1 in omega arith
+goes_or_not : (q : ℕ) (w : Onward) → GoesTo q w ⊎ (GoesTo q w → ⊥)
+goes_or_not q Nowhere = inr (λ goes. goes)
+goes_or_not q (To place) = cases_eq q place
+goes_or_not q (Both place other) = elim (cases_eq q place) [
+  | inl one ↦ inl (inl one)
+  | inr apart ↦ elim (cases_eq q other) [
+    | inl same ↦ inl (inr same)
+    | inr apart' ↦ inr (λ goes. elim goes [ inl one ↦ apart one | inr same ↦ apart' same ])
+  ]
+]
+
+-- ---- paths to the places that are known
+
+abbrev pub AreCome : List Insn → List (Option Knowledge) → Type 0
+AreCome insns slots = (q : ℕ) (knowledge : Knowledge) → slice_get slots q ≡ Some (Some knowledge) → IsCome insns q
+
+pub come_first : (insns : List Insn) (slots : List (Option Knowledge)) (knowledge : Knowledge) → ((q : ℕ) → IsUnknown slots q)
+    → AreCome insns (set slots 0 (Some knowledge))
+come_first insns slots knowledge unknown q known here = elim (cases_eq q 0) [
+  | inl first ↦ ([], first)
+  | inr apart ↦ absurd (unknown q known (sym (set_there slots 0 q (Some knowledge) apart) ∙ here))
+]
+
+pub come_on : (insns : List Insn) (old new : List (Option Knowledge)) (place : ℕ) (insn : Insn) (before : Knowledge) (w : Onward)
+    → slice_get insns place ≡ Some insn → slice_get old place ≡ Some (Some before) → IsUnknown new place
+    → ((q : ℕ) → q ≢ place → (GoesTo q w → ⊥) → slice_get new q ≡ slice_get old q)
+    → ((next : ℕ) → GoesTo next w → LeadsTo place next (operation_of insn.code) insn)
+    → AreCome insns old → AreCome insns new
+come_on insns old new place insn before w here slot gone others goes come q known there = elim (goes_or_not q w) [
+  | inl to ↦ let path = come place before slot in (place ∷ path.0, ((insn, here, goes q to), path.1))
+  | inr not ↦ elim (cases_eq q place) [
+    | inl same ↦ absurd (gone known (subst (λ q. slice_get new q ≡ Some (Some known)) same there))
+    | inr apart ↦ come q known (sym (others q apart not) ∙ there)
+  ]
+]
 
 -- ---- the run
 

@@ -6,7 +6,7 @@ use Rattle.sk_insn.specs.declared.operation.Arithmetic.TheVariants.{Divide}
 use Rattle.sk_insn.specs.declared.operation.Operation.{Operation}
 use Rattle.sk_insn.specs.declared.operation.Operation.TheVariants.{Compute, ReturnConstant, ReturnAccumulator}
 use Rattle.sk_insn.specs.Actions.{allow}
-use Rattle.sk_check.specs.Paths.{At}
+use Rattle.sk_check.specs.Paths.{At, IsPath}
 use Rattle.sk_chain.specs.Choosing.{chosen}
 use Rattle.sk_chain.specs.Verdict.{first_of}
 use Rattle.sk_survey.specs.Settling.{SettlesOn}
@@ -20,9 +20,13 @@ MayEndWith value (Some ReturnConstant) insn = value ≡ insn.k
 MayEndWith value (Some ReturnAccumulator) insn = Unit {0}
 MayEndWith value operation insn = ⊥
 
--- some instruction of the program may
+-- some path comes to the place
+abbrev pub IsCome : List Insn → ℕ → Type 0
+IsCome insns place = (path : List ℕ) × IsPath insns place path
+
+-- some instruction of the program may, to which some path comes
 abbrev pub MayEnd : List Insn → ℕ → Type 0
-MayEnd insns value = (place : ℕ) × At insns place (MayEndWith value)
+MayEnd insns value = (place : ℕ) × IsCome insns place × At insns place (MayEndWith value)
 
 -- it may be the value on a call with one of the numbers; where there is one number, and the filter comes to a value
 -- without the arguments, it is that one

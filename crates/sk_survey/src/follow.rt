@@ -3,8 +3,8 @@ ghost use Rattle.std.specs.Prelude.{◌≡◌, ◌≢◌, ℕ, ◌+◌, ◌≤�
 ghost use Rattle.sk_insn.specs.declared.record.Record.{Record};
 ghost use Rattle.sk_insn.specs.Operations.{operation_of};
 ghost use Rattle.sk_insn.specs.Record.{word_of};
-ghost use Rattle.sk_check.specs.Paths.{onward};
-ghost use Rattle.sk_check.specs.Fits.{TakesConstant, AreInside};
+ghost use Rattle.sk_check.specs.Paths.{GoesTo, LeadsTo};
+ghost use Rattle.sk_check.specs.Fits.{TakesConstant};
 ghost use Rattle.sk_interp.specs.Meaning.{State, effect, calculated, holds};
 ghost use Rattle.sk_survey.specs.Answers.{IsCallOf};
 ghost use Rattle.sk_survey.specs.Ends.{MayEndWith};
@@ -36,8 +36,8 @@ impl Knowledge {
         requires range { first ≤ last }
         ensures leads { (call : Record) (s : State) → IsCallOf first last call → DescribesState self.old call s
             → Leads result insn.now self.new call (effect (operation_of insn.now.code) insn.now call s) }
-        ensures inside { (count place : ℕ) → AreInside count (onward place (operation_of insn.now.code) insn.now)
-            → AreInside count (led place result insn.now) }
+        ensures goes { (place next : ℕ) → GoesTo next (led place result insn.now)
+            → LeadsTo place next (operation_of insn.now.code) insn.now }
         ensures ends { (value : ℕ) → TellsEnd result value → MayEndWith value (operation_of insn.now.code) insn.now }
         ensures settled { first ≡ last → IsWhole self.old
             → loads_argument (operation_of insn.now.code) insn.now ≡ false → LeadsOneWay result self.new }
@@ -114,7 +114,8 @@ impl Knowledge {
         requires constant { TakesConstant (Some (Operation.Compute arithmetic operand)) insn.now }
         ensures leads { (call : Record) (s : State) → DescribesState self.old call s
             → Leads result insn.now self.new call (effect (Some (Operation.Compute arithmetic operand)) insn.now call s) }
-        ensures inside { (count place : ℕ) → place + 1 < count → AreInside count (led place result insn.now) }
+        ensures goes { (place next : ℕ) → GoesTo next (led place result insn.now)
+            → LeadsTo place next (Some (Operation.Compute arithmetic operand)) insn.now }
         ensures ends { (value : ℕ) → TellsEnd result value
             → MayEndWith value (Some (Operation.Compute arithmetic operand)) insn.now }
         ensures settled { IsWhole self.old → LeadsOneWay result self.new }
@@ -144,8 +145,8 @@ impl Knowledge {
         requires range { first ≤ last }
         ensures leads { (call : Record) (s : State) → IsCallOf first last call → DescribesState self.now call s
             → Leads result insn.now self.now call (effect (Some (Operation.Branch comparison operand)) insn.now call s) }
-        ensures inside { (count place : ℕ) → place + 1 + insn.now.jt < count → place + 1 + insn.now.jf < count
-            → AreInside count (led place result insn.now) }
+        ensures goes { (place next : ℕ) → GoesTo next (led place result insn.now)
+            → LeadsTo place next (Some (Operation.Branch comparison operand)) insn.now }
         ensures ends { (value : ℕ) → TellsEnd result value → ⊥ }
         ensures settled { IsWhole self.now → LeadsOneWay result self.now }
     {

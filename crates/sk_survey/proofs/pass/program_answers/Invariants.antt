@@ -5,7 +5,7 @@ use Rattle.sk_survey.specs.Ends.{MayEnd}
 use Rattle.sk_interp.specs.Meaning.{Returned, meaning_of}
 use Rattle.sk_survey.specs.Following.{IsUnknown}
 use Rattle.sk_survey.specs.Settling.{without_arguments}
-use Rattle.sk_survey.proofs.Settling.{IsSettled}
+use Rattle.sk_survey.proofs.Settling.{IsSettled, AreCome}
 use Rattle.sk_survey.proofs.Reaching.{IsFollowed}
 use Rattle.sk_survey.proofs.pass.program_answers.Given as goal
 
@@ -14,6 +14,7 @@ invariant-loop-place l = record {
   rising : AreRising (answers_of l.answers);
   followed : (call : Record) → IsCallOf l.first l.last call → IsFollowed l.program l.slots (answers_of l.answers) l.place call;
   only : (value : ℕ) → IsAmong value (answers_of l.answers) → MayEnd l.program value;
+  come : AreCome l.program l.slots;
   empty : (q : ℕ) → (q < l.place) ⊎ (length l.program ≤ q) → IsUnknown l.slots q;
   settled : l.first ≡ l.last
       → (call : Record) (value steps : ℕ) → call.nr ≡ l.first → meaning_of (without_arguments l.program) call ≡ Returned value steps
