@@ -9,3 +9,4 @@ pub mod Telling
 pub mod Merging
 pub mod Choosing
 pub mod ChainEnds
+pub mod WorkedRows
