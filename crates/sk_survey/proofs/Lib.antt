@@ -3,7 +3,10 @@ pub mod KnownWords
 pub mod KnownStates
 pub mod Rising
 pub mod Reaching
+pub mod WithoutArguments
+pub mod Settling
 pub mod Telling
 pub mod Merging
 pub mod Choosing
 pub mod ChainEnds
+pub mod WorkedRows

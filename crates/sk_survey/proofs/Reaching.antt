@@ -4,7 +4,7 @@ use Rattle.std.proofs.lemmas.Bool.{cases_eq}
 use Rattle.sk_insn.specs.declared.insn.Insn.{Insn}
 use Rattle.sk_insn.specs.declared.record.Record.{Record}
 use Rattle.sk_insn.specs.Operations.{operation_of}
-use Rattle.sk_check.specs.Paths.{Onward, Nowhere, To, Either as Both, GoesTo, onward}
+use Rattle.sk_check.specs.Paths.{Onward, Nowhere, To, Either as Both, GoesTo, LeadsTo}
 use Rattle.sk_check.specs.Fits.{AreInside}
 use Rattle.sk_check.specs.Valid.{IsValid}
 use Rattle.sk_check.proofs.ValidPrograms.{valid_count, valid_leads}
@@ -54,11 +54,10 @@ all_inside count Nowhere lands = tt
 all_inside count (To place) lands = lands place refl
 all_inside count (Both place other) lands = (lands place (inl refl), lands other (inr refl))
 
-pub valid_inside : (insns : List Insn) → IsValid insns → (place : ℕ) (insn : Insn) → slice_get insns place ≡ Some insn
-    → AreInside 4096 (onward place (operation_of insn.code) insn)
-valid_inside insns valid place insn here =
-    all_inside 4096 (onward place (operation_of insn.code) insn)
-    (λ next goes. let lands = valid_leads insns valid place next (insn, here, goes) in let few = valid_count insns valid in omega arith)
+pub led_inside : (insns : List Insn) → IsValid insns → (place : ℕ) (insn : Insn) (count : ℕ) (w : Onward) → slice_get insns place ≡ Some insn
+    → length insns ≤ count → ((next : ℕ) → GoesTo next w → LeadsTo place next (operation_of insn.code) insn) → AreInside count w
+led_inside insns valid place insn count w here le goes =
+    all_inside count w (λ next to. let lands = valid_leads insns valid place next (insn, here, goes next to) in omega arith)
 
 -- at the start
 pub starts : (insns : List Insn) → IsValid insns → (slots : List (Option Knowledge)) (values : Option (List ℕ)) (call : Record)

@@ -6,9 +6,10 @@ use Rattle.sk_insn.specs.declared.operation.Arithmetic.TheVariants.{Divide}
 use Rattle.sk_insn.specs.declared.operation.Operation.{Operation}
 use Rattle.sk_insn.specs.declared.operation.Operation.TheVariants.{Compute, ReturnConstant, ReturnAccumulator}
 use Rattle.sk_insn.specs.Actions.{allow}
-use Rattle.sk_check.specs.Paths.{At}
+use Rattle.sk_check.specs.Paths.{At, IsPath}
 use Rattle.sk_chain.specs.Choosing.{chosen}
 use Rattle.sk_chain.specs.Verdict.{first_of}
+use Rattle.sk_survey.specs.Settling.{SettlesOn}
 use Rattle.sk_survey.specs.Answers.{IsOneOf, IsAmong, ChainAnswersAmong}
 
 -- an instruction may end a filter with this value (McCanne and Jacobson 1993): with its constant, with whatever A
@@ -19,38 +20,51 @@ MayEndWith value (Some ReturnConstant) insn = value ≡ insn.k
 MayEndWith value (Some ReturnAccumulator) insn = Unit {0}
 MayEndWith value operation insn = ⊥
 
--- some instruction of the program may
+-- some path comes to the place
+abbrev pub IsCome : List Insn → ℕ → Type 0
+IsCome insns place = (path : List ℕ) × IsPath insns place path
+
+-- some instruction of the program may, to which some path comes
 abbrev pub MayEnd : List Insn → ℕ → Type 0
-MayEnd insns value = (place : ℕ) × At insns place (MayEndWith value)
+MayEnd insns value = (place : ℕ) × IsCome insns place × At insns place (MayEndWith value)
 
--- no value is told that no instruction may end with; so any value only where an instruction returns A
-abbrev pub OnlyEnds : List Insn → Option (List ℕ) → Type 0
-OnlyEnds insns values = (value : ℕ) → IsAmong value values → MayEnd insns value
+-- it may be the value on a call with one of the numbers; where there is one number, and the filter comes to a value
+-- without the arguments, it is that one
+abbrev pub MayCome : List Insn → ℕ → ℕ → ℕ → Type 0
+MayCome insns first last value =
+    MayEnd insns value × (first ≡ last → (other : ℕ) → SettlesOn insns first other → value ≡ other)
 
--- an end of each program of a chain
-abbrev pub AreEnds : List (List Insn) → List ℕ → Type 0
-AreEnds [] [] = Unit {0}
-AreEnds (insns ∷ programs) (value ∷ values) = MayEnd insns value × AreEnds programs values
-AreEnds programs values = ⊥
+-- no other value is told; so any value only where an instruction returns A
+abbrev pub OnlyComing : List Insn → ℕ → ℕ → Option (List ℕ) → Type 0
+OnlyComing insns first last values = (value : ℕ) → IsAmong value values → MayCome insns first last value
 
--- some program of the chain may end with any value
-abbrev pub MayEndAnyhow : List (List Insn) → Type 0
-MayEndAnyhow [] = ⊥
-MayEndAnyhow (insns ∷ programs) = ((value : ℕ) → MayEnd insns value) ⊎ MayEndAnyhow programs
+-- such a value of each program of a chain
+abbrev pub EachMayCome : List (List Insn) → ℕ → ℕ → List ℕ → Type 0
+EachMayCome [] first last [] = Unit {0}
+EachMayCome (insns ∷ programs) first last (value ∷ values) =
+    MayCome insns first last value × EachMayCome programs first last values
+EachMayCome programs first last values = ⊥
 
--- the chain allows all calls of these numbers, and no other value is told
+-- of some program of the chain any value may be
+abbrev pub AnyMayCome : List (List Insn) → ℕ → ℕ → Type 0
+AnyMayCome [] first last = ⊥
+AnyMayCome (insns ∷ programs) first last =
+    ((value : ℕ) → MayCome insns first last value) ⊎ AnyMayCome programs first last
+
+-- the value is allow, and the chain allows all calls with one of the numbers
 abbrev pub IsAllowed : List (List Insn) → ℕ → ℕ → ℕ → Type 0
 IsAllowed programs first last value = (value ≡ allow) × ChainAnswersAmong programs first last (Some (allow ∷ []))
 
--- the value is the verdict where each program comes to one of its ends
-abbrev pub IsVerdictOfEnds : List (List Insn) → ℕ → Type 0
-IsVerdictOfEnds programs value = (ends : List ℕ) × AreEnds programs ends × (value ≡ first_of ends)
+-- the value is the verdict on such values
+abbrev pub IsComingVerdict : List (List Insn) → ℕ → ℕ → ℕ → Type 0
+IsComingVerdict programs first last value =
+    (values : List ℕ) × EachMayCome programs first last values × (value ≡ first_of values)
 
--- no verdict is told but such a one, where no program may end with any value
+-- no other verdict is told, where of no program any value may be
 abbrev pub OnlyVerdicts : List (List Insn) → ℕ → ℕ → Option (List ℕ) → Type 0
 OnlyVerdicts programs first last values =
     (value : ℕ) → IsAmong value values
-    → IsVerdictOfEnds programs value ⊎ (MayEndAnyhow programs ⊎ IsAllowed programs first last value)
+    → IsComingVerdict programs first last value ⊎ (AnyMayCome programs first last ⊎ IsAllowed programs first last value)
 
 -- the value is the first of one of these, of a newer filter, and one of those, of an older filter
 abbrev pub IsFirstOfBoth : List ℕ → List ℕ → ℕ → Type 0

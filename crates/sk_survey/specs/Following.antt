@@ -1,5 +1,5 @@
 -- What the pass knows of the states of a machine, while it follows every call with one of some numbers.
-use Rattle.std.specs.Prelude.{ℕ, ◌≡◌, ◌+◌, ◌<◌, ◌⊎◌, List, Option, Some, slice_get, slice_set}
+use Rattle.std.specs.Prelude.{ℕ, ◌≡◌, ◌+◌, ◌<◌, ◌⊎◌, List, Option, Some, None, slice_get, slice_set}
 use Rattle.sk_insn.specs.declared.insn.Insn.{Insn}
 use Rattle.sk_insn.specs.declared.record.Record.{Record}
 use Rattle.sk_insn.specs.declared.operation.Register.{Register}
@@ -78,6 +78,27 @@ TellsEnd (End known) value = StandsFor known value
 TellsEnd FollowingOrZero value = value ≡ 0
 TellsEnd next value = ⊥
 
+-- what is known of a number is which one it is
+abbrev pub IsExact : Known → Type 0
+IsExact (Is k) = Unit {0}
+IsExact known = ⊥
+
+abbrev pub IsExactWord : Option Known → Type 0
+IsExactWord (Some known) = IsExact known
+IsExactWord None = Unit {0}
+
+-- so it is of both registers and of all scratch words
+pub record IsWhole (knowledge : Knowledge) : Type 0 where
+  pub a : IsExact knowledge.a
+  pub x : IsExact knowledge.x
+  pub words : (k : ℕ) → IsExactWord (slice_get knowledge.words k)
+
+-- an instruction was found to lead to one place, with all known there, or to an end with one value
+abbrev pub LeadsOneWay : Next → Knowledge → Type 0
+LeadsOneWay (Skip skip) after = IsWhole after
+LeadsOneWay (End known) after = IsExact known
+LeadsOneWay next after = ⊥
+
 -- where control goes on from a place
 abbrev pub led : ℕ → Next → Insn → Onward
 led place (Skip skip) insn = To (place + 1 + skip)
@@ -92,6 +113,10 @@ DescribedBy slot call s = ⊥
 
 abbrev pub DescribedAt : List (Option Knowledge) → ℕ → Record → State → Type 0
 DescribedAt slots place call s = DescribedBy (slice_get slots place) call s
+
+-- nothing is known at a place, as no path has come to it
+abbrev pub IsUnknown : List (Option Knowledge) → ℕ → Type 0
+IsUnknown slots place = (knowledge : Knowledge) → slice_get slots place ≡ Some (Some knowledge) → ⊥
 
 -- where an effect goes on, the state that it leaves is known there
 abbrev pub Spreads : ℕ → List (Option Knowledge) → Record → Effect → Type 0

@@ -1,5 +1,7 @@
 pub mod Answers
 pub mod Ends
+pub mod Settling
+pub mod WorkedEnds
 pub mod Surveys
 pub mod Following
 pub mod AnswersLaws

@@ -3,6 +3,7 @@ ghost use Rattle.sk_insn.specs.declared.record.Record.{Record};
 ghost use Rattle.sk_chain.specs.Choosing.{chosen};
 ghost use Rattle.sk_survey.specs.Answers.{answers_of, IsAmong, AreRising};
 ghost use Rattle.sk_survey.specs.Ends.{OnlyFirsts};
+ghost use Rattle.sk_survey.specs.Settling.{TellsOne};
 ghost use Rattle.sk_survey.specs.Following.{Describes, StandsFor};
 
 use crate::known::Known;
@@ -68,6 +69,8 @@ impl Answers {
         ensures first { IfOk result (λ answers. (u s first : ℕ) → IsAmong u (answers_of self)
             → IsAmong s (answers_of older) → chosen (Some u) s ≡ Some first → IsAmong first (answers_of answers)) }
         ensures only { IfOk result (λ answers. OnlyFirsts (answers_of self) (answers_of older) (answers_of answers)) }
+        ensures settled { TellsOne (answers_of self) → TellsOne (answers_of older)
+            → IfOk result (λ answers. TellsOne (answers_of answers)) }
     {
         match (self, older) {
             (Answers::Among(newer), Answers::Among(older)) => Ok(Answers::Among(merge(

@@ -1,9 +1,9 @@
 //! Which side of a conditional jump every call takes, where that is known.
-ghost use Rattle.std.specs.Prelude.{◌≡◌, ℕ, ◌≤◌, IfSome};
+ghost use Rattle.std.specs.Prelude.{◌≡◌, ℕ, ◌≤◌, IfSome, IsSome};
 ghost use Rattle.sk_insn.specs.declared.record.Record.{Record};
 ghost use Rattle.sk_interp.specs.Meaning.{holds};
 ghost use Rattle.sk_survey.specs.Answers.{IsCallOf};
-ghost use Rattle.sk_survey.specs.Following.{Describes};
+ghost use Rattle.sk_survey.specs.Following.{Describes, IsExact};
 
 use crate::known::Known;
 use sk_insn::Comparison;
@@ -18,8 +18,9 @@ pub(crate) fn decide(
     last: u32,
 ) -> Option<bool>
     requires range { first ≤ last }
-    ensures { IfSome result (λ answer. (call : Record) (m n : ℕ) → IsCallOf first last call
+    ensures answer { IfSome result (λ answer. (call : Record) (m n : ℕ) → IsCallOf first last call
         → Describes a call m → Describes right call n → holds comparison m n ≡ answer) }
+    ensures settled { IsExact a → IsExact right → IsSome result }
 {
     match (a, right) {
         (Known::Is(m), Known::Is(n)) => Some(holds(comparison, m, n)),

@@ -1,14 +1,15 @@
 //! One instruction on what is known.
-ghost use Rattle.std.specs.Prelude.{◌≡◌, ℕ, ◌+◌, ◌≤◌, ◌<◌, Some, IsTrue};
+ghost use Rattle.std.specs.Prelude.{◌≡◌, ◌≢◌, ℕ, ◌+◌, ◌≤◌, ◌<◌, ◌⊎◌, Some, IsTrue, false};
 ghost use Rattle.sk_insn.specs.declared.record.Record.{Record};
 ghost use Rattle.sk_insn.specs.Operations.{operation_of};
 ghost use Rattle.sk_insn.specs.Record.{word_of};
-ghost use Rattle.sk_check.specs.Paths.{onward};
-ghost use Rattle.sk_check.specs.Fits.{TakesConstant, AreInside};
+ghost use Rattle.sk_check.specs.Paths.{GoesTo, LeadsTo};
+ghost use Rattle.sk_check.specs.Fits.{TakesConstant};
 ghost use Rattle.sk_interp.specs.Meaning.{State, effect, calculated, holds};
 ghost use Rattle.sk_survey.specs.Answers.{IsCallOf};
 ghost use Rattle.sk_survey.specs.Ends.{MayEndWith};
-ghost use Rattle.sk_survey.specs.Following.{Describes, DescribesState, Leads, TellsEnd, led, known_operand, with_known, with_word};
+ghost use Rattle.sk_survey.specs.Following.{Describes, DescribesState, Leads, TellsEnd, IsExact, IsWhole, LeadsOneWay, led, known_operand, with_known, with_word};
+ghost use Rattle.sk_survey.specs.Settling.{loads_argument};
 
 use crate::decide::decide;
 use crate::known::{Knowledge, Known};
@@ -35,9 +36,11 @@ impl Knowledge {
         requires range { first ≤ last }
         ensures leads { (call : Record) (s : State) → IsCallOf first last call → DescribesState self.old call s
             → Leads result insn.now self.new call (effect (operation_of insn.now.code) insn.now call s) }
-        ensures inside { (count place : ℕ) → AreInside count (onward place (operation_of insn.now.code) insn.now)
-            → AreInside count (led place result insn.now) }
+        ensures goes { (place next : ℕ) → GoesTo next (led place result insn.now)
+            → LeadsTo place next (operation_of insn.now.code) insn.now }
         ensures ends { (value : ℕ) → TellsEnd result value → MayEndWith value (operation_of insn.now.code) insn.now }
+        ensures settled { first ≡ last → IsWhole self.old
+            → loads_argument (operation_of insn.now.code) insn.now ≡ false → LeadsOneWay result self.new }
     {
         match decode(insn.code) {
             Some(Operation::LoadRecord) => self.set(
@@ -75,6 +78,7 @@ impl Knowledge {
     fn set(&mut self, register: Register, known: Known) -> Next
         ensures knows { self.new ≡ with_known register known self.old }
         ensures next { result ≡ Next.Skip 0 }
+        ensures settled { IsWhole self.old → IsExact known → LeadsOneWay result self.new }
     {
         match register {
             Register::Accumulator => self.a = known,
@@ -87,6 +91,7 @@ impl Knowledge {
         requires { word < 16 }
         ensures knows { self.new ≡ with_word register word self.old }
         ensures next { result ≡ Next.Skip 0 }
+        ensures settled { IsWhole self.old → LeadsOneWay result self.new }
     {
         self.words[word as usize] = match register {
             Register::Accumulator => self.a,
@@ -96,7 +101,8 @@ impl Knowledge {
     }
 
     fn right(&self, operand: Operand, k: u32) -> Known
-        ensures { result ≡ known_operand operand k self.now }
+        ensures operand { result ≡ known_operand operand k self.now }
+        ensures settled { IsWhole self.now → IsExact result }
     {
         match operand {
             Operand::Constant => Known::Is(k),
@@ -108,9 +114,11 @@ impl Knowledge {
         requires constant { TakesConstant (Some (Operation.Compute arithmetic operand)) insn.now }
         ensures leads { (call : Record) (s : State) → DescribesState self.old call s
             → Leads result insn.now self.new call (effect (Some (Operation.Compute arithmetic operand)) insn.now call s) }
-        ensures inside { (count place : ℕ) → place + 1 < count → AreInside count (led place result insn.now) }
+        ensures goes { (place next : ℕ) → GoesTo next (led place result insn.now)
+            → LeadsTo place next (Some (Operation.Compute arithmetic operand)) insn.now }
         ensures ends { (value : ℕ) → TellsEnd result value
             → MayEndWith value (Some (Operation.Compute arithmetic operand)) insn.now }
+        ensures settled { IsWhole self.old → LeadsOneWay result self.new }
     {
         let right = self.right(operand, insn.k);
         match (arithmetic, right) {
@@ -137,9 +145,10 @@ impl Knowledge {
         requires range { first ≤ last }
         ensures leads { (call : Record) (s : State) → IsCallOf first last call → DescribesState self.now call s
             → Leads result insn.now self.now call (effect (Some (Operation.Branch comparison operand)) insn.now call s) }
-        ensures inside { (count place : ℕ) → place + 1 + insn.now.jt < count → place + 1 + insn.now.jf < count
-            → AreInside count (led place result insn.now) }
+        ensures goes { (place next : ℕ) → GoesTo next (led place result insn.now)
+            → LeadsTo place next (Some (Operation.Branch comparison operand)) insn.now }
         ensures ends { (value : ℕ) → TellsEnd result value → ⊥ }
+        ensures settled { IsWhole self.now → LeadsOneWay result self.now }
     {
         let right = self.right(operand, insn.k);
         match decide(comparison, self.a, right, first, last) {
@@ -163,8 +172,9 @@ fn known_where_it_holds(comparison: Comparison, a: Known, right: Known) -> Known
 
 /// What is known of a word of the record.
 fn loaded(place: u32, first: u32, last: u32) -> Known
-    ensures { (call : Record) (n : ℕ) → IsCallOf first last call → word_of call place ≡ Some n
+    ensures word { (call : Record) (n : ℕ) → IsCallOf first last call → word_of call place ≡ Some n
         → Describes result call n }
+    ensures settled { first ≡ last → (place ≡ 0) ⊎ (place ≡ 4) → IsExact result }
 {
     match place {
         0 if first == last => Known::Is(first),
@@ -176,8 +186,10 @@ fn loaded(place: u32, first: u32, last: u32) -> Known
 
 /// What is known of a calculation. A division by 0 has no value.
 fn calculation(arithmetic: Arithmetic, left: Known, right: Known) -> Known
-    ensures { (call : Record) (m n : ℕ) → Describes left call m → Describes right call n
+    ensures value { (call : Record) (m n : ℕ) → Describes left call m → Describes right call n
         → Describes result call (calculated arithmetic m n) }
+    ensures settled { IsExact left → IsExact right → (arithmetic ≡ Arithmetic.Divide → right ≢ Known.Is 0)
+        → IsExact result }
 {
     match (left, right) {
         (Known::Is(a), Known::Is(b)) if b != 0 || arithmetic != Arithmetic::Divide => {

@@ -2,7 +2,7 @@
 ghost use Rattle.std.specs.Prelude.{ℕ, ◌<◌, Option};
 ghost use Rattle.sk_insn.specs.declared.record.Record.{Record};
 ghost use Rattle.sk_interp.specs.Meaning.{State};
-ghost use Rattle.sk_survey.specs.Following.{Describes, DescribesWord, DescribesWords, DescribesState, zeros};
+ghost use Rattle.sk_survey.specs.Following.{Describes, DescribesWord, DescribesWords, DescribesState, IsWhole, zeros};
 
 /// What is known of a number.
 #[derive(Clone, Copy, Debug, PartialEq, Eq)]
@@ -36,7 +36,8 @@ pub struct Knowledge {
 impl Knowledge {
     /// As a filter starts. It is known that it loads no word before it stores it: so each word may begin as 0.
     pub fn at_start() -> Knowledge
-        ensures { (call : Record) → DescribesState result call zeros }
+        ensures zeros { (call : Record) → DescribesState result call zeros }
+        ensures whole { IsWhole result }
     {
         Knowledge {
             a: Known::Is(0),

@@ -1,12 +1,14 @@
 //! One pass over a program, which follows all paths of all calls with a number of a range.
-ghost use Rattle.std.specs.Prelude.{◌≡◌, ℕ, ◌≤◌, ◌<◌, ◌⊎◌, length, IfOk, IsOk};
+ghost use Rattle.std.specs.Prelude.{◌≡◌, ◌≢◌, ℕ, ◌+◌, ◌≤◌, ◌<◌, ◌⊎◌, length, slice_get, Some, IfOk, IsOk};
 ghost use Rattle.sk_insn.specs.declared.record.Record.{Record};
 ghost use Rattle.sk_check.specs.Fits.{AreInside};
+ghost use Rattle.sk_check.specs.Paths.{GoesTo};
 ghost use Rattle.sk_interp.specs.Meaning.{State, Effect, Ends};
 ghost use Rattle.sk_insn.specs.declared.insn.Insn.{Insn};
 ghost use Rattle.sk_survey.specs.declared.known.Knowledge.{Knowledge};
-ghost use Rattle.sk_survey.specs.Ends.{OnlyEnds};
-ghost use Rattle.sk_survey.specs.Following.{DescribesState, DescribedAt, Leads, Spreads, TellsEnd, led};
+ghost use Rattle.sk_survey.specs.Ends.{OnlyComing};
+ghost use Rattle.sk_survey.specs.Following.{DescribesState, DescribedAt, Leads, Spreads, TellsEnd, IsUnknown, led};
+ghost use Rattle.sk_survey.specs.Settling.{Settles, TellsOne};
 ghost use Rattle.sk_survey.specs.Answers.{answers_of, AnswersAmong, IsAmong, AreRising};
 
 use crate::answers::Answers;
@@ -17,7 +19,7 @@ use sk_insn::Insn;
 use std::alloc::{AllocError, Global};
 
 /// What the program answers. Control only goes forwards, so one pass over the places is enough: when a place is come
-/// to, its slot holds what each path to it knows. The slots are left empty.
+/// to, its slot holds what each path to it knows. The slots are left empty, unless memory is refused.
 pub(crate) fn program_answers(
     alloc: Global,
     slots: &mut [Option<Knowledge>],
@@ -26,10 +28,13 @@ pub(crate) fn program_answers(
     last: u32,
 ) -> Result<Answers, AllocError>
     requires slots { length slots.old ≡ 4096 }
+    requires empty { (place : ℕ) → IsUnknown slots.old place }
     requires range { first ≤ last }
     ensures among { IfOk result (λ answers. AnswersAmong program.now first last (answers_of answers)) }
     ensures rising { IfOk result (λ answers. AreRising (answers_of answers)) }
-    ensures only { IfOk result (λ answers. OnlyEnds program.now (answers_of answers)) }
+    ensures only { IfOk result (λ answers. OnlyComing program.now first last (answers_of answers)) }
+    ensures settled { first ≡ last → Settles program.now first → IfOk result (λ answers. TellsOne (answers_of answers)) }
+    ensures empty { IsOk result → (place : ℕ) → IsUnknown slots.new place }
 {
     let mut answers = Answers::Among(Vec::new(alloc));
     slots[0] = Some(Knowledge::at_start());
@@ -42,6 +47,13 @@ pub(crate) fn program_answers(
         }
     }
     Ok(answers)
+}
+
+/// Empties the slots.
+pub(crate) fn clear(slots: &mut [Option<Knowledge>])
+    ensures empty { (place : ℕ) → IsUnknown slots.new place }
+{
+    slots.fill(None);
 }
 
 /// Adds the value with which the filter ends where an instruction leads to an end.
@@ -76,6 +88,10 @@ fn spread(
         → DescribedAt slots.new q call s }
     ensures spread { (call : Record) (e : Effect) → Leads next insn.now knowledge.now call e
         → Spreads place slots.new call e }
+    ensures others { (q : ℕ) → (GoesTo q (led place next insn.now) → ⊥)
+        → slice_get slots.new q ≡ slice_get slots.old q }
+    ensures alone { (skip : ℕ) → next ≡ Next.Skip skip → IsUnknown slots.old (place + 1 + skip)
+        → slice_get slots.new (place + 1 + skip) ≡ Some (Some knowledge.now) }
 {
     match next {
         Next::Skip(skip) => join_at(slots, place + 1 + skip as usize, knowledge),
@@ -100,6 +116,8 @@ fn join_at(slots: &mut [Option<Knowledge>], place: usize, knowledge: &Knowledge)
         → DescribedAt slots.new q call s }
     ensures joined { (call : Record) (s : State) → DescribesState knowledge.now call s
         → DescribedAt slots.new place call s }
+    ensures others { (q : ℕ) → q ≢ place → slice_get slots.new q ≡ slice_get slots.old q }
+    ensures alone { IsUnknown slots.old place → slice_get slots.new place ≡ Some (Some knowledge.now) }
 {
     slots[place] = Some(match slots[place] {
         Some(known) => known.join(knowledge),

@@ -1,11 +1,12 @@
-ghost use Rattle.std.specs.Prelude.{◌≡◌, ◌≤◌, [], ◌∷◌, Some, length, IfOk, IsTrue};
+ghost use Rattle.std.specs.Prelude.{◌≡◌, ℕ, ◌≤◌, [], ◌∷◌, Some, length, IfOk, IsTrue};
+ghost use Rattle.sk_survey.specs.Following.{IsUnknown};
 ghost use Rattle.sk_insn.specs.Actions.{allow};
 ghost use Rattle.sk_chain.specs.Chains.{is_always, IsAlwaysAllowed};
 
 use crate::answers::Answers;
 use crate::cuts::cuts;
 use crate::known::Knowledge;
-use crate::pass::program_answers;
+use crate::pass::{clear, program_answers};
 use crate::rows::{Row, add_row};
 use sk_chain::Chain;
 use sk_check::Checked;
@@ -17,11 +18,13 @@ use std::alloc::{AllocError, Global};
 pub struct Survey {
     slots: Vec<Option<Knowledge>>,
     ghost full: { length slots.items ≡ 4096 },
+    ghost empty: { (place : ℕ) → IsUnknown slots.items place },
 }
 
 impl Survey {
     ghost use Rattle.sk_survey.specs.Answers.{answers_of, AnswersAmong, ChainAnswersAmong, AreRising};
-    ghost use Rattle.sk_survey.specs.Ends.{OnlyEnds, OnlyVerdicts};
+    ghost use Rattle.sk_survey.specs.Ends.{OnlyComing, OnlyVerdicts};
+    ghost use Rattle.sk_survey.specs.Settling.{Settles, AllSettle, TellsOne};
     ghost use Rattle.sk_survey.specs.Surveys.{IsSurveyFrom};
 
     /// One slot for each place of the longest program.
@@ -42,9 +45,15 @@ impl Survey {
         requires range { first ≤ last }
         ensures among { IfOk result (λ answers. AnswersAmong program.now first last (answers_of answers)) }
         ensures rising { IfOk result (λ answers. AreRising (answers_of answers)) }
-        ensures only { IfOk result (λ answers. OnlyEnds program.now (answers_of answers)) }
+        ensures only { IfOk result (λ answers. OnlyComing program.now first last (answers_of answers)) }
+        ensures settled { first ≡ last → Settles program.now first
+            → IfOk result (λ answers. TellsOne (answers_of answers)) }
     {
-        program_answers(alloc, &mut self.slots, program, first, last)
+        let answers = program_answers(alloc, &mut self.slots, program, first, last);
+        if answers.is_err() {
+            clear(&mut self.slots);
+        }
+        answers
     }
 
     /// The verdicts of the chain on calls with a number of the range, whatever else their records hold.
@@ -59,6 +68,8 @@ impl Survey {
         ensures among { IfOk result (λ answers. ChainAnswersAmong chain.now first last (answers_of answers)) }
         ensures rising { IfOk result (λ answers. AreRising (answers_of answers)) }
         ensures only { IfOk result (λ answers. OnlyVerdicts chain.now first last (answers_of answers)) }
+        ensures settled { first ≡ last → AllSettle chain.now first
+            → IfOk result (λ answers. TellsOne (answers_of answers)) }
 
         // A number in the chain's table has the one verdict that the table tells.
         ensures always { first ≡ last → IsTrue (is_always chain.now first)
@@ -82,6 +93,8 @@ impl Survey {
         ensures among { IfOk result (λ answers. ChainAnswersAmong chain.now first last (answers_of answers)) }
         ensures rising { IfOk result (λ answers. AreRising (answers_of answers)) }
         ensures only { IfOk result (λ answers. OnlyVerdicts chain.now first last (answers_of answers)) }
+        ensures settled { first ≡ last → AllSettle chain.now first
+            → IfOk result (λ answers. TellsOne (answers_of answers)) }
     {
         let mut newer = None;
         for program in chain.programs() {

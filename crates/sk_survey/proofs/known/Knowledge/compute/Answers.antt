@@ -16,7 +16,7 @@ returns-in_default-clause-leads c =
     let insn = c.args.insn.now in
     let arithmetic = c.args.arithmetic in
     let right = c.args.operand in
-    let known = subst (λ known. Describes known call (operand right insn s)) (sym c.right-right.ensures) (operand_known right insn c.args.self.now call s is) in
+    let known = subst (λ known. Describes known call (operand right insn s)) (sym c.right-right.ensures.operand) (operand_known right insn c.args.self.now call s is) in
     let some : arithmetic ≡ Divide → right ≡ IndexRegister → (s.x == 0) ≡ false =
     elim c.in_default.branch [
       | in_default-via-in-Divide+in-Is+in_default w ↦ λ divides index.
@@ -29,4 +29,4 @@ returns-in_default-clause-leads c =
     (compute_leads arithmetic right insn c.calculation.result c.args.self.now call s is
     (λ e. subst (λ o. TakesConstant (Some (Compute arithmetic o)) insn) e c.requires.constant)
     some
-    (c.calculation.ensures call s.a (operand right insn s) is.a known))
+    (c.calculation.ensures.value call s.a (operand right insn s) is.a known))
