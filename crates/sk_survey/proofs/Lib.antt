@@ -6,3 +6,5 @@ pub mod Reaching
 pub mod Telling
 pub mod Merging
 pub mod Choosing
+pub mod Cutting
+pub mod Standing
