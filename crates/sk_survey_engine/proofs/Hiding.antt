@@ -1,12 +1,14 @@
--- No name of a call is the sign of a line without one.
-use Rattle.std.proofs.Common.{◌≡◌, ℕ, zero, suc, ◌-◌, nat_lt, Bool, true, inl, inr, List, [], ◌∷◌, length, map, codes, Option, Some, None, slice_get, arith, rules, refl, sym, subst, ◌∙◌}
+-- A call with a name has a row by itself, and no name is the sign of a row without one.
+use Rattle.std.proofs.Common.{◌≡◌, ℕ, zero, suc, ◌+◌, ◌-◌, nat_lt, Bool, true, inl, inr, List, [], ◌∷◌, length, map, codes, Option, Some, None, slice_get, arith, rules, refl, sym, subst, ◌∙◌}
 use Rattle.std.specs.List.{All}
 use Rattle.std.specs.Option.{unwrap_or}
 use Rattle.std.proofs.lemmas.Bool.{cases_lt, lt-ltb, le-ltb}
+use Rattle.std.proofs.lemmas.List.Elements.{All-head, All-tail}
 use Rattle.std.proofs.lemmas.List.Sums.{AllPass-from_list_all}
 use Rattle.sk_call_names.specs.declared.names.TheConstants.{EARLY, LATE}
 use Rattle.sk_call_names.specs.Names.{name_of}
-use Rattle.sk_survey_engine.specs.NamesLaws.{NameIsOfEach, NoNameIsHidden}
+use Rattle.sk_survey_engine.specs.Lines.{TellsNamedAlone}
+use Rattle.sk_survey_engine.specs.NamesLaws.{NameIsOfEach, NoNameIsHidden, NamedHasARow}
 
 abbrev has_more : List ℕ → Bool
 has_more name = nat_lt 1 (length name)
@@ -35,3 +37,15 @@ name_of_each row nr alone low high = search rules
 
 pub none_hidden : NoNameIsHidden
 none_hidden row nr alone low high none = by_name nr (name_of nr) refl (sym (name_of_each row nr alone low high) ∙ none)
+
+pub row_of_named : NamedHasARow
+row_of_named programs from end nr [] told all low high named = absurd (omega arith)
+row_of_named programs from end nr (row ∷ rows) told all low high named =
+    elim (cases_lt row.last nr) [
+      | inl behind ↦
+          let it = row_of_named programs (row.last + 1) end nr rows told.4 (All-tail TellsNamedAlone row rows all) (omega arith) high named in
+          let below = it.2 in (suc it.0, it.1, omega arith, it.3, it.4)
+      | inr here ↦
+          let begins = told.0 in
+          (0, row, omega arith, refl, All-head TellsNamedAlone row rows all nr named (omega arith) here)
+    ]
