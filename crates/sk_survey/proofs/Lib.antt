@@ -10,3 +10,5 @@ pub mod Merging
 pub mod Choosing
 pub mod ChainEnds
 pub mod WorkedRows
+pub mod Cutting
+pub mod Standing

@@ -5,3 +5,4 @@ pub mod WorkedEnds
 pub mod Surveys
 pub mod Following
 pub mod AnswersLaws
+pub mod Cutting

@@ -1,7 +1,8 @@
-ghost use Rattle.std.specs.Prelude.{◌≡◌, ℕ, ◌+◌, ◌-◌, ◌<◌, ◌≤◌, List, length, slice_get, Some, OnOk, IsTrue};
+ghost use Rattle.std.specs.Prelude.{◌≡◌, ℕ, ◌+◌, ◌-◌, ◌<◌, ◌≤◌, ◌↔◌, List, [], ◌∷◌, length, slice_get, Some, OnOk, IsTrue};
+ghost use Rattle.std.specs.List.{Contains};
 ghost use Rattle.sk_insn.specs.declared.insn.Insn.{Insn};
 ghost use Rattle.sk_survey.specs.Answers.{answers_of, ChainAnswersAmong};
-ghost use Rattle.sk_survey.specs.Surveys.{Tell};
+ghost use Rattle.sk_survey.specs.Surveys.{Tell, StandAlone};
 ghost use Rattle.sk_survey.specs.declared.rows.Row.{Row};
 
 use crate::answers::Answers;
@@ -17,9 +18,11 @@ pub struct Row {
 
 /// Adds a row behind the others, or its numbers to the last one where that tells the same and neither stands alone.
 pub(crate) fn add_row(rows: &mut Vec<Row>, alone: &[u32], row: Row) -> Result<(), AllocError>
-    ensures { OnOk result ((programs : List (List Insn)) (from : ℕ) → Tell programs from row.first rows.old.items
+    ensures told { OnOk result ((programs : List (List Insn)) (from : ℕ) → Tell programs from row.first rows.old.items
         → row.first ≤ row.last → ChainAnswersAmong programs row.first row.last (answers_of row.answers)
         → Tell programs from (row.last + 1) rows.new.items) }
+    ensures alone { OnOk result ((programs : List (List Insn)) (from : ℕ) → Tell programs from row.first rows.old.items
+        → StandAlone alone.now rows.old.items → StandAlone alone.now (row ∷ []) → StandAlone alone.now rows.new.items) }
 {
     if continues(rows, alone, &row) {
         let latest = rows.len() - 1;
@@ -35,6 +38,9 @@ fn continues(rows: &[Row], alone: &[u32], row: &Row) -> bool
     ensures some { IsTrue result → 0 < length rows.now }
     ensures same { IsTrue result → (before : Row) → slice_get rows.now (length rows.now - 1) ≡ Some before
         → answers_of before.answers ≡ answers_of row.now.answers }
+    ensures before { IsTrue result → (before : Row) → slice_get rows.now (length rows.now - 1) ≡ Some before
+        → Contains alone.now before.first → ⊥ }
+    ensures behind { IsTrue result → Contains alone.now row.now.first → ⊥ }
 {
     match rows.last() {
         Some(before) => {
@@ -47,6 +53,8 @@ fn continues(rows: &[Row], alone: &[u32], row: &Row) -> bool
 }
 
 /// Whether the number is one of those.
-fn stands_alone(alone: &[u32], number: u32) -> bool {
-    alone.binary_search(&number).is_ok()
+fn stands_alone(alone: &[u32], number: u32) -> bool
+    ensures { IsTrue result ↔ Contains alone.now number }
+{
+    alone.contains(&number)
 }

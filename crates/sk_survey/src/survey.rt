@@ -25,7 +25,7 @@ impl Survey {
     ghost use Rattle.sk_survey.specs.Answers.{answers_of, AnswersAmong, ChainAnswersAmong, AreRising};
     ghost use Rattle.sk_survey.specs.Ends.{OnlyComing, OnlyVerdicts};
     ghost use Rattle.sk_survey.specs.Settling.{Settles, AllSettle, TellsOne};
-    ghost use Rattle.sk_survey.specs.Surveys.{IsSurveyFrom};
+    ghost use Rattle.sk_survey.specs.Surveys.{IsSurveyFrom, StandAlone};
 
     /// One slot for each place of the longest program.
     pub fn new(alloc: Global) -> Result<Survey, AllocError> {
@@ -110,8 +110,8 @@ impl Survey {
         }
     }
 
-    /// What the chain answers to every call: rows that tell all numbers in order. Each number of `alone`, which
-    /// rises, has a row by itself.
+    /// What the chain answers to every call: rows that tell all numbers in order. Each number of `alone` has a row by
+    /// itself.
     pub fn rows(
         &mut self,
         alloc: Global,
@@ -119,10 +119,12 @@ impl Survey {
         alone: &[u32],
     ) -> Result<Vec<Row>, AllocError>
         ensures survey { IfOk result (λ rows. IsSurveyFrom chain.now 0 rows.items) }
+        ensures alone { IfOk result (λ rows. StandAlone alone.now rows.items) }
     {
+        let cuts = cuts(alloc, chain, alone)?;
         let mut rows = Vec::new(alloc);
         let mut first = 0u32;
-        for cut in &cuts(alloc, chain, alone)? {
+        for cut in &cuts {
             if first < *cut {
                 let answers = self.chain(alloc, chain, first, *cut - 1)?;
                 add_row(

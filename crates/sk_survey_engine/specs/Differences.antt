@@ -11,7 +11,7 @@ use Rattle.sk_survey_engine.specs.declared.line.Line.{Line}
 use Rattle.sk_survey_engine.specs.declared.line.Sign.{Sign}
 use Rattle.sk_survey_engine.specs.declared.line.Sign.TheVariants as sign
 use Rattle.sk_survey_engine.specs.declared.options.Options.{Options}
-use Rattle.sk_survey_engine.specs.Lines.{first_told, end_told, IsLineOfEither}
+use Rattle.sk_survey_engine.specs.Lines.{row_of, first_told, end_told, TellsNamedAlone, IsLineOfEither}
 
 -- a line without what stands below it: its sign, its numbers and the values that are told
 pub record Told : Type 0 where
@@ -61,11 +61,12 @@ abbrev pub pieces : List Row → List Row → List Told
 pieces rows others = flat_map (λ row. flat_map (piece row) others) rows
 
 -- rows tell all numbers that are wanted of the first chain, and others those of the second; the lines are those of the
--- numbers of which they tell other values, and each line holds
+-- numbers of which they tell other values, a number with a name stands alone in its lines, and each line holds
 pub record AreDifferences (options : Options) (first second : List (List Insn)) (lines : List Line) : Type 0 where
   pub rows : List Row
   pub others : List Row
   pub tell_first : Tell first (first_told options.call) (end_told options.call) rows
   pub tell_second : Tell second (first_told options.call) (end_told options.call) others
   pub told : map told_of lines ≡ pieces rows others
+  pub alone : All TellsNamedAlone (map row_of lines)
   pub hold : All (IsLineOfEither options.examples first second) lines

@@ -7,3 +7,4 @@ pub mod Delivering
 pub mod Chains
 pub mod Differences
 pub mod Telling
+pub mod NamesLaws

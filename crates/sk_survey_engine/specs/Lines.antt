@@ -1,10 +1,11 @@
 -- What the lines of a survey say of the chains.
-use Rattle.std.specs.Prelude.{ℕ, ◌≡◌, ◌+◌, ◌^◌, Bool, true, false, List, [], map, Option, Some, None, IfSome}
+use Rattle.std.specs.Prelude.{ℕ, ◌≡◌, ◌+◌, ◌^◌, Bool, true, false, is_some, IsTrue, List, [], map, Option, Some, None, IfSome}
 use Rattle.std.specs.List.{All}
 use Rattle.sk_insn.specs.declared.insn.Insn.{Insn}
+use Rattle.sk_call_names.specs.Names.{name_of}
 use Rattle.sk_survey.specs.declared.rows.Row.{Row}
 use Rattle.sk_survey.specs.Answers.{ChainAnswersAmong, answers_of}
-use Rattle.sk_survey.specs.Surveys.{Tell}
+use Rattle.sk_survey.specs.Surveys.{Tell, TellsAlone}
 use Rattle.sk_survey_examples.specs.Examples.{IsExample}
 use Rattle.sk_survey_engine.specs.declared.line.Line.{Line}
 use Rattle.sk_survey_engine.specs.declared.line.Shown.{Shown}
@@ -47,9 +48,14 @@ pub record IsLineOf (programs : List (List Insn)) (examples : Bool) (line : Line
   pub answers : Holds programs line.row
   pub shows : Shows programs examples line.row line.shown.items
 
--- the lines of one chain: their rows tell all numbers that are wanted
+-- a row that tells a number with a name tells no other
+abbrev pub TellsNamedAlone : Row → Type 0
+TellsNamedAlone row = (nr : ℕ) → IsTrue (is_some (name_of nr)) → TellsAlone nr row
+
+-- the lines of one chain: their rows tell all numbers that are wanted, and those with a name each alone
 pub record AreLinesOf (options : Options) (programs : List (List Insn)) (lines : List Line) : Type 0 where
   pub rows : Tell programs (first_told options.call) (end_told options.call) (map row_of lines)
+  pub alone : All TellsNamedAlone (map row_of lines)
   pub plain : All (λ line. line.sign ≡ sign.None) lines
   pub shows : All (λ line. Shows programs options.examples line.row line.shown.items) lines
 

@@ -5,6 +5,7 @@ mod chains;
 mod differences;
 mod engine;
 mod gathering;
+pub mod laws;
 mod line;
 mod lines;
 mod options;

@@ -3,7 +3,7 @@ ghost use Rattle.std.specs.Prelude.{◌≡◌, IfOk, map};
 ghost use Rattle.std.specs.List.{All};
 ghost use Rattle.sk_survey.specs.Answers.{answers_of};
 ghost use Rattle.sk_survey.specs.Surveys.{Tell};
-ghost use Rattle.sk_survey_engine.specs.Lines.{first_told, end_told, Shows, IsShown, AreLinesOf};
+ghost use Rattle.sk_survey_engine.specs.Lines.{first_told, end_told, TellsNamedAlone, Shows, IsShown, AreLinesOf};
 
 use crate::line::{Line, Shown, Sign};
 use crate::options::Options;
@@ -39,9 +39,10 @@ fn line_of(alloc: Global, examples: bool, chain: &Chain, row: Row) -> Result<Lin
     })
 }
 
-/// The rows of the numbers that are wanted.
+/// The rows of the numbers that are wanted. A number with a name has a row by itself.
 pub fn rows_of(alloc: Global, call: Option<u32>, chain: &Chain) -> Result<Vec<Row>, AllocError>
     ensures rows { IfOk result (λ rows. Tell chain.now (first_told call) (end_told call) rows.items) }
+    ensures alone { IfOk result (λ rows. All TellsNamedAlone rows.items) }
 {
     let mut survey = Survey::new(alloc)?;
     match call {
