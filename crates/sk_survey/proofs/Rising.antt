@@ -1,6 +1,7 @@
 -- Rising values, with one more.
-use Rattle.std.proofs.Common.{◌≡◌, ◌≢◌, ℕ, zero, suc, ◌^◌, ◌<◌, ◌⊎◌, inl, inr, List, [], ◌∷◌, length, Some, slice_get, get_or, refl, arith}
-use Rattle.std.specs.Prelude.{ℤ, ◌<ℤ◌, ◌≤ℤ◌}
+use Rattle.std.proofs.Common.{◌≡◌, ◌≢◌, ℕ, zero, suc, ◌^◌, ◌<◌, ◌⊎◌, inl, inr, List, [], ◌∷◌, length, Some, slice_get, slice_index_or, get_or, Bool, true, false, not, refl, arith}
+use Rattle.std.specs.Prelude.{ℤ, int_le, ◌<ℤ◌, ◌≤ℤ◌}
+use Rattle.std.specs.List.Sorted.{IsPartitionedBy}
 use Rattle.std.specs.List.{insert}
 use Rattle.std.specs.Int.{cast_signed, w32}
 use Rattle.std.proofs.lemmas.Int.{ints}
@@ -59,3 +60,31 @@ pub one_at : (values : List ℕ) (place value : ℕ) → slice_get values place 
 one_at [] place value here = cc
 one_at (first ∷ values) zero value here = inl cc
 one_at (first ∷ values) (suc place) value here = inr (one_at values place value here)
+
+-- the test of a search for a value's place
+abbrev pub comes_before : ℕ → ℕ → Bool
+comes_before value other = not (int_le (cast_signed w32 value) (cast_signed w32 other))
+
+pub less_of : (a b : ℤ) → not (int_le b a) ≡ true → a <ℤ b
+less_of a b h = grind (arith, ints)
+
+pub at_most_of : (a b : ℤ) → not (int_le a b) ≡ false → a ≤ℤ b
+at_most_of a b h = grind (arith, ints)
+
+test_of : (a b : ℤ) → a <ℤ b → not (int_le b a) ≡ true
+test_of a b h = grind (arith, ints)
+
+below_at : (value d : ℕ) (values : List ℕ) (j : ℕ) → IsBelowAll value values → j < length values → cast_signed w32 value <ℤ cast_signed w32 (slice_index_or values j d)
+below_at value d [] j below inside = absurd (omega arith)
+below_at value d (first ∷ values) zero below inside = below.0
+below_at value d (first ∷ values) (suc j) below inside = below_at value d values j below.1 (omega arith)
+
+pub parted : (values : List ℕ) (value : ℕ) → IsRising values → IsPartitionedBy (comes_before value) values
+parted [] value rising i j d up inside holds = absurd (omega arith)
+parted (first ∷ values) value rising zero zero d up inside holds = holds
+parted (first ∷ values) value rising zero (suc j) d up inside holds =
+    test_of (cast_signed w32 first) (cast_signed w32 value)
+    (signed_trans (cast_signed w32 first) (cast_signed w32 (slice_index_or values j d)) (cast_signed w32 value)
+        (below_at first d values j rising.0 (omega arith)) (less_of (cast_signed w32 (slice_index_or values j d)) (cast_signed w32 value) holds))
+parted (first ∷ values) value rising (suc i) zero d up inside holds = absurd (omega arith)
+parted (first ∷ values) value rising (suc i) (suc j) d up inside holds = parted values value rising.1 i j d (omega arith) (omega arith) holds

@@ -23,15 +23,11 @@ pub(crate) fn insert(values: &mut Vec<u32>, value: u32) -> Result<(), AllocError
 
 /// The first place of a value that does not come before this one.
 fn place_of(values: &[u32], value: u32) -> usize
+    requires rising { IsRising values.now }
     ensures within { result ≤ length values.now }
     ensures before { (k : ℕ) → k < result → cast_signed w32 (slice_index values.now k) <ℤ cast_signed w32 value }
     ensures behind { result < length values.now → value ≢ slice_index values.now result
         → cast_signed w32 value <ℤ cast_signed w32 (slice_index values.now result) }
 {
-    for (place, other) in values.iter().enumerate() {
-        if value.cast_signed() <= other.cast_signed() {
-            return place;
-        }
-    }
-    values.len()
+    values.partition_point(|other| other.cast_signed() < value.cast_signed())
 }
