@@ -1,5 +1,6 @@
 -- The filter at a place of a chain, where those before it are passed.
-use Rattle.std.proofs.Common.{◌≡◌, ℕ, zero, suc, ◌+◌, ◌<◌, List, [], ◌∷◌, length, drop, slice_get, Some, arith, sym, ap, ◌∙◌}
+use Rattle.std.proofs.Common.{◌≡◌, ◌≢◌, ℕ, zero, suc, ◌+◌, ◌<◌, inl, inr, List, [], ◌∷◌, length, drop, slice_get, Some, arith, sym, ap, ◌∙◌}
+use Rattle.std.proofs.lemmas.Bool.{cases_eq}
 use Rattle.std.specs.Option.{option_map}
 use Rattle.std.proofs.lemmas.List.{length-drop, drop-drop}
 use Rattle.std.proofs.lemmas.Option.{slice_get-map}
@@ -7,6 +8,18 @@ use Rattle.sk_insn.specs.declared.insn.Insn.{Insn}
 use Rattle.sk_insn.specs.declared.record.Record.{Record}
 use Rattle.sk_interp.specs.Meaning.{Returned, meaning_of}
 use Rattle.sk_chain.specs.Verdict.{meaning_value, values_of}
+
+-- at no place before this one is the value
+abbrev pub IsNotBefore : List ℕ → ℕ → ℕ → Type 0
+IsNotBefore values value place = (earlier : ℕ) → earlier < place → slice_get values earlier ≢ Some value
+
+-- one place more with another value
+pub nor_here : (values : List ℕ) (value other n : ℕ) → slice_get values n ≡ Some other → other ≢ value → IsNotBefore values value n → IsNotBefore values value (n + 1)
+nor_here values value other n here differs before earlier less e =
+    elim (cases_eq earlier n) [
+      | inl same ↦ differs (let there = ap (slice_get values) same in cc)
+      | inr not ↦ before earlier (omega arith) e
+    ]
 
 at_front : {X : Type 0} (xs : List X) (n : ℕ) (x : X) (rest : List X) → drop n xs ≡ x ∷ rest → slice_get xs n ≡ Some x
 at_front [] zero x rest e = cc

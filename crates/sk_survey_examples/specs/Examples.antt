@@ -1,11 +1,18 @@
 -- What a call shows of the verdicts of a chain.
-use Rattle.std.specs.Prelude.{ℕ, ◌≡◌, ◌+◌, ◌≤◌, List, length, slice_get, Some}
+use Rattle.std.specs.Prelude.{ℕ, ◌≡◌, ◌≢◌, ◌+◌, ◌<◌, ◌≤◌, List, length, slice_get, Some}
 use Rattle.sk_insn.specs.declared.insn.Insn.{Insn}
 use Rattle.sk_chain.specs.Verdict.{verdict_of, values_of}
 use Rattle.sk_survey_examples.specs.declared.example.Example.{Example}
 
--- the call has one of the numbers, the verdict on it is the value, and this filter, counted from the oldest, answers it
+-- the value stands at the place of the list, and at no earlier one
+abbrev pub IsFirstAt : List ℕ → ℕ → ℕ → Type 0
+IsFirstAt values value place =
+    (slice_get values place ≡ Some value) × ((earlier : ℕ) → earlier < place → slice_get values earlier ≢ Some value)
+
+-- the call has one of the numbers, the verdict on it is the value, and it comes from this filter, counted from the
+-- oldest: of several that answer the value that is the newest (seccomp(2), "the most recently installed filter is
+-- executed first")
 pub record IsExample (programs : List (List Insn)) (first last value : ℕ) (example : Example) : Type 0 where
   pub number : (first ≤ example.call.nr) × (example.call.nr ≤ last)
   pub verdict : verdict_of programs example.call ≡ value
-  pub answers : (newer : ℕ) × (newer + 1 + example.filter ≡ length programs) × (slice_get (values_of programs example.call) newer ≡ Some value)
+  pub answers : (newer : ℕ) × (newer + 1 + example.filter ≡ length programs) × IsFirstAt (values_of programs example.call) value newer

@@ -1,6 +1,6 @@
-ghost use Rattle.std.specs.Prelude.{◌≡◌, ◌+◌, ℕ, IfOk, IfSome, length, slice_get, Some};
+ghost use Rattle.std.specs.Prelude.{◌≡◌, ◌+◌, ℕ, IfOk, IfSome, length};
 ghost use Rattle.sk_chain.specs.Verdict.{values_of};
-ghost use Rattle.sk_survey_examples.specs.Examples.{IsExample};
+ghost use Rattle.sk_survey_examples.specs.Examples.{IsFirstAt, IsExample};
 
 use crate::tracing::{end_of, push_turns};
 use sk_chain::Chain;
@@ -71,7 +71,7 @@ fn shown(chain: &Chain, first: u32, last: u32, value: u32, call: Record) -> Opti
 // The newest filter that answers the value, and where it ends.
 fn answering(chain: &Chain, call: &Record, value: u32) -> Option<(usize, usize)>
     ensures filter { IfSome result (λ found. (newer : ℕ) × (newer + 1 + found.0 ≡ length chain.now)
-        × (slice_get (values_of chain.now call.now) newer ≡ Some value)) }
+        × IsFirstAt (values_of chain.now call.now) value newer) }
 {
     let mut older = chain.len();
     for program in chain.programs() {
