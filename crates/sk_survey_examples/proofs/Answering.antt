@@ -6,8 +6,10 @@ use Rattle.std.proofs.lemmas.List.{length-drop, drop-drop}
 use Rattle.std.proofs.lemmas.Option.{slice_get-map}
 use Rattle.sk_insn.specs.declared.insn.Insn.{Insn}
 use Rattle.sk_insn.specs.declared.record.Record.{Record}
-use Rattle.sk_interp.specs.Meaning.{Returned, meaning_of}
+use Rattle.sk_interp.specs.Meaning.{meaning_of}
 use Rattle.sk_chain.specs.Verdict.{meaning_value, values_of}
+use Rattle.sk_survey_examples.specs.Runs.{EndsAt}
+use Rattle.sk_survey_examples.proofs.Runs.{ends_with}
 
 -- at no place before this one is the value
 abbrev pub IsNotBefore : List ℕ → ℕ → ℕ → Type 0
@@ -27,6 +29,9 @@ at_front [] (suc n) x rest e = cc
 at_front (y ∷ ys) zero x rest e = cc
 at_front (y ∷ ys) (suc n) x rest e = at_front ys n x rest e
 
+pub is_at : {X : Type 0} (xs : List X) (n : ℕ) (x : X) (left rest : List X) → left ≡ drop n xs → left ≡ x ∷ rest → slice_get xs n ≡ Some x
+is_at xs n x left rest at next = at_front xs n x rest (sym at ∙ next)
+
 -- how many are passed where so many are left
 pub is_within : {X : Type 0} (xs : List X) (n : ℕ) (x : X) (left rest : List X) → left ≡ drop n xs → left ≡ x ∷ rest → n < length xs
 is_within xs n x left rest at next =
@@ -38,8 +43,8 @@ is_within xs n x left rest at next =
 pub passed : {X : Type 0} (xs : List X) (n : ℕ) (x : X) (left rest : List X) → left ≡ drop n xs → left ≡ x ∷ rest → rest ≡ drop (n + 1) xs
 passed xs n x left rest at next = ap (drop 1) (sym next ∙ at) ∙ drop-drop 1 n xs
 
-pub answers_at : (programs : List (List Insn)) (call : Record) (n : ℕ) (program : List Insn) (left rest : List (List Insn)) (value steps : ℕ) → left ≡ drop n programs → left ≡ program ∷ rest → meaning_of program call ≡ Returned value steps → slice_get (values_of programs call) n ≡ Some value
-answers_at programs call n program left rest value steps at next meaning =
+pub answers_at : (programs : List (List Insn)) (call : Record) (n : ℕ) (program : List Insn) (left rest : List (List Insn)) (value place : ℕ) → left ≡ drop n programs → left ≡ program ∷ rest → EndsAt program call value place → slice_get (values_of programs call) n ≡ Some value
+answers_at programs call n program left rest value place at next ends =
     slice_get-map (λ insns. meaning_value (meaning_of insns call)) programs n
-    ∙ ap (option_map (λ insns. meaning_value (meaning_of insns call))) (at_front programs n program rest (sym at ∙ next))
-    ∙ ap (λ m. Some (meaning_value m)) meaning
+    ∙ ap (option_map (λ insns. meaning_value (meaning_of insns call))) (is_at programs n program left rest at next)
+    ∙ ap Some (ends_with program call value place ends)

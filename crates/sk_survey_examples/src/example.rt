@@ -1,11 +1,9 @@
-ghost use Rattle.std.specs.Prelude.{◌≡◌, ◌+◌, ℕ, IfOk, IfSome, length};
-ghost use Rattle.sk_chain.specs.Verdict.{values_of};
-ghost use Rattle.sk_survey_examples.specs.Examples.{IsFirstAt, IsExample};
+ghost use Rattle.std.specs.Prelude.{IfOk, IfSome};
+ghost use Rattle.sk_survey_examples.specs.Examples.{ComesFrom, IsExample};
 
 use crate::tracing::{end_of, push_turns};
 use sk_chain::Chain;
 use sk_insn::Record;
-use sk_interp::run;
 use std::alloc::{AllocError, Global};
 
 /// How many calls are tried for one value.
@@ -70,14 +68,14 @@ fn shown(chain: &Chain, first: u32, last: u32, value: u32, call: Record) -> Opti
 
 // The newest filter that answers the value, and where it ends.
 fn answering(chain: &Chain, call: &Record, value: u32) -> Option<(usize, usize)>
-    ensures filter { IfSome result (λ found. (newer : ℕ) × (newer + 1 + found.0 ≡ length chain.now)
-        × IsFirstAt (values_of chain.now call.now) value newer) }
+    ensures source { IfSome result (λ found. ComesFrom chain.now call.now value found.0 found.1) }
 {
     let mut older = chain.len();
     for program in chain.programs() {
         older -= 1;
-        if run(program, call).value == value {
-            return Some((older, end_of(program, call)));
+        let end = end_of(program, call);
+        if end.value == value {
+            return Some((older, end.place));
         }
     }
     None

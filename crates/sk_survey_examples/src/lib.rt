@@ -2,6 +2,7 @@
 #![tactic(auto)]
 
 mod example;
+mod execution;
 mod origin;
 mod tracing;
 

@@ -1,26 +1,38 @@
 use Rattle.std.proofs.Common.{◌≡◌, ◌+◌, ◌-◌, length, drop, Some, arith, subst, ap, ◌∙◌}
 use Rattle.sk_chain.specs.Verdict.{values_of}
-use Rattle.sk_survey_examples.proofs.Answering.{IsNotBefore, is_within, passed, answers_at, nor_here}
+use Rattle.sk_survey_examples.specs.Runs.{EndsAt}
+use Rattle.sk_survey_examples.proofs.Answering.{IsNotBefore, is_at, is_within, passed, answers_at, nor_here}
 use Rattle.sk_survey_examples.proofs.example.answering.Goals as goal
 
-pub returns-then-run-value : goal.returns-then-run-value
-returns-then-run-value c =
-    let newer = length c.args.chain.now - c.loop-program.older in
-    let within = is_within c.args.chain.now newer c.in-Some.program.now c.loop-program.program-iterator c.next.new.self c.loop-program.invariant.rest c.in-Some.ensures.steps in
+pub returns-then-end-value : goal.returns-then-end-value
+returns-then-end-value c =
+    let programs = c.args.chain.now in
+    let call = c.args.call.now in
+    let program = c.in-Some.program.now in
+    let newer = length programs - c.loop-program.older in
+    let rest = c.loop-program.invariant.rest in
+    let next = c.in-Some.ensures.steps in
+    let within = is_within programs newer program _ _ rest next in
     let older = c.loop-program.invariant.older in
-    let here = answers_at c.args.chain.now c.args.call.now newer _ _ _ _ _ c.loop-program.invariant.rest c.in-Some.ensures.steps c.run.ensures.meaning in
-    record { filter = (newer, omega (arith, within, older), (here ∙ ap Some c.if-run-value.true, c.loop-program.invariant.none)) }
+    let here = answers_at programs call newer program _ _ _ _ rest next c.end_of-end.ensures.ends in
+    let ends = subst (λ value. EndsAt program call value c.end_of-end.result.place) c.if-end-value.true c.end_of-end.ensures.ends in
+    record {
+      source = (newer, omega (arith, within, older), (here ∙ ap Some c.if-end-value.true, c.loop-program.invariant.none), (program, is_at programs newer program _ _ rest next, ends));
+    }
 
 pub loop-program-preserved : goal.loop-program-preserved
 loop-program-preserved c =
-    let newer = length c.args.chain.now - c.loop-program.older in
-    let within = is_within c.args.chain.now newer c.in-Some.program.now c.loop-program.program-iterator c.next.new.self c.loop-program.invariant.rest c.in-Some.ensures.steps in
+    let programs = c.args.chain.now in
+    let call = c.args.call.now in
+    let newer = length programs - c.loop-program.older in
+    let rest = c.loop-program.invariant.rest in
+    let next = c.in-Some.ensures.steps in
+    let within = is_within programs newer _ _ _ rest next in
     let older = c.loop-program.invariant.older in
-    let more : newer + 1 ≡ length c.args.chain.now - (c.loop-program.older - 1) = omega (arith, within, older) in
-    let here = answers_at c.args.chain.now c.args.call.now newer _ _ _ _ _ c.loop-program.invariant.rest c.in-Some.ensures.steps c.run.ensures.meaning in
-    let values = values_of c.args.chain.now c.args.call.now in
+    let more : newer + 1 ≡ length programs - (c.loop-program.older - 1) = omega (arith, within, older) in
+    let here = answers_at programs call newer _ _ _ _ _ rest next c.end_of-end.ensures.ends in
     record {
-      rest = passed c.args.chain.now newer _ _ _ c.loop-program.invariant.rest c.in-Some.ensures.steps ∙ ap (λ n. drop n c.args.chain.now) more;
+      rest = passed programs newer _ _ _ rest next ∙ ap (λ n. drop n programs) more;
       older = omega (arith, older);
-      none = subst (IsNotBefore values c.args.value) more (nor_here values c.args.value _ newer here c.if-run-value.false c.loop-program.invariant.none);
+      none = subst (IsNotBefore (values_of programs call) c.args.value) more (nor_here (values_of programs call) c.args.value _ newer here c.if-end-value.false c.loop-program.invariant.none);
     }
