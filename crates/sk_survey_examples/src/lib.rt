@@ -3,6 +3,7 @@
 
 mod example;
 mod execution;
+pub mod laws;
 mod origin;
 mod tracing;
 
