@@ -1,13 +1,10 @@
 ghost use Rattle.std.specs.Prelude.{IfOk, IfSome};
 ghost use Rattle.sk_survey_examples.specs.Examples.{ComesFrom, IsExample};
 
-use crate::tracing::{end_of, push_turns};
+use crate::tracing::{MOST_CALLS, end_of, push_turns};
 use sk_chain::Chain;
 use sk_insn::Record;
 use std::alloc::{AllocError, Global};
-
-/// How many calls are tried for one value.
-const MOST_CALLS: usize = 512;
 
 /// A call, and where the verdict on it comes from.
 #[derive(Clone, Copy, Debug, PartialEq, Eq)]

@@ -7,6 +7,9 @@ use sk_check::Checked;
 use sk_insn::Record;
 use std::alloc::AllocError;
 
+/// How many calls are tried for one value.
+pub const MOST_CALLS: usize = 512;
+
 /// Where a filter ends, and what it answers.
 #[derive(Clone, Copy)]
 pub struct End {
@@ -16,7 +19,8 @@ pub struct End {
     pub value: u32,
 }
 
-/// Puts the calls of these numbers that turn a jump on the way of this one behind the others, where they are new.
+/// Puts the calls of these numbers that turn a jump on the way of this one behind the others, where they are new and
+/// will be tried.
 pub fn push_turns(
     calls: &mut Vec<Record>,
     program: &Checked,
@@ -62,7 +66,8 @@ fn push_new(
     first: u32,
     last: u32,
 ) -> Result<(), AllocError> {
-    if first <= call.nr && call.nr <= last && !calls.contains(&call) {
+    let tried = calls.len() < MOST_CALLS && first <= call.nr && call.nr <= last;
+    if tried && !calls.contains(&call) {
         calls.push(call)?;
     }
     Ok(())
