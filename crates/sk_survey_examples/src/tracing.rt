@@ -27,7 +27,10 @@ pub fn push_turns(
     call: &Record,
     first: u32,
     last: u32,
-) -> Result<(), AllocError> {
+) -> Result<(), AllocError>
+    requires few { length calls.old.items ≤ MOST_CALLS }
+    ensures few { length calls.new.items ≤ MOST_CALLS }
+{
     let insns = program.insns();
     let mut run = Run::new();
     let mut place = 0;
@@ -60,12 +63,10 @@ pub fn end_of(program: &Checked, call: &Record) -> End
     }
 }
 
-fn push_new(
-    calls: &mut Vec<Record>,
-    call: Record,
-    first: u32,
-    last: u32,
-) -> Result<(), AllocError> {
+fn push_new(calls: &mut Vec<Record>, call: Record, first: u32, last: u32) -> Result<(), AllocError>
+    requires few { length calls.old.items ≤ MOST_CALLS }
+    ensures few { length calls.new.items ≤ MOST_CALLS }
+{
     let tried = calls.len() < MOST_CALLS && first <= call.nr && call.nr <= last;
     if tried && !calls.contains(&call) {
         calls.push(call)?;
