@@ -1,9 +1,9 @@
 -- The filter at a place of a chain, where those before it are passed.
-use Rattle.std.proofs.Common.{◌≡◌, ◌≢◌, ℕ, zero, suc, ◌+◌, ◌<◌, inl, inr, List, [], ◌∷◌, length, drop, slice_get, Some, arith, sym, ap, ◌∙◌}
-use Rattle.std.proofs.lemmas.Bool.{cases_eq}
+use Rattle.std.proofs.Common.{◌≡◌, ◌≢◌, ℕ, zero, suc, ◌+◌, ◌<◌, ◌≤◌, inl, inr, List, [], ◌∷◌, length, drop, slice_get, Some, arith, sym, ap, ◌∙◌}
+use Rattle.std.proofs.lemmas.Bool.{cases_eq, cases_order}
 use Rattle.std.specs.Option.{option_map}
 use Rattle.std.proofs.lemmas.List.{length-drop, drop-drop}
-use Rattle.std.proofs.lemmas.Option.{slice_get-map}
+use Rattle.std.proofs.lemmas.Option.{slice_get-map, slice_get_past}
 use Rattle.sk_insn.specs.declared.insn.Insn.{Insn}
 use Rattle.sk_insn.specs.declared.record.Record.{Record}
 use Rattle.sk_interp.specs.Meaning.{meaning_of}
@@ -48,3 +48,27 @@ answers_at programs call n program left rest value place at next ends =
     slice_get-map (λ insns. meaning_value (meaning_of insns call)) programs n
     ∙ ap (option_map (λ insns. meaning_value (meaning_of insns call))) (is_at programs n program left rest at next)
     ∙ ap Some (ends_with program call value place ends)
+
+-- where nothing is left all are passed
+pub all_passed : {X : Type 0} (xs : List X) (n : ℕ) (left : List X) → left ≡ drop n xs → left ≡ [] → length xs ≤ n
+all_passed xs n left at none =
+    let e = sym at ∙ none in
+    let l = length-drop n xs in
+    let m = ap length e in
+    omega (arith, l, m)
+
+-- where no program up to the last one answers the value none does
+pub none_answers : (programs : List (List Insn)) (call : Record) (value n : ℕ) → length programs ≤ n → IsNotBefore (values_of programs call) value n
+    → (newer : ℕ) → slice_get (values_of programs call) newer ≢ Some value
+none_answers programs call value n past before newer e =
+    elim (cases_order newer n) [
+      | inl same ↦ beyond (omega arith)
+      | inr (inl less) ↦ before newer less e
+      | inr (inr more) ↦ beyond (omega arith)
+    ]
+  where
+    beyond : length programs ≤ newer → ⊥
+    beyond far =
+        let none = slice_get-map (λ insns. meaning_value (meaning_of insns call)) programs newer
+        ∙ ap (option_map (λ insns. meaning_value (meaning_of insns call))) (slice_get_past programs newer far) in
+        cc

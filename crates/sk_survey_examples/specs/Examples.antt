@@ -1,5 +1,5 @@
 -- What a call shows of the verdicts of a chain.
-use Rattle.std.specs.Prelude.{ℕ, ◌≡◌, ◌≢◌, ◌+◌, ◌<◌, ◌≤◌, List, length, slice_get, Some}
+use Rattle.std.specs.Prelude.{ℕ, ◌≡◌, ◌≢◌, ◌+◌, ◌<◌, ◌≤◌, List, [], length, replicate, slice_get, Some}
 use Rattle.sk_insn.specs.declared.insn.Insn.{Insn}
 use Rattle.sk_insn.specs.declared.record.Record.{Record}
 use Rattle.sk_chain.specs.Verdict.{verdict_of, values_of}
@@ -23,3 +23,12 @@ pub record IsExample (programs : List (List Insn)) (first last value : ℕ) (exa
   pub number : (first ≤ example.call.nr) × (example.call.nr ≤ last)
   pub verdict : verdict_of programs example.call ≡ value
   pub source : ComesFrom programs example.call value example.filter example.place
+
+-- the call with this number whose other words are 0
+abbrev pub plain_call : ℕ → Record
+plain_call nr = record { nr = nr; ip = 0; args = replicate 6 0 }
+
+-- a filter is there, the call has one of the numbers, and the verdict on it is the value
+abbrev pub IsShownBy : List (List Insn) → ℕ → ℕ → ℕ → Record → Type 0
+IsShownBy programs first last value call =
+    (programs ≢ []) × (first ≤ call.nr) × (call.nr ≤ last) × (verdict_of programs call ≡ value)

@@ -1,5 +1,6 @@
-ghost use Rattle.std.specs.Prelude.{IfOk, IfSome};
-ghost use Rattle.sk_survey_examples.specs.Examples.{ComesFrom, IsExample};
+ghost use Rattle.std.specs.Prelude.{◌≡◌, ◌≢◌, ℕ, IfOk, IfSome, IfNone, IsSomeAnd, Some, slice_get};
+ghost use Rattle.sk_chain.specs.Verdict.{values_of};
+ghost use Rattle.sk_survey_examples.specs.Examples.{ComesFrom, IsExample, IsShownBy, plain_call};
 
 use crate::tracing::{MOST_CALLS, end_of, push_turns};
 use sk_chain::Chain;
@@ -27,6 +28,8 @@ pub fn find(
     value: u32,
 ) -> Result<Option<Example>, AllocError>
     ensures found { IfOk result (λ found. IfSome found (IsExample chain.now first last value)) }
+    ensures plain { IsShownBy chain.now first last value (plain_call first)
+        → IfOk result (λ found. IsSomeAnd found (λ example. example.call ≡ plain_call first)) }
 {
     let mut calls = Vec::new(alloc);
     calls.push(Record {
@@ -51,6 +54,8 @@ pub fn find(
 // What a call shows, if it is an example.
 fn shown(chain: &Chain, first: u32, last: u32, value: u32, call: Record) -> Option<Example>
     ensures found { IfSome result (IsExample chain.now first last value) }
+    ensures call { IfSome result (λ example. example.call ≡ call) }
+    ensures none { IfNone result (IsShownBy chain.now first last value call → ⊥) }
 {
     if call.nr < first || call.nr > last || chain.verdict(&call) != value {
         return None;
@@ -66,6 +71,7 @@ fn shown(chain: &Chain, first: u32, last: u32, value: u32, call: Record) -> Opti
 // The newest filter that answers the value, and where it ends.
 fn answering(chain: &Chain, call: &Record, value: u32) -> Option<(usize, usize)>
     ensures source { IfSome result (λ found. ComesFrom chain.now call.now value found.0 found.1) }
+    ensures none { IfNone result ((newer : ℕ) → slice_get (values_of chain.now call.now) newer ≢ Some value) }
 {
     let mut older = chain.len();
     for program in chain.programs() {

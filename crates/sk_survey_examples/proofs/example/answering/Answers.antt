@@ -1,11 +1,11 @@
 use Rattle.std.proofs.Common.{◌≡◌, ◌+◌, ◌-◌, length, drop, Some, arith, subst, ap, ◌∙◌}
 use Rattle.sk_chain.specs.Verdict.{values_of}
 use Rattle.sk_survey_examples.specs.Runs.{EndsAt}
-use Rattle.sk_survey_examples.proofs.Answering.{IsNotBefore, is_at, is_within, passed, answers_at, nor_here}
+use Rattle.sk_survey_examples.proofs.Answering.{IsNotBefore, is_at, is_within, passed, all_passed, answers_at, nor_here, none_answers}
 use Rattle.sk_survey_examples.proofs.example.answering.Goals as goal
 
-pub returns-then-end-value : goal.returns-then-end-value
-returns-then-end-value c =
+pub returns-then-end-value-clause-source : goal.returns-then-end-value-clause-source
+returns-then-end-value-clause-source c =
     let programs = c.args.chain.now in
     let call = c.args.call.now in
     let program = c.in-Some.program.now in
@@ -16,9 +16,7 @@ returns-then-end-value c =
     let older = c.loop-program.invariant.older in
     let here = answers_at programs call newer program _ _ _ _ rest next c.end_of-end.ensures.ends in
     let ends = subst (λ value. EndsAt program call value c.end_of-end.result.place) c.if-end-value.true c.end_of-end.ensures.ends in
-    record {
-      source = (newer, omega (arith, within, older), (here ∙ ap Some c.if-end-value.true, c.loop-program.invariant.none), (program, is_at programs newer program _ _ rest next, ends));
-    }
+    (newer, omega (arith, within, older), (here ∙ ap Some c.if-end-value.true, c.loop-program.invariant.none), (program, is_at programs newer program _ _ rest next, ends))
 
 pub loop-program-preserved : goal.loop-program-preserved
 loop-program-preserved c =
@@ -36,3 +34,10 @@ loop-program-preserved c =
       older = omega (arith, older);
       none = subst (IsNotBefore (values_of programs call) c.args.value) more (nor_here (values_of programs call) c.args.value _ newer here c.if-end-value.false c.loop-program.invariant.none);
     }
+
+pub returns-clause-none : goal.returns-clause-none
+returns-clause-none c =
+    let programs = c.args.chain.now in
+    let passed = length programs - c.loop-program.older in
+    let end = all_passed programs passed _ c.loop-program.invariant.rest c.in-None.ensures.steps.0 in
+    none_answers programs c.args.call.now c.args.value passed end c.loop-program.invariant.none
