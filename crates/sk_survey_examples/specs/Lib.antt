@@ -1,1 +1,4 @@
+pub mod Runs
 pub mod Examples
+pub mod ExamplesLaws
+pub mod Tracing

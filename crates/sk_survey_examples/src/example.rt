@@ -1,15 +1,11 @@
-ghost use Rattle.std.specs.Prelude.{◌≡◌, ◌+◌, ℕ, IfOk, IfSome, length, slice_get, Some};
+ghost use Rattle.std.specs.Prelude.{◌≡◌, ◌≢◌, ℕ, IfOk, IfSome, IfNone, IsSomeAnd, Some, slice_get};
 ghost use Rattle.sk_chain.specs.Verdict.{values_of};
-ghost use Rattle.sk_survey_examples.specs.Examples.{IsExample};
+ghost use Rattle.sk_survey_examples.specs.Examples.{ComesFrom, IsExample, IsShownBy, plain_call};
 
-use crate::tracing::{end_of, push_turns};
+use crate::tracing::{MOST_CALLS, end_of, push_turns};
 use sk_chain::Chain;
 use sk_insn::Record;
-use sk_interp::run;
 use std::alloc::{AllocError, Global};
-
-/// How many calls are tried for one value.
-const MOST_CALLS: usize = 512;
 
 /// A call, and where the verdict on it comes from.
 #[derive(Clone, Copy, Debug, PartialEq, Eq)]
@@ -32,6 +28,8 @@ pub fn find(
     value: u32,
 ) -> Result<Option<Example>, AllocError>
     ensures found { IfOk result (λ found. IfSome found (IsExample chain.now first last value)) }
+    ensures plain { IsShownBy chain.now first last value (plain_call first)
+        → IfOk result (λ found. IsSomeAnd found (λ example. example.call ≡ plain_call first)) }
 {
     let mut calls = Vec::new(alloc);
     calls.push(Record {
@@ -56,6 +54,8 @@ pub fn find(
 // What a call shows, if it is an example.
 fn shown(chain: &Chain, first: u32, last: u32, value: u32, call: Record) -> Option<Example>
     ensures found { IfSome result (IsExample chain.now first last value) }
+    ensures call { IfSome result (λ example. example.call ≡ call) }
+    ensures none { IfNone result (IsShownBy chain.now first last value call → ⊥) }
 {
     if call.nr < first || call.nr > last || chain.verdict(&call) != value {
         return None;
@@ -70,14 +70,15 @@ fn shown(chain: &Chain, first: u32, last: u32, value: u32, call: Record) -> Opti
 
 // The newest filter that answers the value, and where it ends.
 fn answering(chain: &Chain, call: &Record, value: u32) -> Option<(usize, usize)>
-    ensures filter { IfSome result (λ found. (newer : ℕ) × (newer + 1 + found.0 ≡ length chain.now)
-        × (slice_get (values_of chain.now call.now) newer ≡ Some value)) }
+    ensures source { IfSome result (λ found. ComesFrom chain.now call.now value found.0 found.1) }
+    ensures none { IfNone result ((newer : ℕ) → slice_get (values_of chain.now call.now) newer ≢ Some value) }
 {
     let mut older = chain.len();
     for program in chain.programs() {
         older -= 1;
-        if run(program, call).value == value {
-            return Some((older, end_of(program, call)));
+        let end = end_of(program, call);
+        if end.value == value {
+            return Some((older, end.place));
         }
     }
     None

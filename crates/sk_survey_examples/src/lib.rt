@@ -2,6 +2,8 @@
 #![tactic(auto)]
 
 mod example;
+mod execution;
+pub mod laws;
 mod origin;
 mod tracing;
 

@@ -1,5 +1,13 @@
-use Rattle.std.proofs.Common.{length, ◌-◌}
+use Rattle.std.proofs.Common.{ℕ, ◌<◌, ◌-◌, length}
+use Rattle.sk_survey_examples.specs.Runs.{ComesTo}
+use Rattle.sk_survey_examples.specs.Tracing.{state_of}
 use Rattle.sk_survey_examples.proofs.tracing.end_of.Given as goal
 
-abbrev pub decreases-loop-place : goal.decreases-loop-place
-decreases-loop-place l = length l.insns - l.place
+abbrev pub invariant-loop-skip : goal.invariant-loop-skip
+invariant-loop-skip l = record {
+  inside : l.place < length l.insns;
+  comes : (steps : ℕ) × ComesTo l.insns l.call steps l.place (state_of l.run);
+}
+
+abbrev pub decreases-loop-skip : goal.decreases-loop-skip
+decreases-loop-skip l = length l.insns - l.place
