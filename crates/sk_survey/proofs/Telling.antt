@@ -1,6 +1,9 @@
 -- Rows that tell, with one more row, or with more numbers in the last one.
-use Rattle.std.proofs.Common.{◌≡◌, ℕ, zero, suc, ◌+◌, ◌≤◌, ◌<◌, ◌⊎◌, inl, inr, List, [], ◌∷◌, ◌++◌, length, Option, Some, slice_get, set, refl, sym, ap, subst, arith, ◌∙◌}
+use Rattle.std.proofs.Common.{◌≡◌, ℕ, zero, suc, ◌+◌, ◌≤◌, ◌<◌, ◌⊎◌, inl, inr, List, [], ◌∷◌, ◌++◌, length, Option, Some, None, true, slice_get, set, refl, sym, ap, subst, arith, ◌∙◌}
+use Rattle.std.specs.Option.{option_eq}
+use Rattle.std.specs.Str.{bytes_eq}
 use Rattle.std.proofs.lemmas.Bool.{cases_lt}
+use Rattle.std.proofs.lemmas.Slice.Eq.{bytes_eq-Decides}
 use Rattle.sk_insn.specs.declared.insn.Insn.{Insn}
 use Rattle.sk_insn.specs.Actions.{allow}
 use Rattle.sk_survey.specs.declared.rows.Row.{Row}
@@ -8,6 +11,14 @@ use Rattle.sk_survey.specs.Answers.{answers_of, ChainAnswersAmong}
 use Rattle.sk_survey.specs.Ends.{MayCome, EachMayCome, AnyMayCome, IsAllowed, IsComingVerdict, OnlyVerdicts}
 use Rattle.sk_survey.specs.Surveys.{Holds, Tell}
 use Rattle.sk_survey.specs.AnswersLaws.{SettledRowIsTheVerdict}
+
+-- ---- the same answers
+
+pub same_told : (values others : Option (List ℕ)) → option_eq bytes_eq values others ≡ true → values ≡ others
+same_told None None e = refl
+same_told None (Some others) e = cc
+same_told (Some values) None e = cc
+same_told (Some values) (Some others) e = ap Some ((bytes_eq-Decides values others).0 e)
 
 -- ---- a range with more numbers
 

@@ -33,6 +33,7 @@ pub(crate) fn add_row(rows: &mut Vec<Row>, alone: &[u32], row: Row) -> Result<()
 }
 
 /// Whether the last of the rows tells the same as this one, and neither stands alone.
+#[tactic(auto, using(crate::proofs::Telling::same_told))]
 fn continues(rows: &[Row], alone: &[u32], row: &Row) -> bool
     ensures some { IsTrue result → 0 < length rows.now }
     ensures same { IsTrue result → (before : Row) → slice_get rows.now (length rows.now - 1) ≡ Some before
