@@ -1,4 +1,6 @@
-ghost use Rattle.std.specs.Prelude.{◌≡◌, ℕ, ◌⊎◌, IsOk, IfOk, IsTrue, [], ◌∷◌, Some};
+ghost use Rattle.std.specs.Prelude.{◌≡◌, ℕ, ◌⊎◌, IsOk, IfOk, [], ◌∷◌, Some};
+ghost use Rattle.std.specs.Option.{option_eq};
+ghost use Rattle.std.specs.Str.{bytes_eq};
 ghost use Rattle.sk_insn.specs.declared.record.Record.{Record};
 ghost use Rattle.sk_chain.specs.Choosing.{chosen};
 ghost use Rattle.sk_survey.specs.Answers.{answers_of, IsAmong, AreRising};
@@ -81,8 +83,8 @@ impl Answers {
     }
 
     /// Whether both are the same values.
-    pub(crate) fn same(&self, other: &Answers) -> bool
-        ensures { IsTrue result → answers_of self.now ≡ answers_of other.now }
+    pub fn same(&self, other: &Answers) -> bool
+        ensures exact { result ≡ option_eq bytes_eq (answers_of self.now) (answers_of other.now) }
     {
         match (self, other) {
             (Answers::Any, Answers::Any) => true,

@@ -1,8 +1,8 @@
 ghost use Rattle.std.specs.Prelude.{◌≡◌, ℕ, ◌+◌, ◌-◌, ◌<◌, ◌≤◌, ◌↔◌, List, [], ◌∷◌, length, slice_get, Some, OnOk, IsTrue};
 ghost use Rattle.std.specs.List.{Contains};
 ghost use Rattle.sk_insn.specs.declared.insn.Insn.{Insn};
-ghost use Rattle.sk_survey.specs.Answers.{answers_of, ChainAnswersAmong};
-ghost use Rattle.sk_survey.specs.Surveys.{Tell, StandAlone};
+ghost use Rattle.sk_survey.specs.Answers.{answers_of};
+ghost use Rattle.sk_survey.specs.Surveys.{Holds, Tell, StandAlone};
 ghost use Rattle.sk_survey.specs.declared.rows.Row.{Row};
 
 use crate::answers::Answers;
@@ -19,8 +19,7 @@ pub struct Row {
 /// Adds a row behind the others, or its numbers to the last one where that tells the same and neither stands alone.
 pub(crate) fn add_row(rows: &mut Vec<Row>, alone: &[u32], row: Row) -> Result<(), AllocError>
     ensures told { OnOk result ((programs : List (List Insn)) (from : ℕ) → Tell programs from row.first rows.old.items
-        → row.first ≤ row.last → ChainAnswersAmong programs row.first row.last (answers_of row.answers)
-        → Tell programs from (row.last + 1) rows.new.items) }
+        → row.first ≤ row.last → Holds programs row → Tell programs from (row.last + 1) rows.new.items) }
     ensures alone { OnOk result ((programs : List (List Insn)) (from : ℕ) → Tell programs from row.first rows.old.items
         → StandAlone alone.now rows.old.items → StandAlone alone.now (row ∷ []) → StandAlone alone.now rows.new.items) }
 {
@@ -34,6 +33,7 @@ pub(crate) fn add_row(rows: &mut Vec<Row>, alone: &[u32], row: Row) -> Result<()
 }
 
 /// Whether the last of the rows tells the same as this one, and neither stands alone.
+#[tactic(auto, using(crate::proofs::Telling::same_told))]
 fn continues(rows: &[Row], alone: &[u32], row: &Row) -> bool
     ensures some { IsTrue result → 0 < length rows.now }
     ensures same { IsTrue result → (before : Row) → slice_get rows.now (length rows.now - 1) ≡ Some before

@@ -7,7 +7,7 @@ use Rattle.sk_survey.proofs.rows.add_row.Goals as goal
 
 pub returns-then-continues-clause-told : goal.returns-then-continues-clause-told
 returns-then-continues-clause-told c =
-    λ programs from told rises among.
+    λ programs from told rises holds.
     let items = c.args.rows.now.items in
     let n = c.len-latest.result - 1 in
     let before = c.index_mut.result.now in
@@ -19,7 +19,7 @@ returns-then-continues-clause-told c =
     let up : n + 1 ≡ length items = omega arith in
     let e : n ≡ length items - 1 = omega arith in
     let here : slice_get items n ≡ Some before = slice_get_read items (length items) n before refl (omega arith) c.index_mut.ensures.value in
-    tell_longer programs items n from c.args.row before up here (same before (subst (λ k. slice_get items k ≡ Some before) e here)) told rises among
+    tell_longer programs items n from c.args.row before up here (same before (subst (λ k. slice_get items k ≡ Some before) e here)) told rises holds
 
 pub returns-then-continues-clause-alone : goal.returns-then-continues-clause-alone
 returns-then-continues-clause-alone c =
@@ -40,9 +40,9 @@ returns-then-continues-clause-alone c =
 
 pub returns-in_ok-push-clause-told : goal.returns-in_ok-push-clause-told
 returns-in_ok-push-clause-told c =
-    λ programs from told rises among.
+    λ programs from told rises holds.
     subst (Tell programs from (c.args.row.last + 1)) (sym c.in_ok-push.ensures.items)
-    (tell_more programs c.args.rows.now.items from c.args.row told rises among)
+    (tell_more programs c.args.rows.now.items from c.args.row told rises holds)
 
 pub returns-in_ok-push-clause-alone : goal.returns-in_ok-push-clause-alone
 returns-in_ok-push-clause-alone c =

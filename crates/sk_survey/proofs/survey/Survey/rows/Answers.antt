@@ -3,7 +3,7 @@ use Rattle.std.specs.List.{All}
 use Rattle.std.specs.List.Sorted.{IsNonDecreasing}
 use Rattle.sk_survey.specs.declared.rows.Row.{Row}
 use Rattle.sk_survey.specs.Cutting.{IsCutRound}
-use Rattle.sk_survey.specs.Surveys.{Tell}
+use Rattle.sk_survey.specs.Surveys.{Holds, Tell}
 use Rattle.sk_survey.proofs.Cutting.{alone_before, alone_behind, passed_more}
 use Rattle.sk_survey.proofs.survey.Survey.rows.Goals as goal
 use Rattle.sk_survey.proofs.survey.Survey.rows.Goals.{then-first-cut+in_ok-answers+in_ok-add_row, else-first-cut}
@@ -26,9 +26,11 @@ loop-cut-preserved c =
           let less = w.if-first-cut.true in
           let row : Row = record { first = first; last = cut - 1; answers = w.in_ok-answers.answers } in
           let next : cut - 1 + 1 ≡ cut = omega arith in
+          let told = w.in_ok-answers.ensures in
+          let holds : Holds chain row = record { among = told.among; only = told.only; settled = told.settled } in
           rw (w.rows-is, w.first-is) (record {
             told = subst (λ (n : ℕ). Tell chain 0 n w.add_row.new.rows.items) next
-                (w.in_ok-add_row.ensures.told chain 0 so_far.told (omega arith) w.in_ok-answers.ensures.among);
+                (w.in_ok-add_row.ensures.told chain 0 so_far.told (omega arith) holds);
             fits = omega arith;
             passed = passed_more items i first cut so_far.passed (omega arith) (omega arith);
             alone = w.in_ok-add_row.ensures.alone chain 0 so_far.told so_far.alone
@@ -42,12 +44,17 @@ loop-cut-preserved c =
       })
     ]
 
+pub returns-clause-survey : goal.returns-clause-survey
+returns-clause-survey c =
+    let told = c.in_ok-answers-2.ensures in
+    c.in_ok-add_row-2.ensures.told c.args.chain.now 0 c.loop-cut.invariant.told (omega arith)
+    (record { among = told.among; only = told.only; settled = told.settled })
+
 pub returns-clause-alone : goal.returns-clause-alone
 returns-clause-alone c =
     let alone = c.args.alone.now in
     let items = c.deref-cut-items.result.now in
     let so_far = c.loop-cut.invariant in
-    let row : Row = record { first = c.loop-cut.first; last = 4294967295; answers = c.in_ok-answers-2.answers } in
     let round = subst (λ (cuts : List ℕ). All (IsCutRound cuts) alone) (sym c.deref-cut-items.ensures.value) c.in_ok-cuts.ensures.alone in
     c.in_ok-add_row-2.ensures.alone c.args.chain.now 0 so_far.told so_far.alone
-    (alone_behind items alone row c.loop-cut.cut-index round c.loop-cut-test.false so_far.passed (omega arith))
+    (alone_behind items alone _ c.loop-cut.cut-index round c.loop-cut-test.false so_far.passed (omega arith))
