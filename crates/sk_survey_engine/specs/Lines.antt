@@ -1,11 +1,11 @@
 -- What the lines of a survey say of the chains.
-use Rattle.std.specs.Prelude.{ℕ, ◌≡◌, ◌+◌, ◌^◌, Bool, true, false, is_some, IsTrue, List, [], map, Option, Some, None, IfSome}
+use Rattle.std.specs.Prelude.{ℕ, ◌≡◌, ◌+◌, ◌^◌, ◌≤◌, Bool, true, false, is_some, IsTrue, List, [], map, Option, Some, None, IfSome}
 use Rattle.std.specs.List.{All}
 use Rattle.sk_insn.specs.declared.insn.Insn.{Insn}
 use Rattle.sk_call_names.specs.Names.{name_of}
 use Rattle.sk_survey.specs.declared.rows.Row.{Row}
 use Rattle.sk_survey.specs.Answers.{ChainAnswersAmong, answers_of}
-use Rattle.sk_survey.specs.Surveys.{Tell, TellsAlone}
+use Rattle.sk_survey.specs.Surveys.{Holds, Tell, TellsAlone}
 use Rattle.sk_survey_examples.specs.Examples.{IsExample}
 use Rattle.sk_survey_engine.specs.declared.line.Line.{Line}
 use Rattle.sk_survey_engine.specs.declared.line.Shown.{Shown}
@@ -39,18 +39,27 @@ pub record Shows (programs : List (List Insn)) (examples : Bool) (row : Row) (sh
   pub values : map (λ it. it.value) shown ≡ wanted_values examples (answers_of row.answers)
   pub found : All (IsShown programs row) shown
 
--- a row holds of its numbers
-abbrev pub Holds : List (List Insn) → Row → Type 0
-Holds programs row = ChainAnswersAmong programs row.first row.last (answers_of row.answers)
-
--- one line of a chain
-pub record IsLineOf (programs : List (List Insn)) (examples : Bool) (line : Line) : Type 0 where
-  pub answers : Holds programs line.row
-  pub shows : Shows programs examples line.row line.shown.items
-
 -- a row that tells a number with a name tells no other
 abbrev pub TellsNamedAlone : Row → Type 0
 TellsNamedAlone row = (nr : ℕ) → IsTrue (is_some (name_of nr)) → TellsAlone nr row
+
+-- a row of what a chain answers
+abbrev pub IsRowOf : List (List Insn) → Row → Type 0
+IsRowOf programs row = Holds programs row × TellsNamedAlone row
+
+-- some of the numbers of another row, with its values
+pub record IsPartOf (whole row : Row) : Type 0 where
+  pub begins : whole.first ≤ row.first
+  pub ends : row.last ≤ whole.last
+  pub values : answers_of row.answers ≡ answers_of whole.answers
+
+-- one line of a chain: the verdict is one of those that it tells, and it is a part of a row that holds
+pub record IsLineOf (programs : List (List Insn)) (examples : Bool) (line : Line) : Type 0 where
+  pub among : ChainAnswersAmong programs line.row.first line.row.last (answers_of line.row.answers)
+  pub whole : Row
+  pub holds : IsRowOf programs whole
+  pub part : IsPartOf whole line.row
+  pub shows : Shows programs examples line.row line.shown.items
 
 -- the lines of one chain: their rows tell all numbers that are wanted, and those with a name each alone
 pub record AreLinesOf (options : Options) (programs : List (List Insn)) (lines : List Line) : Type 0 where

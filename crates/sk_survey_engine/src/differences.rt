@@ -2,8 +2,8 @@
 ghost use Rattle.std.specs.Prelude.{◌≡◌, ◌≤◌, ◌++◌, map, flat_map, IfOk, OnOk};
 ghost use Rattle.std.specs.List.{All};
 ghost use Rattle.sk_survey.specs.Answers.{answers_of};
-ghost use Rattle.sk_survey_engine.specs.Lines.{Holds, IsLineOf, IsLineOfEither};
-ghost use Rattle.sk_survey_engine.specs.Differences.{told_of, same_values, piece, pieces, AreDifferences};
+ghost use Rattle.sk_survey_engine.specs.Lines.{IsRowOf, IsLineOf, IsLineOfEither};
+ghost use Rattle.sk_survey_engine.specs.Differences.{told_of, piece, pieces, AreDifferences};
 
 use crate::line::{Line, Sign};
 use crate::lines::{rows_of, shown_of};
@@ -48,8 +48,8 @@ fn push_all_pieces(
     second: &Chain,
     others: &[Row],
 ) -> Result<(), AllocError>
-    requires rows { All (Holds first.now) rows.now }
-    requires others { All (Holds second.now) others.now }
+    requires rows { All (IsRowOf first.now) rows.now }
+    requires others { All (IsRowOf second.now) others.now }
     ensures told { OnOk result (map told_of lines.new.items ≡ map told_of lines.old.items ++ pieces rows.now others.now) }
     ensures lines { OnOk result (All (IsLineOfEither examples first.now second.now) lines.old.items
         → All (IsLineOfEither examples first.now second.now) lines.new.items) }
@@ -70,8 +70,8 @@ fn push_pieces(
     second: &Chain,
     others: &[Row],
 ) -> Result<(), AllocError>
-    requires row { Holds first.now row.now }
-    requires others { All (Holds second.now) others.now }
+    requires row { IsRowOf first.now row.now }
+    requires others { All (IsRowOf second.now) others.now }
     ensures told { OnOk result (map told_of lines.new.items ≡ map told_of lines.old.items ++ flat_map (piece row.now) others.now) }
     ensures lines { OnOk result (All (IsLineOfEither examples first.now second.now) lines.old.items
         → All (IsLineOfEither examples first.now second.now) lines.new.items) }
@@ -93,30 +93,19 @@ fn push_piece(
     second: &Chain,
     other: &Row,
 ) -> Result<(), AllocError>
-    requires row { Holds first.now row.now }
-    requires other { Holds second.now other.now }
+    requires row { IsRowOf first.now row.now }
+    requires other { IsRowOf second.now other.now }
     ensures told { OnOk result (map told_of lines.new.items ≡ map told_of lines.old.items ++ piece row.now other.now) }
     ensures lines { OnOk result (All (IsLineOfEither examples first.now second.now) lines.old.items
         → All (IsLineOfEither examples first.now second.now) lines.new.items) }
 {
     let from = max(row.first, other.first);
     let to = min(row.last, other.last);
-    if from <= to && !is_same(&row.answers, &other.answers) {
+    if from <= to && !row.answers.same(&other.answers) {
         lines.push(line(alloc, Sign::First, examples, first, row, from, to)?)?;
         lines.push(line(alloc, Sign::Second, examples, second, other, from, to)?)?;
     }
     Ok(())
-}
-
-// Whether these are the same values.
-fn is_same(answers: &Answers, others: &Answers) -> bool
-    ensures same { result ≡ same_values (answers_of answers.now) (answers_of others.now) }
-{
-    match (answers, others) {
-        (Answers::Any, Answers::Any) => true,
-        (Answers::Among(values), Answers::Among(others)) => values.as_slice() == others.as_slice(),
-        _ => false,
-    }
 }
 
 // The line of some numbers of a row.
@@ -129,7 +118,7 @@ fn line(
     first: u32,
     last: u32,
 ) -> Result<Line, AllocError>
-    requires row { Holds chain.now row.now }
+    requires row { IsRowOf chain.now row.now }
     requires lower { row.now.first ≤ first }
     requires upper { last ≤ row.now.last }
     ensures told { IfOk result (λ line. told_of line ≡

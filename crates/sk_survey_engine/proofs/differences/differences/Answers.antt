@@ -1,20 +1,20 @@
 use Rattle.std.proofs.Common.{sym, subst}
 use Rattle.std.specs.List.{All}
 use Rattle.std.proofs.lemmas.List.Elements.{All-nil}
-use Rattle.sk_survey_engine.specs.Lines.{Holds, IsLineOfEither}
-use Rattle.sk_survey_engine.proofs.Holding.{rows_hold}
+use Rattle.sk_survey_engine.specs.Lines.{IsRowOf, IsLineOfEither}
+use Rattle.sk_survey_engine.proofs.Holding.{all_rows}
 use Rattle.sk_survey_engine.proofs.Named.{told_alone}
 use Rattle.sk_survey_engine.proofs.differences.differences.Goals as goal
 
 pub push_all_pieces-requires-clause-rows : goal.push_all_pieces-requires-clause-rows
 push_all_pieces-requires-clause-rows c =
-    subst (All (Holds c.args.first.now)) (sym c.deref.ensures.value)
-    (rows_hold c.args.first.now _ _ c.in_ok-rows.rows.items c.in_ok-rows.ensures.rows)
+    subst (All (IsRowOf c.args.first.now)) (sym c.deref.ensures.value)
+    (all_rows c.args.first.now _ _ c.in_ok-rows.rows.items c.in_ok-rows.ensures.rows c.in_ok-rows.ensures.alone)
 
 pub push_all_pieces-requires-clause-others : goal.push_all_pieces-requires-clause-others
 push_all_pieces-requires-clause-others c =
-    subst (All (Holds c.args.second.now)) (sym c.deref-2.ensures.value)
-    (rows_hold c.args.second.now _ _ c.in_ok-others.others.items c.in_ok-others.ensures.rows)
+    subst (All (IsRowOf c.args.second.now)) (sym c.deref-2.ensures.value)
+    (all_rows c.args.second.now _ _ c.in_ok-others.others.items c.in_ok-others.ensures.rows c.in_ok-others.ensures.alone)
 
 pub returns : goal.returns
 returns c =
