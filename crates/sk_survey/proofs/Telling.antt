@@ -82,6 +82,7 @@ holds_both programs before row rises next rises' same one other = record {
   only = only_both programs before.first before.last row.last (answers_of before.answers) (omega arith) one.only
       (subst (λ n. OnlyVerdicts programs n row.last (answers_of before.answers)) (sym next)
       (subst (OnlyVerdicts programs row.first row.last) (sym same) other.only));
+  rising = one.rising;
   settled = λ alone. absurd (omega arith);
 }
 

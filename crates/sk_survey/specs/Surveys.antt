@@ -3,14 +3,16 @@ use Rattle.std.specs.Prelude.{ℕ, ◌≡◌, ◌+◌, ◌^◌, ◌≤◌, ◌<�
 use Rattle.std.specs.List.{All}
 use Rattle.sk_insn.specs.declared.insn.Insn.{Insn}
 use Rattle.sk_survey.specs.declared.rows.Row.{Row}
-use Rattle.sk_survey.specs.Answers.{ChainAnswersAmong, answers_of}
+use Rattle.sk_survey.specs.Answers.{ChainAnswersAmong, AreRising, answers_of}
 use Rattle.sk_survey.specs.Ends.{OnlyVerdicts}
 use Rattle.sk_survey.specs.Settling.{AllSettle, TellsOne}
 
--- a row holds of its numbers: the verdict is one of those that it tells, whatever the arguments are; it tells no other
--- than may come, and one alone where each filter answers the one number without its arguments
+-- a row holds of its numbers: the verdict is one of those that it tells, whatever the arguments are; those rise, so that
+-- the one that takes precedence stands first; it tells no other than may come, and one alone where each filter answers
+-- the one number without its arguments
 pub record Holds (programs : List (List Insn)) (row : Row) : Type 0 where
   pub among : ChainAnswersAmong programs row.first row.last (answers_of row.answers)
+  pub rising : AreRising (answers_of row.answers)
   pub only : OnlyVerdicts programs row.first row.last (answers_of row.answers)
   pub settled : row.first ≡ row.last → AllSettle programs row.first → TellsOne (answers_of row.answers)
 

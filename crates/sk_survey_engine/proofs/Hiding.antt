@@ -7,7 +7,7 @@ use Rattle.std.proofs.lemmas.List.Elements.{All-head, All-tail}
 use Rattle.std.proofs.lemmas.List.Sums.{AllPass-from_list_all}
 use Rattle.sk_call_names.specs.declared.names.TheConstants.{EARLY, LATE}
 use Rattle.sk_call_names.specs.Names.{name_of}
-use Rattle.sk_survey.specs.Answers.{answers_of}
+use Rattle.sk_survey.specs.Answers.{AreRising, answers_of}
 use Rattle.sk_survey.specs.Ends.{OnlyVerdicts}
 use Rattle.sk_survey.specs.Settling.{AllSettle, TellsOne}
 use Rattle.sk_survey_engine.specs.Lines.{TellsNamedAlone}
@@ -66,6 +66,7 @@ named_holds programs examples line nr it named low high =
     let holds = it.holds.0 in
     record {
       among = it.among;
+      rising = subst AreRising (sym part.values) holds.rising;
       only = subst (λ values. OnlyVerdicts programs line.row.first line.row.last values) (sym part.values)
           (subst (λ n. OnlyVerdicts programs n line.row.last (answers_of it.whole.answers)) first
           (subst (λ n. OnlyVerdicts programs it.whole.first n (answers_of it.whole.answers)) last holds.only));

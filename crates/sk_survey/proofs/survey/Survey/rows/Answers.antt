@@ -27,7 +27,7 @@ loop-cut-preserved c =
           let row : Row = record { first = first; last = cut - 1; answers = w.in_ok-answers.answers } in
           let next : cut - 1 + 1 ≡ cut = omega arith in
           let told = w.in_ok-answers.ensures in
-          let holds : Holds chain row = record { among = told.among; only = told.only; settled = told.settled } in
+          let holds : Holds chain row = record { among = told.among; rising = told.rising; only = told.only; settled = told.settled } in
           rw (w.rows-is, w.first-is) (record {
             told = subst (λ (n : ℕ). Tell chain 0 n w.add_row.new.rows.items) next
                 (w.in_ok-add_row.ensures.told chain 0 so_far.told (omega arith) holds);
@@ -48,7 +48,7 @@ pub returns-clause-survey : goal.returns-clause-survey
 returns-clause-survey c =
     let told = c.in_ok-answers-2.ensures in
     c.in_ok-add_row-2.ensures.told c.args.chain.now 0 c.loop-cut.invariant.told (omega arith)
-    (record { among = told.among; only = told.only; settled = told.settled })
+    (record { among = told.among; rising = told.rising; only = told.only; settled = told.settled })
 
 pub returns-clause-alone : goal.returns-clause-alone
 returns-clause-alone c =
