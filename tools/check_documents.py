@@ -9,6 +9,7 @@ import subprocess
 import sys
 
 ROOT = os.path.dirname(os.path.dirname(os.path.abspath(__file__)))
+EXPORT = "examples/exports/unix-sockets.bpf"
 COMMANDS = {"run", "check", "eval", "asm", "list"}
 # A rule is said where it is used, in words: no number of a paper stands in for it.
 CITED = re.compile(r"\b(T[1-5]|D([1-9]|1[0-9]|2[01])|W([1-9]|1[0-9]|2[0-7])|R([1-9]|1[0-6])|row [0-9]+)\b|[Dd]ocument 0[0-9]|0[1-4]-(scope|theorems|requests|tables)")
@@ -91,6 +92,16 @@ def examples(document, text):
             judge(problems, f"{document}: example")
 
 
+def examples_of_a_file(document, text):
+    """Each command of a sh block with the word FILE, on a filter that libseccomp exported: it does not fail."""
+    for line in "".join(blocks(text, "sh")).splitlines():
+        if re.search(r"\bFILE\b", line):
+            command = "set -o pipefail; " + re.sub(r"\bFILE\b", EXPORT, line)
+            ran = subprocess.run(["bash", "-c", command], cwd=ROOT, stdin=subprocess.DEVNULL, capture_output=True, text=True, timeout=3000)
+            problems = [f"`{line}` ends with status {ran.returncode}\n{ran.stderr[-400:]}"] if ran.returncode or not ran.stdout else []
+            judge(problems, f"{document}: example")
+
+
 def main():
     paths = tracked()
     judge(list(citations(paths)), "the repository stands alone")
@@ -102,6 +113,7 @@ def main():
         judge(list(paths_named(document, text, paths)), "paths")
         judge(list(commands_named(document, text)), "commands")
         examples(document, text)
+        examples_of_a_file(document, text)
     print(f"{results['passed']} passed, {results['failed']} failed")
     return 1 if results["failed"] else 0
 
