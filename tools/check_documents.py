@@ -5,8 +5,11 @@ documents name is there, and that each example in them prints what they say.
 Prints each problem, and at last 'N passed, M failed'."""
 import os
 import re
+import shutil
 import subprocess
 import sys
+import tempfile
+import time
 
 ROOT = os.path.dirname(os.path.dirname(os.path.abspath(__file__)))
 EXPORT = "examples/exports/unix-sockets.bpf"
@@ -92,14 +95,52 @@ def examples(document, text):
             judge(problems, f"{document}: example")
 
 
-def examples_of_a_file(document, text):
-    """Each command of a sh block with the word FILE, on a filter that libseccomp exported: it does not fail."""
-    for line in "".join(blocks(text, "sh")).splitlines():
-        if re.search(r"\bFILE\b", line):
-            command = "set -o pipefail; " + re.sub(r"\bFILE\b", EXPORT, line)
-            ran = subprocess.run(["bash", "-c", command], cwd=ROOT, stdin=subprocess.DEVNULL, capture_output=True, text=True, timeout=3000)
-            problems = [f"`{line}` ends with status {ran.returncode}\n{ran.stderr[-400:]}"] if ran.returncode or not ran.stdout else []
-            judge(problems, f"{document}: example")
+def ends_well(document, said, command, folder=ROOT):
+    """Whether a command ends with status 0 and prints something. One that lacks the privilege is told, and not counted."""
+    ran = subprocess.run(["bash", "-c", f"set -eo pipefail; {command}"], cwd=folder, stdin=subprocess.DEVNULL, capture_output=True, text=True, timeout=3000)
+    if "Operation not permitted" in ran.stderr:
+        print(f"{document}: not tried, for want of privilege: `{said}`")
+        return
+    problems = [f"`{said}` ends with status {ran.returncode}\n{ran.stdout[-400:]}{ran.stderr[-400:]}"] if ran.returncode or not ran.stdout else []
+    judge(problems, f"{document}: command")
+
+
+def beside_a_process(document, line):
+    """A command with the word PID, on a process that has attached a filter."""
+    with tempfile.TemporaryFile("w+") as lines:
+        subprocess.run(["examples/filter", "examples/filters/docker-default-linear.hex"], cwd=ROOT, stdout=lines, check=True)
+        lines.seek(0)
+        with subprocess.Popen(["examples/attach", "sleep", "100"], cwd=ROOT, stdin=lines) as process:
+            time.sleep(1)
+            command = line if shutil.which("sudo") and os.geteuid() else line.replace("sudo ", "")
+            ends_well(document, line, re.sub(r"\bPID\b", str(process.pid), command))
+            process.kill()
+
+
+def on_a_copy(document, block, paths):
+    """The commands of the prover, on a copy of the crates, since they write into them."""
+    with tempfile.TemporaryDirectory() as copy:
+        for path in paths:
+            if path.startswith("crates") or path == "HANDLES":
+                os.makedirs(os.path.dirname(os.path.join(copy, path)), exist_ok=True)
+                shutil.copy(os.path.join(ROOT, path), os.path.join(copy, path))
+        ends_well(document, block.rstrip(), block, copy)
+
+
+def commands_run(document, text, paths):
+    """Runs each command of a sh block: with the word FILE on a filter that libseccomp exported, with the word PID on a
+    process that has attached one, measurements in one turn of the programs that are built; but not this gate itself."""
+    for block in blocks(text, "sh"):
+        if re.search(r"^rt |&& rt ", block, re.M):
+            on_a_copy(document, block, paths)
+            continue
+        for line in block.splitlines():
+            if re.search(r"\bPID\b", line):
+                beside_a_process(document, line)
+            elif line == "./bench/run":
+                ends_well(document, line, "./bench/run --as-built --turns 1")
+            elif line != "./gate":
+                ends_well(document, line, re.sub(r"\bFILE\b", EXPORT, line))
 
 
 def main():
@@ -113,7 +154,7 @@ def main():
         judge(list(paths_named(document, text, paths)), "paths")
         judge(list(commands_named(document, text)), "commands")
         examples(document, text)
-        examples_of_a_file(document, text)
+        commands_run(document, text, paths)
     print(f"{results['passed']} passed, {results['failed']} failed")
     return 1 if results["failed"] else 0
 

@@ -1,5 +1,5 @@
 ghost use Rattle.std.specs.Prelude.{◌≡◌, ◌≢◌, ◌==◌, not, if◌then◌else◌, length, IsTrue, IfSome};
-ghost use Rattle.sk_signal.specs.declared.number.TheConstants.{SIGSYS};
+ghost use Rattle.sk_signal.specs.declared.number.TheConstants.{SIGSEGV, SIGSYS};
 ghost use Rattle.sk_signal.specs.declared.state.TheConstants.{FRAMES};
 ghost use Rattle.sk_signal.specs.declared.disposition.DefaultAction.TheVariants as action;
 ghost use Rattle.sk_signal.specs.SignalSet.{IsSignal};
@@ -90,7 +90,7 @@ fn terminate<S: ProcStore>(store: &mut S, pid: u32, signal: u8) -> Effect
     Effect::Ended(status)
 }
 
-/// Begins a handler of the signal. SIGSEGV ends a process that has no room for one more frame.
+/// Begins a handler of the signal, or ends a process that has no room for one more frame.
 fn enter_handler<S: ProcStore>(
     store: &mut S,
     pid: u32,
@@ -112,8 +112,19 @@ fn enter_handler<S: ProcStore>(
             interrupted,
         }
     } else {
-        terminate(store, pid, SIGSEGV)
+        overflow(store, pid)
     }
+}
+
+/// Ends a process that has no room for one more frame.
+fn overflow<S: ProcStore>(store: &mut S, pid: u32) -> Effect
+    requires rules { IsWorld (S.contents store.old) }
+    requires alive { IsTrue (is_alive (at (S.contents store.old) pid)) }
+    ensures answer { result ≡ Ended SIGSEGV }
+    ensures world { S.contents store.new ≡ ended_and_hung_up (S.contents store.old) pid SIGSEGV }
+    ensures rules { IsWorld (S.contents store.new) }
+{
+    terminate(store, pid, SIGSEGV)
 }
 
 fn is_in_call<S: ProcStore>(store: &S, pid: u32) -> bool

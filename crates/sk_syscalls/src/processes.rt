@@ -34,7 +34,7 @@ pub(crate) fn fork<S: ProcStore>(store: &mut S, pid: u32) -> Result<Outcome, All
     Ok(returned(sk_world::fork(store, pid)?))
 }
 
-/// exit(2), and exit_group(2), as a process has one thread. Of the code the low 8 bits are told.
+/// exit(2), and exit_group(2), as a process has one thread. Of the code the low 8 bits are told: wait(2).
 pub(crate) fn exit<S: ProcStore>(store: &mut S, pid: u32, call: &Record) -> Outcome
     requires rules { IsWorld (S.contents store.old) }
     requires alive { IsTrue (is_alive (at (S.contents store.old) pid)) }
@@ -42,9 +42,15 @@ pub(crate) fn exit<S: ProcStore>(store: &mut S, pid: u32, call: &Record) -> Outc
         (λ w body. end_of_caller w pid (exit_status (low call.now 0))) result (S.contents store.new) }
     ensures rules { IsWorld (S.contents store.new) }
 {
-    let status = low(call, 0) % 256 * 256;
+    let status = exit_status(low(call, 0));
     sk_session::end(store, pid, status);
     Outcome::Ended(status)
+}
+
+fn exit_status(code: u32) -> u32
+    ensures { result ≡ exit_status code }
+{
+    code % 256 * 256
 }
 
 /// pause(2). It ends by a signal alone.
