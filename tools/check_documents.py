@@ -4,6 +4,7 @@ documents name is there, and that each example in them prints what they say.
 
 Prints each problem, and at last 'N passed, M failed'."""
 import os
+import pathlib
 import re
 import shutil
 import subprocess
@@ -111,7 +112,9 @@ def beside_a_process(document, line):
         subprocess.run(["examples/filter", "examples/filters/docker-default-linear.hex"], cwd=ROOT, stdout=lines, check=True)
         lines.seek(0)
         with subprocess.Popen(["examples/attach", "sleep", "100"], cwd=ROOT, stdin=lines) as process:
-            time.sleep(1)
+            status = pathlib.Path(f"/proc/{process.pid}/status")
+            while process.poll() is None and "Seccomp:\t2" not in status.read_text():
+                time.sleep(0.1)
             command = line if shutil.which("sudo") and os.geteuid() else line.replace("sudo ", "")
             ends_well(document, line, re.sub(r"\bPID\b", str(process.pid), command))
             process.kill()
