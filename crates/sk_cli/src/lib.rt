@@ -5,6 +5,3 @@ mod cli;
 
 pub use cli::command;
 pub use sk_engines::{CommandFault, FAILED, failed, finish, words_of};
-
-#[cfg(test)]
-mod tests;

@@ -1,4 +1,5 @@
-use crate::insns::{ALLOW, ja, jeq, ldabs, ldimm, ldmem, ret, reta, st, tax, with_k};
+use crate::filters::refuses_getppid;
+use crate::insns::{ALLOW, divx, ja, jeq, ldabs, ldimm, ldmem, ldximm, ret, reta, st, tax, with_k};
 use sk_check::{CheckFault, check};
 use sk_insn::Insn;
 use std::alloc::{AllocError, Global};
@@ -16,17 +17,12 @@ fn outcome(alloc: Global, program: &[Insn]) -> Result<Result<usize, CheckFault>,
 
 #[test]
 fn single_instructions(rt: HostRuntime) -> Result<(), Fail> {
+    let refuses_getppid = refuses_getppid();
     let rows: [(&[Insn], Result<usize, CheckFault>); 16] = [
         (&[], Err(CheckFault::Empty)),
         (&[ret(ALLOW)], Ok(1)),
-        (
-            &[ldabs(0), jeq(110, 0, 1), ret(0x0005_0001), ret(ALLOW)],
-            Ok(4),
-        ),
-        (
-            &[with_k(0x01, 0), ldimm(5), with_k(0x3c, 0), ret(ALLOW)],
-            Ok(4),
-        ),
+        (&refuses_getppid, Ok(4)),
+        (&[ldximm(0), ldimm(5), divx(), ret(ALLOW)], Ok(4)),
         (
             &[with_k(0x30, 0), ret(ALLOW)],
             Err(CheckFault::Code { at: 0 }),
@@ -58,8 +54,21 @@ fn single_instructions(rt: HostRuntime) -> Result<(), Fail> {
     Ok(())
 }
 
+fn stored_on_both_paths() -> [Insn; 7] {
+    [
+        ldabs(0),
+        jeq(39, 0, 2),
+        st(4),
+        ja(1),
+        st(4),
+        ldmem(4),
+        reta(),
+    ]
+}
+
 #[test]
 fn scratch_words(rt: HostRuntime) -> Result<(), Fail> {
+    let stored_on_both_paths = stored_on_both_paths();
     let rows: [(&[Insn], Result<usize, CheckFault>); 11] = [
         (&[st(4), ret(ALLOW)], Ok(2)),
         (&[with_k(0x03, 15), ldmem(15), reta()], Ok(3)),
@@ -67,18 +76,7 @@ fn scratch_words(rt: HostRuntime) -> Result<(), Fail> {
             &[ldabs(0), jeq(39, 0, 1), st(4), ldmem(4), reta()],
             Err(CheckFault::Unstored { at: 3, word: 4 }),
         ),
-        (
-            &[
-                ldabs(0),
-                jeq(39, 0, 2),
-                st(4),
-                ja(1),
-                st(4),
-                ldmem(4),
-                reta(),
-            ],
-            Ok(7),
-        ),
+        (&stored_on_both_paths, Ok(7)),
         (
             &[ldimm(1), jeq(1, 0, 1), st(0), ldmem(0), reta()],
             Err(CheckFault::Unstored { at: 3, word: 0 }),

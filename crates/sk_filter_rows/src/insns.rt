@@ -4,6 +4,9 @@ use sk_insn::Insn;
 /// The action that lets a call through.
 pub(crate) const ALLOW: u32 = 0x7fff_0000;
 
+/// An error of number 1.
+pub(crate) const EPERM: u32 = 0x0005_0001;
+
 pub(crate) fn insn(code: u16, jt: u8, jf: u8, k: u32) -> Insn {
     Insn { code, jt, jf, k }
 }
@@ -44,12 +47,20 @@ pub(crate) fn ret(k: u32) -> Insn {
     with_k(0x06, k)
 }
 
+pub(crate) fn divx() -> Insn {
+    with_k(0x3c, 0)
+}
+
 pub(crate) fn jeq(k: u32, jt: u8, jf: u8) -> Insn {
     branch(0x15, k, jt, jf)
 }
 
 pub(crate) fn tax() -> Insn {
     with_k(0x07, 0)
+}
+
+pub(crate) fn txa() -> Insn {
+    with_k(0x87, 0)
 }
 
 pub(crate) fn reta() -> Insn {

@@ -10,6 +10,8 @@ mod checks;
 #[cfg(test)]
 mod ends;
 #[cfg(test)]
+mod filters;
+#[cfg(test)]
 mod insns;
 #[cfg(test)]
 mod instructions;
@@ -17,5 +19,7 @@ mod instructions;
 mod listed;
 #[cfg(test)]
 mod runs;
+#[cfg(test)]
+mod surveys;
 #[cfg(test)]
 mod texts;

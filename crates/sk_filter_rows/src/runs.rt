@@ -1,27 +1,17 @@
-use crate::insns::{ALLOW, branch, jeq, ldabs, ldimm, ldmem, ldximm, ret, reta, st, with_k};
-use sk_check::{Checked, check};
+use crate::filters::{by_architecture, even, filter, refuses_getppid};
+use crate::insns::{
+    ALLOW, EPERM, branch, divx, ja, jeq, ldabs, ldimm, ldmem, ldximm, ret, reta, st, tax, txa,
+    with_k,
+};
 use sk_insn::{Arithmetic, Comparison, Insn, Record};
 use sk_interp::{Ran, calculate, holds, run, walk, walk_together};
-use std::alloc::Global;
 use std::test::Fail;
-
-/// The action that refuses a call by error 1.
-const ERRNO_1: u32 = 0x0005_0001;
 
 fn call(nr: u32) -> Record {
     Record {
         nr,
         ip: 0x1122_3344_5566_7788,
         args: [0x99aa_bbcc_ddee_ff00, 1, 2, 3, 4, 5],
-    }
-}
-
-fn checked(alloc: Global, program: &[Insn]) -> Result<Checked, Fail> {
-    let mut insns = Vec::new(alloc);
-    insns.extend_from_slice(program)?;
-    match check(insns) {
-        Ok(checked) => Ok(checked),
-        Err((_, fault)) => Err(Fail::from(fault)),
     }
 }
 
@@ -59,17 +49,12 @@ fn calculations_alone(rt: HostRuntime) -> Result<(), Fail> {
 
 #[test]
 fn filters(rt: HostRuntime) -> Result<(), Fail> {
-    let refuses_getppid = [ldabs(0), jeq(110, 0, 1), ret(ERRNO_1), ret(ALLOW)];
+    let refuses_getppid = refuses_getppid();
     let rows: [(&[Insn], u32, u32, u16); 12] = [
         (&[ret(ALLOW)], 39, ALLOW, 1),
-        (&refuses_getppid, 110, ERRNO_1, 3),
+        (&refuses_getppid, 110, EPERM, 3),
         (&refuses_getppid, 39, ALLOW, 3),
-        (
-            &[ldximm(0), ldimm(5), with_k(0x3c, 0), ret(ALLOW)],
-            39,
-            0,
-            3,
-        ),
+        (&[ldximm(0), ldimm(5), divx(), ret(ALLOW)], 39, 0, 3),
         (&[ldximm(33), ldimm(1), with_k(0x6c, 0), reta()], 39, 2, 4),
         (&[ldimm(1), with_k(0x84, 0), reta()], 39, 0xffff_ffff, 3),
         (
@@ -81,29 +66,12 @@ fn filters(rt: HostRuntime) -> Result<(), Fail> {
         (&[ret(ALLOW), ldmem(3), ret(ALLOW)], 39, ALLOW, 1),
         (&[with_k(0x03, 15), ldmem(15), reta()], 39, 0, 3),
         (&[st(0), ret(ALLOW)], 39, ALLOW, 2),
-        (
-            &[
-                ldimm(1),
-                st(0),
-                with_k(0x05, 1),
-                with_k(0x05, 0),
-                ldmem(0),
-                reta(),
-            ],
-            39,
-            1,
-            5,
-        ),
-        (
-            &[ldimm(9), with_k(0x07, 0), with_k(0x87, 0), reta()],
-            39,
-            9,
-            4,
-        ),
+        (&[ldimm(1), st(0), ja(1), ja(0), ldmem(0), reta()], 39, 1, 5),
+        (&[ldimm(9), tax(), txa(), reta()], 39, 9, 4),
     ];
     for (program, nr, value, steps) in rows {
-        let filter = checked(rt.alloc(), program)?;
-        assert_eq!(rt; run(&filter, &call(nr)), Ran { value, steps });
+        let program = filter(rt.alloc(), program)?;
+        assert_eq!(rt; run(&program, &call(nr)), Ran { value, steps });
     }
     Ok(())
 }
@@ -122,8 +90,8 @@ fn loads(rt: HostRuntime) -> Result<(), Fail> {
         (0x80, 0, 64),
     ];
     for (code, k, value) in rows {
-        let filter = checked(rt.alloc(), &[with_k(code, k), reta()])?;
-        assert_eq!(rt; run(&filter, &call(39)), Ran { value, steps: 2 });
+        let program = filter(rt.alloc(), &[with_k(code, k), reta()])?;
+        assert_eq!(rt; run(&program, &call(39)), Ran { value, steps: 2 });
     }
     Ok(())
 }
@@ -142,9 +110,9 @@ fn calculations(rt: HostRuntime) -> Result<(), Fail> {
         (0xa4, 0b1100, 0b1010, 0b0110),
     ];
     for (code, a, b, value) in rows {
-        let constant = checked(rt.alloc(), &[ldimm(a), with_k(code, b), reta()])?;
+        let constant = filter(rt.alloc(), &[ldimm(a), with_k(code, b), reta()])?;
         assert_eq!(rt; run(&constant, &call(39)), Ran { value, steps: 3 });
-        let index = checked(
+        let index = filter(
             rt.alloc(),
             &[ldximm(b), ldimm(a), with_k(code | 8, 0), reta()],
         )?;
@@ -166,12 +134,12 @@ fn comparisons(rt: HostRuntime) -> Result<(), Fail> {
         (0x45, 0b1100, 0b0011, 0),
     ];
     for (code, a, b, value) in rows {
-        let constant = checked(
+        let constant = filter(
             rt.alloc(),
             &[ldimm(a), branch(code, b, 1, 0), ret(0), ret(1)],
         )?;
         assert_eq!(rt; run(&constant, &call(39)), Ran { value, steps: 3 });
-        let index = checked(
+        let index = filter(
             rt.alloc(),
             &[
                 ldximm(b),
@@ -194,9 +162,9 @@ fn longest_filter(rt: HostRuntime) -> Result<(), Fail> {
         insns.push(ldmem(0))?;
     }
     insns.push(reta())?;
-    let filter = checked(rt.alloc(), &insns)?;
+    let program = filter(rt.alloc(), &insns)?;
     assert_eq!(rt;
-        run(&filter, &call(39)),
+        run(&program, &call(39)),
         Ran {
             value: 0,
             steps: 4096
@@ -207,35 +175,14 @@ fn longest_filter(rt: HostRuntime) -> Result<(), Fail> {
 
 #[test]
 fn walks(rt: HostRuntime) -> Result<(), Fail> {
-    let by_architecture = [
-        ldabs(4),
-        jeq(0xC000_003E, 1, 0),
-        ret(0x8000_0000),
-        ldabs(0),
-        jeq(57, 0, 1),
-        ret(ERRNO_1),
-        ret(ALLOW),
-    ];
-    let even = [
-        ldabs(0),
-        with_k(0x54, 1),
-        jeq(0, 0, 1),
-        ret(ALLOW),
-        ret(0x7ffc_0000),
-    ];
+    let refuses_getppid = refuses_getppid();
+    let by_architecture = by_architecture();
+    let even = even();
     let rows: [(&[Insn], u32, bool); 12] = [
         (&[ret(ALLOW)], 0, true),
         (&[ret(ALLOW)], u32::MAX, true),
-        (
-            &[ldabs(0), jeq(110, 0, 1), ret(ERRNO_1), ret(ALLOW)],
-            39,
-            true,
-        ),
-        (
-            &[ldabs(0), jeq(110, 0, 1), ret(ERRNO_1), ret(ALLOW)],
-            110,
-            false,
-        ),
+        (&refuses_getppid, 39, true),
+        (&refuses_getppid, 110, false),
         (&by_architecture, 57, false),
         (&by_architecture, 39, true),
         (&even, 38, true),
@@ -246,15 +193,15 @@ fn walks(rt: HostRuntime) -> Result<(), Fail> {
         (&[ldabs(16), ret(ALLOW)], 39, false),
     ];
     for (program, nr, allowed) in rows {
-        let filter = checked(rt.alloc(), program)?;
-        assert_eq!(rt; walk(&filter, nr), allowed, "call {nr}");
+        let program = filter(rt.alloc(), program)?;
+        assert_eq!(rt; walk(&program, nr), allowed, "call {nr}");
     }
     Ok(())
 }
 
-#[test]
-fn walks_together(rt: HostRuntime) -> Result<(), Fail> {
-    let by_each_test = [
+/// Each test of the number that a walk follows.
+fn by_each_test() -> [Insn; 17] {
+    [
         ldabs(4),
         jeq(0xC000_003E, 1, 0),
         ret(0x8000_0000),
@@ -270,15 +217,19 @@ fn walks_together(rt: HostRuntime) -> Result<(), Fail> {
         branch(0x45, 12, 2, 3),
         with_k(0x54, 5),
         jeq(4, 1, 0),
-        ret(ERRNO_1),
+        ret(EPERM),
         ret(ALLOW),
-    ];
-    let filter = checked(rt.alloc(), &by_each_test)?;
+    ]
+}
+
+#[test]
+fn walks_together(rt: HostRuntime) -> Result<(), Fail> {
+    let program = filter(rt.alloc(), &by_each_test())?;
     for first in [0, 64, 100, 128, 192, 448, 0x3fff_ffe0, 0xffff_ffc0] {
         for numbers in [u64::MAX, 0x0f0f_5555_3333_00ff, 0] {
-            let allowed = walk_together(&filter, first, numbers);
+            let allowed = walk_together(&program, first, numbers);
             for n in 0..64 {
-                let one = numbers >> n & 1 == 1 && walk(&filter, first + n);
+                let one = numbers >> n & 1 == 1 && walk(&program, first + n);
                 assert_eq!(rt; allowed >> n & 1 == 1, one, "call {first} + {n}");
             }
         }

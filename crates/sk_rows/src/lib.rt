@@ -1,15 +1,13 @@
-//! Worked examples that cross the crates: the commands over readers and writers in memory, which
-//! give and take as few bytes as they like and fail where they are told to.
+//! Worked examples that cross the crates: the commands, and the words of `skern` and `survey`, over readers and
+//! writers in memory, which give and take as few bytes as they like and fail where they are told to.
 #![tactic(auto)]
-
-mod commands;
-mod ends;
-
-pub use commands::Command;
-pub use ends::{Reader, Trouble, Writer};
 
 #[cfg(test)]
 mod command_rows;
+#[cfg(test)]
+mod commands;
+#[cfg(test)]
+mod ends;
 #[cfg(test)]
 mod eval_rows;
 #[cfg(test)]
@@ -18,3 +16,14 @@ mod failing_ends;
 mod failing_runs;
 #[cfg(test)]
 mod report_rows;
+#[cfg(test)]
+mod survey;
+#[cfg(test)]
+mod unready;
+#[cfg(test)]
+mod words;
+
+#[cfg(test)]
+use commands::Command;
+#[cfg(test)]
+use ends::{Reader, Trouble, Writer};

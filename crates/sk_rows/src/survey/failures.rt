@@ -1,55 +1,57 @@
-use crate::filters::{ALL, GETPID};
-use crate::running::answer;
+use crate::survey::answer;
+use crate::survey::filters::{ALL, GETPID};
 use std::test::Fail;
+
+/// Whether two chains are compared, the lines, and what is told of them.
+const REFUSED: [(bool, &[&str], &[u8]); 11] = [
+    (false, &["record 00\n"], b"skern: line 1: not understood\n"),
+    (
+        false,
+        &[ALL, "filter 0\n"],
+        b"skern: line 2: not understood\n",
+    ),
+    (
+        false,
+        &[ALL, "against\n", ALL],
+        b"skern: line 2: not understood\n",
+    ),
+    (true, &[ALL, "\n"], b"skern: line 3: not understood\n"),
+    (
+        true,
+        &[ALL, "against\n", "against\n"],
+        b"skern: line 3: not understood\n",
+    ),
+    (
+        true,
+        &[ALL, "against now\n"],
+        b"skern: line 2: not understood\n",
+    ),
+    (false, &["filter\n"], b"filter 0 refused image empty\n"),
+    (
+        false,
+        &[ALL, "filter 0600\n"],
+        b"filter 1 refused image ragged\n",
+    ),
+    (
+        false,
+        &["filter 0700000000000000\n"],
+        b"filter 0 refused 9 no return\n",
+    ),
+    (
+        true,
+        &[ALL, GETPID, "against\n", GETPID, "filter 0600\n"],
+        b"filter 3 refused image ragged\n",
+    ),
+    (
+        true,
+        &["filter\n", "against\n", "filter 0600\n"],
+        b"filter 0 refused image empty\n",
+    ),
+];
 
 #[test]
 fn inputs_that_are_refused(rt: HostRuntime) -> Result<(), Fail> {
-    let rows: [(bool, &[&str], &[u8]); 11] = [
-        (false, &["record 00\n"], b"skern: line 1: not understood\n"),
-        (
-            false,
-            &[ALL, "filter 0\n"],
-            b"skern: line 2: not understood\n",
-        ),
-        (
-            false,
-            &[ALL, "against\n", ALL],
-            b"skern: line 2: not understood\n",
-        ),
-        (true, &[ALL, "\n"], b"skern: line 3: not understood\n"),
-        (
-            true,
-            &[ALL, "against\n", "against\n"],
-            b"skern: line 3: not understood\n",
-        ),
-        (
-            true,
-            &[ALL, "against now\n"],
-            b"skern: line 2: not understood\n",
-        ),
-        (false, &["filter\n"], b"filter 0 refused image empty\n"),
-        (
-            false,
-            &[ALL, "filter 0600\n"],
-            b"filter 1 refused image ragged\n",
-        ),
-        (
-            false,
-            &["filter 0700000000000000\n"],
-            b"filter 0 refused 9 no return\n",
-        ),
-        (
-            true,
-            &[ALL, GETPID, "against\n", GETPID, "filter 0600\n"],
-            b"filter 3 refused image ragged\n",
-        ),
-        (
-            true,
-            &["filter\n", "against\n", "filter 0600\n"],
-            b"filter 0 refused image empty\n",
-        ),
-    ];
-    for (two, lines, output) in rows {
+    for (two, lines, output) in REFUSED {
         let (held, status) = if two {
             answer(rt.alloc(), &["--diff"], Some(lines), 0)?
         } else {

@@ -1,68 +1,16 @@
-use crate::{CommandFault, command, failed, finish};
+//! What the words of `skern` do, and what is told where its ends fail at first.
+use crate::report_rows::NO_REPORT;
+use crate::unready::{Input, Output, words};
+use sk_cli::{CommandFault, command, failed, finish};
 use sk_ends::Counted;
 use std::alloc::{AllocError, Global};
 use std::io;
-use std::io::{BufWriter, ErrorKind, Read, Write};
+use std::io::BufWriter;
 use std::test::Fail;
-
-// A text, or an end that fails from the start.
-#[derive(Drop)]
-struct Reader<'a>(Option<&'a [u8]>);
-
-impl Read for Reader<'_> {
-    fn read(&mut self, buffer: &mut [u8]) -> io::Result<usize> {
-        match &mut self.0 {
-            Some(left) => left.read(buffer),
-            None => Err(io::Error::from(ErrorKind::Other)),
-        }
-    }
-}
-
-// Keeps what it takes, from its so many-th write on.
-#[derive(Drop)]
-struct Writer {
-    held: Vec<u8>,
-    failing: u64,
-}
-
-impl Writer {
-    fn new(alloc: Global, failing: u64) -> Writer {
-        Writer {
-            held: Vec::new(alloc),
-            failing,
-        }
-    }
-}
-
-impl Write for Writer {
-    fn write(&mut self, bytes: &[u8]) -> io::Result<usize> {
-        if self.failing > 0 {
-            self.failing -= 1;
-            return Err(io::Error::from(ErrorKind::Other));
-        }
-        self.held.extend_from_slice(bytes)?;
-        Ok(bytes.len())
-    }
-
-    fn flush(&mut self) -> io::Result<()> {
-        Ok(())
-    }
-}
 
 const USAGE: &[u8] = b"usage: skern run|check|eval|asm|list\n";
 
 const ALLOW: &[u8] = b"060000000000ff7f";
-
-const NO_REPORT: &[u8] = b"1 1 call exit_group allow/0 ended 0x0000\nend halt 0x0000\n";
-
-// The words of a command.
-fn words(alloc: Global, given: &[&str]) -> Result<Vec<String>, AllocError> {
-    let mut words = Vec::new(alloc);
-    for word in given {
-        words.push(word.to_string(alloc)?)?;
-    }
-    Ok(words)
-}
 
 #[test]
 fn words_say_what_to_do(rt: HostRuntime) -> Result<(), Fail> {
@@ -84,8 +32,8 @@ fn words_say_what_to_do(rt: HostRuntime) -> Result<(), Fail> {
     ];
     for (given, status, output) in rows {
         let words = words(alloc, given)?;
-        let mut reader = Counted::new(Reader(Some(ALLOW)));
-        let mut writer = Counted::new(Writer::new(alloc, 0));
+        let mut reader = Counted::new(Input(Some(ALLOW)));
+        let mut writer = Counted::new(Output::new(alloc, 0));
         let answer = command(alloc, words.as_slice(), &mut reader, &mut writer);
         assert_eq!(rt; writer.into_inner().held.as_slice(), output, "at {given:?}");
         assert_eq!(rt; answer, status, "at {given:?}");
@@ -93,7 +41,7 @@ fn words_say_what_to_do(rt: HostRuntime) -> Result<(), Fail> {
     Ok(())
 }
 
-// What a command wrote, and its status, where its first so many writes failed.
+/// What a command wrote, and its status, where its first so many writes failed.
 fn answer(
     alloc: Global,
     word: &str,
@@ -101,8 +49,8 @@ fn answer(
     failing: u64,
 ) -> Result<(Vec<u8>, u8), AllocError> {
     let words = words(alloc, &[word])?;
-    let mut reader = Counted::new(Reader(input));
-    let mut writer = Counted::new(Writer::new(alloc, failing));
+    let mut reader = Counted::new(Input(input));
+    let mut writer = Counted::new(Output::new(alloc, failing));
     let status = command(alloc, words.as_slice(), &mut reader, &mut writer);
     Ok((writer.into_inner().held, status))
 }
@@ -131,7 +79,7 @@ fn failures_are_told_once(rt: HostRuntime) -> Result<(), Fail> {
         );
         assert_eq!(rt; status, 3, "{word} with {failing} failing writes");
     }
-    let mut writer = Counted::new(Writer::new(rt.alloc(), 0));
+    let mut writer = Counted::new(Output::new(rt.alloc(), 0));
     assert_eq!(rt; failed(&mut writer, CommandFault::Memory), 3);
     assert_eq!(rt;
         writer.into_inner().held.as_slice(),
@@ -140,7 +88,7 @@ fn failures_are_told_once(rt: HostRuntime) -> Result<(), Fail> {
     Ok(())
 }
 
-// The same where the output is written in blocks of so many bytes.
+/// The same where the output is written in blocks of so many bytes.
 fn answer_in_blocks(
     alloc: Global,
     block: usize,
@@ -149,8 +97,8 @@ fn answer_in_blocks(
     failing: u64,
 ) -> Result<(Vec<u8>, u8), io::Error> {
     let words = words(alloc, &[word])?;
-    let mut held = Writer::new(alloc, failing);
-    let mut reader = Counted::new(Reader(Some(input)));
+    let mut held = Output::new(alloc, failing);
+    let mut reader = Counted::new(Input(Some(input)));
     let mut writer = Counted::new(BufWriter::with_capacity(alloc, block, &mut held)?);
     let status = command(alloc, words.as_slice(), &mut reader, &mut writer);
     let status = finish(writer.into_inner(), status);
@@ -172,10 +120,10 @@ fn blocks_are_written_at_the_end(rt: HostRuntime) -> Result<(), Fail> {
             1,
         ),
         (64, "run", b"turns 0", 1, b"skern: writing failed\n", 3),
-        (64, "run", b"", 0, NO_REPORT, 0),
+        (64, "run", b"", 0, NO_REPORT.as_bytes(), 0),
         (64, "run", b"", 1, b"skern: writing failed\n", 3),
         // A line that is longer than the block is written by itself.
-        (32, "run", b"", 0, NO_REPORT, 0),
+        (32, "run", b"", 0, NO_REPORT.as_bytes(), 0),
         (32, "run", b"", 1, b"skern: writing failed\n", 3),
         (32, "run", b"", 2, b"", 3),
     ];

@@ -1,5 +1,8 @@
 //! Answers and surveys that are seen by eye.
-use crate::filters::{ALLOW, EPERM, branch, chain_of, filter, jeq, ldabs, ret, with_k};
+use crate::filters::{chain_of, filter, refuses_getppid};
+use crate::insns::{
+    ALLOW, EPERM, branch, divx, ja, jeq, ldabs, ldimm, ldmem, ldximm, ret, reta, st, tax,
+};
 use sk_insn::Insn;
 use sk_survey::{Answers, Survey};
 use std::alloc::Global;
@@ -12,10 +15,9 @@ fn values(answers: &Answers) -> Option<&[u32]> {
     }
 }
 
-#[test]
-fn programs(rt: HostRuntime) -> Result<(), Fail> {
-    // Call 110 is refused, and call 9 where the low half of its first argument is 7.
-    let by_number: [Insn; 7] = [
+/// Call 110 is refused, and call 9 where the low half of its first argument is 7.
+fn by_number() -> [Insn; 7] {
+    [
         ldabs(0),
         jeq(110, 3, 0),
         jeq(9, 0, 3),
@@ -23,67 +25,86 @@ fn programs(rt: HostRuntime) -> Result<(), Fail> {
         jeq(7, 0, 1),
         ret(EPERM),
         ret(ALLOW),
-    ];
-    // Bit 30 of the number is refused.
-    let by_bit: [Insn; 4] = [
+    ]
+}
+
+/// Bit 30 of the number is refused.
+fn by_bit() -> [Insn; 4] {
+    [
         ldabs(0),
         branch(0x45, 0x4000_0000, 0, 1),
         ret(0),
         ret(ALLOW),
-    ];
-    // From 400 on all is logged, above 500 it is refused.
-    let by_size: [Insn; 6] = [
+    ]
+}
+
+/// From 400 on all is logged, above 500 it is refused.
+fn by_size() -> [Insn; 6] {
+    [
         ldabs(0),
         branch(0x35, 400, 0, 3),
         branch(0x25, 500, 0, 1),
         ret(EPERM),
         ret(0x7ffc_0000),
         ret(ALLOW),
-    ];
-    // The low half of the first argument is the value.
-    let by_argument: [Insn; 2] = [ldabs(16), with_k(0x16, 0)];
-    // A division of 6 by an argument, which may be 0; and one by 3, whose answer is known.
-    let by_division: [Insn; 5] = [
-        ldabs(16),
-        with_k(0x07, 0),
-        with_k(0x00, 6),
-        with_k(0x3c, 0),
-        ret(2),
-    ];
-    let by_constant: [Insn; 4] = [
-        with_k(0x01, 3),
-        with_k(0x00, 6),
-        with_k(0x3c, 0),
-        with_k(0x16, 0),
-    ];
-    // A scratch word that holds 5 on one path and 5 on the other; and one that holds the argument on one.
-    let by_word: [Insn; 7] = [
+    ]
+}
+
+/// The low half of the first argument is the value.
+fn by_argument() -> [Insn; 2] {
+    [ldabs(16), reta()]
+}
+
+/// A division of 6 by an argument, which may be 0.
+fn by_division() -> [Insn; 5] {
+    [ldabs(16), tax(), ldimm(6), divx(), ret(2)]
+}
+
+/// A division of 6 by 3, whose answer is known.
+fn by_constant() -> [Insn; 4] {
+    [ldximm(3), ldimm(6), divx(), reta()]
+}
+
+/// A scratch word that holds 5 where the argument is 1, and else the argument.
+fn by_word() -> [Insn; 7] {
+    [
         ldabs(16),
         jeq(1, 0, 2),
-        with_k(0x00, 5),
-        with_k(0x05, 0),
-        with_k(0x02, 3),
-        with_k(0x60, 3),
-        with_k(0x16, 0),
-    ];
+        ldimm(5),
+        ja(0),
+        st(3),
+        ldmem(3),
+        reta(),
+    ]
+}
+
+#[test]
+fn programs(rt: HostRuntime) -> Result<(), Fail> {
+    let number = by_number();
+    let bit = by_bit();
+    let size = by_size();
+    let argument = by_argument();
+    let division = by_division();
+    let constant = by_constant();
+    let word = by_word();
     let rows: [(&[Insn], u32, u32, Option<&[u32]>); 17] = [
-        (&by_number, 110, 110, Some(&[EPERM])),
-        (&by_number, 9, 9, Some(&[EPERM, ALLOW])),
-        (&by_number, 39, 39, Some(&[ALLOW])),
-        (&by_number, 111, u32::MAX, Some(&[ALLOW])),
-        (&by_number, 110, 111, Some(&[EPERM, ALLOW])),
-        (&by_bit, 0, 0x3fff_ffff, Some(&[ALLOW])),
-        (&by_bit, 0x4000_0000, 0x7fff_ffff, Some(&[0])),
-        (&by_bit, 0xc000_0000, u32::MAX, Some(&[0])),
-        (&by_bit, 0x3fff_ffff, 0x4000_0000, Some(&[0, ALLOW])),
-        (&by_size, 0, 399, Some(&[ALLOW])),
-        (&by_size, 400, 500, Some(&[0x7ffc_0000])),
-        (&by_size, 501, u32::MAX, Some(&[EPERM])),
-        (&by_size, 399, 501, Some(&[EPERM, 0x7ffc_0000, ALLOW])),
-        (&by_argument, 1, 1, None),
-        (&by_division, 1, 1, Some(&[0, 2])),
-        (&by_constant, 1, 1, Some(&[2])),
-        (&by_word, 1, 1, None),
+        (&number, 110, 110, Some(&[EPERM])),
+        (&number, 9, 9, Some(&[EPERM, ALLOW])),
+        (&number, 39, 39, Some(&[ALLOW])),
+        (&number, 111, u32::MAX, Some(&[ALLOW])),
+        (&number, 110, 111, Some(&[EPERM, ALLOW])),
+        (&bit, 0, 0x3fff_ffff, Some(&[ALLOW])),
+        (&bit, 0x4000_0000, 0x7fff_ffff, Some(&[0])),
+        (&bit, 0xc000_0000, u32::MAX, Some(&[0])),
+        (&bit, 0x3fff_ffff, 0x4000_0000, Some(&[0, ALLOW])),
+        (&size, 0, 399, Some(&[ALLOW])),
+        (&size, 400, 500, Some(&[0x7ffc_0000])),
+        (&size, 501, u32::MAX, Some(&[EPERM])),
+        (&size, 399, 501, Some(&[EPERM, 0x7ffc_0000, ALLOW])),
+        (&argument, 1, 1, None),
+        (&division, 1, 1, Some(&[0, 2])),
+        (&constant, 1, 1, Some(&[2])),
+        (&word, 1, 1, None),
     ];
     let alloc = rt.alloc();
     let mut survey = Survey::new(alloc)?;
@@ -119,7 +140,6 @@ fn chains(rt: HostRuntime) -> Result<(), Fail> {
 
 #[test]
 fn rows_of_a_chain(rt: HostRuntime) -> Result<(), Fail> {
-    let refuses: [Insn; 4] = [ldabs(0), jeq(110, 0, 1), ret(EPERM), ret(ALLOW)];
     let expected: [(u32, u32, u32); 6] = [
         (0, 38, ALLOW),
         (39, 39, ALLOW),
@@ -129,7 +149,7 @@ fn rows_of_a_chain(rt: HostRuntime) -> Result<(), Fail> {
         (0xffff_ffff, 0xffff_ffff, ALLOW),
     ];
     let alloc = rt.alloc();
-    let chain = chain_of(alloc, &[&refuses])?;
+    let chain = chain_of(alloc, &[&refuses_getppid()])?;
     let rows = Survey::new(alloc)?.rows(alloc, &chain, &[39, 0xffff_ffff])?;
     assert_eq!(rt; rows.len(), expected.len());
     for (row, (first, last, value)) in rows.iter().zip(expected) {

@@ -1,5 +1,5 @@
-use crate::filters::ALL;
-use crate::running::answer;
+use crate::survey::answer;
+use crate::survey::filters::ALL;
 use std::test::Fail;
 
 const USAGE: &[u8] = b"usage: survey [--call NAME] [--examples] [--diff]\n";
