@@ -1,12 +1,19 @@
-//! Each public function below the kernel, and the scenario reader, at examples whose answers the manuals give.
+//! Each public function that has to do with processes, from their numbers to the kernel, the stores, and the scenario
+//! reader, at examples whose answers the manuals give.
 #![tactic(auto)]
 
 #[cfg(test)]
 mod calls;
 #[cfg(test)]
+mod candidates;
+#[cfg(test)]
+mod deliveries;
+#[cfg(test)]
 mod events;
 #[cfg(test)]
 mod ids;
+#[cfg(test)]
+mod kernel;
 #[cfg(test)]
 mod numbers;
 #[cfg(test)]
@@ -16,7 +23,13 @@ mod processes;
 #[cfg(test)]
 mod scenarios;
 #[cfg(test)]
+mod sessions;
+#[cfg(test)]
 mod signals;
+#[cfg(test)]
+mod stores;
+#[cfg(test)]
+mod syscalls;
 #[cfg(test)]
 mod uses;
 #[cfg(test)]
