@@ -1,15 +1,15 @@
 //! Worked examples of whose turn is next, over each store: who waits is passed over, and hears what ends its call.
-ghost use Rattle.std.specs.Prelude.{◌≡◌, IfOk};
+ghost use Rattle.std.specs.Prelude.{◌≡◌};
 ghost use Rattle.sk_world.specs.Rules.{IsWorld};
 
+use crate::sessions::world::lead_group;
+use crate::world::{end_of, fork_of, opening};
 use bitflags::Flags;
 use sk_candidates::Candidates;
 use sk_signal::number::SIGUSR1;
 use sk_table::{
-    Body, INIT, Life, ListStore, ProcStore, Request, SlotStore, WaitOptions, Waiting, Who, end,
-    fork, laws, send,
+    Body, INIT, ListStore, ProcStore, Request, SlotStore, WaitOptions, Waiting, Who, send,
 };
-use std::alloc::{AllocError, Global};
 use std::process::Abort;
 use std::test::Fail;
 
@@ -33,10 +33,10 @@ fn rows<S: ProcStore, R: Abort + AllocGlobal>(rt: &R) -> Result<(), Fail> {
 
 /// Three children, of which two pause. The turn goes round past them, and comes to one that has a signal due.
 fn who_waits_is_passed_over<S: ProcStore, R: Abort + AllocGlobal>(rt: &R) -> Result<(), Fail> {
-    let mut store = opening::<S>(rt.alloc())?;
-    fork_of(rt, &mut store)?;
-    fork_of(rt, &mut store)?;
-    fork_of(rt, &mut store)?;
+    let mut store = opening::<Candidates<S>>(rt.alloc())?;
+    fork_of(rt, &mut store, INIT)?;
+    fork_of(rt, &mut store, INIT)?;
+    fork_of(rt, &mut store, INIT)?;
     turns(rt, &store, &[(0, Some(1)), (1, Some(2)), (4, Some(1))]);
     waits(&mut store, 2, Waiting::Pause);
     waits(&mut store, 4, Waiting::Pause);
@@ -56,14 +56,14 @@ fn who_waits_is_passed_over<S: ProcStore, R: Abort + AllocGlobal>(rt: &R) -> Res
 fn parent_hears_of_the_end_of_its_child<S: ProcStore, R: Abort + AllocGlobal>(
     rt: &R,
 ) -> Result<(), Fail> {
-    let mut store = opening::<S>(rt.alloc())?;
-    fork_of(rt, &mut store)?;
-    fork_of(rt, &mut store)?;
+    let mut store = opening::<Candidates<S>>(rt.alloc())?;
+    fork_of(rt, &mut store, INIT)?;
+    fork_of(rt, &mut store, INIT)?;
     waits(&mut store, INIT, asks(Who::Any));
     waits(&mut store, 2, Waiting::Pause);
     waits(&mut store, 3, Waiting::Pause);
     turns(rt, &store, &[(0, None), (2, None)]);
-    end_of(rt, &mut store, 3);
+    end_of(rt, &mut store, 3, 0);
     turns(rt, &store, &[(0, Some(1)), (2, Some(1))]);
     Ok(())
 }
@@ -72,12 +72,12 @@ fn parent_hears_of_the_end_of_its_child<S: ProcStore, R: Abort + AllocGlobal>(
 fn parent_goes_on_where_no_child_matches<S: ProcStore, R: Abort + AllocGlobal>(
     rt: &R,
 ) -> Result<(), Fail> {
-    let mut store = opening::<S>(rt.alloc())?;
-    fork_of(rt, &mut store)?;
+    let mut store = opening::<Candidates<S>>(rt.alloc())?;
+    fork_of(rt, &mut store, INIT)?;
     waits(&mut store, INIT, asks(Who::Group(INIT)));
     waits(&mut store, 2, Waiting::Pause);
     turns(rt, &store, &[(0, None)]);
-    leaves(rt, &mut store, 2);
+    lead_group(rt, &mut store, 2);
     turns(rt, &store, &[(0, Some(1)), (1, Some(1))]);
     Ok(())
 }
@@ -86,8 +86,8 @@ fn parent_goes_on_where_no_child_matches<S: ProcStore, R: Abort + AllocGlobal>(
 fn candidates_keep_what_the_store_keeps<S: ProcStore, R: Abort + AllocGlobal>(
     rt: &R,
 ) -> Result<(), Fail> {
-    let mut store = opening::<S>(rt.alloc())?;
-    fork_of(rt, &mut store)?;
+    let mut store = opening::<Candidates<S>>(rt.alloc())?;
+    fork_of(rt, &mut store, INIT)?;
     assert_eq!(rt; (store.count(), store.last(), store.fresh()), (2, 2, 3));
     assert_eq!(rt;
         (store.next_pid(0), store.next_pid(1), store.next_pid(2)),
@@ -121,48 +121,6 @@ fn turns<S: ProcStore>(rt: &impl Abort, store: &Candidates<S>, rows: &[(u32, Opt
     for (after, next) in rows {
         assert_eq!(rt; store.next_runnable(*after), *next, "after {after}");
     }
-}
-
-/// The world as the system starts.
-fn opening<S: ProcStore>(alloc: Global) -> Result<Candidates<S>, AllocError>
-    ensures { IfOk result IsWorld }
-{
-    laws::rules_are_kept();
-    Candidates::<S>::new(alloc)
-}
-
-/// Forks process 1, which lives.
-fn fork_of<S: ProcStore>(rt: &impl Abort, store: &mut Candidates<S>) -> Result<(), AllocError>
-    requires { IsWorld store.old }
-    ensures { IsWorld store.new }
-{
-    match store.get(INIT) {
-        Some(process) => assert!(rt; !matches!(process.body.life, Life::Zombie(_))),
-        None => assert!(rt; false),
-    }
-    assert!(rt; fork(store, INIT)?.is_ok());
-    Ok(())
-}
-
-/// Ends a process that lives.
-fn end_of<S: ProcStore>(rt: &impl Abort, store: &mut Candidates<S>, pid: u32)
-    requires { IsWorld store.old }
-    ensures { IsWorld store.new }
-{
-    match store.get(pid) {
-        Some(process) => assert!(rt; !matches!(process.body.life, Life::Zombie(_))),
-        None => assert!(rt; false),
-    }
-    end(store, pid, 0);
-}
-
-/// The process goes into a group of its own.
-fn leaves<S: ProcStore>(rt: &impl Abort, store: &mut Candidates<S>, pid: u32)
-    requires { IsWorld store.old }
-    ensures { IsWorld store.new }
-{
-    assert!(rt; store.get(pid).is_some());
-    assert_eq!(rt; sk_session::setpgid(store, pid, 0, 0), Ok(0));
 }
 
 /// Makes a process wait for this.

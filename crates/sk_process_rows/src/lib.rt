@@ -34,3 +34,5 @@ mod syscalls;
 mod uses;
 #[cfg(test)]
 mod worked_scenarios;
+#[cfg(test)]
+mod world;

@@ -2,4 +2,4 @@
 //! getpgid(2) and getsid(2), and what an end does to groups.
 mod ends;
 mod groups;
-mod world;
+pub(crate) mod world;

@@ -1,13 +1,15 @@
-use crate::deliveries::world::{end, fork_of, opening, resume, wait4, waiting};
+use crate::deliveries::world::{resume, wait4};
+use crate::sessions::world::end;
+use crate::world::{fork_of, opening, waiting};
 use bitflags::Flags;
 use sk_machine::Outcome;
-use sk_table::{INIT, ProcStore, Request, WaitOptions, Waiting, Who};
+use sk_table::{INIT, ListStore, ProcStore, Request, WaitOptions, Waiting, Who};
 use std::test::Fail;
 
 /// WNOHANG is 1, WUNTRACED 2 and WCONTINUED 8. EINVAL is 22, ESRCH 3 and ECHILD 10.
 #[test]
 fn rows_of_wait4(rt: HostRuntime) -> Result<(), Fail> {
-    let mut store = opening(rt.alloc())?;
+    let mut store = opening::<ListStore>(rt.alloc())?;
     assert_eq!(rt; wait4(&rt, &mut store, INIT, -1, 4), Outcome::Returned(-22));
     assert_eq!(rt;
         wait4(&rt, &mut store, INIT, i32::MIN, 0),
@@ -32,7 +34,7 @@ fn rows_of_wait4(rt: HostRuntime) -> Result<(), Fail> {
 
 #[test]
 fn wait_ends_as_a_child_ends(rt: HostRuntime) -> Result<(), Fail> {
-    let mut store = opening(rt.alloc())?;
+    let mut store = opening::<ListStore>(rt.alloc())?;
     fork_of(&rt, &mut store, INIT)?;
     assert_eq!(rt; wait4(&rt, &mut store, INIT, 0, 0), Outcome::Waits);
     let request = Request {

@@ -1,15 +1,14 @@
-ghost use Rattle.std.specs.Prelude.{◌≡◌, ◌≢◌, IsTrue, IfOk};
+ghost use Rattle.std.specs.Prelude.{◌≡◌, ◌≢◌};
 ghost use Rattle.sk_signal.specs.SignalSet.{IsSignal};
 ghost use Rattle.sk_signal.specs.declared.number.TheConstants.{SIGKILL, SIGSTOP};
-ghost use Rattle.sk_world.specs.World.{at, is_alive};
 ghost use Rattle.sk_world.specs.Rules.{IsWorld};
 
+use crate::world::{assert_alive, pending, waiting};
 use sk_creds::Creds;
 use sk_insn::Record;
 use sk_machine::{Effect, Outcome};
 use sk_signal::{Disposition, SigSet};
-use sk_table::{Body, Life, ListStore, ProcStore, Waiting, fork, laws};
-use std::alloc::{AllocError, Global};
+use sk_table::{Body, ListStore, ProcStore};
 use std::process::Abort;
 
 /// The ids of the superuser.
@@ -27,51 +26,6 @@ pub(crate) const USER: Creds = Creds {
     saved: 1000,
     no_new_privs: false,
 };
-
-/// The world as the system starts.
-pub(crate) fn opening(alloc: Global) -> Result<ListStore, AllocError>
-    ensures { IfOk result IsWorld }
-{
-    laws::rules_are_kept();
-    ListStore::new(alloc)
-}
-
-fn assert_alive(rt: &impl Abort, store: &ListStore, pid: u32)
-    ensures { IsTrue (is_alive (at store.now pid)) }
-{
-    match store.get(pid) {
-        Some(process) => assert!(rt; !matches!(process.body.life, Life::Zombie(_))),
-        None => assert!(rt; false),
-    }
-}
-
-/// Forks a process that lives.
-pub(crate) fn fork_of(rt: &impl Abort, store: &mut ListStore, pid: u32) -> Result<(), AllocError>
-    requires { IsWorld store.old }
-    ensures { IsWorld store.new }
-{
-    assert_alive(rt, store, pid);
-    assert!(rt; fork(store, pid)?.is_ok());
-    Ok(())
-}
-
-/// The end of a process that lives.
-pub(crate) fn end(rt: &impl Abort, store: &mut ListStore, pid: u32, status: u32)
-    requires { IsWorld store.old }
-    ensures { IsWorld store.new }
-{
-    assert_alive(rt, store, pid);
-    sk_session::end(store, pid, status);
-}
-
-/// Puts a process that is there into a group of its own.
-pub(crate) fn lead_group(rt: &impl Abort, store: &mut ListStore, pid: u32)
-    requires { IsWorld store.old }
-    ensures { IsWorld store.new }
-{
-    assert!(rt; store.get(pid).is_some());
-    assert_eq!(rt; sk_session::setpgid(store, pid, 0, 0), Ok(0));
-}
 
 /// A wait4 of a process that is there, for this argument and with these options.
 pub(crate) fn wait4(
@@ -151,17 +105,7 @@ fn catch_in_body(body: &mut Body, signal: u8)
     body.signals.set_action(signal, handler, false);
 }
 
-pub(crate) fn life(store: &ListStore, pid: u32) -> Option<Life> {
-    store.get(pid).map(|process| process.body.life)
-}
-
-pub(crate) fn waiting(store: &ListStore, pid: u32) -> Option<Waiting> {
-    store.get(pid).map(|process| process.body.waiting)
-}
-
 /// The bits of the signals that wait to be delivered to a process.
-pub(crate) fn pending(store: &ListStore, pid: u32) -> Option<u32> {
-    store
-        .get(pid)
-        .map(|process| process.body.signals.pending().bits())
+pub(crate) fn pending_bits(store: &ListStore, pid: u32) -> Option<u32> {
+    pending(store, pid).map(SigSet::bits)
 }

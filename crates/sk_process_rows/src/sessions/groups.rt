@@ -1,11 +1,12 @@
-use crate::sessions::world::{end, execute, fork_of, group_and_session, opening, setpgid, setsid};
+use crate::sessions::world::{end, execute, group_and_session, setpgid, setsid};
+use crate::world::{fork_of, opening};
 use sk_creds::Errno;
-use sk_table::INIT;
+use sk_table::{INIT, ListStore};
 use std::test::Fail;
 
 #[test]
 fn groups_are_set_as_the_manual_says(rt: HostRuntime) -> Result<(), Fail> {
-    let mut store = opening(rt.alloc())?;
+    let mut store = opening::<ListStore>(rt.alloc())?;
     fork_of(&rt, &mut store, INIT)?;
     fork_of(&rt, &mut store, INIT)?;
     assert_eq!(rt; setsid(&rt, &mut store, 2), Ok(2));
@@ -34,7 +35,7 @@ fn groups_are_set_as_the_manual_says(rt: HostRuntime) -> Result<(), Fail> {
 
 #[test]
 fn groups_and_sessions_are_told_of_zombies_too(rt: HostRuntime) -> Result<(), Fail> {
-    let mut store = opening(rt.alloc())?;
+    let mut store = opening::<ListStore>(rt.alloc())?;
     fork_of(&rt, &mut store, INIT)?;
     assert_eq!(rt; setpgid(&rt, &mut store, INIT, 2, 0), Ok(0));
     end(&rt, &mut store, 2, 0);

@@ -1,4 +1,5 @@
-use crate::stores::testing::{fork_of, has_no_room, insert, links, opening};
+use crate::stores::testing::{has_no_room, insert, is_executed, links, set_executed};
+use crate::world::{fork_of, opening};
 use sk_table::{INIT, LAST_PID, ListStore, ProcStore, SlotStore};
 use std::process::Abort;
 use std::test::Fail;
@@ -42,6 +43,14 @@ fn store_keeps_three_processes<S: ProcStore, R: Abort + AllocGlobal>(rt: &R) -> 
     let mut store = S::new(rt.alloc())?;
     insert(rt, rt.alloc(), &mut store, 9, links(INIT, INIT, INIT));
     insert(rt, rt.alloc(), &mut store, 5, links(INIT, INIT, INIT));
+    finds_three_processes(rt, &store);
+    moves_one_of_them(rt, &mut store);
+    lends_one_of_them(rt, &mut store);
+    takes_one_of_them_out(rt, &mut store);
+    Ok(())
+}
+
+fn finds_three_processes<S: ProcStore>(rt: &impl Abort, store: &S) {
     assert_eq!(rt; (store.count(), store.last()), (3, 5));
     for (after, next) in [(0, Some(1)), (1, Some(5)), (5, Some(9)), (9, None)] {
         assert_eq!(rt; store.next_pid(after), next);
@@ -51,6 +60,9 @@ fn store_keeps_three_processes<S: ProcStore, R: Abort + AllocGlobal>(rt: &R) -> 
         (store.next_child(INIT, 0), store.next_child(INIT, 5)),
         (Some(5), Some(9))
     );
+}
+
+fn moves_one_of_them<S: ProcStore>(rt: &impl Abort, store: &mut S) {
     assert!(rt; store.relink(9, links(5, 5, INIT)));
     assert!(rt; !store.relink(7, links(5, 5, INIT)));
     assert_eq!(rt;
@@ -61,17 +73,20 @@ fn store_keeps_three_processes<S: ProcStore, R: Abort + AllocGlobal>(rt: &R) -> 
         (store.next_child(5, 0), store.next_member(5, 0)),
         (Some(9), Some(9))
     );
-    if let Some(body) = store.body_mut(9) {
-        body.executed = true;
-    }
-    assert_eq!(rt; store.get(9).map(|proc| proc.body.executed), Some(true));
-    assert_eq!(rt; store.get(5).map(|proc| proc.body.executed), Some(false));
+}
+
+fn lends_one_of_them<S: ProcStore>(rt: &impl Abort, store: &mut S) {
+    set_executed(store, 9);
+    assert_eq!(rt; is_executed(store, 9), Some(true));
+    assert_eq!(rt; is_executed(store, 5), Some(false));
     assert!(rt; store.body_mut(7).is_none());
+}
+
+fn takes_one_of_them_out<S: ProcStore>(rt: &impl Abort, store: &mut S) {
     assert_eq!(rt; store.remove(5).map(|proc| proc.links.parent), Some(INIT));
     assert!(rt; store.remove(5).is_none() && store.get(5).is_none());
     assert!(rt; store.used(5) && store.used(9) && !store.used(7));
     assert_eq!(rt; store.count(), 2);
-    Ok(())
 }
 
 fn init_forks_until_there_is_no_room<S: ProcStore, R: Abort + AllocGlobal>(

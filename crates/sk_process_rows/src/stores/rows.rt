@@ -1,12 +1,11 @@
-use crate::stores::testing::{
-    end_of, fork_of, handler, is_subreaper, life, mark, note, on_sigchld, opening, parent, pending,
-    reap_of, stop, wait_of,
-};
+use crate::signals::handler;
+use crate::stores::testing::{is_subreaper, mark, on_sigchld, reap_of, reparent_of, wait_of};
+use crate::world::{end_of, fork_of, life, note, opening, parent, pending, stop};
 use sk_signal::number::{SIGCHLD, SIGCONT, SIGTERM, SIGTSTP};
 use sk_signal::{Disposition, SigSet};
 use sk_table::{
     INIT, Life, ListStore, Note, Poll, ProcStore, Request, SlotStore, WaitOptions, Who, ready,
-    reaper, reparent, send,
+    reaper, send,
 };
 use std::process::Abort;
 use std::test::Fail;
@@ -139,9 +138,7 @@ fn handed_on_zombie_is_announced_to_process_1<S: ProcStore, R: Abort + AllocGlob
     end_of(rt, &mut store, 3, 9);
     assert_eq!(rt; parent(&store, 3), Some(2));
     assert_eq!(rt; pending(&store, INIT), Some(SigSet::empty()));
-    if store.get(2).is_some() {
-        reparent(&mut store, 2);
-    }
+    reparent_of(rt, &mut store, 2);
     assert_eq!(rt;
         (parent(&store, 3), parent(&store, 4)),
         (Some(INIT), Some(INIT))

@@ -1,6 +1,7 @@
 ghost use Rattle.sk_world.specs.Rules.{IsWorld};
 
-use crate::stores::testing::{end_of, fork_of, insert, links, opening, reap_of};
+use crate::stores::testing::{insert, is_executed, links, reap_of, set_executed};
+use crate::world::{end_of, fork_of, opening};
 use sk_table::{INIT, LAST_PID, PROCESSES, ProcStore, SlotStore};
 use std::alloc::AllocError;
 use std::process::Abort;
@@ -12,9 +13,7 @@ fn slot_of_a_process_that_went_is_used_again(rt: HostRuntime) -> Result<(), Fail
     for pid in [9, 5] {
         insert(&rt, rt.alloc(), &mut store, pid, links(INIT, INIT, INIT));
     }
-    if let Some(body) = store.body_mut(5) {
-        body.executed = true;
-    }
+    set_executed(&mut store, 5);
     let (first, fifth, ninth) = (store.slot_of(INIT), store.slot_of(5), store.slot_of(9));
     assert!(rt; first.is_some() && fifth.is_some() && ninth.is_some());
     assert!(rt; store.remove(5).is_some() && store.slot_of(5).is_none());
@@ -23,10 +22,7 @@ fn slot_of_a_process_that_went_is_used_again(rt: HostRuntime) -> Result<(), Fail
         (store.slot_of(INIT), store.slot_of(7), store.slot_of(9)),
         (first, fifth, ninth)
     );
-    assert_eq!(rt;
-        store.get(7).map(|process| process.body.executed),
-        Some(false)
-    );
+    assert_eq!(rt; is_executed(&store, 7), Some(false));
     assert_eq!(rt; (store.slot_of(0), store.slot_of(40000)), (None, None));
     Ok(())
 }
@@ -91,15 +87,24 @@ fn all_slots_are_used_twice(rt: HostRuntime) -> Result<(), Fail> {
     Ok(())
 }
 
+/// Forks process 1, and takes the child out, which has this number.
+fn come_and_go(rt: &impl Abort, store: &mut SlotStore, number: u32) -> Result<(), AllocError>
+    requires { IsWorld store.old.world }
+    ensures { IsWorld store.new.world }
+{
+    assert_eq!(rt; fork_of(rt, store, INIT)?, number);
+    end_of(rt, store, number, 0);
+    assert_eq!(rt; reap_of(rt, store, number), 0);
+    Ok(())
+}
+
 /// Process 2 lives on, and process 1 forks until the numbers are all given.
 #[test]
 fn numbers_come_again_after_32765_forks(rt: HostRuntime) -> Result<(), Fail> {
     let mut store = opening::<SlotStore>(rt.alloc())?;
     assert_eq!(rt; fork_of(&rt, &mut store, INIT)?, 2);
     for number in 3..=LAST_PID {
-        assert_eq!(rt; fork_of(&rt, &mut store, INIT)?, number);
-        end_of(&rt, &mut store, number, 0);
-        assert_eq!(rt; reap_of(&rt, &mut store, number), 0);
+        come_and_go(&rt, &mut store, number)?;
     }
     assert_eq!(rt; fork_of(&rt, &mut store, INIT)?, 3);
     Ok(())

@@ -1,17 +1,16 @@
-//! What the tests do with a store, whatever it is.
+//! What only the tests of stores do with them.
 
-ghost use Rattle.std.specs.Prelude.{◌≡◌, ◌≢◌, IfOk};
-ghost use Rattle.sk_world.specs.declared.process.TheConstants.{INIT};
-ghost use Rattle.sk_world.specs.World.{has_ended};
+ghost use Rattle.std.specs.Prelude.{◌≡◌};
 ghost use Rattle.sk_world.specs.Rules.{IsWorld};
 
+use crate::world::assert_alive;
 use sk_creds::Errno;
 use sk_signal::number::SIGCHLD;
 use sk_signal::{Disposition, SigSet};
 use sk_slots::first_process;
 use sk_table::{
-    Body, INIT, LAST_PID, Life, Links, Note, PROCESSES, Poll, ProcStore, Request, WaitOptions, Who,
-    end, fork, laws, reap, wait_poll,
+    Body, INIT, LAST_PID, Life, Links, PROCESSES, Poll, ProcStore, Request, WaitOptions, Who, fork,
+    reap, reparent, wait_poll,
 };
 use std::alloc::{AllocError, Global};
 use std::process::Abort;
@@ -44,33 +43,6 @@ pub(crate) fn insert<S: ProcStore>(
     }
 }
 
-/// The world as the system starts.
-pub(crate) fn opening<S: ProcStore>(alloc: Global) -> Result<S, AllocError>
-    ensures { IfOk result (λ store. IsWorld (S.contents store)) }
-{
-    laws::rules_are_kept();
-    S::new(alloc)
-}
-
-/// Forks a process that lives, where there is room.
-pub(crate) fn fork_of<S: ProcStore>(
-    rt: &impl Abort,
-    store: &mut S,
-    pid: u32,
-) -> Result<u32, AllocError>
-    requires { IsWorld (S.contents store.old) }
-    ensures { IsWorld (S.contents store.new) }
-{
-    match store.get(pid) {
-        Some(process) => assert!(rt; !matches!(process.body.life, Life::Zombie(_))),
-        None => assert!(rt; false),
-    }
-    match fork(store, pid)? {
-        Ok(child) => Ok(child),
-        Err(_) => panic!(rt; "no room"),
-    }
-}
-
 /// Whether a fork of a process that lives is refused, since there are as many processes as there can be.
 pub(crate) fn has_no_room<S: ProcStore>(
     rt: &impl Abort,
@@ -80,23 +52,8 @@ pub(crate) fn has_no_room<S: ProcStore>(
     requires { IsWorld (S.contents store.old) }
     ensures { IsWorld (S.contents store.new) }
 {
-    match store.get(pid) {
-        Some(process) => assert!(rt; !matches!(process.body.life, Life::Zombie(_))),
-        None => assert!(rt; false),
-    }
+    assert_alive(rt, store, pid);
     Ok(fork(store, pid)? == Err(Errno::Eagain))
-}
-
-/// Ends a process that lives.
-pub(crate) fn end_of<S: ProcStore>(rt: &impl Abort, store: &mut S, pid: u32, status: u32)
-    requires { IsWorld (S.contents store.old) }
-    ensures { IsWorld (S.contents store.new) }
-{
-    match store.get(pid) {
-        Some(process) => assert!(rt; !matches!(process.body.life, Life::Zombie(_))),
-        None => assert!(rt; false),
-    }
-    end(store, pid, status);
 }
 
 /// Takes a zombie out, and answers its status.
@@ -129,23 +86,19 @@ pub(crate) fn wait_of<S: ProcStore>(
     wait_poll(store, caller, &Request { who, options })
 }
 
-/// Stops a process other than process 1 by this signal, if it runs.
-pub(crate) fn stop<S: ProcStore>(store: &mut S, pid: u32, signal: u8)
-    requires world { IsWorld (S.contents store.old) }
-    requires other { pid ≢ INIT }
+/// Hands the children of a process that is there on.
+pub(crate) fn reparent_of<S: ProcStore>(rt: &impl Abort, store: &mut S, pid: u32)
+    requires { IsWorld (S.contents store.old) }
     ensures { IsWorld (S.contents store.new) }
 {
-    if let Some(body) = store.body_mut(pid) {
-        stop_body(body, signal);
-    }
+    assert!(rt; store.get(pid).is_some());
+    reparent(store, pid);
 }
 
-fn stop_body(body: &mut Body, signal: u8)
-    ensures { has_ended body.new.life ≡ has_ended body.old.life }
-{
-    if matches!(body.life, Life::Running) {
-        body.life = Life::Stopped;
-        body.note = Note::Stopped(signal);
+/// Lets a process count as one that has executed a program, if it is there.
+pub(crate) fn set_executed<S: ProcStore>(store: &mut S, pid: u32) {
+    if let Some(body) = store.body_mut(pid) {
+        body.executed = true;
     }
 }
 
@@ -189,29 +142,10 @@ fn set_sigchld(body: &mut Body, disposition: Disposition, is_blocked: bool, init
     }
 }
 
-pub(crate) fn life<S: ProcStore>(store: &S, pid: u32) -> Option<Life> {
-    store.get(pid).map(|process| process.body.life)
-}
-
-pub(crate) fn parent<S: ProcStore>(store: &S, pid: u32) -> Option<u32> {
-    store.get(pid).map(|process| process.links.parent)
-}
-
 pub(crate) fn is_subreaper<S: ProcStore>(store: &S, pid: u32) -> Option<bool> {
     store.get(pid).map(|process| process.body.subreaper)
 }
 
-pub(crate) fn note<S: ProcStore>(store: &S, pid: u32) -> Option<Note> {
-    store.get(pid).map(|process| process.body.note)
-}
-
-pub(crate) fn pending<S: ProcStore>(store: &S, pid: u32) -> Option<SigSet> {
-    store.get(pid).map(|process| process.body.signals.pending())
-}
-
-pub(crate) fn handler() -> Disposition {
-    Disposition::Handler {
-        program: 0,
-        mask: SigSet::empty(),
-    }
+pub(crate) fn is_executed<S: ProcStore>(store: &S, pid: u32) -> Option<bool> {
+    store.get(pid).map(|process| process.body.executed)
 }

@@ -1,24 +1,16 @@
-ghost use Rattle.std.specs.Prelude.{IfOk};
 ghost use Rattle.sk_world.specs.Rules.{IsWorld};
 
+use crate::world::assert_alive;
 use sk_insn::Record;
 use sk_machine::{Images, Outcome};
 use sk_syscalls::perform;
-use sk_table::{Life, ListStore, ProcStore, laws};
+use sk_table::ListStore;
 use std::alloc::{AllocError, Global};
 use std::process::Abort;
 use std::test::Fail;
 
 /// A call: the pid of its caller, its number, its first three arguments, and what it comes to.
 pub(crate) type Row = (u32, u32, [u64; 3], Outcome);
-
-/// The world as the system starts.
-pub(crate) fn opening(alloc: Global) -> Result<ListStore, AllocError>
-    ensures { IfOk result IsWorld }
-{
-    laws::rules_are_kept();
-    ListStore::new(alloc)
-}
 
 /// A system in which processes may mark themselves as subreapers, without a filter or a program.
 pub(crate) fn nothing_declared(alloc: Global) -> Images {
@@ -58,10 +50,7 @@ fn make_call<R: Abort + AllocGlobal>(
     requires { IsWorld store.old }
     ensures { IsWorld store.new }
 {
-    match store.get(pid) {
-        Some(process) => assert!(rt; !matches!(process.body.life, Life::Zombie(_))),
-        None => assert!(rt; false),
-    }
+    assert_alive(rt, store, pid);
     let call = Record {
         nr,
         ip: 0,

@@ -1,4 +1,5 @@
-use crate::syscalls::calling::{come_to, nothing_declared, opening};
+use crate::syscalls::calling::{come_to, nothing_declared};
+use crate::world::opening;
 use sk_machine::Images;
 use sk_machine::Outcome::Returned;
 use sk_table::{INIT, ListStore, ProcStore};
@@ -45,7 +46,7 @@ fn filters_of(store: &ListStore, pid: u32) -> Option<usize> {
 
 #[test]
 fn errors_of_attaching_come_in_order(rt: HostRuntime) -> Result<(), Fail> {
-    let mut store = opening(rt.alloc())?;
+    let mut store = opening::<ListStore>(rt.alloc())?;
     let images = images(&rt)?;
     let rows = [
         (INIT, PRCTL, [GET_SECCOMP, 0, 0], Returned(0)),
@@ -72,7 +73,7 @@ fn errors_of_attaching_come_in_order(rt: HostRuntime) -> Result<(), Fail> {
 /// Seven filters of 4096 instructions count 28700, and with an eighth there are 32796.
 #[test]
 fn filters_are_attached_up_to_the_path_limit(rt: HostRuntime) -> Result<(), Fail> {
-    let mut store = opening(rt.alloc())?;
+    let mut store = opening::<ListStore>(rt.alloc())?;
     let images = images(&rt)?;
     let long = (INIT, SECCOMP, [SET_MODE_FILTER, 0, 1], Returned(0));
     come_to(&rt, &mut store, &images, &[long; 7])?;
@@ -87,7 +88,7 @@ fn filters_are_attached_up_to_the_path_limit(rt: HostRuntime) -> Result<(), Fail
 
 #[test]
 fn actions_are_told_by_their_values(rt: HostRuntime) -> Result<(), Fail> {
-    let mut store = opening(rt.alloc())?;
+    let mut store = opening::<ListStore>(rt.alloc())?;
     let images = nothing_declared(rt.alloc());
     let rows = [
         (

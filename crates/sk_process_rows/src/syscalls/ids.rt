@@ -1,7 +1,8 @@
-use crate::syscalls::calling::{come_to, nothing_declared, opening};
+use crate::syscalls::calling::{come_to, nothing_declared};
+use crate::world::opening;
 use sk_machine::Outcome::{Executed, Ids, Returned};
 use sk_machine::{Images, Mark};
-use sk_table::INIT;
+use sk_table::{INIT, ListStore};
 use std::test::Fail;
 
 const EXECVE: u32 = 59;
@@ -26,7 +27,7 @@ const GET_NO_NEW_PRIVS: u64 = 39;
 
 #[test]
 fn ids_are_set_and_told(rt: HostRuntime) -> Result<(), Fail> {
-    let mut store = opening(rt.alloc())?;
+    let mut store = opening::<ListStore>(rt.alloc())?;
     let images = nothing_declared(rt.alloc());
     let rows = [
         (INIT, GETUID, [0; 3], Returned(0)),
@@ -57,7 +58,7 @@ fn programs(rt: &HostRuntime) -> Result<Images, Fail> {
 
 #[test]
 fn execve_takes_the_owners_id_unless_it_is_bound(rt: HostRuntime) -> Result<(), Fail> {
-    let mut store = opening(rt.alloc())?;
+    let mut store = opening::<ListStore>(rt.alloc())?;
     let images = programs(&rt)?;
     let rows = [
         (INIT, SETUID, [1000, 0, 0], Returned(0)),

@@ -1,6 +1,7 @@
-use crate::syscalls::calling::{come_to, nothing_declared, opening};
+use crate::syscalls::calling::{come_to, nothing_declared};
+use crate::world::{opening, waiting};
 use sk_machine::Outcome::{Ended, Returned, Told, Waits};
-use sk_table::{INIT, ListStore, ProcStore, Waiting};
+use sk_table::{INIT, ListStore, Waiting};
 use std::test::Fail;
 
 const SCHED_YIELD: u32 = 24;
@@ -38,13 +39,9 @@ const GET_CHILD_SUBREAPER: u64 = 37;
 /// -1 as a pid.
 const ANY: u64 = 0xffff_ffff;
 
-fn waiting(store: &ListStore, pid: u32) -> Option<Waiting> {
-    store.get(pid).map(|process| process.body.waiting)
-}
-
 #[test]
 fn processes_come_and_go(rt: HostRuntime) -> Result<(), Fail> {
-    let mut store = opening(rt.alloc())?;
+    let mut store = opening::<ListStore>(rt.alloc())?;
     let images = nothing_declared(rt.alloc());
     let first = Told {
         pid: 2,
@@ -77,7 +74,7 @@ fn processes_come_and_go(rt: HostRuntime) -> Result<(), Fail> {
 
 #[test]
 fn groups_and_sessions_are_set_and_told(rt: HostRuntime) -> Result<(), Fail> {
-    let mut store = opening(rt.alloc())?;
+    let mut store = opening::<ListStore>(rt.alloc())?;
     let images = nothing_declared(rt.alloc());
     let rows = [
         (INIT, FORK, [0; 3], Returned(2)),
@@ -97,7 +94,7 @@ fn groups_and_sessions_are_set_and_told(rt: HostRuntime) -> Result<(), Fail> {
 
 #[test]
 fn subreapers_are_marked_where_there_are_any(rt: HostRuntime) -> Result<(), Fail> {
-    let mut store = opening(rt.alloc())?;
+    let mut store = opening::<ListStore>(rt.alloc())?;
     let mut images = nothing_declared(rt.alloc());
     let rows = [
         (INIT, FORK, [0; 3], Returned(2)),

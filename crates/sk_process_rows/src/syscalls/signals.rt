@@ -1,8 +1,9 @@
-use crate::syscalls::calling::{come_to, nothing_declared, opening};
+use crate::syscalls::calling::{come_to, nothing_declared};
+use crate::world::opening;
 use sk_machine::Outcome::{Returned, Signals};
 use sk_signal::SigSet;
 use sk_signal::number::SIGUSR1;
-use sk_table::INIT;
+use sk_table::{INIT, ListStore};
 use std::test::Fail;
 
 const SIGACTION: u32 = 13;
@@ -32,7 +33,7 @@ const USERS: u64 = 1 << 9 | 1 << 11;
 
 #[test]
 fn blocked_signals_pend(rt: HostRuntime) -> Result<(), Fail> {
-    let mut store = opening(rt.alloc())?;
+    let mut store = opening::<ListStore>(rt.alloc())?;
     let images = nothing_declared(rt.alloc());
     let pending = SigSet::empty().with(SIGUSR1);
     let rows = [

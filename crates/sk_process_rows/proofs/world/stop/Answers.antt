@@ -1,7 +1,7 @@
 use Rattle.std.proofs.Common.{sym, subst}
 use Rattle.sk_world.specs.Rules.{IsWorld}
 use Rattle.sk_world.proofs.Bodies.{kept_body}
-use Rattle.sk_process_rows.proofs.stores.testing.stop.Goals as goal
+use Rattle.sk_process_rows.proofs.world.stop.Goals as goal
 
 pub returns-in-Some : goal.returns-in-Some
 returns-in-Some g c =
