@@ -1,8 +1,13 @@
-//! Each public function below the kernel, and the scenario reader, at examples whose answers the manuals give.
+//! Each public function that has to do with processes, from their numbers to the calls, the stores, and the scenario
+//! reader, at examples whose answers the manuals give.
 #![tactic(auto)]
 
 #[cfg(test)]
 mod calls;
+#[cfg(test)]
+mod candidates;
+#[cfg(test)]
+mod deliveries;
 #[cfg(test)]
 mod events;
 #[cfg(test)]
@@ -16,8 +21,16 @@ mod processes;
 #[cfg(test)]
 mod scenarios;
 #[cfg(test)]
+mod sessions;
+#[cfg(test)]
 mod signals;
+#[cfg(test)]
+mod stores;
+#[cfg(test)]
+mod syscalls;
 #[cfg(test)]
 mod uses;
 #[cfg(test)]
 mod worked_scenarios;
+#[cfg(test)]
+mod world;

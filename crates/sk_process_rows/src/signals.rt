@@ -1,7 +1,7 @@
 use sk_signal::number::{SIGCHLD, SIGCONT, SIGHUP, SIGKILL, SIGSYS, SIGTERM, SIGTSTP, SIGUSR1};
 use sk_signal::{DefaultAction, Disposition, SigSet, SigState, default_action, tty_stop};
 
-fn handler() -> Disposition {
+pub(crate) fn handler() -> Disposition {
     Disposition::Handler {
         program: 0,
         mask: SigSet::empty(),

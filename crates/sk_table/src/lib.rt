@@ -10,12 +10,3 @@ pub use sk_world::{
     Body, INIT, LAST_PID, Life, Links, Note, PROCESSES, Poll, Proc, ProcStore, Request,
     WaitOptions, Waiting, Who, end, fork, laws, ready, reap, reaper, reparent, send, wait_poll,
 };
-
-#[cfg(test)]
-mod slot_tests;
-#[cfg(test)]
-mod store_tests;
-#[cfg(test)]
-mod testing;
-#[cfg(test)]
-mod tests;

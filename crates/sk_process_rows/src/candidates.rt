@@ -1,0 +1,140 @@
+//! Worked examples of whose turn is next, over each store: who waits is passed over, and hears what ends its call.
+ghost use Rattle.std.specs.Prelude.{◌≡◌};
+ghost use Rattle.sk_world.specs.Rules.{IsWorld};
+
+use crate::sessions::world::lead_group;
+use crate::world::{end_of, fork_of, opening};
+use bitflags::Flags;
+use sk_candidates::Candidates;
+use sk_signal::number::SIGUSR1;
+use sk_table::{
+    Body, INIT, ListStore, ProcStore, Request, SlotStore, WaitOptions, Waiting, Who, send,
+};
+use std::process::Abort;
+use std::test::Fail;
+
+#[test]
+fn rows_hold_over_a_list(rt: HostRuntime) -> Result<(), Fail> {
+    rows::<ListStore, HostRuntime>(&rt)
+}
+
+#[test]
+fn rows_hold_over_slots(rt: HostRuntime) -> Result<(), Fail> {
+    rows::<SlotStore, HostRuntime>(&rt)
+}
+
+fn rows<S: ProcStore, R: Abort + AllocGlobal>(rt: &R) -> Result<(), Fail> {
+    who_waits_is_passed_over::<S, R>(rt)?;
+    parent_hears_of_the_end_of_its_child::<S, R>(rt)?;
+    parent_goes_on_where_no_child_matches::<S, R>(rt)?;
+    candidates_keep_what_the_store_keeps::<S, R>(rt)?;
+    Ok(())
+}
+
+/// Three children, of which two pause. The turn goes round past them, and comes to one that has a signal due.
+fn who_waits_is_passed_over<S: ProcStore, R: Abort + AllocGlobal>(rt: &R) -> Result<(), Fail> {
+    let mut store = opening::<Candidates<S>>(rt.alloc())?;
+    fork_of(rt, &mut store, INIT)?;
+    fork_of(rt, &mut store, INIT)?;
+    fork_of(rt, &mut store, INIT)?;
+    turns(rt, &store, &[(0, Some(1)), (1, Some(2)), (4, Some(1))]);
+    waits(&mut store, 2, Waiting::Pause);
+    waits(&mut store, 4, Waiting::Pause);
+    turns(rt, &store, &[(0, Some(1)), (1, Some(3)), (3, Some(1))]);
+    waits(&mut store, INIT, Waiting::Pause);
+    turns(rt, &store, &[(0, Some(3)), (3, Some(3))]);
+    waits(&mut store, 3, Waiting::Pause);
+    turns(rt, &store, &[(0, None), (3, None)]);
+    send(&mut store, 2, SIGUSR1);
+    turns(rt, &store, &[(0, Some(2)), (2, Some(2))]);
+    waits(&mut store, 3, Waiting::Nothing);
+    turns(rt, &store, &[(0, Some(2)), (2, Some(3)), (3, Some(2))]);
+    Ok(())
+}
+
+/// Process 1 waits for two children that pause: nobody can run. One of them ends, and process 1 is told.
+fn parent_hears_of_the_end_of_its_child<S: ProcStore, R: Abort + AllocGlobal>(
+    rt: &R,
+) -> Result<(), Fail> {
+    let mut store = opening::<Candidates<S>>(rt.alloc())?;
+    fork_of(rt, &mut store, INIT)?;
+    fork_of(rt, &mut store, INIT)?;
+    waits(&mut store, INIT, asks(Who::Any));
+    waits(&mut store, 2, Waiting::Pause);
+    waits(&mut store, 3, Waiting::Pause);
+    turns(rt, &store, &[(0, None), (2, None)]);
+    end_of(rt, &mut store, 3, 0);
+    turns(rt, &store, &[(0, Some(1)), (2, Some(1))]);
+    Ok(())
+}
+
+/// Process 1 waits for its group. Its only child leaves the group, so that nobody is left to wait for.
+fn parent_goes_on_where_no_child_matches<S: ProcStore, R: Abort + AllocGlobal>(
+    rt: &R,
+) -> Result<(), Fail> {
+    let mut store = opening::<Candidates<S>>(rt.alloc())?;
+    fork_of(rt, &mut store, INIT)?;
+    waits(&mut store, INIT, asks(Who::Group(INIT)));
+    waits(&mut store, 2, Waiting::Pause);
+    turns(rt, &store, &[(0, None)]);
+    lead_group(rt, &mut store, 2);
+    turns(rt, &store, &[(0, Some(1)), (1, Some(1))]);
+    Ok(())
+}
+
+/// What a store keeps is asked of the candidates as of the store.
+fn candidates_keep_what_the_store_keeps<S: ProcStore, R: Abort + AllocGlobal>(
+    rt: &R,
+) -> Result<(), Fail> {
+    let mut store = opening::<Candidates<S>>(rt.alloc())?;
+    fork_of(rt, &mut store, INIT)?;
+    assert_eq!(rt; (store.count(), store.last(), store.fresh()), (2, 2, 3));
+    assert_eq!(rt;
+        (store.next_pid(0), store.next_pid(1), store.next_pid(2)),
+        (Some(1), Some(2), None)
+    );
+    assert_eq!(rt;
+        (store.next_child(INIT, 0), store.next_child(INIT, 2)),
+        (Some(2), None)
+    );
+    assert_eq!(rt;
+        (store.next_member(INIT, 1), store.next_member(2, 0)),
+        (Some(2), None)
+    );
+    assert_eq!(rt; (store.used(2), store.used(3)), (true, false));
+    assert!(rt; store.get(2).is_some() && store.get(3).is_none());
+    assert!(rt; store.remove(2).is_some() && store.get(2).is_none());
+    Ok(())
+}
+
+fn asks(who: Who) -> Waiting {
+    Waiting::Asks(Request {
+        who,
+        options: WaitOptions::empty(),
+    })
+}
+
+/// Each is who comes next after a pid.
+fn turns<S: ProcStore>(rt: &impl Abort, store: &Candidates<S>, rows: &[(u32, Option<u32>)])
+    requires { IsWorld store.now }
+{
+    for (after, next) in rows {
+        assert_eq!(rt; store.next_runnable(*after), *next, "after {after}");
+    }
+}
+
+/// Makes a process wait for this.
+fn waits<S: ProcStore>(store: &mut Candidates<S>, pid: u32, waiting: Waiting)
+    requires { IsWorld store.old }
+    ensures { IsWorld store.new }
+{
+    if let Some(body) = store.body_mut(pid) {
+        wait_for(body, waiting);
+    }
+}
+
+fn wait_for(body: &mut Body, waiting: Waiting)
+    ensures { body.new.life ≡ body.old.life }
+{
+    body.waiting = waiting;
+}

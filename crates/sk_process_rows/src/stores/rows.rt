@@ -1,0 +1,325 @@
+use crate::signals::handler;
+use crate::stores::testing::{is_subreaper, mark, on_sigchld, reap_of, reparent_of, wait_of};
+use crate::world::{end_of, fork_of, life, note, opening, parent, pending, stop};
+use sk_signal::number::{SIGCHLD, SIGCONT, SIGTERM, SIGTSTP};
+use sk_signal::{Disposition, SigSet};
+use sk_table::{
+    INIT, Life, ListStore, Note, Poll, ProcStore, Request, SlotStore, WaitOptions, Who, ready,
+    reaper, send,
+};
+use std::process::Abort;
+use std::test::Fail;
+
+#[test]
+fn rows_hold_over_a_list(rt: HostRuntime) -> Result<(), Fail> {
+    rows::<ListStore, HostRuntime>(&rt)
+}
+
+#[test]
+fn rows_hold_over_slots(rt: HostRuntime) -> Result<(), Fail> {
+    rows::<SlotStore, HostRuntime>(&rt)
+}
+
+fn rows<S: ProcStore, R: Abort + AllocGlobal>(rt: &R) -> Result<(), Fail> {
+    sigcont_continues_and_is_told_once::<S, R>(rt)?;
+    stop_is_told_to_wuntraced_once::<S, R>(rt)?;
+    continuing_is_announced_to_the_parent::<S, R>(rt)?;
+    process_1_and_zombies_take_no_signal::<S, R>(rt)?;
+    handed_on_zombie_is_announced_to_process_1::<S, R>(rt)?;
+    orphans_go_to_the_nearest_subreaper::<S, R>(rt)?;
+    zombie_is_announced_to_the_subreaper::<S, R>(rt)?;
+    handed_on_zombie_goes_under_an_ignored_sigchld::<S, R>(rt)?;
+    end_is_told_and_then_nobody_matches::<S, R>(rt)?;
+    end_of_process_1_hands_no_children_on::<S, R>(rt)?;
+    nobody_is_told_of_where_nobody_is_ready::<S, R>(rt)?;
+    lowest_ready_child_is_told::<S, R>(rt)?;
+    zombie_is_reaped::<S, R>(rt)?;
+    Ok(())
+}
+
+fn sigcont_continues_and_is_told_once<S: ProcStore, R: Abort + AllocGlobal>(
+    rt: &R,
+) -> Result<(), Fail> {
+    let mut store = opening::<S>(rt.alloc())?;
+    fork_of(rt, &mut store, INIT)?;
+    stop(&mut store, 2, SIGTSTP);
+    send(&mut store, 2, SIGCONT);
+    assert_eq!(rt; life(&store, 2), Some(Life::Running));
+    let stops = WaitOptions::WNOHANG | WaitOptions::WUNTRACED;
+    assert_eq!(rt;
+        wait_of(rt, &mut store, INIT, Who::Any, stops),
+        Poll::NotReady
+    );
+    let all = stops | WaitOptions::WCONTINUED;
+    assert_eq!(rt;
+        wait_of(rt, &mut store, INIT, Who::Any, all),
+        Poll::Told {
+            pid: 2,
+            status: 0xffff
+        }
+    );
+    assert_eq!(rt; note(&store, 2), Some(Note::Nothing));
+    assert_eq!(rt;
+        wait_of(rt, &mut store, INIT, Who::Any, all),
+        Poll::NotReady
+    );
+    Ok(())
+}
+
+fn stop_is_told_to_wuntraced_once<S: ProcStore, R: Abort + AllocGlobal>(
+    rt: &R,
+) -> Result<(), Fail> {
+    let mut store = opening::<S>(rt.alloc())?;
+    fork_of(rt, &mut store, INIT)?;
+    stop(&mut store, 2, SIGTSTP);
+    let continues = WaitOptions::WNOHANG | WaitOptions::WCONTINUED;
+    assert_eq!(rt;
+        wait_of(rt, &mut store, INIT, Who::Any, continues),
+        Poll::NotReady
+    );
+    let stops = WaitOptions::WUNTRACED;
+    assert_eq!(rt;
+        wait_of(rt, &mut store, INIT, Who::Any, stops),
+        Poll::Told {
+            pid: 2,
+            status: 0x147f
+        }
+    );
+    assert_eq!(rt;
+        wait_of(rt, &mut store, INIT, Who::Any, stops),
+        Poll::NotReady
+    );
+    assert_eq!(rt; life(&store, 2), Some(Life::Stopped));
+    Ok(())
+}
+
+fn continuing_is_announced_to_the_parent<S: ProcStore, R: Abort + AllocGlobal>(
+    rt: &R,
+) -> Result<(), Fail> {
+    let mut store = opening::<S>(rt.alloc())?;
+    fork_of(rt, &mut store, INIT)?;
+    fork_of(rt, &mut store, 2)?;
+    on_sigchld(&mut store, 2, handler(), true);
+    send(&mut store, 3, SIGCONT);
+    assert_eq!(rt; note(&store, 3), Some(Note::Nothing));
+    assert_eq!(rt; pending(&store, 2), Some(SigSet::empty()));
+    stop(&mut store, 3, SIGTSTP);
+    send(&mut store, 3, SIGCONT);
+    assert_eq!(rt; pending(&store, 2), Some(SigSet::empty().with(SIGCHLD)));
+    assert_eq!(rt; pending(&store, INIT), Some(SigSet::empty()));
+    Ok(())
+}
+
+fn process_1_and_zombies_take_no_signal<S: ProcStore, R: Abort + AllocGlobal>(
+    rt: &R,
+) -> Result<(), Fail> {
+    let mut store = opening::<S>(rt.alloc())?;
+    fork_of(rt, &mut store, INIT)?;
+    fork_of(rt, &mut store, INIT)?;
+    end_of(rt, &mut store, 3, 9);
+    for pid in [INIT, 2, 3, 4] {
+        send(&mut store, pid, SIGTERM);
+    }
+    assert_eq!(rt; pending(&store, INIT), Some(SigSet::empty()));
+    assert_eq!(rt; pending(&store, 2), Some(SigSet::empty().with(SIGTERM)));
+    assert_eq!(rt; pending(&store, 3), Some(SigSet::empty()));
+    assert_eq!(rt; pending(&store, 4), None);
+    Ok(())
+}
+
+fn handed_on_zombie_is_announced_to_process_1<S: ProcStore, R: Abort + AllocGlobal>(
+    rt: &R,
+) -> Result<(), Fail> {
+    let mut store = opening::<S>(rt.alloc())?;
+    on_sigchld(&mut store, INIT, handler(), false);
+    fork_of(rt, &mut store, INIT)?;
+    fork_of(rt, &mut store, 2)?;
+    fork_of(rt, &mut store, 2)?;
+    end_of(rt, &mut store, 3, 9);
+    assert_eq!(rt; parent(&store, 3), Some(2));
+    assert_eq!(rt; pending(&store, INIT), Some(SigSet::empty()));
+    reparent_of(rt, &mut store, 2);
+    assert_eq!(rt;
+        (parent(&store, 3), parent(&store, 4)),
+        (Some(INIT), Some(INIT))
+    );
+    assert_eq!(rt; pending(&store, INIT), Some(SigSet::empty().with(SIGCHLD)));
+    assert_eq!(rt;
+        wait_of(rt, &mut store, INIT, Who::Any, WaitOptions::WNOHANG),
+        Poll::Told { pid: 3, status: 9 }
+    );
+    Ok(())
+}
+
+fn orphans_go_to_the_nearest_subreaper<S: ProcStore, R: Abort + AllocGlobal>(
+    rt: &R,
+) -> Result<(), Fail> {
+    let mut store = opening::<S>(rt.alloc())?;
+    fork_of(rt, &mut store, INIT)?;
+    mark(&mut store, 2, true);
+    fork_of(rt, &mut store, 2)?;
+    assert_eq!(rt;
+        (is_subreaper(&store, 2), is_subreaper(&store, 3)),
+        (Some(true), Some(false))
+    );
+    mark(&mut store, 3, true);
+    fork_of(rt, &mut store, 3)?;
+    fork_of(rt, &mut store, 4)?;
+    assert_eq!(rt;
+        (
+            reaper(&store, 5),
+            reaper(&store, 4),
+            reaper(&store, 3),
+            reaper(&store, 2)
+        ),
+        (3, 3, 2, INIT)
+    );
+    end_of(rt, &mut store, 4, 0);
+    assert_eq!(rt; parent(&store, 5), Some(3));
+    end_of(rt, &mut store, 3, 0);
+    assert_eq!(rt; parent(&store, 5), Some(2));
+    mark(&mut store, 2, false);
+    assert_eq!(rt; parent(&store, 5), Some(2));
+    end_of(rt, &mut store, 2, 0);
+    assert_eq!(rt; parent(&store, 5), Some(INIT));
+    Ok(())
+}
+
+fn zombie_is_announced_to_the_subreaper<S: ProcStore, R: Abort + AllocGlobal>(
+    rt: &R,
+) -> Result<(), Fail> {
+    let mut store = opening::<S>(rt.alloc())?;
+    for pid in [INIT, 2, 3, 4] {
+        fork_of(rt, &mut store, pid)?;
+    }
+    mark(&mut store, 2, true);
+    on_sigchld(&mut store, INIT, handler(), false);
+    on_sigchld(&mut store, 2, handler(), false);
+    end_of(rt, &mut store, 5, 9);
+    end_of(rt, &mut store, 4, 0);
+    assert_eq!(rt; pending(&store, INIT), Some(SigSet::empty()));
+    assert_eq!(rt; pending(&store, 2), Some(SigSet::empty().with(SIGCHLD)));
+    let asked = Request {
+        who: Who::Any,
+        options: WaitOptions::WNOHANG,
+    };
+    if store.get(2).is_some() {
+        assert_eq!(rt; ready(&store, 2, &asked), Poll::Told { pid: 5, status: 9 });
+    }
+    assert_eq!(rt; life(&store, 5), Some(Life::Zombie(9)));
+    Ok(())
+}
+
+fn handed_on_zombie_goes_under_an_ignored_sigchld<S: ProcStore, R: Abort + AllocGlobal>(
+    rt: &R,
+) -> Result<(), Fail> {
+    let mut store = opening::<S>(rt.alloc())?;
+    on_sigchld(&mut store, INIT, Disposition::Ignore, true);
+    fork_of(rt, &mut store, INIT)?;
+    on_sigchld(&mut store, 2, Disposition::Default, false);
+    fork_of(rt, &mut store, 2)?;
+    fork_of(rt, &mut store, 2)?;
+    end_of(rt, &mut store, 3, 9);
+    assert_eq!(rt; life(&store, 3), Some(Life::Zombie(9)));
+    end_of(rt, &mut store, 2, 0x100);
+    assert_eq!(rt; (life(&store, 2), life(&store, 3)), (None, None));
+    assert_eq!(rt; parent(&store, 4), Some(INIT));
+    assert_eq!(rt; pending(&store, INIT), Some(SigSet::empty()));
+    Ok(())
+}
+
+fn end_is_told_and_then_nobody_matches<S: ProcStore, R: Abort + AllocGlobal>(
+    rt: &R,
+) -> Result<(), Fail> {
+    let mut store = opening::<S>(rt.alloc())?;
+    on_sigchld(&mut store, INIT, handler(), false);
+    fork_of(rt, &mut store, INIT)?;
+    stop(&mut store, 2, SIGTSTP);
+    send(&mut store, 2, SIGTERM);
+    end_of(rt, &mut store, 2, 9);
+    assert_eq!(rt; pending(&store, 2), Some(SigSet::empty()));
+    assert_eq!(rt; note(&store, 2), Some(Note::Nothing));
+    assert_eq!(rt; pending(&store, INIT), Some(SigSet::empty().with(SIGCHLD)));
+    assert_eq!(rt;
+        wait_of(rt, &mut store, INIT, Who::Child(2), WaitOptions::WNOHANG),
+        Poll::Told { pid: 2, status: 9 }
+    );
+    assert_eq!(rt;
+        wait_of(rt, &mut store, INIT, Who::Child(2), WaitOptions::WNOHANG),
+        Poll::NoMatch
+    );
+    Ok(())
+}
+
+fn end_of_process_1_hands_no_children_on<S: ProcStore, R: Abort + AllocGlobal>(
+    rt: &R,
+) -> Result<(), Fail> {
+    let mut store = opening::<S>(rt.alloc())?;
+    fork_of(rt, &mut store, INIT)?;
+    end_of(rt, &mut store, INIT, 11);
+    assert_eq!(rt; life(&store, INIT), Some(Life::Zombie(11)));
+    assert_eq!(rt;
+        (life(&store, 2), parent(&store, 2)),
+        (Some(Life::Running), Some(INIT))
+    );
+    Ok(())
+}
+
+fn nobody_is_told_of_where_nobody_is_ready<S: ProcStore, R: Abort + AllocGlobal>(
+    rt: &R,
+) -> Result<(), Fail> {
+    let mut store = opening::<S>(rt.alloc())?;
+    assert_eq!(rt;
+        wait_of(rt, &mut store, INIT, Who::Any, WaitOptions::WNOHANG),
+        Poll::NoMatch
+    );
+    fork_of(rt, &mut store, INIT)?;
+    fork_of(rt, &mut store, 2)?;
+    end_of(rt, &mut store, 3, 9);
+    let rows = [
+        (INIT, Who::Any, Poll::NotReady),
+        (INIT, Who::Child(2), Poll::NotReady),
+        (INIT, Who::Group(INIT), Poll::NotReady),
+        (INIT, Who::Child(3), Poll::NoMatch),
+        (INIT, Who::Child(7), Poll::NoMatch),
+        (INIT, Who::Group(2), Poll::NoMatch),
+        (2, Who::Group(INIT), Poll::Told { pid: 3, status: 9 }),
+        (2, Who::Any, Poll::NoMatch),
+    ];
+    for (caller, who, poll) in rows {
+        assert_eq!(rt;
+            wait_of(rt, &mut store, caller, who, WaitOptions::WNOHANG),
+            poll
+        );
+    }
+    Ok(())
+}
+
+fn lowest_ready_child_is_told<S: ProcStore, R: Abort + AllocGlobal>(rt: &R) -> Result<(), Fail> {
+    let mut store = opening::<S>(rt.alloc())?;
+    fork_of(rt, &mut store, INIT)?;
+    fork_of(rt, &mut store, INIT)?;
+    fork_of(rt, &mut store, INIT)?;
+    end_of(rt, &mut store, 4, 4);
+    end_of(rt, &mut store, 3, 3);
+    for poll in [
+        Poll::Told { pid: 3, status: 3 },
+        Poll::Told { pid: 4, status: 4 },
+        Poll::NotReady,
+    ] {
+        assert_eq!(rt;
+            wait_of(rt, &mut store, INIT, Who::Any, WaitOptions::WNOHANG),
+            poll
+        );
+    }
+    Ok(())
+}
+
+fn zombie_is_reaped<S: ProcStore, R: Abort + AllocGlobal>(rt: &R) -> Result<(), Fail> {
+    let mut store = opening::<S>(rt.alloc())?;
+    fork_of(rt, &mut store, INIT)?;
+    end_of(rt, &mut store, 2, 0x300);
+    assert_eq!(rt; reap_of(rt, &mut store, 2), 0x300);
+    assert_eq!(rt; (life(&store, 2), store.count()), (None, 1));
+    Ok(())
+}
