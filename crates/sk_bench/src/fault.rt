@@ -29,6 +29,9 @@ pub enum Fault {
     /// What is to be read as a scenario is none.
     #[error("{0}")]
     Scenario(ScenarioFault),
+    /// A run did not come to its end.
+    #[error("{0}")]
+    Engine(#[from] EngineFault),
     /// Memory was refused.
     #[error("skern: out of memory")]
     Memory,
@@ -38,8 +41,9 @@ impl Fault {
     /// The status that the program ends with, as `skern` has it: 1 for a fault of the input.
     pub fn status(self) -> u8 {
         match self {
-            Fault::Read | Fault::Write | Fault::Memory => 3,
             Fault::NotUnderstood | Fault::Refused | Fault::NoRoom | Fault::Scenario(_) => 1,
+            Fault::Engine(EngineFault::Scenario(_)) => 1,
+            Fault::Read | Fault::Write | Fault::Memory | Fault::Engine(_) => 3,
         }
     }
 }
@@ -98,17 +102,6 @@ impl From<ScenarioFault> for Fault {
         match fault {
             ScenarioFault::Memory => Fault::Memory,
             _ => Fault::Scenario(fault),
-        }
-    }
-}
-
-impl From<EngineFault> for Fault {
-    fn from(fault: EngineFault) -> Fault {
-        match fault {
-            EngineFault::Read => Fault::Read,
-            EngineFault::Scenario(fault) => Fault::Scenario(fault),
-            EngineFault::Write => Fault::Write,
-            EngineFault::Memory { .. } => Fault::Memory,
         }
     }
 }
