@@ -1,50 +1,30 @@
 use sk_ends::ReadFault;
 use sk_insn::ImageFault;
-use sk_scenario::ScenarioFault;
-use sk_sched::EngineFault;
 use sk_text::HexFault;
 use std::alloc::{AllocError, AllocFailed};
-use std::io;
-use std::io::ErrorKind;
-use thiserror::Error;
+use std::fmt;
 
 /// Why a task is not done.
-#[derive(Clone, Copy, Debug, PartialEq, Eq, Error)]
+#[derive(Clone, Copy, Debug, PartialEq, Eq)]
 pub enum Fault {
     /// Standard input could not be read.
-    #[error("skern: reading failed")]
     Read,
-    /// Standard output could not be written.
-    #[error("skern: writing failed")]
-    Write,
     /// The text is no task.
-    #[error("not understood")]
     NotUnderstood,
     /// A filter is refused.
-    #[error("a filter is refused")]
     Refused,
-    /// There is no room for a process.
-    #[error("no room")]
-    NoRoom,
-    /// What is to be read as a scenario is none.
-    #[error("{0}")]
-    Scenario(ScenarioFault),
-    /// A run did not come to its end.
-    #[error("{0}")]
-    Engine(#[from] EngineFault),
     /// Memory was refused.
-    #[error("skern: out of memory")]
     Memory,
 }
 
-impl Fault {
-    /// The status that the program ends with, as `skern` has it: 1 for a fault of the input.
-    pub fn status(self) -> u8 {
-        match self {
-            Fault::NotUnderstood | Fault::Refused | Fault::NoRoom | Fault::Scenario(_) => 1,
-            Fault::Engine(EngineFault::Scenario(_)) => 1,
-            Fault::Read | Fault::Write | Fault::Memory | Fault::Engine(_) => 3,
-        }
+impl fmt::Display for Fault {
+    fn fmt<W: fmt::Write>(&self, f: &mut fmt::Formatter<W>) -> fmt::Result {
+        f.write_str(match self {
+            Fault::Read => "reading failed",
+            Fault::NotUnderstood => "not understood",
+            Fault::Refused => "a filter is refused",
+            Fault::Memory => "out of memory",
+        })
     }
 }
 
@@ -93,24 +73,6 @@ impl From<ImageFault> for Fault {
         match fault {
             ImageFault::Ragged | ImageFault::Empty | ImageFault::TooLong => Fault::Refused,
             ImageFault::Memory => Fault::Memory,
-        }
-    }
-}
-
-impl From<ScenarioFault> for Fault {
-    fn from(fault: ScenarioFault) -> Fault {
-        match fault {
-            ScenarioFault::Memory => Fault::Memory,
-            _ => Fault::Scenario(fault),
-        }
-    }
-}
-
-impl From<io::Error> for Fault {
-    fn from(failed: io::Error) -> Fault {
-        match failed.kind() {
-            ErrorKind::OutOfMemory => Fault::Memory,
-            _ => Fault::Write,
         }
     }
 }

@@ -3,9 +3,9 @@ ghost use Rattle.std.specs.Prelude.{◌≡◌, ◌++◌, List, [], ◌∷◌, Ok
 ghost use Rattle.sk_insn.specs.declared.insn.Insn.{Insn};
 ghost use Rattle.sk_insn.specs.Instructions.{instructions_of};
 
-use super::task::{Task, Work};
-use super::total::Total;
 use crate::fault::Fault;
+use crate::task::{Task, Work};
+use crate::total::Total;
 use sk_chain::{Chain, ChainFault};
 use sk_check::{Checked, check};
 use sk_insn::{Insn, Record, read_insns};

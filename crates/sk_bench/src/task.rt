@@ -4,9 +4,8 @@ ghost use Rattle.std.specs.Prelude.{◌≡◌};
 ghost use Rattle.sk_insn.specs.Record.{record_of};
 
 use crate::fault::Fault;
-use crate::numbers::number_of;
 use sk_insn::{RECORD_LEN, Record};
-use sk_text::{Lines, Words, bytes_of};
+use sk_text::{Lines, Words, bytes_of, number_up_to};
 use std::alloc::Global;
 
 /// What is done in each round.
@@ -65,11 +64,12 @@ impl Task {
     fn begun(alloc: Global, line: &[u8]) -> Result<Task, Fault> {
         let mut words = Words(line);
         let name = words.next().ok_or(Fault::NotUnderstood)?;
+        let count = words.next().ok_or(Fault::NotUnderstood)?;
         let work = Work::named(name).ok_or(Fault::NotUnderstood)?;
-        let rounds = number_of(words.next())?;
+        let rounds = number_up_to(count, 0xffff_ffff).ok_or(Fault::NotUnderstood)?;
         Ok(Task {
             work,
-            rounds,
+            rounds: rounds as u32,
             calls: Vec::new(alloc),
             images: Vec::new(alloc),
         })
