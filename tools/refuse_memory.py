@@ -202,8 +202,15 @@ SCENARIOS = [(text, report, 0) for text, report in worked_scenarios()]
 # The last one attaches its filter in turn 5, so one of its runs is refused memory behind four turns.
 FOUR_TURNS = SCENARIOS[-1][0]
 SCENARIOS += [(text, f"skern: line {line}: {why}\n", 1) for text, line, why in BAD_SCENARIOS]
-READINGS = [(text, told(setting), 0) for text, setting in SETTINGS]
-READINGS += [(text, f"skern: line {line}: {why}\n", 1) for text, line, why in BAD_SCENARIOS]
+
+
+def reading(text):
+    """The task of READS that reads a scenario."""
+    return f"scenario {len(text)}\n{text}"
+
+
+READINGS = [(reading(text), told(setting), 0) for text, setting in SETTINGS]
+READINGS += [(reading(text), f"skern: line {line}: {why}\n", 1) for text, line, why in BAD_SCENARIOS]
 OUT_OF_MEMORY = b"skern: out of memory\n"
 MOST_ALLOCATIONS = 2000
 # Not enough for a call for each filter of FORKS' longest chain.

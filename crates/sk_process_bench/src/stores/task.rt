@@ -1,7 +1,8 @@
-//! The text of a task: a line with the store, the work, how many processes there are and the number of rounds.
+//! The words of a task: the store, the work, how many processes there are and the number of rounds.
 
 use crate::fault::Fault;
-use sk_text::{Lines, Words, number_up_to};
+use crate::numbers::number_of;
+use sk_text::Words;
 
 /// Which store is measured.
 #[derive(Clone, Copy, Debug, PartialEq, Eq)]
@@ -29,11 +30,8 @@ pub struct Task {
 }
 
 impl Task {
-    /// The task of a text.
-    pub fn of(text: &[u8]) -> Result<Task, Fault> {
-        let mut lines = Lines(text);
-        let line = lines.next().ok_or(Fault::NotUnderstood)?;
-        let mut words = Words(line);
+    /// The task that words name.
+    pub fn of(mut words: Words<'_>) -> Result<Task, Fault> {
         let store = match words.next() {
             Some(b"list") => Store::List,
             Some(b"slots") => Store::Slots,
@@ -53,10 +51,4 @@ impl Task {
             rounds,
         })
     }
-}
-
-fn number_of(word: Option<&[u8]>) -> Result<u32, Fault> {
-    let word = word.ok_or(Fault::NotUnderstood)?;
-    let number = number_up_to(word, 0xffff_ffff).ok_or(Fault::NotUnderstood)?;
-    Ok(number as u32)
 }

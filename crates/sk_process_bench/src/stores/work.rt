@@ -1,42 +1,15 @@
-//! What `bench/run` measures of the stores: a task on standard input, done over and over, and a sum of all that
-//! came out of it.
-#![tactic(auto)]
-
+//! The work itself, and a sum of all that came out of it.
 ghost use Rattle.std.specs.Prelude.{◌≡◌, IfOk};
 ghost use Rattle.sk_world.specs.World.{at, is_alive, is_zombie};
 ghost use Rattle.sk_world.specs.Rules.{IsWorld};
 
-mod fault;
-mod task;
-
-use fault::Fault;
-use sk_ends::{Counted, take_up_to};
+use super::task::{Store, Task, Work};
+use crate::fault::Fault;
 use sk_table::{INIT, Life, ListStore, ProcStore, SlotStore, end, fork, laws, reap};
-use std::process::ExitCode;
-use task::{Store, Task, Work};
+use std::alloc::Global;
 
-// The most bytes of a task.
-const MOST_BYTES: usize = 256;
-
-fn main(rt: HostRuntime) -> ExitCode {
-    match done(&rt) {
-        Ok(sum) => match println!(rt; "sum {sum}") {
-            Ok(()) => ExitCode::SUCCESS,
-            Err(_) => ExitCode::FAILURE,
-        },
-        Err(fault) => {
-            let _ = println!(rt; "{fault}");
-            ExitCode::FAILURE
-        }
-    }
-}
-
-// What the task of standard input comes to.
-fn done<R: Input + AllocGlobal>(rt: &R) -> Result<u32, Fault> {
-    let alloc = rt.alloc();
-    let mut reader = Counted::new(rt.reader());
-    let text = take_up_to(alloc, &mut reader, MOST_BYTES)?;
-    let task = Task::of(&text)?;
+/// What all rounds of a task come to.
+pub fn sum_of(alloc: Global, task: Task) -> Result<u32, Fault> {
     laws::rules_are_kept();
     match task.store {
         Store::List => sum_over(&mut ListStore::new(alloc)?, task),
@@ -99,11 +72,11 @@ fn child_of_init<S: ProcStore>(store: &mut S) -> Result<u32, Fault>
     ensures { IfOk result (λ _. IsWorld (S.contents store.new)) }
 {
     if !is_alive(store, INIT) {
-        return Err(Fault::Refused);
+        return Err(Fault::NoRoom);
     }
     match fork(store, INIT)? {
         Ok(pid) => Ok(pid),
-        Err(_) => Err(Fault::Refused),
+        Err(_) => Err(Fault::NoRoom),
     }
 }
 
@@ -112,11 +85,11 @@ fn take_out<S: ProcStore>(store: &mut S, pid: u32) -> Result<(), Fault>
     ensures { IfOk result (λ _. IsWorld (S.contents store.new)) }
 {
     if pid == INIT || !is_alive(store, pid) {
-        return Err(Fault::Refused);
+        return Err(Fault::NoRoom);
     }
     end(store, pid, 0);
     if !is_zombie(store, pid) {
-        return Err(Fault::Refused);
+        return Err(Fault::NoRoom);
     }
     reap(store, pid);
     Ok(())

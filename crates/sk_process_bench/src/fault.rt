@@ -1,0 +1,93 @@
+use sk_ends::ReadFault;
+use sk_scenario::ScenarioFault;
+use sk_sched::EngineFault;
+use std::alloc::{AllocError, AllocFailed};
+use std::io;
+use std::io::ErrorKind;
+use thiserror::Error;
+
+/// Why a task is not done.
+#[derive(Clone, Copy, Debug, PartialEq, Eq, Error)]
+pub enum Fault {
+    /// Standard input could not be read.
+    #[error("skern: reading failed")]
+    Read,
+    /// Standard output could not be written.
+    #[error("skern: writing failed")]
+    Write,
+    /// The text is no task.
+    #[error("not understood")]
+    NotUnderstood,
+    /// There is no room for a process.
+    #[error("no room")]
+    NoRoom,
+    /// What is to be read as a scenario is none.
+    #[error("{0}")]
+    Scenario(ScenarioFault),
+    /// A run did not come to its end.
+    #[error("{0}")]
+    Engine(#[from] EngineFault),
+    /// Memory was refused.
+    #[error("skern: out of memory")]
+    Memory,
+}
+
+impl Fault {
+    /// The status that the program ends with, as `skern` has it: 1 for a fault of the input.
+    pub fn status(self) -> u8 {
+        match self {
+            Fault::NotUnderstood | Fault::NoRoom | Fault::Scenario(_) => 1,
+            Fault::Engine(EngineFault::Scenario(_)) => 1,
+            Fault::Read | Fault::Write | Fault::Memory | Fault::Engine(_) => 3,
+        }
+    }
+}
+
+impl From<AllocError> for Fault {
+    ghost use Rattle.std.specs.Prelude.{◌≡◌};
+    ghost use Rattle.sk_process_bench.specs.declared.fault.Fault.TheVariants.{Memory};
+
+    ghost from_gives = { λ _ fault. fault ≡ Memory };
+
+    fn from(_refused: AllocError) -> Fault {
+        Fault::Memory
+    }
+}
+
+impl<T: Drop> From<AllocFailed<T>> for Fault {
+    ghost use Rattle.std.specs.Prelude.{◌≡◌};
+    ghost use Rattle.sk_process_bench.specs.declared.fault.Fault.TheVariants.{Memory};
+
+    ghost from_gives = { λ _ fault. fault ≡ Memory };
+
+    fn from(_refused: AllocFailed<T>) -> Fault {
+        Fault::Memory
+    }
+}
+
+impl From<ReadFault> for Fault {
+    fn from(fault: ReadFault) -> Fault {
+        match fault {
+            ReadFault::Read => Fault::Read,
+            ReadFault::Memory => Fault::Memory,
+        }
+    }
+}
+
+impl From<ScenarioFault> for Fault {
+    fn from(fault: ScenarioFault) -> Fault {
+        match fault {
+            ScenarioFault::Memory => Fault::Memory,
+            _ => Fault::Scenario(fault),
+        }
+    }
+}
+
+impl From<io::Error> for Fault {
+    fn from(failed: io::Error) -> Fault {
+        match failed.kind() {
+            ErrorKind::OutOfMemory => Fault::Memory,
+            _ => Fault::Write,
+        }
+    }
+}
