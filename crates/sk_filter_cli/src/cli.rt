@@ -1,5 +1,8 @@
 //! The filter commands over any reader and writer.
-ghost use Rattle.std.specs.Prelude.{◌≤◌, IfOk};
+ghost use Rattle.std.specs.Prelude.{◌≤◌, IfOk, IfSome};
+ghost use Rattle.sk_ends.specs.Reading.{ConsumesUpTo};
+ghost use Rattle.sk_engines.specs.Engine.{Delivers, CountsReads, CountsWrites};
+ghost use Rattle.sk_filter_cli.specs.Words.{answer_by};
 
 use crate::word::{FilterWord, Word, word_in};
 use sk_ends::{Sink, Source};
@@ -47,7 +50,12 @@ pub fn filter_command<R: Source, W: Sink>(
     reader: &mut R,
     writer: &mut W,
 ) -> Result<u8, CommandFault>
+    ensures told { IfSome (R.remaining reader.old) (λ input.
+        Delivers (answer_by word input) result (W.contents writer.old) (W.contents writer.new)) }
     ensures status { IfOk result (λ status. status ≤ 1) }
+    ensures limit { ConsumesUpTo 1048577 (R.remaining reader.old) (R.remaining reader.new) }
+    ensures reads { CountsReads result (R.failed reader.old) (R.failed reader.new) }
+    ensures writes { CountsWrites result (W.failed writer.old) (W.failed writer.new) }
 {
     match word {
         FilterWord::Check => check_engine(alloc, reader, writer),
