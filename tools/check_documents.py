@@ -83,6 +83,14 @@ def commands_named(document, text):
                     yield f"{document}: names ./skern {argument}, which is no command"
 
 
+def lacks_privilege(document, said, complaint):
+    """Whether a command lacked the privilege that it needs: that is told, and the command not counted."""
+    if "Operation not permitted" not in complaint:
+        return False
+    print(f"{document}: not tried, for want of privilege: `{said}`")
+    return True
+
+
 def examples(document, text):
     """Each '$ command' of a console block, with the lines that it is to print."""
     for block in blocks(text, "console"):
@@ -92,15 +100,16 @@ def examples(document, text):
                 more, _, wanted = wanted.partition("\n")
                 command = command[:-1] + more.lstrip("> ")
             ran = subprocess.run(["bash", "-c", command], cwd=ROOT, stdin=subprocess.DEVNULL, capture_output=True, text=True, timeout=3000)
+            if lacks_privilege(document, command, ran.stderr):
+                continue
             problems = [] if ran.stdout == wanted else [f"`{command}` prints\n{ran.stdout}and not\n{wanted}{ran.stderr[-400:]}"]
             judge(problems, f"{document}: example")
 
 
 def ends_well(document, said, command, folder=ROOT):
-    """Whether a command ends with status 0 and prints something. One that lacks the privilege is told, and not counted."""
+    """Whether a command ends with status 0 and prints something."""
     ran = subprocess.run(["bash", "-c", f"set -eo pipefail; {command}"], cwd=folder, stdin=subprocess.DEVNULL, capture_output=True, text=True, timeout=3000)
-    if "Operation not permitted" in ran.stderr:
-        print(f"{document}: not tried, for want of privilege: `{said}`")
+    if lacks_privilege(document, said, ran.stderr):
         return
     problems = [f"`{said}` ends with status {ran.returncode}\n{ran.stdout[-400:]}{ran.stderr[-400:]}"] if ran.returncode or not ran.stdout else []
     judge(problems, f"{document}: command")
@@ -115,6 +124,9 @@ def beside_a_process(document, line):
             status = pathlib.Path(f"/proc/{process.pid}/status")
             while process.poll() is None and "Seccomp:\t2" not in status.read_text():
                 time.sleep(0.1)
+            if process.poll() is not None:
+                print(f"{document}: not tried, since no filter could be attached: `{line}`")
+                return
             command = line if shutil.which("sudo") and os.geteuid() else line.replace("sudo ", "")
             ends_well(document, line, re.sub(r"\bPID\b", str(process.pid), command))
             process.kill()
