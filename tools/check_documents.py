@@ -84,7 +84,7 @@ def commands_named(document, text):
 
 
 def lacks_privilege(document, said, complaint):
-    """Whether a command lacked the privilege that it needs: that is told, and the command not counted."""
+    """Whether a command that follows another process lacked the privilege for it: that is told, and it is not counted."""
     if "Operation not permitted" not in complaint:
         return False
     print(f"{document}: not tried, for want of privilege: `{said}`")
@@ -100,7 +100,7 @@ def examples(document, text):
                 more, _, wanted = wanted.partition("\n")
                 command = command[:-1] + more.lstrip("> ")
             ran = subprocess.run(["bash", "-c", command], cwd=ROOT, stdin=subprocess.DEVNULL, capture_output=True, text=True, timeout=3000)
-            if lacks_privilege(document, command, ran.stderr):
+            if "examples/attached" in command and lacks_privilege(document, command, ran.stderr):
                 continue
             problems = [] if ran.stdout == wanted else [f"`{command}` prints\n{ran.stdout}and not\n{wanted}{ran.stderr[-400:]}"]
             judge(problems, f"{document}: example")
@@ -109,7 +109,7 @@ def examples(document, text):
 def ends_well(document, said, command, folder=ROOT):
     """Whether a command ends with status 0 and prints something."""
     ran = subprocess.run(["bash", "-c", f"set -eo pipefail; {command}"], cwd=folder, stdin=subprocess.DEVNULL, capture_output=True, text=True, timeout=3000)
-    if lacks_privilege(document, said, ran.stderr):
+    if "PID" in said and lacks_privilege(document, said, ran.stderr):
         return
     problems = [f"`{said}` ends with status {ran.returncode}\n{ran.stdout[-400:]}{ran.stderr[-400:]}"] if ran.returncode or not ran.stdout else []
     judge(problems, f"{document}: command")
@@ -120,12 +120,14 @@ def beside_a_process(document, line):
     with tempfile.TemporaryFile("w+") as lines:
         subprocess.run(["examples/filter", "examples/filters/docker-default-linear.hex"], cwd=ROOT, stdout=lines, check=True)
         lines.seek(0)
-        with subprocess.Popen(["examples/attach", "sleep", "100"], cwd=ROOT, stdin=lines) as process:
+        with subprocess.Popen(["examples/attach", "sleep", "100"], cwd=ROOT, stdin=lines, stderr=subprocess.PIPE, text=True) as process:
             status = pathlib.Path(f"/proc/{process.pid}/status")
             while process.poll() is None and "Seccomp:\t2" not in status.read_text():
                 time.sleep(0.1)
             if process.poll() is not None:
-                print(f"{document}: not tried, since no filter could be attached: `{line}`")
+                complaint = process.stderr.read()
+                if not lacks_privilege(document, line, complaint):
+                    judge([complaint], f"{document}: examples/attach")
                 return
             command = line if shutil.which("sudo") and os.geteuid() else line.replace("sudo ", "")
             ends_well(document, line, re.sub(r"\bPID\b", str(process.pid), command))
