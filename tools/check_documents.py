@@ -10,7 +10,9 @@ import shutil
 import subprocess
 import sys
 import tempfile
+import threading
 import time
+from concurrent.futures import ThreadPoolExecutor
 
 ROOT = os.path.dirname(os.path.dirname(os.path.abspath(__file__)))
 EXPORT = "examples/exports/unix-sockets.bpf"
@@ -20,12 +22,14 @@ CITED = re.compile(r"\b(T[1-5]|D([1-9]|1[0-9]|2[01])|W([1-9]|1[0-9]|2[0-7])|R([1
 MACHINE = re.compile(r"(^|[\s'\"`(=])/(work|opt|root|home|tmp)/")
 PATH = re.compile(r"^[A-Za-z0-9_.-]+(/[A-Za-z0-9_.-]+)+/?$|^[A-Za-z0-9_-]+\.(md|txt|rt|antt|sh|py|hex|scenario|asm|bpf|1)$")
 results = {"passed": 0, "failed": 0}
+judging = threading.Lock()
 
 
 def judge(problems, what):
-    results["failed" if problems else "passed"] += 1
-    for problem in problems:
-        print(f"{what}: {problem}")
+    with judging:
+        results["failed" if problems else "passed"] += 1
+        for problem in problems:
+            print(f"{what}: {problem}")
 
 
 def read(path):
@@ -160,18 +164,25 @@ def commands_run(document, text, paths):
                 ends_well(document, line, re.sub(r"\bFILE\b", EXPORT, line))
 
 
+def check(document, paths):
+    text = read(document)
+    judge(list(paths_named(document, text, paths)), "paths")
+    judge(list(commands_named(document, text)), "commands")
+    examples(document, text)
+    commands_run(document, text, paths)
+
+
 def main():
     paths = tracked()
     judge(list(citations(paths)), "the repository stands alone")
     known = {word for path in paths if path.startswith("crates") for word in re.findall(r"[A-Za-z_]\w*", read(path) + path)}
     for document in ("README.md", "docs/PROVED.md", "docs/DEFINITIONS.md", "docs/MAP.md", "docs/DECISIONS.md"):
         judge(list(words_named(document, read(document), known)), "names")
-    for document in (path for path in paths if path.endswith(".md")):
-        text = read(document)
-        judge(list(paths_named(document, text, paths)), "paths")
-        judge(list(commands_named(document, text)), "commands")
-        examples(document, text)
-        commands_run(document, text, paths)
+    documents = [path for path in paths if path.endswith(".md")]
+    # (first those with commands that the prover and the measurements take minutes for, two side by side)
+    documents.sort(key=lambda path: not blocks(read(path), "sh"))
+    with ThreadPoolExecutor(2) as pool:
+        list(pool.map(lambda path: check(path, paths), documents))
     print(f"{results['passed']} passed, {results['failed']} failed")
     return 1 if results["failed"] else 0
 
