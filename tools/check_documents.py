@@ -179,7 +179,7 @@ def main():
     for document in ("README.md", "docs/PROVED.md", "docs/DEFINITIONS.md", "docs/MAP.md", "docs/DECISIONS.md"):
         judge(list(words_named(document, read(document), known)), "names")
     documents = [path for path in paths if path.endswith(".md")]
-    # (first those with commands that the prover and the measurements take minutes for, two side by side)
+    # Two side by side, and first those with commands: the prover's and the measurements take a minute each.
     documents.sort(key=lambda path: not blocks(read(path), "sh"))
     with ThreadPoolExecutor(2) as pool:
         list(pool.map(lambda path: check(path, paths), documents))
