@@ -1,7 +1,7 @@
 //! Texts whose instructions or faults the grammar gives.
 use crate::insns::insn;
 use sk_asm::{AsmFault, Shape, assemble, assemble_block, is_end};
-use sk_insn::Insn;
+use sk_insn::Operation;
 use std::alloc::{AllocError, Global};
 use std::test::Fail;
 
@@ -16,7 +16,7 @@ fn repeated(alloc: Global, first: &[u8], times: usize, last: &[u8]) -> Result<Ve
 }
 
 /// A line, and the instruction that it stands for.
-const FORMS: [(&[u8], u16, u8, u8, u32); 46] = [
+const FORMS: &[(&[u8], u16, u8, u8, u32)] = &[
     (b"ldabs 0x10", 0x20, 0, 0, 16),
     (b"ldimm 4294967295", 0x00, 0, 0, 0xffff_ffff),
     (b"ldximm 007", 0x01, 0, 0, 7),
@@ -73,7 +73,7 @@ const FORMS: [(&[u8], u16, u8, u8, u32); 46] = [
 
 #[test]
 fn assembles_each_form(rt: HostRuntime) -> Result<(), Fail> {
-    for (line, code, jt, jf, k) in FORMS {
+    for &(line, code, jt, jf, k) in FORMS {
         let insns = assemble(rt.alloc(), line)?;
         assert_eq!(rt; insns.as_slice(), [insn(code, jt, jf, k)].as_slice());
     }
@@ -82,67 +82,83 @@ fn assembles_each_form(rt: HostRuntime) -> Result<(), Fail> {
 
 #[test]
 fn assembles_labels(rt: HostRuntime) -> Result<(), Fail> {
-    let alloc = rt.alloc();
-    let insns = assemble(alloc, b"; a jump\nja out\n\nret allow\nout:")?;
+    let insns = assemble(rt.alloc(), b"; a jump\nja out\n\nret allow\nout:")?;
     let expected = [insn(0x05, 0, 0, 1), insn(0x06, 0, 0, 0x7fff_0000)];
     assert_eq!(rt; insns.as_slice(), expected.as_slice());
-    let text = repeated(alloc, b"jeq 1 far +0\n", 255, b"far:\nret allow")?;
-    let insns = assemble(alloc, text.as_slice())?;
-    assert_eq!(rt; insns.len(), 257);
-    assert_eq!(rt; insns.first().copied(), Some(insn(0x15, 255, 0, 1)));
-    let text = repeated(alloc, b"", 4096, b"end:")?;
-    assert_eq!(rt; assemble(alloc, text.as_slice())?.len(), 4096);
-    assert!(rt; assemble(alloc, b"")?.is_empty());
+    assert!(rt; assemble(rt.alloc(), b"")?.is_empty());
     Ok(())
 }
 
 #[test]
+fn labels_lie_255_instructions_ahead_at_most(rt: HostRuntime) -> Result<(), Fail> {
+    let alloc = rt.alloc();
+    let nearest = repeated(alloc, b"jeq 1 far +0\n", 255, b"far:\nret allow")?;
+    let insns = assemble(alloc, &nearest)?;
+    assert_eq!(rt;
+        (insns.len(), insns.first().copied()),
+        (257, Some(insn(0x15, 255, 0, 1)))
+    );
+    let farther = repeated(alloc, b"jeq 1 far +0\n", 256, b"far:\nret allow")?;
+    assert_eq!(rt;
+        assemble(alloc, &farther).err(),
+        Some(AsmFault::Far { n: 1 })
+    );
+    Ok(())
+}
+
+/// A text, and its first fault.
+const FAULTS: &[(&[u8], AsmFault)] = &[
+    (b"top:\nja top", AsmFault::Back { n: 2 }),
+    (b"a:\na:\nret allow", AsmFault::Twice { n: 2 }),
+    (b"jeq 1 x +0\nret allow", AsmFault::Label { n: 1 }),
+    (b"jeq 1 x +0\nbogus", AsmFault::Line { n: 2 }),
+    (b"a:\njeq 1 a x", AsmFault::Back { n: 2 }),
+    (b"a:\njeq 1 x a", AsmFault::Label { n: 2 }),
+    (b"ret errno/65536", AsmFault::Line { n: 1 }),
+    (b"ret unknown", AsmFault::Line { n: 1 }),
+    (b"ret 5/3", AsmFault::Line { n: 1 }),
+    (b"ret allow/", AsmFault::Line { n: 1 }),
+    (b"ret 4294967296", AsmFault::Line { n: 1 }),
+    (b"jeq allow +0 +0", AsmFault::Line { n: 1 }),
+    (b"jeq 1 +256 +0", AsmFault::Line { n: 1 }),
+    (b"ja +", AsmFault::Line { n: 1 }),
+    (b"ja + 1", AsmFault::Line { n: 1 }),
+    (b"a :", AsmFault::Line { n: 1 }),
+    (b"a: ret allow", AsmFault::Line { n: 1 }),
+    (b":", AsmFault::Line { n: 1 }),
+    (b"LDABS 0", AsmFault::Line { n: 1 }),
+    (b"ldlen 0", AsmFault::Line { n: 1 }),
+    (b"ret", AsmFault::Line { n: 1 }),
+    (b".insn 65536 0 0 0", AsmFault::Line { n: 1 }),
+    (b".insn 0 256 0 0", AsmFault::Line { n: 1 }),
+    (b".insn 6 0 0 allow", AsmFault::Line { n: 1 }),
+    (b"; a\ttab", AsmFault::Line { n: 1 }),
+    (b"ret allow\r\n", AsmFault::Line { n: 1 }),
+];
+
+#[test]
 fn answers_the_first_fault(rt: HostRuntime) {
-    for (text, fault) in [
-        (b"top:\nja top".as_slice(), AsmFault::Back { n: 2 }),
-        (b"a:\na:\nret allow", AsmFault::Twice { n: 2 }),
-        (b"jeq 1 x +0\nret allow", AsmFault::Label { n: 1 }),
-        (b"jeq 1 x +0\nbogus", AsmFault::Line { n: 2 }),
-        (b"a:\njeq 1 a x", AsmFault::Back { n: 2 }),
-        (b"a:\njeq 1 x a", AsmFault::Label { n: 2 }),
-        (b"ret errno/65536", AsmFault::Line { n: 1 }),
-        (b"ret unknown", AsmFault::Line { n: 1 }),
-        (b"ret 5/3", AsmFault::Line { n: 1 }),
-        (b"ret allow/", AsmFault::Line { n: 1 }),
-        (b"ret 4294967296", AsmFault::Line { n: 1 }),
-        (b"jeq allow +0 +0", AsmFault::Line { n: 1 }),
-        (b"jeq 1 +256 +0", AsmFault::Line { n: 1 }),
-        (b"ja +", AsmFault::Line { n: 1 }),
-        (b"ja + 1", AsmFault::Line { n: 1 }),
-        (b"a :", AsmFault::Line { n: 1 }),
-        (b"a: ret allow", AsmFault::Line { n: 1 }),
-        (b":", AsmFault::Line { n: 1 }),
-        (b"LDABS 0", AsmFault::Line { n: 1 }),
-        (b"ldlen 0", AsmFault::Line { n: 1 }),
-        (b"ret", AsmFault::Line { n: 1 }),
-        (b".insn 65536 0 0 0", AsmFault::Line { n: 1 }),
-        (b".insn 0 256 0 0", AsmFault::Line { n: 1 }),
-        (b".insn 6 0 0 allow", AsmFault::Line { n: 1 }),
-        (b"; a\ttab", AsmFault::Line { n: 1 }),
-        (b"ret allow\r\n", AsmFault::Line { n: 1 }),
-    ] {
-        assert_eq!(rt; assemble(rt.alloc(), text).err(), Some(fault));
+    for (text, fault) in FAULTS {
+        assert_eq!(rt; assemble(rt.alloc(), text).err(), Some(*fault));
     }
 }
 
 #[test]
-fn keeps_the_limits(rt: HostRuntime) -> Result<(), Fail> {
+fn programs_have_4096_instructions_at_most(rt: HostRuntime) -> Result<(), Fail> {
     let alloc = rt.alloc();
-    let text = repeated(alloc, b"jeq 1 far +0\n", 256, b"far:\nret allow")?;
+    let longest = repeated(alloc, b"", 4096, b"end:")?;
+    assert_eq!(rt; assemble(alloc, &longest)?.len(), 4096);
+    let longer = repeated(alloc, b"", 4097, b"")?;
     assert_eq!(rt;
-        assemble(alloc, text.as_slice()).err(),
-        Some(AsmFault::Far { n: 1 })
-    );
-    let text = repeated(alloc, b"", 4097, b"")?;
-    assert_eq!(rt;
-        assemble(alloc, text.as_slice()).err(),
+        assemble(alloc, &longer).err(),
         Some(AsmFault::TooLong { n: 4097 })
     );
+    Ok(())
+}
+
+#[test]
+fn lines_and_texts_have_a_limit(rt: HostRuntime) -> Result<(), Fail> {
+    let alloc = rt.alloc();
     let spaces = [b' '; 256];
     assert!(rt; assemble(alloc, &spaces[..255])?.is_empty());
     assert_eq!(rt;
@@ -150,11 +166,11 @@ fn keeps_the_limits(rt: HostRuntime) -> Result<(), Fail> {
         Some(AsmFault::TooLong { n: 1 })
     );
     let ends = vec![in alloc; b'\n'; 1_048_577]?;
+    assert!(rt; assemble(alloc, &ends.as_slice()[1..])?.is_empty());
     assert_eq!(rt;
-        assemble(alloc, ends.as_slice()).err(),
+        assemble(alloc, &ends).err(),
         Some(AsmFault::TooLong { n: 0 })
     );
-    assert!(rt; assemble(alloc, &ends.as_slice()[1..])?.is_empty());
     Ok(())
 }
 
@@ -170,6 +186,11 @@ fn assembles_blocks(rt: HostRuntime) -> Result<(), Fail> {
     ] {
         assert_eq!(rt; assemble_block(alloc, 1, text).err(), Some(fault));
     }
+    Ok(())
+}
+
+#[test]
+fn knows_the_end_of_a_block(rt: HostRuntime) {
     for (line, ends) in [
         (b"end".as_slice(), true),
         (b"  end ", true),
@@ -180,6 +201,9 @@ fn assembles_blocks(rt: HostRuntime) -> Result<(), Fail> {
     ] {
         assert_eq!(rt; is_end(line), ends);
     }
-    assert_eq!(rt; Shape::of(sk_insn::Operation::Jump), Shape::Target);
-    Ok(())
+}
+
+#[test]
+fn jump_has_a_target(rt: HostRuntime) {
+    assert_eq!(rt; Shape::of(Operation::Jump), Shape::Target);
 }

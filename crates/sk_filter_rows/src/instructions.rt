@@ -2,6 +2,7 @@ use sk_insn::{
     Action, Arithmetic, Comparison, ImageFault, Insn, NoImage, Operand, Operation, Record,
     Register, decode, read_image, read_insns, write_insns,
 };
+use std::alloc::{AllocError, Global};
 use std::test::Fail;
 
 const RETURN_ALLOW: [u8; 8] = [0x06, 0, 0, 0, 0, 0, 0xff, 0x7f];
@@ -53,25 +54,33 @@ fn an_image_is_read_and_written(rt: HostRuntime) -> Result<(), Fail> {
 #[test]
 fn images_are_refused(rt: HostRuntime) -> Result<(), Fail> {
     let alloc = rt.alloc();
-    let mut long = Vec::new(alloc);
-    for _ in 0..4096 {
-        long.extend_from_slice(&RETURN_ALLOW)?;
-    }
-    assert_eq!(rt; read_insns(alloc, long.as_slice()).is_ok(), true);
-    long.extend_from_slice(&RETURN_ALLOW)?;
-    assert_eq!(rt;
-        read_insns(alloc, long.as_slice()).err(),
-        Some(ImageFault::TooLong)
-    );
     assert_eq!(rt; read_insns(alloc, &[]).err(), Some(ImageFault::Empty));
     assert_eq!(rt; read_insns(alloc, &[0; 7]).err(), Some(ImageFault::Ragged));
-    assert_eq!(rt; read_image(alloc, &RETURN_ALLOW)?.is_ok(), true);
+    assert!(rt; read_image(alloc, &RETURN_ALLOW)?.is_ok());
     assert_eq!(rt; read_image(alloc, &[0; 7])?.err(), Some(NoImage::Ragged));
     Ok(())
 }
 
+/// The image of so many instructions.
+fn image_of(alloc: Global, instructions: usize) -> Result<Vec<u8>, AllocError> {
+    let mut image = Vec::new(alloc);
+    for _instruction in 0..instructions {
+        image.extend_from_slice(&RETURN_ALLOW)?;
+    }
+    Ok(image)
+}
+
 #[test]
-fn a_record_is_its_64_bytes(rt: HostRuntime) -> Result<(), Fail> {
+fn images_have_4096_instructions_at_most(rt: HostRuntime) -> Result<(), Fail> {
+    let longest = read_insns(rt.alloc(), &image_of(rt.alloc(), 4096)?);
+    assert!(rt; longest.is_ok());
+    let longer = read_insns(rt.alloc(), &image_of(rt.alloc(), 4097)?);
+    assert_eq!(rt; longer.err(), Some(ImageFault::TooLong));
+    Ok(())
+}
+
+#[test]
+fn a_record_is_its_64_bytes(rt: HostRuntime) {
     let mut bytes = [0u8; 64];
     bytes[0] = 0x27;
     bytes[4] = 0x3e;
@@ -79,15 +88,12 @@ fn a_record_is_its_64_bytes(rt: HostRuntime) -> Result<(), Fail> {
     bytes[16] = 0x11;
     bytes[20] = 0x22;
     bytes[63] = 0x33;
-    let call = Record::of(&bytes).ok_or("no record")?;
-    assert_eq!(rt;
-        call,
-        Record {
-            nr: 39,
-            ip: 0,
-            args: [0x22_0000_0011, 0, 0, 0, 0, 0x33 << 56]
-        }
-    );
+    let call = Record {
+        nr: 39,
+        ip: 0,
+        args: [0x22_0000_0011, 0, 0, 0, 0, 0x33 << 56],
+    };
+    assert_eq!(rt; Record::of(&bytes), Some(call));
     assert_eq!(rt; call.bytes().as_slice(), bytes.as_slice());
     assert_eq!(rt;
         [
@@ -101,67 +107,84 @@ fn a_record_is_its_64_bytes(rt: HostRuntime) -> Result<(), Fail> {
     );
     bytes[7] = 0x40;
     assert_eq!(rt; Record::of(&bytes), None);
-    Ok(())
 }
+
+/// A code, its name and its operation.
+const OPERATIONS: [(u16, &str, Operation); 5] = [
+    (0x20, "ldabs", Operation::LoadRecord),
+    (0x61, "ldxmem", Operation::LoadScratch(Register::Index)),
+    (
+        0x7c,
+        "rshx",
+        Operation::Compute(Arithmetic::ShiftRight, Operand::IndexRegister),
+    ),
+    (
+        0x45,
+        "jset",
+        Operation::Branch(Comparison::CommonBits, Operand::Constant),
+    ),
+    (0x87, "txa", Operation::CopyToAccumulator),
+];
 
 #[test]
 fn operations_stand_in_the_table(rt: HostRuntime) {
-    let rows = [
-        (0x20, "ldabs", Operation::LoadRecord),
-        (0x61, "ldxmem", Operation::LoadScratch(Register::Index)),
-        (
-            0x7c,
-            "rshx",
-            Operation::Compute(Arithmetic::ShiftRight, Operand::IndexRegister),
-        ),
-        (
-            0x45,
-            "jset",
-            Operation::Branch(Comparison::CommonBits, Operand::Constant),
-        ),
-        (0x87, "txa", Operation::CopyToAccumulator),
-    ];
-    for (code, name, operation) in rows {
-        assert_eq!(rt; decode(code), Some(operation), "at {name}");
-        assert_eq!(rt;
-            Operation::named(name.as_bytes()),
-            Some(operation),
-            "at {name}"
-        );
-        assert_eq!(rt; operation.code(), code, "at {name}");
-        assert_eq!(rt; operation.name().as_bytes(), name.as_bytes(), "at {name}");
+    for (code, name, operation) in OPERATIONS {
+        let found = (decode(code), Operation::named(name.as_bytes()));
+        assert_eq!(rt; found, (Some(operation), Some(operation)), "at {name}");
+        assert_eq!(rt; (operation.code(), operation.name()), (code, name));
     }
-    let permitted = (0..=u16::MAX)
-        .filter(|code| decode(*code).is_some())
-        .count();
-    assert_eq!(rt; permitted, 41);
     assert_eq!(rt; Operation::named(b"mod"), None);
 }
 
 #[test]
+fn codes_of_41_operations_are_permitted(rt: HostRuntime) {
+    let permitted = (0..=u16::MAX)
+        .filter(|code| decode(*code).is_some())
+        .count();
+    assert_eq!(rt; permitted, 41);
+}
+
+/// The least value of an action, its name, the action, and whether the call is performed.
+const ACTIONS: [(u32, &str, Action, bool); 8] = [
+    (0x8000_0000, "kill_process", Action::KillProcess, false),
+    (0x0000_0000, "kill_thread", Action::KillThread, false),
+    (0x0003_0000, "trap", Action::Trap, false),
+    (0x0005_0000, "errno", Action::Errno, false),
+    (0x7fc0_0000, "user_notif", Action::UserNotif, false),
+    (0x7ff0_0000, "trace", Action::Trace, false),
+    (0x7ffc_0000, "log", Action::Log, true),
+    (0x7fff_0000, "allow", Action::Allow, true),
+];
+
+#[test]
 fn values_ask_for_actions(rt: HostRuntime) {
-    let rows = [
-        (0x8000_0000, "kill_process", Action::KillProcess, false),
-        (0x0000_0000, "kill_thread", Action::KillThread, false),
-        (0x0003_0000, "trap", Action::Trap, false),
-        (0x0005_0000, "errno", Action::Errno, false),
-        (0x7fc0_0000, "user_notif", Action::UserNotif, false),
-        (0x7ff0_0000, "trace", Action::Trace, false),
-        (0x7ffc_0000, "log", Action::Log, true),
-        (0x7fff_0000, "allow", Action::Allow, true),
-    ];
-    for (value, name, action, performs) in rows {
-        assert_eq!(rt; Action::of(value), action, "at {name}");
-        assert_eq!(rt; Action::of(value + 0xffff), action, "at {name}");
-        assert_eq!(rt; action.value(), Some(value), "at {name}");
-        assert_eq!(rt; action.name().as_bytes(), name.as_bytes(), "at {name}");
-        assert_eq!(rt; Action::named(name.as_bytes()), Some(action), "at {name}");
-        assert_eq!(rt; action.performs(), performs, "at {name}");
+    for (value, name, action, performs) in ACTIONS {
+        let of_values = (Action::of(value), Action::of(value + 0xffff));
+        assert_eq!(rt; of_values, (action, action), "at {name}");
+        assert_eq!(rt;
+            (
+                Action::named(name.as_bytes()),
+                action.value(),
+                action.name(),
+                action.performs()
+            ),
+            (Some(action), Some(value), name, performs)
+        );
     }
+}
+
+#[test]
+fn other_values_ask_for_no_action(rt: HostRuntime) {
     for value in [0x0006_0000, 0x7ffd_0000, 0x7ffe_0000, 0xffff_0000] {
         assert_eq!(rt; Action::of(value), Action::Unknown);
     }
-    assert_eq!(rt; Action::named(b"unknown"), None);
-    assert_eq!(rt; Action::Unknown.value(), None);
-    assert_eq!(rt; Action::Unknown.performs(), false);
+    let unknown = Action::Unknown;
+    assert_eq!(rt;
+        (
+            Action::named(b"unknown"),
+            unknown.value(),
+            unknown.performs()
+        ),
+        (None, None, false)
+    );
 }

@@ -6,7 +6,7 @@ use sk_listing::{laws, list};
 use std::test::Fail;
 
 /// An instruction, and its line.
-const FORMS: [(u16, u8, u8, u32, &str); 44] = [
+const FORMS: &[(u16, u8, u8, u32, &str)] = &[
     (0x20, 0, 0, 16, "ldabs 16\n"),
     (0x00, 0, 0, 0xffff_ffff, "ldimm 4294967295\n"),
     (0x01, 0, 0, 7, "ldximm 7\n"),
@@ -61,12 +61,13 @@ const FORMS: [(u16, u8, u8, u32, &str); 44] = [
 
 #[test]
 fn lists_each_form(rt: HostRuntime) -> Result<(), Fail> {
-    for (code, jt, jf, k, line) in FORMS {
-        let given = insn(code, jt, jf, k);
-        let text = list(rt.alloc(), &[given])?;
-        assert_eq!(rt; text.as_str(), line);
-        let insns = assemble(rt.alloc(), text.as_bytes())?;
-        assert_eq!(rt; insns.as_slice(), [given].as_slice());
+    for &(code, jt, jf, k, line) in FORMS {
+        let given = [insn(code, jt, jf, k)];
+        assert_eq!(rt; list(rt.alloc(), &given)?.as_str(), line);
+        assert_eq!(rt;
+            assemble(rt.alloc(), line.as_bytes())?.as_slice(),
+            given.as_slice()
+        );
     }
     Ok(())
 }

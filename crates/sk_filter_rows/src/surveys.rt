@@ -153,9 +153,10 @@ fn rows_of_a_chain(rt: HostRuntime) -> Result<(), Fail> {
     let rows = Survey::new(alloc)?.rows(alloc, &chain, &[39, 0xffff_ffff])?;
     assert_eq!(rt; rows.len(), expected.len());
     for (row, (first, last, value)) in rows.iter().zip(expected) {
-        assert_eq!(rt; row.first, first);
-        assert_eq!(rt; row.last, last);
-        assert_eq!(rt; values(&row.answers), Some([value].as_slice()));
+        assert_eq!(rt;
+            (row.first, row.last, values(&row.answers)),
+            (first, last, Some([value].as_slice()))
+        );
     }
     Ok(())
 }

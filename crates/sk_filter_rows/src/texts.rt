@@ -7,15 +7,17 @@ use sk_text::{
 use std::test::Fail;
 
 #[test]
-fn cuts_lines_and_words(rt: HostRuntime) {
+fn cuts_lines(rt: HostRuntime) {
     let mut lines = Lines(b"a  bc\n\n ;d\ne");
-    assert_eq!(rt; lines.next(), Some(b"a  bc".as_slice()));
-    assert_eq!(rt; lines.next(), Some(b"".as_slice()));
-    assert_eq!(rt; lines.next(), Some(b" ;d".as_slice()));
-    assert_eq!(rt; lines.next(), Some(b"e".as_slice()));
+    for line in [b"a  bc".as_slice(), b"", b" ;d", b"e"] {
+        assert_eq!(rt; lines.next(), Some(line));
+    }
     assert!(rt; lines.next().is_none());
-    assert_eq!(rt; Lines(b"").count(), 0);
-    assert_eq!(rt; Lines(b"\n").count(), 1);
+    assert_eq!(rt; (Lines(b"").count(), Lines(b"\n").count()), (0, 1));
+}
+
+#[test]
+fn cuts_words(rt: HostRuntime) {
     let mut words = Words(b"  ja\t top ");
     assert_eq!(rt; words.next(), Some(b"ja\t".as_slice()));
     assert_eq!(rt; words.next(), Some(b"top".as_slice()));
@@ -90,14 +92,14 @@ fn knows_names_and_words(rt: HostRuntime) {
 
 #[test]
 fn counts_words(rt: HostRuntime) {
-    assert_eq!(rt; no_word(Words(b" ")), Some(()));
-    assert_eq!(rt; no_word(Words(b"a")), None);
-    assert_eq!(rt; one_word(Words(b" a ")), Some(b"a".as_slice()));
-    assert_eq!(rt; one_word(Words(b"a b")), None);
     assert_eq!(rt;
-        two_words(Words(b"a b")),
-        Some((b"a".as_slice(), b"b".as_slice()))
+        (no_word(Words(b" ")), no_word(Words(b"a"))),
+        (Some(()), None)
     );
+    let one = (one_word(Words(b" a ")), one_word(Words(b"a b")));
+    assert_eq!(rt; one, (Some(b"a".as_slice()), None));
+    let two = two_words(Words(b"a b"));
+    assert_eq!(rt; two, Some((b"a".as_slice(), b"b".as_slice())));
     assert!(rt; three_words(Words(b"a b c")).is_some());
     assert!(rt; three_words(Words(b"a b")).is_none());
     assert!(rt; four_words(Words(b"a b c d")).is_some());
@@ -112,17 +114,19 @@ fn reads_hexadecimal(rt: HostRuntime) -> Result<(), Fail> {
     assert!(rt; bytes_of(alloc, Words(b""))?.is_empty());
     let bytes = bytes_of_text(alloc, b"06 0\n0\n\n7F ")?;
     assert_eq!(rt; bytes.as_slice(), [0x06, 0x00, 0x7f].as_slice());
-    for text in [b"0".as_slice(), b"0g", b"00\t", b"0x00"] {
-        assert_eq!(rt;
-            bytes_of(alloc, Words(text)).err(),
-            Some(HexFault::NotHexadecimal)
-        );
-        assert_eq!(rt;
-            bytes_of_text(alloc, text).err(),
-            Some(HexFault::NotHexadecimal)
-        );
-    }
     Ok(())
+}
+
+#[test]
+fn refuses_what_is_not_hexadecimal(rt: HostRuntime) {
+    for text in [b"0".as_slice(), b"0g", b"00\t", b"0x00"] {
+        let faults = (
+            bytes_of(rt.alloc(), Words(text)).err(),
+            bytes_of_text(rt.alloc(), text).err(),
+        );
+        let refused = Some(HexFault::NotHexadecimal);
+        assert_eq!(rt; faults, (refused, refused));
+    }
 }
 
 #[test]

@@ -1,5 +1,5 @@
 use crate::fault::Fault;
-use crate::{ALLOW, FILTERS, FORKS};
+use crate::{ALLOW, FILTERS, FORKS, print_memory};
 use sk_calls::Syscall;
 use sk_kernel::{Answer, Event, Images, Kernel, Outcome, Stopped};
 use sk_table::{INIT, ListStore};
@@ -7,36 +7,39 @@ use std::alloc::{AllocError, Global};
 
 /// Lets the kernel fork a process that has as many filters as it can have.
 pub(crate) fn fork_in_kernel<R: Print + AllocGlobal>(rt: &R) -> Result<(), Fault> {
-    let alloc = rt.alloc();
-    let mut kernel = Kernel::<ListStore>::new(alloc, images(alloc)?)?;
-    let attaches = repeated(alloc, call(INIT, Syscall::Seccomp, 1), FILTERS)?;
-    let forks = repeated(alloc, call(INIT, Syscall::Fork, 0), FORKS as usize)?;
-    let mut attached = Vec::new(alloc);
-    kernel.run(&attaches, &mut attached)?;
-    let mut forked = Vec::with_capacity(alloc, forks.len())?;
-    println!(rt; "{FILTERS} filters")?;
-    kernel.run(&forks, &mut forked)?;
-    println!(rt; "{FORKS} forks, pids {} in sum", sum_of(&forked))?;
+    let mut kernel = kernel_with_filters(rt.alloc())?;
+    fork_process_1(rt, &mut kernel)?;
     println!(rt;
         "{} children with the filters",
         children_with_filters(&kernel)
     )?;
-    let memory = Vec::<u8>::with_capacity(alloc, 1).is_ok();
-    println!(rt; "memory is {}", if memory { "there" } else { "refused" })?;
+    print_memory(rt)
+}
+
+fn kernel_with_filters(alloc: Global) -> Result<Kernel<ListStore>, Fault> {
+    let mut kernel = kernel_of(alloc)?;
+    let attaches = repeated(alloc, call(INIT, Syscall::Seccomp, 1), FILTERS)?;
+    kernel.run(&attaches, &mut Vec::new(alloc))?;
+    Ok(kernel)
+}
+
+// The first line is written once there is room for all answers.
+fn fork_process_1<R: Print + AllocGlobal>(
+    rt: &R,
+    kernel: &mut Kernel<ListStore>,
+) -> Result<(), Fault> {
+    let forks = repeated(rt.alloc(), call(INIT, Syscall::Fork, 0), FORKS as usize)?;
+    let mut forked = Vec::with_capacity(rt.alloc(), forks.len())?;
+    println!(rt; "{FILTERS} filters")?;
+    kernel.run(&forks, &mut forked)?;
+    println!(rt; "{FORKS} forks, pids {} in sum", sum_of(&forked))?;
     Ok(())
 }
 
 /// Lets the kernel go on where want of memory stops it once, and compares the answers.
 pub(crate) fn go_on_after_a_stop<R: Print + AllocGlobal>(rt: &R) -> Result<(), Fault> {
-    let alloc = rt.alloc();
     let rows = rows();
-    let events = events_of(alloc, &rows)?;
-    let mut kernel = Kernel::<ListStore>::new(alloc, images(alloc)?)?;
-    let mut answers = Vec::new(alloc);
-    if let Err(Stopped { done }) = kernel.run(&events, &mut answers) {
-        println!(rt; "stopped after {done}")?;
-        kernel.run(&events[done.min(events.len())..], &mut answers)?;
-    }
+    let answers = answers_in_two_runs(rt, &events_of(rt.alloc(), &rows)?)?;
     for (answer, (_, expected)) in answers.iter().zip(rows) {
         if *answer != expected {
             return Err(Fault::Refused);
@@ -44,6 +47,19 @@ pub(crate) fn go_on_after_a_stop<R: Print + AllocGlobal>(rt: &R) -> Result<(), F
     }
     println!(rt; "{} answers", answers.len())?;
     Ok(())
+}
+
+fn answers_in_two_runs<R: Print + AllocGlobal>(
+    rt: &R,
+    events: &[Event],
+) -> Result<Vec<Answer>, Fault> {
+    let mut kernel = kernel_of(rt.alloc())?;
+    let mut answers = Vec::new(rt.alloc());
+    if let Err(Stopped { done }) = kernel.run(events, &mut answers) {
+        println!(rt; "stopped after {done}")?;
+        kernel.run(&events[done.min(events.len())..], &mut answers)?;
+    }
+    Ok(answers)
 }
 
 /// Process 1 and its child attach filters and fork, and the child ends.
@@ -68,6 +84,10 @@ fn events_of(alloc: Global, rows: &[(Event, Answer)]) -> Result<Vec<Event>, Allo
         events.push(*event)?;
     }
     Ok(events)
+}
+
+fn kernel_of(alloc: Global) -> Result<Kernel<ListStore>, Fault> {
+    Ok(Kernel::new(alloc, images(alloc)?)?)
 }
 
 fn images(alloc: Global) -> Result<Images, AllocError> {

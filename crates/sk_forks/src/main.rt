@@ -56,17 +56,39 @@ fn word<R: Env + AllocGlobal>(rt: &R) -> io::Result<Option<String>> {
 }
 
 fn run<R: Print + AllocGlobal>(rt: &R) -> Result<(), Fault> {
-    let alloc = rt.alloc();
-    let mut list = ListStore::new(alloc)?;
-    let mut slots = SlotStore::new(alloc)?;
-    laws::rules_are_kept();
-    let filters = chain(alloc)?;
-    attach(&mut list, filters.share()?);
-    attach(&mut slots, filters);
+    let filters = chain(rt.alloc())?;
+    let mut list = with_filters::<ListStore>(rt.alloc(), filters.share()?)?;
+    let mut slots = with_filters::<SlotStore>(rt.alloc(), filters)?;
+    fork_over_both(rt, &mut list, &mut slots)
+}
+
+fn fork_over_both<L: ProcStore, S: ProcStore, R: Print + AllocGlobal>(
+    rt: &R,
+    list: &mut L,
+    slots: &mut S,
+) -> Result<(), Fault>
+    requires list { IsWorld (L.contents list.old) }
+    requires slots { IsWorld (S.contents slots.old) }
+{
     println!(rt; "{FILTERS} filters")?;
-    fork_twice(rt, "list", &mut list)?;
-    fork_twice(rt, "slots", &mut slots)?;
-    let memory = Vec::<u8>::with_capacity(alloc, 1).is_ok();
+    fork_twice(rt, "list", list)?;
+    fork_twice(rt, "slots", slots)?;
+    print_memory(rt)
+}
+
+// A store with process 1, which has the filters.
+fn with_filters<S: ProcStore>(alloc: Global, filters: Chain) -> Result<S, Fault>
+    ensures { IfOk result (λ store. IsWorld (S.contents store)) }
+{
+    let mut store = S::new(alloc)?;
+    laws::rules_are_kept();
+    attach(&mut store, filters);
+    Ok(store)
+}
+
+// Tells whether one byte of memory can be had.
+fn print_memory<R: Print + AllocGlobal>(rt: &R) -> Result<(), Fault> {
+    let memory = Vec::<u8>::with_capacity(rt.alloc(), 1).is_ok();
     println!(rt; "memory is {}", if memory { "there" } else { "refused" })?;
     Ok(())
 }

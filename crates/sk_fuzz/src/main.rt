@@ -70,49 +70,69 @@ fn word<R: Env + AllocGlobal>(rt: &R) -> io::Result<Option<String>> {
 }
 
 fn run<R: Print + AllocGlobal>(rt: &R, seed: u64, exactly: bool) -> Result<(), Fault> {
-    let alloc = rt.alloc();
-    let long = filters(alloc, LONG)?;
-    let short = filters(alloc, 1)?;
-    let mut random = Random::new(seed);
-    let mut tally = Tally::new(alloc)?;
-    let mut left = EVENTS;
-    let mut rounds = 0;
-    for number in 0..EVENTS {
-        if left == 0 {
-            break;
-        }
-        let filters = if number % 8 == 2 { &long } else { &short };
-        let mut pair = begun(alloc, number, filters, &mut tally)?;
-        let most = if number == 1 { CROWDED } else { ROUND };
-        play(&mut pair, &mut random, &mut tally, left.min(most))?;
-        pair.compare()?;
-        check_lines(alloc, &pair, filters, &mut tally)?;
-        left = left.saturating_sub(pair.events.len());
-        rounds = number;
-    }
+    let mut tally = Tally::new(rt.alloc())?;
+    let pairs = tell_pairs(rt.alloc(), &mut Random::new(seed), &mut tally)?;
     println!(rt; "{EVENTS} events")?;
     if exactly {
-        println!(rt; "{rounds} pairs of kernels")?;
+        println!(rt; "{pairs} pairs of kernels")?;
     }
     tally.print(rt, exactly)
 }
 
-// The first pair has given all pids once, the second has as many processes as there can be, and in every eighth one the
-// filters come near the path limit. Every other one has subreapers.
-fn begun(
+// Tells one pair after the other its events until there were so many, and answers how many pairs it took.
+fn tell_pairs(alloc: Global, random: &mut Random, tally: &mut Tally) -> Result<usize, Fault> {
+    let long = filters(alloc, LONG)?;
+    let short = filters(alloc, 1)?;
+    let mut left = EVENTS;
+    for number in 0..EVENTS {
+        if left == 0 {
+            return Ok(number);
+        }
+        let filters = if number % 8 == 2 { &long } else { &short };
+        left = left.saturating_sub(tell_pair(alloc, number, filters, left, random, tally)?);
+    }
+    Ok(EVENTS)
+}
+
+// Tells a new pair at most as many events as are left and compares what came of them. Answers how many there were. Every
+// other pair has subreapers.
+fn tell_pair(
     alloc: Global,
     number: usize,
     filters: &[Vec<u8>],
+    left: usize,
+    random: &mut Random,
     tally: &mut Tally,
-) -> Result<Pair, Fault> {
+) -> Result<usize, Fault> {
     let mut pair = Pair::new(alloc, filters, number % 2 == 1)?;
+    tell_events(alloc, &mut pair, number, left, random, tally)?;
+    check_lines(alloc, &pair, filters, tally)?;
+    Ok(pair.events.len())
+}
+
+fn tell_events(
+    alloc: Global,
+    pair: &mut Pair,
+    number: usize,
+    left: usize,
+    random: &mut Random,
+    tally: &mut Tally,
+) -> Result<(), Fault> {
+    begin(alloc, pair, number, tally)?;
+    let most = if number == 1 { CROWDED } else { ROUND };
+    play(pair, random, tally, left.min(most))?;
+    pair.compare()
+}
+
+// The first pair has given all pids once, the second has as many processes as there can be, and in every eighth one the
+// filters come near the path limit.
+fn begin(alloc: Global, pair: &mut Pair, number: usize, tally: &mut Tally) -> Result<(), Fault> {
     match number {
-        0 => pair.give_all_pids(&mut Tally::new(alloc)?)?,
-        1 => tell_again(&mut pair, &bare_call(INIT, Syscall::Fork), PROCESSES, tally)?,
-        _ if number % 8 == 2 => tell_again(&mut pair, &attach_of(LONG_FILTER), 7, tally)?,
-        _ => {}
+        0 => pair.give_all_pids(&mut Tally::new(alloc)?),
+        1 => tell_again(pair, &bare_call(INIT, Syscall::Fork), PROCESSES, tally),
+        _ if number % 8 == 2 => tell_again(pair, &attach_of(LONG_FILTER), 7, tally),
+        _ => Ok(()),
     }
-    Ok(pair)
 }
 
 fn tell_again(

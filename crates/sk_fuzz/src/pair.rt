@@ -6,7 +6,7 @@ use crate::images::images;
 use crate::tally::{Kind, Tally};
 use sk_calls::Syscall;
 use sk_kernel::{Answer, Effect, Event, Kernel, Outcome};
-use sk_table::{INIT, LAST_PID, ListStore, SlotStore};
+use sk_table::{INIT, LAST_PID, ListStore, ProcStore, SlotStore};
 use std::alloc::Global;
 
 /// A kernel over each store, with the events that they were told, and the answers.
@@ -25,11 +25,12 @@ pub(crate) struct Pair {
 impl Pair {
     /// Two kernels as the system starts.
     pub(crate) fn new(alloc: Global, filters: &[Vec<u8>], subreapers: bool) -> Result<Pair, Fault> {
-        let mut pids = Vec::new(alloc);
-        pids.push(INIT)?;
+        let list = kernel_of(alloc, filters, subreapers)?;
+        let slots = kernel_of(alloc, filters, subreapers)?;
+        let pids = [INIT].to_vec(alloc)?;
         Ok(Pair {
-            list: Kernel::new(alloc, images(alloc, filters, subreapers)?)?,
-            slots: Kernel::new(alloc, images(alloc, filters, subreapers)?)?,
+            list,
+            slots,
             events: Vec::new(alloc),
             answers: Vec::new(alloc),
             pids,
@@ -116,6 +117,15 @@ impl Pair {
         }
         children
     }
+}
+
+/// A kernel that has these filters.
+pub(crate) fn kernel_of<S: ProcStore>(
+    alloc: Global,
+    filters: &[Vec<u8>],
+    subreapers: bool,
+) -> Result<Kernel<S>, Fault> {
+    Ok(Kernel::new(alloc, images(alloc, filters, subreapers)?)?)
 }
 
 /// A call without an address and registers.

@@ -5,7 +5,6 @@ use sk_calls::Syscall;
 use sk_insn::Action;
 use sk_kernel::{Answer, Effect, Event, Outcome, Reason};
 use std::alloc::{AllocError, Global};
-use std::fmt;
 
 /// A kind of things that can come of an event.
 #[derive(Clone, Copy, PartialEq, Eq, Debug)]
@@ -50,51 +49,63 @@ pub(crate) enum Kind {
     NotNow(Reason),
 }
 
-// Each kind and how often it comes at least in the run that the tests make.
-const FLOORS: [(Kind, u32); 43] = [
-    (Kind::Forked, 4000),
-    (Kind::PidAgain, 50),
-    (Kind::NoRoom, 1),
-    (Kind::Exited, 1500),
-    (Kind::Crashed, 600),
-    (Kind::EndedByFilter, 50),
-    (Kind::EndedBySignal, 1000),
-    (Kind::Orphaned, 1000),
-    (Kind::HungUp, 50),
-    (Kind::Stopped, 300),
-    (Kind::ToldEnd, 800),
-    (Kind::ToldStop, 5),
-    (Kind::ToldContinued, 5),
-    (Kind::Waits, 1000),
-    (Kind::WaitsOn, 50),
-    (Kind::WaitFailed, 2000),
-    (Kind::Attached, 1000),
-    (Kind::PathLimit, 1),
-    (Kind::NoPrivilege, 500),
-    (Kind::NoNewPrivs, 100),
-    (Kind::IdsTaken, 500),
-    (Kind::Executed, 500),
-    (Kind::Logged, 4000),
-    (Kind::Refused, 1500),
-    (Kind::Unsupported, 100),
-    (Kind::Trapped, 50),
-    (Kind::SignalSent, 1500),
-    (Kind::Handler, 300),
-    (Kind::Interrupted, 50),
-    (Kind::HandlerReturned, 150),
-    (Kind::Ignored, 150),
-    (Kind::GroupSet, 800),
-    (Kind::SessionMade, 300),
-    (Kind::SubreaperMarked, 100),
-    (Kind::Failed, 8000),
-    (Kind::Compared, 3000),
-    (Kind::NotNow(Reason::NoProcess), 2000),
-    (Kind::NotNow(Reason::Zombie), 2000),
-    (Kind::NotNow(Reason::Stopped), 150),
-    (Kind::NotNow(Reason::Waiting), 200),
-    (Kind::NotNow(Reason::SignalFirst), 30),
-    (Kind::NotNow(Reason::NothingWaits), 500),
-    (Kind::NotNow(Reason::Halted), 100),
+// Each kind, its name, and how often it comes at least in the run that the tests make.
+const KINDS: [(Kind, &str, u32); 43] = [
+    (Kind::Forked, "forks", 4000),
+    (Kind::PidAgain, "forks that gave a pid again", 50),
+    (Kind::NoRoom, "forks without room", 1),
+    (Kind::Exited, "exits", 1500),
+    (Kind::Crashed, "crashes", 600),
+    (Kind::EndedByFilter, "ends by a filter", 50),
+    (Kind::EndedBySignal, "ends by a signal", 1000),
+    (Kind::Orphaned, "processes handed to another parent", 1000),
+    (Kind::HungUp, "hangups delivered", 50),
+    (Kind::Stopped, "stops", 300),
+    (Kind::ToldEnd, "ends told", 800),
+    (Kind::ToldStop, "stops told", 5),
+    (Kind::ToldContinued, "continuations told", 5),
+    (Kind::Waits, "calls that wait", 1000),
+    (Kind::WaitsOn, "waits that go on", 50),
+    (Kind::WaitFailed, "waits that fail", 2000),
+    (Kind::Attached, "filters attached", 1000),
+    (Kind::PathLimit, "filters over the path limit", 1),
+    (Kind::NoPrivilege, "filters without the privilege", 500),
+    (Kind::NoNewPrivs, "calls that set no_new_privs", 100),
+    (Kind::IdsTaken, "ids taken", 500),
+    (Kind::Executed, "programs executed", 500),
+    (Kind::Logged, "calls logged", 4000),
+    (Kind::Refused, "calls refused with an errno", 1500),
+    (Kind::Unsupported, "calls for a tracer or a listener", 100),
+    (Kind::Trapped, "calls trapped", 50),
+    (Kind::SignalSent, "kills allowed", 1500),
+    (Kind::Handler, "handlers started", 300),
+    (Kind::Interrupted, "handlers that interrupt a call", 50),
+    (Kind::HandlerReturned, "handlers returned", 150),
+    (Kind::Ignored, "signals ignored at delivery", 150),
+    (Kind::GroupSet, "groups set", 800),
+    (Kind::SessionMade, "sessions made", 300),
+    (Kind::SubreaperMarked, "marks of subreapers", 100),
+    (Kind::Failed, "other calls that fail", 8000),
+    (Kind::Compared, "processes compared with their lines", 3000),
+    (Kind::NotNow(Reason::NoProcess), "events of nobody", 2000),
+    (Kind::NotNow(Reason::Zombie), "events of zombies", 2000),
+    (Kind::NotNow(Reason::Stopped), "events of the stopped", 150),
+    (
+        Kind::NotNow(Reason::Waiting),
+        "calls of those that wait",
+        200,
+    ),
+    (
+        Kind::NotNow(Reason::SignalFirst),
+        "events before a delivery",
+        30,
+    ),
+    (
+        Kind::NotNow(Reason::NothingWaits),
+        "deliveries and resumptions of nothing",
+        500,
+    ),
+    (Kind::NotNow(Reason::Halted), "events after the halt", 100),
 ];
 
 /// How often each kind came.
@@ -107,7 +118,7 @@ impl Tally {
     /// Nothing came yet.
     pub(crate) fn new(alloc: Global) -> Result<Tally, AllocError> {
         let mut counts = Vec::new(alloc);
-        for (kind, _) in FLOORS {
+        for (kind, _, _) in KINDS {
             counts.push((kind, 0))?;
         }
         Ok(Tally { counts })
@@ -230,65 +241,21 @@ impl Tally {
 
     /// Prints each kind, and how often it came, or at least comes in the run that the tests make.
     pub(crate) fn print<R: Print>(&self, rt: &R, exactly: bool) -> Result<(), Fault> {
-        for ((kind, count), (_, floor)) in self.counts.iter().zip(FLOORS) {
-            if exactly {
-                println!(rt; "{count} {kind}")?;
-            } else if *count >= floor {
-                println!(rt; "{floor} or more {kind}")?;
-            } else {
-                println!(rt; "only {count} {kind}")?;
-            }
+        for ((_, count), (_, name, floor)) in self.counts.iter().zip(KINDS) {
+            let (before, number, behind) = told(*count, floor, exactly);
+            println!(rt; "{before}{number} {behind}{name}")?;
         }
         Ok(())
     }
 }
 
-impl fmt::Display for Kind {
-    fn fmt<W: fmt::Write>(&self, f: &mut fmt::Formatter<W>) -> fmt::Result {
-        f.write_str(match self {
-            Kind::Forked => "forks",
-            Kind::PidAgain => "forks that gave a pid again",
-            Kind::NoRoom => "forks without room",
-            Kind::Exited => "exits",
-            Kind::Crashed => "crashes",
-            Kind::EndedByFilter => "ends by a filter",
-            Kind::EndedBySignal => "ends by a signal",
-            Kind::Orphaned => "processes handed to another parent",
-            Kind::HungUp => "hangups delivered",
-            Kind::Stopped => "stops",
-            Kind::ToldEnd => "ends told",
-            Kind::ToldStop => "stops told",
-            Kind::ToldContinued => "continuations told",
-            Kind::Waits => "calls that wait",
-            Kind::WaitsOn => "waits that go on",
-            Kind::WaitFailed => "waits that fail",
-            Kind::Attached => "filters attached",
-            Kind::PathLimit => "filters over the path limit",
-            Kind::NoPrivilege => "filters without the privilege",
-            Kind::NoNewPrivs => "calls that set no_new_privs",
-            Kind::IdsTaken => "ids taken",
-            Kind::Executed => "programs executed",
-            Kind::Logged => "calls logged",
-            Kind::Refused => "calls refused with an errno",
-            Kind::Unsupported => "calls for a tracer or a listener",
-            Kind::Trapped => "calls trapped",
-            Kind::SignalSent => "kills allowed",
-            Kind::Handler => "handlers started",
-            Kind::Interrupted => "handlers that interrupt a call",
-            Kind::HandlerReturned => "handlers returned",
-            Kind::Ignored => "signals ignored at delivery",
-            Kind::GroupSet => "groups set",
-            Kind::SessionMade => "sessions made",
-            Kind::SubreaperMarked => "marks of subreapers",
-            Kind::Failed => "other calls that fail",
-            Kind::Compared => "processes compared with their lines",
-            Kind::NotNow(Reason::NoProcess) => "events of nobody",
-            Kind::NotNow(Reason::Zombie) => "events of zombies",
-            Kind::NotNow(Reason::Stopped) => "events of the stopped",
-            Kind::NotNow(Reason::Waiting) => "calls of those that wait",
-            Kind::NotNow(Reason::SignalFirst) => "events before a delivery",
-            Kind::NotNow(Reason::NothingWaits) => "deliveries and resumptions of nothing",
-            Kind::NotNow(Reason::Halted) => "events after the halt",
-        })
+// A number, and what is said before and behind it.
+fn told(count: u32, floor: u32, exactly: bool) -> (&'static str, u32, &'static str) {
+    if exactly {
+        ("", count, "")
+    } else if count >= floor {
+        ("", floor, "or more ")
+    } else {
+        ("only ", count, "")
     }
 }

@@ -1,5 +1,5 @@
 use crate::given::{Given, NOTHING};
-use crate::play::{events_of, played};
+use crate::play::{answers_of, events_of};
 use crate::row::Act::Call;
 use crate::row::Came::Gives;
 use crate::row::{NONE, Row, args_of};
@@ -7,6 +7,7 @@ use sk_calls::Syscall;
 use sk_calls::Syscall::{Fork, Prctl, Setuid};
 use sk_insn::Record;
 use sk_kernel::laws::{Lineage, line};
+use sk_kernel::{Answer, Event};
 use sk_table::{ListStore, ProcStore, SlotStore};
 use std::process::Abort;
 use std::test::Fail;
@@ -39,11 +40,18 @@ fn line_is_told_from_events_and_answers(rt: HostRuntime) -> Result<(), Fail> {
 }
 
 fn lines_are_told<S: ProcStore, R: Abort + AllocGlobal>(rt: &R, given: &Given) -> Result<(), Fail> {
-    let (_, answers) = played::<S, R>(rt, given.images(rt.alloc())?, &ROWS)?;
-    let events = events_of(rt.alloc(), &ROWS)?;
+    let answers = answers_of::<S, R>(rt, given.images(rt.alloc())?, &ROWS)?;
+    assert_lines(rt, &events_of(rt.alloc(), &ROWS)?, &answers)
+}
+
+fn assert_lines<R: Abort + AllocGlobal>(
+    rt: &R,
+    events: &[Event],
+    answers: &[Answer],
+) -> Result<(), Fail> {
     assert_eq!(rt; answers.len(), events.len());
     for (pid, root, calls) in LINES {
-        let told = line(rt.alloc(), &events, &answers, pid)?;
+        let told = line(rt.alloc(), events, answers, pid)?;
         assert_eq!(rt; told.root, root);
         assert!(rt; has_calls(&told, calls), "line of {pid}");
     }

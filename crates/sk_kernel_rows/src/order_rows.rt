@@ -8,7 +8,8 @@ use sk_calls::Syscall::{
 use sk_insn::Record;
 use sk_kernel::laws::{Lineage, line};
 use sk_kernel::{Answer, Event, Kernel, Need};
-use sk_table::{ListStore, ProcStore, SlotStore};
+use sk_table::{ListStore, Proc, ProcStore, SlotStore};
+use std::alloc::Global;
 use std::process::Abort;
 use std::test::Fail;
 
@@ -20,6 +21,14 @@ struct Orders {
     given: Given,
     scripts: &'static [Script],
     orders: &'static [&'static [u8]],
+}
+
+/// A kernel, with the events that it was told, and the answers.
+#[derive(Drop)]
+struct Course<S: ProcStore> {
+    kernel: Kernel<S>,
+    events: Vec<Event>,
+    answers: Vec<Answer>,
 }
 
 /// A line, and the verdicts of its filters on each call without arguments.
@@ -146,46 +155,79 @@ fn meet_in_order<S: ProcStore, R: Abort + AllocGlobal>(
     order: &[u8],
     known: &mut Vec<Known>,
 ) -> Result<(), Fail> {
-    let mut kernel = Kernel::<S>::new(rt.alloc(), orders.given.images(rt.alloc())?)?;
-    let mut events = Vec::new(rt.alloc());
-    let mut answers = Vec::new(rt.alloc());
-    meet_all(rt, &kernel, &events, &answers, known)?;
-    for digit in order {
-        let event = orders.next(&kernel, u32::from(digit.saturating_sub(b'0')), &events);
-        assert_eq!(rt; kernel.run(&[event], &mut answers), Ok(()));
-        assert!(rt;
-            !matches!(answers.last(), Some(Answer::NotNow(_))),
-            "{event:?}"
-        );
-        events.push(event)?;
-        meet_all(rt, &kernel, &events, &answers, known)?;
-    }
-    for (pid, script) in (1..).zip(orders.scripts) {
-        assert_eq!(rt; calls_of(pid, &events), script.len());
-    }
-    Ok(())
+    let mut course = Course {
+        kernel: Kernel::<S>::new(rt.alloc(), orders.given.images(rt.alloc())?)?,
+        events: Vec::new(rt.alloc()),
+        answers: Vec::new(rt.alloc()),
+    };
+    course.meet_in_order(rt, orders, order, known)
 }
 
-/// Adds the lines of all processes that are there to those that are known, or compares them.
-fn meet_all<S: ProcStore, R: Abort + AllocGlobal>(
-    rt: &R,
-    kernel: &Kernel<S>,
-    events: &[Event],
-    answers: &[Answer],
-    known: &mut Vec<Known>,
-) -> Result<(), Fail> {
-    assert_eq!(rt; events.len(), answers.len());
-    for pid in 1..4 {
-        if let Some(process) = kernel.get(pid) {
-            let mut verdicts = Vec::new(rt.alloc());
-            for nr in 0..512 {
-                verdicts.push(process.body.chain.verdict(&bare_call(nr)))?;
-            }
-            let line = line(rt.alloc(), events, answers, pid)?;
-            meet(rt, Known { line, verdicts }, known)?;
+impl<S: ProcStore> Course<S> {
+    fn meet_in_order<R: Abort + AllocGlobal>(
+        &mut self,
+        rt: &R,
+        orders: &Orders,
+        order: &[u8],
+        known: &mut Vec<Known>,
+    ) -> Result<(), Fail> {
+        self.meet_all(rt, known)?;
+        for digit in order {
+            self.turn(rt, orders, u32::from(digit.saturating_sub(b'0')))?;
+            self.meet_all(rt, known)?;
         }
+        for (pid, script) in (1..).zip(orders.scripts) {
+            assert_eq!(rt; calls_of(pid, &self.events), script.len());
+        }
+        Ok(())
     }
-    Ok(())
+
+    /// Gives the process its turn.
+    fn turn<R: Abort + AllocGlobal>(
+        &mut self,
+        rt: &R,
+        orders: &Orders,
+        pid: u32,
+    ) -> Result<(), Fail> {
+        let event = orders.next(&self.kernel, pid, &self.events);
+        self.events.push(event)?;
+        let ran = self.kernel.run(&[event], &mut self.answers);
+        assert_eq!(rt; ran, Ok(()));
+        let is_refused = matches!(self.answers.last(), Some(Answer::NotNow(_)));
+        assert!(rt; !is_refused, "{event:?}");
+        Ok(())
+    }
+
+    /// Adds the lines of all processes that are there to those that are known, or compares them.
+    fn meet_all<R: Abort + AllocGlobal>(&self, rt: &R, known: &mut Vec<Known>) -> Result<(), Fail> {
+        for pid in 1..4 {
+            if let Some(process) = self.kernel.get(pid) {
+                let verdicts = verdicts_of(rt.alloc(), process)?;
+                meet(rt, self.known_of(rt, pid, verdicts)?, known)?;
+            }
+        }
+        Ok(())
+    }
+
+    fn known_of<R: Abort + AllocGlobal>(
+        &self,
+        rt: &R,
+        pid: u32,
+        verdicts: Vec<u32>,
+    ) -> Result<Known, Fail> {
+        assert_eq!(rt; self.events.len(), self.answers.len());
+        let line = line(rt.alloc(), &self.events, &self.answers, pid)?;
+        Ok(Known { line, verdicts })
+    }
+}
+
+/// The verdicts of the filters of a process on each call without arguments.
+fn verdicts_of(alloc: Global, process: &Proc) -> Result<Vec<u32>, Fail> {
+    let mut verdicts = Vec::new(alloc);
+    for nr in 0..512 {
+        verdicts.push(process.body.chain.verdict(&bare_call(nr)))?;
+    }
+    Ok(verdicts)
 }
 
 fn meet<R: Abort>(rt: &R, met: Known, known: &mut Vec<Known>) -> Result<(), Fail> {

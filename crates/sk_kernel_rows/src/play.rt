@@ -1,5 +1,5 @@
 use crate::given::Given;
-use crate::picture::pictures;
+use crate::picture::{Picture, pictures};
 use crate::row::Row;
 use sk_kernel::{Answer, Event, Images, Kernel, Need};
 use sk_signal::SigSet;
@@ -40,10 +40,18 @@ pub(crate) fn play_and_see<R: Abort + AllocGlobal>(
     rows: &[Row],
     sights: &[Sight],
 ) -> Result<(), Fail> {
-    let (list, _) = played::<ListStore, R>(rt, given.images(rt.alloc())?, rows)?;
-    see(rt, &list, sights);
-    let (slots, _) = played::<SlotStore, R>(rt, given.images(rt.alloc())?, rows)?;
-    see(rt, &slots, sights);
+    play_over_and_see::<ListStore, R>(rt, given, rows, sights)?;
+    play_over_and_see::<SlotStore, R>(rt, given, rows, sights)
+}
+
+fn play_over_and_see<S: ProcStore, R: Abort + AllocGlobal>(
+    rt: &R,
+    given: &Given,
+    rows: &[Row],
+    sights: &[Sight],
+) -> Result<(), Fail> {
+    let kernel = played::<S, R>(rt, given.images(rt.alloc())?, rows)?;
+    see(rt, &kernel, sights);
     Ok(())
 }
 
@@ -66,11 +74,20 @@ fn keep<S: ProcStore, R: Abort + AllocGlobal>(
     rows: &[Row],
     kept: &[u32],
 ) -> Result<(), Fail> {
-    let (mut kernel, _) = played::<S, R>(rt, given.images(rt.alloc())?, before)?;
+    let mut kernel = played::<S, R>(rt, given.images(rt.alloc())?, before)?;
     let old = pictures(rt.alloc(), &kernel, kept)?;
     assert_eq!(rt; old.len(), kept.len());
     go_on(rt, &mut kernel, rows)?;
-    assert_eq!(rt; pictures(rt.alloc(), &kernel, kept)?, old);
+    assert_pictures(rt, &kernel, kept, &old)
+}
+
+fn assert_pictures<S: ProcStore, R: Abort + AllocGlobal>(
+    rt: &R,
+    kernel: &Kernel<S>,
+    pids: &[u32],
+    expected: &[Picture],
+) -> Result<(), Fail> {
+    assert_eq!(rt; pictures(rt.alloc(), kernel, pids)?.as_slice(), expected);
     Ok(())
 }
 
@@ -87,10 +104,19 @@ pub(crate) fn played<S: ProcStore, R: Abort + AllocGlobal>(
     rt: &R,
     images: Images,
     rows: &[Row],
-) -> Result<(Kernel<S>, Vec<Answer>), Fail> {
+) -> Result<Kernel<S>, Fail> {
     let mut kernel = Kernel::<S>::new(rt.alloc(), images)?;
-    let answers = go_on(rt, &mut kernel, rows)?;
-    Ok((kernel, answers))
+    go_on(rt, &mut kernel, rows)?;
+    Ok(kernel)
+}
+
+/// The same, and answers what the kernel answered.
+pub(crate) fn answers_of<S: ProcStore, R: Abort + AllocGlobal>(
+    rt: &R,
+    images: Images,
+    rows: &[Row],
+) -> Result<Vec<Answer>, Fail> {
+    go_on(rt, &mut Kernel::<S>::new(rt.alloc(), images)?, rows)
 }
 
 fn go_on<S: ProcStore, R: Abort + AllocGlobal>(

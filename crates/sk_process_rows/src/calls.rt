@@ -9,15 +9,21 @@ fn calls_have_the_numbers_and_names_of_the_manual(rt: HostRuntime) {
         (231, "exit_group", Syscall::ExitGroup),
         (317, "seccomp", Syscall::Seccomp),
     ] {
-        assert_eq!(rt; Syscall::of(number), Some(call));
-        assert_eq!(rt; Syscall::named(name.as_bytes()), Some(call));
-        assert_eq!(rt; call.number(), number);
-        assert_eq!(rt; call.name().as_bytes(), name.as_bytes());
+        let found = (Syscall::of(number), Syscall::named(name.as_bytes()));
+        assert_eq!(rt; found, (Some(call), Some(call)));
+        assert_eq!(rt; (call.number(), call.name()), (number, name));
     }
-    for number in [0, 56, 318, 0x4000_0027] {
-        assert_eq!(rt; Syscall::of(number), None);
-    }
-    for name in ["", "clone", "Fork", "fork "] {
-        assert_eq!(rt; Syscall::named(name.as_bytes()), None);
+}
+
+#[test]
+fn other_numbers_and_names_are_no_calls(rt: HostRuntime) {
+    for (number, name) in [
+        (0, ""),
+        (56, "clone"),
+        (318, "Fork"),
+        (0x4000_0027, "fork "),
+    ] {
+        let found = (Syscall::of(number), Syscall::named(name.as_bytes()));
+        assert_eq!(rt; found, (None, None));
     }
 }

@@ -3,7 +3,7 @@ ghost use Rattle.std.specs.Prelude.{◌≡◌};
 ghost use Rattle.sk_world.specs.Rules.{IsWorld};
 
 use crate::sessions::world::lead_group;
-use crate::world::{end_of, fork_of, opening};
+use crate::world::{after_forks, end_of};
 use bitflags::Flags;
 use sk_candidates::Candidates;
 use sk_signal::number::SIGUSR1;
@@ -33,10 +33,7 @@ fn rows<S: ProcStore, R: Abort + AllocGlobal>(rt: &R) -> Result<(), Fail> {
 
 /// Three children, of which two pause. The turn goes round past them, and comes to one that has a signal due.
 fn who_waits_is_passed_over<S: ProcStore, R: Abort + AllocGlobal>(rt: &R) -> Result<(), Fail> {
-    let mut store = opening::<Candidates<S>>(rt.alloc())?;
-    fork_of(rt, &mut store, INIT)?;
-    fork_of(rt, &mut store, INIT)?;
-    fork_of(rt, &mut store, INIT)?;
+    let mut store: Candidates<S> = after_forks(rt, &[INIT, INIT, INIT])?;
     turns(rt, &store, &[(0, Some(1)), (1, Some(2)), (4, Some(1))]);
     waits(&mut store, 2, Waiting::Pause);
     waits(&mut store, 4, Waiting::Pause);
@@ -56,9 +53,7 @@ fn who_waits_is_passed_over<S: ProcStore, R: Abort + AllocGlobal>(rt: &R) -> Res
 fn parent_hears_of_the_end_of_its_child<S: ProcStore, R: Abort + AllocGlobal>(
     rt: &R,
 ) -> Result<(), Fail> {
-    let mut store = opening::<Candidates<S>>(rt.alloc())?;
-    fork_of(rt, &mut store, INIT)?;
-    fork_of(rt, &mut store, INIT)?;
+    let mut store: Candidates<S> = after_forks(rt, &[INIT, INIT])?;
     waits(&mut store, INIT, asks(Who::Any));
     waits(&mut store, 2, Waiting::Pause);
     waits(&mut store, 3, Waiting::Pause);
@@ -72,8 +67,7 @@ fn parent_hears_of_the_end_of_its_child<S: ProcStore, R: Abort + AllocGlobal>(
 fn parent_goes_on_where_no_child_matches<S: ProcStore, R: Abort + AllocGlobal>(
     rt: &R,
 ) -> Result<(), Fail> {
-    let mut store = opening::<Candidates<S>>(rt.alloc())?;
-    fork_of(rt, &mut store, INIT)?;
+    let mut store: Candidates<S> = after_forks(rt, &[INIT])?;
     waits(&mut store, INIT, asks(Who::Group(INIT)));
     waits(&mut store, 2, Waiting::Pause);
     turns(rt, &store, &[(0, None)]);
@@ -86,25 +80,29 @@ fn parent_goes_on_where_no_child_matches<S: ProcStore, R: Abort + AllocGlobal>(
 fn candidates_keep_what_the_store_keeps<S: ProcStore, R: Abort + AllocGlobal>(
     rt: &R,
 ) -> Result<(), Fail> {
-    let mut store = opening::<Candidates<S>>(rt.alloc())?;
-    fork_of(rt, &mut store, INIT)?;
-    assert_eq!(rt; (store.count(), store.last(), store.fresh()), (2, 2, 3));
-    assert_eq!(rt;
-        (store.next_pid(0), store.next_pid(1), store.next_pid(2)),
-        (Some(1), Some(2), None)
-    );
-    assert_eq!(rt;
-        (store.next_child(INIT, 0), store.next_child(INIT, 2)),
-        (Some(2), None)
-    );
-    assert_eq!(rt;
-        (store.next_member(INIT, 1), store.next_member(2, 0)),
-        (Some(2), None)
-    );
-    assert_eq!(rt; (store.used(2), store.used(3)), (true, false));
-    assert!(rt; store.get(2).is_some() && store.get(3).is_none());
+    let mut store: Candidates<S> = after_forks(rt, &[INIT])?;
+    keeps_processes_1_and_2(rt, &store);
     assert!(rt; store.remove(2).is_some() && store.get(2).is_none());
     Ok(())
+}
+
+fn keeps_processes_1_and_2<S: ProcStore>(rt: &impl Abort, store: &S) {
+    assert_eq!(rt; (store.count(), store.last(), store.fresh()), (2, 2, 3));
+    for (after, next, child, member) in [
+        (0, Some(1), Some(2), Some(1)),
+        (1, Some(2), Some(2), Some(2)),
+        (2, None, None, None),
+    ] {
+        let found = (
+            store.next_pid(after),
+            store.next_child(INIT, after),
+            store.next_member(INIT, after),
+        );
+        assert_eq!(rt; found, (next, child, member));
+    }
+    assert!(rt; store.next_member(2, 0).is_none());
+    assert!(rt; store.used(2) && !store.used(3));
+    assert!(rt; store.get(2).is_some() && store.get(3).is_none());
 }
 
 fn asks(who: Who) -> Waiting {

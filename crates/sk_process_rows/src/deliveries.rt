@@ -2,4 +2,4 @@
 mod effects;
 mod kills;
 mod waits;
-mod world;
+pub(crate) mod world;

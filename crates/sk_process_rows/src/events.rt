@@ -8,17 +8,25 @@ fn each_event_has_its_process(rt: HostRuntime) {
         nr: 39,
         args: [0; 6],
     };
-    assert_eq!(rt; call.pid(), 2);
-    assert_eq!(rt; Event::Deliver { pid: 3 }.pid(), 3);
-    assert_eq!(rt; Event::Resume { pid: 4 }.pid(), 4);
-    assert_eq!(rt; Event::Fault { pid: 5 }.pid(), 5);
+    for (event, pid) in [
+        (call, 2),
+        (Event::Deliver { pid: 3 }, 3),
+        (Event::Resume { pid: 4 }, 4),
+        (Event::Fault { pid: 5 }, 5),
+    ] {
+        assert_eq!(rt; event.pid(), pid);
+    }
 }
 
 #[test]
 fn reasons_are_numbered(rt: HostRuntime) {
-    assert_eq!(rt; Reason::NoProcess.number(), 1);
-    assert_eq!(rt; Reason::SignalFirst.number(), 5);
-    assert_eq!(rt; Reason::Halted.number(), 7);
+    for (reason, number) in [
+        (Reason::NoProcess, 1),
+        (Reason::SignalFirst, 5),
+        (Reason::Halted, 7),
+    ] {
+        assert_eq!(rt; reason.number(), number);
+    }
 }
 
 #[test]

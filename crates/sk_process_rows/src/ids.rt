@@ -1,3 +1,4 @@
+use crate::deliveries::world::{ROOT, USER};
 use sk_creds::{Creds, Errno};
 
 fn ids(real: u32, effective: u32, saved: u32) -> Creds {
@@ -9,36 +10,49 @@ fn ids(real: u32, effective: u32, saved: u32) -> Creds {
     }
 }
 
-/// The superuser takes three ids, and cannot come back to them all. 4294967295 is `(uid_t) -1`.
+/// The ids before, the one that is taken, and what that comes to. 4294967295 is `(uid_t) -1`.
+#[test]
+fn one_id_is_taken(rt: HostRuntime) {
+    for (before, id, result, after) in [
+        (ROOT, 4294967295, Err(Errno::Einval), ROOT),
+        (ROOT, 1000, Ok(()), USER),
+        (
+            ids(1002, 1000, 1002),
+            1001,
+            Err(Errno::Eperm),
+            ids(1002, 1000, 1002),
+        ),
+        (ids(1002, 1000, 1002), 1002, Ok(()), ids(1002, 1002, 1002)),
+    ] {
+        let mut creds = before;
+        assert_eq!(rt; (creds.setuid(id), creds), (result, after));
+    }
+}
+
+/// The superuser takes three ids, and cannot come back to them all.
 #[test]
 fn ids_given_up_stay_given_up(rt: HostRuntime) {
-    let mut creds = ids(0, 0, 0);
-    assert_eq!(rt; creds.setuid(4294967295), Err(Errno::Einval));
-    assert_eq!(rt; creds.setresuid(1000, 1001, 1002), Ok(()));
-    assert_eq!(rt; creds, ids(1000, 1001, 1002));
-    assert_eq!(rt; creds.setresuid(1002, 1000, 4294967295), Ok(()));
-    assert_eq!(rt; creds, ids(1002, 1000, 1002));
-    assert_eq!(rt; creds.setuid(1001), Err(Errno::Eperm));
-    assert_eq!(rt; creds.setresuid(1002, 0, 1002), Err(Errno::Eperm));
-    assert_eq!(rt; creds, ids(1002, 1000, 1002));
-    assert_eq!(rt; creds.setuid(1002), Ok(()));
-    assert_eq!(rt; creds, ids(1002, 1002, 1002));
-    let mut root = ids(0, 0, 0);
-    assert_eq!(rt; root.setuid(1000), Ok(()));
-    assert_eq!(rt; root, ids(1000, 1000, 1000));
+    let mut creds = ROOT;
+    for (real, effective, saved, result, after) in [
+        (1000, 1001, 1002, Ok(()), ids(1000, 1001, 1002)),
+        (1002, 1000, 4294967295, Ok(()), ids(1002, 1000, 1002)),
+        (1002, 0, 1002, Err(Errno::Eperm), ids(1002, 1000, 1002)),
+    ] {
+        let told = creds.setresuid(real, effective, saved);
+        assert_eq!(rt; (told, creds), (result, after));
+    }
 }
 
 /// The ids before, the program's owner and set-user-ID bit, and the ids that its execve leaves.
 #[test]
 fn execve_leaves_no_saved_id_behind(rt: HostRuntime) {
-    let user = ids(1000, 1000, 1000);
     let bound = Creds {
         no_new_privs: true,
-        ..user
+        ..USER
     };
     for (before, owner, setuid, after) in [
         (ids(0, 5, 7), 9, false, ids(0, 5, 5)),
-        (user, 0, true, ids(1000, 0, 0)),
+        (USER, 0, true, ids(1000, 0, 0)),
         (bound, 0, true, bound),
     ] {
         let mut creds = before;
@@ -50,21 +64,18 @@ fn execve_leaves_no_saved_id_behind(rt: HostRuntime) {
 /// A sender, a target, and whether the one may signal the other.
 #[test]
 fn signals_go_by_the_targets_real_and_saved_ids(rt: HostRuntime) {
-    let root = ids(0, 0, 0);
-    let one = ids(1000, 1000, 1000);
-    let other = ids(1001, 1001, 1001);
     for (sender, target, permitted) in [
-        (root, one, true),
-        (one, root, false),
-        (other, one, false),
-        (one, one, true),
+        (ROOT, USER, true),
+        (USER, ROOT, false),
+        (ids(1001, 1001, 1001), USER, false),
+        (USER, USER, true),
         (ids(1000, 5, 5), ids(7, 7, 1000), true),
         (ids(5, 1000, 5), ids(1000, 7, 7), true),
-        (ids(5, 5, 1000), one, false),
-        (one, ids(7, 1000, 7), false),
+        (ids(5, 5, 1000), USER, false),
+        (USER, ids(7, 1000, 7), false),
     ] {
-        assert_eq!(rt; sender.may_signal(&target), permitted);
-        assert_eq!(rt; sender.is_privileged(), sender == root);
+        let told = (sender.may_signal(&target), sender.is_privileged());
+        assert_eq!(rt; told, (permitted, sender == ROOT));
     }
 }
 

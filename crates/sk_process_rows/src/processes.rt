@@ -4,6 +4,7 @@ use sk_creds::Creds;
 use sk_signal::number::{SIGTERM, SIGUSR1};
 use sk_signal::{SigSet, SigState};
 use sk_world::{Body, INIT, Life, Links, Note, Proc, WaitOptions, Waiting};
+use std::process::Abort;
 use std::test::Fail;
 
 /// A user's process in group and session 7, which has executed a program, blocks SIGUSR1, and has
@@ -39,43 +40,49 @@ fn parent(rt: &HostRuntime) -> Proc {
 #[test]
 fn a_child_has_the_rights_and_nothing_that_pends(rt: HostRuntime) -> Result<(), Fail> {
     let parent = parent(&rt);
-    let Proc { links, body } = parent.child(7)?;
-    assert_eq!(rt;
-        links,
-        Links {
-            parent: 7,
-            group: 7,
-            session: 7
-        }
-    );
-    assert_eq!(rt; body.life, Life::Running);
-    assert_eq!(rt; body.creds, parent.body.creds);
-    assert!(rt; body.chain.is_empty());
-    assert_eq!(rt; body.signals.mask(), parent.body.signals.mask());
-    assert_eq!(rt; body.signals.pending(), SigSet::empty());
+    let child = parent.child(7)?;
     assert_eq!(rt;
         parent.body.signals.pending(),
         SigSet::empty().with(SIGTERM)
     );
-    assert!(rt; !body.executed);
-    assert!(rt; !body.subreaper);
-    assert_eq!(rt; body.waiting, Waiting::Nothing);
-    assert_eq!(rt; body.note, Note::Nothing);
+    is_the_child(&rt, &child, &parent.body);
     Ok(())
 }
 
-#[test]
-fn wait_options_are_three_bits(rt: HostRuntime) -> Result<(), Fail> {
-    assert_eq!(rt; WaitOptions::from_bits(0), Some(WaitOptions::empty()));
-    assert_eq!(rt; WaitOptions::from_bits(1), Some(WaitOptions::WNOHANG));
-    assert_eq!(rt; WaitOptions::from_bits(2), Some(WaitOptions::WUNTRACED));
-    assert_eq!(rt; WaitOptions::from_bits(8), Some(WaitOptions::WCONTINUED));
+fn is_the_child(rt: &impl Abort, child: &Proc, parent: &Body) {
+    let links = Links {
+        parent: 7,
+        group: 7,
+        session: 7,
+    };
+    let body = &child.body;
+    assert_eq!(rt; (child.links, body.creds), (links, parent.creds));
     assert_eq!(rt;
-        WaitOptions::from_bits(11),
-        Some(WaitOptions::WNOHANG | WaitOptions::WUNTRACED | WaitOptions::WCONTINUED)
+        (body.life, body.waiting, body.note),
+        (Life::Running, Waiting::Nothing, Note::Nothing)
     );
-    assert_eq!(rt; WaitOptions::from_bits(4), None);
-    assert_eq!(rt; WaitOptions::from_bits(16), None);
-    assert_eq!(rt; WaitOptions::from_bits(2_147_483_648), None);
-    Ok(())
+    assert_eq!(rt;
+        (body.signals.mask(), body.signals.pending()),
+        (parent.signals.mask(), SigSet::empty())
+    );
+    assert!(rt; body.chain.is_empty() && !body.executed && !body.subreaper);
+}
+
+#[test]
+fn wait_options_are_three_bits(rt: HostRuntime) {
+    for (bits, options) in [
+        (0, Some(WaitOptions::empty())),
+        (1, Some(WaitOptions::WNOHANG)),
+        (2, Some(WaitOptions::WUNTRACED)),
+        (8, Some(WaitOptions::WCONTINUED)),
+        (
+            11,
+            Some(WaitOptions::WNOHANG | WaitOptions::WUNTRACED | WaitOptions::WCONTINUED),
+        ),
+        (4, None),
+        (16, None),
+        (2_147_483_648, None),
+    ] {
+        assert_eq!(rt; WaitOptions::from_bits(bits), options);
+    }
 }

@@ -1,4 +1,5 @@
 //! Scenarios and what is read of them. The faults are those of the grammar, in the order of its rules.
+use crate::worked_scenarios::told;
 use sk_scenario::{ScenarioFault, read};
 use std::alloc::{AllocError, Global};
 use std::test::Fail;
@@ -42,22 +43,15 @@ fn repeated(
 fn reads_a_scenario(rt: HostRuntime) -> Result<(), Fail> {
     let text =
         b"program init owner 7 setuid\nkill &again -1 0x10 @f\nfork again\ncall 999 1\nend\nfilter e\nend\nfilter f\n ; bytes\nbytes 0 600\n  \nbytes fF\nend\nprogram again\nend\nsubreapers\nturns 007";
-    let read = read(rt.alloc(), text)?;
-    assert_eq!(rt; read.turns, 7);
-    assert!(rt; read.subreapers);
-    assert_eq!(rt; read.filters.len(), 2);
-    assert!(rt; read.filters[0].is_empty());
-    assert_eq!(rt; read.filters[1].as_slice(), [6, 0, 255].as_slice());
-    assert_eq!(rt; read.programs.len(), 2);
-    assert_eq!(rt; read.programs[0].owner, 7);
-    assert!(rt; read.programs[0].setuid);
-    let calls = read.programs[0].calls.as_slice();
-    assert_eq!(rt; calls.len(), 3);
-    assert_eq!(rt; calls[0].nr, 62);
-    assert!(rt; calls[0].args == [3, u64::MAX, 16, 1, 0, 0]);
-    assert_eq!(rt; calls[0].script, None);
-    assert_eq!(rt; calls[1].script, Some(1));
-    assert_eq!(rt; calls[2].nr, 999);
+    let scenario = read(rt.alloc(), text)?;
+    let told = told(rt.alloc(), &scenario)?;
+    assert_eq!(rt;
+        told.as_str(),
+        "7 true 0 3; 7 true, 62 3 18446744073709551615 16 1, 57 of 1, 999 1; 0 false"
+    );
+    assert!(rt;
+        scenario.filters.len() == 2 && scenario.filters[1].as_slice() == &[6u8, 0, 255][..]
+    );
     Ok(())
 }
 

@@ -1,5 +1,6 @@
 use sk_signal::number::{SIGCHLD, SIGCONT, SIGHUP, SIGKILL, SIGSYS, SIGTERM, SIGTSTP, SIGUSR1};
 use sk_signal::{DefaultAction, Disposition, SigSet, SigState, default_action, tty_stop};
+use std::process::Abort;
 
 pub(crate) fn handler() -> Disposition {
     Disposition::Handler {
@@ -13,6 +14,11 @@ fn deaf() -> SigState {
     let mut state = SigState::new();
     state.set_mask(SigSet::from_bits_truncate(u64::MAX));
     state
+}
+
+/// The bits of what is pending, and which of it is delivered next.
+fn due(state: &SigState) -> (u32, Option<u8>) {
+    (state.pending().bits(), state.deliverable())
 }
 
 #[test]
@@ -32,15 +38,25 @@ fn sets_drop_the_bits_above_signal_31(rt: HostRuntime) {
 fn sets_hold_each_signal_once(rt: HostRuntime) {
     let set = SigSet::empty().with(SIGTERM).with(SIGUSR1).with(SIGTERM);
     assert_eq!(rt; set.bits(), 0x4200);
-    assert!(rt; set.contains(SIGUSR1));
-    assert!(rt; !set.contains(SIGHUP));
-    assert_eq!(rt; set.lowest(), Some(SIGUSR1));
-    assert_eq!(rt; set.without(SIGUSR1).lowest(), Some(SIGTERM));
-    assert_eq!(rt; SigSet::empty().lowest(), None);
+    assert!(rt; set.contains(SIGUSR1) && !set.contains(SIGHUP));
+    let lowest = (
+        set.lowest(),
+        set.without(SIGUSR1).lowest(),
+        SigSet::empty().lowest(),
+    );
+    assert_eq!(rt; lowest, (Some(SIGUSR1), Some(SIGTERM), None));
+}
+
+#[test]
+fn sets_are_joined_and_told_apart(rt: HostRuntime) {
+    let set = SigSet::empty().with(SIGTERM).with(SIGUSR1);
     let more = SigSet::empty().with(SIGUSR1).with(SIGSYS).with(SIGKILL);
-    assert_eq!(rt; set.union(more).bits(), 0x4000_4300);
-    assert_eq!(rt; set.difference(more).bits(), 0x4000);
-    assert!(rt; more.blockable() == SigSet::empty().with(SIGSYS).with(SIGUSR1));
+    let bits = (
+        set.union(more).bits(),
+        set.difference(more).bits(),
+        more.blockable().bits(),
+    );
+    assert_eq!(rt; bits, (0x4000_4300, 0x4000, 0x4000_0200));
 }
 
 #[test]
@@ -73,17 +89,15 @@ fn kill_gets_through_a_full_mask(rt: HostRuntime) {
     state.generate(SIGTERM, false);
     state.generate(SIGUSR1, false);
     state.generate(SIGTERM, false);
-    assert_eq!(rt; state.pending().bits(), 0x4200);
-    assert_eq!(rt; state.deliverable(), None);
+    assert_eq!(rt; due(&state), (0x4200, None));
     state.generate(SIGKILL, false);
-    assert_eq!(rt; state.deliverable(), Some(SIGKILL));
+    assert_eq!(rt; due(&state), (0x4300, Some(SIGKILL)));
     state.take(SIGKILL);
-    assert_eq!(rt; state.pending().bits(), 0x4200);
     state.set_mask(SigSet::empty());
-    assert_eq!(rt; state.deliverable(), Some(SIGUSR1));
+    assert_eq!(rt; due(&state), (0x4200, Some(SIGUSR1)));
     state.generate(SIGHUP, false);
     state.generate(SIGKILL, false);
-    assert_eq!(rt; state.deliverable(), Some(SIGKILL));
+    assert_eq!(rt; due(&state), (0x4301, Some(SIGKILL)));
 }
 
 #[test]
@@ -110,12 +124,7 @@ fn sixteen_handlers_run_inside_one_another(rt: HostRuntime) {
     assert!(rt; !state.pop_frame());
     state.set_action(SIGUSR1, handler(), true);
     for _ in 0..16 {
-        state.generate(SIGUSR1, true);
-        assert_eq!(rt; state.deliverable(), Some(SIGUSR1));
-        state.take(SIGUSR1);
-        assert!(rt; state.push_frame(SIGUSR1, SigSet::empty()));
-        assert_eq!(rt; state.mask().bits(), 0x200);
-        state.set_mask(state.mask().without(SIGUSR1));
+        assert_handles(&rt, &mut state);
     }
     assert!(rt; !state.push_frame(SIGTERM, SigSet::empty()));
     assert_eq!(rt; state.mask().bits(), 0);
@@ -123,6 +132,16 @@ fn sixteen_handlers_run_inside_one_another(rt: HostRuntime) {
         assert!(rt; state.pop_frame());
     }
     assert!(rt; !state.pop_frame());
+}
+
+/// SIGUSR1 comes, and its handler runs, with it blocked, which the handler ends.
+fn assert_handles(rt: &impl Abort, state: &mut SigState) {
+    state.generate(SIGUSR1, true);
+    assert!(rt; state.deliverable() == Some(SIGUSR1));
+    state.take(SIGUSR1);
+    assert!(rt; state.push_frame(SIGUSR1, SigSet::empty()));
+    assert!(rt; state.mask().bits() == 0x200);
+    state.set_mask(state.mask().without(SIGUSR1));
 }
 
 #[test]
@@ -140,14 +159,17 @@ fn forced_sigsys_is_neither_blocked_nor_ignored(rt: HostRuntime) {
     let mut state = deaf();
     state.set_action(SIGSYS, Disposition::Ignore, false);
     state.force();
-    assert_eq!(rt; state.deliverable(), Some(SIGSYS));
+    let forced = (state.deliverable(), state.mask().bits());
+    assert_eq!(rt; forced, (Some(SIGSYS), 0x3ffb_feff));
     assert!(rt; state.action(SIGSYS) == Disposition::Default);
-    assert_eq!(rt; state.mask().bits(), 0x3ffb_feff);
-    let mut caught = SigState::new();
-    caught.set_action(SIGSYS, handler(), false);
-    caught.force();
-    assert_eq!(rt; caught.deliverable(), Some(SIGSYS));
-    assert!(rt; caught.action(SIGSYS) == handler());
+}
+
+#[test]
+fn forced_sigsys_is_caught(rt: HostRuntime) {
+    let mut state = SigState::new();
+    state.set_action(SIGSYS, handler(), false);
+    state.force();
+    assert!(rt; state.deliverable() == Some(SIGSYS) && state.action(SIGSYS) == handler());
 }
 
 #[test]
@@ -159,13 +181,13 @@ fn execve_resets_handlers_and_keeps_the_rest(rt: HostRuntime) {
     state.generate(SIGUSR1, true);
     assert!(rt; state.push_frame(SIGTERM, SigSet::empty()));
     state.after_exec();
-    assert_eq!(rt; state.pending().bits(), 0x200);
-    assert_eq!(rt; state.mask().bits(), 0x4200);
+    let sets = (state.pending().bits(), state.mask().bits());
+    assert_eq!(rt; sets, (0x200, 0x4200));
     assert!(rt; state.action(SIGUSR1) == Disposition::Default);
     assert!(rt; state.action(SIGTERM) == Disposition::Ignore);
     assert!(rt; !state.pop_frame());
     state.set_mask(SigSet::empty());
-    assert_eq!(rt; state.deliverable(), Some(SIGUSR1));
+    assert!(rt; state.deliverable() == Some(SIGUSR1));
 }
 
 #[test]
@@ -193,14 +215,18 @@ fn children_start_with_nothing_pending(rt: HostRuntime) {
     parent.generate(SIGUSR1, false);
     assert!(rt; parent.push_frame(SIGUSR1, SigSet::empty()));
     let mut child = parent.forked();
-    assert_eq!(rt; child.pending().bits(), 0);
-    assert_eq!(rt; child.mask().bits(), 0x7ffb_feff);
-    assert!(rt; child.action(SIGUSR1) == handler());
-    assert!(rt; child.pop_frame());
+    let sets = (child.pending().bits(), child.mask().bits());
+    assert_eq!(rt; sets, (0, 0x7ffb_feff));
+    assert!(rt; child.action(SIGUSR1) == handler() && child.pop_frame());
     parent.clear();
     assert_eq!(rt; parent.pending().bits(), 0);
     assert!(rt; !parent.pop_frame());
     assert!(rt; parent.action(SIGUSR1).is_handler());
-    assert!(rt; parent.action(SIGCHLD).ignores(SIGCHLD, false));
+}
+
+#[test]
+fn actions_say_what_they_do(rt: HostRuntime) {
+    assert!(rt; handler().is_handler() && !Disposition::Ignore.is_handler());
+    assert!(rt; Disposition::Default.ignores(SIGCHLD, false));
     assert!(rt; handler().after_exec() == Disposition::Default);
 }

@@ -4,7 +4,7 @@ use std::alloc::{AllocError, Global};
 use std::test::Fail;
 
 // A scenario as a text: the turns, whether there are subreapers, the length of each image, and each program.
-fn told(alloc: Global, scenario: &Scenario) -> Result<String, AllocError> {
+pub(crate) fn told(alloc: Global, scenario: &Scenario) -> Result<String, AllocError> {
     let mut text = format!(in alloc; "{} {}", scenario.turns, scenario.subreapers)?;
     for image in &scenario.filters {
         text.push_str(format!(in alloc; " {}", image.len())?.as_str())?;

@@ -18,6 +18,18 @@ pub(crate) fn opening<S: ProcStore>(alloc: Global) -> Result<S, AllocError>
     S::new(alloc)
 }
 
+/// The world after these processes have forked, one after the other, since the system started.
+pub(crate) fn after_forks<S: ProcStore, R: Abort + AllocGlobal>(
+    rt: &R,
+    parents: &[u32],
+) -> Result<S, AllocError>
+    ensures { IfOk result (λ store. IsWorld (S.contents store)) }
+{
+    let mut store = opening::<S>(rt.alloc())?;
+    forks_of(rt, &mut store, parents)?;
+    Ok(store)
+}
+
 /// The test fails where the process does not live.
 pub(crate) fn assert_alive<S: ProcStore>(rt: &impl Abort, store: &S, pid: u32)
     ensures { IsTrue (is_alive (at (S.contents store.now) pid)) }
@@ -42,6 +54,21 @@ pub(crate) fn fork_of<S: ProcStore>(
         Ok(child) => Ok(child),
         Err(_) => panic!(rt; "no room"),
     }
+}
+
+/// So do these processes, one after the other.
+pub(crate) fn forks_of<S: ProcStore>(
+    rt: &impl Abort,
+    store: &mut S,
+    parents: &[u32],
+) -> Result<(), AllocError>
+    requires { IsWorld (S.contents store.old) }
+    ensures { IsWorld (S.contents store.new) }
+{
+    for parent in parents {
+        fork_of(rt, store, *parent)?;
+    }
+    Ok(())
 }
 
 /// Ends a process that lives, and sends nothing to the groups that are orphaned by it.

@@ -1,4 +1,5 @@
 use crate::Command;
+use std::alloc::{AllocError, Global};
 use std::test::Fail;
 
 /// Jumps to a label behind 255 or 256 instructions.
@@ -13,7 +14,7 @@ fn far_jump(rt: &HostRuntime, between: usize) -> Result<Vec<u8>, Fail> {
 }
 
 /// Inputs of the commands, with their statuses and outputs.
-const ROWS: [(Command, &str, u8, &str); 39] = [
+const ROWS: &[(Command, &str, u8, &str)] = &[
     (Command::Check, "", 1, "refused image empty\n"),
     (
         Command::Check,
@@ -202,53 +203,44 @@ const ROWS: [(Command, &str, u8, &str); 39] = [
 
 #[test]
 fn commands_answer_worked_rows(rt: HostRuntime) {
-    for (command, input, status, output) in ROWS {
-        let (answer, held) = command.on(rt.alloc(), input.as_bytes());
-        assert_eq!(rt;
-            held.as_slice(),
-            output.as_bytes(),
-            "{command:?} at {input}"
-        );
-        assert_eq!(rt; answer, Ok(status), "{command:?} at {input}");
+    for &(command, input, status, output) in ROWS {
+        let is_told = command.answers(rt.alloc(), input.as_bytes(), status, output.as_bytes());
+        assert!(rt; is_told, "{command:?} at {input}");
     }
 }
 
 #[test]
 fn labels_lie_at_most_255_instructions_ahead(rt: HostRuntime) -> Result<(), Fail> {
-    let near = far_jump(&rt, 255)?;
-    let (answer, held) = Command::Asm.on(rt.alloc(), near.as_slice());
-    assert_eq!(rt; answer, Ok(0));
-    assert_eq!(rt; held.len(), 257 * 17);
+    let (answer, held) = Command::Asm.on(rt.alloc(), &far_jump(&rt, 255)?);
+    assert_eq!(rt; (answer, held.len()), (Ok(0), 257 * 17));
     assert!(rt; held.starts_with(b"1500ff0001000000\n"));
-    let far = far_jump(&rt, 256)?;
-    let (answer, held) = Command::Asm.on(rt.alloc(), far.as_slice());
-    assert_eq!(rt; answer, Ok(1));
-    assert_eq!(rt;
-        held.as_slice(),
-        b"skern: line 1: jump too far\n".as_slice()
-    );
+    let (answer, held) = Command::Asm.on(rt.alloc(), &far_jump(&rt, 256)?);
+    let refusal = b"skern: line 1: jump too far\n".as_slice();
+    assert_eq!(rt; (answer, held.as_slice()), (Ok(1), refusal));
     Ok(())
+}
+
+/// A text of so many instructions.
+fn returns(alloc: Global, count: usize) -> Result<Vec<u8>, AllocError> {
+    let mut text = Vec::new(alloc);
+    for _ in 0..count {
+        text.extend_from_slice(b"ret allow\n")?;
+    }
+    Ok(text)
 }
 
 #[test]
 fn programs_have_a_limit(rt: HostRuntime) -> Result<(), Fail> {
-    let mut text = Vec::new(rt.alloc());
-    for _ in 0..4096 {
-        text.extend_from_slice(b"ret allow\n")?;
-    }
-    let (answer, held) = Command::Asm.on(rt.alloc(), text.as_slice());
-    assert_eq!(rt; answer, Ok(0));
-    assert_eq!(rt; held.len(), 4096 * 17);
-    let (answer, checked) = Command::Check.on(rt.alloc(), held.as_slice());
-    assert_eq!(rt; answer, Ok(0));
-    assert_eq!(rt; checked.as_slice(), b"ok 4096\n".as_slice());
-    text.extend_from_slice(b"ret allow\n")?;
-    let (answer, held) = Command::Asm.on(rt.alloc(), text.as_slice());
-    assert_eq!(rt; answer, Ok(1));
+    let (answer, held) = Command::Asm.on(rt.alloc(), &returns(rt.alloc(), 4096)?);
+    assert_eq!(rt; (answer, held.len()), (Ok(0), 4096 * 17));
+    let (answer, checked) = Command::Check.on(rt.alloc(), &held);
     assert_eq!(rt;
-        held.as_slice(),
-        b"skern: line 4097: over the limit\n".as_slice()
+        (answer, checked.as_slice()),
+        (Ok(0), b"ok 4096\n".as_slice())
     );
+    let (answer, held) = Command::Asm.on(rt.alloc(), &returns(rt.alloc(), 4097)?);
+    let refusal = b"skern: line 4097: over the limit\n".as_slice();
+    assert_eq!(rt; (answer, held.as_slice()), (Ok(1), refusal));
     Ok(())
 }
 
@@ -260,8 +252,8 @@ fn images_have_a_limit(rt: HostRuntime) -> Result<(), Fail> {
     }
     for command in [Command::Check, Command::List] {
         let (answer, held) = command.on(rt.alloc(), image.as_slice());
-        assert_eq!(rt; answer, Ok(1));
-        assert_eq!(rt; held.as_slice(), b"refused image too long\n".as_slice());
+        let refusal = b"refused image too long\n".as_slice();
+        assert_eq!(rt; (answer, held.as_slice()), (Ok(1), refusal));
     }
     Ok(())
 }
@@ -272,18 +264,14 @@ fn lines_have_a_limit(rt: HostRuntime) {
     let (answer, held) = Command::Asm.on(rt.alloc(), &spaces[..255]);
     assert_eq!(rt; (answer, held.len()), (Ok(0), 0));
     let (answer, held) = Command::Asm.on(rt.alloc(), &spaces);
-    assert_eq!(rt; answer, Ok(1));
-    assert_eq!(rt;
-        held.as_slice(),
-        b"skern: line 1: over the limit\n".as_slice()
-    );
+    let refusal = b"skern: line 1: over the limit\n".as_slice();
+    assert_eq!(rt; (answer, held.as_slice()), (Ok(1), refusal));
 }
 
-/// As many line feeds as an input may have, and one more.
+/// As many line feeds as an input may have.
 #[test]
-fn one_byte_too_many_decides(rt: HostRuntime) -> Result<(), Fail> {
-    let mut text = Vec::new(rt.alloc());
-    text.resize(1_048_576, b'\n')?;
+fn longest_inputs_are_read(rt: HostRuntime) -> Result<(), Fail> {
+    let text = vec![in rt.alloc(); b'\n'; 1_048_576]?;
     let rows = [
         (Command::Asm, 0, ""),
         (Command::Check, 1, "refused image empty\n"),
@@ -291,19 +279,20 @@ fn one_byte_too_many_decides(rt: HostRuntime) -> Result<(), Fail> {
         (Command::List, 1, "refused image empty\n"),
     ];
     for (command, status, output) in rows {
-        let (answer, held) = command.on(rt.alloc(), text.as_slice());
-        assert_eq!(rt; held.as_slice(), output.as_bytes(), "{command:?}");
-        assert_eq!(rt; answer, Ok(status), "{command:?}");
+        let is_told = command.answers(rt.alloc(), &text, status, output.as_bytes());
+        assert!(rt; is_told, "{command:?}");
     }
-    text.push(b'\n')?;
+    Ok(())
+}
+
+/// One line feed more than an input may have.
+#[test]
+fn one_byte_too_many_decides(rt: HostRuntime) -> Result<(), Fail> {
+    let text = vec![in rt.alloc(); b'\n'; 1_048_577]?;
+    let refusal = b"skern: line 0: over the limit\n".as_slice();
     for command in [Command::Asm, Command::Check, Command::Eval, Command::List] {
-        let (answer, held) = command.on(rt.alloc(), text.as_slice());
-        assert_eq!(rt;
-            held.as_slice(),
-            b"skern: line 0: over the limit\n".as_slice(),
-            "{command:?}"
-        );
-        assert_eq!(rt; answer, Ok(1), "{command:?}");
+        let (answer, held) = command.on(rt.alloc(), &text);
+        assert_eq!(rt; (answer, held.as_slice()), (Ok(1), refusal), "{command:?}");
     }
     Ok(())
 }

@@ -36,4 +36,10 @@ impl Command {
         let answer = self.run(alloc, &mut reader, &mut writer);
         (answer, writer.into_inner().held)
     }
+
+    /// Whether the command answers this status to a text, and writes this.
+    pub fn answers(self, alloc: Global, text: &[u8], status: u8, output: &[u8]) -> bool {
+        let (answer, held) = self.on(alloc, text);
+        answer == Ok(status) && held.as_slice() == output
+    }
 }

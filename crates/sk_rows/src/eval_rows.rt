@@ -22,7 +22,7 @@ fn asked(alloc: Global, call: &str, lines: &str) -> Result<Vec<u8>, AllocError> 
 }
 
 /// Calls, and filters, the oldest first, with their statuses and what they answer.
-const ROWS: [(&str, &str, u8, &str); 23] = [
+const ROWS: &[(&str, &str, u8, &str)] = &[
     (
         GETPID,
         "filter 060000000000ff7f\n",
@@ -155,11 +155,10 @@ const ROWS: [(&str, &str, u8, &str); 23] = [
 
 #[test]
 fn filters_answer_worked_rows(rt: HostRuntime) -> Result<(), Fail> {
-    for (call, lines, status, output) in ROWS {
+    for &(call, lines, status, output) in ROWS {
         let text = asked(rt.alloc(), call, lines)?;
-        let (answer, held) = Command::Eval.on(rt.alloc(), text.as_slice());
-        assert_eq!(rt; held.as_slice(), output.as_bytes(), "at {lines}");
-        assert_eq!(rt; answer, Ok(status), "at {lines}");
+        let is_told = Command::Eval.answers(rt.alloc(), &text, status, output.as_bytes());
+        assert!(rt; is_told, "at {lines}");
     }
     Ok(())
 }
@@ -180,30 +179,24 @@ fn with_filters(alloc: Global, filters: usize, insns: usize) -> Result<Vec<u8>, 
 /// Thirty-two filters, a thirty-third, and eight of the greatest length.
 #[test]
 fn filters_have_their_limits(rt: HostRuntime) -> Result<(), Fail> {
-    let alloc = rt.alloc();
-    let text = with_filters(alloc, 32, 1)?;
-    let (answer, held) = Command::Eval.on(alloc, text.as_slice());
-    assert_eq!(rt; answer, Ok(0));
-    assert!(rt; held.ends_with(b"verdict 0x7fff0000 allow data 0\n"));
-    let text = with_filters(alloc, 33, 1)?;
-    let (answer, held) = Command::Eval.on(alloc, text.as_slice());
-    assert_eq!(rt; answer, Ok(1));
-    assert_eq!(rt;
-        held.as_slice(),
-        b"skern: line 34: not understood\n".as_slice()
-    );
-    let text = with_filters(alloc, 8, 4096)?;
-    let (answer, held) = Command::Eval.on(alloc, text.as_slice());
-    assert_eq!(rt;
-        held.as_slice(),
-        b"filter 7 refused path limit\n".as_slice()
-    );
-    assert_eq!(rt; answer, Ok(1));
+    let rows = [
+        (32, 1, 0, "verdict 0x7fff0000 allow data 0\n"),
+        (33, 1, 1, "skern: line 34: not understood\n"),
+        (8, 4096, 1, "filter 7 refused path limit\n"),
+    ];
+    for (filters, insns, status, end) in rows {
+        let text = with_filters(rt.alloc(), filters, insns)?;
+        let (answer, held) = Command::Eval.on(rt.alloc(), &text);
+        assert_eq!(rt; answer, Ok(status));
+        assert!(rt; held.ends_with(end.as_bytes()), "{filters} filters");
+        // A refusal is all that is written.
+        assert!(rt; status == 0 || held.len() == end.len());
+    }
     Ok(())
 }
 
 /// Lines that do not fit: what stands before the record, whether there is one, what stands behind it, and the fault.
-const BAD_LINES: [(&str, bool, &str, &str); 9] = [
+const BAD_LINES: &[(&str, bool, &str, &str)] = &[
     ("", false, "", "skern: line 1: not understood\n"),
     (
         "; a comment\n\n",
@@ -242,21 +235,25 @@ const BAD_LINES: [(&str, bool, &str, &str); 9] = [
 
 #[test]
 fn inputs_are_refused_by_their_first_line(rt: HostRuntime) -> Result<(), Fail> {
-    let record = asked(rt.alloc(), GETPID, "")?;
-    for (before, has_record, after, output) in BAD_LINES {
-        let mut text = Vec::new(rt.alloc());
-        text.extend_from_slice(before.as_bytes())?;
-        if has_record {
-            text.extend_from_slice(record.as_slice())?;
-        }
-        text.extend_from_slice(after.as_bytes())?;
-        let (answer, held) = Command::Eval.on(rt.alloc(), text.as_slice());
-        assert_eq!(rt;
-            held.as_slice(),
-            output.as_bytes(),
-            "at {before} and {after}"
-        );
-        assert_eq!(rt; answer, Ok(1), "at {before} and {after}");
+    for &(before, has_record, after, output) in BAD_LINES {
+        let text = around_record(rt.alloc(), before, has_record, after)?;
+        let is_told = Command::Eval.answers(rt.alloc(), &text, 1, output.as_bytes());
+        assert!(rt; is_told, "at {before} and {after}");
     }
     Ok(())
+}
+
+/// Lines before and behind the record, if there is one.
+fn around_record(
+    alloc: Global,
+    before: &str,
+    has_record: bool,
+    after: &str,
+) -> Result<Vec<u8>, AllocError> {
+    let mut text = before.as_bytes().to_vec(alloc)?;
+    if has_record {
+        text.extend_from_slice(&asked(alloc, GETPID, "")?)?;
+    }
+    text.extend_from_slice(after.as_bytes())?;
+    Ok(text)
 }

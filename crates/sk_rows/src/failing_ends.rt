@@ -1,9 +1,10 @@
 use crate::{Command, Reader, Trouble, Writer};
 use sk_ends::{Counted, Sink, Source};
 use sk_engines::CommandFault;
+use std::alloc::Global;
 
 /// Each command with an input and its whole answer.
-const ANSWERS: [(Command, &str, u8, &str); 4] = [
+const ANSWERS: &[(Command, &str, u8, &str)] = &[
     (
         Command::Eval,
         "record 270000003e0000c0 0000000000000000 0000000000000000 0000000000000000 0000000000000000 0000000000000000 0000000000000000 0000000000000000\nfilter 060000000000ff7f\n",
@@ -30,60 +31,58 @@ const ANSWERS: [(Command, &str, u8, &str); 4] = [
     ),
 ];
 
+/// What a command has come to.
+#[derive(Drop)]
+struct Ran {
+    answer: Result<u8, CommandFault>,
+    held: Vec<u8>,
+    /// How often the reader has failed, and the writer.
+    failures: (u64, u64),
+}
+
+fn run(alloc: Global, command: Command, reader: Reader, writer: Writer) -> Ran {
+    let mut reader = Counted::new(reader);
+    let mut writer = Counted::new(writer);
+    let answer = command.run(alloc, &mut reader, &mut writer);
+    Ran {
+        answer,
+        failures: (reader.failures(), writer.failures()),
+        held: writer.into_inner().held,
+    }
+}
+
 /// A reader that gives one byte a call and a writer that takes one change nothing.
 #[test]
 fn short_ends_change_nothing(rt: HostRuntime) {
-    for (command, input, status, output) in ANSWERS {
-        let mut reader = Counted::new(Reader {
+    for &(command, input, status, output) in ANSWERS {
+        let reader = Reader {
             step: 1,
             ..Reader::new(input.as_bytes())
-        });
-        let mut writer = Counted::new(Writer {
+        };
+        let writer = Writer {
             step: 1,
             ..Writer::new(rt.alloc())
-        });
-        assert_eq!(rt;
-            command.run(rt.alloc(), &mut reader, &mut writer),
-            Ok(status),
-            "{command:?}"
-        );
-        assert_eq!(rt;
-            (reader.failures(), writer.failures()),
-            (0, 0),
-            "{command:?}"
-        );
-        assert_eq!(rt;
-            writer.into_inner().held.as_slice(),
-            output.as_bytes(),
-            "{command:?}"
-        );
+        };
+        let ran = run(rt.alloc(), command, reader, writer);
+        assert_eq!(rt; (ran.answer, ran.failures), (Ok(status), (0, 0)));
+        assert!(rt; ran.held.as_slice() == output.as_bytes(), "{command:?}");
     }
 }
 
 /// A reader that fails at each of its calls in turn: nothing is written.
 #[test]
 fn failing_reads_are_told(rt: HostRuntime) {
-    for (command, input, _, _) in ANSWERS {
+    for &(command, input, _, _) in ANSWERS {
         for good in 0..input.len() as u64 + 1 {
-            let mut reader = Counted::new(Reader {
+            let reader = Reader {
                 step: 1,
                 good,
                 ..Reader::new(input.as_bytes())
-            });
-            let mut writer = Counted::new(Writer::new(rt.alloc()));
+            };
+            let ran = run(rt.alloc(), command, reader, Writer::new(rt.alloc()));
             assert_eq!(rt;
-                command.run(rt.alloc(), &mut reader, &mut writer),
-                Err(CommandFault::Read),
-                "{command:?} after {good}"
-            );
-            assert_eq!(rt;
-                (reader.failures(), writer.failures()),
-                (1, 0),
-                "{command:?} after {good}"
-            );
-            assert_eq!(rt;
-                writer.into_inner().held.len(),
-                0,
+                (ran.answer, ran.failures, ran.held.len()),
+                (Err(CommandFault::Read), (1, 0), 0),
                 "{command:?} after {good}"
             );
         }
@@ -94,34 +93,30 @@ fn failing_reads_are_told(rt: HostRuntime) {
 /// before.
 #[test]
 fn failing_writes_are_told(rt: HostRuntime) {
-    for (command, input, _, output) in ANSWERS {
-        for trouble in [Trouble::Error, Trouble::Nothing] {
-            for good in 0..output.len() {
-                let mut reader = Counted::new(Reader::new(input.as_bytes()));
-                let mut writer = Counted::new(Writer {
-                    step: 1,
-                    good: good as u64,
-                    trouble,
-                    ..Writer::new(rt.alloc())
-                });
+    for &(command, input, _, output) in ANSWERS {
+        for good in 0..output.len() {
+            let before = &output.as_bytes()[..good];
+            for trouble in [Trouble::Error, Trouble::Nothing] {
+                let ran = run_into(rt.alloc(), command, input, good as u64, trouble);
                 assert_eq!(rt;
-                    command.run(rt.alloc(), &mut reader, &mut writer),
-                    Err(CommandFault::Write),
-                    "{command:?} after {good}"
-                );
-                assert_eq!(rt;
-                    (reader.failures(), writer.failures()),
-                    (0, 1),
-                    "{command:?} after {good}"
-                );
-                assert_eq!(rt;
-                    writer.into_inner().held.as_slice(),
-                    &output.as_bytes()[..good],
+                    (ran.answer, ran.failures, ran.held.as_slice()),
+                    (Err(CommandFault::Write), (0, 1), before),
                     "{command:?} after {good}"
                 );
             }
         }
     }
+}
+
+/// A run with a writer that takes one byte a call, until it goes wrong.
+fn run_into(alloc: Global, command: Command, input: &str, good: u64, trouble: Trouble) -> Ran {
+    let writer = Writer {
+        step: 1,
+        good,
+        trouble,
+        ..Writer::new(alloc)
+    };
+    run(alloc, command, Reader::new(input.as_bytes()), writer)
 }
 
 /// A reader that never ends: one byte more than the limit decides.
@@ -130,17 +125,17 @@ fn endless_readers_are_refused(rt: HostRuntime) {
     for command in [Command::Asm, Command::Check, Command::Eval, Command::List] {
         let mut reader = Counted::new(Endless { taken: 0 });
         let mut writer = Counted::new(Writer::new(rt.alloc()));
+        let answer = command.run(rt.alloc(), &mut reader, &mut writer);
+        let held = writer.into_inner().held;
         assert_eq!(rt;
-            command.run(rt.alloc(), &mut reader, &mut writer),
-            Ok(1),
+            (answer, held.as_slice(), reader.into_inner().taken),
+            (
+                Ok(1),
+                b"skern: line 0: over the limit\n".as_slice(),
+                1_048_577
+            ),
             "{command:?}"
         );
-        assert_eq!(rt;
-            writer.into_inner().held.as_slice(),
-            b"skern: line 0: over the limit\n".as_slice(),
-            "{command:?}"
-        );
-        assert_eq!(rt; reader.into_inner().taken, 1_048_577, "{command:?}");
     }
 }
 

@@ -52,9 +52,10 @@ fn short_ends_change_no_report(rt: HostRuntime) {
         ..Writer::new(rt.alloc())
     };
     let ran = run(rt.alloc(), reader, writer);
-    assert_eq!(rt; ran.held.as_slice(), KEPT_REPORT.as_bytes());
-    assert_eq!(rt; ran.answer, Ok(End::Halt(0)));
-    assert_eq!(rt; ran.failures, (0, 0));
+    assert_eq!(rt;
+        (ran.answer, ran.failures, ran.held.as_slice()),
+        (Ok(End::Halt(0)), (0, 0), KEPT_REPORT.as_bytes())
+    );
 }
 
 /// A reader that fails at each of its calls in turn: nothing is written.
@@ -67,9 +68,11 @@ fn failing_reads_write_nothing(rt: HostRuntime) {
             ..Reader::new(KEPT.as_bytes())
         };
         let ran = run(rt.alloc(), reader, Writer::new(rt.alloc()));
-        assert_eq!(rt; ran.answer, Err(EngineFault::Read), "after {good}");
-        assert_eq!(rt; ran.failures, (1, 0), "after {good}");
-        assert_eq!(rt; ran.held.len(), 0, "after {good}");
+        assert_eq!(rt;
+            (ran.answer, ran.failures, ran.held.len()),
+            (Err(EngineFault::Read), (1, 0), 0),
+            "after {good}"
+        );
     }
 }
 
@@ -79,11 +82,13 @@ fn failing_writes_leave_what_was_taken(rt: HostRuntime) {
     for trouble in [Trouble::Error, Trouble::Nothing] {
         for good in 0..KEPT_REPORT.len() {
             let ran = run_into(rt.alloc(), 1, good as u64, trouble);
-            assert_eq!(rt; ran.answer, Err(EngineFault::Write), "after {good}");
-            assert_eq!(rt; ran.failures, (0, 1), "after {good}");
             assert_eq!(rt;
-                ran.held.as_slice(),
-                &KEPT_REPORT.as_bytes()[..good],
+                (ran.answer, ran.failures, ran.held.as_slice()),
+                (
+                    Err(EngineFault::Write),
+                    (0, 1),
+                    &KEPT_REPORT.as_bytes()[..good]
+                ),
                 "after {good}"
             );
         }
@@ -96,8 +101,11 @@ fn failing_writes_leave_whole_lines(rt: HostRuntime) -> Result<(), Fail> {
     let mut front = Vec::new(rt.alloc());
     for (good, line) in KEPT_REPORT.lines().enumerate() {
         let ran = run_into(rt.alloc(), usize::MAX, good as u64, Trouble::Error);
-        assert_eq!(rt; ran.answer, Err(EngineFault::Write), "after {good}");
-        assert_eq!(rt; ran.held.as_slice(), front.as_slice(), "after {good}");
+        assert_eq!(rt;
+            (ran.answer, ran.held.as_slice()),
+            (Err(EngineFault::Write), front.as_slice()),
+            "after {good}"
+        );
         front.extend_from_slice(line.as_bytes())?;
         front.push(b'\n')?;
     }
@@ -109,10 +117,10 @@ fn failing_writes_leave_whole_lines(rt: HostRuntime) -> Result<(), Fail> {
 fn failing_writes_leave_a_beginning(rt: HostRuntime) {
     for good in 0..39 {
         let ran = run_into(rt.alloc(), 7, good, Trouble::Error);
-        assert_eq!(rt; ran.answer, Err(EngineFault::Write), "after {good}");
-        assert_eq!(rt; ran.failures, (0, 1), "after {good}");
-        assert!(rt;
-            KEPT_REPORT.as_bytes().starts_with(ran.held.as_slice()),
+        let begins = KEPT_REPORT.as_bytes().starts_with(&ran.held);
+        assert_eq!(rt;
+            (ran.answer, ran.failures, begins),
+            (Err(EngineFault::Write), (0, 1), true),
             "after {good}"
         );
     }
@@ -236,21 +244,29 @@ fn cut_scenarios_have_a_report_or_one_fault(rt: HostRuntime) -> Result<(), Fail>
     Ok(())
 }
 
-/// As many line feeds as an input may have, one more, and a reader that gives them for ever.
+/// As many line feeds as an input may have, and one more.
 #[test]
 fn one_byte_too_many_is_no_scenario(rt: HostRuntime) -> Result<(), Fail> {
     let alloc = rt.alloc();
-    let over = ScenarioFault::Limit { n: 0 };
-    let mut text = Vec::new(alloc);
-    text.resize(1_048_576, b'\n')?;
-    assert!(rt; holds(alloc, text.as_slice(), Ok(NO_REPORT)));
-    text.push(b'\n')?;
-    assert!(rt; holds(alloc, text.as_slice(), Err(over)));
+    let text = vec![in alloc; b'\n'; 1_048_577]?;
+    assert!(rt; holds(alloc, &text.as_slice()[1..], Ok(NO_REPORT)));
+    assert!(rt; holds(alloc, &text, Err(TOO_LONG)));
+    Ok(())
+}
+
+/// What is told of an input that is too long.
+const TOO_LONG: ScenarioFault = ScenarioFault::Limit { n: 0 };
+
+/// A reader that gives line feeds for ever.
+#[test]
+fn endless_readers_give_no_scenario(rt: HostRuntime) {
+    let alloc = rt.alloc();
     let mut reader = Counted::new(Endless { taken: 0 });
     let mut writer = Counted::new(Writer::new(alloc));
     let answer = engine(alloc, &mut reader, &mut writer);
-    assert_eq!(rt; answer, Err(EngineFault::Scenario(over)));
-    assert_eq!(rt; writer.into_inner().held.len(), 0);
-    assert_eq!(rt; reader.into_inner().taken, 1_048_577);
-    Ok(())
+    let held = writer.into_inner().held;
+    assert_eq!(rt;
+        (answer, held.len(), reader.into_inner().taken),
+        (Err(EngineFault::Scenario(TOO_LONG)), 0, 1_048_577)
+    );
 }

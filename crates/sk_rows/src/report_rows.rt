@@ -17,7 +17,7 @@ pub const KEPT_REPORT: &str =
 pub const NO_REPORT: &str = "1 1 call exit_group allow/0 ended 0x0000\nend halt 0x0000\n";
 
 /// Scenarios with their reports and ends.
-const REPORTS: [(&str, &str, End); 25] = [
+const REPORTS: &[(&str, &str, End)] = &[
     (
         "                                                                                                                                                                                                                                                               \n",
         "1 1 call exit_group allow/0 ended 0x0000\nend halt 0x0000\n",
@@ -142,7 +142,7 @@ const REPORTS: [(&str, &str, End); 25] = [
 ];
 
 /// Texts that are no scenario, with what is told of them.
-const FAULTS: [(&str, &str); 14] = [
+const FAULTS: &[(&str, &str)] = &[
     ("turns 0\n", "skern: line 1: over the limit"),
     ("subreapers\nsubreapers\n", "skern: line 2: not understood"),
     ("program init\ngetpid\n", "skern: line 3: not understood"),
@@ -194,31 +194,39 @@ fn run<S: ProcStore>(alloc: Global, input: &str) -> (Result<End, EngineFault>, V
     (answer, writer.into_inner().held)
 }
 
+/// Whether this is answered and written over a store.
+fn has_report<S: ProcStore>(alloc: Global, input: &str, report: &str, end: End) -> bool {
+    let (answer, held) = run::<S>(alloc, input);
+    answer == Ok(end) && held.as_slice() == report.as_bytes()
+}
+
 #[test]
 fn scenarios_have_the_worked_reports(rt: HostRuntime) {
-    for (input, report, end) in REPORTS {
-        let over_slots = run::<SlotStore>(rt.alloc(), input);
-        let over_list = run::<ListStore>(rt.alloc(), input);
-        for (answer, held) in [over_slots, over_list] {
-            assert_eq!(rt; held.as_slice(), report.as_bytes());
-            assert_eq!(rt; answer, Ok(end));
-        }
+    for &(input, report, end) in REPORTS {
+        assert!(rt;
+            has_report::<SlotStore>(rt.alloc(), input, report, end),
+            "at {input}"
+        );
+        assert!(rt;
+            has_report::<ListStore>(rt.alloc(), input, report, end),
+            "at {input}"
+        );
     }
 }
 
 #[test]
 fn damaged_scenarios_have_one_fault(rt: HostRuntime) -> Result<(), Fail> {
-    for (input, text) in FAULTS {
+    for &(input, text) in FAULTS {
         let (answer, held) = run::<SlotStore>(rt.alloc(), input);
-        let Err(fault) = answer else {
-            return Err(Fail::new("no fault"));
-        };
-        assert_eq!(rt;
-            format!(in rt.alloc(); "{fault}")?.as_str(),
-            text,
-            "at {input}"
-        );
-        assert_eq!(rt; held.len(), 0, "at {input}");
+        let fault = fault_of(rt.alloc(), answer)?;
+        assert_eq!(rt; (fault.as_str(), held.len()), (text, 0), "at {input}");
     }
     Ok(())
+}
+
+fn fault_of(alloc: Global, answer: Result<End, EngineFault>) -> Result<String, Fail> {
+    match answer {
+        Ok(_) => Err(Fail::new("no fault")),
+        Err(fault) => Ok(format!(in alloc; "{fault}")?),
+    }
 }

@@ -14,7 +14,6 @@ const ALLOW: &[u8] = b"060000000000ff7f";
 
 #[test]
 fn words_say_what_to_do(rt: HostRuntime) -> Result<(), Fail> {
-    let alloc = rt.alloc();
     let rows: [(&[&str], u8, &[u8]); 13] = [
         (&[], 2, USAGE),
         (&["check"], 0, b"ok 1\n"),
@@ -31,12 +30,8 @@ fn words_say_what_to_do(rt: HostRuntime) -> Result<(), Fail> {
         (&["--"], 2, USAGE),
     ];
     for (given, status, output) in rows {
-        let words = words(alloc, given)?;
-        let mut reader = Counted::new(Input(Some(ALLOW)));
-        let mut writer = Counted::new(Output::new(alloc, 0));
-        let answer = command(alloc, words.as_slice(), &mut reader, &mut writer);
-        assert_eq!(rt; writer.into_inner().held.as_slice(), output, "at {given:?}");
-        assert_eq!(rt; answer, status, "at {given:?}");
+        let (held, answer) = answer(rt.alloc(), given, Some(ALLOW), 0)?;
+        assert_eq!(rt; (held.as_slice(), answer), (output, status), "at {given:?}");
     }
     Ok(())
 }
@@ -44,11 +39,11 @@ fn words_say_what_to_do(rt: HostRuntime) -> Result<(), Fail> {
 /// What a command wrote, and its status, where its first so many writes failed.
 fn answer(
     alloc: Global,
-    word: &str,
+    given: &[&str],
     input: Option<&[u8]>,
     failing: u64,
 ) -> Result<(Vec<u8>, u8), AllocError> {
-    let words = words(alloc, &[word])?;
+    let words = words(alloc, given)?;
     let mut reader = Counted::new(Input(input));
     let mut writer = Counted::new(Output::new(alloc, failing));
     let status = command(alloc, words.as_slice(), &mut reader, &mut writer);
@@ -71,21 +66,22 @@ fn failures_are_told_once(rt: HostRuntime) -> Result<(), Fail> {
         ("run", Some(b"turns 0"), 2, b""),
     ];
     for (word, input, failing, output) in rows {
-        let (held, status) = answer(rt.alloc(), word, input, failing)?;
+        let (held, status) = answer(rt.alloc(), &[word], input, failing)?;
         assert_eq!(rt;
-            held.as_slice(),
-            output,
+            (held.as_slice(), status),
+            (output, 3),
             "{word} with {failing} failing writes"
         );
-        assert_eq!(rt; status, 3, "{word} with {failing} failing writes");
     }
+    Ok(())
+}
+
+#[test]
+fn want_of_memory_is_told(rt: HostRuntime) {
     let mut writer = Counted::new(Output::new(rt.alloc(), 0));
     assert_eq!(rt; failed(&mut writer, CommandFault::Memory), 3);
-    assert_eq!(rt;
-        writer.into_inner().held.as_slice(),
-        b"skern: out of memory\n".as_slice()
-    );
-    Ok(())
+    let held = writer.into_inner().held;
+    assert_eq!(rt; held.as_slice(), b"skern: out of memory\n".as_slice());
 }
 
 /// The same where the output is written in blocks of so many bytes.
@@ -130,11 +126,10 @@ fn blocks_are_written_at_the_end(rt: HostRuntime) -> Result<(), Fail> {
     for (block, word, input, failing, output, status) in rows {
         let (held, answer) = answer_in_blocks(rt.alloc(), block, word, input, failing)?;
         assert_eq!(rt;
-            held.as_slice(),
-            output,
+            (held.as_slice(), answer),
+            (output, status),
             "{word} with {failing} failing writes"
         );
-        assert_eq!(rt; answer, status, "{word} with {failing} failing writes");
     }
     Ok(())
 }

@@ -1,43 +1,71 @@
+ghost use Rattle.sk_world.specs.Rules.{IsWorld};
+
 use crate::sessions::world::{end, execute, group_and_session, setpgid, setsid};
-use crate::world::{fork_of, opening};
+use crate::world::after_forks;
 use sk_creds::Errno;
 use sk_table::{INIT, ListStore};
+use std::process::Abort;
 use std::test::Fail;
+
+/// Makes these calls of setpgid: each is its caller, its two arguments, and what it comes to.
+fn come_to(rt: &impl Abort, store: &mut ListStore, rows: &[(u32, i32, i32, Result<u32, Errno>)])
+    requires { IsWorld store.old }
+    ensures { IsWorld store.new }
+{
+    for (caller, pid, group, expected) in rows {
+        let result = setpgid(rt, store, *caller, *pid, *group);
+        assert_eq!(rt; result, *expected, "setpgid({pid}, {group}) of {caller}");
+    }
+}
 
 #[test]
 fn groups_are_set_as_the_manual_says(rt: HostRuntime) -> Result<(), Fail> {
-    let mut store = opening::<ListStore>(rt.alloc())?;
-    fork_of(&rt, &mut store, INIT)?;
-    fork_of(&rt, &mut store, INIT)?;
-    assert_eq!(rt; setsid(&rt, &mut store, 2), Ok(2));
-    assert_eq!(rt; setsid(&rt, &mut store, 2), Err(Errno::Eperm));
-    assert_eq!(rt; setsid(&rt, &mut store, INIT), Err(Errno::Eperm));
+    let mut store: ListStore = after_forks(&rt, &[INIT, INIT])?;
+    assert_eq!(rt;
+        (
+            setsid(&rt, &mut store, 2),
+            setsid(&rt, &mut store, 2),
+            setsid(&rt, &mut store, INIT)
+        ),
+        (Ok(2), Err(Errno::Eperm), Err(Errno::Eperm))
+    );
     // A child of another session, executed or not.
-    assert_eq!(rt; setpgid(&rt, &mut store, INIT, 2, 0), Err(Errno::Eperm));
+    come_to(&rt, &mut store, &[(INIT, 2, 0, Err(Errno::Eperm))]);
     execute(&mut store, 2);
-    assert_eq!(rt; setpgid(&rt, &mut store, INIT, 2, 0), Err(Errno::Eperm));
-    // A child of the caller's session.
-    assert_eq!(rt; setpgid(&rt, &mut store, INIT, 3, 77), Err(Errno::Eperm));
-    assert_eq!(rt; setpgid(&rt, &mut store, INIT, 3, -5), Err(Errno::Einval));
-    assert_eq!(rt; setpgid(&rt, &mut store, INIT, 3, 0), Ok(0));
-    execute(&mut store, INIT);
-    assert_eq!(rt; setpgid(&rt, &mut store, INIT, 3, 1), Ok(0));
-    execute(&mut store, 3);
-    assert_eq!(rt; setpgid(&rt, &mut store, INIT, 3, 0), Err(Errno::Eacces));
-    assert_eq!(rt; setpgid(&rt, &mut store, 3, 0, 0), Ok(0));
-    // Nobody, nobody's child, and the leader of a session.
-    assert_eq!(rt; setpgid(&rt, &mut store, INIT, 999, 0), Err(Errno::Esrch));
-    assert_eq!(rt; setpgid(&rt, &mut store, INIT, -3, 0), Err(Errno::Esrch));
-    assert_eq!(rt; setpgid(&rt, &mut store, 3, 2, 0), Err(Errno::Esrch));
-    assert_eq!(rt; setpgid(&rt, &mut store, INIT, 0, 0), Err(Errno::Eperm));
+    come_to(&rt, &mut store, &[(INIT, 2, 0, Err(Errno::Eperm))]);
+    child_of_the_same_session_is_moved(&rt, &mut store);
     Ok(())
+}
+
+/// The child is 3.
+fn child_of_the_same_session_is_moved(rt: &impl Abort, store: &mut ListStore)
+    requires { IsWorld store.old }
+{
+    let before = [
+        (INIT, 3, 77, Err(Errno::Eperm)),
+        (INIT, 3, -5, Err(Errno::Einval)),
+        (INIT, 3, 0, Ok(0)),
+    ];
+    come_to(rt, store, &before);
+    execute(store, INIT);
+    come_to(rt, store, &[(INIT, 3, 1, Ok(0))]);
+    execute(store, 3);
+    let after = [
+        (INIT, 3, 0, Err(Errno::Eacces)),
+        (3, 0, 0, Ok(0)),
+        // Nobody, nobody's child, and the leader of a session.
+        (INIT, 999, 0, Err(Errno::Esrch)),
+        (INIT, -3, 0, Err(Errno::Esrch)),
+        (3, 2, 0, Err(Errno::Esrch)),
+        (INIT, 0, 0, Err(Errno::Eperm)),
+    ];
+    come_to(rt, store, &after);
 }
 
 #[test]
 fn groups_and_sessions_are_told_of_zombies_too(rt: HostRuntime) -> Result<(), Fail> {
-    let mut store = opening::<ListStore>(rt.alloc())?;
-    fork_of(&rt, &mut store, INIT)?;
-    assert_eq!(rt; setpgid(&rt, &mut store, INIT, 2, 0), Ok(0));
+    let mut store: ListStore = after_forks(&rt, &[INIT])?;
+    come_to(&rt, &mut store, &[(INIT, 2, 0, Ok(0))]);
     end(&rt, &mut store, 2, 0);
     for (caller, pid, group, session) in [
         (INIT, 2, Ok(2), Ok(1)),

@@ -34,8 +34,7 @@ fn fresh_passes_over_groups_and_goes_round<S: ProcStore, R: Abort + AllocGlobal>
         links(INIT, INIT, INIT),
     );
     assert!(rt; store.remove(LAST_PID).is_some());
-    assert_eq!(rt; store.last(), LAST_PID);
-    assert_eq!(rt; store.fresh(), 3);
+    assert_eq!(rt; (store.last(), store.fresh()), (LAST_PID, 3));
     Ok(())
 }
 
@@ -53,8 +52,8 @@ fn store_keeps_three_processes<S: ProcStore, R: Abort + AllocGlobal>(rt: &R) -> 
 fn finds_three_processes<S: ProcStore>(rt: &impl Abort, store: &S) {
     assert_eq!(rt; (store.count(), store.last()), (3, 5));
     for (after, next) in [(0, Some(1)), (1, Some(5)), (5, Some(9)), (9, None)] {
-        assert_eq!(rt; store.next_pid(after), next);
-        assert_eq!(rt; store.next_member(INIT, after), next);
+        let found = (store.next_pid(after), store.next_member(INIT, after));
+        assert_eq!(rt; found, (next, next));
     }
     assert_eq!(rt;
         (store.next_child(INIT, 0), store.next_child(INIT, 5)),
@@ -77,8 +76,10 @@ fn moves_one_of_them<S: ProcStore>(rt: &impl Abort, store: &mut S) {
 
 fn lends_one_of_them<S: ProcStore>(rt: &impl Abort, store: &mut S) {
     set_executed(store, 9);
-    assert_eq!(rt; is_executed(store, 9), Some(true));
-    assert_eq!(rt; is_executed(store, 5), Some(false));
+    assert_eq!(rt;
+        (is_executed(store, 9), is_executed(store, 5)),
+        (Some(true), Some(false))
+    );
     assert!(rt; store.body_mut(7).is_none());
 }
 

@@ -1,6 +1,8 @@
 use crate::signals::handler;
 use crate::stores::testing::{is_subreaper, mark, on_sigchld, reap_of, reparent_of, wait_of};
-use crate::world::{end_of, fork_of, life, note, opening, parent, pending, stop};
+use crate::world::{
+    after_forks, end_of, fork_of, forks_of, life, note, opening, parent, pending, stop,
+};
 use sk_signal::number::{SIGCHLD, SIGCONT, SIGTERM, SIGTSTP};
 use sk_signal::{Disposition, SigSet};
 use sk_table::{
@@ -40,23 +42,22 @@ fn rows<S: ProcStore, R: Abort + AllocGlobal>(rt: &R) -> Result<(), Fail> {
 fn sigcont_continues_and_is_told_once<S: ProcStore, R: Abort + AllocGlobal>(
     rt: &R,
 ) -> Result<(), Fail> {
-    let mut store = opening::<S>(rt.alloc())?;
-    fork_of(rt, &mut store, INIT)?;
+    let mut store: S = after_forks(rt, &[INIT])?;
     stop(&mut store, 2, SIGTSTP);
     send(&mut store, 2, SIGCONT);
     assert_eq!(rt; life(&store, 2), Some(Life::Running));
     let stops = WaitOptions::WNOHANG | WaitOptions::WUNTRACED;
-    assert_eq!(rt;
-        wait_of(rt, &mut store, INIT, Who::Any, stops),
-        Poll::NotReady
-    );
     let all = stops | WaitOptions::WCONTINUED;
+    let continued = Poll::Told {
+        pid: 2,
+        status: 0xffff,
+    };
     assert_eq!(rt;
-        wait_of(rt, &mut store, INIT, Who::Any, all),
-        Poll::Told {
-            pid: 2,
-            status: 0xffff
-        }
+        (
+            wait_of(rt, &mut store, INIT, Who::Any, stops),
+            wait_of(rt, &mut store, INIT, Who::Any, all)
+        ),
+        (Poll::NotReady, continued)
     );
     assert_eq!(rt; note(&store, 2), Some(Note::Nothing));
     assert_eq!(rt;
@@ -69,25 +70,21 @@ fn sigcont_continues_and_is_told_once<S: ProcStore, R: Abort + AllocGlobal>(
 fn stop_is_told_to_wuntraced_once<S: ProcStore, R: Abort + AllocGlobal>(
     rt: &R,
 ) -> Result<(), Fail> {
-    let mut store = opening::<S>(rt.alloc())?;
-    fork_of(rt, &mut store, INIT)?;
+    let mut store: S = after_forks(rt, &[INIT])?;
     stop(&mut store, 2, SIGTSTP);
     let continues = WaitOptions::WNOHANG | WaitOptions::WCONTINUED;
-    assert_eq!(rt;
-        wait_of(rt, &mut store, INIT, Who::Any, continues),
-        Poll::NotReady
-    );
     let stops = WaitOptions::WUNTRACED;
+    let stopped = Poll::Told {
+        pid: 2,
+        status: 0x147f,
+    };
     assert_eq!(rt;
-        wait_of(rt, &mut store, INIT, Who::Any, stops),
-        Poll::Told {
-            pid: 2,
-            status: 0x147f
-        }
-    );
-    assert_eq!(rt;
-        wait_of(rt, &mut store, INIT, Who::Any, stops),
-        Poll::NotReady
+        (
+            wait_of(rt, &mut store, INIT, Who::Any, continues),
+            wait_of(rt, &mut store, INIT, Who::Any, stops),
+            wait_of(rt, &mut store, INIT, Who::Any, stops)
+        ),
+        (Poll::NotReady, stopped, Poll::NotReady)
     );
     assert_eq!(rt; life(&store, 2), Some(Life::Stopped));
     Ok(())
@@ -96,34 +93,44 @@ fn stop_is_told_to_wuntraced_once<S: ProcStore, R: Abort + AllocGlobal>(
 fn continuing_is_announced_to_the_parent<S: ProcStore, R: Abort + AllocGlobal>(
     rt: &R,
 ) -> Result<(), Fail> {
-    let mut store = opening::<S>(rt.alloc())?;
-    fork_of(rt, &mut store, INIT)?;
-    fork_of(rt, &mut store, 2)?;
+    let mut store: S = after_forks(rt, &[INIT, 2])?;
     on_sigchld(&mut store, 2, handler(), true);
     send(&mut store, 3, SIGCONT);
-    assert_eq!(rt; note(&store, 3), Some(Note::Nothing));
-    assert_eq!(rt; pending(&store, 2), Some(SigSet::empty()));
+    assert_eq!(rt;
+        (note(&store, 3), pending(&store, 2)),
+        (Some(Note::Nothing), Some(SigSet::empty()))
+    );
     stop(&mut store, 3, SIGTSTP);
     send(&mut store, 3, SIGCONT);
-    assert_eq!(rt; pending(&store, 2), Some(SigSet::empty().with(SIGCHLD)));
-    assert_eq!(rt; pending(&store, INIT), Some(SigSet::empty()));
+    assert_eq!(rt;
+        (pending(&store, 2), pending(&store, INIT)),
+        (Some(SigSet::empty().with(SIGCHLD)), Some(SigSet::empty()))
+    );
     Ok(())
 }
 
 fn process_1_and_zombies_take_no_signal<S: ProcStore, R: Abort + AllocGlobal>(
     rt: &R,
 ) -> Result<(), Fail> {
-    let mut store = opening::<S>(rt.alloc())?;
-    fork_of(rt, &mut store, INIT)?;
-    fork_of(rt, &mut store, INIT)?;
+    let mut store: S = after_forks(rt, &[INIT, INIT])?;
     end_of(rt, &mut store, 3, 9);
     for pid in [INIT, 2, 3, 4] {
         send(&mut store, pid, SIGTERM);
     }
-    assert_eq!(rt; pending(&store, INIT), Some(SigSet::empty()));
-    assert_eq!(rt; pending(&store, 2), Some(SigSet::empty().with(SIGTERM)));
-    assert_eq!(rt; pending(&store, 3), Some(SigSet::empty()));
-    assert_eq!(rt; pending(&store, 4), None);
+    assert_eq!(rt;
+        (
+            pending(&store, INIT),
+            pending(&store, 2),
+            pending(&store, 3),
+            pending(&store, 4)
+        ),
+        (
+            Some(SigSet::empty()),
+            Some(SigSet::empty().with(SIGTERM)),
+            Some(SigSet::empty()),
+            None
+        )
+    );
     Ok(())
 }
 
@@ -132,18 +139,17 @@ fn handed_on_zombie_is_announced_to_process_1<S: ProcStore, R: Abort + AllocGlob
 ) -> Result<(), Fail> {
     let mut store = opening::<S>(rt.alloc())?;
     on_sigchld(&mut store, INIT, handler(), false);
-    fork_of(rt, &mut store, INIT)?;
-    fork_of(rt, &mut store, 2)?;
-    fork_of(rt, &mut store, 2)?;
+    forks_of(rt, &mut store, &[INIT, 2, 2])?;
     end_of(rt, &mut store, 3, 9);
-    assert_eq!(rt; parent(&store, 3), Some(2));
-    assert_eq!(rt; pending(&store, INIT), Some(SigSet::empty()));
+    assert_eq!(rt;
+        (parent(&store, 3), pending(&store, INIT)),
+        (Some(2), Some(SigSet::empty()))
+    );
     reparent_of(rt, &mut store, 2);
     assert_eq!(rt;
-        (parent(&store, 3), parent(&store, 4)),
-        (Some(INIT), Some(INIT))
+        (parent(&store, 3), parent(&store, 4), pending(&store, INIT)),
+        (Some(INIT), Some(INIT), Some(SigSet::empty().with(SIGCHLD)))
     );
-    assert_eq!(rt; pending(&store, INIT), Some(SigSet::empty().with(SIGCHLD)));
     assert_eq!(rt;
         wait_of(rt, &mut store, INIT, Who::Any, WaitOptions::WNOHANG),
         Poll::Told { pid: 3, status: 9 }
@@ -154,8 +160,7 @@ fn handed_on_zombie_is_announced_to_process_1<S: ProcStore, R: Abort + AllocGlob
 fn orphans_go_to_the_nearest_subreaper<S: ProcStore, R: Abort + AllocGlobal>(
     rt: &R,
 ) -> Result<(), Fail> {
-    let mut store = opening::<S>(rt.alloc())?;
-    fork_of(rt, &mut store, INIT)?;
+    let mut store: S = after_forks(rt, &[INIT])?;
     mark(&mut store, 2, true);
     fork_of(rt, &mut store, 2)?;
     assert_eq!(rt;
@@ -163,8 +168,7 @@ fn orphans_go_to_the_nearest_subreaper<S: ProcStore, R: Abort + AllocGlobal>(
         (Some(true), Some(false))
     );
     mark(&mut store, 3, true);
-    fork_of(rt, &mut store, 3)?;
-    fork_of(rt, &mut store, 4)?;
+    forks_of(rt, &mut store, &[3, 4])?;
     assert_eq!(rt;
         (
             reaper(&store, 5),
@@ -188,17 +192,16 @@ fn orphans_go_to_the_nearest_subreaper<S: ProcStore, R: Abort + AllocGlobal>(
 fn zombie_is_announced_to_the_subreaper<S: ProcStore, R: Abort + AllocGlobal>(
     rt: &R,
 ) -> Result<(), Fail> {
-    let mut store = opening::<S>(rt.alloc())?;
-    for pid in [INIT, 2, 3, 4] {
-        fork_of(rt, &mut store, pid)?;
-    }
+    let mut store: S = after_forks(rt, &[INIT, 2, 3, 4])?;
     mark(&mut store, 2, true);
     on_sigchld(&mut store, INIT, handler(), false);
     on_sigchld(&mut store, 2, handler(), false);
     end_of(rt, &mut store, 5, 9);
     end_of(rt, &mut store, 4, 0);
-    assert_eq!(rt; pending(&store, INIT), Some(SigSet::empty()));
-    assert_eq!(rt; pending(&store, 2), Some(SigSet::empty().with(SIGCHLD)));
+    assert_eq!(rt;
+        (pending(&store, INIT), pending(&store, 2)),
+        (Some(SigSet::empty()), Some(SigSet::empty().with(SIGCHLD)))
+    );
     let asked = Request {
         who: Who::Any,
         options: WaitOptions::WNOHANG,
@@ -217,14 +220,15 @@ fn handed_on_zombie_goes_under_an_ignored_sigchld<S: ProcStore, R: Abort + Alloc
     on_sigchld(&mut store, INIT, Disposition::Ignore, true);
     fork_of(rt, &mut store, INIT)?;
     on_sigchld(&mut store, 2, Disposition::Default, false);
-    fork_of(rt, &mut store, 2)?;
-    fork_of(rt, &mut store, 2)?;
+    forks_of(rt, &mut store, &[2, 2])?;
     end_of(rt, &mut store, 3, 9);
     assert_eq!(rt; life(&store, 3), Some(Life::Zombie(9)));
     end_of(rt, &mut store, 2, 0x100);
     assert_eq!(rt; (life(&store, 2), life(&store, 3)), (None, None));
-    assert_eq!(rt; parent(&store, 4), Some(INIT));
-    assert_eq!(rt; pending(&store, INIT), Some(SigSet::empty()));
+    assert_eq!(rt;
+        (parent(&store, 4), pending(&store, INIT)),
+        (Some(INIT), Some(SigSet::empty()))
+    );
     Ok(())
 }
 
@@ -237,16 +241,20 @@ fn end_is_told_and_then_nobody_matches<S: ProcStore, R: Abort + AllocGlobal>(
     stop(&mut store, 2, SIGTSTP);
     send(&mut store, 2, SIGTERM);
     end_of(rt, &mut store, 2, 9);
-    assert_eq!(rt; pending(&store, 2), Some(SigSet::empty()));
-    assert_eq!(rt; note(&store, 2), Some(Note::Nothing));
-    assert_eq!(rt; pending(&store, INIT), Some(SigSet::empty().with(SIGCHLD)));
     assert_eq!(rt;
-        wait_of(rt, &mut store, INIT, Who::Child(2), WaitOptions::WNOHANG),
-        Poll::Told { pid: 2, status: 9 }
+        (pending(&store, 2), note(&store, 2), pending(&store, INIT)),
+        (
+            Some(SigSet::empty()),
+            Some(Note::Nothing),
+            Some(SigSet::empty().with(SIGCHLD))
+        )
     );
     assert_eq!(rt;
-        wait_of(rt, &mut store, INIT, Who::Child(2), WaitOptions::WNOHANG),
-        Poll::NoMatch
+        (
+            wait_of(rt, &mut store, INIT, Who::Child(2), WaitOptions::WNOHANG),
+            wait_of(rt, &mut store, INIT, Who::Child(2), WaitOptions::WNOHANG)
+        ),
+        (Poll::Told { pid: 2, status: 9 }, Poll::NoMatch)
     );
     Ok(())
 }
@@ -254,13 +262,11 @@ fn end_is_told_and_then_nobody_matches<S: ProcStore, R: Abort + AllocGlobal>(
 fn end_of_process_1_hands_no_children_on<S: ProcStore, R: Abort + AllocGlobal>(
     rt: &R,
 ) -> Result<(), Fail> {
-    let mut store = opening::<S>(rt.alloc())?;
-    fork_of(rt, &mut store, INIT)?;
+    let mut store: S = after_forks(rt, &[INIT])?;
     end_of(rt, &mut store, INIT, 11);
-    assert_eq!(rt; life(&store, INIT), Some(Life::Zombie(11)));
     assert_eq!(rt;
-        (life(&store, 2), parent(&store, 2)),
-        (Some(Life::Running), Some(INIT))
+        (life(&store, INIT), life(&store, 2), parent(&store, 2)),
+        (Some(Life::Zombie(11)), Some(Life::Running), Some(INIT))
     );
     Ok(())
 }
@@ -273,8 +279,7 @@ fn nobody_is_told_of_where_nobody_is_ready<S: ProcStore, R: Abort + AllocGlobal>
         wait_of(rt, &mut store, INIT, Who::Any, WaitOptions::WNOHANG),
         Poll::NoMatch
     );
-    fork_of(rt, &mut store, INIT)?;
-    fork_of(rt, &mut store, 2)?;
+    forks_of(rt, &mut store, &[INIT, 2])?;
     end_of(rt, &mut store, 3, 9);
     let rows = [
         (INIT, Who::Any, Poll::NotReady),
@@ -296,10 +301,7 @@ fn nobody_is_told_of_where_nobody_is_ready<S: ProcStore, R: Abort + AllocGlobal>
 }
 
 fn lowest_ready_child_is_told<S: ProcStore, R: Abort + AllocGlobal>(rt: &R) -> Result<(), Fail> {
-    let mut store = opening::<S>(rt.alloc())?;
-    fork_of(rt, &mut store, INIT)?;
-    fork_of(rt, &mut store, INIT)?;
-    fork_of(rt, &mut store, INIT)?;
+    let mut store: S = after_forks(rt, &[INIT, INIT, INIT])?;
     end_of(rt, &mut store, 4, 4);
     end_of(rt, &mut store, 3, 3);
     for poll in [
@@ -316,8 +318,7 @@ fn lowest_ready_child_is_told<S: ProcStore, R: Abort + AllocGlobal>(rt: &R) -> R
 }
 
 fn zombie_is_reaped<S: ProcStore, R: Abort + AllocGlobal>(rt: &R) -> Result<(), Fail> {
-    let mut store = opening::<S>(rt.alloc())?;
-    fork_of(rt, &mut store, INIT)?;
+    let mut store: S = after_forks(rt, &[INIT])?;
     end_of(rt, &mut store, 2, 0x300);
     assert_eq!(rt; reap_of(rt, &mut store, 2), 0x300);
     assert_eq!(rt; (life(&store, 2), store.count()), (None, 1));

@@ -1,50 +1,76 @@
 ghost use Rattle.sk_world.specs.Rules.{IsWorld};
 
 use crate::stores::testing::{insert, is_executed, links, reap_of, set_executed};
-use crate::world::{end_of, fork_of, opening};
+use crate::world::{after_forks, end_of, fork_of, opening};
 use sk_table::{INIT, LAST_PID, PROCESSES, ProcStore, SlotStore};
 use std::alloc::AllocError;
 use std::process::Abort;
 use std::test::Fail;
 
-#[test]
-fn slot_of_a_process_that_went_is_used_again(rt: HostRuntime) -> Result<(), Fail> {
+/// Process 1, and two children of it in its group, which were put in in this order: 9 and 5.
+fn with_two_children<R: Abort + AllocGlobal>(rt: &R) -> Result<SlotStore, AllocError> {
     let mut store = SlotStore::new(rt.alloc())?;
     for pid in [9, 5] {
-        insert(&rt, rt.alloc(), &mut store, pid, links(INIT, INIT, INIT));
+        insert(rt, rt.alloc(), &mut store, pid, links(INIT, INIT, INIT));
     }
+    Ok(store)
+}
+
+fn slots(store: &SlotStore, first: u32, second: u32, third: u32) -> [Option<usize>; 3] {
+    [
+        store.slot_of(first),
+        store.slot_of(second),
+        store.slot_of(third),
+    ]
+}
+
+#[test]
+fn slot_of_a_process_that_went_is_used_again(rt: HostRuntime) -> Result<(), Fail> {
+    let mut store = with_two_children(&rt)?;
     set_executed(&mut store, 5);
-    let (first, fifth, ninth) = (store.slot_of(INIT), store.slot_of(5), store.slot_of(9));
-    assert!(rt; first.is_some() && fifth.is_some() && ninth.is_some());
-    assert!(rt; store.remove(5).is_some() && store.slot_of(5).is_none());
+    let before = slots(&store, INIT, 5, 9);
+    assert!(rt; before.iter().all(|slot| slot.is_some()));
+    assert!(rt; store.remove(5).is_some());
+    assert!(rt; slots(&store, 5, 0, 40000) == [None; 3]);
     insert(&rt, rt.alloc(), &mut store, 7, links(INIT, INIT, INIT));
-    assert_eq!(rt;
-        (store.slot_of(INIT), store.slot_of(7), store.slot_of(9)),
-        (first, fifth, ninth)
-    );
-    assert_eq!(rt; is_executed(&store, 7), Some(false));
-    assert_eq!(rt; (store.slot_of(0), store.slot_of(40000)), (None, None));
+    assert!(rt; slots(&store, INIT, 7, 9) == before);
+    assert!(rt; is_executed(&store, 7) == Some(false));
     Ok(())
+}
+
+/// Each is a process, and itself beside each of its children.
+fn assert_children(rt: &impl Abort, store: &SlotStore, rows: &[(u32, &[(u32, u32)])]) {
+    for (parent, children) in rows {
+        assert!(rt; store.children(*parent) == *children);
+    }
+}
+
+/// Each is a group, and itself beside each of its members.
+fn assert_members(rt: &impl Abort, store: &SlotStore, rows: &[(u32, &[(u32, u32)])]) {
+    for (group, members) in rows {
+        assert!(rt; store.members(*group) == *members);
+    }
 }
 
 #[test]
 fn children_and_members_are_lent_in_rising_order(rt: HostRuntime) -> Result<(), Fail> {
-    let mut store = SlotStore::new(rt.alloc())?;
-    for pid in [9, 5] {
-        insert(&rt, rt.alloc(), &mut store, pid, links(INIT, INIT, INIT));
-    }
-    assert!(rt; store.children(0) == &[(0u32, 1u32)][..]);
-    assert!(rt; store.children(INIT) == &[(1u32, 5u32), (1, 9)][..]);
+    let mut store = with_two_children(&rt)?;
+    assert_children(&rt, &store, &[(0, &[(0, 1)]), (INIT, &[(1, 5), (1, 9)])]);
     assert!(rt; store.remove(5).is_some());
     insert(&rt, rt.alloc(), &mut store, 7, links(INIT, INIT, INIT));
-    assert!(rt; store.children(INIT) == &[(1u32, 7u32), (1, 9)][..]);
-    assert!(rt; store.members(INIT) == &[(1u32, 1u32), (1, 7), (1, 9)][..]);
+    assert_children(&rt, &store, &[(INIT, &[(1, 7), (1, 9)])]);
+    assert_members(&rt, &store, &[(INIT, &[(1, 1), (1, 7), (1, 9)])]);
     assert!(rt; store.relink(9, links(7, 9, INIT)));
-    assert!(rt; store.children(7) == &[(7u32, 9u32)][..]);
-    assert!(rt; store.children(INIT) == &[(1u32, 7u32)][..]);
-    assert!(rt; store.members(9) == &[(9u32, 9u32)][..]);
-    assert!(rt; store.members(INIT) == &[(1u32, 1u32), (1, 7)][..]);
-    assert!(rt; store.members(7).is_empty() && store.children(40000).is_empty());
+    assert_children(
+        &rt,
+        &store,
+        &[(7, &[(7, 9)]), (INIT, &[(1, 7)]), (40000, &[])],
+    );
+    assert_members(
+        &rt,
+        &store,
+        &[(9, &[(9, 9)]), (INIT, &[(1, 1), (1, 7)]), (7, &[])],
+    );
     Ok(())
 }
 
@@ -98,14 +124,26 @@ fn come_and_go(rt: &impl Abort, store: &mut SlotStore, number: u32) -> Result<()
     Ok(())
 }
 
+/// So it does until the last number is given. The first child has this one.
+fn come_and_go_to_the_last(
+    rt: &impl Abort,
+    store: &mut SlotStore,
+    first: u32,
+) -> Result<(), AllocError>
+    requires { IsWorld store.old.world }
+    ensures { IsWorld store.new.world }
+{
+    for number in first..=LAST_PID {
+        come_and_go(rt, store, number)?;
+    }
+    Ok(())
+}
+
 /// Process 2 lives on, and process 1 forks until the numbers are all given.
 #[test]
 fn numbers_come_again_after_32765_forks(rt: HostRuntime) -> Result<(), Fail> {
-    let mut store = opening::<SlotStore>(rt.alloc())?;
-    assert_eq!(rt; fork_of(&rt, &mut store, INIT)?, 2);
-    for number in 3..=LAST_PID {
-        come_and_go(&rt, &mut store, number)?;
-    }
+    let mut store: SlotStore = after_forks(&rt, &[INIT])?;
+    come_and_go_to_the_last(&rt, &mut store, 3)?;
     assert_eq!(rt; fork_of(&rt, &mut store, INIT)?, 3);
     Ok(())
 }

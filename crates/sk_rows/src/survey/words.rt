@@ -22,8 +22,7 @@ fn words_that_say_nothing(rt: HostRuntime) -> Result<(), Fail> {
     ];
     for words in rows {
         let (held, status) = answer(rt.alloc(), words, Some(&[ALL]), 0)?;
-        assert_eq!(rt; held.as_slice(), USAGE, "at {words:?}");
-        assert_eq!(rt; status, 2, "at {words:?}");
+        assert_eq!(rt; (held.as_slice(), status), (USAGE, 2), "at {words:?}");
     }
     Ok(())
 }
