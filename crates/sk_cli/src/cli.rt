@@ -1,13 +1,16 @@
 //! The program over any reader and writer.
-ghost use Rattle.std.specs.Prelude.{◌≤◌, IfOk};
+ghost use Rattle.std.specs.Prelude.{◌≡◌, ◌≢◌, ◌≤◌, Err, IfOk, IfSome, map, string_bytes};
+ghost use Rattle.sk_engines.specs.Engine.{Delivers, CountsReads, CountsWrites};
+ghost use Rattle.sk_engines.specs.Program.{Ends};
+ghost use Rattle.sk_filter_cli.specs.Words.{word_of};
+ghost use Rattle.sk_cli.specs.Running.{Does, Runs, scenario_answer};
 
-use arrayvec::ArrayString;
-use sk_ends::{Sink, Source, WriteFault, send};
-use sk_engines::{CommandFault, failed, tell_usage};
+use sk_ends::{Sink, Source};
+use sk_engines::{CommandFault, Reply, deliver, failed, tell_usage};
 use sk_filter_cli::{Word, filter_command, word_in};
+use sk_scenario::ScenarioFault;
 use sk_sched::{EngineFault, engine};
 use std::alloc::Global;
-use std::fmt::Write as _;
 
 const USAGE: &str = "usage: skern run|check|eval|asm|list\n";
 
@@ -21,6 +24,10 @@ pub fn command<R: Source, W: Sink>(
     writer: &mut W,
 ) -> u8
     ensures status { result ≤ 3 }
+    ensures told { IfSome (R.remaining reader.old) (λ input.
+        Ends (Does (word_of (map string_bytes words.now)) input) result (W.contents writer.old) (W.contents writer.new)) }
+    ensures reads { result ≤ 2 → R.failed reader.new ≡ R.failed reader.old }
+    ensures writes { result ≤ 2 → W.failed writer.new ≡ W.failed writer.old }
 {
     match done(alloc, words, reader, writer) {
         Ok(status) => status,
@@ -34,12 +41,16 @@ fn done<R: Source, W: Sink>(
     reader: &mut R,
     writer: &mut W,
 ) -> Result<u8, CommandFault>
+    ensures told { IfSome (R.remaining reader.old) (λ input.
+        Does (word_of (map string_bytes words.now)) input result (W.contents writer.old) (W.contents writer.new)) }
     ensures status { IfOk result (λ status. status ≤ 2) }
+    ensures reads { CountsReads result (R.failed reader.old) (R.failed reader.new) }
+    ensures writes { CountsWrites result (W.failed writer.old) (W.failed writer.new) }
 {
     match word_in(alloc, words)? {
         Some(Word::Run) => run(alloc, reader, writer),
         Some(Word::Filters(word)) => filter_command(alloc, word, reader, writer),
-        None => Ok(tell_usage(writer, USAGE)?),
+        None => tell_usage(writer, USAGE),
     }
 }
 
@@ -49,22 +60,32 @@ fn run<R: Source, W: Sink>(
     reader: &mut R,
     writer: &mut W,
 ) -> Result<u8, CommandFault>
+    ensures told { IfSome (R.remaining reader.old) (λ input. Runs input result (W.contents writer.old) (W.contents writer.new)) }
     ensures status { IfOk result (λ status. status ≤ 1) }
+    ensures reads { CountsReads result (R.failed reader.old) (R.failed reader.new) }
+    ensures writes { CountsWrites result (W.failed writer.old) (W.failed writer.new) }
 {
     match engine(alloc, reader, writer) {
         Ok(_) => Ok(0),
-        Err(fault @ EngineFault::Scenario(_)) => {
-            tell(writer, fault)?;
-            Ok(1)
-        }
+        Err(EngineFault::Scenario(fault)) => refuse(writer, fault),
         Err(EngineFault::Read) => Err(CommandFault::Read),
         Err(EngineFault::Write) => Err(CommandFault::Write),
         Err(EngineFault::Memory { .. }) => Err(CommandFault::Memory),
     }
 }
 
-fn tell<W: Sink>(writer: &mut W, fault: EngineFault) -> Result<(), WriteFault> {
-    let mut line = ArrayString::<64>::new();
-    let _ = writeln!(line, "{fault}");
-    send(writer, line.as_bytes())
+// Tells what is wrong with a scenario's line.
+fn refuse<W: Sink>(writer: &mut W, fault: ScenarioFault) -> Result<u8, CommandFault>
+    ensures told { Delivers (scenario_answer fault) result (W.contents writer.old) (W.contents writer.new) }
+    ensures status { IfOk result (λ status. status ≤ 1) }
+    ensures writes { CountsWrites result (W.failed writer.old) (W.failed writer.new) }
+    ensures no_read { result ≢ Err CommandFault.Read }
+{
+    let (n, what) = match fault {
+        ScenarioFault::Line { n } => (n, "not understood"),
+        ScenarioFault::Unresolved { n } => (n, "no such name"),
+        ScenarioFault::Limit { n } => (n, "over the limit"),
+        ScenarioFault::Memory => return Err(CommandFault::Memory),
+    };
+    deliver(writer, &Reply::at_line(n, what))
 }

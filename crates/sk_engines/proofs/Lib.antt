@@ -1,3 +1,4 @@
 pub mod LineCount
 pub mod Ending
+mod Finishing
 pub mod Chaining

@@ -10,5 +10,6 @@ pub mod Filters
 pub mod Engine
 pub mod ListCommand
 pub mod OnImage
+pub mod Program
 pub mod Reading
 pub mod Reply

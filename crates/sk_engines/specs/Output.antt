@@ -14,6 +14,10 @@ done text = record { text = text; status = 0 }
 abbrev pub refused : List ℕ → Output
 refused text = record { text = text; status = 1 }
 
+-- a text with status 2: the words of the program say nothing, and this says how it is used
+abbrev pub misused : List ℕ → Output
+misused text = record { text = text; status = 2 }
+
 -- each line of a text is ended by a line feed
 abbrev pub line : List ℕ → List ℕ
 line text = text ++ (10 ∷ [])

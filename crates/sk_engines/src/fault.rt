@@ -2,18 +2,35 @@ use sk_ends::{ReadFault, WriteFault};
 use std::alloc::AllocError;
 use thiserror::Error;
 
-/// Why a command could not end. Its display text is the line that the program writes.
+/// Why a command could not end. Its display text is what the program writes of it.
 #[derive(Clone, Copy, Debug, PartialEq, Eq, Error)]
 pub enum CommandFault {
     /// A read failed.
-    #[error("skern: reading failed")]
+    #[error("{}", self.text())]
     Read,
     /// A write failed, or took no byte.
-    #[error("skern: writing failed")]
+    #[error("{}", self.text())]
     Write,
     /// Memory was refused.
-    #[error("skern: out of memory")]
+    #[error("{}", self.text())]
     Memory,
+}
+
+impl CommandFault {
+    ghost use Rattle.std.specs.Prelude.{◌≡◌, ◌≤◌, length};
+    ghost use Rattle.sk_engines.specs.Program.{fault_said};
+
+    /// What the program writes of it.
+    pub fn text(self) -> &'static str
+        ensures text { result.now ≡ fault_said self }
+        ensures short { length result.now ≤ 64 }
+    {
+        match self {
+            CommandFault::Read => "skern: reading failed",
+            CommandFault::Write => "skern: writing failed",
+            CommandFault::Memory => "skern: out of memory",
+        }
+    }
 }
 
 impl From<ReadFault> for CommandFault {

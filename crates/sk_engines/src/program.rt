@@ -1,11 +1,15 @@
 //! What a program does around its command: it takes its words, tells its usage and its faults, and ends.
-ghost use Rattle.std.specs.Prelude.{◌≡◌, ◌⊎◌, IfOk};
+ghost use Rattle.std.specs.Prelude.{◌≡◌, ◌≢◌, Err};
+ghost use Rattle.std.specs.Io.Buffered.{writer_contents};
+ghost use Rattle.sk_ends.specs.Writing.{AppendsBeginning};
+ghost use Rattle.sk_engines.specs.Engine.{Delivers, CountsWrites};
+ghost use Rattle.sk_engines.specs.Output.{misused};
+ghost use Rattle.sk_engines.specs.Program.{Finishes, fault_line};
 
 use crate::fault::CommandFault;
-use arrayvec::ArrayString;
-use sk_ends::{Counted, Sink, WriteFault, send};
+use crate::reply::Line;
+use sk_ends::{Counted, Sink, send};
 use std::env::Env;
-use std::fmt::Write as _;
 use std::io::{BufWriter, Write};
 use std::{env, io};
 
@@ -27,31 +31,39 @@ pub fn words_of<R: Env + AllocGlobal>(rt: &R) -> io::Result<Vec<String>> {
 /// too, nothing more can be said.
 pub fn failed<W: Sink>(writer: &mut W, fault: CommandFault) -> u8
     ensures status { result ≡ 3 }
+    ensures told { AppendsBeginning (W.contents writer.old) (W.contents writer.new) (fault_line fault) }
 {
-    let mut line = ArrayString::<64>::new();
-    let _ = writeln!(line, "{fault}");
-    let _ = send(writer, line.as_bytes());
+    let mut line = Line::new();
+    line.push_str(fault.text());
+    line.push_str("\n");
+    let _ = send(writer, line.as_str().as_bytes());
     FAILED
 }
 
-/// Writes what is left in the block, and gives the exit status of it all. Where that fails the text of the failure
-/// goes past the block, once. A fault that was told before, with status 3, had its text in the block.
-pub fn finish<W: Write + Drop>(output: BufWriter<W>, status: u8) -> u8
-    ensures status { (result ≡ status) ⊎ (result ≡ 3) }
+/// Writes what is left in the block, and gives the exit status of it all, and the writer. Where that fails the text of
+/// the failure goes past the block, once. A fault that was told before, with status 3, had its text in the block.
+pub fn finish<W: Write + Drop>(output: BufWriter<W>, status: u8) -> (u8, W)
+    ensures ends { Finishes status result.0 (writer_contents W.contents output) (W.contents result.1) }
 {
     let mut output = output;
     let flushed = output.flush();
     let (writer, _block) = output.into_parts();
     match flushed {
-        Ok(()) => status,
-        Err(_) if status == FAILED => FAILED,
-        Err(_) => failed(&mut Counted::new(writer), CommandFault::Write),
+        Ok(()) => (status, writer),
+        Err(_) if status == FAILED => (FAILED, writer),
+        Err(_) => {
+            let mut writer = Counted::new(writer);
+            let status = failed(&mut writer, CommandFault::Write);
+            (status, writer.into_inner())
+        }
     }
 }
 
 /// Tells how a program is used where its words say nothing, and gives the exit status for that.
-pub fn tell_usage<W: Sink>(writer: &mut W, usage: &str) -> Result<u8, WriteFault>
-    ensures status { IfOk result (λ status. status ≡ 2) }
+pub fn tell_usage<W: Sink>(writer: &mut W, usage: &str) -> Result<u8, CommandFault>
+    ensures told { Delivers (misused usage.now) result (W.contents writer.old) (W.contents writer.new) }
+    ensures writes { CountsWrites result (W.failed writer.old) (W.failed writer.new) }
+    ensures no_read { result ≢ Err CommandFault.Read }
 {
     send(writer, usage.as_bytes())?;
     Ok(REFUSED)

@@ -1,1 +1,2 @@
+pub mod Parser
 pub mod Words

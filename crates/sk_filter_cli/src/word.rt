@@ -1,4 +1,9 @@
 //! The one word that says what the program does.
+ghost use Rattle.std.specs.Prelude.{◌≡◌, IfOk, map, option_map, string_bytes};
+ghost use Rattle.clap.specs.Simple.{app_of};
+ghost use Rattle.sk_filter_cli.specs.Parser.{program};
+ghost use Rattle.sk_filter_cli.specs.Words.{word_of, word_named};
+
 use clap::Command;
 use clap::error::ErrorKind;
 use std::alloc::{AllocError, Global};
@@ -22,25 +27,38 @@ pub enum FilterWord {
 }
 
 /// What these words say, or none where they are not one word that says something.
-pub fn word_in(alloc: Global, words: &[String]) -> Result<Option<Word>, AllocError> {
+pub fn word_in(alloc: Global, words: &[String]) -> Result<Option<Word>, AllocError>
+    ensures exact { IfOk result (λ word. word ≡ word_of (map string_bytes words.now)) }
+{
     if words.len() != 1 {
         return Ok(None);
     }
-    let parser = Command::new(alloc, "skern")
-        .no_binary_name(true)
-        .subcommand(Command::new(alloc, "run"))?
-        .subcommand(Command::new(alloc, "check"))?
-        .subcommand(Command::new(alloc, "eval"))?
-        .subcommand(Command::new(alloc, "asm"))?
-        .subcommand(Command::new(alloc, "list"))?;
-    match parser.try_get_matches_from(words) {
+    match parser(alloc)?.try_get_matches_from(words) {
         Ok(matches) => Ok(matches.subcommand_name().and_then(named)),
         Err(error) if error.kind() == ErrorKind::OutOfMemory => Err(AllocError),
         Err(_) => Ok(None),
     }
 }
 
-fn named(name: &str) -> Option<Word> {
+// The parser of the words.
+fn parser<'a>(alloc: Global) -> Result<Command<'a>, AllocError>
+    ensures words { IfOk result (λ parser. app_of parser ≡ program) }
+{
+    Command::new(alloc, "skern")
+        .no_binary_name(true)
+        .disable_help_flag(true)
+        .disable_help_subcommand(true)
+        .subcommand(Command::new(alloc, "run"))?
+        .subcommand(Command::new(alloc, "check"))?
+        .subcommand(Command::new(alloc, "eval"))?
+        .subcommand(Command::new(alloc, "asm"))?
+        .subcommand(Command::new(alloc, "list"))
+}
+
+#[tactic(auto, unfolding(crate::specs::Words::word_named))]
+fn named(name: &str) -> Option<Word>
+    ensures exact { result ≡ word_named name.now }
+{
     match name {
         "run" => Some(Word::Run),
         "check" => Some(Word::Filters(FilterWord::Check)),

@@ -97,7 +97,7 @@ fn answer_in_blocks(
     let mut reader = Counted::new(Input(Some(input)));
     let mut writer = Counted::new(BufWriter::with_capacity(alloc, block, &mut held)?);
     let status = command(alloc, words.as_slice(), &mut reader, &mut writer);
-    let status = finish(writer.into_inner(), status);
+    let (status, _) = finish(writer.into_inner(), status);
     Ok((held.held, status))
 }
 

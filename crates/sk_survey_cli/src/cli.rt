@@ -36,6 +36,6 @@ fn done<R: Source, W: Sink>(
 {
     match options_in(alloc, words)? {
         Some(options) => survey_engine(alloc, options, reader, writer),
-        None => Ok(tell_usage(writer, USAGE)?),
+        None => tell_usage(writer, USAGE),
     }
 }

@@ -31,5 +31,6 @@ fn main(rt: HostRuntime) -> ExitCode {
         // A word that is no text says nothing.
         Err(_) => command(alloc, &[], &mut reader, &mut writer),
     };
-    ExitCode::from(finish(writer.into_inner(), status))
+    let (status, _output) = finish(writer.into_inner(), status);
+    ExitCode::from(status)
 }
