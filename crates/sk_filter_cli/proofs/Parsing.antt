@@ -23,26 +23,30 @@ pub program_is_simple : is_simple program ≡ true
 unfolding clap_on_literals
 program_is_simple = refl
 
--- what holds of the five words, and of a text that is none of them, holds of each text
-by_word : (Holds : Text → Type 0) → Holds (codes "run") → Holds (codes "check") → Holds (codes "eval") → Holds (codes "asm") → Holds (codes "list")
-    → ((text : Text) → bytes_eq (codes "run") text ≡ false → bytes_eq (codes "check") text ≡ false → bytes_eq (codes "eval") text ≡ false → bytes_eq (codes "asm") text ≡ false → bytes_eq (codes "list") text ≡ false → Holds text)
-    → (text : Text) → Holds text
-by_word Holds run check eval asm list other text = elim (cases_Bool (bytes_eq (codes "run") text)) [
-  | inl is ↦ subst Holds ((bytes_eq-Decides (codes "run") text).0 is) run
-  | inr no_run ↦ elim (cases_Bool (bytes_eq (codes "check") text)) [
-    | inl is ↦ subst Holds ((bytes_eq-Decides (codes "check") text).0 is) check
-    | inr no_check ↦ elim (cases_Bool (bytes_eq (codes "eval") text)) [
-      | inl is ↦ subst Holds ((bytes_eq-Decides (codes "eval") text).0 is) eval
-      | inr no_eval ↦ elim (cases_Bool (bytes_eq (codes "asm") text)) [
-        | inl is ↦ subst Holds ((bytes_eq-Decides (codes "asm") text).0 is) asm
-        | inr no_asm ↦ elim (cases_Bool (bytes_eq (codes "list") text)) [
-          | inl is ↦ subst Holds ((bytes_eq-Decides (codes "list") text).0 is) list
-          | inr no_list ↦ other text no_run no_check no_eval no_asm no_list
-        ]
-      ]
-    ]
-  ]
+-- the text is none of the five words
+record IsOther (text : Text) : Type 0 where
+  run : bytes_eq (codes "run") text ≡ false
+  check : bytes_eq (codes "check") text ≡ false
+  eval : bytes_eq (codes "eval") text ≡ false
+  asm : bytes_eq (codes "asm") text ≡ false
+  list : bytes_eq (codes "list") text ≡ false
+
+-- what holds of a word, and of each text that is another, holds of each text
+or_word : (Holds : Text → Type 0) (word text : Text) → Holds word → (bytes_eq word text ≡ false → Holds text) → Holds text
+or_word Holds word text known other = elim (cases_Bool (bytes_eq word text)) [
+  | inl is ↦ subst Holds ((bytes_eq-Decides word text).0 is) known
+  | inr differs ↦ other differs
 ]
+
+-- what holds of the five words, and of a text that is none of them, holds of each text
+by_word : (Holds : Text → Type 0) → Holds (codes "run") → Holds (codes "check") → Holds (codes "eval") → Holds (codes "asm") → Holds (codes "list") → ((text : Text) → IsOther text → Holds text) → (text : Text) → Holds text
+by_word Holds run check eval asm list other text =
+    or_word Holds (codes "run") text run (λ no_run.
+    or_word Holds (codes "check") text check (λ no_check.
+    or_word Holds (codes "eval") text eval (λ no_eval.
+    or_word Holds (codes "asm") text asm (λ no_asm.
+    or_word Holds (codes "list") text list (λ no_list.
+    other text (record { run = no_run; check = no_check; eval = no_eval; asm = no_asm; list = no_list }))))))
 
 -- ---- a text that is none of the words
 
@@ -93,72 +97,47 @@ unnamed_passes text = other_passes text (bytes_eq text (45 ∷ 45 ∷ []))
 abbrev pub met_by : Text → Option Text
 met_by text = option_map (λ p. p.0) (subcommand_of program (text ∷ []))
 
-abbrev Meets : Text → Type 0
-Meets text = option_and_then word_named (met_by text) ≡ word_named text
+-- the subcommand that is met is the word that the text is, and a text that the parse does not take is no word
+abbrev Reads : Text → Type 0
+Reads text = (option_and_then word_named (met_by text) ≡ word_named text) × ((takes program (text ∷ []) ≡ true) ⊎ (word_named text ≡ None))
 
-abbrev Passes : Text → Type 0
-Passes text = (takes program (text ∷ []) ≡ true) ⊎ (word_named text ≡ None)
-
-nothing_named : (text : Text) → bytes_eq (codes "run") text ≡ false → bytes_eq (codes "check") text ≡ false → bytes_eq (codes "eval") text ≡ false → bytes_eq (codes "asm") text ≡ false → bytes_eq (codes "list") text ≡ false → word_named text ≡ None
+nothing_named : (text : Text) → IsOther text → word_named text ≡ None
 unfolding word_named
-nothing_named text run check eval asm list =
-    rw (flipped (codes "run") text run, flipped (codes "check") text check, flipped (codes "eval") text eval, flipped (codes "asm") text asm, flipped (codes "list") text list) refl
+nothing_named text other =
+    rw (flipped (codes "run") text other.run, flipped (codes "check") text other.check, flipped (codes "eval") text other.eval, flipped (codes "asm") text other.asm, flipped (codes "list") text other.list) refl
 
-nothing_found : (text : Text) → bytes_eq (codes "run") text ≡ false → bytes_eq (codes "check") text ≡ false → bytes_eq (codes "eval") text ≡ false → bytes_eq (codes "asm") text ≡ false → bytes_eq (codes "list") text ≡ false → find (answers_to text) (names_of (built program)) ≡ None
-nothing_found text run check eval asm list = rw (run, check, eval, asm, list) refl
+nothing_found : (text : Text) → IsOther text → find (answers_to text) (names_of (built program)) ≡ None
+nothing_found text other = rw (other.run, other.check, other.eval, other.asm, other.list) refl
 
-nothing_met : (text : Text) → bytes_eq (codes "run") text ≡ false → bytes_eq (codes "check") text ≡ false → bytes_eq (codes "eval") text ≡ false → bytes_eq (codes "asm") text ≡ false → bytes_eq (codes "list") text ≡ false → Meets text
-nothing_met text run check eval asm list =
-    let none = stop_is text ∙ ap (λ found. stop (option_map (λ (s : Text × List Text). s.0) found) text) (nothing_found text run check eval asm list) ∙ unnamed_passes text in
-    ap (λ stopped. option_and_then word_named (option_map (λ p. p.0) (entered (built program) stopped))) none ∙ sym (nothing_named text run check eval asm list)
+other_reads : (text : Text) → IsOther text → Reads text
+other_reads text other =
+    let none = stop_is text ∙ ap (λ found. stop (option_map (λ (s : Text × List Text). s.0) found) text) (nothing_found text other) ∙ unnamed_passes text in (
+      ap (λ stopped. option_and_then word_named (option_map (λ p. p.0) (entered (built program) stopped))) none ∙ sym (nothing_named text other),
+      inr (nothing_named text other),
+    )
 
-run_met : Meets (codes "run")
+run_reads : Reads (codes "run")
 unfolding clap_on_literals
-run_met = refl
+run_reads = (refl, inl refl)
 
-check_met : Meets (codes "check")
+check_reads : Reads (codes "check")
 unfolding clap_on_literals
-check_met = refl
+check_reads = (refl, inl refl)
 
-eval_met : Meets (codes "eval")
+eval_reads : Reads (codes "eval")
 unfolding clap_on_literals
-eval_met = refl
+eval_reads = (refl, inl refl)
 
-asm_met : Meets (codes "asm")
+asm_reads : Reads (codes "asm")
 unfolding clap_on_literals
-asm_met = refl
+asm_reads = (refl, inl refl)
 
-list_met : Meets (codes "list")
+list_reads : Reads (codes "list")
 unfolding clap_on_literals
-list_met = refl
+list_reads = (refl, inl refl)
 
--- the subcommand that is met is the word that the text is
-pub meets_word : (text : Text) → Meets text
-meets_word = by_word Meets run_met check_met eval_met asm_met list_met nothing_met
-
-run_taken : takes program (codes "run" ∷ []) ≡ true
-unfolding clap_on_literals
-run_taken = refl
-
-check_taken : takes program (codes "check" ∷ []) ≡ true
-unfolding clap_on_literals
-check_taken = refl
-
-eval_taken : takes program (codes "eval" ∷ []) ≡ true
-unfolding clap_on_literals
-eval_taken = refl
-
-asm_taken : takes program (codes "asm" ∷ []) ≡ true
-unfolding clap_on_literals
-asm_taken = refl
-
-list_taken : takes program (codes "list" ∷ []) ≡ true
-unfolding clap_on_literals
-list_taken = refl
-
--- a text that the parse does not take is no word
-pub passes_words : (text : Text) → Passes text
-passes_words = by_word Passes (inl run_taken) (inl check_taken) (inl eval_taken) (inl asm_taken) (inl list_taken) (λ text run check eval asm list. inr (nothing_named text run check eval asm list))
+pub reads_word : (text : Text) → Reads text
+reads_word = by_word Reads run_reads check_reads eval_reads asm_reads list_reads other_reads
 
 -- ---- the name of a subcommand that was met
 
