@@ -1,7 +1,7 @@
 -- Who rests still, after a process was changed.
-use Rattle.std.proofs.Common.{◌≡◌, ◌≢◌, ◌∙◌, ◌≤◌, ℕ, arith, List, ap, sym, refl, subst, true, false, cond, ◌==◌, ◌&&◌, IsTrue, IsFalse, Option, None, Some}
+use Rattle.std.proofs.Common.{◌≡◌, ◌≢◌, ◌∙◌, ◌≤◌, ℕ, arith, List, [], ap, sym, refl, subst, true, false, cond, ◌==◌, ◌&&◌, ◌||◌, IsTrue, IsFalse, Option, None, Some}
 use Rattle.std.specs.Option.{is_some, option_map}
-use Rattle.std.proofs.lemmas.Bool.{false≢true, eqb-true, ne_eqb, and_parts}
+use Rattle.std.proofs.lemmas.Bool.{false≢true, eq-eqb, eqb-true, eqb-false, ne_eqb, and_parts}
 use Rattle.sk_world.specs.declared.process.Life.{Life}
 use Rattle.sk_world.specs.declared.process.Life.TheVariants.{Running, Stopped, Zombie}
 use Rattle.sk_world.specs.declared.process.Waiting.{Waiting}
@@ -12,14 +12,15 @@ use Rattle.sk_world.specs.declared.process.Proc.{Proc}
 use Rattle.sk_world.specs.declared.request.Request.{Request}
 use Rattle.sk_world.specs.declared.request.Who.{Who}
 use Rattle.sk_world.specs.declared.request.Who.TheVariants.{Child, Any, Group}
-use Rattle.sk_world.specs.World.{World, at, parent_of, stored, body_changed, links_changed, with_body, with_links, inserted}
+use Rattle.sk_world.specs.World.{World, at, opening, first_process, parent_of, stored, body_changed, links_changed, with_body, with_links, inserted}
 use Rattle.sk_world.specs.Waits.{is_asked_for, is_match, status_of}
+use Rattle.sk_world.specs.Processes.{none}
 use Rattle.sk_world.proofs.Maps.{get_store}
-use Rattle.sk_world.proofs.Stored.{everywhere, at_here}
+use Rattle.sk_world.proofs.Stored.{everywhere, at_here, at_other}
 use Rattle.sk_numbers.specs.Numbers.{contains}
 use Rattle.sk_world.specs.declared.process.TheConstants.{LAST_PID}
 use Rattle.sk_candidates.proofs.Idle.{unready_as}
-use Rattle.sk_candidates.specs.Noting.{AllRest, IsNoted}
+use Rattle.sk_candidates.specs.Noting.{AllRest, OthersAreThere, IsNoted, Notes, Forgets, LooksAt}
 use Rattle.sk_candidates.specs.Resting.{has_tidings, is_news, IsStillAsking, KeepsWaiting, RestsBy, RestsAs, Rests}
 
 -- in another world, where it goes on asking whatever it asked
@@ -140,38 +141,118 @@ nobody_stored w pid o nobody here =
 nobody_mapped : (w : World) (pid : ℕ) (f : Proc → Proc) → at w 0 ≡ None → 0 ≡ pid → option_map f (at w pid) ≡ None
 nobody_mapped w pid f nobody same = ap (λ k. option_map f (at w k)) (sym same) ∙ ap (option_map f) nobody
 
--- who is not noted now is another, and was not noted before
-abbrev pub Notes : ℕ → List ℕ → List ℕ → Type 0
-Notes pid before now = (n : ℕ) → n ≤ LAST_PID → IsFalse (contains now n) → (n ≢ pid) × IsFalse (contains before n)
+still_some : (f : Proc → Proc) (o : Option Proc) → IsTrue (is_some o) → IsTrue (is_some (option_map f o))
+still_some f None is = is
+still_some f (Some p) is = refl
 
--- the same of two
-abbrev pub NotesBoth : ℕ → ℕ → List ℕ → List ℕ → Type 0
-NotesBoth one other before now = (n : ℕ) → n ≤ LAST_PID → IsFalse (contains now n) → (n ≢ one) × (n ≢ other) × IsFalse (contains before n)
+-- who was there is there when a process was changed
+still_there : (w : World) (pid : ℕ) (f : Proc → Proc) (q : ℕ) → IsTrue (is_some (at w q)) → IsTrue (is_some (at (stored w pid (option_map f (at w pid))) q))
+still_there w pid f = everywhere w pid (option_map f (at w pid)) (λ k o. IsTrue (is_some (at w k)) → IsTrue (is_some o)) (still_some f (at w pid)) (λ q ne is. is)
+
+-- two numbers are the same or not
+by_same : (q k : ℕ) (P : Type 0) → (q ≡ k → P) → (q ≢ k → P) → P
+by_same q k P same other = elim (q == k) as (λ b. (q == k) ≡ b → P) [
+  | true ↦ λ is. same (eqb-true q k is)
+  | false ↦ λ is. other (eqb-false q k is)
+] refl
+
+-- who is not noted is not the one that was noted last
+unnoted_other : (pid : ℕ) (before now : List ℕ) → Notes pid before now → (q : ℕ) → q ≤ LAST_PID → IsFalse (contains now q) → q ≢ pid
+unnoted_other pid before now notes q within out same =
+    false≢true (sym out ∙ subst (λ k. IsTrue (contains now k)) (sym same) (notes.own (subst (λ k. k ≤ LAST_PID) same within)))
+
+pub nobody_lent : (w : World) (pid : ℕ) (body : Body) → at w 0 ≡ None → at (with_body w pid body) 0 ≡ None
+nobody_lent w pid body nobody =
+    nobody_stored w pid (option_map (body_changed (λ old. body)) (at w pid)) nobody (nobody_mapped w pid (body_changed (λ old. body)) nobody)
+
+pub nobody_relinked : (w : World) (pid : ℕ) (links : Links) → at w 0 ≡ None → at (with_links w pid links) 0 ≡ None
+nobody_relinked w pid links nobody =
+    nobody_stored w pid (option_map (links_changed (λ old. links)) (at w pid)) nobody (nobody_mapped w pid (links_changed (λ old. links)) nobody)
+
+pub nobody_inserted : (w : World) (pid : ℕ) (p : Proc) → at w 0 ≡ None → 2 ≤ pid → at (inserted w pid p) 0 ≡ None
+nobody_inserted w pid p nobody given = nobody_stored w pid (Some p) nobody (λ same. absurd (not_0 same))
+  where
+    not_0 : 0 ≡ pid → ⊥
+    not_0 same = omega (arith, same, given)
+
+-- who was looked at, by another name
+looked_at : (w : World) (pid : ℕ) {before now : List ℕ} → LooksAt w pid before now → (q : ℕ) → q ≤ LAST_PID → IsFalse (contains now q) → q ≡ pid → Rests w q
+looked_at w pid {now = now} looks q within out same =
+    subst (Rests w) (sym same) (looks.rests (subst (λ k. k ≤ LAST_PID) same within) (subst (λ k. IsFalse (contains now k)) same out))
+
+seen : (w : World) (pid : ℕ) {before now : List ℕ} → LooksAt w pid before now → (q : ℕ) → q ≤ LAST_PID → IsTrue (contains now q) → q ≡ pid → IsTrue (is_some (at w q))
+seen w pid {now = now} looks q within is same =
+    subst (λ k. IsTrue (is_some (at w k))) (sym same) (looks.there (subst (λ k. k ≤ LAST_PID) same within) (subst (λ k. IsTrue (contains now k)) same is))
 
 module _ (w : World) (nobody : at w 0 ≡ None) (before : List ℕ) (all : AllRest w before) (first : List ℕ) where
-  pub noted_lent : (pid : ℕ) (body : Body) → Notes pid before first → IsNoted (with_body w pid body) first pid
-  noted_lent pid body notes = record {
-    nobody = nobody_stored w pid (option_map (body_changed (λ old. body)) (at w pid)) nobody (nobody_mapped w pid (body_changed (λ old. body)) nobody);
-    others = λ q within out none. let was = notes q within out in rests_lent w pid body q was.0 none (all q within was.1);
+  pub noted_lent : (pid : ℕ) (body : Body) → OthersAreThere w before pid → Notes pid before first → IsNoted (with_body w pid body) first pid
+  noted_lent pid body known notes = record {
+    nobody = nobody_lent w pid body nobody;
+    others = λ q within out none.
+        let other = unnoted_other pid before first notes q within out in
+        rests_lent w pid body q other none (all q within (sym (notes.others q other) ∙ out));
+    there = λ q within other is. still_there w pid (body_changed (λ old. body)) q (known q within other (sym (notes.others q other) ∙ is));
   }
 
-  pub noted_removed : (pid touched : ℕ) → Notes (parent_of (at w pid)) before first → IsNoted (stored w pid None) first touched
-  noted_removed pid touched notes = record {
-    nobody = nobody_stored w pid None nobody (λ _. refl);
-    others = λ q within out _. let was = notes q within out in rests_removed w pid q was.0 (all q within was.1);
-  }
+  -- who went is forgotten
+  module _ (second : List ℕ) where
+    pub noted_removed : (pid : ℕ) → OthersAreThere w before (parent_of (at w pid)) → Notes (parent_of (at w pid)) before first → Forgets pid first second
+        → IsNoted (stored w pid None) second (parent_of (at w pid))
+    noted_removed pid known notes forgets = record {
+      nobody = nobody_stored w pid None nobody (λ _. refl);
+      others = λ q within out _. by_same q pid (Rests (stored w pid None) q)
+          (λ same. subst (Rests (stored w pid None)) (sym same) (subst (RestsAs (stored w pid None) pid) (sym (at_here w pid None)) tt))
+          (λ other.
+          let outside = sym (forgets.others q other) ∙ out in
+          let apart = unnoted_other (parent_of (at w pid)) before first notes q within outside in
+          rests_removed w pid q apart (all q within (sym (notes.others q apart) ∙ outside)));
+      there = λ q within apart is. by_same q pid (IsTrue (is_some (at (stored w pid None) q)))
+          (λ same. absurd (false≢true (sym (forgets.own (subst (λ k. k ≤ LAST_PID) same within)) ∙ subst (λ k. IsTrue (contains second k)) same is)))
+          (λ other. subst (λ o. IsTrue (is_some o)) (sym (at_other w pid None q other)) (known q within apart (sym (notes.others q apart) ∙ sym (forgets.others q other) ∙ is)));
+    }
 
-  pub noted_relinked : (pid : ℕ) (links : Links) (touched : ℕ) → NotesBoth (parent_of (at w pid)) links.parent before first → IsNoted (with_links w pid links) first touched
-  noted_relinked pid links touched notes = record {
-    nobody = nobody_stored w pid (option_map (links_changed (λ old. links)) (at w pid)) nobody (nobody_mapped w pid (links_changed (λ old. links)) nobody);
-    others = λ q within out _. let was = notes q within out in rests_relinked w pid links q was.0 was.1 (all q within was.2);
-  }
+    -- the parent that it had is looked at
+    pub noted_relinked : (pid : ℕ) (links : Links) → OthersAreThere w before links.parent → Notes links.parent before first → LooksAt (with_links w pid links) (parent_of (at w pid)) first second
+        → IsNoted (with_links w pid links) second links.parent
+    noted_relinked pid links known notes looks = record {
+      nobody = nobody_relinked w pid links nobody;
+      others = λ q within out _. by_same q (parent_of (at w pid)) (Rests (with_links w pid links) q)
+          (λ same. looked_at (with_links w pid links) (parent_of (at w pid)) looks q within out same)
+          (λ other.
+          let outside = sym (looks.others q other) ∙ out in
+          let apart = unnoted_other links.parent before first notes q within outside in
+          rests_relinked w pid links q other apart (all q within (sym (notes.others q apart) ∙ outside)));
+      there = λ q within apart is. by_same q (parent_of (at w pid)) (IsTrue (is_some (at (with_links w pid links) q)))
+          (λ same. seen (with_links w pid links) (parent_of (at w pid)) looks q within is same)
+          (λ other. still_there w pid (links_changed (λ old. links)) q (known q within apart (sym (notes.others q apart) ∙ sym (looks.others q other) ∙ is)));
+    }
 
-  pub noted_inserted : (pid : ℕ) (p : Proc) (touched : ℕ) → at w pid ≡ None → 2 ≤ pid → NotesBoth pid p.links.parent before first → IsNoted (inserted w pid p) first touched
-  noted_inserted pid p touched free given notes = record {
-    nobody = nobody_stored w pid (Some p) nobody (λ same. absurd (not_0 same));
-    others = λ q within out _. let was = notes q within out in rests_inserted w pid p q free was.0 was.1 (all q within was.2);
-  }
-    where
-      not_0 : 0 ≡ pid → ⊥
-      not_0 same = omega (arith, same, given)
+    -- its parent is looked at
+    pub noted_inserted : (pid : ℕ) (p : Proc) → at w pid ≡ None → 2 ≤ pid → OthersAreThere w before pid → Notes pid before first → LooksAt (inserted w pid p) p.links.parent first second
+        → IsNoted (inserted w pid p) second pid
+    noted_inserted pid p free given known notes looks = record {
+      nobody = nobody_inserted w pid p nobody given;
+      others = λ q within out _. by_same q p.links.parent (Rests (inserted w pid p) q)
+          (λ same. looked_at (inserted w pid p) p.links.parent looks q within out same)
+          (λ other.
+          let outside = sym (looks.others q other) ∙ out in
+          let apart = unnoted_other pid before first notes q within outside in
+          rests_inserted w pid p q free apart other (all q within (sym (notes.others q apart) ∙ outside)));
+      there = λ q within apart is. by_same q p.links.parent (IsTrue (is_some (at (inserted w pid p) q)))
+          (λ same. seen (inserted w pid p) p.links.parent looks q within is same)
+          (λ other. subst (λ o. IsTrue (is_some o)) (sym (at_other w pid (Some p) q apart)) (known q within apart (sym (notes.others q apart) ∙ sym (looks.others q other) ∙ is)));
+    }
+
+-- as the system starts process 1 alone is noted
+pub noted_opening : (w : World) (none_yet first : List ℕ) → w ≡ opening → none_yet ≡ [] → ((n : ℕ) → contains first n ≡ ((n == 1) || contains none_yet n)) → IsNoted w first 1
+unfolding contains
+noted_opening w none_yet first is empty put = record {
+  nobody = ap (λ v. at v 0) is;
+  others = λ q within out _. by_same q 1 (Rests w q)
+      (λ same. absurd (false≢true (sym out ∙ put q ∙ ap (λ b. b || contains none_yet q) (eq-eqb q 1 same))))
+      (λ other. subst (λ v. Rests v q) (sym is) (subst (RestsAs opening q) (sym (at_other nobody_yet 1 (Some first_process) q other)) tt));
+  there = λ q within other noted. absurd (false≢true (sym (put q ∙ ap (λ l. (q == 1) || contains l q) empty ∙ ap (λ b. b || false) (ne_eqb q 1 other)) ∙ noted));
+}
+  where
+    nobody_yet : World
+    nobody_yet = record { procs = none; last = 1 }

@@ -1,5 +1,6 @@
 -- What a set of candidates owes to the processes. Only code and proofs look at this.
-use Rattle.std.specs.Prelude.{◌≡◌, ℕ, ◌<◌, ◌≤◌, Bool, false, IsFalse, List, Option, None, Some}
+use Rattle.std.specs.Prelude.{◌≡◌, ◌≢◌, ℕ, ◌<◌, ◌≤◌, Bool, false, IsTrue, IsFalse, List, Option, None, Some}
+use Rattle.std.specs.Option.{is_some}
 use Rattle.sk_numbers.specs.Numbers.{contains}
 use Rattle.sk_world.specs.declared.process.TheConstants.{LAST_PID}
 use Rattle.sk_world.specs.World.{World, at}
@@ -13,10 +14,32 @@ AllRest w noted = (pid : ℕ) → pid ≤ LAST_PID → IsFalse (contains noted p
 abbrev pub OthersRest : World → List ℕ → ℕ → Type 0
 OthersRest w noted touched = (pid : ℕ) → pid ≤ LAST_PID → IsFalse (contains noted pid) → IsFalse (is_news pid (at w touched)) → Rests w pid
 
--- everyone rests who is not noted, and to whom the process that was touched last has nothing to tell
+-- who is noted is there, but for this process
+abbrev pub OthersAreThere : World → List ℕ → ℕ → Type 0
+OthersAreThere w noted touched = (pid : ℕ) → pid ≤ LAST_PID → pid ≢ touched → IsTrue (contains noted pid) → IsTrue (is_some (at w pid))
+
+-- everyone rests who is not noted, and to whom the process that was touched last has nothing to tell; nobody is noted
+-- who is not there, but for that process
 pub record IsNoted (w : World) (noted : List ℕ) (touched : ℕ) : Type 0 where
   pub nobody : at w 0 ≡ None
   pub others : OthersRest w noted touched
+  pub there : OthersAreThere w noted touched
+
+-- a process was noted, and no other
+pub record Notes (pid : ℕ) (before now : List ℕ) : Type 0 where
+  pub own : pid ≤ LAST_PID → IsTrue (contains now pid)
+  pub others : (n : ℕ) → n ≢ pid → contains now n ≡ contains before n
+
+-- the note of a process was taken off, and no other
+pub record Forgets (pid : ℕ) (before now : List ℕ) : Type 0 where
+  pub own : pid ≤ LAST_PID → IsFalse (contains now pid)
+  pub others : (n : ℕ) → n ≢ pid → contains now n ≡ contains before n
+
+-- a process that does not rest was noted, and the note of one that is not there was taken off
+pub record LooksAt (w : World) (pid : ℕ) (before now : List ℕ) : Type 0 where
+  pub rests : pid ≤ LAST_PID → IsFalse (contains now pid) → Rests w pid
+  pub there : pid ≤ LAST_PID → IsTrue (contains now pid) → IsTrue (is_some (at w pid))
+  pub others : (n : ℕ) → n ≢ pid → contains now n ≡ contains before n
 
 -- no number that passes the test is passed over on the way to the next one, or where there is none
 abbrev pub PassesOver : (ℕ → Bool) → ℕ → Option ℕ → Type 0

@@ -5,7 +5,7 @@ ghost use Rattle.sk_world.specs.Processes.{pids};
 ghost use Rattle.sk_world.specs.World.{at, parent_of};
 ghost use Rattle.sk_world.specs.Rules.{IsWorld};
 ghost use Rattle.sk_machine.specs.Turns.{is_runnable, next_of};
-ghost use Rattle.sk_candidates.specs.Noting.{AllRest, OthersRest, PassesOver};
+ghost use Rattle.sk_candidates.specs.Noting.{AllRest, OthersRest, OthersAreThere, Notes, Forgets, LooksAt, PassesOver};
 
 use crate::resting::{hearer, rests};
 use sk_numbers::NumberSet;
@@ -42,50 +42,58 @@ impl<S: ProcStore> Model for Candidates<S> {
 
 /// Notes a process, if there can be one with this pid.
 fn note(noted: &mut NumberSet, pid: u32)
-    ensures { (n : ℕ) → n ≤ LAST_PID → IsFalse (contains noted.new n) → (n ≢ pid) × IsFalse (contains noted.old n) }
+    ensures { Notes pid noted.old noted.new }
 {
     if pid <= LAST_PID {
         noted.insert(pid);
     }
 }
 
-fn note_both(noted: &mut NumberSet, one: u32, other: u32)
-    ensures { (n : ℕ) → n ≤ LAST_PID → IsFalse (contains noted.new n) → (n ≢ one) × (n ≢ other) × IsFalse (contains noted.old n) }
+/// Takes the note of a process off.
+fn forget(noted: &mut NumberSet, pid: u32)
+    ensures { Forgets pid noted.old noted.new }
 {
-    note(noted, one);
-    note(noted, other);
-}
-
-/// Notes the parent to whom the process has something to tell.
-fn announce<S: ProcStore>(store: &S, noted: &mut NumberSet, pid: u32)
-    requires { OthersRest (S.contents store.now) noted.old pid }
-    ensures { AllRest (S.contents store.now) noted.new }
-{
-    if let Some(parent) = hearer(store, pid) {
-        note(noted, parent);
+    if pid <= LAST_PID {
+        noted.remove(pid);
     }
 }
 
-/// Takes the note of a process off that cannot run.
-fn pass_over<S: ProcStore>(store: &S, noted: &mut NumberSet, pid: u32)
+/// Notes a process, or takes its note off where it rests.
+fn look_at<S: ProcStore>(store: &S, noted: &mut NumberSet, pid: u32)
     requires nobody { at (S.contents store.now) 0 ≡ None }
-    requires noted { AllRest (S.contents store.now) noted.old }
-    ensures { AllRest (S.contents store.now) noted.new }
+    ensures { LooksAt (S.contents store.now) pid noted.old noted.new }
 {
-    if pid <= LAST_PID && rests(store, pid) {
-        noted.remove(pid);
+    if rests(store, pid) {
+        forget(noted, pid);
+    } else {
+        note(noted, pid);
+    }
+}
+
+/// Looks at the parent to whom the process has something to tell.
+fn announce<S: ProcStore>(store: &S, noted: &mut NumberSet, pid: u32)
+    requires nobody { at (S.contents store.now) 0 ≡ None }
+    requires rest { OthersRest (S.contents store.now) noted.old pid }
+    requires there { OthersAreThere (S.contents store.now) noted.old pid }
+    ensures rest { AllRest (S.contents store.now) noted.new }
+    ensures there { OthersAreThere (S.contents store.now) noted.new pid }
+{
+    if let Some(parent) = hearer(store, pid) {
+        look_at(store, noted, parent);
     }
 }
 
 /// Looks at the process that the last change was about, but where the next one is about the same.
 fn settle<S: ProcStore>(store: &S, noted: &mut NumberSet, touched: u32, next: u32)
     requires nobody { at (S.contents store.now) 0 ≡ None }
-    requires noted { OthersRest (S.contents store.now) noted.old touched }
-    ensures { AllRest (S.contents store.now) noted.new }
+    requires rest { OthersRest (S.contents store.now) noted.old touched }
+    requires there { OthersAreThere (S.contents store.now) noted.old touched }
+    ensures rest { AllRest (S.contents store.now) noted.new }
+    ensures there { OthersAreThere (S.contents store.now) noted.new next }
 {
     announce(store, noted, touched);
     if touched != next {
-        pass_over(store, noted, touched);
+        look_at(store, noted, touched);
     }
 }
 
@@ -171,8 +179,8 @@ impl<S: ProcStore> ProcStore for Candidates<S> {
 
     fn body_mut(&mut self, pid: u32) -> Option<&mut Body> {
         settle(&self.store, &mut self.noted, self.touched, pid);
-        note(&mut self.noted, pid);
         self.touched = pid;
+        note(&mut self.noted, self.touched);
         match self.store.body_mut(pid) {
             Some(body) => Some(body),
             None => None,
@@ -180,23 +188,29 @@ impl<S: ProcStore> ProcStore for Candidates<S> {
     }
 
     fn relink(&mut self, pid: u32, links: Links) -> bool {
+        let former = parent_of(&self.store, pid);
         settle(&self.store, &mut self.noted, self.touched, links.parent);
-        note_both(&mut self.noted, parent_of(&self.store, pid), links.parent);
+        note(&mut self.noted, links.parent);
         self.touched = links.parent;
-        self.store.relink(pid, links)
+        let is_there = self.store.relink(pid, links);
+        look_at(&self.store, &mut self.noted, former);
+        is_there
     }
 
     fn insert(&mut self, pid: u32, proc: Proc) {
+        let parent = proc.links.parent;
         settle(&self.store, &mut self.noted, self.touched, pid);
-        note_both(&mut self.noted, pid, proc.links.parent);
+        note(&mut self.noted, pid);
         self.touched = pid;
         self.store.insert(pid, proc);
+        look_at(&self.store, &mut self.noted, parent);
     }
 
     fn remove(&mut self, pid: u32) -> Option<Proc> {
         let parent = parent_of(&self.store, pid);
         settle(&self.store, &mut self.noted, self.touched, parent);
         note(&mut self.noted, parent);
+        forget(&mut self.noted, pid);
         self.touched = parent;
         self.store.remove(pid)
     }

@@ -1,4 +1,4 @@
-ghost use Rattle.std.specs.Prelude.{◌≡◌, ℕ, None, Some, IsTrue};
+ghost use Rattle.std.specs.Prelude.{◌≡◌, ℕ, None, Some, IsTrue, IsFalse};
 ghost use Rattle.std.specs.Option.{is_some};
 ghost use Rattle.sk_world.specs.World.{at};
 ghost use Rattle.sk_world.specs.Waits.{is_asked_for, status_of_note, status_of_body};
@@ -21,7 +21,8 @@ pub(crate) fn hearer<S: ProcStore>(store: &S, pid: u32) -> Option<u32>
 /// Whether the process cannot run, and will not before it changes or a child of it does.
 pub(crate) fn rests<S: ProcStore>(store: &S, pid: u32) -> bool
     requires nobody { at (S.contents store.now) 0 ≡ None }
-    ensures { IsTrue result → Rests (S.contents store.now) pid }
+    ensures rests { IsTrue result → Rests (S.contents store.now) pid }
+    ensures there { IsFalse result → IsTrue (is_some (at (S.contents store.now) pid)) }
 {
     let is_due = signal_due(store, pid).is_some();
     let Some(process) = store.get(pid) else {

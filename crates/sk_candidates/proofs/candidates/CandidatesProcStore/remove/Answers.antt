@@ -1,12 +1,18 @@
 use Rattle.std.proofs.Common.{sym, subst}
-use Rattle.sk_candidates.specs.Noting.{IsNoted}
-use Rattle.sk_candidates.proofs.Changing.{Notes, noted_removed}
+use Rattle.sk_world.specs.World.{stored}
+use Rattle.std.specs.Prelude.{None}
+use Rattle.sk_candidates.specs.Noting.{OthersAreThere, IsNoted, Notes}
+use Rattle.sk_candidates.proofs.Changing.{noted_removed}
 use Rattle.sk_candidates.proofs.candidates.CandidatesProcStore.remove.Goals as goal
 
 pub invariant_of-self : goal.invariant_of-self
 invariant_of-self g c =
     let w = g.S.ProcStore.contents c.self.inside.store in
-    let parent = c.parent_of-parent.result in
-    subst (λ v. IsNoted v c.note.new.noted parent) (sym c.remove.ensures.rest)
-    (noted_removed w c.self.invariant.nobody c.settle.new.noted c.settle.ensures c.note.new.noted c.args.pid parent
-    (subst (λ k. Notes k c.settle.new.noted c.note.new.noted) c.parent_of-parent.ensures c.note.ensures))
+    let pid = c.args.pid in
+    let same = c.parent_of-parent.ensures in
+    subst (λ v. IsNoted v c.forget.new.noted c.parent_of-parent.result) (sym c.remove.ensures.rest)
+    (subst (IsNoted (stored w pid None) c.forget.new.noted) (sym same)
+    (noted_removed w c.self.invariant.nobody c.settle.new.noted c.settle.ensures.rest c.note.new.noted c.forget.new.noted pid
+    (subst (OthersAreThere w c.settle.new.noted) same c.settle.ensures.there)
+    (subst (λ k. Notes k c.settle.new.noted c.note.new.noted) same c.note.ensures)
+    c.forget.ensures))
