@@ -20,8 +20,8 @@ use Rattle.sk_world.proofs.Stored.{everywhere, at_here, at_other}
 use Rattle.sk_numbers.specs.Numbers.{contains}
 use Rattle.sk_world.specs.declared.process.TheConstants.{LAST_PID}
 use Rattle.sk_candidates.proofs.Idle.{unready_as}
-use Rattle.sk_candidates.specs.Noting.{AllRest, OthersAreThere, IsNoted, Notes, Forgets, LooksAt}
-use Rattle.sk_candidates.specs.Resting.{has_tidings, is_news, IsStillAsking, KeepsWaiting, RestsBy, RestsAs, Rests}
+use Rattle.sk_candidates.specs.views.Noting.{AllRest, OthersAreThere, IsNoted, Notes, Forgets, LooksAt}
+use Rattle.sk_candidates.specs.views.Resting.{has_tidings, is_news, IsStillAsking, KeepsWaiting, RestsBy, RestsAs, Rests}
 
 -- in another world, where it goes on asking whatever it asked
 module _ (w now : World) (pid : ℕ) (asks : (request : Request) → IsStillAsking w pid request → IsStillAsking now pid request) where

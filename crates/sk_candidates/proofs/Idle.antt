@@ -18,7 +18,7 @@ use Rattle.sk_world.specs.Waits.{is_asked_for, is_match, is_ready, status_of_bod
 use Rattle.sk_world.proofs.Walks.{any_here, none_any}
 use Rattle.sk_machine.specs.Delivering.{signal_for, signal_due}
 use Rattle.sk_machine.specs.Turns.{wait_ends, goes_on, is_runnable}
-use Rattle.sk_candidates.specs.Resting.{is_untold, has_tidings, is_news, KeepsWaiting, RestsBy, RestsAs, Rests}
+use Rattle.sk_candidates.specs.views.Resting.{is_untold, has_tidings, is_news, KeepsWaiting, RestsBy, RestsAs, Rests}
 
 and_none : (b : Bool) → (b && false) ≡ false
 and_none true = refl

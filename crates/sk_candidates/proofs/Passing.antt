@@ -15,8 +15,8 @@ use Rattle.sk_world.proofs.Walks.{first_here, none_first}
 use Rattle.sk_machine.specs.Turns.{goes_on, is_runnable}
 use Rattle.sk_session.proofs.Walking.{nobody_at_0}
 use Rattle.sk_machine.specs.Delivering.{signal_due}
-use Rattle.sk_candidates.specs.Resting.{is_news}
-use Rattle.sk_candidates.specs.Noting.{OthersRest, PassesOver}
+use Rattle.sk_candidates.specs.views.Resting.{is_news}
+use Rattle.sk_candidates.specs.views.Noting.{OthersRest, PassesOver}
 use Rattle.sk_candidates.proofs.Idle.{cannot_run}
 
 and_none : (b : Bool) → (b && false) ≡ false

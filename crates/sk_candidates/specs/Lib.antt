@@ -1,2 +1,1 @@
-pub mod Resting
-pub mod Noting
+pub mod views

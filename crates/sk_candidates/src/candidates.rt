@@ -5,7 +5,7 @@ ghost use Rattle.sk_world.specs.Processes.{pids};
 ghost use Rattle.sk_world.specs.World.{at, parent_of};
 ghost use Rattle.sk_world.specs.Rules.{IsWorld};
 ghost use Rattle.sk_machine.specs.Turns.{is_runnable, next_of};
-ghost use Rattle.sk_candidates.specs.Noting.{AllRest, OthersRest, OthersAreThere, Notes, Forgets, LooksAt, PassesOver};
+ghost use Rattle.sk_candidates.specs.views.Noting.{AllRest, OthersRest, OthersAreThere, Notes, Forgets, LooksAt, PassesOver};
 
 use crate::resting::{hearer, rests};
 use sk_numbers::NumberSet;
@@ -29,7 +29,7 @@ pub struct Candidates<S: ProcStore> {
 impl<S: ProcStore> Model for Candidates<S> {
     ghost use Rattle.sk_world.specs.World.{World};
     ghost use Rattle.sk_world.specs.views.WorldCode.{world_code};
-    ghost use Rattle.sk_candidates.specs.Noting.{IsNoted};
+    ghost use Rattle.sk_candidates.specs.views.Noting.{IsNoted};
 
     ghost Value = { World };
 

@@ -2,7 +2,7 @@ ghost use Rattle.std.specs.Prelude.{◌≡◌, ℕ, None, Some, IsTrue, IsFalse}
 ghost use Rattle.std.specs.Option.{is_some};
 ghost use Rattle.sk_world.specs.World.{at};
 ghost use Rattle.sk_world.specs.Waits.{is_asked_for, status_of_note, status_of_body};
-ghost use Rattle.sk_candidates.specs.Resting.{has_tidings, is_news, Rests, KeepsWaiting, IsStillAsking};
+ghost use Rattle.sk_candidates.specs.views.Resting.{has_tidings, is_news, Rests, KeepsWaiting, IsStillAsking};
 
 use bitflags::Flags;
 use sk_turns::signal_due;

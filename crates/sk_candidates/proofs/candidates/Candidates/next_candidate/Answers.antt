@@ -1,7 +1,7 @@
 use Rattle.std.proofs.Common.{arith, sym, subst, Some}
 use Rattle.sk_machine.specs.Turns.{is_runnable}
 use Rattle.sk_world.specs.Rules.{IsWorld}
-use Rattle.sk_candidates.specs.Noting.{PassesOver}
+use Rattle.sk_candidates.specs.views.Noting.{PassesOver}
 use Rattle.sk_candidates.proofs.Passing.{to_noted, to_hearer, to_next, behind, nobody_hears}
 use Rattle.sk_candidates.proofs.candidates.Candidates.next_candidate.Goals as goal
 

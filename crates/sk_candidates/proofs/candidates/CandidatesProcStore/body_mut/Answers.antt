@@ -1,6 +1,6 @@
 use Rattle.std.proofs.Common.{◌∙◌, ap, refl, sym, subst}
 use Rattle.sk_world.specs.World.{at, with_body}
-use Rattle.sk_candidates.specs.Noting.{IsNoted}
+use Rattle.sk_candidates.specs.views.Noting.{IsNoted}
 use Rattle.sk_candidates.proofs.Changing.{noted_lent}
 use Rattle.sk_candidates.proofs.candidates.CandidatesProcStore.body_mut.Goals as goal
 

@@ -1,6 +1,6 @@
 use Rattle.std.proofs.Common.{◌≡◌, ◌∙◌, ap, sym, subst, None}
 use Rattle.sk_world.specs.World.{at}
-use Rattle.sk_candidates.specs.Noting.{IsNoted, LooksAt}
+use Rattle.sk_candidates.specs.views.Noting.{IsNoted, LooksAt}
 use Rattle.sk_candidates.proofs.Changing.{nobody_inserted, noted_inserted}
 use Rattle.sk_candidates.proofs.candidates.CandidatesProcStore.insert.Goals as goal
 

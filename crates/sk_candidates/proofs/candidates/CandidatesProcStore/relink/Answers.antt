@@ -1,6 +1,6 @@
 use Rattle.std.proofs.Common.{◌≡◌, sym, subst, None}
 use Rattle.sk_world.specs.World.{at, with_links}
-use Rattle.sk_candidates.specs.Noting.{IsNoted, LooksAt}
+use Rattle.sk_candidates.specs.views.Noting.{IsNoted, LooksAt}
 use Rattle.sk_candidates.proofs.Changing.{nobody_relinked, noted_relinked}
 use Rattle.sk_candidates.proofs.candidates.CandidatesProcStore.relink.Goals as goal
 

@@ -1,7 +1,7 @@
 use Rattle.std.proofs.Common.{sym, subst}
 use Rattle.sk_world.specs.World.{stored}
 use Rattle.std.specs.Prelude.{None}
-use Rattle.sk_candidates.specs.Noting.{OthersAreThere, IsNoted, Notes}
+use Rattle.sk_candidates.specs.views.Noting.{OthersAreThere, IsNoted, Notes}
 use Rattle.sk_candidates.proofs.Changing.{noted_removed}
 use Rattle.sk_candidates.proofs.candidates.CandidatesProcStore.remove.Goals as goal
 

@@ -4,7 +4,7 @@ use Rattle.std.specs.Option.{is_some}
 use Rattle.sk_numbers.specs.Numbers.{contains}
 use Rattle.sk_world.specs.declared.process.TheConstants.{LAST_PID}
 use Rattle.sk_world.specs.World.{World, at}
-use Rattle.sk_candidates.specs.Resting.{is_news, Rests}
+use Rattle.sk_candidates.specs.views.Resting.{is_news, Rests}
 
 -- who is not noted rests
 abbrev pub AllRest : World → List ℕ → Type 0
