@@ -6,7 +6,7 @@ ghost use Rattle.sk_setting.specs.Scenario.{argument_value, child_of, call_of, n
 ghost use Rattle.sk_setting.specs.Reading.{checked, resolved, called};
 ghost use Rattle.sk_setting.specs.declared.fault.TextFault.TheVariants.{Limit};
 ghost use Rattle.sk_scenario.specs.Answers.{Answers, Judges};
-ghost use Rattle.sk_scenario.specs.Views.{argument_seen, call_seen, line_seen, names_seen, known_seen, script_with};
+ghost use Rattle.sk_scenario.specs.views.ScenarioCode.{argument_seen, call_seen, line_seen, names_seen, known_seen, script_with};
 
 use crate::fault::ScenarioFault;
 use crate::line::{Argument, CallLine, ProgramLine};

@@ -7,7 +7,7 @@ ghost use Rattle.sk_asm.specs.declared.fault.AsmFault.TheVariants.{Memory};
 ghost use Rattle.sk_setting.specs.Grammar.{begins_bytes, bytes_of};
 ghost use Rattle.sk_setting.specs.Reading.{Bytes, Code, understood, limited, fault_of, held, coded, decided, grown};
 ghost use Rattle.sk_scenario.specs.Answers.{Answers, Judges};
-ghost use Rattle.sk_scenario.specs.Views.{known_seen, block_seen};
+ghost use Rattle.sk_scenario.specs.views.ScenarioCode.{known_seen, block_seen};
 
 use crate::fault::ScenarioFault;
 use crate::state::{Block, Names};

@@ -4,7 +4,7 @@ ghost use Rattle.std.specs.Option.{option_map};
 ghost use Rattle.sk_text.specs.Lines.{words_of};
 ghost use Rattle.sk_text.specs.Numbers.{up_to};
 ghost use Rattle.sk_setting.specs.Grammar.{only_if_name, only_name, setuid_with, setuid_of, owned, program_by, program_of, turns_of, headed, heading_in, heading_of, decimal_of, argument_of, next_argument, arguments_of, asked_with, forked, numbered, asked, asked_in, asked_of};
-ghost use Rattle.sk_scenario.specs.Views.{heading, argument_seen, arguments_seen, call_seen, line_seen};
+ghost use Rattle.sk_scenario.specs.views.ScenarioCode.{heading, argument_seen, arguments_seen, call_seen, line_seen};
 
 use crate::line::{Argument, Arguments, CallLine, ProgramLine, TopLine};
 use sk_calls::Syscall;

@@ -7,7 +7,7 @@ ghost use Rattle.sk_setting.specs.Faults.{IsFirstFaultOfText};
 ghost use Rattle.sk_setting.specs.declared.fault.TextFault.{TextFault};
 ghost use Rattle.sk_setting.specs.declared.fault.TextFault.TheVariants.{Limit};
 ghost use Rattle.sk_scenario.specs.Answers.{Answers, Finds, IsToldOf, Tells};
-ghost use Rattle.sk_scenario.specs.Views.{gained, names_seen};
+ghost use Rattle.sk_scenario.specs.views.ScenarioCode.{gained, names_seen};
 
 use crate::fault::ScenarioFault;
 use crate::reading::read_lines;

@@ -4,7 +4,7 @@ ghost use Rattle.sk_text.specs.Lines.{lines_of};
 ghost use Rattle.sk_asm.specs.Block.{until_end};
 ghost use Rattle.sk_setting.specs.Reading.{is_open, inside, finished, within, stepped, closed, reading, nothing_yet, Nothing as NoBlock};
 ghost use Rattle.sk_scenario.specs.Answers.{Answers, IsFaultOf, Judges};
-ghost use Rattle.sk_scenario.specs.Views.{known_seen, gained, block_seen};
+ghost use Rattle.sk_scenario.specs.views.ScenarioCode.{known_seen, gained, block_seen};
 
 use crate::calls::{add_call, read_call};
 use crate::fault::ScenarioFault;

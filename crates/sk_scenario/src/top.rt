@@ -7,7 +7,7 @@ ghost use Rattle.sk_setting.specs.Reading.{plain, checked, remarked, given, open
 ghost use Rattle.sk_setting.specs.Scenario.{named_by};
 ghost use Rattle.sk_setting.specs.declared.call.Named.{Named};
 ghost use Rattle.sk_scenario.specs.Answers.{IsFaultOf, Judges};
-ghost use Rattle.sk_scenario.specs.Views.{heading, gained, block_seen, numbered};
+ghost use Rattle.sk_scenario.specs.views.ScenarioCode.{heading, gained, block_seen, numbered};
 
 use crate::fault::ScenarioFault;
 use crate::line::TopLine;

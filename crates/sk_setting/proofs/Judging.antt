@@ -1,11 +1,11 @@
 -- The fault of one step of the reading is what is wrong with its line.
-use Rattle.std.proofs.Common.{◌≡◌, ◌+◌, ◌∙◌, refl, sym, ℕ, List, [], ◌++◌, Option, Some, None, is_some, Result, Ok, Err, Bool, true, false, not, ◌&&◌, cond, length, nat_eq, nat_le, nat_lt, inl, inr, length-append}
+use Rattle.std.proofs.Common.{◌≡◌, ◌+◌, ◌∙◌, refl, sym, ℕ, List, [], ◌∷◌, ◌++◌, Option, Some, None, is_some, Result, Ok, Err, Bool, true, false, not, ◌&&◌, cond, length, nat_eq, nat_le, nat_lt, inl, inr, length-append}
 use Rattle.std.proofs.lemmas.Bool.{cases_Bool}
 use Rattle.std.specs.Option.{option_map_or}
 use Rattle.std.specs.List.{list_all, list_any, filter}
 use Rattle.sk_text.specs.Lines.{words_of, begins_comment, is_printable_byte}
 use Rattle.sk_asm.specs.Block.{is_end, until_end}
-use Rattle.sk_asm.specs.Passes.{assembled_lines}
+use Rattle.sk_asm.specs.Passes.{checked as asm_checked, labelled, assembled_lines}
 use Rattle.sk_setting.specs.declared.call.ScriptCall.{ScriptCall}
 use Rattle.sk_setting.specs.declared.fault.TextFault.{TextFault}
 use Rattle.sk_setting.specs.declared.fault.TextFault.TheVariants.{Line, Unresolved, Limit}
@@ -13,7 +13,7 @@ use Rattle.sk_setting.specs.Grammar.{Silent, Turns, Subreapers, Filter, Program,
 use Rattle.sk_setting.specs.Scenario.{Script, Names, named_by, call_of}
 use Rattle.sk_setting.specs.Reading.{◌>>=◌, with_call, plain, understood, checked, Gained, Open, Nothing, Undecided, Bytes, Code, Calls, remarked, given, opened, started, limited, coded, grown, decided, resolved, called, inside, within, stepped}
 use Rattle.sk_setting.proofs.Steps.{kind}
-use Rattle.sk_setting.specs.Faults.{Wrong, Excess, Malformed, Beyond, Nameless, Place, AtTop, InFilter, InBytes, InCode, InCalls, bytes_given, is_turns, is_subreapers, is_filter, is_program, gives, repeats, exceeds, is_too_long, is_wrong_at_top, is_wrong_in_bytes, is_wrong_in_filter, is_nameless, is_wrong_in_calls, is_wrong, begins_code}
+use Rattle.sk_setting.specs.Faults.{Wrong, Excess, Malformed, Beyond, Nameless, Place, AtTop, InFilter, InBytes, InCode, InCalls, bytes_given, is_turns, is_subreapers, is_filter, is_program, gives, repeats, exceeds, is_too_long, is_wrong_at_top, is_wrong_in_bytes, is_code, is_nameless, is_wrong_in_calls, is_wrong, begins_code}
 
 -- the fault of a step, if it has one
 abbrev pub fault_in : {X : Type 0} → Result X TextFault → Option TextFault
@@ -155,35 +155,34 @@ or_none : (o : Option TextFault) → first_of o None ≡ o
 or_none None = refl
 or_none (Some fault) = refl
 
-module _ (known : Option Names) (n : ℕ) (line : List ℕ) (here : List (List ℕ)) where
-  judged_decided : fault_in (decided known n line here)
-      ≡ first_of (cond (begins_bytes (words_of line) && not (is_some (bytes_of line))) (Some (Line n)) (cond (begins_bytes (words_of line) && nat_lt 32776 (bytes_given line)) (Some (Limit n)) None))
-      (cond (not (begins_comment (words_of line)) && not (begins_bytes (words_of line))) (fault_in (coded known (assembled_lines n here))) None)
+module _ (known : Option Names) (n : ℕ) (line : List ℕ) (rest : List (List ℕ)) where
+  -- what is wrong with the line, if it is no code, or with the block of code that it begins
+  abbrev judged_by : Option TextFault
+  judged_by = first_of (tried known n (λ wrong. not (is_code line) && is_wrong_in_bytes 0 line wrong)) (cond (is_code line) (fault_in (coded known (assembled_lines n (line ∷ rest)))) None)
+
+  judged_good : is_too_long line ≡ false → list_all is_printable_byte line ≡ true → fault_in (decided known n line (line ∷ rest)) ≡ judged_by
   unfolding decided
-  judged_decided = elim (cases_Bool (begins_comment (words_of line))) [
+  judged_good short good = rw (short, good) (elim (cases_Bool (begins_comment (words_of line))) [
     | inl comment ↦
         let nothing : bytes_of line ≡ Some [] = comment_bytes line comment in
-        rw (comment, nothing) (elim (cases_Bool (begins_bytes (words_of line))) [ inl t ↦ rw t refl | inr f ↦ rw f refl ])
+        rw (comment, nothing) refl
     | inr speaks ↦ rw speaks (elim (cases_Bool (begins_bytes (words_of line))) [
-      | inl bytes ↦ rw bytes (judged_bytes_first (bytes_of line))
+      | inl bytes ↦ rw bytes (judged_bytes_said known n [] (bytes_of line) ∙ sym (or_none _))
       | inr code ↦ rw code refl
     ])
-  ]
-    where
-      judged_bytes_first : (o : Option (List ℕ)) → fault_in (understood n o >>= λ bytes. limited n bytes)
-          ≡ first_of (cond (not (is_some o)) (Some (Line n)) (cond (nat_lt 32776 (option_map_or length o 0)) (Some (Limit n)) None)) None
-      judged_bytes_first None = refl
-      judged_bytes_first (Some bytes) = elim (cases_Bool (nat_lt 32776 (length bytes))) [ inl long ↦ rw long refl | inr short ↦ rw short refl ]
+  ])
 
-  judged_filter : fault_in (plain n line >>= λ good. decided known n line here)
-      ≡ first_of (tried known n (is_wrong_in_filter line))
-      (cond (not (begins_comment (words_of line)) && not (begins_bytes (words_of line))) (fault_in (coded known (assembled_lines n here))) None)
-  judged_filter = elim (cases_Bool (is_too_long line)) [
-    | inl long ↦ rw long refl
-    | inr short ↦ rw short (elim (cases_Bool (list_all is_printable_byte line)) [
-      | inr bad ↦ rw bad refl
-      | inl good ↦ rw good judged_decided
-    ])
+  -- a line of code that is too long, or has other bytes, is the fault of its block
+  judged_plain : fault_in (plain n line >>= λ good. decided known n line (line ∷ rest)) ≡ judged_by
+  unfolding coded assembled_lines labelled asm_checked
+  judged_plain = elim (cases_Bool (is_too_long line)) [
+    | inl long ↦ elim (cases_Bool (is_code line)) [ inl code ↦ rw (long, code) refl | inr other ↦ rw (long, other) refl ]
+    | inr short ↦ elim (cases_Bool (list_all is_printable_byte line)) [
+      | inr bad ↦ elim (cases_Bool (is_code line)) [ inl code ↦ rw (short, bad, code) refl | inr other ↦ rw (short, bad, other) refl ]
+      | inl good ↦
+          let decides = rw (short, good) at (judged_good short good) in
+          rw (short, good) decides
+    ]
   ]
 
 -- ---- any line
@@ -206,17 +205,17 @@ pub fault_in_paired : {X : Type 0} {Y : Type 0} (r : Result X TextFault) (f : X 
 fault_in_paired (Ok x) f = refl
 fault_in_paired (Err fault) f = refl
 
-module _ (known : Option Names) (names : Names) (these : AreThese names known) (n : ℕ) (d : Gained) (said : List Heading) (line : List ℕ) (here : List (List ℕ)) where
+module _ (known : Option Names) (names : Names) (these : AreThese names known) (n : ℕ) (d : Gained) (said : List Heading) (line : List ℕ) (rest : List (List ℕ)) where
   abbrev Judged : Open → Type 0
-  Judged block = fault_in (stepped known n d block line here)
-      ≡ first_of (tried known n (is_wrong names (place_of block) said line)) (cond (begins_code (place_of block) line) (fault_in (coded known (assembled_lines n (until_end here)))) None)
+  Judged block = fault_in (stepped known n d block line (line ∷ rest))
+      ≡ first_of (tried known n (is_wrong names (place_of block) said line)) (cond (begins_code (place_of block) line) (fault_in (coded known (assembled_lines n (until_end (line ∷ rest))))) None)
 
   pub judged_line : (block : Open) → Matches d (filters_so_far d block) (programs_so_far d block) said → Judged block
   unfolding stepped within inside
   judged_line Nothing m = judged_top known n d said m line ∙ sym (or_none (tried known n (is_wrong_at_top said line)))
   judged_line Undecided m = elim (cases_Bool (is_end line)) [
     | inl end ↦ rw end refl
-    | inr goes ↦ rw goes (fault_in_paired (plain n line >>= λ good. decided known n line (until_end here)) (λ next. (d, next)) ∙ judged_filter known n line (until_end here))
+    | inr goes ↦ rw goes (fault_in_paired (plain n line >>= λ good. decided known n line (line ∷ until_end rest)) (λ next. (d, next)) ∙ judged_plain known n line (until_end rest))
   ]
   judged_line (Bytes image) m = elim (cases_Bool (is_end line)) [
     | inl end ↦ rw end refl

@@ -13,7 +13,7 @@ use Rattle.sk_setting.specs.declared.fault.TextFault.TheVariants.{Line, Unresolv
 use Rattle.sk_setting.specs.Grammar.{Heading, begins_bytes}
 use Rattle.sk_setting.specs.Scenario.{Names}
 use Rattle.sk_setting.specs.Reading.{◌>>=◌, fault_of, held, coded, Gained, Open, Nothing, Undecided, Bytes, Code, Calls, stepped, closed, reading}
-use Rattle.sk_setting.specs.Faults.{Wrong, Excess, Malformed, Beyond, Nameless, told, Place, AtTop, InFilter, InBytes, InCode, InCalls, is_inside, place_behind, said_behind, is_wrong, begins_code, IsWrongAt, IsWrongCode, IsWrongLine, rank, IsNotAfter}
+use Rattle.sk_setting.specs.Faults.{Wrong, Excess, Malformed, Beyond, Nameless, told, Place, AtTop, InFilter, InBytes, InCode, InCalls, is_inside, place_behind, said_behind, is_wrong_in_bytes, is_code, is_wrong, begins_code, IsWrongAt, IsWrongCode, IsWrongLine, rank, IsNotAfter}
 use Rattle.sk_setting.proofs.CodeLines.{IsWithin, assembled-within}
 use Rattle.sk_setting.proofs.Judging.{fault_in, counts, tried, first_of, AreThese, Matches, place_of, filters_so_far, programs_so_far, judged_line}
 use Rattle.sk_setting.proofs.States.{step_after}
@@ -127,18 +127,6 @@ same_wrong (asm.Label n) m k wrong other h g = (h.0 ∙ sym g.0, h.1 ∙ sym g.1
 same_wrong asm.Memory m k wrong other h g = absurd h
 
 module _ (m : ℕ) (wrong : Wrong) where
-  ranked : (given : Wrong) → wrong ≡ given → 1 ≤ rank given → 1 ≤ rank wrong
-  ranked given e h = rw e h
-
-  wrong_rank : (fault : AsmFault) → IsWrongAt fault m wrong → 1 ≤ rank wrong
-  wrong_rank (asm.Line n) h = ranked Malformed h.1 (omega arith)
-  wrong_rank (asm.Twice n) h = ranked Malformed h.1 (omega arith)
-  wrong_rank (asm.Far n) h = ranked Malformed h.1 (omega arith)
-  wrong_rank (asm.Back n) h = ranked Malformed h.1 (omega arith)
-  wrong_rank (asm.TooLong n) h = ranked Beyond h.1 (omega arith)
-  wrong_rank (asm.Label n) h = ranked Nameless h.1 (omega arith)
-  wrong_rank asm.Memory h = absurd h
-
   wrong_within : (first last : ℕ) (fault : AsmFault) → IsWrongAt fault m wrong → IsWithin first last fault → (first ≤ m) × (m < last)
   wrong_within first last (asm.Line n) h g = let e = h.0 in rw e g
   wrong_within first last (asm.Twice n) h g = let e = h.0 in rw e g
@@ -252,22 +240,17 @@ code_place (InBytes before) line c = absurd (false≢true c)
 code_place InCode line c = absurd (false≢true c)
 code_place (InCalls before) line c = absurd (false≢true c)
 
-is_code_line : (place : Place) (names : Names) (said : List Heading) (line : List ℕ) → begins_code place line ≡ true → (wrong : Wrong) → is_wrong names place said line wrong ≡ true → rank wrong ≤ 1
-is_code_line AtTop names said line c wrong h = absurd (false≢true c)
-is_code_line InFilter names said line c Excess h = omega arith
-is_code_line InFilter names said line c Malformed h = omega arith
-is_code_line InFilter names said line c Beyond h =
-    let code = both_true (not (is_end line)) _ c in
-    let more = both_true _ (not (begins_bytes (words_of line))) code.1 in
-    let wrong = both_true (not (is_end line)) _ h in
-    let bytes = both_true (begins_bytes (words_of line)) _ wrong.1 in
-    let n = more.1 in
-    let b = bytes.0 in
-    absurd (false≢true (rw b at n))
-is_code_line InFilter names said line c Nameless h = absurd (false≢true (both_true (not (is_end line)) false h).1)
-is_code_line (InBytes before) names said line c wrong h = absurd (false≢true c)
-is_code_line InCode names said line c wrong h = absurd (false≢true c)
-is_code_line (InCalls before) names said line c wrong h = absurd (false≢true c)
+-- it is judged with its block, and not by itself
+judged_once : (place : Place) (names : Names) (said : List Heading) (line : List ℕ) → begins_code place line ≡ true → (wrong : Wrong) → is_wrong names place said line wrong ≡ true → ⊥
+judged_once AtTop names said line c wrong h = false≢true c
+judged_once InFilter names said line c wrong h =
+    let code = both_true (not (is_end line)) (is_code line) c in
+    let alone = both_true (not (is_end line)) _ h in
+    let other = both_true (not (is_code line)) (is_wrong_in_bytes 0 line wrong) alone.1 in
+    false≢true (sym (not_true (is_code line) other.0) ∙ code.1)
+judged_once (InBytes before) names said line c wrong h = false≢true c
+judged_once InCode names said line c wrong h = false≢true c
+judged_once (InCalls before) names said line c wrong h = false≢true c
 
 module _ (known : Option Names) (names : Names) (n : ℕ) (place : Place) (said : List Heading) (line : List ℕ) (lines : List (List ℕ)) where
   -- the line is not wrong, nor does a block of code that is begin with it
@@ -287,11 +270,7 @@ module _ (known : Option Names) (names : Names) (n : ℕ) (place : Place) (said 
     where
       others : (found : IsTried known n (is_wrong names place said line) fault) → (k : ℕ) (other : Wrong) → counts known other ≡ true → IsWrongLine names place said n (line ∷ lines) k other → IsNotAfter n found.wrong k other
       others found k other counted (inl h) = inr (sym h.1, found.first other h.0)
-      others found k other counted (inr (inl h)) =
-          let at = code_lines n (until_end (line ∷ lines)) k other h.1 in
-          let low = is_code_line place names said line h.0 found.wrong found.is in
-          let high = wrong_rank k other h.1.0 h.1.2 in
-          elim (cases_lt n k) [ inl less ↦ inl less | inr more ↦ let from = at.0 in inr (omega (arith, from, more), omega (arith, low, high)) ]
+      others found k other counted (inr (inl h)) = absurd (judged_once place names said line h.0 found.wrong found.is)
       others found k other counted (inr (inr h)) = let from = later names (place_behind place line) (said_behind place said line) (n + 1) lines k other h in inl (omega (arith, from))
 
   -- the block of code that begins with it is
@@ -382,9 +361,9 @@ judged known names these n d block said (line ∷ lines) m =
         → Verdict known names (place_of next.1) (said_behind (place_of block) said line) (n + 1) lines (reading known (n + 1) next.0 next.1 lines))
         → (r : Result (Gained × Open) TextFault) → stepped known n d block line (line ∷ lines) ≡ r
         → Verdict known names (place_of block) said n (line ∷ lines) (r >>= λ next. reading known (n + 1) next.0 next.1 lines)
-    go rest (Err fault) is = fails_here known names n (place_of block) said line lines fault (sym (judged_line known names these n d said line (line ∷ lines) block m) ∙ ap fault_in is)
+    go rest (Err fault) is = fails_here known names n (place_of block) said line lines fault (sym (judged_line known names these n d said line lines block m) ∙ ap fault_in is)
     go rest (Ok next) is =
-        let clean = goes_on_here known names n (place_of block) said line lines (sym (judged_line known names these n d said line (line ∷ lines) block m) ∙ ap fault_in is) in
+        let clean = goes_on_here known names n (place_of block) said line lines (sym (judged_line known names these n d said line lines block m) ∙ ap fault_in is) in
         let after = step_after known n d said line (line ∷ lines) next block is m in
         behind clean after.place (reading known (n + 1) next.0 next.1 lines) (rest next after.matches)
       where

@@ -148,12 +148,9 @@ is_wrong_in_bytes before line Malformed = is_unprintable line || not (is_some (b
 is_wrong_in_bytes before line Beyond = nat_lt longest_image (before + bytes_given line)
 is_wrong_in_bytes before line Nameless = false
 
--- a line of assembler text is judged with its block
-abbrev pub is_wrong_in_filter : List ℕ → Wrong → Bool
-is_wrong_in_filter line Excess = is_too_long line
-is_wrong_in_filter line Malformed = is_unprintable line || (begins_bytes (words_of line) && not (is_some (bytes_of line)))
-is_wrong_in_filter line Beyond = begins_bytes (words_of line) && nat_lt longest_image (bytes_given line)
-is_wrong_in_filter line Nameless = false
+-- a line that says something, and is no bytes: the block is one of assembler lines, which are judged together
+abbrev pub is_code : List ℕ → Bool
+is_code line = not (begins_comment (words_of line)) && not (begins_bytes (words_of line))
 
 -- a name of the call is not given, or to a filter where a program is wanted
 abbrev pub is_nameless : Names → Option (Option Asked) → Bool
@@ -170,7 +167,7 @@ is_wrong_in_calls names before line Nameless = is_nameless names (asked_of line)
 
 abbrev pub is_wrong : Names → Place → List Heading → List ℕ → Wrong → Bool
 is_wrong names AtTop said line wrong = is_wrong_at_top said line wrong
-is_wrong names InFilter said line wrong = not (is_end line) && is_wrong_in_filter line wrong
+is_wrong names InFilter said line wrong = not (is_end line) && (not (is_code line) && is_wrong_in_bytes 0 line wrong)
 is_wrong names (InBytes before) said line wrong = not (is_end line) && is_wrong_in_bytes before line wrong
 is_wrong names InCode said line wrong = false
 is_wrong names (InCalls before) said line wrong = not (is_end line) && is_wrong_in_calls names before line wrong
@@ -180,7 +177,7 @@ is_wrong names (InCalls before) said line wrong = not (is_end line) && is_wrong_
 -- its first line that says something
 abbrev pub begins_code : Place → List ℕ → Bool
 begins_code AtTop line = false
-begins_code InFilter line = not (is_end line) && (not (begins_comment (words_of line)) && not (begins_bytes (words_of line)))
+begins_code InFilter line = not (is_end line) && is_code line
 begins_code (InBytes before) line = false
 begins_code InCode line = false
 begins_code (InCalls before) line = false

@@ -5,10 +5,10 @@ use Rattle.std.specs.List.{starts_with}
 use Rattle.std.specs.Str.{bytes_eq}
 use Rattle.sk_text.specs.Hexadecimal.{hex_bytes}
 use Rattle.sk_text.specs.Lines.{words_of, begins_comment}
-use Rattle.sk_text.specs.Numbers.{number_of as number_in, up_to}
+use Rattle.sk_text.specs.Numbers.{number_of, up_to}
 use Rattle.sk_text.specs.Words.{is_name, none_of, one_of}
 use Rattle.sk_calls.specs.declared.syscall.Syscall.TheVariants as syscall
-use Rattle.sk_calls.specs.Syscalls.{number_of, name_of, syscall_named}
+use Rattle.sk_calls.specs.Syscalls.{number_of as number_of_call, name_of, syscall_named}
 use Rattle.sk_asm.specs.Grammar.{◌>>=◌}
 
 -- ---- words
@@ -51,7 +51,7 @@ setuid_of (word ∷ words) = setuid_with word words
 -- an owner is below 4294967295
 abbrev pub owned : List ℕ → List (List ℕ) → Option Heading
 owned name [] = None
-owned name (word ∷ words) = up_to (2 ^ 32 - 2) (number_in word) >>= λ owner. setuid_of words >>= λ setuid. Some (Opens (Program name owner setuid))
+owned name (word ∷ words) = up_to (2 ^ 32 - 2) (number_of word) >>= λ owner. setuid_of words >>= λ setuid. Some (Opens (Program name owner setuid))
 
 abbrev pub program_by : List ℕ → List (List ℕ) → Option Heading
 program_by name [] = Some (Opens (Program name 0 false))
@@ -64,7 +64,7 @@ program_of [] = None
 program_of (word ∷ words) = only_if_name word >>= λ name. program_by name words
 
 abbrev pub turns_of : List (List ℕ) → Option Heading
-turns_of words = one_of words >>= λ word. number_in word >>= λ n. Some (Alone (Turns n))
+turns_of words = one_of words >>= λ word. number_of word >>= λ n. Some (Alone (Turns n))
 
 unfoldable pub headed : List ℕ → List (List ℕ) → Option Heading
 headed first words =
@@ -113,7 +113,7 @@ pub record Asked : Type 0 where
 
 -- a decimal number
 unfoldable pub decimal_of : List ℕ → Option ℕ
-decimal_of word = if starts_with nat_eq word (codes "0x") then None else number_in word
+decimal_of word = if starts_with nat_eq word (codes "0x") then None else number_of word
 
 -- `@name`, `&name`, `-N` in two's complement, or a number below 2^64
 unfoldable pub argument_of : List ℕ → Option Argument
@@ -121,7 +121,7 @@ argument_of word =
     if starts_with nat_eq word (codes "@") then (only_if_name (drop 1 word) >>= λ name. Some (NumberOf name))
     else if starts_with nat_eq word (codes "&") then (only_if_name (drop 1 word) >>= λ name. Some (HandlerOf name))
     else if starts_with nat_eq word (codes "-") then (up_to (2 ^ 63) (decimal_of (drop 1 word)) >>= λ n. Some (Plain ((2 ^ 64 - n) % 2 ^ 64)))
-    else (up_to (2 ^ 64 - 1) (number_in word) >>= λ n. Some (Plain n))
+    else (up_to (2 ^ 64 - 1) (number_of word) >>= λ n. Some (Plain n))
 
 -- the first argument, which is 0 where it is absent
 abbrev pub next_argument : List (List ℕ) → Option Argument
@@ -138,19 +138,19 @@ asked_with nr words = arguments_of 6 words >>= λ arguments. Some (record { nr =
 
 -- `fork` alone, or with the program that the child goes on with; its registers are 0
 abbrev pub forked : List (List ℕ) → Option Asked
-forked [] = Some (record { nr = number_of syscall.Fork; arguments = replicate 6 (Plain 0); child = None })
-forked (word ∷ words) = none_of words >>= λ none. only_if_name word >>= λ name. Some (record { nr = number_of syscall.Fork; arguments = replicate 6 (Plain 0); child = Some name })
+forked [] = Some (record { nr = number_of_call syscall.Fork; arguments = replicate 6 (Plain 0); child = None })
+forked (word ∷ words) = none_of words >>= λ none. only_if_name word >>= λ name. Some (record { nr = number_of_call syscall.Fork; arguments = replicate 6 (Plain 0); child = Some name })
 
 -- `call NR`, and arguments
 abbrev pub numbered : List (List ℕ) → Option Asked
 numbered [] = None
-numbered (word ∷ words) = up_to (2 ^ 32 - 1) (number_in word) >>= λ nr. asked_with nr words
+numbered (word ∷ words) = up_to (2 ^ 32 - 1) (number_of word) >>= λ nr. asked_with nr words
 
 unfoldable pub asked : List ℕ → List (List ℕ) → Option Asked
 asked first words =
     if bytes_eq first (codes "call") then numbered words
     else if bytes_eq first (name_of syscall.Fork) then forked words
-    else (syscall_named first >>= λ call. asked_with (number_of call) words)
+    else (syscall_named first >>= λ call. asked_with (number_of_call call) words)
 
 abbrev pub asked_in : List (List ℕ) → Option (Option Asked)
 asked_in [] = None

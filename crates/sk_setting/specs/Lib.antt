@@ -1,5 +1,5 @@
 pub mod Faults
 pub mod Grammar
 pub mod Reading
-pub mod Rows
 pub mod Scenario
+pub mod laws

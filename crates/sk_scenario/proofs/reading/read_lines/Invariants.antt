@@ -1,7 +1,7 @@
 use Rattle.std.proofs.Common.{◌≡◌, ◌≤◌, ◌+◌, length}
 use Rattle.sk_text.specs.Lines.{lines_of}
 use Rattle.sk_setting.specs.Reading.{reading, nothing_yet, Nothing}
-use Rattle.sk_scenario.specs.Views.{gained, known_seen, block_seen}
+use Rattle.sk_scenario.specs.views.ScenarioCode.{gained, known_seen, block_seen}
 use Rattle.sk_scenario.proofs.reading.read_lines.Given as goal
 
 -- the lines that are left give with what was gained what all lines give; the text ahead has these lines too

@@ -65,3 +65,32 @@ bytes = codes "filter f" ∷ codes " ; bytes" ∷ codes "bytes 0 600" ∷ codes 
 
 abbrev pub bytes_setting : Setting
 bytes_setting = record { turns = 7; subreapers = true; filters = (6 ∷ 0 ∷ 255 ∷ []) ∷ []; programs = [] }
+
+-- a program with one line
+abbrev pub program_with : List ℕ → List (List ℕ)
+program_with line = codes "program a" ∷ line ∷ codes "end" ∷ []
+
+-- programs by their first lines alone: the greatest owner, and the set-user-ID bit without an owner
+abbrev pub headings : List (List ℕ)
+headings = codes "program a owner 4294967294" ∷ codes "end" ∷ codes "program b setuid" ∷ codes "end" ∷ []
+
+abbrev pub headings_setting : Setting
+headings_setting = setting_with [] (record { owner = 2 ^ 32 - 2; setuid = false; calls = [] } ∷ record { owner = 0; setuid = true; calls = [] } ∷ [])
+
+-- the greatest numbers that there is room for, and the most arguments
+abbrev pub greatest : List (List ℕ)
+greatest = codes "program a" ∷ codes "kill 18446744073709551615 -9223372036854775808" ∷ codes "call 4294967295 1 2 3 4 5 6" ∷ codes "end" ∷ []
+
+abbrev pub greatest_setting : Setting
+greatest_setting = setting_with [] (script (call 62 ((2 ^ 64 - 1) ∷ (2 ^ 63) ∷ 0 ∷ 0 ∷ 0 ∷ 0 ∷ []) None ∷ call (2 ^ 32 - 1) (1 ∷ 2 ∷ 3 ∷ 4 ∷ 5 ∷ 6 ∷ []) None ∷ []) ∷ [])
+
+-- a filter's block of bytes: 264 lines of 124 bytes, and this one
+abbrev pub long_image : List ℕ → List (List ℕ)
+long_image last = codes "filter f" ∷ replicate 264 (codes "bytes " ++ replicate 248 48) ++ last ∷ codes "end" ∷ []
+
+-- 40 bytes more make 32776, and 41 make one too many
+abbrev pub longest : List (List ℕ)
+longest = long_image (codes "bytes " ++ replicate 80 48)
+
+abbrev pub too_long : List (List ℕ)
+too_long = long_image (codes "bytes " ++ replicate 82 48)
