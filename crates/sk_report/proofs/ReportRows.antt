@@ -5,14 +5,14 @@ use Rattle.sk_insn.specs.Actions.{action_of}
 use Rattle.sk_insn.specs.Operations.{operation_of}
 use Rattle.sk_check.specs.FirstFault.{first_fault}
 use Rattle.sk_signal.specs.Sets.{empty, contains, insert, retain, remove, difference, union, from_list}
-use Rattle.sk_signal.specs.SignalSet.{lowest, signals_to, signals_of}
+use Rattle.sk_signal.specs.SignalSet.{lowest, signals_to, signals_of, number_of as bits_of}
 use Rattle.sk_signal.specs.Signalling.{opening as no_signal}
 use Rattle.sk_world.specs.Numbers.{fresh_of}
 use Rattle.sk_world.specs.Subreapers.{ancestors, new_parent}
 use Rattle.sk_machine.specs.Machine.{step_of}
 use Rattle.sk_report.specs.Text.{turn_text, happening_text, verdict_text, outcome_text, effect_text, end_text, call_name, hex}
 use Rattle.sk_report.specs.Report.{report_from}
-use Rattle.sk_report.specs.Rows.{ReportsRefused, ReportsTrapped, ReportsNothing, ReportsIdle, ReportsLimit, ReportsRefusedEnd, ReportsRefusedReturn, ReportsPositions, ReportsExec, ReportsStop, ReportsNumber, ReportsTrappedEnd, ReportsZero, ReportsReturnAlone, ReportsKept, ReportsKills, ReportsOrphan, WorkedReports}
+use Rattle.sk_report.specs.laws.WorkedReports.{ReportsRefused, ReportsTrapped, ReportsNothing, ReportsIdle, ReportsLimit, ReportsRefusedEnd, ReportsRefusedReturn, ReportsPositions, ReportsExec, ReportsStop, ReportsNumber, ReportsTrappedEnd, ReportsZero, ReportsReturnAlone, ReportsKept, ReportsKills, ReportsOrphan, ReportsPlainFork, ReportsForkInHandler, ReportsNamedForkInHandler, ReportsExecInHandler, ReportsInterrupted, ReportsUndeclared, ReportsSet, ReportsLastTurn, ReportsAddress, WorkedReports}
 
 reports_refused : ReportsRefused
 unfolding digits report_from turn_text happening_text verdict_text outcome_text effect_text end_text call_name hex step_of fresh_of new_parent ancestors action_of operation_of first_fault empty contains insert retain remove difference union from_list lowest signals_to signals_of no_signal
@@ -82,6 +82,42 @@ reports_orphan : ReportsOrphan
 unfolding digits report_from turn_text happening_text verdict_text outcome_text effect_text end_text call_name hex step_of fresh_of new_parent ancestors action_of operation_of first_fault empty contains insert retain remove difference union from_list lowest signals_to signals_of no_signal
 reports_orphan = refl
 
+reports_plain_fork : ReportsPlainFork
+unfolding digits report_from turn_text happening_text verdict_text outcome_text effect_text end_text call_name hex step_of fresh_of new_parent ancestors action_of operation_of first_fault empty contains insert retain remove difference union from_list lowest signals_to signals_of no_signal
+reports_plain_fork = refl
+
+reports_fork_in_handler : ReportsForkInHandler
+unfolding digits report_from turn_text happening_text verdict_text outcome_text effect_text end_text call_name hex step_of fresh_of new_parent ancestors action_of operation_of first_fault empty contains insert retain remove difference union from_list lowest signals_to signals_of no_signal
+reports_fork_in_handler = refl
+
+reports_named_fork_in_handler : ReportsNamedForkInHandler
+unfolding digits report_from turn_text happening_text verdict_text outcome_text effect_text end_text call_name hex step_of fresh_of new_parent ancestors action_of operation_of first_fault empty contains insert retain remove difference union from_list lowest signals_to signals_of no_signal
+reports_named_fork_in_handler = refl
+
+reports_exec_in_handler : ReportsExecInHandler
+unfolding digits report_from turn_text happening_text verdict_text outcome_text effect_text end_text call_name hex step_of fresh_of new_parent ancestors action_of operation_of first_fault empty contains insert retain remove difference union from_list lowest signals_to signals_of no_signal
+reports_exec_in_handler = refl
+
+reports_interrupted : ReportsInterrupted
+unfolding digits report_from turn_text happening_text verdict_text outcome_text effect_text end_text call_name hex step_of fresh_of new_parent ancestors action_of operation_of first_fault empty contains insert retain remove difference union from_list lowest signals_to signals_of no_signal
+reports_interrupted = refl
+
+reports_undeclared : ReportsUndeclared
+unfolding digits report_from turn_text happening_text verdict_text outcome_text effect_text end_text call_name hex step_of fresh_of new_parent ancestors action_of operation_of first_fault empty contains insert retain remove difference union from_list lowest signals_to signals_of no_signal
+reports_undeclared = refl
+
+reports_set : ReportsSet
+unfolding digits report_from turn_text happening_text verdict_text outcome_text effect_text end_text call_name hex step_of fresh_of new_parent ancestors action_of operation_of first_fault empty contains insert retain remove difference union from_list lowest signals_to signals_of no_signal bits_of
+reports_set = refl
+
+reports_last_turn : ReportsLastTurn
+unfolding digits report_from turn_text happening_text verdict_text outcome_text effect_text end_text call_name hex step_of fresh_of new_parent ancestors action_of operation_of first_fault empty contains insert retain remove difference union from_list lowest signals_to signals_of no_signal
+reports_last_turn = refl
+
+reports_address : ReportsAddress
+unfolding digits report_from turn_text happening_text verdict_text outcome_text effect_text end_text call_name hex step_of fresh_of new_parent ancestors action_of operation_of first_fault empty contains insert retain remove difference union from_list lowest signals_to signals_of no_signal
+reports_address = refl
+
 pub worked_reports : WorkedReports
 worked_reports = record {
   refused = reports_refused;
@@ -101,4 +137,13 @@ worked_reports = record {
   kept = reports_kept;
   kills = reports_kills;
   orphan = reports_orphan;
+  plain_fork = reports_plain_fork;
+  fork_in_handler = reports_fork_in_handler;
+  named_fork_in_handler = reports_named_fork_in_handler;
+  exec_in_handler = reports_exec_in_handler;
+  interrupted = reports_interrupted;
+  undeclared = reports_undeclared;
+  set = reports_set;
+  last_turn = reports_last_turn;
+  address = reports_address;
 }

@@ -2,4 +2,4 @@ pub mod Levels
 pub mod Scheduling
 pub mod Text
 pub mod Report
-pub mod Rows
+pub mod laws

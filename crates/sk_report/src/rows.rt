@@ -1,5 +1,5 @@
 //! Reports that were worked out by hand. Nothing here does anything when it runs.
-ghost use Rattle.sk_report.specs.Rows.{WorkedReports};
+ghost use Rattle.sk_report.specs.laws.WorkedReports.{WorkedReports};
 
 /// The definitions give the reports that were worked out.
 #[tactic(auto, using(crate::proofs::ReportRows::worked_reports))]

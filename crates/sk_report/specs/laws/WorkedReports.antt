@@ -7,7 +7,7 @@ use Rattle.sk_calls.specs.declared.syscall.Syscall.TheVariants as syscall
 use Rattle.sk_calls.specs.Syscalls.{number_of}
 use Rattle.sk_setting.specs.declared.call.ScriptCall.{ScriptCall}
 use Rattle.sk_setting.specs.Scenario.{Setting}
-use Rattle.sk_setting.specs.Rows.{setting_with, script, attaching_setting}
+use Rattle.sk_setting.specs.laws.WorkedScenarios.{setting_with, script, attaching_setting}
 use Rattle.sk_report.specs.declared.turn.Turn.TheVariants as turn
 use Rattle.sk_report.specs.Text.{turn_text}
 use Rattle.sk_report.specs.Report.{report_of}
@@ -293,6 +293,116 @@ ReportsOrphan = Reports (setting_with [] (
     ∷ codes "end halt 0x0000"
     ∷ [])
 
+-- fork(2) without a name: the child goes on behind the call, as its parent does
+abbrev pub ReportsPlainFork : Type 0
+ReportsPlainFork = Reports (setting_with [] (script (plain syscall.Fork ∷ plain syscall.Getpid ∷ with3 syscall.Wait4 (minus 1) 0 0 ∷ []) ∷ [])) (
+    codes "1 1 call fork allow/0 2"
+    ∷ codes "2 2 call getpid allow/0 2"
+    ∷ codes "3 1 call getpid allow/0 1"
+    ∷ codes "4 2 call wait4 allow/0 -10"
+    ∷ codes "5 1 call wait4 allow/0 waits"
+    ∷ codes "6 2 call exit_group allow/0 ended 0x0000"
+    ∷ codes "7 1 resume told 2 0x0000"
+    ∷ codes "8 1 call exit_group allow/0 ended 0x0000"
+    ∷ codes "end halt 0x0000"
+    ∷ [])
+
+-- a child of a handler returns from it too
+abbrev pub ReportsForkInHandler : Type 0
+ReportsForkInHandler = Reports (setting_with [] (
+    script (with3 syscall.RtSigaction 10 3 0 ∷ with2 syscall.Kill 1 10 ∷ []) ∷ script (plain syscall.Fork ∷ []) ∷ [])) (
+    codes "1 1 call rt_sigaction allow/0 0"
+    ∷ codes "2 1 call kill allow/0 0"
+    ∷ codes "3 1 signal 10 handler 1"
+    ∷ codes "4 1 call fork allow/0 2"
+    ∷ codes "5 2 call rt_sigreturn allow/0 0"
+    ∷ codes "6 1 call rt_sigreturn allow/0 0"
+    ∷ codes "7 2 call exit_group allow/0 ended 0x0000"
+    ∷ codes "8 1 call exit_group allow/0 ended 0x0000"
+    ∷ codes "end halt 0x0000"
+    ∷ [])
+
+-- so does one that begins with a program of its own, when that is at its end
+abbrev pub ReportsNamedForkInHandler : Type 0
+ReportsNamedForkInHandler = Reports (setting_with [] (
+    script (with3 syscall.RtSigaction 10 3 0 ∷ with2 syscall.Kill 1 10 ∷ [])
+    ∷ script (fork_to 2 ∷ [])
+    ∷ script (plain syscall.Getppid ∷ [])
+    ∷ [])) (
+    codes "1 1 call rt_sigaction allow/0 0"
+    ∷ codes "2 1 call kill allow/0 0"
+    ∷ codes "3 1 signal 10 handler 1"
+    ∷ codes "4 1 call fork allow/0 2"
+    ∷ codes "5 2 call getppid allow/0 1"
+    ∷ codes "6 1 call rt_sigreturn allow/0 0"
+    ∷ codes "7 2 call rt_sigreturn allow/0 0"
+    ∷ codes "8 1 call exit_group allow/0 ended 0x0000"
+    ∷ codes "end halt 0x0000"
+    ∷ [])
+
+-- execve(2) in a handler leaves one level, which has nothing to return to
+abbrev pub ReportsExecInHandler : Type 0
+ReportsExecInHandler = Reports (setting_with [] (
+    script (with3 syscall.RtSigaction 10 3 0 ∷ with2 syscall.Kill 1 10 ∷ []) ∷ script (with1 syscall.Execve 2 ∷ []) ∷ script [] ∷ [])) (
+    codes "1 1 call rt_sigaction allow/0 0"
+    ∷ codes "2 1 call kill allow/0 0"
+    ∷ codes "3 1 signal 10 handler 1"
+    ∷ codes "4 1 call execve allow/0 executed"
+    ∷ codes "5 1 call exit_group allow/0 ended 0x0000"
+    ∷ codes "end halt 0x0000"
+    ∷ [])
+
+-- a handler ends pause(2), which is behind the process then
+abbrev pub ReportsInterrupted : Type 0
+ReportsInterrupted = Reports (setting_with [] (
+    script (with3 syscall.RtSigaction 10 4 0 ∷ fork_to 1 ∷ plain syscall.Pause ∷ plain syscall.Getpid ∷ [])
+    ∷ script (with2 syscall.Kill 1 0 ∷ with2 syscall.Kill 1 10 ∷ [])
+    ∷ script []
+    ∷ [])) (
+    codes "1 1 call rt_sigaction allow/0 0"
+    ∷ codes "2 1 call fork allow/0 2"
+    ∷ codes "3 2 call kill allow/0 0"
+    ∷ codes "4 1 call pause allow/0 waits"
+    ∷ codes "5 2 call kill allow/0 0"
+    ∷ codes "6 1 signal 10 handler 2 eintr"
+    ∷ codes "7 2 call exit_group allow/0 ended 0x0000"
+    ∷ codes "8 1 call rt_sigreturn allow/0 0"
+    ∷ codes "9 1 call getpid allow/0 1"
+    ∷ codes "10 1 call exit_group allow/0 ended 0x0000"
+    ∷ codes "end halt 0x0000"
+    ∷ [])
+
+-- a handler that is not declared has no calls, and its return is a turn
+abbrev pub ReportsUndeclared : Type 0
+ReportsUndeclared = Reports (setting_with [] (script (with3 syscall.RtSigaction 10 9 0 ∷ with2 syscall.Kill 1 10 ∷ []) ∷ [])) (
+    codes "1 1 call rt_sigaction allow/0 0"
+    ∷ codes "2 1 call kill allow/0 0"
+    ∷ codes "3 1 signal 10 handler 7"
+    ∷ codes "4 1 call rt_sigreturn allow/0 0"
+    ∷ codes "5 1 call exit_group allow/0 ended 0x0000"
+    ∷ codes "end halt 0x0000"
+    ∷ [])
+
+-- a set of signals has eight digits
+abbrev pub ReportsSet : Type 0
+ReportsSet = Reports (setting_with [] (script (plain syscall.RtSigpending ∷ []) ∷ [])) (
+    codes "1 1 call rt_sigpending allow/0 set 0x00000000" ∷ codes "2 1 call exit_group allow/0 ended 0x0000" ∷ codes "end halt 0x0000" ∷ [])
+
+-- the system halts in the last turn, which is not the end by the limit
+abbrev pub ReportsLastTurn : Type 0
+ReportsLastTurn = Reports (record { turns = 1; subreapers = false; filters = []; programs = [] }) (codes "1 1 call exit_group allow/0 ended 0x0000" ∷ codes "end halt 0x0000" ∷ [])
+
+-- what filters see as the address has the number of the program: the second one's first call is at 65536
+abbrev pub ReportsAddress : Type 0
+ReportsAddress = Reports (setting_with (image_of (insn 0x20 0 0 8 ∷ insn 0x15 0 1 65536 ∷ insn 0x06 0 0 0x00050001 ∷ insn 0x06 0 0 0x7fff0000 ∷ []) ∷ []) (
+    script (with3 syscall.Seccomp 1 0 0 ∷ with1 syscall.Execve 1 ∷ []) ∷ script (plain syscall.Getpid ∷ []) ∷ [])) (
+    codes "1 1 call seccomp allow/0 0"
+    ∷ codes "2 1 call execve allow/0 executed"
+    ∷ codes "3 1 call getpid errno/1 -1"
+    ∷ codes "4 1 call exit_group allow/0 ended 0x0000"
+    ∷ codes "end halt 0x0000"
+    ∷ [])
+
 -- the definitions give what was worked out
 pub record WorkedReports : Type 0 where
   pub refused : ReportsRefused
@@ -312,3 +422,12 @@ pub record WorkedReports : Type 0 where
   pub kept : ReportsKept
   pub kills : ReportsKills
   pub orphan : ReportsOrphan
+  pub plain_fork : ReportsPlainFork
+  pub fork_in_handler : ReportsForkInHandler
+  pub named_fork_in_handler : ReportsNamedForkInHandler
+  pub exec_in_handler : ReportsExecInHandler
+  pub interrupted : ReportsInterrupted
+  pub undeclared : ReportsUndeclared
+  pub set : ReportsSet
+  pub last_turn : ReportsLastTurn
+  pub address : ReportsAddress
