@@ -16,7 +16,7 @@ use Rattle.sk_machine.specs.Turns.{need_of}
 use Rattle.sk_report.specs.Levels.{Stack, Stacks, first_call, alone, stacks_after}
 use Rattle.sk_report.specs.Scheduling.{Scheduled, mark_of_script, images_of, line_due, event_by, after_turn_by}
 use Rattle.sk_sched.specs.declared.levels.Levels.{Levels}
-use Rattle.sk_sched.specs.Views.{stack_of, stacks_of}
+use Rattle.sk_sched.specs.views.Stacks.{stack_of, stacks_of}
 
 -- a fact that holds anyway
 pub on_err : {X E : Type 0} (r : Result X E) (P : Type 0) → P → OnErr r P

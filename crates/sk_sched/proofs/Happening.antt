@@ -18,7 +18,7 @@ use Rattle.sk_report.specs.declared.turn.Turn.TheVariants as turn
 use Rattle.sk_report.specs.Levels.{Stack}
 use Rattle.sk_report.specs.Scheduling.{Scheduled, opened, line_due, own_event, event_by, event_of, images_of, runner_by, runner_of, stepped_by, turn_by, after_turn_by}
 use Rattle.sk_report.specs.Report.{Report, onto, ended, report_from}
-use Rattle.sk_sched.specs.ReportLaws.{DueIsPossible, EachTurnHappens}
+use Rattle.sk_sched.specs.laws.ReportLaws.{DueIsPossible, EachTurnHappens}
 
 -- an event of this process that meets this need
 record Meets (pid : ℕ) (what : Need) (event : Event) : Type 0 where

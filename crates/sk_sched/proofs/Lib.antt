@@ -2,3 +2,4 @@ pub mod Following
 pub mod Underway
 pub mod Delivering
 pub mod Happening
+pub mod Running

@@ -1,4 +1,3 @@
-pub mod Views
-pub mod State
 pub mod Engine
-pub mod ReportLaws
+pub mod views
+pub mod laws

@@ -26,7 +26,7 @@ pub struct Machine<S: ProcStore> {
 }
 
 impl<S: ProcStore> Machine<S> {
-    ghost use Rattle.sk_sched.specs.State.{setting_of, now_of};
+    ghost use Rattle.sk_sched.specs.views.State.{setting_of, now_of};
 
     /// The machine before the first turn. The scenario is dropped where memory is refused.
     pub fn new(alloc: Global, scenario: Scenario) -> Result<Machine<S>, AllocError>

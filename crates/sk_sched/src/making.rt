@@ -9,7 +9,7 @@ ghost use Rattle.sk_machine.specs.Events.{pid_of};
 ghost use Rattle.sk_machine.specs.declared.event.Event.TheVariants as event;
 ghost use Rattle.sk_report.specs.Levels.{begun, made, delivered, handling, stacked, stacks_after, with_child, script_of_child, pid_in};
 ghost use Rattle.sk_report.specs.Scheduling.{line_due, own_event, event_by, address_of, closing, script_of};
-ghost use Rattle.sk_sched.specs.Views.{stack_of, stacks_of};
+ghost use Rattle.sk_sched.specs.views.Stacks.{stack_of, stacks_of};
 
 use crate::levels::Levels;
 use crate::stacks::{Stacks, put};

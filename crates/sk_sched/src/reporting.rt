@@ -3,7 +3,7 @@ ghost use Rattle.std.specs.Prelude.{◌≡◌, IfOk, IfSome, take};
 ghost use Rattle.sk_ends.specs.Reading.{ConsumesUpTo};
 ghost use Rattle.sk_report.specs.Scheduling.{opened};
 ghost use Rattle.sk_report.specs.Report.{report_of};
-ghost use Rattle.sk_sched.specs.State.{setting_of, now_of};
+ghost use Rattle.sk_sched.specs.views.State.{setting_of, now_of};
 ghost use Rattle.sk_sched.specs.Engine.{Delivers, Writes, CountsReads, CountsWrites};
 
 use crate::fault::EngineFault;

@@ -2,7 +2,7 @@
 ghost use Rattle.std.specs.Prelude.{◌≡◌, ◌+◌, ◌<◌, ◌≤◌, IfOk};
 ghost use Rattle.indexmap.specs.IndexMap.{spare};
 ghost use Rattle.sk_report.specs.Levels.{stacked};
-ghost use Rattle.sk_sched.specs.Views.{stack_of, stacks_of};
+ghost use Rattle.sk_sched.specs.views.Stacks.{stack_of, stacks_of};
 
 use crate::levels::{Levels, at_program};
 use indexmap::IndexMap;

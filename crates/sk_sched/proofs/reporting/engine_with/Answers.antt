@@ -1,7 +1,7 @@
 use Rattle.std.proofs.Common.{sym, subst}
 use Rattle.std.proofs.lemmas.Result.{err_from_is_err_and}
 use Rattle.sk_setting.specs.Scenario.{IsScenarioText}
-use Rattle.sk_sched.specs.State.{setting_of}
+use Rattle.sk_sched.specs.views.State.{setting_of}
 use Rattle.sk_sched.proofs.Delivering.{delivers, refuses}
 use Rattle.sk_sched.proofs.reporting.engine_with.Goals as goal
 

@@ -1,6 +1,6 @@
 use Rattle.std.proofs.Common.{◌∙◌, ap, refl, sym}
 use Rattle.sk_report.specs.Report.{report_of}
-use Rattle.sk_sched.specs.State.{setting_of, now_of}
+use Rattle.sk_sched.specs.views.State.{setting_of, now_of}
 use Rattle.sk_sched.proofs.Underway.{start, begins_text, ends_text, goes_text, fewer}
 use Rattle.sk_sched.proofs.reporting.report.Goals as goal
 

@@ -1,6 +1,6 @@
 use Rattle.std.proofs.Common.{◌≡◌, ◌-◌}
 use Rattle.sk_report.specs.Report.{report_of}
-use Rattle.sk_sched.specs.State.{setting_of, now_of}
+use Rattle.sk_sched.specs.views.State.{setting_of, now_of}
 use Rattle.sk_sched.proofs.Underway.{Underway}
 use Rattle.sk_sched.proofs.reporting.report.Given as goal
 

@@ -1,6 +1,6 @@
 use Rattle.std.proofs.Common.{◌∙◌, ap}
-use Rattle.sk_sched.specs.Views.{stack_of, stacks_of}
-use Rattle.sk_sched.specs.State.{setting_of, now_of}
+use Rattle.sk_sched.specs.views.Stacks.{stack_of, stacks_of}
+use Rattle.sk_sched.specs.views.State.{setting_of, now_of}
 use Rattle.sk_sched.proofs.Following.{on_err, same_entries, same_images, same_now, follows}
 use Rattle.sk_sched.proofs.machine.Machine.turn_by.Goals as goal
 

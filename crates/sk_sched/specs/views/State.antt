@@ -3,7 +3,7 @@ use Rattle.sk_world.specs.declared.store.ProcStore.{Ghosts}
 use Rattle.sk_setting.specs.Scenario.{Setting}
 use Rattle.sk_report.specs.Scheduling.{Scheduled}
 use Rattle.sk_sched.specs.declared.machine.Machine.{Machine}
-use Rattle.sk_sched.specs.Views.{stacks_of}
+use Rattle.sk_sched.specs.views.Stacks.{stacks_of}
 
 abbrev pub setting_of : {S : Type 0} {ghosts : Ghosts S} → Machine S ghosts → Setting
 setting_of m = record { turns = m.turns; subreapers = m.kernel.images.subreapers; filters = m.kernel.images.filters; programs = m.programs.items }
