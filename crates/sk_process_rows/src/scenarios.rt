@@ -56,6 +56,18 @@ fn reads_a_scenario(rt: HostRuntime) -> Result<(), Fail> {
 }
 
 #[test]
+fn reads_the_greatest_numbers(rt: HostRuntime) -> Result<(), Fail> {
+    let text =
+        b"program a owner 4294967294\nkill 18446744073709551615 -9223372036854775808\ncall 4294967295 1 2 3 4 5 6\nend\nprogram b setuid\nend\n";
+    let scenario = read(rt.alloc(), text)?;
+    assert_eq!(rt;
+        told(rt.alloc(), &scenario)?.as_str(),
+        "1000 false; 4294967294 false, 62 18446744073709551615 9223372036854775808, 4294967295 1 2 3 4 5 6; 0 true"
+    );
+    Ok(())
+}
+
+#[test]
 fn tells_the_first_fault(rt: HostRuntime) {
     let spaces = [b' '; 256];
     for (text, fault) in [
@@ -78,6 +90,12 @@ fn tells_the_first_fault(rt: HostRuntime) {
         (b"program a\nfork @a\nend", line(2)),
         (b"program a owner 4294967295\nend", line(1)),
         (b"program a\nkill 0 0 0 0 0 0 0\nend", line(2)),
+        (b"program a setuid x\nend", line(1)),
+        (b"subreapers x", line(1)),
+        (b"program a\nkill 18446744073709551616\nend", line(2)),
+        (b"program a\nkill 1 -9223372036854775809\nend", line(2)),
+        (b"program a\ncall 4294967296\nend", line(2)),
+        (b"program a\nkill &f\nend\nfilter f\nend", unresolved(2)),
         (b"filter a\nend\nprogram a\nend", line(3)),
         (b"; \t\nturns 0", line(1)),
         (

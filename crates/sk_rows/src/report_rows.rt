@@ -139,6 +139,76 @@ const REPORTS: &[(&str, &str, End)] = &[
         "1 1 call fork allow/0 2\n2 2 call prctl allow/0 -22\n3 1 call wait4 allow/0 waits\n4 2 call fork allow/0 3\n5 3 call fork allow/0 4\n6 4 call getppid allow/0 3\n7 2 call wait4 allow/0 waits\n8 3 call exit allow/0 ended 0x0100\n9 4 call getppid allow/0 1\n10 2 resume told 3 0x0100\n11 4 call exit allow/0 ended 0x0200\n12 1 resume told 4 0x0200\n13 2 call wait4 allow/0 -10\n14 1 call exit_group allow/0 ended 0x0000\nend halt 0x0000\n",
         End::Halt(0x0000),
     ),
+    (
+        "filter f\nldabs 12\njeq 65536 +0 +1\nret errno/7\nldabs 8\njeq 0 +1 +0\nret allow\nret errno/8\nend\nprogram init\nrt_sigaction 10 4294967298 0\nseccomp 1 0 @f\nkill 1 10\ngetpid\nend\n",
+        "1 1 call rt_sigaction allow/0 0\n2 1 call seccomp allow/0 0\n3 1 call kill allow/0 0\n4 1 signal 10 handler 4294967296\n5 1 call rt_sigreturn errno/8 -8\n6 1 crash\nend halt 0x000b\n",
+        End::Halt(0x000b),
+    ),
+    (
+        "program init\ncall 57\ngetpid\nend\n",
+        "1 1 call fork allow/0 2\n2 2 call getpid allow/0 2\n3 1 call getpid allow/0 1\n4 2 call exit_group allow/0 ended 0x0000\n5 1 call exit_group allow/0 ended 0x0000\nend halt 0x0000\n",
+        End::Halt(0x0000),
+    ),
+    (
+        "program init\nrt_sigaction 10 &h 0\nfork k\nkill 2 10\nwait4 -1 0 0\nend\nprogram h\nend\nprogram k\npause\nend\n",
+        "1 1 call rt_sigaction allow/0 0\n2 1 call fork allow/0 2\n3 2 call pause allow/0 waits\n4 1 call kill allow/0 0\n5 2 signal 10 handler 1 eintr\n6 1 call wait4 allow/0 waits\n7 2 call rt_sigreturn allow/0 0\n8 2 call exit_group allow/0 ended 0x0000\n9 1 resume told 2 0x0000\n10 1 call exit_group allow/0 ended 0x0000\nend halt 0x0000\n",
+        End::Halt(0x0000),
+    ),
+    (
+        "program init\nrt_sigaction 10 &h 0\nkill 1 10\ngetppid\nend\nprogram h\nexecve @k\ngetpid\nend\nprogram k\ngetuid\nend\n",
+        "1 1 call rt_sigaction allow/0 0\n2 1 call kill allow/0 0\n3 1 signal 10 handler 1\n4 1 call execve allow/0 executed\n5 1 call getuid allow/0 0\n6 1 call exit_group allow/0 ended 0x0000\nend halt 0x0000\n",
+        End::Halt(0x0000),
+    ),
+    (
+        "filter f\nldabs 0\njeq 57 +0 +1\nret errno/0\nret allow\nend\nprogram init\nseccomp 1 0 @f\nfork k\ncall 57 1\nend\nprogram k\nend\n",
+        "1 1 call seccomp allow/0 0\n2 1 call fork errno/0 0\n3 1 call fork errno/0 0\n4 1 call exit_group allow/0 ended 0x0000\nend halt 0x0000\n",
+        End::Halt(0x0000),
+    ),
+    (
+        "program init\nrt_sigaction 10 &h 0\nkill 1 10\ngetppid\nend\nprogram h\nfork\ngetpid\nend\n",
+        "1 1 call rt_sigaction allow/0 0\n2 1 call kill allow/0 0\n3 1 signal 10 handler 1\n4 1 call fork allow/0 2\n5 2 call getpid allow/0 2\n6 1 call getpid allow/0 1\n7 2 call rt_sigreturn allow/0 0\n8 1 call rt_sigreturn allow/0 0\n9 2 call getppid allow/0 1\n10 1 call getppid allow/0 0\n11 2 call exit_group allow/0 ended 0x0000\n12 1 call exit_group allow/0 ended 0x0000\nend halt 0x0000\n",
+        End::Halt(0x0000),
+    ),
+    (
+        "program init\nrt_sigaction 10 &h 0\nkill 1 10\ngetppid\nend\nprogram h\nfork k\ngetpid\nend\nprogram k\ngetuid\nend\n",
+        "1 1 call rt_sigaction allow/0 0\n2 1 call kill allow/0 0\n3 1 signal 10 handler 1\n4 1 call fork allow/0 2\n5 2 call getuid allow/0 0\n6 1 call getpid allow/0 1\n7 2 call rt_sigreturn allow/0 0\n8 1 call rt_sigreturn allow/0 0\n9 2 call getppid allow/0 1\n10 1 call getppid allow/0 0\n11 2 call exit_group allow/0 ended 0x0000\n12 1 call exit_group allow/0 ended 0x0000\nend halt 0x0000\n",
+        End::Halt(0x0000),
+    ),
+    (
+        "filter f\nldabs 8\njeq 2 +0 +1\nret errno/5\nret allow\nend\nprogram init\nseccomp 1 0 @f\ngetpid\nend\n",
+        "1 1 call seccomp allow/0 0\n2 1 call getpid allow/0 1\n3 1 call exit_group errno/5 -5\n4 1 crash\nend halt 0x000b\n",
+        End::Halt(0x000b),
+    ),
+    (
+        "filter f\nldabs 0\njeq 231 +0 +1\nret trap\nret allow\nend\nprogram init\nseccomp 1 0 @f\nfork\nend\n",
+        "1 1 call seccomp allow/0 0\n2 1 call fork allow/0 2\n3 2 call exit_group trap/0 trapped\n4 1 call exit_group trap/0 trapped\n5 2 signal 31 ended 0x001f\n6 1 signal 31 ended 0x001f\nend halt 0x001f\n",
+        End::Halt(0x001f),
+    ),
+    (
+        "program init\nfork\ngetpid\nwait4 -1 0 0\nend\n",
+        "1 1 call fork allow/0 2\n2 2 call getpid allow/0 2\n3 1 call getpid allow/0 1\n4 2 call wait4 allow/0 -10\n5 1 call wait4 allow/0 waits\n6 2 call exit_group allow/0 ended 0x0000\n7 1 resume told 2 0x0000\n8 1 call exit_group allow/0 ended 0x0000\nend halt 0x0000\n",
+        End::Halt(0x0000),
+    ),
+    (
+        "turns 1\n",
+        "1 1 call exit_group allow/0 ended 0x0000\nend halt 0x0000\n",
+        End::Halt(0x0000),
+    ),
+    (
+        "turns 1\nprogram init\npause\nend\n",
+        "1 1 call pause allow/0 waits\nend idle\n",
+        End::Idle,
+    ),
+    (
+        "turns 1\nprogram init\ngetpid\nend\n",
+        "1 1 call getpid allow/0 1\nend limit\n",
+        End::Limit,
+    ),
+    (
+        "program init\nrt_sigaction 10 4294967298 0\nkill 1 10\ngetpid\nend\n",
+        "1 1 call rt_sigaction allow/0 0\n2 1 call kill allow/0 0\n3 1 signal 10 handler 4294967296\n4 1 call rt_sigreturn allow/0 0\n5 1 call getpid allow/0 1\n6 1 call exit_group allow/0 ended 0x0000\nend halt 0x0000\n",
+        End::Halt(0x0000),
+    ),
 ];
 
 /// Texts that are no scenario, with what is told of them.
