@@ -1,29 +1,38 @@
 #!/usr/bin/env python3
-"""Counts the lines that a reader has to trust: those of the definitions that a promise is made of.
+"""Counts the lines that a reader has to trust: those of the definitions that the promises are made of.
 
-A promise names the files that it is said in; what these import from other definitions is read with them, and so
-on. Laws, worked runs, and what only code or proofs look at are imported by no definition, and so not counted;
-nor are imports and blank lines. The lines of comments are told apart from those of the definitions that they say in
-words. Types are read in the sources, where they are declared."""
+A promise names the files that it is said in; what these import from other definitions is read with them, and so on.
+Statements of laws count where a promise cites them: those on each run and on each report. The last two figures are
+those of surveys, and of every file that docs/DEFINITIONS.md names, with all laws and with what stores and sets are to
+their callers. What only code or proofs look at, and worked examples, are imported by no definition, and so not
+counted; nor are imports and blank lines. The lines of comments are told apart from those of the definitions that they
+say in words. Types are read in the sources, where they are declared."""
 import os
 import re
 import sys
 
 ROOT = os.path.dirname(os.path.dirname(os.path.abspath(__file__)))
-IMPORT = re.compile(r"^use Rattle\.(sk_\w+)\.specs\.(\w+)(?:\.|\s|$)")
+PAGE = os.path.join(ROOT, "docs", "DEFINITIONS.md")
+IMPORT = re.compile(r"^use Rattle\.(sk_\w+)\.specs\.([\w.]+?)(?:\.\{.*| as .*)?$")
+# What each command reads and writes.
+TEXTS = ["sk_asm/Assembly", "sk_listing/Listing", "sk_engines/EvalCommand", "sk_engines/CheckCommand", "sk_engines/AsmCommand", "sk_engines/ListCommand"]
 # Each promise, and the definitions that it is said in.
 PROMISES = [
     ("filters", ["sk_chain/Verdict", "sk_check/Valid", "sk_check/FirstFault"]),
+    ("the texts of filters and their commands", TEXTS),
     ("the kernel, with lines", ["sk_machine/Machine", "sk_machine/Lines"]),
     ("the kernel, with lines, turns and memory", ["sk_machine/Machine", "sk_machine/Lines", "sk_machine/Turns", "sk_machine/Memory"]),
+    ("the kernel and the laws on each run", ["sk_machine/Machine", "sk_machine_laws/RunLaws"]),
     ("scenarios", ["sk_setting/Scenario", "sk_setting/Faults"]),
+    ("reports", ["sk_report/Report"]),
+    ("'skern run'", ["sk_sched/Engine"]),
+    ("'skern run', and that each report is a lawful run", ["sk_sched/Engine", "sk_sched/laws/ReportLaws"]),
+    ("'skern' by its words", ["sk_cli/Running"]),
 ]
-# Beside these, everything has the texts: each definition of what a command reads and writes.
-TEXTS = ["sk_asm/Assembly", "sk_listing/Listing", "sk_engines/EvalCommand", "sk_engines/CheckCommand", "sk_engines/AsmCommand", "sk_engines/ListCommand"]
 
 
 def path_of(name):
-    crate, module = name.split("/")
+    crate, module = name.split("/", 1)
     return os.path.join(ROOT, "crates", crate, "specs", module + ".antt")
 
 
@@ -32,19 +41,44 @@ def lines_of(name):
         return file.read().splitlines()
 
 
+def imported(crate, modules):
+    """The definition that an import names: the longest path of modules that is a file. None is one of the sources."""
+    parts = modules.split(".")
+    if parts[0] in ("declared", "contracts"):
+        return None
+    for most in range(len(parts), 0, -1):
+        name = f"{crate}/{'/'.join(parts[:most])}"
+        if os.path.isfile(path_of(name)):
+            return name
+    sys.exit(f"no such definition: {crate} {modules}")
+
+
 def read_with(names):
     """The files that are read for these, each once."""
     found, waiting = set(), list(names)
     while waiting:
         name = waiting.pop()
-        if name in found or not os.path.isfile(path_of(name)):
+        if name in found:
             continue
+        if not os.path.isfile(path_of(name)):
+            sys.exit(f"no such definition: {name}")
         found.add(name)
-        for line in lines_of(name):
-            match = IMPORT.match(line)
-            if match and match[2] not in ("declared", "contracts"):
-                waiting.append(f"{match[1]}/{match[2]}")
+        for match in filter(None, map(IMPORT.match, lines_of(name))):
+            waiting += filter(None, [imported(match[1], match[2])])
     return found
+
+
+def named_on_the_page():
+    """The definitions that docs/DEFINITIONS.md names, in the second column of its table. A name without a crate is of
+    the crate before it."""
+    with open(PAGE, encoding="utf-8") as file:
+        cells = [line.split("|")[2] for line in file if line.startswith("| ") and line.count("|") > 3]
+    for cell in cells:
+        crate = None
+        for name in re.findall(r"`([\w/]+)\.antt`", cell):
+            if "/specs/" in name:
+                crate, name = name.split("/specs/")
+            yield f"{crate}/{name}"
 
 
 def count(name):
@@ -54,19 +88,26 @@ def count(name):
     return len(lines) - comments, comments
 
 
+def is_of_surveys(name):
+    return name.startswith(("sk_survey", "sk_call_names/"))
+
+
+def tell(what, found, verbose):
+    lines, comments = (sum(numbers) for numbers in zip(*map(count, found)))
+    print(f"lines to trust for {what}: {lines}, and {comments} of comments, in {len(found)} files")
+    if verbose:
+        for name in sorted(found):
+            print("  {:4} {:4} {}".format(*count(name), name))
+
+
 def main():
     verbose = "-v" in sys.argv[1:]
-    everything = [*TEXTS, *(name for _, names in PROMISES for name in names)]
-    for what, names in [*PROMISES, ("everything", everything)]:
-        missing = [name for name in names if not os.path.isfile(path_of(name))]
-        if missing:
-            sys.exit(f"no such definitions: {', '.join(missing)}")
-        found = read_with(names)
-        lines, comments = (sum(numbers) for numbers in zip(*map(count, found)))
-        print(f"lines to trust for {what}: {lines}, and {comments} of comments, in {len(found)} files")
-        if verbose:
-            for name in sorted(found):
-                print("  {:4} {:4} {}".format(*count(name), name))
+    page = read_with(named_on_the_page())
+    promised = [(what, read_with(names)) for what, names in PROMISES]
+    whole = set().union(*(found for _, found in promised))
+    surveys = {name for name in page if is_of_surveys(name)}
+    for what, found in [*promised, ("everything that 'skern' promises", whole), ("surveys beside it", surveys - whole), ("every definition and law that docs/DEFINITIONS.md names", whole | page)]:
+        tell(what, found, verbose)
 
 
 if __name__ == "__main__":
