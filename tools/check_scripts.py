@@ -142,7 +142,7 @@ UNDER_STACK = [
     Row("printf '0600000000000000%.0s' $(seq 4096) > $room/in; narrow skern check", 0, "", r"ok 4096\n"),
     Row("printf '0600000000000000%.0s' $(seq 4096) > $room/in; narrow skern list | uniq -c", 0, "", r" *4096 ret 0x00000000\n"),
     Row("{ printf 'jeq 1 end +0\\n%.0s' $(seq 200); echo end:; echo ret allow; } > $room/in; narrow skern asm | tail -n 1", 0, "", r"060000000000ff7f\n"),
-    Row("for it in examples/scenarios/*.scenario examples/differences/*.scenario; do cp $it $room/in; narrow skern run | tail -n 1; done | cut -c 1-4 | uniq",
+    Row("container=$(echo filter container; sed 's/^/bytes /' $tree; echo end); for it in examples/scenarios/*.scenario examples/differences/*.scenario; do { [[ $it != */start.scenario ]] || echo \"$container\"; cat $it; } > $room/in; narrow skern run | tail -n 1; done | cut -c 1-4 | uniq",
         0, "", r"end \n"),
     Row("examples/filter $tree > $room/in; narrow survey --call clone3", 0, "", r"435 clone3 errno/38\n"),
     Row("examples/filter $tree > $room/in; narrow survey --examples | grep -c ' filter 0 at '", 0, "", r"[1-9]\d\d\n"),
