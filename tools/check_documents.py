@@ -1,6 +1,7 @@
 #!/usr/bin/env python3
 """Checks what no prover sees: that the repository stands alone, that each path and command that its
-documents name is there, and that each example in them prints what they say.
+documents name is there, and that each example in them prints what they say, in the repository and in the archive that
+tools/package makes of it.
 
 Prints each problem, and at last 'N passed, M failed'."""
 import os
@@ -89,21 +90,21 @@ def commands_named(document, text):
 
 def lacks_privilege(document, said, complaint):
     """Whether a command that follows another process lacked the privilege for it: that is told, and it is not counted."""
-    if "Operation not permitted" not in complaint:
+    if "Operation not permitted" not in complaint and "Permission denied" not in complaint:
         return False
     print(f"{document}: not tried, for want of privilege: `{said}`")
     return True
 
 
-def examples(document, text):
-    """Each '$ command' of a console block, with the lines that it is to print."""
+def examples(document, text, folder=ROOT):
+    """Each '$ command' of a console block, with the lines that it is to print, in this folder."""
     for block in blocks(text, "console"):
         for piece in re.split(r"^\$ ", block, flags=re.M)[1:]:
             command, _, wanted = piece.partition("\n")
             while command.endswith("\\"):
                 more, _, wanted = wanted.partition("\n")
                 command = command[:-1] + more.lstrip("> ")
-            ran = subprocess.run(["bash", "-c", command], cwd=ROOT, stdin=subprocess.DEVNULL, capture_output=True, text=True, timeout=3000)
+            ran = subprocess.run(["bash", "-c", command], cwd=folder, stdin=subprocess.DEVNULL, capture_output=True, text=True, timeout=3000)
             if "examples/attached" in command and lacks_privilege(document, command, ran.stderr):
                 continue
             problems = [] if ran.stdout == wanted else [f"`{command}` prints\n{ran.stdout}and not\n{wanted}{ran.stderr[-400:]}"]
@@ -119,12 +120,12 @@ def ends_well(document, said, command, folder=ROOT):
     judge(problems, f"{document}: command")
 
 
-def beside_a_process(document, line):
+def beside_a_process(document, line, folder=ROOT):
     """A command with the word PID, on a process that has attached a filter."""
     with tempfile.TemporaryFile("w+") as lines:
-        subprocess.run(["examples/filter", "examples/filters/docker-default-linear.hex"], cwd=ROOT, stdout=lines, check=True)
+        subprocess.run(["examples/filter", "examples/filters/docker-default-linear.hex"], cwd=folder, stdout=lines, check=True)
         lines.seek(0)
-        with subprocess.Popen(["examples/attach", "sleep", "100"], cwd=ROOT, stdin=lines, stderr=subprocess.PIPE, text=True) as process:
+        with subprocess.Popen(["examples/attach", "sleep", "100"], cwd=folder, stdin=lines, stderr=subprocess.PIPE, text=True) as process:
             status = pathlib.Path(f"/proc/{process.pid}/status")
             while process.poll() is None and "Seccomp:\t2" not in status.read_text():
                 time.sleep(0.1)
@@ -134,7 +135,7 @@ def beside_a_process(document, line):
                     judge([complaint], f"{document}: examples/attach")
                 return
             command = line if shutil.which("sudo") and os.geteuid() else line.replace("sudo ", "")
-            ends_well(document, line, re.sub(r"\bPID\b", str(process.pid), command))
+            ends_well(document, line, re.sub(r"\bPID\b", str(process.pid), command), folder)
             process.kill()
 
 
@@ -164,6 +165,27 @@ def commands_run(document, text, paths):
                 ends_well(document, line, re.sub(r"\bFILE\b", EXPORT, line))
 
 
+def in_archive():
+    """The pages of the archive, their commands run in it as it is unpacked: all but those of the prover, the gate and the
+    measurements, which stand in the repository alone."""
+    with tempfile.TemporaryDirectory() as room:
+        made = subprocess.run(["tools/package", "--as-built", room], cwd=ROOT, capture_output=True, text=True, timeout=3000)
+        judge([f"tools/package ends with status {made.returncode}\n{made.stdout[-400:]}{made.stderr[-400:]}"] if made.returncode else [], "archive")
+        if made.returncode:
+            return
+        archive = made.stdout.splitlines()[-1]
+        subprocess.run(["tar", "-xzf", archive, "-C", room], check=True)
+        folder = pathlib.Path(archive.removesuffix(".tar.gz"))
+        for page in sorted(folder.rglob("*.md")):
+            document, text = f"archive: {page.relative_to(folder)}", page.read_text(encoding="utf-8")
+            examples(document, text, folder)
+            for line in (line for block in blocks(text, "sh") for line in block.splitlines()):
+                if re.search(r"\bPID\b", line):
+                    beside_a_process(document, line, folder)
+                elif not re.match(r"rt |\./gate|\./bench/|tools/|cd ", line):
+                    ends_well(document, line, re.sub(r"\bFILE\b", EXPORT, line), folder)
+
+
 def check(document, paths):
     text = read(document)
     judge(list(paths_named(document, text, paths)), "paths")
@@ -183,6 +205,7 @@ def main():
     documents.sort(key=lambda path: not blocks(read(path), "sh"))
     with ThreadPoolExecutor(2) as pool:
         list(pool.map(lambda path: check(path, paths), documents))
+    in_archive()
     print(f"{results['passed']} passed, {results['failed']} failed")
     return 1 if results["failed"] else 0
 

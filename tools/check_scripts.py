@@ -1,0 +1,208 @@
+#!/usr/bin/env python3
+"""Checks that the scripts fail closed: what they can't read, understand or follow is told on standard error, has a status
+of its own, and comes to no answer. And that the programs do with the stack that README.md names.
+
+check_scripts.py [FOLDER]: each row is a command, run by bash in FOLDER, which is this repository where none is named, with
+the status that it has to end with, a pattern for what stands on standard error, and one for standard output, each for the
+whole of it. Prints each row that comes out otherwise, and at last 'N passed, M failed'. A row that needs a privilege which
+is not there is told, and not counted."""
+import os
+import re
+import shutil
+import subprocess
+import sys
+import tempfile
+from typing import NamedTuple
+
+ROOT = os.path.dirname(os.path.dirname(os.path.abspath(__file__)))
+SECONDS = 120
+# As README.md names it, in KiB.
+STACK = 256
+# What each row may name: filters, a folder of its own, and ways to give up a privilege that root has.
+PRELUDE = """
+tree=examples/filters/docker-default-tree.hex
+linear=examples/filters/docker-default-linear.hex
+fail() { echo "$1" >&2; exit 99; }
+sandboxed() { # starts a process that has attached a filter, as $pid
+    examples/filter $linear | examples/attach sleep 100 &
+    pid=$!
+    for turn in $(seq 100); do
+        if grep -q '^Seccomp:.2' /proc/$pid/status; then return; fi
+        sleep 0.1
+    done
+    fail 'no process attached a filter'
+}
+"""
+NOT_UNDERSTOOD = r"skern: line \d+: not understood\n"
+THREADS = """
+import os, threading, time
+for _ in range(8):
+    threading.Thread(target=lambda: [os.getppid() for _ in iter(int, 1)], daemon=True).start()
+time.sleep(0.2)
+os._exit(7)
+"""
+
+
+class Row(NamedTuple):
+    command: str
+    status: int
+    complaint: str
+    answer: str
+
+
+# Good uses, so that a row below fails for what it says and for nothing else.
+GOOD = [
+    Row("{ examples/record clone3; examples/filter $tree; } | ./skern eval", 0, "", r"return 0x00050026 errno data 38 steps 16\n"),
+    Row("{ examples/record 435 0xFFffFFffFFffFFff 18446744073709551615 0 0x0 5 6; examples/filter - < $tree; } | ./skern eval",
+        0, "", r"return 0x00050026 errno data 38 steps 16\n"),
+    Row("examples/record 4294967295 1 2 3 4 5 0xAB", 0, "",
+        "record ffffffff3e0000c0" + "0" * 16 + "".join(f"0{n}" + "0" * 14 for n in range(1, 6)) + "ab" + "0" * 14 + r"\n"),
+    Row("./survey --call clone3 $tree", 0, "", r"435 clone3 errno/38\n"),
+    Row("./survey --call clone3 --diff $tree <(echo filter 060000000000ff7f)", 0, "", r"- 435 clone3 errno/38\n\+ 435 clone3 allow/0\n"),
+    Row("examples/filter $tree | examples/attach echo ran", 0, "", r"ran\n"),
+    Row("examples/filter $tree | examples/attached examples/attach true | grep -c '^filter '", 0, "", r"1\n"),
+]
+# A file that is read once, and what is no file of filters.
+SURVEYED = [
+    Row("./survey --call clone3 <(examples/filter $tree)", 0, "", r"435 clone3 errno/38\n"),
+    Row("cat $tree | ./survey --call clone3 /dev/stdin", 0, "", r"435 clone3 errno/38\n"),
+    Row("mkfifo $room/fifo; examples/filter $tree > $room/fifo & timeout 20 ./survey --call clone3 $room/fifo", 0, "", r"435 clone3 errno/38\n"),
+    Row("./survey --call clone3 examples", 3, r"(?s).*survey: examples can't be read\n", ""),
+    Row("./survey --call clone3 /dev/null", 3, r"survey: /dev/null holds no filter\n", ""),
+    Row("printf ' \\n\\n' > $room/blank; ./survey --call clone3 $room/blank", 3, r"survey: \S+ holds no filter\n", ""),
+    Row("./survey --call clone3 nofile", 3, r"(?s).*survey: nofile can't be read\n", ""),
+    Row("./survey --call clone3 ''", 3, r"(?s).*survey:  can't be read\n", ""),
+    Row("touch $room/closed; chmod 000 $room/closed; $as_owner ./survey --call clone3 $room/closed", 3, r"(?s).*survey: \S+ can't be read\n", ""),
+    Row("./survey --diff $tree nofile", 3, r"(?s).*survey: nofile can't be read\n", ""),
+    Row("./survey --diff $tree /dev/null", 3, r"survey: /dev/null holds no filter\n", ""),
+    Row("./survey --diff $tree", 1, "", NOT_UNDERSTOOD),
+    Row("./survey --call clone3 examples/exports/unix-sockets.bpf", 1, "", NOT_UNDERSTOOD),
+    Row("echo '; a filter' > $room/comment; ./survey --call clone3 $room/comment", 1, "", NOT_UNDERSTOOD),
+    Row("examples/filter nofile | ./survey --call clone3", 1, r"filter: nofile: No such file or directory\n", NOT_UNDERSTOOD),
+]
+# A filter or a call that can't be read is not left out.
+ASKED = [
+    Row("{ examples/record openat; examples/filter nofile; } | ./skern eval", 1, r"filter: nofile: .*\n", NOT_UNDERSTOOD),
+    Row("{ examples/record openat; examples/filter $tree nofile; } | ./skern eval", 1, r"filter: nofile: .*\n", NOT_UNDERSTOOD),
+    Row("{ examples/record openat; examples/filter examples; } | ./skern eval", 1, r"filter: examples: .*\n", NOT_UNDERSTOOD),
+    Row("{ examples/record openat; examples/filter /dev/null; } | ./skern eval", 1, r"filter: /dev/null holds no filter\n", NOT_UNDERSTOOD),
+    Row("{ examples/record openat; examples/filter - - < $tree; } | ./skern eval", 1, r"filter: standard input is read once\n", NOT_UNDERSTOOD),
+    Row("{ examples/record openat; examples/filter; } | ./skern eval", 1, r"usage: filter .*\n", NOT_UNDERSTOOD),
+    Row("{ examples/record openat; examples/filter --pid 1x; } | ./skern eval", 1, r"usage: filter .*\n", NOT_UNDERSTOOD),
+    Row("{ examples/record openat; examples/filter --pid $$; } | ./skern eval", 1, r"filter: process \d+ has no filter\n", NOT_UNDERSTOOD),
+    Row("{ examples/record openat; examples/filter --pid 4194305; } | ./skern eval", 1, r"filter: process 4194305: .*\n", NOT_UNDERSTOOD),
+    Row("sandboxed; { examples/record openat; $unprivileged examples/filter --pid $pid; } | ./skern eval; status=$?; kill $pid; exit $status",
+        1, r"filter: process \d+: (Operation not permitted|Permission denied)\n", NOT_UNDERSTOOD),
+    Row("examples/filter nofile", 1, r"filter: nofile: .*\n", r"unread\n"),
+    Row("examples/record", 2, r"usage: record .*\n", ""),
+    Row("examples/record nosuchcall", 2, r"record: no call is named nosuchcall\n", ""),
+    Row("examples/record -1", 2, r"record: no call is named -1\n", ""),
+    Row("examples/record 4294967296", 2, r"record: 4294967296 is too large\n", ""),
+    Row("examples/record 0x100000000", 2, r"record: 0x100000000 is too large\n", ""),
+    Row("examples/record 010", 2, r"record: 010 is no number\n", ""),
+    Row("examples/record openat word", 2, r"record: word is no number\n", ""),
+    Row("examples/record openat 1e3", 2, r"record: 1e3 is no number\n", ""),
+    Row("examples/record openat 0x", 2, r"record: 0x is no number\n", ""),
+    Row("examples/record openat ''", 2, r"record:  is no number\n", ""),
+    Row("examples/record openat 010", 2, r"record: 010 is no number\n", ""),
+    Row("examples/record openat -1", 2, r"record: -1 is no number\n", ""),
+    Row("examples/record openat 18446744073709551616", 2, r"record: 18446744073709551616 is too large\n", ""),
+    Row("examples/record openat 0x10000000000000000", 2, r"record: 0x10000000000000000 is too large\n", ""),
+    Row("examples/record openat 1 2 3 4 5 6 7", 2, r"usage: record .*\n", ""),
+    Row("{ examples/record openat 010; examples/filter $tree; } | ./skern eval", 1, r"record: 010 is no number\n", NOT_UNDERSTOOD),
+]
+# Nothing is run outside the filters that it was to have.
+ATTACHED = [
+    Row("examples/filter nofile | examples/attach echo ran", 125, r"filter: .*\nattach: line 1 .*; nothing was run\n", ""),
+    Row("examples/attach echo ran < /dev/null", 125, r"attach: standard input names no filter; nothing was run\n", ""),
+    Row("echo '; none' | examples/attach echo ran", 125, r"attach: standard input names no filter; nothing was run\n", ""),
+    Row("{ examples/filter $tree; echo filters 060000000000ff7f; } | examples/attach echo ran", 125, r"attach: line 2 .*; nothing was run\n", ""),
+    Row("examples/attach echo ran < $tree", 125, r"attach: line 1 .*; nothing was run\n", ""),
+    Row("echo filter 060000000000ff7 | examples/attach echo ran", 125, r"attach: line 1 .*; nothing was run\n", ""),
+    Row("echo filter 060000000000ff7f06 | examples/attach echo ran", 125, r"attach: line 1 .*; nothing was run\n", ""),
+    Row("echo filter | examples/attach echo ran", 125, r"attach: line 1 .*; nothing was run\n", ""),
+    Row("echo filter 0000000000000000 | examples/attach echo ran", 125, r"attach: Invalid argument; nothing was run\n", ""),
+    Row("examples/attach < $tree", 125, r"usage: attach .*\n", ""),
+    Row("examples/filter $tree | examples/attach nosuchcommand", 127, r"attach: nosuchcommand: .*\n", ""),
+    Row("examples/filter $tree | examples/attach $tree", 126, r"attach: \S+: Permission denied\n", ""),
+    Row("examples/filter $linear | examples/attached examples/attach sh -c 'exit 7' | tail -n 1 | cut -c 1-22; exit ${PIPESTATUS[1]}",
+        7, "", r"filter 200000000400000\n"),
+    Row("examples/filter $linear | examples/attached examples/attach sh -c 'kill -9 $$' > /dev/null", 137, "", ""),
+    Row("for turn in $(seq 12); do examples/filter $linear | examples/attached examples/attach python3 -c \"$threads\" > /dev/null; echo $?; done",
+        0, "", r"(7\n){12}"),
+    Row("{ examples/record openat; examples/attached true; } | ./skern eval", 1, r"attached: no filter was attached\n", NOT_UNDERSTOOD),
+    Row("examples/attached true > /dev/null", 125, r"attached: no filter was attached\n", ""),
+    Row("examples/attached nosuchcommand", 127, r"attached: nosuchcommand: .*\n", r"unread\n"),
+    Row("examples/attached", 125, r"usage: attached .*\n", r"unread\n"),
+]
+# Each program under the stack that is named, on input that takes as much of its depth as any that is known.
+UNDER_STACK = [
+    Row("{ examples/record openat; for turn in $(seq 24); do examples/filter $tree; done; } > $room/in; narrow skern eval | tail -n 1", 0, "",
+        r"verdict 0x7fff0000 allow data 0\n"),
+    Row("printf '0600000000000000%.0s' $(seq 4096) > $room/in; narrow skern check", 0, "", r"ok 4096\n"),
+    Row("printf '0600000000000000%.0s' $(seq 4096) > $room/in; narrow skern list | uniq -c", 0, "", r" *4096 ret 0x00000000\n"),
+    Row("{ printf 'jeq 1 end +0\\n%.0s' $(seq 200); echo end:; echo ret allow; } > $room/in; narrow skern asm | tail -n 1", 0, "", r"060000000000ff7f\n"),
+    Row("container=$(echo filter container; sed 's/^/bytes /' $tree; echo end); for it in examples/scenarios/*.scenario examples/differences/*.scenario; do { [[ $it != */start.scenario ]] || echo \"$container\"; cat $it; } > $room/in; narrow skern run | tail -n 1; done | cut -c 1-4 | uniq",
+        0, "", r"end \n"),
+    Row("examples/filter $tree > $room/in; narrow survey --call clone3", 0, "", r"435 clone3 errno/38\n"),
+    Row("examples/filter $tree > $room/in; narrow survey --examples | grep -c ' filter 0 at '", 0, "", r"[1-9]\d\d\n"),
+    Row("{ examples/filter $tree; echo against; examples/filter $linear; } > $room/in; narrow survey --examples --diff", 0, "", ""),
+]
+
+
+def without(capabilities):
+    """Words before a command that take these from root; nothing where it has none; None where it can't be done."""
+    if os.geteuid():
+        return ""
+    return f"setpriv --bounding-set={','.join('-' + it for it in capabilities)}" if shutil.which("setpriv") else None
+
+
+def variables(room):
+    """What the rows name beside the prelude."""
+    return {"room": room, "threads": THREADS, "as_owner": without(["dac_override", "dac_read_search"]), "unprivileged": without(["sys_admin"])}
+
+
+def narrow(folder):
+    """The shell's function that runs a program on the file `in`, under the stack that is named, with no environment."""
+    found = [path for path in ("{0}/bin/{1}", "{0}/{1}", "{0}/crates/{1}/out/{1}") if os.path.exists(path.format(folder, "survey"))]
+    place = found[-1].format(folder, '$1')
+    return f'narrow() {{ (ulimit -S -s {STACK} && exec env -i "{place}" "${{@:2}}" < "$room/in"); }}\n'
+
+
+def judged(row, folder):
+    """What is wrong with a row, or nothing; None where it can't be tried."""
+    with tempfile.TemporaryDirectory() as room:
+        given = variables(room)
+        if any(value is None and f"${name}" in row.command for name, value in given.items()):
+            return None
+        script = "set -o pipefail\n" + PRELUDE + narrow(folder) + row.command
+        env = {**os.environ, **{name: value or "" for name, value in given.items()}}
+        ran = subprocess.run(["bash", "-c", script], cwd=folder, env=env, stdin=subprocess.DEVNULL, capture_output=True,
+                             text=True, timeout=SECONDS, check=False)
+    return [f"{what} is {it!r} and not {wanted!r}" for what, it, wanted, is_so in (
+        ("status", ran.returncode, row.status, ran.returncode == row.status),
+        ("standard error", ran.stderr[-400:], row.complaint, re.fullmatch(row.complaint, ran.stderr)),
+        ("standard output", ran.stdout[:400], row.answer, re.fullmatch(row.answer, ran.stdout))) if not is_so]
+
+
+def main(words):
+    folder = os.path.abspath(words[0]) if words else ROOT
+    passed = failed = 0
+    for row in GOOD + SURVEYED + ASKED + ATTACHED + UNDER_STACK:
+        try:
+            problems = judged(row, folder)
+        except subprocess.TimeoutExpired:
+            problems = [f"there is no end within {SECONDS} seconds"]
+        if problems is None:
+            print(f"not tried, for want of setpriv: `{row.command}`")
+            continue
+        passed += not problems
+        failed += bool(problems)
+        for problem in problems:
+            print(f"`{row.command}`: {problem}")
+    print(f"{passed} passed, {failed} failed")
+    return 1 if failed else 0
+
+
+if __name__ == "__main__":
+    sys.exit(main(sys.argv[1:]))
