@@ -161,7 +161,7 @@ def commands_run(document, text, paths):
                 beside_a_process(document, line)
             elif line == "./bench/run":
                 ends_well(document, line, "./bench/run --as-built --turns 1")
-            elif line != "./gate":
+            elif not line.startswith("./gate"):
                 ends_well(document, line, re.sub(r"\bFILE\b", EXPORT, line))
 
 

@@ -17,7 +17,7 @@ use Rattle.sk_world.specs.World.{World, at, has_ended, has_stopped, is_halted, i
 use Rattle.sk_world.specs.Waits.{is_asked_for, is_match, is_ready, status_of_body, status_of}
 use Rattle.sk_world.proofs.Walks.{any_here, none_any}
 use Rattle.sk_machine.specs.Delivering.{signal_for, signal_due}
-use Rattle.sk_machine.specs.Turns.{wait_ends, goes_on, is_runnable}
+use Rattle.sk_machine.specs.Turns.{waits_no_more, goes_on, is_runnable}
 use Rattle.sk_candidates.specs.views.Resting.{is_untold, has_tidings, is_news, KeepsWaiting, RestsBy, RestsAs, Rests}
 
 and_none : (b : Bool) → (b && false) ≡ false
@@ -47,7 +47,7 @@ match_is_there : (caller : ℕ) (request : Request) (pid : ℕ) (o : Option Proc
 match_is_there caller request pid None match = match
 match_is_there caller request pid (Some p) match = refl
 
-still_waits : (w : World) (pid : ℕ) (for : Waiting) → KeepsWaiting w pid for → wait_ends w pid for ≡ false
+still_waits : (w : World) (pid : ℕ) (for : Waiting) → KeepsWaiting w pid for → waits_no_more w pid for ≡ false
 still_waits w pid waiting.Nothing keeps = absurd (false≢true keeps)
 still_waits w pid waiting.Pause keeps = refl
 still_waits w pid (waiting.Asks request) keeps =
@@ -56,7 +56,7 @@ still_waits w pid (waiting.Asks request) keeps =
     || not (any_here (λ q. is_match pid request q (at w q)) w.procs.entries child (match_is_there pid request child (at w child) keeps.matched.1) keeps.matched.1 i)
 
 by_life : (w : World) (pid : ℕ) (body : Body) (l : Life) (runs : Bool) → RestsBy w pid body l
-    → ((runs && not (has_ended l)) && (is_some (signal_for body) || (not (has_stopped l) && wait_ends w pid body.waiting))) ≡ false
+    → ((runs && not (has_ended l)) && (is_some (signal_for body) || (not (has_stopped l) && waits_no_more w pid body.waiting))) ≡ false
 by_life w pid body l false rests = refl
 by_life w pid body (Zombie status) true rests = refl
 by_life w pid body Stopped true rests = ap (λ b. b || false) rests

@@ -1,7 +1,8 @@
 //! The program over any reader and writer.
-ghost use Rattle.std.specs.Prelude.{◌≡◌, ◌≢◌, ◌≤◌, Err, IfOk, IfSome, map, string_bytes};
-ghost use Rattle.sk_engines.specs.Engine.{Delivers, CountsReads, CountsWrites};
-ghost use Rattle.sk_engines.specs.Program.{Ends};
+ghost use Rattle.std.specs.Prelude.{◌≡◌, ◌≢◌, ◌≤◌, Err, IfNone, IfOk, map, string_bytes};
+ghost use Rattle.sk_ends.specs.Reading.{ConsumesUpTo};
+ghost use Rattle.sk_engines.specs.Engine.{Delivers, CountsWrites};
+ghost use Rattle.sk_engines.specs.Program.{Ends, Works, device};
 ghost use Rattle.sk_filter_cli.specs.Words.{word_of};
 ghost use Rattle.sk_cli.specs.Running.{Does, Runs, scenario_answer};
 
@@ -23,11 +24,11 @@ pub fn command<R: Source, W: Sink>(
     reader: &mut R,
     writer: &mut W,
 ) -> u8
-    ensures status { result ≤ 3 }
-    ensures told { IfSome (R.remaining reader.old) (λ input.
-        Ends (Does (word_of (map string_bytes words.now)) input) result (W.contents writer.old) (W.contents writer.new)) }
-    ensures reads { result ≤ 2 → R.failed reader.new ≡ R.failed reader.old }
-    ensures writes { result ≤ 2 → W.failed writer.new ≡ W.failed writer.old }
+    ensures ends { Ends (Does (word_of (map string_bytes words.now))) result
+        (device (R.remaining reader.old) (R.failed reader.old)) (device (R.remaining reader.new) (R.failed reader.new))
+        (device (W.contents writer.old) (W.failed writer.old)) (device (W.contents writer.new) (W.failed writer.new)) }
+    ensures limit { ConsumesUpTo 1048577 (R.remaining reader.old) (R.remaining reader.new) }
+    ensures unread { IfNone (word_of (map string_bytes words.now)) (reader.new ≡ reader.old) }
 {
     match done(alloc, words, reader, writer) {
         Ok(status) => status,
@@ -41,11 +42,12 @@ fn done<R: Source, W: Sink>(
     reader: &mut R,
     writer: &mut W,
 ) -> Result<u8, CommandFault>
-    ensures told { IfSome (R.remaining reader.old) (λ input.
-        Does (word_of (map string_bytes words.now)) input result (W.contents writer.old) (W.contents writer.new)) }
+    ensures works { Works (Does (word_of (map string_bytes words.now))) result
+        (device (R.remaining reader.old) (R.failed reader.old)) (device (R.remaining reader.new) (R.failed reader.new))
+        (device (W.contents writer.old) (W.failed writer.old)) (device (W.contents writer.new) (W.failed writer.new)) }
     ensures status { IfOk result (λ status. status ≤ 2) }
-    ensures reads { CountsReads result (R.failed reader.old) (R.failed reader.new) }
-    ensures writes { CountsWrites result (W.failed writer.old) (W.failed writer.new) }
+    ensures limit { ConsumesUpTo 1048577 (R.remaining reader.old) (R.remaining reader.new) }
+    ensures unread { IfNone (word_of (map string_bytes words.now)) (reader.new ≡ reader.old) }
 {
     match word_in(alloc, words)? {
         Some(Word::Run) => run(alloc, reader, writer),
@@ -60,10 +62,11 @@ fn run<R: Source, W: Sink>(
     reader: &mut R,
     writer: &mut W,
 ) -> Result<u8, CommandFault>
-    ensures told { IfSome (R.remaining reader.old) (λ input. Runs input result (W.contents writer.old) (W.contents writer.new)) }
+    ensures works { Works Runs result
+        (device (R.remaining reader.old) (R.failed reader.old)) (device (R.remaining reader.new) (R.failed reader.new))
+        (device (W.contents writer.old) (W.failed writer.old)) (device (W.contents writer.new) (W.failed writer.new)) }
     ensures status { IfOk result (λ status. status ≤ 1) }
-    ensures reads { CountsReads result (R.failed reader.old) (R.failed reader.new) }
-    ensures writes { CountsWrites result (W.failed writer.old) (W.failed writer.new) }
+    ensures limit { ConsumesUpTo 1048577 (R.remaining reader.old) (R.remaining reader.new) }
 {
     match engine(alloc, reader, writer) {
         Ok(_) => Ok(0),

@@ -1,4 +1,3 @@
 pub mod LineCount
 pub mod Ending
-mod Finishing
 pub mod Chaining

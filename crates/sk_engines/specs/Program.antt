@@ -1,10 +1,20 @@
 -- How a program ends: with its work done, or with a fault told behind what went out.
-use Rattle.std.specs.Prelude.{◌≡◌, ◌⊎◌, ◌++◌, ⊤, ℕ, List, codes, Option, Some, None, Result, Ok, Err}
-use Rattle.std.specs.Io.KnownBytes.{Keeps}
+use Rattle.std.specs.Prelude.{◌≡◌, ◌≢◌, ◌≤◌, ◌⊎◌, ℕ, List, codes, Option, Result, Ok, Err, IfSome}
+use Rattle.std.specs.Io.KnownBytes.{Appends}
+use Rattle.sk_ends.specs.Failures.{one_more}
 use Rattle.sk_ends.specs.Writing.{AppendsBeginning}
+use Rattle.sk_engines.specs.Engine.{CountsReads, CountsWrites}
 use Rattle.sk_engines.specs.Output.{line}
 use Rattle.sk_engines.specs.declared.fault.CommandFault.{CommandFault}
 use Rattle.sk_engines.specs.declared.fault.CommandFault.TheVariants.{Read, Write, Memory}
+
+-- a reader or a writer at one time: the bytes that it has left or holds, where they are known, and how many failures it has answered
+pub record Device : Type 0 where
+  pub bytes : Option (List ℕ)
+  pub failures : ℕ
+
+abbrev pub device : Option (List ℕ) → ℕ → Device
+device bytes failures = record { bytes = bytes; failures = failures }
 
 -- what is said of a fault
 abbrev pub fault_said : CommandFault → List ℕ
@@ -16,31 +26,48 @@ fault_said Memory = codes "skern: out of memory"
 abbrev pub fault_line : CommandFault → List ℕ
 fault_line fault = line (fault_said fault)
 
--- the work came to a fault, and a beginning of the fault's line, or all of it, went out behind what the work left
-pub record Fails (Works : Result ℕ CommandFault → Option (List ℕ) → Option (List ℕ) → Type 0) (old new : Option (List ℕ)) : Type 0 where
-  pub fault : CommandFault
-  pub between : Option (List ℕ)
-  pub work : Works (Err fault) old between
-  pub told : AppendsBeginning between new (fault_line fault)
+-- a text went out whole; or the writer failed once more, and a beginning of it did
+abbrev pub Sends : List ℕ → Device → Device → Type 0
+Sends text old new =
+    (Appends old.bytes new.bytes text × (new.failures ≡ old.failures))
+    ⊎ (AppendsBeginning old.bytes new.bytes text × (new.failures ≡ one_more old.failures))
 
--- a program whose work is said by `Works` ends: with the work's own status, or with 3 where the work came to a fault
-abbrev pub Ends : (Result ℕ CommandFault → Option (List ℕ) → Option (List ℕ) → Type 0) → ℕ → Option (List ℕ) → Option (List ℕ) → Type 0
-Ends Works status old new = Works (Ok status) old new ⊎ ((status ≡ 3) × Fails Works old new)
+-- what a program does, by a text that came in: a relation between its result and the bytes of the writer before and after
+abbrev pub Doing : Type 1
+Doing = List ℕ → Result ℕ CommandFault → Option (List ℕ) → Option (List ℕ) → Type 0
+
+-- the work was done on what the reader had left, where that is known; its fault is Read where the reader failed once more, Write
+-- where the writer did, and no device failed otherwise
+pub record Works (Does : Doing) (result : Result ℕ CommandFault) (reader reader' writer writer' : Device) : Type 0 where
+  pub does : IfSome reader.bytes (λ input. Does input result writer.bytes writer'.bytes)
+  pub reads : CountsReads result reader.failures reader'.failures
+  pub writes : CountsWrites result writer.failures writer'.failures
+
+-- the work came to a fault, and the fault's line was sent behind what the work left
+pub record Fails (Does : Doing) (reader reader' writer writer' : Device) : Type 0 where
+  pub fault : CommandFault
+  pub between : Device
+  pub work : Works Does (Err fault) reader reader' writer between
+  pub told : Sends (fault_line fault) between writer'
+
+-- a program ends: with the status of its work, 2 at most, or with 3 where the work came to a fault
+abbrev pub Ends : Doing → ℕ → Device → Device → Device → Device → Type 0
+Ends Does status reader reader' writer writer' =
+    ((status ≤ 2) × Works Does (Ok status) reader reader' writer writer')
+    ⊎ ((status ≡ 3) × Fails Does reader reader' writer writer')
 
 -- ---- the block of bytes that is written at the end
 
--- of the known bytes that were to go out, these are a beginning
-abbrev pub BeginsKnown : Option (List ℕ) → Option (List ℕ) → Type 0
-BeginsKnown None out = ⊤
-BeginsKnown (Some whole) None = ⊥
-BeginsKnown (Some whole) (Some out) = (left : List ℕ) × (whole ≡ out ++ left)
+-- a write failed: a beginning of the block is out, and the line that tells so was sent behind it, or nothing where the status was 3,
+-- since the line of another fault was sent before
+pub record LosesSome (status : ℕ) (block : List ℕ) (old new : Device) : Type 0 where
+  pub between : Device
+  pub begun : AppendsBeginning old.bytes between.bytes block
+  pub failed : between.failures ≡ one_more old.failures
+  pub told : ((status ≡ 3) × (new ≡ between)) ⊎ ((status ≢ 3) × Sends (fault_line Write) between new)
 
--- a write failed: a beginning of the bytes is out, and behind it a beginning of the line that tells so
-pub record LosesSome (held new : Option (List ℕ)) : Type 0 where
-  pub between : Option (List ℕ)
-  pub begun : BeginsKnown held between
-  pub told : AppendsBeginning between new (fault_line Write)
-
--- the status of the work is the program's, and all bytes that were held went out; or the status is 3, and some may be lost
-abbrev pub Finishes : ℕ → ℕ → Option (List ℕ) → Option (List ℕ) → Type 0
-Finishes status ended held new = ((ended ≡ status) × Keeps held new) ⊎ ((ended ≡ 3) × LosesSome held new)
+-- the block went out whole, and the program's status is that of its work; or the status is 3, and some of the block may be lost
+abbrev pub Finishes : ℕ → ℕ → List ℕ → Device → Device → Type 0
+Finishes status ended block old new =
+    ((ended ≡ status) × Appends old.bytes new.bytes block × (new.failures ≡ old.failures))
+    ⊎ ((ended ≡ 3) × LosesSome status block old new)

@@ -1,2 +1,1 @@
 mod Parsing
-mod Usage

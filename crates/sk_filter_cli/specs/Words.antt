@@ -1,5 +1,6 @@
 -- What the words that say what to do stand for.
 use Rattle.std.specs.Prelude.{ℕ, List, [], ◌∷◌, codes, Option, Some, None, if◌then◌else◌}
+use Rattle.std.specs.Option.{option_and_then}
 use Rattle.std.specs.Str.{bytes_eq}
 use Rattle.sk_engines.specs.Output.{Output, misused, line}
 use Rattle.sk_engines.specs.CheckCommand.{check_answer}
@@ -38,8 +39,16 @@ answer_by word.List input = list_answer input
 abbrev pub usage : Output
 usage = misused (line (codes "usage: skern check|eval|asm|list"))
 
+-- the word of filters that a word is
+abbrev pub filter_word : Word → Option FilterWord
+filter_word Run = None
+filter_word (Filters filters) = Some filters
+
+-- the one word of filters that was given, or nothing
+abbrev pub filter_word_of : List (List ℕ) → Option FilterWord
+filter_word_of words = option_and_then filter_word (word_of words)
+
 -- what `filters` answers to a word on an input
-abbrev pub answer_to : Option Word → List ℕ → Output
-answer_to (Some (Filters filters)) input = answer_by filters input
-answer_to (Some Run) input = usage
+abbrev pub answer_to : Option FilterWord → List ℕ → Output
+answer_to (Some word) input = answer_by word input
 answer_to None input = usage

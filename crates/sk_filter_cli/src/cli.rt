@@ -1,9 +1,9 @@
 //! The filter commands over any reader and writer.
-ghost use Rattle.std.specs.Prelude.{◌≡◌, ◌≤◌, IfOk, IfSome, map, string_bytes};
+ghost use Rattle.std.specs.Prelude.{◌≡◌, ◌≤◌, IfNone, IfOk, IfSome, map, string_bytes};
 ghost use Rattle.sk_ends.specs.Reading.{ConsumesUpTo};
 ghost use Rattle.sk_engines.specs.Engine.{Delivers, CountsReads, CountsWrites};
-ghost use Rattle.sk_engines.specs.Program.{Ends};
-ghost use Rattle.sk_filter_cli.specs.Words.{answer_by, answer_to, word_of};
+ghost use Rattle.sk_engines.specs.Program.{Ends, Works, device};
+ghost use Rattle.sk_filter_cli.specs.Words.{answer_by, answer_to, filter_word_of};
 
 use crate::word::{FilterWord, Word, word_in};
 use sk_ends::{Sink, Source};
@@ -22,11 +22,11 @@ pub fn command<R: Source, W: Sink>(
     reader: &mut R,
     writer: &mut W,
 ) -> u8
-    ensures status { result ≤ 3 }
-    ensures told { IfSome (R.remaining reader.old) (λ input.
-        Ends (Delivers (answer_to (word_of (map string_bytes words.now)) input)) result (W.contents writer.old) (W.contents writer.new)) }
-    ensures reads { result ≤ 2 → R.failed reader.new ≡ R.failed reader.old }
-    ensures writes { result ≤ 2 → W.failed writer.new ≡ W.failed writer.old }
+    ensures ends { Ends (λ input. Delivers (answer_to (filter_word_of (map string_bytes words.now)) input)) result
+        (device (R.remaining reader.old) (R.failed reader.old)) (device (R.remaining reader.new) (R.failed reader.new))
+        (device (W.contents writer.old) (W.failed writer.old)) (device (W.contents writer.new) (W.failed writer.new)) }
+    ensures limit { ConsumesUpTo 1048577 (R.remaining reader.old) (R.remaining reader.new) }
+    ensures unread { IfNone (filter_word_of (map string_bytes words.now)) (reader.new ≡ reader.old) }
 {
     match done(alloc, words, reader, writer) {
         Ok(status) => status,
@@ -40,11 +40,12 @@ fn done<R: Source, W: Sink>(
     reader: &mut R,
     writer: &mut W,
 ) -> Result<u8, CommandFault>
-    ensures told { IfSome (R.remaining reader.old) (λ input.
-        Delivers (answer_to (word_of (map string_bytes words.now)) input) result (W.contents writer.old) (W.contents writer.new)) }
+    ensures works { Works (λ input. Delivers (answer_to (filter_word_of (map string_bytes words.now)) input)) result
+        (device (R.remaining reader.old) (R.failed reader.old)) (device (R.remaining reader.new) (R.failed reader.new))
+        (device (W.contents writer.old) (W.failed writer.old)) (device (W.contents writer.new) (W.failed writer.new)) }
     ensures status { IfOk result (λ status. status ≤ 2) }
-    ensures reads { CountsReads result (R.failed reader.old) (R.failed reader.new) }
-    ensures writes { CountsWrites result (W.failed writer.old) (W.failed writer.new) }
+    ensures limit { ConsumesUpTo 1048577 (R.remaining reader.old) (R.remaining reader.new) }
+    ensures unread { IfNone (filter_word_of (map string_bytes words.now)) (reader.new ≡ reader.old) }
 {
     match word_in(alloc, words)? {
         Some(Word::Filters(word)) => filter_command(alloc, word, reader, writer),

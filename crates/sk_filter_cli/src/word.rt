@@ -1,5 +1,5 @@
 //! The one word that says what the program does.
-ghost use Rattle.std.specs.Prelude.{◌≡◌, IfOk, map, option_map, string_bytes};
+ghost use Rattle.std.specs.Prelude.{◌≡◌, ◌≢◌, IfOk, length, map, option_map, string_bytes};
 ghost use Rattle.clap.specs.Simple.{app_of};
 ghost use Rattle.sk_filter_cli.specs.Parser.{program};
 ghost use Rattle.sk_filter_cli.specs.Words.{word_of, word_named};
@@ -29,6 +29,7 @@ pub enum FilterWord {
 /// What these words say, or none where they are not one word that says something.
 pub fn word_in(alloc: Global, words: &[String]) -> Result<Option<Word>, AllocError>
     ensures exact { IfOk result (λ word. word ≡ word_of (map string_bytes words.now)) }
+    ensures single { length words.now ≢ 1 → result ≡ Ok None }
 {
     if words.len() != 1 {
         return Ok(None);

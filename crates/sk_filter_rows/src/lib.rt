@@ -8,6 +8,8 @@ mod chains;
 #[cfg(test)]
 mod checks;
 #[cfg(test)]
+mod conditions;
+#[cfg(test)]
 mod ends;
 #[cfg(test)]
 mod filters;

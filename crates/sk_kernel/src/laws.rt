@@ -3,7 +3,7 @@
 ghost use Rattle.std.specs.Prelude.{◌≡◌, ◌++◌, length, IfOk, OnOk};
 ghost use Rattle.std.specs.Option.{option_to_list};
 ghost use Rattle.sk_machine.specs.Lines.{is_performed, has_answered, is_fork_of, line_before, calls_added, performed_call, call_of, line_of, history_of};
-ghost use Rattle.sk_kernel.specs.Lineages.{line_in};
+ghost use Rattle.sk_kernel.specs.views.Lineages.{line_in};
 
 use sk_insn::Action;
 pub use sk_insn::Record as Call;

@@ -84,20 +84,26 @@ abbrev pub after_set_seccomp : GivenImages → Record → Authority → Result A
 after_set_seccomp images call a =
     if register call 1 == 2 then after_attach images 0 (register call 2) a else Err Einval
 
--- prctl(2), by its option. One that only asks, and a number that is no option, leave the authority
+-- prctl(2), by its option. Those that only ask, the mark of a subreaper, and a number that is no option leave the
+-- authority
 abbrev pub after_prctl : GivenImages → Option PrctlOption → Record → Authority → Result Authority Errno
 after_prctl images (Some option.SetNoNewPrivs) call a = after_no_new_privs call a
 after_prctl images (Some option.SetSeccomp) call a = after_set_seccomp images call a
-after_prctl images other call a = Ok a
+after_prctl images (Some option.GetSeccomp) call a = Ok a
+after_prctl images (Some option.GetNoNewPrivs) call a = Ok a
+after_prctl images (Some option.SetChildSubreaper) call a = Ok a
+after_prctl images (Some option.GetChildSubreaper) call a = Ok a
+after_prctl images None call a = Ok a
 
 -- seccomp(2), SECCOMP_SET_MODE_FILTER
 abbrev pub after_set_mode_filter : GivenImages → Record → Authority → Result Authority Errno
 after_set_mode_filter images call a = after_attach images (low call 1) (register call 2) a
 
--- seccomp(2), by its operation, in the same way
+-- seccomp(2), by its operation. The one that only asks, and a number that is no operation, leave the authority
 abbrev pub after_seccomp : GivenImages → Option SeccompOperation → Record → Authority → Result Authority Errno
 after_seccomp images (Some operation.SetModeFilter) call a = after_set_mode_filter images call a
-after_seccomp images other call a = Ok a
+after_seccomp images (Some operation.GetActionAvail) call a = Ok a
+after_seccomp images None call a = Ok a
 
 -- the authority after a performed call, or the error of a call that would change it. Every other call
 -- leaves it as it is, and so does an operation of prctl(2) or seccomp(2) that changes no authority, though

@@ -1,14 +1,13 @@
 -- The line of a process: where it comes from, and the calls that it and those it was forked from have
 -- made until then; and what a line says of its authority.
-use Rattle.std.specs.Prelude.{ℕ, pos, negsuc, ◌==◌, Bool, true, false, not, ◌&&◌, if◌then◌else◌, List, [], ◌∷◌, ◌++◌, reverse, Option, None, Some}
-use Rattle.std.specs.Option.{option_map_or, option_to_list}
+use Rattle.std.specs.Prelude.{ℕ, pos, negsuc, ◌==◌, Bool, false, not, ◌&&◌, if◌then◌else◌, List, [], ◌∷◌, ◌++◌, reverse, Option, None, Some}
+use Rattle.std.specs.Option.{option_map, option_map_or, option_to_list}
 use Rattle.std.specs.List.{zip}
 use Rattle.std.specs.Result.{result_unwrap_or}
 use Rattle.sk_insn.specs.declared.record.Record.{Record}
 use Rattle.sk_insn.specs.Actions.{action_of, performs}
 use Rattle.sk_calls.specs.declared.syscall.Syscall.TheVariants as syscall
 use Rattle.sk_calls.specs.Syscalls.{number_of}
-use Rattle.sk_creds.specs.declared.creds.TheConstants.{NO_ID}
 use Rattle.sk_world.specs.World.{World, at}
 use Rattle.sk_machine.specs.declared.event.Event.{Event}
 use Rattle.sk_machine.specs.declared.event.Event.TheVariants.{Call, Deliver, Resume, Fault}
@@ -100,17 +99,13 @@ authority_after_calls images [] a = a
 authority_after_calls images (call ∷ calls) a =
     authority_after_calls images calls (result_unwrap_or (authority_after_call images call a) a)
 
--- the authority that stands for that of nobody: no process has it, and no law asks
-abbrev pub nobodys : Authority
-nobodys = record { programs = []; creds = record { real = NO_ID; effective = NO_ID; saved = NO_ID; no_new_privs = true } }
+-- the authority of the process of a pid, if there is one
+abbrev pub authority_at : World → ℕ → Option Authority
+authority_at w pid = option_map (λ p. authority_of p.body) (at w pid)
 
--- the authority of the process of a pid
-abbrev pub authority_at : World → ℕ → Authority
-authority_at w pid = option_map_or (λ p. authority_of p.body) (at w pid) nobodys
-
--- the authority of a line, from those that the roots had in the world before
-abbrev pub authority_of_line : GivenImages → World → Line → Authority
-authority_of_line images w line = authority_after_calls images line.calls (authority_at w line.root)
+-- the authority of a line, from the one that its root had in the world before, if the root was there
+abbrev pub authority_of_line : GivenImages → World → Line → Option Authority
+authority_of_line images w line = option_map (authority_after_calls images line.calls) (authority_at w line.root)
 
 -- the history that these events and their answers make, the newest first
 abbrev pub history_of : List Event → List Answer → List Happening

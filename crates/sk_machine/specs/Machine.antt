@@ -118,12 +118,12 @@ own_reason w (Deliver pid) = deliver_reason w pid
 own_reason w (Resume pid) = resume_reason w pid
 own_reason w (Fault pid) = call_reason w pid
 
--- a stopped process can only be killed
-abbrev pub is_kill : World → Event → Bool
-is_kill w (Deliver pid) = is_some (signal_due (at w pid))
-is_kill w (Call pid ip nr args) = false
-is_kill w (Resume pid) = false
-is_kill w (Fault pid) = false
+-- the event delivers the signal that is due, which to a stopped process is SIGKILL alone
+abbrev pub is_due_delivery : World → Event → Bool
+is_due_delivery w (Deliver pid) = is_some (signal_due (at w pid))
+is_due_delivery w (Call pid ip nr args) = false
+is_due_delivery w (Resume pid) = false
+is_due_delivery w (Fault pid) = false
 
 -- the first reason for which an event is not possible, if there is one
 abbrev pub reason_of : World → Event → Option Reason
@@ -131,7 +131,7 @@ reason_of w event =
     if is_halted w then Some Halted
     else if not (is_some (at w (pid_of event))) then Some NoProcess
     else if is_zombie (at w (pid_of event)) then Some Zombie
-    else if is_stopped (at w (pid_of event)) && not (is_kill w event) then Some Stopped
+    else if is_stopped (at w (pid_of event)) && not (is_due_delivery w event) then Some Stopped
     else own_reason w event
 
 -- an event of this process, if it is there

@@ -26,7 +26,7 @@ use Rattle.sk_calls.specs.declared.syscall.Syscall.TheVariants as syscall
 use Rattle.sk_machine.specs.Given.{GivenImages}
 use Rattle.sk_calls.specs.Syscalls.{syscall_of}
 use Rattle.sk_machine.specs.Arguments.{register, low, signed, prctl_option_of, seccomp_operation_of}
-use Rattle.sk_machine.specs.Authority.{Authority, authority_of, with_authority, after_prctl, after_seccomp, authority_after}
+use Rattle.sk_machine.specs.Authority.{Authority, authority_of, with_authority, after_no_new_privs, after_set_seccomp, after_set_mode_filter, authority_after}
 use Rattle.sk_machine.specs.Performed.{Performed, returns, fails, asked, changes, authorises, waits}
 use Rattle.sk_machine.specs.SignalCalls.{resignals, after_sigaction, after_sigprocmask, after_sigreturn}
 use Rattle.sk_machine.specs.Killing.{after_kill}
@@ -94,14 +94,15 @@ subreaper_asked w is_marked = returns w (if is_marked then 1 else 0)
 abbrev pub where_subreapers : Bool → World → Performed → Performed
 where_subreapers there w p = if there then p else fails w Einval
 
--- prctl(2), by its option: EINVAL where the number is none. Those that are not named here change the authority
+-- prctl(2), by its option: EINVAL where the number is none
 abbrev pub prctl : GivenImages → World → ℕ → Body → Option PrctlOption → Record → Performed
 prctl images w pid body (Some option.GetSeccomp) call = returns w (seccomp_mode body.chain)
 prctl images w pid body (Some option.GetNoNewPrivs) call = asked w (no_new_privs_asked call body.creds.no_new_privs)
 prctl images w pid body (Some option.SetChildSubreaper) call = where_subreapers images.subreapers w (subreaper_set w pid call)
 prctl images w pid body (Some option.GetChildSubreaper) call = where_subreapers images.subreapers w (subreaper_asked w body.subreaper)
 prctl images w pid body None call = fails w Einval
-prctl images w pid body setting call = authorises w pid (after_prctl images setting call (authority_of body))
+prctl images w pid body (Some option.SetNoNewPrivs) call = authorises w pid (after_no_new_privs call (authority_of body))
+prctl images w pid body (Some option.SetSeccomp) call = authorises w pid (after_set_seccomp images call (authority_of body))
 
 -- seccomp(2), SECCOMP_GET_ACTION_AVAIL: the number is one of the eight actions' values. No flag is taken
 abbrev pub action_available : ℕ → ℕ → Result ℕ Errno
@@ -110,12 +111,11 @@ action_available flags value =
     else if is_some (value_of (action_of value)) && (data_part value == 0) then Ok 0
     else Err Eopnotsupp
 
--- seccomp(2), by its operation: EINVAL where the number is none. The one that is not named here changes the
--- authority
+-- seccomp(2), by its operation: EINVAL where the number is none
 abbrev pub seccomp : GivenImages → World → ℕ → Body → Option SeccompOperation → Record → Performed
 seccomp images w pid body (Some operation.GetActionAvail) call = asked w (action_available (low call 1) (low call 2))
 seccomp images w pid body None call = fails w Einval
-seccomp images w pid body setting call = authorises w pid (after_seccomp images setting call (authority_of body))
+seccomp images w pid body (Some operation.SetModeFilter) call = authorises w pid (after_set_mode_filter images call (authority_of body))
 
 -- what the process of a pid, which has this body, comes to when it makes the call, and nothing stands in its way
 abbrev pub row : GivenImages → World → ℕ → Body → Option Syscall → Record → Performed

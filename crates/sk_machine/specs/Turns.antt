@@ -14,16 +14,16 @@ use Rattle.sk_machine.specs.declared.event.Need.{Need}
 use Rattle.sk_machine.specs.declared.event.Need.TheVariants as need
 use Rattle.sk_machine.specs.Delivering.{signal_due, is_in_call}
 
--- the call that a process waits in would end now: a wait4(2) whose child is ready, or that no child
--- matches
-abbrev pub wait_ends : World → ℕ → Waiting → Bool
-wait_ends w pid Nothing = true
-wait_ends w pid Pause = false
-wait_ends w pid (Asks request) = list_any (is_ready w pid request) (pids w.procs) || not (has_match w pid request)
+-- a process that waits so would not go on waiting: it waits in no call, or in one that would end now, a wait4(2)
+-- whose child is ready, or that no child matches
+abbrev pub waits_no_more : World → ℕ → Waiting → Bool
+waits_no_more w pid Nothing = true
+waits_no_more w pid Pause = false
+waits_no_more w pid (Asks request) = list_any (is_ready w pid request) (pids w.procs) || not (has_match w pid request)
 
--- a process is there, and does not wait in a call or waits in one that would end now
+-- a process is there, and would not go on waiting
 abbrev pub goes_on : World → ℕ → Option Proc → Bool
-goes_on w pid o = option_map_or (λ p. wait_ends w pid p.body.waiting) o false
+goes_on w pid o = option_map_or (λ p. waits_no_more w pid p.body.waiting) o false
 
 -- a process can run: it lives, and a signal is due, or it is not stopped and its call would not go on
 -- waiting

@@ -45,7 +45,8 @@ polled_again w pid (poll.Told child status) =
 polled_again w pid poll.NoMatch = fails (changed w pid (waiting_in Nothing)) Echild
 polled_again w pid poll.NotReady = record { outcome = Waits; world = w }
 
--- a process that waits asks again. pause(2) ends by a signal alone
+-- a process that waits asks again. pause(2) ends by a signal alone. Who waits in no call has nothing to ask: that
+-- event is not possible
 abbrev pub resumed : World → ℕ → Waiting → Performed
 resumed w pid (Asks request) = polled_again w pid (ready_of w pid request)
 resumed w pid Pause = record { outcome = Waits; world = w }

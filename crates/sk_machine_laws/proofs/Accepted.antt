@@ -1,15 +1,16 @@
 -- Every filter in force was accepted by the rules.
-use Rattle.std.proofs.Common.{◌≡◌, ℕ, ◌+◌, ◌==◌, ◌&&◌, arith, sym, refl, subst, cond, not, Bool, true, false, nat_lt, length, IsTrue, IfOk, List, [], ◌∷◌, Option, None, Some, Result, Ok, Err}
-use Rattle.std.specs.Option.{is_some}
+use Rattle.std.proofs.Common.{◌≡◌, ℕ, ◌+◌, ◌==◌, ◌&&◌, arith, sym, refl, subst, cond, not, Bool, true, false, nat_lt, length, IsTrue, IfOk, List, [], ◌∷◌, Option, None, Some, Result, Ok, Err, IfSome}
+use Rattle.sk_world.specs.declared.process.Proc.{Proc}
+use Rattle.std.specs.Option.{is_some, option_map}
 use Rattle.std.specs.Result.{result_unwrap_or}
-use Rattle.std.proofs.lemmas.Bool.{true≢false, false≢true, cond_both, ltb-false}
+use Rattle.std.proofs.lemmas.Bool.{true≢false, cond_both, ltb-false}
 use Rattle.sk_insn.specs.declared.insn.Insn.{Insn}
 use Rattle.sk_insn.specs.declared.record.Record.{Record}
 use Rattle.sk_check.specs.declared.fault.CheckFault.{CheckFault}
 use Rattle.sk_check.specs.FirstFault.{first_fault}
 use Rattle.sk_check.proofs.FirstFaults.{first_fault-None}
 use Rattle.sk_interp.proofs.ValidMeanings.{valid_returns}
-use Rattle.sk_chain.specs.Chains.{cost_of, AllValid}
+use Rattle.sk_chain.specs.Chains.{StepsAreBounded, cost_of, AllValid}
 use Rattle.sk_chain.proofs.Bounds.{bounded}
 use Rattle.sk_creds.specs.declared.errno.Errno.{Errno}
 use Rattle.sk_creds.specs.declared.errno.Errno.TheVariants.{Enomem, Eacces, Einval}
@@ -17,7 +18,7 @@ use Rattle.sk_creds.specs.declared.creds.Creds.{Creds}
 use Rattle.sk_creds.specs.Creds.{is_privileged, after_setuid, after_setresuid}
 use Rattle.sk_world.specs.declared.process.TheConstants.{INIT}
 use Rattle.sk_world.specs.Processes.{none}
-use Rattle.sk_world.specs.World.{first_process, opening}
+use Rattle.sk_world.specs.World.{first_process, opening, at}
 use Rattle.sk_world.proofs.Maps.{get_store}
 use Rattle.sk_machine.specs.declared.images.Mark.{Mark}
 use Rattle.sk_machine.specs.declared.operation.PrctlOption.{PrctlOption}
@@ -109,12 +110,21 @@ keeps_calls images (call ∷ calls) a accepted =
     let next : Authority = result_unwrap_or (authority_after_call images call a) a in
     keeps_calls images calls next (keeps_or_stays a (authority_after_call images call a) (keeps_row images (syscall_of call.nr) call a) accepted)
 
+of_those_there : (o : Option Proc) → (IsTrue (is_some o) → IfSome (authority_in o) (λ a. AreAccepted a.programs)) → IfSome (authority_in o) (λ a. AreAccepted a.programs)
+of_those_there None is = tt
+of_those_there (Some p) is = is refl
+
+accepted_later : (images : GivenImages) (calls : List Record) (o : Option Authority) → IfSome o (λ a. AreAccepted a.programs) → IfSome (option_map (authority_after_calls images calls) o) (λ a. AreAccepted a.programs)
+accepted_later images calls None accepted = tt
+accepted_later images calls (Some a) accepted = keeps_calls images calls a accepted
+
 pub event_keeps_accepted : EventKeepsAccepted
-event_keeps_accepted images w event accepted pid there =
+event_keeps_accepted images w event accepted pid =
+    of_those_there (at (step_of images w event).world pid) (λ there.
     let from : ℕ = line_before pid (happening images w event) in
-    let changed = event_changes_authority images w event pid there in
-    subst (λ (a : Authority). AreAccepted a.programs) (sym changed.1)
-    (keeps_calls images (calls_added pid (happening images w event)) (authority_at w from) (accepted from changed.0))
+    let calls : List Record = calls_added pid (happening images w event) in
+    subst (λ o. IfSome o (λ a. AreAccepted a.programs)) (sym (event_changes_authority images w event pid there).1)
+    (accepted_later images calls (authority_at w from) (accepted from)))
 
 pub run_keeps_accepted : RunKeepsAccepted
 run_keeps_accepted images w [] accepted = accepted
@@ -132,17 +142,20 @@ pub accepted_are_bounded : AcceptedAreBounded
 accepted_are_bounded programs accepted = bounded programs accepted.limited
 
 -- process 1 starts without filters, and there is nobody else
-only_init : (b : Bool) → IsTrue (is_some (cond b (Some first_process) None)) → AreAccepted (authority_in (cond b (Some first_process) None)).programs
-only_init true there = record { valid = tt; limited = omega arith }
-only_init false there = absurd (false≢true there)
+only_init : (b : Bool) → IfSome (authority_in (cond b (Some first_process) None)) (λ a. AreAccepted a.programs)
+only_init true = record { valid = tt; limited = omega arith }
+only_init false = tt
 
 accepted_opening : HasAccepted opening
 accepted_opening pid =
-    subst (λ o. IsTrue (is_some o) → AreAccepted (authority_in o).programs) (sym (get_store none INIT (Some first_process) pid)) (only_init (pid == INIT))
+    subst (λ o. IfSome (authority_in o) (λ a. AreAccepted a.programs)) (sym (get_store none INIT (Some first_process) pid)) (only_init (pid == INIT))
 
 pub filters_in_force_are_accepted : FiltersInForceAreAccepted
 filters_in_force_are_accepted images events = run_keeps_accepted images opening events accepted_opening
 
 pub steps_in_force_are_bounded : StepsInForceAreBounded
-steps_in_force_are_bounded images events pid there =
-    accepted_are_bounded (authority_at (world_after images opening events) pid).programs (filters_in_force_are_accepted images events pid there)
+steps_in_force_are_bounded images events pid = each (authority_at (world_after images opening events) pid) (filters_in_force_are_accepted images events pid)
+  where
+    each : (o : Option Authority) → IfSome o (λ a. AreAccepted a.programs) → IfSome o (λ a. StepsAreBounded a.programs)
+    each None accepted = tt
+    each (Some a) accepted = accepted_are_bounded a.programs accepted

@@ -1,6 +1,6 @@
 -- A line keeps its filters, and its verdicts are theirs.
 use Rattle.std.proofs.Common.{◌≡◌, ◌∙◌, ℕ, ◌+◌, ◌==◌, ◌&&◌, ℤ, ◌≤ℤ◌, inl, inr, arith, slice_get, ap, sym, refl, subst, not, true, nat_lt, append_assoc, length, IsTrue, IfOk, List, [], ◌∷◌, ◌++◌, Option, None, Some, Result, Ok, Err}
-use Rattle.std.specs.Option.{is_some, unwrap_or}
+use Rattle.std.specs.Option.{is_some, unwrap_or, option_map}
 use Rattle.std.specs.Result.{result_unwrap_or}
 use Rattle.std.proofs.lemmas.Int.{ints}
 use Rattle.std.specs.Int.{cast_signed, w32}
@@ -37,8 +37,8 @@ use Rattle.sk_calls.specs.Syscalls.{syscall_of}
 use Rattle.sk_machine.specs.Arguments.{register, low, prctl_option_of, seccomp_operation_of}
 use Rattle.sk_machine.specs.Authority.{Authority, program_of, filtered, after_attach, with_creds, after_execve, after_no_new_privs, after_set_seccomp, after_prctl, after_seccomp, authority_after, authority_after_call}
 use Rattle.sk_machine.specs.Machine.{step_of, world_after, Stepped}
-use Rattle.sk_machine.specs.Lines.{authority_after_calls, authority_of_line, authority_at}
-use Rattle.sk_machine_laws.specs.LineLaws.{line_after, GrowsFrom, LineKeepsFilters, VerdictIsOfLine, PerformedMeetsNoRefusal}
+use Rattle.sk_machine.specs.Lines.{Line, authority_after_calls, authority_of_line, authority_at}
+use Rattle.sk_machine_laws.specs.LineLaws.{line_after, judged_by, GrowsFrom, LineKeepsFilters, EqualLinesMayDoTheSame, EqualLinesAreJudgedAlike, VerdictIsOfLine, PerformedMeetsNoRefusal}
 use Rattle.sk_machine_laws.proofs.LineSteps.{after_more, authority_is_of_line, authority_in}
 use Rattle.sk_machine_laws.proofs.Happened.{at_step}
 
@@ -132,7 +132,7 @@ line_keeps_filters images calls more a =
 -- the verdict in the answer to a call is that of the caller's filters
 abbrev JudgedByFilters : World → ℕ → Record → ℕ → Outcome → Stepped → Type 0
 JudgedByFilters w pid call verdict outcome s =
-    s.answer ≡ answer.Call verdict outcome → IsTrue (is_some (at w pid)) × (verdict ≡ verdict_of (authority_at w pid).programs call)
+    s.answer ≡ answer.Call verdict outcome → IsTrue (is_some (at w pid)) × (judged_by call (authority_at w pid) ≡ Some verdict)
 
 pub judged_by_filters : (images : GivenImages) (w : World) (pid ip nr : ℕ) (args : List ℕ) (verdict : ℕ) (outcome : Outcome)
     → JudgedByFilters w pid (record { nr = nr; ip = ip; args = args }) verdict outcome (step_of images w (Call pid ip nr args))
@@ -140,12 +140,23 @@ judged_by_filters images w pid ip nr args verdict outcome =
     let call : Record = record { nr = nr; ip = ip; args = args } in
     at_step images w (Call pid ip nr args) (JudgedByFilters w pid call verdict outcome) (λ _ _ made. cc) (λ p there alive made.
     let same : verdict_of p.body.chain call ≡ verdict = cc in
-    (alive_is_there (at w pid) alive, sym same ∙ ap (λ o. verdict_of (authority_in o).programs call) (sym there)))
+    (alive_is_there (at w pid) alive, ap (λ o. judged_by call (authority_in o)) there ∙ ap (λ v. Some v) same))
 
 pub verdict_is_of_line : VerdictIsOfLine
 verdict_is_of_line images w events pid ip nr args verdict outcome made =
     let judged = judged_by_filters images (world_after images w events) pid ip nr args verdict outcome made in
-    judged.1 ∙ ap (λ (a : Authority). verdict_of a.programs (record { nr = nr; ip = ip; args = args })) (authority_is_of_line images w events pid judged.0).1
+    ap (judged_by (record { nr = nr; ip = ip; args = args })) (sym (authority_is_of_line images w events pid judged.0).1) ∙ judged.1
+
+pub equal_lines_may_do_the_same : EqualLinesMayDoTheSame
+equal_lines_may_do_the_same images v w one other p q equal =
+    let line : Line = line_after images v one p in
+    let same : authority_of_line images v line ≡ authority_of_line images w (line_after images w other q) =
+    (λ i. option_map (authority_after_calls images (equal.calls i)) (equal.roots i)) in
+    (authority_is_of_line images v one p equal.p_there).1 ∙ same ∙ sym (authority_is_of_line images w other q equal.q_there).1
+
+pub equal_lines_are_judged_alike : EqualLinesAreJudgedAlike
+equal_lines_are_judged_alike images v w one other p q call equal =
+    ap (judged_by call) (equal_lines_may_do_the_same images v w one other p q equal)
 
 -- ---- a verdict that lets a call through
 -- an action that performs has no precedence over SECCOMP_RET_LOG
@@ -180,7 +191,8 @@ no_refusal (first ∷ rest) place value performed here =
     (lets_through (first_of (first ∷ rest)) performed) (least.2 place value here)
 
 pub performed_meets_no_refusal : PerformedMeetsNoRefusal
-performed_meets_no_refusal images w events pid ip nr args verdict outcome place value made performed here =
-    let programs : List (List Insn) = (authority_of_line images w (line_after images w events pid)).programs in
+performed_meets_no_refusal images w events pid ip nr args verdict outcome a place value made performed known here =
     let call : Record = record { nr = nr; ip = ip; args = args } in
-    no_refusal (values_of programs call) place value (subst (λ v. IsTrue (performs (action_of v))) (verdict_is_of_line images w events pid ip nr args verdict outcome made) performed) here
+    let same : verdict ≡ verdict_of a.programs call =
+    ap (λ o. unwrap_or o verdict) (sym (verdict_is_of_line images w events pid ip nr args verdict outcome made) ∙ ap (judged_by call) known) in
+    no_refusal (values_of a.programs call) place value (subst (λ v. IsTrue (performs (action_of v))) same performed) here

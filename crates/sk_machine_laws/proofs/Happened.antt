@@ -10,7 +10,7 @@ use Rattle.sk_machine.specs.declared.answer.Reason.{Reason}
 use Rattle.sk_machine.specs.declared.answer.Reason.TheVariants.{NoProcess, Zombie, Stopped, Halted, NothingWaits}
 use Rattle.sk_machine.specs.Events.{pid_of}
 use Rattle.sk_machine.specs.Given.{GivenImages}
-use Rattle.sk_machine.specs.Machine.{Stepped, happened, is_kill, own_reason, reason_of, not_now, happened_to, stepped, step_of, signal_answered, delivery}
+use Rattle.sk_machine.specs.Machine.{Stepped, happened, is_due_delivery, own_reason, reason_of, not_now, happened_to, stepped, step_of, signal_answered, delivery}
 use Rattle.sk_world.specs.declared.process.Body.{Body}
 use Rattle.sk_machine.specs.Delivering.{delivered}
 
@@ -22,7 +22,7 @@ there_and_no_zombie (Some p) there zombie = ap not zombie
 pub possible_is_alive : (w : World) (event : Event) → reason_of w event ≡ None → IsTrue (is_alive (at w (pid_of event)))
 possible_is_alive w event possible =
     let o : Option Proc = at w (pid_of event) in
-    let stopped : Bool = is_stopped o && not (is_kill w event) in
+    let stopped : Bool = is_stopped o && not (is_due_delivery w event) in
     cond_both (is_halted w) (Some Halted) _ (λ r. r ≡ None → IsTrue (is_alive o)) (λ _ is. cc)
     (λ _. cond_both (not (is_some o)) (Some NoProcess) _ (λ r. r ≡ None → IsTrue (is_alive o)) (λ _ is. cc)
     (λ there. cond_both (is_zombie o) (Some Zombie) (cond stopped (Some Stopped) (own_reason w event)) (λ r. r ≡ None → IsTrue (is_alive o)) (λ _ is. cc)

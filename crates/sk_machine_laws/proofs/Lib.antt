@@ -7,6 +7,7 @@ pub mod LineSteps
 pub mod Growing
 pub mod Accepted
 pub mod Tellings
+pub mod LeftOrphaned
 pub mod Confined
 pub mod Parents
 pub mod Turns

@@ -1,6 +1,6 @@
 -- What each event does to authorities, and that they are those of the lines.
 use Rattle.std.proofs.Common.{◌≡◌, ◌≢◌, ◌∙◌, ℕ, ◌==◌, ◌&&◌, ap, sym, refl, subst, cond, not, Bool, true, false, IsTrue, List, [], ◌∷◌, ◌++◌, Option, None, Some, Result, Ok, Err}
-use Rattle.std.specs.Option.{is_some, unwrap_or, option_to_list, option_map_or}
+use Rattle.std.specs.Option.{is_some, unwrap_or, option_to_list, option_map}
 use Rattle.std.specs.Result.{result_unwrap_or}
 use Rattle.std.proofs.lemmas.Bool.{false≢true, eqb-true, eqb-false, false_from_ne_true}
 use Rattle.sk_insn.specs.declared.record.Record.{Record}
@@ -44,7 +44,7 @@ use Rattle.sk_machine.specs.Killing.{after_kill}
 use Rattle.sk_machine.specs.Performing.{executing, execve, forks, exit_status, no_new_privs_asked, subreaper_set, subreaper_asked, where_subreapers, with_subreaper, prctl, action_available, seccomp, row}
 use Rattle.sk_machine.specs.Delivering.{signal_for}
 use Rattle.sk_machine.specs.Machine.{Stepped, judged, happened, step_of, world_after}
-use Rattle.sk_machine.specs.Lines.{Line, Happening, is_fork, has_returned, line_before, calls_added, line_of, authority_after_calls, history_after, nobodys}
+use Rattle.sk_machine.specs.Lines.{Line, Happening, is_fork, has_returned, line_before, calls_added, line_of, authority_after_calls, history_after}
 use Rattle.sk_machine_laws.specs.LineLaws.{happening, EventChangesAuthority, AuthorityIsOfLine, LineComesFromInit}
 use Rattle.sk_machine_laws.proofs.Carrying.{over_asked, over_changes, over_resignals, over_waits, over_kill, over_setpgid, over_setsid, over_wait4, over_end, over_delivered, over_resumed}
 use Rattle.sk_machine_laws.proofs.Authorities.{CameBy, Came, Keeps, came_still, came_at, came_by_rights, keeps_by_rights, keeps_still, keeps_changed, keeps}
@@ -300,15 +300,15 @@ someone None there = absurd (false≢true there)
 someone (Some p) there = (p, refl)
 
 -- the authority of a process, if it is there
-abbrev pub authority_in : Option Proc → Authority
-authority_in o = option_map_or (λ p. authority_of p.body) o nobodys
+abbrev pub authority_in : Option Proc → Option Authority
+authority_in o = option_map (λ p. authority_of p.body) o
 
 by_origin : (f : Authority → Authority) (now before : Option Proc) → CameBy f now before → IsTrue (is_some now)
-    → IsTrue (is_some before) × (authority_in now ≡ f (authority_in before))
+    → IsTrue (is_some before) × (authority_in now ≡ option_map f (authority_in before))
 by_origin f now before came there =
     let p = someone now there in
     let old = came p.0 p.1 in
-    (ap is_some old.1, ap authority_in p.1 ∙ old.2 ∙ ap (λ o. f (authority_in o)) (sym old.1))
+    (ap is_some old.1, ap authority_in p.1 ∙ ap (λ a. Some a) old.2 ∙ ap (λ o. option_map f (authority_in o)) (sym old.1))
 
 pub event_changes_authority : EventChangesAuthority
 event_changes_authority images w event pid there =

@@ -1,6 +1,7 @@
 -- Where there are no subreapers no event makes one.
-use Rattle.std.proofs.Common.{◌≡◌, ◌∙◌, ℕ, ◌==◌, ◌&&◌, ap, sym, refl, cond, not, Bool, true, false, IsTrue, [], ◌∷◌, Option, None, Some, Result, Ok, Err}
-use Rattle.std.specs.Option.{is_some, option_map, option_map_or, option_and_then}
+use Rattle.std.proofs.Common.{◌≡◌, ◌∙◌, ℕ, ◌==◌, ◌&&◌, ap, sym, refl, cond, not, Bool, true, false, IsTrue, List, [], ◌∷◌, Option, None, Some, Result, Ok, Err}
+use Rattle.std.specs.Option.{is_some, option_map, option_map_or, option_and_then, unwrap_or}
+use Rattle.std.specs.List.{find}
 use Rattle.std.proofs.lemmas.Bool.{false≢true, cond_both}
 use Rattle.sk_insn.specs.declared.record.Record.{Record}
 use Rattle.sk_insn.specs.declared.action.Action.{Action}
@@ -25,7 +26,7 @@ use Rattle.sk_world.specs.World.{World, at, is_zombie, parent_of, stored, body_c
 use Rattle.sk_world.specs.Numbers.{fresh_of}
 use Rattle.sk_world.specs.Sending.{sent}
 use Rattle.sk_world.specs.Forking.{has_room, child_of, fork_answer}
-use Rattle.sk_world.specs.Subreapers.{is_subreaper, new_parent}
+use Rattle.sk_world.specs.Subreapers.{is_subreaper, ancestors, takes_children, new_parent}
 use Rattle.sk_world.specs.Ending.{ignores_children, handed_on, with_children_handed_on, has_zombie_child, reparented, zombie, left_to_parent, ended}
 use Rattle.sk_world.specs.Waits.{without_note, told}
 use Rattle.sk_world_laws.specs.ChangeLaws.{unsignalled}
@@ -49,8 +50,8 @@ use Rattle.sk_machine.specs.SignalCalls.{after_sigaction, after_sigprocmask, aft
 use Rattle.sk_machine.specs.Killing.{after_kill}
 use Rattle.sk_machine.specs.Performing.{executing, execve, forks, exit_status, authorised, no_new_privs_asked, subreaper_set, subreaper_asked, where_subreapers, prctl, action_available, seccomp, row}
 use Rattle.sk_machine.specs.Delivering.{signal_for}
-use Rattle.sk_machine.specs.Machine.{judged, happened, step_of}
-use Rattle.sk_machine_laws.specs.MachineLaws.{HasNoSubreapers, EventMarksNobody, RunMarksNobody, NobodyIsMarked}
+use Rattle.sk_machine.specs.Machine.{judged, happened, step_of, world_after}
+use Rattle.sk_machine_laws.specs.MachineLaws.{HasNoSubreapers, EventMarksNobody, RunMarksNobody, NobodyIsMarked, InitTakesOrphans, OrphansGoToInit}
 use Rattle.sk_machine_laws.proofs.Carrying.{Carries, over_asked, over_changes, over_resignals, over_waits, over_kill, over_setpgid, over_setsid, over_wait4, over_end, over_delivered, over_resumed}
 use Rattle.sk_machine_laws.proofs.Happened.{at_step, at_delivery}
 
@@ -235,3 +236,16 @@ first_unmarked false = refl
 pub nobody_is_marked : NobodyIsMarked
 nobody_is_marked images events is =
     run_marks_nobody images opening events is (λ pid. ap is_subreaper (get_store none INIT (Some first_process) pid) ∙ first_unmarked (pid == INIT))
+
+-- ---- whom orphans go to
+takes_none : (w : World) (dying : ℕ) → HasNoSubreapers w → (pids : List ℕ) → find (takes_children w dying) pids ≡ None
+takes_none w dying unmarked [] = refl
+takes_none w dying unmarked (pid ∷ rest) =
+    ap (λ b. cond (b && not (pid == dying)) (Some pid) (find (takes_children w dying) rest)) (unmarked pid) ∙ takes_none w dying unmarked rest
+
+pub init_takes_orphans : InitTakesOrphans
+unfolding new_parent ancestors
+init_takes_orphans w pid unmarked = ap (λ o. unwrap_or o INIT) (takes_none w pid unmarked (ancestors w pid))
+
+pub orphans_go_to_init : OrphansGoToInit
+orphans_go_to_init images events pid is = init_takes_orphans (world_after images opening events) pid (nobody_is_marked images events is)

@@ -1,5 +1,5 @@
 -- Whose child each process is after an event, and that those who come from confined ones are confined.
-use Rattle.std.proofs.Common.{◌≡◌, ◌≢◌, ◌∙◌, ℕ, ℤ, zero, suc, ◌+◌, ◌≤◌, ◌==◌, ◌&&◌, ◌⊎◌, ◌<ℤ◌, ◌≤ℤ◌, inl, inr, arith, ap, sym, refl, subst, cond, not, Bool, true, false, length, slice_get, IsTrue, List, [], ◌∷◌, ◌++◌, Option, None, Some, Result, Ok, Err}
+use Rattle.std.proofs.Common.{◌≡◌, ◌≢◌, ◌∙◌, ℕ, ℤ, zero, suc, ◌+◌, ◌≤◌, ◌==◌, ◌&&◌, ◌⊎◌, ◌<ℤ◌, ◌≤ℤ◌, inl, inr, arith, ap, sym, refl, subst, cond, not, Bool, true, false, length, slice_get, IsTrue, List, [], ◌∷◌, ◌++◌, Option, None, Some, Result, Ok, Err, IfSome}
 use Rattle.std.specs.Option.{is_some, unwrap_or, option_map, option_and_then}
 use Rattle.std.specs.List.{find}
 use Rattle.std.proofs.lemmas.Int.{ints}
@@ -59,13 +59,13 @@ use Rattle.sk_machine.specs.Killing.{after_kill}
 use Rattle.sk_machine.specs.Performing.{executing, execve, forks, exit_status, authorised, no_new_privs_asked, subreaper_set, subreaper_asked, where_subreapers, with_subreaper, prctl, action_available, seccomp, row}
 use Rattle.sk_machine.specs.Delivering.{signal_for}
 use Rattle.sk_machine.specs.Machine.{Stepped, judged, happened, reason_of, step_of, world_after}
-use Rattle.sk_machine.specs.Lines.{Happening, is_fork, has_returned, is_fork_of, line_before, calls_added, line_of, history_after, authority_at}
+use Rattle.sk_machine.specs.Lines.{Happening, is_fork, has_returned, is_fork_of, line_before, calls_added, line_of, authority_after_calls, history_after, authority_at}
 use Rattle.sk_machine_laws.specs.LineLaws.{happening, line_after}
 use Rattle.sk_machine_laws.specs.ConfinementLaws.{RefusesKill, IsConfined, ConfinementStays, LineIsConfined}
 use Rattle.sk_machine_laws.proofs.Carrying.{Carries, over_asked, over_changes, over_resignals, over_waits, over_kill, over_setpgid, over_setsid, over_wait4, over_end, over_delivered, over_resumed}
 use Rattle.sk_machine_laws.proofs.KeptEvents.{kept_step}
 use Rattle.sk_machine_laws.proofs.Unchanged.{impossible_changes_nothing}
-use Rattle.sk_machine_laws.proofs.LineSteps.{is_fork_row, fork_number, event_changes_authority}
+use Rattle.sk_machine_laws.proofs.LineSteps.{is_fork_row, fork_number, authority_in, event_changes_authority}
 use Rattle.sk_machine_laws.proofs.Growing.{grows_calls}
 use Rattle.sk_machine_laws.proofs.Confined.{event_is_confined}
 use Rattle.sk_machine_laws.proofs.Happened.{at_step, at_delivery}
@@ -425,6 +425,17 @@ refuses_more newer older refuses call is =
     (first_of_more (values_of newer call) (values_of older call) (some_values older call before)) in
     omega (arith, ints, before, least)
 
+-- calls that a line adds leave it refusing
+refuses_later : (images : GivenImages) (calls : List Record) (o : Option Authority) → IfSome o (λ a. RefusesKill a.programs) → IfSome (option_map (authority_after_calls images calls) o) (λ a. RefusesKill a.programs)
+refuses_later images calls None refuses = tt
+refuses_later images calls (Some a) refuses =
+    let grows = grows_calls images calls a in
+    subst RefusesKill (sym grows.programs) (refuses_more grows.newer a.programs refuses)
+
+of_those_there : (o : Option Proc) → (IsTrue (is_some o) → IfSome (authority_in o) (λ a. RefusesKill a.programs)) → IfSome (authority_in o) (λ a. RefusesKill a.programs)
+of_those_there None is = tt
+of_those_there (Some p) is = is refl
+
 init_there : (o : Option Proc) → IsTrue (is_init o) → IsTrue (is_some o)
 init_there None init = init
 init_there (Some p) init = refl
@@ -492,12 +503,9 @@ confinement_stays images w event inside rules confined =
                   (ap inside (sym (goes_on images w event (parent_of (at after q)) false (not_forked images w event (parent_of (at after q)) rules known))) ∙ within)
             ]
       ] refl;
-      refuses = λ q there within.
-          let before = event_changes_authority images w event q there in
-          let old : Authority = authority_at w (line_before q x) in
-          let grows = grows_calls images (calls_added q x) old in
-          subst RefusesKill (sym (ap (λ (a : Authority). a.programs) before.1 ∙ grows.programs))
-          (refuses_more grows.newer old.programs (confined.refuses (line_before q x) before.0 within));
+      refuses = λ q within. of_those_there (at after q) (λ there.
+          subst (λ o. IfSome o (λ a. RefusesKill a.programs)) (sym (event_changes_authority images w event q there).1)
+          (refuses_later images (calls_added q x) (authority_at w (line_before q x)) (confined.refuses (line_before q x) within)));
     }
 
 -- ---- over a list of events
@@ -516,7 +524,7 @@ line_is_confined images w events event root q rules other alone refuses within o
     let start : IsConfined w (from_root [] root) = record {
       init = ne_eqb INIT root (λ is. other (sym is));
       children = λ k there is. absurd (alone k there (eqb-true (parent_of (at w k)) root is));
-      refuses = λ k there is. subst (λ k. RefusesKill (authority_at w k).programs) (sym (eqb-true k root is)) refuses;
+      refuses = λ k is. subst (λ k. IfSome (authority_at w k) (λ a. RefusesKill a.programs)) (sym (eqb-true k root is)) refuses;
     } in
     let now = confined_after images w events [] root rules start in
     event_is_confined images (world_after images w events) event (from_root (history_after images w events []) root) q now.0 now.1

@@ -27,8 +27,8 @@ use Rattle.sk_machine.specs.Events.{pid_of}
 use Rattle.sk_machine.specs.Given.{GivenImages}
 use Rattle.sk_machine.specs.WaitCalls.{polled_again, resumed}
 use Rattle.sk_machine.specs.Delivering.{signal_due, is_waiting, is_in_call}
-use Rattle.sk_machine.specs.Machine.{Stepped, resume_answered, call_reason, own_reason, is_kill, reason_of, stepped, step_of, world_after, happened_to}
-use Rattle.sk_machine.specs.Turns.{wait_ends, is_runnable, need_of, need_met_by, goes_on}
+use Rattle.sk_machine.specs.Machine.{Stepped, resume_answered, call_reason, own_reason, is_due_delivery, reason_of, stepped, step_of, world_after, happened_to}
+use Rattle.sk_machine.specs.Turns.{waits_no_more, is_runnable, need_of, need_met_by, goes_on}
 use Rattle.sk_machine_laws.specs.TurnLaws.{IsTurn, NextIsTurn, NobodysTurn, RunnableHasEvent, IdleDoesNothing, EndIsFinal}
 
 -- ---- whose turn it is
@@ -115,7 +115,7 @@ delivery_meets false false false end_of_caller runs = (λ is. cc, λ is. cc)
 
 own_meets : (w : World) (event : Event)
     → IsTrue (is_some (signal_due (at w (pid_of event))) || (not (is_stopped (at w (pid_of event))) && goes_on w (pid_of event) (at w (pid_of event))))
-    → (own (is_stopped (at w (pid_of event)) && not (is_kill w event)) (own_reason w event) ≡ None) ↔ (need_met_by event ≡ need_of w (pid_of event))
+    → (own (is_stopped (at w (pid_of event)) && not (is_due_delivery w event)) (own_reason w event) ≡ None) ↔ (need_met_by event ≡ need_of w (pid_of event))
 own_meets w (Call pid ip nr args) runs = call_meets (is_some (signal_due (at w pid))) (is_stopped (at w pid)) (is_in_call (at w pid)) (goes_on w pid (at w pid)) runs
 own_meets w (Deliver pid) runs = delivery_meets (is_some (signal_due (at w pid))) (is_stopped (at w pid)) (is_in_call (at w pid)) (goes_on w pid (at w pid)) runs
 own_meets w (Resume pid) runs = resumption_meets (is_some (signal_due (at w pid))) (is_stopped (at w pid)) (is_in_call (at w pid)) (goes_on w pid (at w pid)) runs
@@ -126,7 +126,7 @@ runnable_has_event w event runs =
     let o : Option Proc = at w (pid_of event) in
     let both = and_parts (not (is_halted w) && is_alive o) (is_some (signal_due o) || (not (is_stopped o) && goes_on w (pid_of event) (at w (pid_of event)))) runs in
     let lives = and_parts (not (is_halted w)) (is_alive o) both.0 in
-    let last : Option Reason = own (is_stopped o && not (is_kill w event)) (own_reason w event) in
+    let last : Option Reason = own (is_stopped o && not (is_due_delivery w event)) (own_reason w event) in
     subst (λ r. (r ≡ None) ↔ (need_met_by event ≡ need_of w (pid_of event)))
     (sym (no_reason (is_halted w) (not (is_some o)) (is_zombie o) last (not-true (is_halted w) lives.0) (ap not (alive_is_there o lives.1)) (has_not_ended o lives.1)))
     (own_meets w event both.1)
@@ -139,7 +139,7 @@ none_found p (x ∷ xs) none =
     ap (λ b. cond b (Some x) (find p xs)) both.0 ∙ none_found p xs both.1
 
 -- a call that would not end goes on waiting
-keeps_waiting : (w : World) (pid : ℕ) (what : Waiting) → wait_ends w pid what ≡ false → resumed w pid what ≡ record { outcome = Waits; world = w }
+keeps_waiting : (w : World) (pid : ℕ) (what : Waiting) → waits_no_more w pid what ≡ false → resumed w pid what ≡ record { outcome = Waits; world = w }
 unfolding by_first
 keeps_waiting w pid waiting.Nothing waits = refl
 keeps_waiting w pid waiting.Pause waits = refl
@@ -151,7 +151,7 @@ keeps_waiting w pid (waiting.Asks request) waits =
     ∙ ap (λ b. polled_again w pid (cond b poll.NotReady poll.NoMatch)) (not-false (has_match w pid request) both.1)
 
 -- one that waits in no call would go on
-waits_in_none : (w : World) (pid : ℕ) (what : Waiting) → is_waiting what ≡ false → wait_ends w pid what ≡ true
+waits_in_none : (w : World) (pid : ℕ) (what : Waiting) → is_waiting what ≡ false → waits_no_more w pid what ≡ true
 waits_in_none w pid waiting.Nothing is = refl
 waits_in_none w pid waiting.Pause is = absurd (false≢true (sym is))
 waits_in_none w pid (waiting.Asks request) is = absurd (false≢true (sym is))
@@ -189,7 +189,7 @@ asks_again images w pid (Some p) there waits = ap resume_answered (keeps_waiting
 
 idle_own : (images : GivenImages) (w : World) (event : Event) → IsTrue (is_some (at w (pid_of event)))
     → (is_some (signal_due (at w (pid_of event))) || (not (is_stopped (at w (pid_of event))) && goes_on w (pid_of event) (at w (pid_of event)))) ≡ false
-    → (is_stopped (at w (pid_of event)) && not (is_kill w event)) ≡ false → Idles images w event (own_reason w event)
+    → (is_stopped (at w (pid_of event)) && not (is_due_delivery w event)) ≡ false → Idles images w event (own_reason w event)
 idle_own images w (Call pid ip nr args) there idle moves =
     idle_call images w pid (Call pid ip nr args) there (idle_waits (is_some (signal_due (at w pid))) (is_stopped (at w pid)) (goes_on w pid (at w pid)) idle moves)
 idle_own images w (Fault pid) there idle moves =
@@ -212,7 +212,7 @@ idle_does_nothing images w event idle =
     cond_both (not (is_some o)) (Some reason.NoProcess) _ P (λ _. inl refl) (λ there.
     cond_both (is_zombie o) (Some reason.Zombie) _ P (λ _. inl refl) (λ living.
     let quiet = idle_parts (is_halted w) o (is_some (signal_due o) || (not (is_stopped o) && goes_on w (pid_of event) (at w (pid_of event)))) idle going there living in
-    cond_both (is_stopped o && not (is_kill w event)) (Some reason.Stopped) (own_reason w event) P (λ _. inl refl)
+    cond_both (is_stopped o && not (is_due_delivery w event)) (Some reason.Stopped) (own_reason w event) P (λ _. inl refl)
     (λ moves. idle_own images w event (not-false (is_some o) there) quiet moves))))
 
 -- ---- where nobody can run

@@ -10,7 +10,7 @@ use Rattle.sk_machine.specs.Given.{GivenImages}
 use Rattle.sk_machine.specs.Machine.{Stepped, step_of}
 use Rattle.sk_machine.specs.Lines.{Happening, line_of, is_fork_of, authority_of_line, authority_at}
 use Rattle.sk_machine_laws.specs.TellingLaws.{told_by, IsEnd}
-use Rattle.sk_machine_laws.specs.ConfinementLaws.{IsConfined, LeavesAlone, ends_or_stops}
+use Rattle.sk_machine_laws.specs.ConfinementLaws.{IsConfined, LeavesAlone}
 
 -- what an event comes to, by some machine
 abbrev pub Machine : Type 0
@@ -46,7 +46,7 @@ abbrev pub KeepsToConfined : Machine → Type 0
 KeepsToConfined step =
     (images : GivenImages) (w : World) (event : Event) (inside : ℕ → Bool) (q : ℕ) → IsWorld w → IsConfined w inside
     → IsTrue (inside (pid_of event)) → inside q ≡ false → IsTrue (is_some (at w q))
-    → LeavesAlone w (step images w event).world (ends_or_stops (step images w event).answer) q
+    → LeavesAlone w (step images w event).world (pid_of event) (step images w event).answer q
 
 -- the machine of the definitions has all three
 pub record HasMachineLaws : Type 0 where

@@ -1,6 +1,6 @@
 -- Laws on confinement: what a process whose filters refuse kill(2), and those that come from it, can do to
 -- all others.
-use Rattle.std.specs.Prelude.{ℕ, ◌≡◌, ◌≢◌, ◌<ℤ◌, ◌==◌, ◌||◌, Bool, true, false, IsTrue, List, [], ◌∷◌, Option}
+use Rattle.std.specs.Prelude.{ℕ, ◌≡◌, ◌≢◌, ◌<ℤ◌, ◌==◌, not, ◌&&◌, ◌||◌, Bool, true, false, IsTrue, IfSome, List, [], ◌∷◌, Option}
 use Rattle.std.specs.Option.{is_some, option_map}
 use Rattle.std.specs.List.{list_all}
 use Rattle.sk_insn.specs.declared.insn.Insn.{Insn}
@@ -16,6 +16,8 @@ use Rattle.sk_world.specs.declared.process.Proc.{Proc}
 use Rattle.sk_world.specs.World.{World, at, parent_of, body_changed}
 use Rattle.sk_world.specs.Rules.{IsWorld}
 use Rattle.sk_world.specs.Sending.{signalled}
+use Rattle.sk_session.specs.Sessions.{group_of}
+use Rattle.sk_session.specs.Orphans.{is_orphaned, has_stopped_member}
 use Rattle.sk_machine.specs.declared.event.Event.{Event}
 use Rattle.sk_machine.specs.declared.answer.Answer.{Answer}
 use Rattle.sk_machine.specs.declared.answer.Answer.TheVariants as answer
@@ -37,9 +39,9 @@ RefusesKill programs = (call : Record) → call.nr ≡ number_of syscall.Kill �
 pub record IsConfined (w : World) (inside : ℕ → Bool) : Type 0 where
   pub init : inside INIT ≡ false
   pub children : (q : ℕ) → IsTrue (is_some (at w q)) → IsTrue (inside (parent_of (at w q))) → IsTrue (inside q)
-  pub refuses : (q : ℕ) → IsTrue (is_some (at w q)) → IsTrue (inside q) → RefusesKill (authority_at w q).programs
+  pub refuses : (q : ℕ) → IsTrue (inside q) → IfSome (authority_at w q) (λ a. RefusesKill a.programs)
 
--- the answer says that the process whose event it is has ended or stopped
+-- the outcome says that the process whose call it is has ended
 abbrev pub is_end : Outcome → Bool
 is_end (outcome.Ended status) = true
 is_end (outcome.Returned n) = false
@@ -50,48 +52,74 @@ is_end outcome.Waits = false
 is_end outcome.Trapped = false
 is_end outcome.Executed = false
 
--- the signal ends or stops the process
-abbrev pub is_end_or_stop : Effect → Bool
-is_end_or_stop (effect.Ended status) = true
-is_end_or_stop effect.Stopped = true
-is_end_or_stop effect.Ignored = false
-is_end_or_stop (effect.Handler program interrupted) = false
+-- the signal has ended the process
+abbrev pub is_end_by_signal : Effect → Bool
+is_end_by_signal (effect.Ended status) = true
+is_end_by_signal effect.Stopped = false
+is_end_by_signal effect.Ignored = false
+is_end_by_signal (effect.Handler program interrupted) = false
 
--- the event with this answer has ended or stopped its process
-abbrev pub ends_or_stops : Answer → Bool
-ends_or_stops (answer.Call verdict o) = is_end o
-ends_or_stops (answer.Signal n e) = is_end_or_stop e
-ends_or_stops (answer.Resumed o) = is_end o
-ends_or_stops answer.Crashed = true
-ends_or_stops (answer.NotNow reason) = false
+-- the signal has stopped the process
+abbrev pub is_stop : Effect → Bool
+is_stop effect.Stopped = true
+is_stop (effect.Ended status) = false
+is_stop effect.Ignored = false
+is_stop (effect.Handler program interrupted) = false
+
+-- the event with this answer has ended its process
+abbrev pub ends : Answer → Bool
+ends (answer.Call verdict o) = is_end o
+ends (answer.Signal n e) = is_end_by_signal e
+ends (answer.Resumed o) = is_end o
+ends answer.Crashed = true
+ends (answer.NotNow reason) = false
+
+-- the event with this answer has stopped its process
+abbrev pub stops : Answer → Bool
+stops (answer.Signal n e) = is_stop e
+stops (answer.Call verdict o) = false
+stops (answer.Resumed o) = false
+stops answer.Crashed = false
+stops (answer.NotNow reason) = false
 
 -- a process after these signals, one after the other
 abbrev pub after_signals : Bool → List ℕ → Body → Body
 after_signals init [] body = body
 after_signals init (n ∷ rest) body = after_signals init rest (signalled n init body)
 
--- the signals that others get where a process ends or stops: SIGCHLD, and of an orphaned group SIGHUP and
--- SIGCONT: setpgid(2)
-abbrev pub is_of_an_end : ℕ → Bool
-is_of_an_end n = (n == SIGCHLD) || (n == SIGHUP) || (n == SIGCONT)
+-- the process of this pid is the one before after none or more signals that pass the test, and nothing else
+abbrev pub IsTold : (ℕ → Bool) → ℕ → Option Proc → Option Proc → Type 0
+IsTold may_come q before now =
+    (signals : List ℕ) × IsTrue (list_all may_come signals) × (now ≡ option_map (body_changed (after_signals (q == INIT) signals)) before)
 
--- the process of this pid is the one before after none or more of these signals, and nothing else
-abbrev pub IsTold : ℕ → Option Proc → Option Proc → Type 0
-IsTold q before now =
-    (signals : List ℕ) × IsTrue (list_all is_of_an_end signals) × (now ≡ option_map (body_changed (after_signals (q == INIT) signals)) before)
+-- a signal that a stop sends to a process: SIGCHLD, to the parent of the one that stops: wait(2)
+abbrev pub is_of_stop : Bool → ℕ → Bool
+is_of_stop to_parent n = to_parent && (n == SIGCHLD)
 
--- what an event leaves of a process that it is not meant to touch
-pub record LeavesAlone (w after : World) (has_ended_or_stopped : Bool) (q : ℕ) : Type 0 where
-  pub same : has_ended_or_stopped ≡ false → at after q ≡ at w q
-  pub told : IsTold q (at w q) (at after q)
+-- a signal that an end sends to a process: SIGCHLD; and SIGHUP and SIGCONT where its group is left orphaned:
+-- setpgid(2), credentials(7)
+abbrev pub is_of_end : Bool → ℕ → Bool
+is_of_end left_orphaned n = (n == SIGCHLD) || (left_orphaned && ((n == SIGHUP) || (n == SIGCONT)))
 
--- an event of a confined process leaves every other one equal, unless it ends or stops its process, and
+-- from one world to the next a group with a stopped process has become orphaned
+abbrev pub becomes_orphaned : World → World → ℕ → Bool
+becomes_orphaned before after group = not (is_orphaned before group) && is_orphaned after group && has_stopped_member before group
+
+-- what an event of process `pid` with this answer, which leads from one world to the next, leaves of a process that
+-- it is not meant to touch: all, where it neither ends nor stops its own; at a stop all but for SIGCHLD to the parent;
+-- and at an end all but for SIGCHLD, and SIGHUP and SIGCONT to a group that it leaves orphaned
+pub record LeavesAlone (w after : World) (pid : ℕ) (a : Answer) (q : ℕ) : Type 0 where
+  pub same : ends a ≡ false → stops a ≡ false → at after q ≡ at w q
+  pub stop : IsTrue (stops a) → IsTold (is_of_stop (q == parent_of (at w pid))) q (at w q) (at after q)
+  pub end : IsTrue (ends a) → IsTold (is_of_end (becomes_orphaned w after (group_of (at w q)))) q (at w q) (at after q)
+
+-- an event of a confined process leaves every other one equal, unless it ends or stops its own process, and
 -- then it sends others such signals and does nothing else
 abbrev pub EventIsConfined : Type 0
 EventIsConfined =
     (images : GivenImages) (w : World) (event : Event) (inside : ℕ → Bool) (q : ℕ) → IsWorld w → IsConfined w inside
     → IsTrue (inside (pid_of event)) → inside q ≡ false → IsTrue (is_some (at w q))
-    → LeavesAlone w (step_of images w event).world (ends_or_stops (step_of images w event).answer) q
+    → LeavesAlone w (step_of images w event).world (pid_of event) (step_of images w event).answer q
 
 -- whoever's event it is: those who come from the confined ones are confined
 abbrev pub ConfinementStays : Type 0
@@ -104,8 +132,8 @@ ConfinementStays =
 abbrev pub LineIsConfined : Type 0
 LineIsConfined =
     (images : GivenImages) (w : World) (events : List Event) (event : Event) (root q : ℕ) → IsWorld w → root ≢ INIT
-    → ((k : ℕ) → IsTrue (is_some (at w k)) → parent_of (at w k) ≢ root) → RefusesKill (authority_at w root).programs
+    → ((k : ℕ) → IsTrue (is_some (at w k)) → parent_of (at w k) ≢ root) → IfSome (authority_at w root) (λ a. RefusesKill a.programs)
     → (line_after images w events (pid_of event)).root ≡ root → (line_after images w events q).root ≢ root
     → IsTrue (is_some (at (world_after images w events) q))
-    → LeavesAlone (world_after images w events) (step_of images (world_after images w events) event).world
-    (ends_or_stops (step_of images (world_after images w events) event).answer) q
+    → LeavesAlone (world_after images w events) (step_of images (world_after images w events) event).world (pid_of event)
+    (step_of images (world_after images w events) event).answer q

@@ -1,11 +1,10 @@
 -- Laws on the filters in force: the rules have accepted each of them.
-use Rattle.std.specs.Prelude.{ℕ, IsTrue, List, [], ◌∷◌}
-use Rattle.std.specs.Option.{is_some}
+use Rattle.std.specs.Prelude.{ℕ, IfSome, List, [], ◌∷◌}
 use Rattle.sk_insn.specs.declared.insn.Insn.{Insn}
 use Rattle.sk_insn.specs.declared.record.Record.{Record}
 use Rattle.sk_interp.specs.MeaningLaws.{ReturnsWithinLength}
 use Rattle.sk_chain.specs.Chains.{IsWithinLimit, AllValid, StepsAreBounded}
-use Rattle.sk_world.specs.World.{World, at, opening}
+use Rattle.sk_world.specs.World.{World, opening}
 use Rattle.sk_machine.specs.declared.event.Event.{Event}
 use Rattle.sk_machine.specs.Given.{GivenImages}
 use Rattle.sk_machine.specs.Machine.{step_of, world_after}
@@ -18,7 +17,7 @@ pub record AreAccepted (programs : List (List Insn)) : Type 0 where
 
 -- so are those of every process of the world
 abbrev pub HasAccepted : World → Type 0
-HasAccepted w = (pid : ℕ) → IsTrue (is_some (at w pid)) → AreAccepted (authority_at w pid).programs
+HasAccepted w = (pid : ℕ) → IfSome (authority_at w pid) (λ a. AreAccepted a.programs)
 
 -- then they are so after one event
 abbrev pub EventKeepsAccepted : Type 0
@@ -49,5 +48,4 @@ FiltersInForceAreAccepted = (images : GivenImages) (events : List Event) → Has
 -- so for no call do they execute more instructions than the path limit
 abbrev pub StepsInForceAreBounded : Type 0
 StepsInForceAreBounded =
-    (images : GivenImages) (events : List Event) (pid : ℕ) → IsTrue (is_some (at (world_after images opening events) pid))
-    → StepsAreBounded (authority_at (world_after images opening events) pid).programs
+    (images : GivenImages) (events : List Event) (pid : ℕ) → IfSome (authority_at (world_after images opening events) pid) (λ a. StepsAreBounded a.programs)

@@ -1,6 +1,6 @@
 -- Laws on lines: what a process may do is what its line says.
-use Rattle.std.specs.Prelude.{ℕ, ◌≡◌, ◌≤ℤ◌, ◌++◌, IsTrue, List, [], slice_get, Some}
-use Rattle.std.specs.Option.{is_some}
+use Rattle.std.specs.Prelude.{ℕ, ◌≡◌, ◌≤ℤ◌, ◌++◌, IsTrue, List, [], slice_get, Option, Some}
+use Rattle.std.specs.Option.{is_some, option_map}
 use Rattle.sk_insn.specs.declared.insn.Insn.{Insn}
 use Rattle.sk_insn.specs.declared.record.Record.{Record}
 use Rattle.sk_insn.specs.Actions.{action_of, performs}
@@ -32,7 +32,7 @@ EventChangesAuthority =
     (images : GivenImages) (w : World) (event : Event) (pid : ℕ) → IsTrue (is_some (at (step_of images w event).world pid))
     → IsTrue (is_some (at w (line_before pid (happening images w event))))
     × (authority_at (step_of images w event).world pid
-    ≡ authority_after_calls images (calls_added pid (happening images w event)) (authority_at w (line_before pid (happening images w event))))
+    ≡ option_map (authority_after_calls images (calls_added pid (happening images w event))) (authority_at w (line_before pid (happening images w event))))
 
 -- any list of events: a process that is there afterwards comes from one that was there before, and its
 -- authority is that of its line
@@ -61,18 +61,42 @@ LineKeepsFilters =
     (images : GivenImages) (calls more : List Record) (a : Authority)
     → GrowsFrom (authority_after_calls images calls a) (authority_after_calls images (calls ++ more) a)
 
--- the verdict on a call is that of the filters that the caller's line has attached until then: equal
--- lines from equal roots get equal verdicts
+-- the verdict of an authority's filters on a call, if there is such an authority
+abbrev pub judged_by : Record → Option Authority → Option ℕ
+judged_by call o = option_map (λ a. verdict_of a.programs call) o
+
+-- equal lines from equal roots: the two processes have made the same calls, each with those that it was forked from,
+-- and come from processes with the same authority
+pub record HaveEqualLines (images : GivenImages) (v w : World) (one other : List Event) (p q : ℕ) : Type 0 where
+  pub p_there : IsTrue (is_some (at (world_after images v one) p))
+  pub q_there : IsTrue (is_some (at (world_after images w other) q))
+  pub roots : authority_at v (line_after images v one p).root ≡ authority_at w (line_after images w other q).root
+  pub calls : (line_after images v one p).calls ≡ (line_after images w other q).calls
+
+-- they have equal authority, whatever else happened in the two runs
+abbrev pub EqualLinesMayDoTheSame : Type 0
+EqualLinesMayDoTheSame =
+    (images : GivenImages) (v w : World) (one other : List Event) (p q : ℕ) → HaveEqualLines images v w one other p q
+    → authority_at (world_after images v one) p ≡ authority_at (world_after images w other) q
+
+-- so their filters give equal verdicts on every record
+abbrev pub EqualLinesAreJudgedAlike : Type 0
+EqualLinesAreJudgedAlike =
+    (images : GivenImages) (v w : World) (one other : List Event) (p q : ℕ) (call : Record) → HaveEqualLines images v w one other p q
+    → judged_by call (authority_at (world_after images v one) p) ≡ judged_by call (authority_at (world_after images w other) q)
+
+-- the verdict on a call is that of the filters that the caller's line has attached until then
 abbrev pub VerdictIsOfLine : Type 0
 VerdictIsOfLine =
     (images : GivenImages) (w : World) (events : List Event) (pid ip nr : ℕ) (args : List ℕ) (verdict : ℕ) (outcome : Outcome)
     → (step_of images (world_after images w events) (Call pid ip nr args)).answer ≡ answer.Call verdict outcome
-    → verdict ≡ verdict_of (authority_of_line images w (line_after images w events pid)).programs (record { nr = nr; ip = ip; args = args })
+    → judged_by (record { nr = nr; ip = ip; args = args }) (authority_of_line images w (line_after images w events pid)) ≡ Some verdict
 
 -- a call that is performed has met no filter of its line whose action has precedence over SECCOMP_RET_LOG
 abbrev pub PerformedMeetsNoRefusal : Type 0
 PerformedMeetsNoRefusal =
-    (images : GivenImages) (w : World) (events : List Event) (pid ip nr : ℕ) (args : List ℕ) (verdict : ℕ) (outcome : Outcome) (place value : ℕ)
+    (images : GivenImages) (w : World) (events : List Event) (pid ip nr : ℕ) (args : List ℕ) (verdict : ℕ) (outcome : Outcome) (a : Authority) (place value : ℕ)
     → (step_of images (world_after images w events) (Call pid ip nr args)).answer ≡ answer.Call verdict outcome → IsTrue (performs (action_of verdict))
-    → slice_get (values_of (authority_of_line images w (line_after images w events pid)).programs (record { nr = nr; ip = ip; args = args })) place ≡ Some value
+    → authority_of_line images w (line_after images w events pid) ≡ Some a
+    → slice_get (values_of a.programs (record { nr = nr; ip = ip; args = args })) place ≡ Some value
     → precedence_of 0x7ffc0000 ≤ℤ precedence_of value

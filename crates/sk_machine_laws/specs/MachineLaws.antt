@@ -6,11 +6,12 @@ use Rattle.sk_insn.specs.declared.action.Action.{Action}
 use Rattle.sk_insn.specs.declared.action.Action.TheVariants as action
 use Rattle.sk_insn.specs.Actions.{action_of}
 use Rattle.sk_signal.specs.declared.number.TheConstants.{SIGSYS}
+use Rattle.sk_world.specs.declared.process.TheConstants.{INIT}
 use Rattle.sk_world.specs.declared.process.Body.{Body}
 use Rattle.sk_world.specs.World.{World, at, is_alive, is_halted, opening}
 use Rattle.sk_world.specs.Rules.{IsWorld}
 use Rattle.sk_world.specs.Sending.{forced}
-use Rattle.sk_world.specs.Subreapers.{is_subreaper}
+use Rattle.sk_world.specs.Subreapers.{is_subreaper, new_parent}
 use Rattle.sk_session.specs.Orphans.{ended_and_hung_up}
 use Rattle.sk_machine.specs.declared.event.Event.{Event}
 use Rattle.sk_machine.specs.declared.answer.Answer.TheVariants as answer
@@ -130,6 +131,14 @@ abbrev pub RunMarksNobody : Type 0
 RunMarksNobody =
     (images : GivenImages) (w : World) (events : List Event) → images.subreapers ≡ false → HasNoSubreapers w → HasNoSubreapers (world_after images w events)
 
--- so there is none in any world that the system then comes to, and all orphans go to process 1
+-- so there is none in any world that the system then comes to
 abbrev pub NobodyIsMarked : Type 0
 NobodyIsMarked = (images : GivenImages) (events : List Event) → images.subreapers ≡ false → HasNoSubreapers (world_after images opening events)
+
+-- where nobody is a subreaper the children of each process go to process 1: wait(2), "Notes"
+abbrev pub InitTakesOrphans : Type 0
+InitTakesOrphans = (w : World) (pid : ℕ) → HasNoSubreapers w → new_parent w pid ≡ INIT
+
+-- so without subreapers they go to process 1 in every world that the system comes to, as if there were no such mark
+abbrev pub OrphansGoToInit : Type 0
+OrphansGoToInit = (images : GivenImages) (events : List Event) (pid : ℕ) → images.subreapers ≡ false → new_parent (world_after images opening events) pid ≡ INIT

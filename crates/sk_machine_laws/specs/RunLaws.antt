@@ -1,6 +1,6 @@
 -- What is known of each run of the machine, as predicates of what is given, of the world before, and of a list
 -- of events: a kernel that makes just this run can promise them.
-use Rattle.std.specs.Prelude.{ℕ, ◌≡◌, ◌≢◌, ◌≤ℤ◌, ◌++◌, IsTrue, List, [], ◌∷◌, slice_get, Some, None}
+use Rattle.std.specs.Prelude.{ℕ, ◌≡◌, ◌≢◌, ◌≤ℤ◌, ◌++◌, false, IsTrue, IfSome, List, [], ◌∷◌, slice_get, Option, Some, None}
 use Rattle.std.specs.Option.{is_some}
 use Rattle.std.specs.List.{list_any}
 use Rattle.sk_insn.specs.declared.insn.Insn.{Insn}
@@ -12,18 +12,20 @@ use Rattle.sk_world.specs.declared.process.TheConstants.{INIT}
 use Rattle.sk_world.specs.declared.process.Proc.{Proc}
 use Rattle.sk_world.specs.World.{World, at, parent_of}
 use Rattle.sk_world.specs.Rules.{IsWorld}
+use Rattle.sk_world.specs.Subreapers.{is_subreaper, new_parent}
 use Rattle.sk_machine.specs.declared.event.Event.{Event}
 use Rattle.sk_machine.specs.declared.event.Event.TheVariants.{Call}
 use Rattle.sk_machine.specs.declared.answer.Answer.TheVariants as answer
 use Rattle.sk_machine.specs.declared.answer.Outcome.{Outcome}
+use Rattle.sk_machine.specs.Authority.{Authority}
 use Rattle.sk_machine.specs.Events.{pid_of}
 use Rattle.sk_machine.specs.Given.{GivenImages}
 use Rattle.sk_machine.specs.Machine.{step_of, answers_of, world_after}
 use Rattle.sk_machine.specs.Lines.{is_fork_of, history_of, history_after, authority_of_line, authority_at}
-use Rattle.sk_machine_laws.specs.LineLaws.{line_after, GrowsFrom}
+use Rattle.sk_machine_laws.specs.LineLaws.{line_after, judged_by, GrowsFrom}
 use Rattle.sk_machine_laws.specs.FilterLaws.{HasAccepted, AllReturn}
 use Rattle.sk_machine_laws.specs.TellingLaws.{told_by, IsEnd, HasEndedUnder}
-use Rattle.sk_machine_laws.specs.ConfinementLaws.{RefusesKill, LeavesAlone, ends_or_stops}
+use Rattle.sk_machine_laws.specs.ConfinementLaws.{RefusesKill, LeavesAlone}
 
 -- the history of a run is that of its events and their answers
 abbrev pub HistoryIsOfAnswers : GivenImages → World → List Event → Type 0
@@ -37,8 +39,8 @@ FiltersAreAccepted images w events = (earlier later : List Event) → events ≡
 -- was not stored, or a missing instruction
 abbrev pub FiltersReturn : GivenImages → World → List Event → Type 0
 FiltersReturn images w events =
-    (earlier later : List Event) (pid : ℕ) → events ≡ earlier ++ later → IsTrue (is_some (at (world_after images w earlier) pid))
-    → (call : Record) → AllReturn (authority_at (world_after images w earlier) pid).programs call
+    (earlier later : List Event) (pid : ℕ) (call : Record) → events ≡ earlier ++ later
+    → IfSome (authority_at (world_after images w earlier) pid) (λ a. AllReturn a.programs call)
 
 -- the number is the verdict of these filters on the call: the value whose action takes precedence over all others
 pub record IsVerdictOf (programs : List (List Insn)) (call : Record) (verdict : ℕ) : Type 0 where
@@ -50,7 +52,7 @@ abbrev pub VerdictsAreLeast : GivenImages → World → List Event → Type 0
 VerdictsAreLeast images w events =
     (earlier later : List Event) (pid ip nr : ℕ) (args : List ℕ) (verdict : ℕ) (outcome : Outcome) → events ≡ earlier ++ Call pid ip nr args ∷ later
     → (step_of images (world_after images w earlier) (Call pid ip nr args)).answer ≡ answer.Call verdict outcome
-    → IsVerdictOf (authority_at (world_after images w earlier) pid).programs (record { nr = nr; ip = ip; args = args }) verdict
+    → (a : Authority) × (authority_at (world_after images w earlier) pid ≡ Some a) × IsVerdictOf a.programs (record { nr = nr; ip = ip; args = args }) verdict
 
 -- each process that is there afterwards comes from one that was there before, and its filters, ids and
 -- no_new_privs are those of its line
@@ -60,12 +62,20 @@ AuthoritiesAreOfLines images w events =
     → IsTrue (is_some (at w (line_after images w events pid).root))
     × (authority_at (world_after images w events) pid ≡ authority_of_line images w (line_after images w events pid))
 
+-- there is an authority before and one now, which has grown from it
+pub record HasGrown (before now : Option Authority) : Type 0 where
+  pub old : Authority
+  pub new : Authority
+  pub was : before ≡ Some old
+  pub is : now ≡ Some new
+  pub grows : GrowsFrom old new
+
 -- from each point of the run on, its filters are those that the process it comes from had there, with newer ones
 -- in front, and no_new_privs once set stays set
 abbrev pub FiltersStay : GivenImages → World → List Event → Type 0
 FiltersStay images w events =
     (earlier later : List Event) (pid : ℕ) → events ≡ earlier ++ later → IsTrue (is_some (at (world_after images w events) pid))
-    → GrowsFrom (authority_at (world_after images w earlier) (line_after images (world_after images w earlier) later pid).root)
+    → HasGrown (authority_at (world_after images w earlier) (line_after images (world_after images w earlier) later pid).root)
     (authority_at (world_after images w events) pid)
 
 -- the verdict on each call of the run is that of the filters that its caller's line has attached until then
@@ -73,16 +83,17 @@ abbrev pub VerdictsAreOfLines : GivenImages → World → List Event → Type 0
 VerdictsAreOfLines images w events =
     (earlier later : List Event) (pid ip nr : ℕ) (args : List ℕ) (verdict : ℕ) (outcome : Outcome) → events ≡ earlier ++ Call pid ip nr args ∷ later
     → (step_of images (world_after images w earlier) (Call pid ip nr args)).answer ≡ answer.Call verdict outcome
-    → verdict ≡ verdict_of (authority_of_line images w (line_after images w earlier pid)).programs (record { nr = nr; ip = ip; args = args })
+    → judged_by (record { nr = nr; ip = ip; args = args }) (authority_of_line images w (line_after images w earlier pid)) ≡ Some verdict
 
 -- no call of the run that was performed has met a filter of its line whose action has precedence over
 -- SECCOMP_RET_LOG
 abbrev pub PerformedMeetNoRefusal : GivenImages → World → List Event → Type 0
 PerformedMeetNoRefusal images w events =
-    (earlier later : List Event) (pid ip nr : ℕ) (args : List ℕ) (verdict : ℕ) (outcome : Outcome) (place value : ℕ)
+    (earlier later : List Event) (pid ip nr : ℕ) (args : List ℕ) (verdict : ℕ) (outcome : Outcome) (a : Authority) (place value : ℕ)
     → events ≡ earlier ++ Call pid ip nr args ∷ later
     → (step_of images (world_after images w earlier) (Call pid ip nr args)).answer ≡ answer.Call verdict outcome → IsTrue (performs (action_of verdict))
-    → slice_get (values_of (authority_of_line images w (line_after images w earlier pid)).programs (record { nr = nr; ip = ip; args = args })) place ≡ Some value
+    → authority_of_line images w (line_after images w earlier pid) ≡ Some a
+    → slice_get (values_of a.programs (record { nr = nr; ip = ip; args = args })) place ≡ Some value
     → precedence_of 0x7ffc0000 ≤ℤ precedence_of value
 
 -- each end that the run tells is told to the parent of a zombie, with the zombie's status, and then the zombie
@@ -107,11 +118,18 @@ EndsAreToldOnce images w events =
 abbrev pub LinesAreConfined : GivenImages → World → List Event → Type 0
 LinesAreConfined images w events =
     (earlier later : List Event) (event : Event) (root q : ℕ) → events ≡ earlier ++ event ∷ later → root ≢ INIT
-    → ((k : ℕ) → IsTrue (is_some (at w k)) → parent_of (at w k) ≢ root) → RefusesKill (authority_at w root).programs
+    → ((k : ℕ) → IsTrue (is_some (at w k)) → parent_of (at w k) ≢ root) → IfSome (authority_at w root) (λ a. RefusesKill a.programs)
     → (line_after images w earlier (pid_of event)).root ≡ root → (line_after images w earlier q).root ≢ root
     → IsTrue (is_some (at (world_after images w earlier) q))
-    → LeavesAlone (world_after images w earlier) (step_of images (world_after images w earlier) event).world
-    (ends_or_stops (step_of images (world_after images w earlier) event).answer) q
+    → LeavesAlone (world_after images w earlier) (step_of images (world_after images w earlier) event).world (pid_of event)
+    (step_of images (world_after images w earlier) event).answer q
+
+-- where no subreapers are declared, and nobody was one before, the children of each process go to process 1 at each
+-- point of the run
+abbrev pub OrphansGoToInit : GivenImages → World → List Event → Type 0
+OrphansGoToInit images w events =
+    (earlier later : List Event) (pid : ℕ) → events ≡ earlier ++ later → images.subreapers ≡ false → ((k : ℕ) → is_subreaper (at w k) ≡ false)
+    → new_parent (world_after images w earlier) pid ≡ INIT
 
 -- all of these, and what holds of the world afterwards
 pub record RunIsLawful (images : GivenImages) (w : World) (events : List Event) : Type 0 where
@@ -127,6 +145,7 @@ pub record RunIsLawful (images : GivenImages) (w : World) (events : List Event) 
   pub parents : EndsAreToldToParents images w events
   pub once : EndsAreToldOnce images w events
   pub confined : LinesAreConfined images w events
+  pub orphans : OrphansGoToInit images w events
 
 -- every run is lawful that begins in a world with the rules whose filters have been accepted
 abbrev pub RunsAreLawful : Type 0

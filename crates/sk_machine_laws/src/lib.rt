@@ -2,14 +2,14 @@
 //! contract of each is the law, and its statement stands in `specs/`.
 #![tactic(auto)]
 
-ghost use Rattle.sk_machine_laws.specs.MachineLaws.{ImpossibleChangesNothing, PossibleHappens, RefusedChangesNothing, TrapForcesSigsys, KillEndsCaller, FailedChangesNothing, HaltHasStatus, CallKeepsRules, DeliveryKeepsRules, ResumptionKeepsRules, EventKeepsRules, RunKeepsRules, ReachedHasRules, EventMarksNobody, RunMarksNobody, NobodyIsMarked};
+ghost use Rattle.sk_machine_laws.specs.MachineLaws.{ImpossibleChangesNothing, PossibleHappens, RefusedChangesNothing, TrapForcesSigsys, KillEndsCaller, FailedChangesNothing, HaltHasStatus, CallKeepsRules, DeliveryKeepsRules, ResumptionKeepsRules, EventKeepsRules, RunKeepsRules, ReachedHasRules, EventMarksNobody, RunMarksNobody, NobodyIsMarked, InitTakesOrphans, OrphansGoToInit};
 ghost use Rattle.sk_machine_laws.specs.TellingLaws.{EndIsToldToParent, EndIsToldOnce};
 ghost use Rattle.sk_machine_laws.specs.TurnLaws.{NextIsTurn, NobodysTurn, RunnableHasEvent, IdleDoesNothing, EndIsFinal};
 ghost use Rattle.sk_machine_laws.specs.RunLaws.{RunsAreLawful};
 ghost use Rattle.sk_machine_laws.specs.AnyMachine.{HasMachineLaws};
 ghost use Rattle.sk_machine_laws.specs.ConfinementLaws.{EventIsConfined, ConfinementStays, LineIsConfined};
 ghost use Rattle.sk_machine_laws.specs.FilterLaws.{EventKeepsAccepted, RunKeepsAccepted, AcceptedReturn, AcceptedAreBounded, FiltersInForceAreAccepted, StepsInForceAreBounded};
-ghost use Rattle.sk_machine_laws.specs.LineLaws.{EventChangesAuthority, AuthorityIsOfLine, LineComesFromInit, LineKeepsFilters, VerdictIsOfLine, PerformedMeetsNoRefusal};
+ghost use Rattle.sk_machine_laws.specs.LineLaws.{EventChangesAuthority, AuthorityIsOfLine, LineComesFromInit, EqualLinesMayDoTheSame, LineKeepsFilters, VerdictIsOfLine, EqualLinesAreJudgedAlike, PerformedMeetsNoRefusal};
 
 /// An event that is not possible, and a call that is refused or fails, changes nothing; a call that a filter
 /// traps or kills does what the action says, and no more.
@@ -33,7 +33,7 @@ pub fn rules_are_kept()
     ensures reached { ReachedHasRules }
 {}
 
-/// Where there are no subreapers no process is ever marked as one, so orphans go to process 1.
+/// Where there are no subreapers no process is ever marked as one.
 #[tactic(auto, using(crate::proofs::Marks::event_marks_nobody, crate::proofs::Marks::run_marks_nobody, crate::proofs::Marks::nobody_is_marked))]
 pub fn nobody_is_marked()
     ensures event { EventMarksNobody }
@@ -41,17 +41,26 @@ pub fn nobody_is_marked()
     ensures reached { NobodyIsMarked }
 {}
 
+/// So orphans go to process 1 then, as if there were no such mark.
+#[tactic(auto, using(crate::proofs::Marks::init_takes_orphans, crate::proofs::Marks::orphans_go_to_init))]
+pub fn orphans_go_to_init()
+    ensures unmarked { InitTakesOrphans }
+    ensures reached { OrphansGoToInit }
+{}
+
 /// What a process may do is what its line says, whatever other processes did between.
 pub fn authority_is_of_line()
     ensures event { EventChangesAuthority }
     ensures run { AuthorityIsOfLine }
     ensures root { LineComesFromInit }
+    ensures equal { EqualLinesMayDoTheSame }
 {}
 
-/// A line keeps every filter that it has attached, and its calls are judged by them and no others.
+/// A line keeps every filter that it has attached, and its calls are judged by them and no others, alike for equal lines.
 pub fn filters_stay_for_good()
     ensures kept { LineKeepsFilters }
     ensures verdict { VerdictIsOfLine }
+    ensures equal { EqualLinesAreJudgedAlike }
     ensures performed { PerformedMeetsNoRefusal }
 {}
 

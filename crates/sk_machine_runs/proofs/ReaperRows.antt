@@ -9,7 +9,7 @@ use Rattle.sk_signal.specs.Signalling.{opening as no_signal}
 use Rattle.sk_world.specs.Numbers.{fresh_of}
 use Rattle.sk_world.specs.Subreapers.{ancestors, new_parent}
 use Rattle.sk_machine.specs.Machine.{step_of}
-use Rattle.sk_machine_runs.specs.WorkedReapers.{ReapsForServer, TurnsOfServer, ReapsForInit, HasNoSubreapers, KeepsMarkThroughExec, SetsAndClearsMark, ReapsForNearest, ClearsMark, ReapsWhileStopped, HandsZombieToReaper, LeavesReaperNoZombies, AnnouncesToReaper, ReaperTiesGroup, InitTiesNoGroup, WorkedReapers}
+use Rattle.sk_machine_runs.specs.WorkedReapers.{ReapsForServer, TurnsOfServer, ReapsForInit, HasNoSubreapers, KeepsMarkThroughExec, SetsAndClearsMark, ReapsForNearest, ClearsMark, ReapsWhileStopped, HandsZombieToReaper, LeavesReaperNoZombies, AnnouncesToReaper, ReaperTiesGroup, InitTiesNoGroup, TellsIgnorerOfNoOrphan, MarksByWholeRegister, WorkedReapers}
 
 reaps_for_server : ReapsForServer
 unfolding step_of fresh_of new_parent ancestors action_of operation_of first_fault empty contains insert retain remove difference union from_list lowest signals_to signals_of no_signal
@@ -67,6 +67,14 @@ init_ties_no_group : InitTiesNoGroup
 unfolding step_of fresh_of new_parent ancestors action_of operation_of first_fault empty contains insert retain remove difference union from_list lowest signals_to signals_of no_signal
 init_ties_no_group = refl
 
+tells_ignorer_of_no_orphan : TellsIgnorerOfNoOrphan
+unfolding step_of fresh_of new_parent ancestors action_of operation_of first_fault empty contains insert retain remove difference union from_list lowest signals_to signals_of no_signal
+tells_ignorer_of_no_orphan = refl
+
+marks_by_whole_register : MarksByWholeRegister
+unfolding step_of fresh_of new_parent ancestors action_of operation_of first_fault empty contains insert retain remove difference union from_list lowest signals_to signals_of no_signal
+marks_by_whole_register = refl
+
 pub worked_reapers : WorkedReapers
 worked_reapers = record {
   reaps_for_server = reaps_for_server;
@@ -83,4 +91,6 @@ worked_reapers = record {
   announces_to_reaper = announces_to_reaper;
   reaper_ties_group = reaper_ties_group;
   init_ties_no_group = init_ties_no_group;
+  tells_ignorer_of_no_orphan = tells_ignorer_of_no_orphan;
+  marks_by_whole_register = marks_by_whole_register;
 }

@@ -9,7 +9,7 @@ use Rattle.sk_signal.specs.Signalling.{opening as no_signal}
 use Rattle.sk_world.specs.Numbers.{fresh_of}
 use Rattle.sk_world.specs.Subreapers.{ancestors, new_parent}
 use Rattle.sk_machine.specs.Machine.{step_of}
-use Rattle.sk_machine_runs.specs.WorkedSignals.{HandlesTrap, ForcesSigsys, ForcesSigsysOnInit, PausesForHandler, SignalsItself, BlocksAllButKill, BlocksAndEnds, DiscardsEachOther, SetsMask, IgnoresSignals, DropsHandlersAtExec, BeginsEightHandlers, BeginsEightMore, EndsWithoutRoomForFrame, HaltsWithoutRoomForFrame, WorkedSignals}
+use Rattle.sk_machine_runs.specs.WorkedSignals.{HandlesTrap, ForcesSigsys, ForcesSigsysOnInit, PausesForHandler, SignalsItself, BlocksAllButKill, BlocksAndEnds, DiscardsEachOther, SetsMask, IgnoresSignals, DropsHandlersAtExec, BeginsEightHandlers, BeginsEightMore, EndsWithoutRoomForFrame, HaltsWithoutRoomForFrame, EndsBySegv, WorkedSignals}
 
 handles_trap : HandlesTrap
 unfolding step_of fresh_of new_parent ancestors action_of operation_of first_fault empty contains insert retain remove difference union from_list lowest signals_to signals_of no_signal
@@ -71,6 +71,10 @@ halts_without_room_for_frame : HaltsWithoutRoomForFrame
 unfolding step_of fresh_of new_parent ancestors action_of operation_of first_fault empty contains insert retain remove difference union from_list lowest signals_to signals_of no_signal
 halts_without_room_for_frame = refl
 
+ends_by_segv : EndsBySegv
+unfolding step_of fresh_of new_parent ancestors action_of operation_of first_fault empty contains insert retain remove difference union from_list lowest signals_to signals_of no_signal
+ends_by_segv = refl
+
 pub worked_signals : WorkedSignals
 worked_signals = record {
   handles_trap = handles_trap;
@@ -88,4 +92,5 @@ worked_signals = record {
   begins_eight_more = begins_eight_more;
   ends_without_room_for_frame = ends_without_room_for_frame;
   halts_without_room_for_frame = halts_without_room_for_frame;
+  ends_by_segv = ends_by_segv;
 }

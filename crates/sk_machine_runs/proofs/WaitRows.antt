@@ -9,7 +9,7 @@ use Rattle.sk_signal.specs.Signalling.{opening as no_signal}
 use Rattle.sk_world.specs.Numbers.{fresh_of}
 use Rattle.sk_world.specs.Subreapers.{ancestors, new_parent}
 use Rattle.sk_machine.specs.Machine.{step_of}
-use Rattle.sk_machine_runs.specs.WorkedWaits.{LeavesNoZombies, Crashes, TellsStopAndContinue, HandsZombieOn, HandsChildrenOn, RefusesToWait, InterruptsWait, TellsContinuationOnce, TellsNoContinuation, WaitsWhileStopped, TellsEndOnce, WorkedWaits}
+use Rattle.sk_machine_runs.specs.WorkedWaits.{LeavesNoZombies, Crashes, TellsStopAndContinue, HandsZombieOn, HandsChildrenOn, RefusesToWait, InterruptsWait, TellsContinuationOnce, TellsNoContinuation, WaitsWhileStopped, TellsEndOnce, TellsLowestFirst, TellsEndInPlaceOfStop, HandsStopOn, WorkedWaits}
 
 leaves_no_zombies : LeavesNoZombies
 unfolding step_of fresh_of new_parent ancestors action_of operation_of first_fault empty contains insert retain remove difference union from_list lowest signals_to signals_of no_signal
@@ -55,6 +55,18 @@ tells_end_once : TellsEndOnce
 unfolding step_of fresh_of new_parent ancestors action_of operation_of first_fault empty contains insert retain remove difference union from_list lowest signals_to signals_of no_signal
 tells_end_once = refl
 
+tells_lowest_first : TellsLowestFirst
+unfolding step_of fresh_of new_parent ancestors action_of operation_of first_fault empty contains insert retain remove difference union from_list lowest signals_to signals_of no_signal
+tells_lowest_first = refl
+
+tells_end_in_place_of_stop : TellsEndInPlaceOfStop
+unfolding step_of fresh_of new_parent ancestors action_of operation_of first_fault empty contains insert retain remove difference union from_list lowest signals_to signals_of no_signal
+tells_end_in_place_of_stop = refl
+
+hands_stop_on : HandsStopOn
+unfolding step_of fresh_of new_parent ancestors action_of operation_of first_fault empty contains insert retain remove difference union from_list lowest signals_to signals_of no_signal
+hands_stop_on = refl
+
 pub worked_waits : WorkedWaits
 worked_waits = record {
   leaves_no_zombies = leaves_no_zombies;
@@ -68,4 +80,7 @@ worked_waits = record {
   tells_no_continuation = tells_no_continuation;
   waits_while_stopped = waits_while_stopped;
   tells_end_once = tells_end_once;
+  tells_lowest_first = tells_lowest_first;
+  tells_end_in_place_of_stop = tells_end_in_place_of_stop;
+  hands_stop_on = hands_stop_on;
 }

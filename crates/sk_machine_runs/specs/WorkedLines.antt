@@ -1,5 +1,5 @@
 -- Lines that are worked out by hand.
-use Rattle.std.specs.Prelude.{ℕ, ◌≡◌, true, [], ◌∷◌, List}
+use Rattle.std.specs.Prelude.{Some, ℕ, ◌≡◌, true, [], ◌∷◌, List}
 use Rattle.sk_machine.specs.declared.answer.Reason.TheVariants as reason
 use Rattle.sk_machine.specs.declared.event.Event.TheVariants.{Deliver}
 use Rattle.sk_creds.specs.declared.errno.Errno.TheVariants.{Einval}
@@ -38,7 +38,7 @@ LineOfNobody = line_after_parting 9 ≡ record { root = 9; calls = [] }
 abbrev pub AuthorityOfChild : Type 0
 AuthorityOfChild =
     authority_of_line nothing_given opening (line_after_parting 2)
-    ≡ record { programs = []; creds = record { real = 7; effective = 7; saved = 7; no_new_privs = true } }
+    ≡ Some (record { programs = []; creds = record { real = 7; effective = 7; saved = 7; no_new_privs = true } })
 
 -- refused calls, deliveries and calls that are not possible are in no line
 abbrev pub line_refused : Line

@@ -231,6 +231,36 @@ InitTiesNoGroup =
     ∷ (Deliver 4, delivers 1 (effect.Ended 1))
     ∷ [])
 
+-- a subreaper that ignores SIGCHLD is told nothing of a zombie among its orphans: the zombie has gone
+abbrev pub TellsIgnorerOfNoOrphan : Type 0
+TellsIgnorerOfNoOrphan =
+    Runs with_subreapers opening (
+    (fork 1, gives 2)
+    ∷ (prctl 2 36 1 0, gives 0)
+    ∷ (sigaction 2 17 1 0, gives 0)
+    ∷ (sigprocmask 2 0 (only 17), gives 0)
+    ∷ (fork 2, gives 3)
+    ∷ (sigaction 3 17 0 0, gives 0)
+    ∷ (fork 3, gives 4)
+    ∷ (exit 4 0, ends 0)
+    ∷ (exit 3 0, ends 0)
+    ∷ (sigpending 2, signals 0)
+    ∷ (wait4 2 (minus 1) 1, fails Echild)
+    ∷ [])
+
+-- a mark that is set by a number above 32 bits takes orphans like any other, and that of process 1 takes none from it
+abbrev pub MarksByWholeRegister : Type 0
+MarksByWholeRegister =
+    Runs with_subreapers opening (
+    (prctl 1 36 (2 ^ 32) 0, gives 0)
+    ∷ (fork 1, gives 2)
+    ∷ (prctl 2 36 (2 ^ 32) 0, gives 0)
+    ∷ (fork 2, gives 3)
+    ∷ (fork 3, gives 4)
+    ∷ (exit 3 0, ends 0)
+    ∷ (getppid 4, gives 2)
+    ∷ [])
+
 -- all of these
 pub record WorkedReapers : Type 0 where
   pub reaps_for_server : ReapsForServer
@@ -247,3 +277,5 @@ pub record WorkedReapers : Type 0 where
   pub announces_to_reaper : AnnouncesToReaper
   pub reaper_ties_group : ReaperTiesGroup
   pub init_ties_no_group : InitTiesNoGroup
+  pub tells_ignorer_of_no_orphan : TellsIgnorerOfNoOrphan
+  pub marks_by_whole_register : MarksByWholeRegister

@@ -12,7 +12,7 @@ use Rattle.sk_signal.specs.SignalSet.{Signals, signals_of}
 use Rattle.sk_world.specs.declared.process.TheConstants.{INIT}
 use Rattle.sk_world.specs.World.{World, at, opening}
 use Rattle.sk_machine.specs.Lines.{Happening}
-use Rattle.sk_machine_runs.specs.Scripts.{nothing_given, given, plain, for_number, minus, only, sigaction, sigprocmask, sigreturn, pause, getpid, fork, execve, kill, getppid, sigpending, exit_group, seccomp, gives, fails, waits, ends, executed, signals, resumes, delivers, handles, interrupts, not_now, Runs, after}
+use Rattle.sk_machine_runs.specs.Scripts.{nothing_given, given, plain, for_number, minus, only, sigaction, sigprocmask, sigreturn, pause, getpid, fork, execve, wait4, kill, getppid, sigpending, exit_group, seccomp, gives, fails, waits, told, ends, executed, signals, resumes, delivers, handles, interrupts, not_now, Runs, after}
 use Rattle.std.specs.Option.{option_map}
 use Rattle.sk_world.specs.declared.process.Life.{Life}
 
@@ -200,6 +200,16 @@ abbrev pub HaltsWithoutRoomForFrame : Type 0
 HaltsWithoutRoomForFrame =
     life_at (after (given [] (plain ∷ [])) with_sixteen ((kill 1 1 10, gives 0) ∷ (Deliver 1, delivers 10 (effect.Ended 11)) ∷ [])) INIT ≡ Some (Zombie 11)
 
+-- a process that a signal ends has the number of the signal as its status, without the bit of a core dump: wait(2), WTERMSIG
+abbrev pub EndsBySegv : Type 0
+EndsBySegv =
+    Runs nothing_given opening (
+    (fork 1, gives 2)
+    ∷ (kill 1 2 11, gives 0)
+    ∷ (Deliver 2, delivers 11 (effect.Ended 11))
+    ∷ (wait4 1 2 0, told 2 11)
+    ∷ [])
+
 -- all of these
 pub record WorkedSignals : Type 0 where
   pub handles_trap : HandlesTrap
@@ -217,3 +227,4 @@ pub record WorkedSignals : Type 0 where
   pub begins_eight_more : BeginsEightMore
   pub ends_without_room_for_frame : EndsWithoutRoomForFrame
   pub halts_without_room_for_frame : HaltsWithoutRoomForFrame
+  pub ends_by_segv : EndsBySegv

@@ -184,6 +184,44 @@ TellsEndOnce =
     ∷ (Fault 2, not_now reason.NoProcess)
     ∷ [])
 
+-- the lowest child that has anything to tell is told first, also where it has only stopped and another one has ended
+abbrev pub TellsLowestFirst : Type 0
+TellsLowestFirst =
+    Runs nothing_given opening (
+    (fork 1, gives 2)
+    ∷ (fork 1, gives 3)
+    ∷ (kill 1 2 19, gives 0)
+    ∷ (Deliver 2, delivers 19 effect.Stopped)
+    ∷ (exit 3 0, ends 0)
+    ∷ (wait4 1 (minus 1) 2, told 2 0x137f)
+    ∷ (wait4 1 (minus 1) 2, told 3 0)
+    ∷ [])
+
+-- of a child that has stopped and then ended, and was not told of, the end is told, and nothing else
+abbrev pub TellsEndInPlaceOfStop : Type 0
+TellsEndInPlaceOfStop =
+    Runs nothing_given opening (
+    (fork 1, gives 2)
+    ∷ (kill 1 2 19, gives 0)
+    ∷ (Deliver 2, delivers 19 effect.Stopped)
+    ∷ (kill 1 2 9, gives 0)
+    ∷ (Deliver 2, delivers 9 (effect.Ended 9))
+    ∷ (wait4 1 (minus 1) 2, told 2 9)
+    ∷ (wait4 1 (minus 1) 2, fails Echild)
+    ∷ [])
+
+-- a stop that was not told goes with the child to its new parent
+abbrev pub HandsStopOn : Type 0
+HandsStopOn =
+    Runs nothing_given opening (
+    (fork 1, gives 2)
+    ∷ (fork 2, gives 3)
+    ∷ (kill 1 3 19, gives 0)
+    ∷ (Deliver 3, delivers 19 effect.Stopped)
+    ∷ (exit 2 0, ends 0)
+    ∷ (wait4 1 3 2, told 3 0x137f)
+    ∷ [])
+
 -- all of these
 pub record WorkedWaits : Type 0 where
   pub leaves_no_zombies : LeavesNoZombies
@@ -197,3 +235,6 @@ pub record WorkedWaits : Type 0 where
   pub tells_no_continuation : TellsNoContinuation
   pub waits_while_stopped : WaitsWhileStopped
   pub tells_end_once : TellsEndOnce
+  pub tells_lowest_first : TellsLowestFirst
+  pub tells_end_in_place_of_stop : TellsEndInPlaceOfStop
+  pub hands_stop_on : HandsStopOn

@@ -1,30 +1,36 @@
 -- Each wrong machine is refused by a run.
-use Rattle.std.proofs.Common.{◌≡◌, ◌∙◌, ℕ, ◌==◌, arith, ap, sym, refl, subst, cond, Bool, true, false, length, IsTrue, List, [], ◌∷◌, Some}
-use Rattle.std.specs.Option.{is_some, option_map_or}
+use Rattle.std.proofs.Common.{◌≡◌, ◌∙◌, ℕ, ◌==◌, ◌||◌, arith, ap, sym, refl, subst, cond, Bool, true, false, length, IsTrue, IfSome, List, [], ◌∷◌, Option, None, Some}
+use Rattle.std.specs.Option.{is_some, option_map, option_map_or}
+use Rattle.std.specs.List.{list_all}
 use Rattle.std.specs.Ordering.{nat_cmp}
 use Rattle.std.specs.FinMap.Entries.{find}
 use Rattle.std.proofs.lemmas.Int.{ints}
-use Rattle.std.proofs.lemmas.Bool.{false≢true, eqb-true}
+use Rattle.std.proofs.lemmas.Bool.{false≢true, eqb-true, and_parts}
 use Rattle.sk_insn.specs.Actions.{action_of}
 use Rattle.sk_insn.specs.Operations.{operation_of}
 use Rattle.sk_check.specs.FirstFault.{first_fault}
 use Rattle.sk_signal.specs.Sets.{empty, contains, insert, retain, remove, difference, union, from_list}
 use Rattle.sk_signal.specs.SignalSet.{lowest, signals_to, signals_of}
 use Rattle.sk_signal.specs.Signalling.{opening as no_signal}
+use Rattle.sk_signal.specs.declared.number.TheConstants.{SIGHUP, SIGCHLD}
+use Rattle.sk_world.specs.declared.process.TheConstants.{INIT}
 use Rattle.sk_world.specs.declared.process.Proc.{Proc}
 use Rattle.sk_world.specs.Numbers.{fresh_of}
 use Rattle.sk_world.specs.Subreapers.{ancestors, new_parent}
-use Rattle.sk_world.specs.World.{at, parent_of, opening}
+use Rattle.sk_world.specs.World.{World, at, parent_of, body_changed, opening}
+use Rattle.sk_world.specs.Sending.{signalled}
 use Rattle.sk_world.proofs.Maps.{same_number}
 use Rattle.sk_machine.specs.declared.event.Event.{Event}
+use Rattle.sk_machine.specs.declared.event.Event.TheVariants.{Deliver}
 use Rattle.sk_machine.specs.Given.{GivenImages}
 use Rattle.sk_machine.specs.Authority.{Authority}
 use Rattle.sk_machine.specs.Machine.{step_of, world_after}
 use Rattle.sk_machine_laws.specs.AnyMachine.{GivesAuthorityByLine, TellsEndsOnce, KeepsToConfined}
-use Rattle.sk_machine_laws.specs.ConfinementLaws.{RefusesKill, IsConfined}
+use Rattle.sk_machine_laws.specs.ConfinementLaws.{RefusesKill, IsConfined, after_signals, is_of_stop, is_of_end}
+use Rattle.sk_machine_laws.proofs.LineSteps.{authority_in}
 use Rattle.sk_machine_laws.proofs.KeptEvents.{kept_reached}
 use Rattle.sk_machine_runs.specs.Scripts.{nothing_given, given, plain, always, fork, execve, exit, wait4, kill, setuid, seccomp}
-use Rattle.sk_machine_wrongs.specs.WrongMachines.{forks_bare, forks_into_old, executes_bare, orphans_with_first_ids, leaves_zombies, performs_refused, WrongsAreRefused}
+use Rattle.sk_machine_wrongs.specs.WrongMachines.{forks_bare, forks_into_old, executes_bare, orphans_with_first_ids, leaves_zombies, performs_refused, stops_with_hangup, ends_with_hangup, WrongsAreRefused}
 use Rattle.sk_machine.specs.Lines.{authority_at}
 
 -- a filter that allows everything, and a program
@@ -34,25 +40,25 @@ allowing = given (always 0x7fff0000 ∷ []) (plain ∷ [])
 bare_forks : GivesAuthorityByLine forks_bare → ⊥
 unfolding allowing step_of fresh_of new_parent ancestors action_of operation_of first_fault empty contains insert retain remove difference union from_list lowest signals_to signals_of no_signal
 bare_forks law =
-    let filters : 0 ≡ 1 = ap (λ (a : Authority). length a.programs) (law allowing opening (seccomp 1 1 0 0 ∷ fork 1 ∷ []) 2 refl) in
+    let filters : 0 ≡ 1 = ap (λ (o : Option Authority). option_map_or (λ a. length a.programs) o 0) (law allowing opening (seccomp 1 1 0 0 ∷ fork 1 ∷ []) 2 refl) in
     absurd (omega (arith, filters))
 
 forks_old : GivesAuthorityByLine forks_into_old → ⊥
 unfolding allowing step_of fresh_of new_parent ancestors action_of operation_of first_fault empty contains insert retain remove difference union from_list lowest signals_to signals_of no_signal
 forks_old law =
-    let filters : 1 ≡ 0 = ap (λ (a : Authority). length a.programs) (law allowing opening (fork 1 ∷ seccomp 1 1 0 0 ∷ fork 2 ∷ []) 3 refl) in
+    let filters : 1 ≡ 0 = ap (λ (o : Option Authority). option_map_or (λ a. length a.programs) o 0) (law allowing opening (fork 1 ∷ seccomp 1 1 0 0 ∷ fork 2 ∷ []) 3 refl) in
     absurd (omega (arith, filters))
 
 bare_executes : GivesAuthorityByLine executes_bare → ⊥
 unfolding allowing step_of fresh_of new_parent ancestors action_of operation_of first_fault empty contains insert retain remove difference union from_list lowest signals_to signals_of no_signal
 bare_executes law =
-    let filters : 0 ≡ 1 = ap (λ (a : Authority). length a.programs) (law allowing opening (seccomp 1 1 0 0 ∷ execve 1 0 ∷ []) 1 refl) in
+    let filters : 0 ≡ 1 = ap (λ (o : Option Authority). option_map_or (λ a. length a.programs) o 0) (law allowing opening (seccomp 1 1 0 0 ∷ execve 1 0 ∷ []) 1 refl) in
     absurd (omega (arith, filters))
 
 orphans_first : GivesAuthorityByLine orphans_with_first_ids → ⊥
 unfolding step_of fresh_of new_parent ancestors action_of operation_of first_fault empty contains insert retain remove difference union from_list lowest signals_to signals_of no_signal
 orphans_first law =
-    let id : 0 ≡ 5 = ap (λ (a : Authority). a.creds.real) (law nothing_given opening (fork 1 ∷ fork 2 ∷ setuid 3 5 ∷ exit 2 0 ∷ []) 3 refl) in
+    let id : 0 ≡ 5 = ap (λ (o : Option Authority). option_map_or (λ a. a.creds.real) o 0) (law nothing_given opening (fork 1 ∷ fork 2 ∷ setuid 3 5 ∷ exit 2 0 ∷ []) 3 refl) in
     absurd (omega (arith, id))
 
 zombies_left : TellsEndsOnce leaves_zombies → ⊥
@@ -60,7 +66,7 @@ unfolding step_of fresh_of new_parent ancestors action_of operation_of first_fau
 zombies_left law =
     false≢true (law nothing_given (world_after nothing_given opening (fork 1 ∷ exit 2 0 ∷ [])) (wait4 1 2 0) [] (wait4 1 2 0) 2 0 0 refl (omega arith) refl)
 
--- ---- process 2 is confined beside process 3
+-- ---- confined processes
 -- what holds of each process of a list holds of each that is in it
 abbrev All : (ℕ → Type 0) → List (ℕ × Proc) → Type 0
 All P [] = Unit {0}
@@ -77,18 +83,32 @@ of_all P (e ∷ es) all q there =
 refusing : GivenImages
 refusing = given (always 0x00050001 ∷ []) []
 
+-- what confinement asks of one process
+Fits : World → (ℕ → Bool) → ℕ → Type 0
+Fits w inside q = (IsTrue (inside (parent_of (at w q))) → IsTrue (inside q)) × (IsTrue (inside q) → IfSome (authority_at w q) (λ a. RefusesKill a.programs))
+
+if_there : (o : Option Proc) → (IsTrue (is_some o) → IfSome (authority_in o) (λ a. RefusesKill a.programs)) → IfSome (authority_in o) (λ a. RefusesKill a.programs)
+if_there None refuses = tt
+if_there (Some p) refuses = refuses refl
+
+confined_by : (w : World) (inside : ℕ → Bool) → inside INIT ≡ false → All (Fits w inside) w.procs.entries → IsConfined w inside
+unfolding Fits
+confined_by w inside init fits = record {
+  init = init;
+  children = λ q there within. (of_all (Fits w inside) w.procs.entries fits q there).0 within;
+  refuses = λ q within. if_there (at w q) (λ there. (of_all (Fits w inside) w.procs.entries fits q there).1 within);
+}
+
+-- ---- process 2 is confined beside process 3
 beside : List Event
 beside = fork 1 ∷ fork 1 ∷ seccomp 2 1 0 0 ∷ []
 
 abbrev two : ℕ → Bool
 two q = q == 2
 
-Fits : ℕ → Type 0
-Fits q = (IsTrue (two (parent_of (at (world_after refusing opening beside) q))) → IsTrue (two q)) × (IsTrue (two q) → RefusesKill (authority_at (world_after refusing opening beside) q).programs)
-
-all_fit : All Fits (world_after refusing opening beside).procs.entries
+two_fits : All (Fits (world_after refusing opening beside) two) (world_after refusing opening beside).procs.entries
 unfolding Fits refusing beside step_of fresh_of new_parent ancestors action_of operation_of first_fault empty contains insert retain remove difference union from_list lowest signals_to signals_of no_signal
-all_fit = (
+two_fits = (
   (λ h. absurd (false≢true h), λ h. absurd (false≢true h)),
   (
     (λ h. refl, λ _ call is. omega (arith, ints)),
@@ -99,20 +119,109 @@ all_fit = (
   ),
 )
 
-two_confined : IsConfined (world_after refusing opening beside) two
-unfolding Fits
-two_confined = record {
-  init = refl;
-  children = λ q there within. (of_all Fits (world_after refusing opening beside).procs.entries all_fit q there).0 within;
-  refuses = λ q there within. (of_all Fits (world_after refusing opening beside).procs.entries all_fit q there).1 within;
-}
-
 refused_performs : KeepsToConfined performs_refused → ⊥
 unfolding refusing beside step_of fresh_of new_parent ancestors action_of operation_of first_fault empty contains insert retain remove difference union from_list lowest signals_to signals_of no_signal
 refused_performs law =
-    let alone = law refusing (world_after refusing opening beside) (kill 2 3 9) two 3 (kept_reached refusing beside) two_confined refl refl refl in
-    let pending : true ≡ false = ap (λ o. option_map_or (λ p. contains p.body.signals.pending 9) o false) (alone.same refl) in
+    let world : World = world_after refusing opening beside in
+    let alone = law refusing world (kill 2 3 9) two 3 (kept_reached refusing beside) (confined_by world two refl two_fits) refl refl refl in
+    let pending : true ≡ false = ap (λ o. option_map_or (λ p. contains p.body.signals.pending 9) o false) (alone.same refl refl) in
     false≢true (sym pending)
+
+-- ---- process 3 is confined below process 2, and signal n is sent to it
+below : ℕ → List Event
+below n = fork 1 ∷ fork 2 ∷ seccomp 3 1 0 0 ∷ kill 1 3 n ∷ []
+
+abbrev three : ℕ → Bool
+three q = q == 3
+
+stopping_fits : All (Fits (world_after refusing opening (below 19)) three) (world_after refusing opening (below 19)).procs.entries
+unfolding Fits refusing below step_of fresh_of new_parent ancestors action_of operation_of first_fault empty contains insert retain remove difference union from_list lowest signals_to signals_of no_signal
+stopping_fits = (
+  (λ h. absurd (false≢true h), λ h. absurd (false≢true h)),
+  (
+    (λ h. absurd (false≢true h), λ h. absurd (false≢true h)),
+    (
+      (λ h. refl, λ _ call is. omega (arith, ints)),
+      tt,
+    ),
+  ),
+)
+
+killing_fits : All (Fits (world_after refusing opening (below 9)) three) (world_after refusing opening (below 9)).procs.entries
+unfolding Fits refusing below step_of fresh_of new_parent ancestors action_of operation_of first_fault empty contains insert retain remove difference union from_list lowest signals_to signals_of no_signal
+killing_fits = (
+  (λ h. absurd (false≢true h), λ h. absurd (false≢true h)),
+  (
+    (λ h. absurd (false≢true h), λ h. absurd (false≢true h)),
+    (
+      (λ h. refl, λ _ call is. omega (arith, ints)),
+      tt,
+    ),
+  ),
+)
+
+-- a process after a signal, and whether SIGHUP is pending for it
+abbrev after_signal : ℕ → Option Proc → Option Proc
+after_signal n o = option_map (body_changed (signalled n false)) o
+
+abbrev has_hangup : Option Proc → Bool
+has_hangup o = option_map_or (λ p. contains p.body.signals.pending SIGHUP) o false
+
+one_more : (n : ℕ) (rest : List ℕ) (o : Option Proc) → option_map (body_changed (after_signals false (n ∷ rest))) o ≡ option_map (body_changed (after_signals false rest)) (after_signal n o)
+one_more n rest None = refl
+one_more n rest (Some p) = refl
+
+-- a process that one SIGCHLD more leaves as it is
+still_told : (may_come : ℕ → Bool) → ((n : ℕ) → IsTrue (may_come n) → n ≡ SIGCHLD) → (o : Option Proc) → after_signal SIGCHLD o ≡ o → (signals : List ℕ) → IsTrue (list_all may_come signals)
+    → option_map (body_changed (after_signals false signals)) o ≡ o
+still_told may_come only None same signals all = refl
+still_told may_come only (Some p) same [] all = refl
+still_told may_come only (Some p) same (n ∷ rest) all =
+    let both = and_parts (may_come n) (list_all may_come rest) all in
+    one_more n rest (Some p)
+    ∙ ap (option_map (body_changed (after_signals false rest))) (ap (λ n. after_signal n (Some p)) (only n both.0) ∙ same)
+    ∙ still_told may_come only (Some p) same rest both.1
+
+-- however often it gets SIGCHLD, no SIGHUP is pending
+no_hangup : (may_come : ℕ → Bool) → ((n : ℕ) → IsTrue (may_come n) → n ≡ SIGCHLD) → (o now : Option Proc) → has_hangup o ≡ false → has_hangup (after_signal SIGCHLD o) ≡ false
+    → after_signal SIGCHLD (after_signal SIGCHLD o) ≡ after_signal SIGCHLD o → (signals : List ℕ) → IsTrue (list_all may_come signals)
+    → now ≡ option_map (body_changed (after_signals false signals)) o → has_hangup now ≡ false
+no_hangup may_come only o now first then same [] all is = ap has_hangup (is ∙ nothing o) ∙ first
+  where
+    nothing : (o : Option Proc) → option_map (body_changed (λ body. body)) o ≡ o
+    nothing None = refl
+    nothing (Some p) = refl
+no_hangup may_come only o now first then same (n ∷ rest) all is =
+    let both = and_parts (may_come n) (list_all may_come rest) all in
+    ap has_hangup (is ∙ one_more n rest o ∙ ap (option_map (body_changed (after_signals false rest))) (ap (λ n. after_signal n o) (only n both.0))
+    ∙ still_told may_come only (after_signal SIGCHLD o) same rest both.1)
+    ∙ then
+
+only_of_stop : (to_parent : Bool) (n : ℕ) → IsTrue (is_of_stop to_parent n) → n ≡ SIGCHLD
+only_of_stop true n is = eqb-true n SIGCHLD is
+only_of_stop false n is = absurd (false≢true is)
+
+only_of_end : (n : ℕ) → IsTrue (is_of_end false n) → n ≡ SIGCHLD
+only_of_end n is = elim (n == SIGCHLD) as (λ b. (n == SIGCHLD) ≡ b → IsTrue (b || false) → n ≡ SIGCHLD) [
+  | true ↦ λ same _. eqb-true n SIGCHLD same
+  | false ↦ λ _ is. absurd (false≢true is)
+] refl is
+
+stop_hangs_up : KeepsToConfined stops_with_hangup → ⊥
+unfolding refusing below step_of fresh_of new_parent ancestors action_of operation_of first_fault empty contains insert retain remove difference union from_list lowest signals_to signals_of no_signal
+stop_hangs_up law =
+    let world : World = world_after refusing opening (below 19) in
+    let alone = law refusing world (Deliver 3) three 2 (kept_reached refusing (below 19)) (confined_by world three refl stopping_fits) refl refl refl in
+    let told = alone.stop refl in
+    false≢true (sym (no_hangup (is_of_stop true) (only_of_stop true) (at world 2) _ refl refl refl told.0 told.1 told.2))
+
+end_hangs_up : KeepsToConfined ends_with_hangup → ⊥
+unfolding refusing below step_of fresh_of new_parent ancestors action_of operation_of first_fault empty contains insert retain remove difference union from_list lowest signals_to signals_of no_signal
+end_hangs_up law =
+    let world : World = world_after refusing opening (below 9) in
+    let alone = law refusing world (Deliver 3) three 2 (kept_reached refusing (below 9)) (confined_by world three refl killing_fits) refl refl refl in
+    let told = alone.end refl in
+    false≢true (sym (no_hangup (is_of_end false) only_of_end (at world 2) _ refl refl refl told.0 told.1 told.2))
 
 pub wrongs_are_refused : WrongsAreRefused
 wrongs_are_refused = record {
@@ -122,4 +231,6 @@ wrongs_are_refused = record {
   orphans_with_first_ids = orphans_first;
   leaves_zombies = zombies_left;
   performs_refused = refused_performs;
+  stops_with_hangup = stop_hangs_up;
+  ends_with_hangup = end_hangs_up;
 }

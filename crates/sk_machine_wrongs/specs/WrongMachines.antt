@@ -4,11 +4,13 @@ use Rattle.std.specs.Option.{option_map_or}
 use Rattle.sk_insn.specs.declared.action.Action.{Action}
 use Rattle.sk_insn.specs.declared.action.Action.TheVariants as action
 use Rattle.sk_insn.specs.Actions.{action_of}
+use Rattle.sk_signal.specs.declared.number.TheConstants.{SIGHUP}
 use Rattle.sk_world.specs.declared.process.TheConstants.{INIT}
 use Rattle.sk_world.specs.declared.process.Body.{Body}
 use Rattle.sk_world.specs.declared.process.Proc.{Proc}
 use Rattle.sk_world.specs.Processes.{each}
-use Rattle.sk_world.specs.World.{World, at, is_child_of, body_changed, changed}
+use Rattle.sk_world.specs.World.{World, at, is_child_of, parent_of, body_changed, changed}
+use Rattle.sk_world.specs.Sending.{sent}
 use Rattle.sk_machine.specs.declared.event.Event.{Event}
 use Rattle.sk_machine.specs.declared.event.Event.TheVariants.{Call}
 use Rattle.sk_machine.specs.declared.answer.Answer.{Answer}
@@ -19,6 +21,7 @@ use Rattle.sk_machine.specs.Performing.{performed}
 use Rattle.sk_machine.specs.Machine.{step_of}
 use Rattle.sk_machine.specs.Lines.{is_fork_of}
 use Rattle.sk_machine_laws.specs.TellingLaws.{told_by}
+use Rattle.sk_machine_laws.specs.ConfinementLaws.{ends, stops}
 use Rattle.sk_machine_laws.specs.AnyMachine.{Machine, GivesAuthorityByLine, TellsEndsOnce, KeepsToConfined}
 use Rattle.sk_machine.specs.Given.{GivenImages}
 use Rattle.sk_insn.specs.declared.record.Record.{Record}
@@ -102,6 +105,18 @@ performs_refused images w (Call pid ip nr args) =
     else step_of images w (Call pid ip nr args)
 performs_refused images w event = step_of images w event
 
+-- a stop sends the parent SIGHUP besides
+abbrev pub stops_with_hangup : Machine
+stops_with_hangup images w event =
+    if stops (step_of images w event).answer then record (step_of images w event) { world = sent (step_of images w event).world (parent_of (at w (pid_of event))) SIGHUP }
+    else step_of images w event
+
+-- so does an end, though it leaves no group orphaned
+abbrev pub ends_with_hangup : Machine
+ends_with_hangup images w event =
+    if ends (step_of images w event).answer then record (step_of images w event) { world = sent (step_of images w event).world (parent_of (at w (pid_of event))) SIGHUP }
+    else step_of images w event
+
 -- none of them has the law that it breaks
 pub record WrongsAreRefused : Type 0 where
   pub forks_bare : GivesAuthorityByLine forks_bare → ⊥
@@ -110,3 +125,5 @@ pub record WrongsAreRefused : Type 0 where
   pub orphans_with_first_ids : GivesAuthorityByLine orphans_with_first_ids → ⊥
   pub leaves_zombies : TellsEndsOnce leaves_zombies → ⊥
   pub performs_refused : KeepsToConfined performs_refused → ⊥
+  pub stops_with_hangup : KeepsToConfined stops_with_hangup → ⊥
+  pub ends_with_hangup : KeepsToConfined ends_with_hangup → ⊥

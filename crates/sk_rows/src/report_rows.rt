@@ -212,7 +212,7 @@ const REPORTS: &[(&str, &str, End)] = &[
 ];
 
 /// Texts that are no scenario, with what is told of them.
-const FAULTS: &[(&str, &str)] = &[
+pub const FAULTS: &[(&str, &str)] = &[
     ("turns 0\n", "skern: line 1: over the limit"),
     ("subreapers\nsubreapers\n", "skern: line 2: not understood"),
     ("program init\ngetpid\n", "skern: line 3: not understood"),

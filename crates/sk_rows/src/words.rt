@@ -1,8 +1,10 @@
 //! What the words of `skern` do, and what is told where its ends fail at first.
-use crate::report_rows::NO_REPORT;
+use crate::report_rows::{FAULTS, NO_REPORT};
 use crate::unready::{Input, Output, words};
 use sk_cli::{CommandFault, command, failed, finish};
 use sk_ends::Counted;
+use sk_scenario::ScenarioFault;
+use sk_sched::EngineFault;
 use std::alloc::{AllocError, Global};
 use std::io;
 use std::io::BufWriter;
@@ -71,6 +73,34 @@ fn failures_are_told_once(rt: HostRuntime) -> Result<(), Fail> {
             (held.as_slice(), status),
             (output, 3),
             "{word} with {failing} failing writes"
+        );
+    }
+    Ok(())
+}
+
+/// The display text of each fault of a scenario is the line that the program writes of it.
+#[test]
+fn faults_are_written_as_they_display(rt: HostRuntime) -> Result<(), Fail> {
+    let faults = [
+        (EngineFault::Read, CommandFault::Read),
+        (EngineFault::Write, CommandFault::Write),
+        (EngineFault::Memory { turns: 7 }, CommandFault::Memory),
+        (
+            EngineFault::Scenario(ScenarioFault::Memory),
+            CommandFault::Memory,
+        ),
+    ];
+    for (fault, written) in faults {
+        let text = format!(in rt.alloc(); "{fault}")?;
+        assert_eq!(rt; text.as_str(), written.text());
+    }
+    for &(input, text) in FAULTS {
+        let (held, status) = answer(rt.alloc(), &["run"], Some(input.as_bytes()), 0)?;
+        let line = format!(in rt.alloc(); "{text}\n")?;
+        assert_eq!(rt;
+            (held.as_slice(), status),
+            (line.as_bytes(), 1),
+            "at {input}"
         );
     }
     Ok(())

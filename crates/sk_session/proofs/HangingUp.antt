@@ -19,7 +19,7 @@ use Rattle.sk_world.proofs.Kept.{kept_sent}
 use Rattle.sk_world.proofs.KeptEnd.{kept_ended}
 use Rattle.sk_world.proofs.Walks.{none_any, none_left}
 use Rattle.sk_session.specs.Orphans.{is_living_member, is_orphaned, is_left_orphaned, groups, sent_to_group, hung_up, each_hung_up, ended_and_hung_up}
-use Rattle.sk_session.specs.SessionLaws.{EndKeepsRules}
+use Rattle.sk_session.specs.laws.SessionLaws.{EndKeepsRules}
 
 -- ---- what every signal leaves the many signals of a hanging up leave
 

@@ -14,7 +14,7 @@ use Rattle.sk_world.specs.World.{World, at, relinked, is_child_of, is_member_of}
 use Rattle.sk_world.specs.Rules.{IsWorld, has_links_within}
 use Rattle.sk_world.proofs.Stored.{kept_links}
 use Rattle.sk_session.specs.Sessions.{pid_named, session_of, has_executed, is_group, is_group_of_session, links_in_group, links_of_leader, may_move_child, may_join, may_regroup, put_into_group, regrouped}
-use Rattle.sk_session.specs.SessionLaws.{RegroupingKeepsRules, FoundingKeepsRules}
+use Rattle.sk_session.specs.laws.SessionLaws.{RegroupingKeepsRules, FoundingKeepsRules}
 
 -- the group of a process can be a pid
 within_group : (o : Option Proc) (group : ℕ) → IsTrue (has_links_within o) → IsTrue (is_member_of group o) → group ≤ LAST_PID

@@ -20,7 +20,7 @@ use Rattle.sk_world.proofs.Telling.{some_passes}
 use Rattle.sk_world.proofs.Walks.{any_here}
 use Rattle.sk_session.specs.Sessions.{session_of, is_group}
 use Rattle.sk_session.specs.Orphans.{is_living_member, is_outside, is_tie, is_orphaned, has_stopped_member, is_left_orphaned, groups, each_hung_up, ended_and_hung_up}
-use Rattle.sk_session.specs.Ties.{is_engaged}
+use Rattle.sk_session.specs.views.Ties.{is_engaged}
 use Rattle.sk_session.proofs.Walking.{member_is_there, nobody_at_0}
 use Rattle.sk_session.proofs.HangingUp.{sent_life}
 use Rattle.sk_session.proofs.Hanging.{sent_view, sent_member}

@@ -1,4 +1,4 @@
 pub mod Sessions
 pub mod Orphans
-pub mod SessionLaws
-pub mod Ties
+pub mod views
+pub mod laws

@@ -6,7 +6,7 @@ ghost use Rattle.sk_world.specs.World.{at, is_alive, is_stopped, is_halted, is_c
 ghost use Rattle.sk_world.specs.Rules.{IsWorld};
 ghost use Rattle.sk_session.specs.Sessions.{is_group};
 ghost use Rattle.sk_session.specs.Orphans.{is_tie, is_orphaned, has_stopped_member, groups as groups_of, sent_to_group, hung_up, each_hung_up, ended_and_hung_up};
-ghost use Rattle.sk_session.specs.Ties.{is_engaged};
+ghost use Rattle.sk_session.specs.views.Ties.{is_engaged};
 
 use crate::orphans::{is_tie, orphaned};
 use sk_numbers::NumberSet;

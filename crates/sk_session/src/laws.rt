@@ -1,6 +1,6 @@
 //! Laws on groups and sessions. No program calls these functions: the contract of each is the law.
 
-ghost use Rattle.sk_session.specs.SessionLaws.{RegroupingKeepsRules, FoundingKeepsRules, EndKeepsRules};
+ghost use Rattle.sk_session.specs.laws.SessionLaws.{RegroupingKeepsRules, FoundingKeepsRules, EndKeepsRules};
 
 /// A change of group or session keeps the rules of the world, and so does an end with the groups that it hangs up.
 #[tactic(auto, using(crate::proofs::KeptLinks::kept_setpgid, crate::proofs::KeptLinks::kept_setsid))]

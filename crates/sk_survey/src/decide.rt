@@ -30,7 +30,7 @@ pub(crate) fn decide(
 }
 
 /// The same for the call's number and a constant.
-fn decide_number(comparison: Comparison, k: u32, first: u32, last: u32) -> Option<bool>
+pub fn decide_number(comparison: Comparison, k: u32, first: u32, last: u32) -> Option<bool>
     requires range { first ≤ last }
     ensures { IfSome result (λ answer. (nr : ℕ) → first ≤ nr → nr ≤ last → holds comparison nr k ≡ answer) }
 {

@@ -14,5 +14,6 @@ mod survey;
 mod values;
 
 pub use answers::Answers;
+pub use decide::decide_number;
 pub use rows::Row;
 pub use survey::Survey;

@@ -12,4 +12,6 @@ mod options;
 mod text;
 
 pub use engine::survey_engine;
+pub use line::{Line, Shown, Sign};
+pub use lines::lines_of;
 pub use options::Options;

@@ -11,7 +11,7 @@ use Rattle.sk_world.specs.World.{World, at}
 use Rattle.sk_world.specs.Waits.{is_match, is_ready, has_match, ready_of, status_of}
 use Rattle.sk_world.proofs.Telling.{ready_lowest, no_match, not_ready}
 use Rattle.sk_world.proofs.Walks.{any_here, none_any}
-use Rattle.sk_machine.specs.Turns.{wait_ends}
+use Rattle.sk_machine.specs.Turns.{waits_no_more}
 
 and_none : (b : Bool) → (b && false) ≡ false
 and_none true = refl
@@ -26,14 +26,14 @@ match_is_there caller request pid None match = match
 match_is_there caller request pid (Some p) match = refl
 
 -- it goes on waiting where children match and none is ready
-pub goes_on_waiting : (w : World) (pid : ℕ) (request : Request) → ready_of w pid request ≡ NotReady → false ≡ wait_ends w pid (Asks request)
+pub goes_on_waiting : (w : World) (pid : ℕ) (request : Request) → ready_of w pid request ≡ NotReady → false ≡ waits_no_more w pid (Asks request)
 goes_on_waiting w pid request is =
     let waits = not_ready w pid request is in
     sym (λ i. none_any (is_ready w pid request) (pids w.procs) waits.1 i
     || not (any_here (λ q. is_match pid request q (at w q)) w.procs.entries waits.0.0 (match_is_there pid request waits.0.0 (at w waits.0.0) waits.0.1) waits.0.1 i))
 
 -- it ends where one is ready
-pub ends_by_child : (w : World) (pid : ℕ) (request : Request) (child status : ℕ) → ready_of w pid request ≡ Told child status → true ≡ wait_ends w pid (Asks request)
+pub ends_by_child : (w : World) (pid : ℕ) (request : Request) (child status : ℕ) → ready_of w pid request ≡ Told child status → true ≡ waits_no_more w pid (Asks request)
 ends_by_child w pid request child status is =
     let ready = (ready_lowest w pid request child status is).0 in
     sym (ap (λ b. b || not (has_match w pid request)) (any_here (is_ready w pid request) w.procs.entries child (ready_is_there (at w child) ready) ready))
@@ -43,7 +43,7 @@ ends_by_child w pid request child status is =
     ready_is_there (Some p) ready = refl
 
 -- and where none matches
-pub ends_by_none : (w : World) (pid : ℕ) (request : Request) → ready_of w pid request ≡ NoMatch → true ≡ wait_ends w pid (Asks request)
+pub ends_by_none : (w : World) (pid : ℕ) (request : Request) → ready_of w pid request ≡ NoMatch → true ≡ waits_no_more w pid (Asks request)
 ends_by_none w pid request is =
     sym (ap (λ b. list_any (is_ready w pid request) (pids w.procs) || not b) (none_any (λ q. is_match pid request q (at w q)) (pids w.procs) (no_match w pid request is))
     ∙ or_true (list_any (is_ready w pid request) (pids w.procs)))

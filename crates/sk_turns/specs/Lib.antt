@@ -1,1 +1,1 @@
-pub mod OfProcess
+pub mod views

@@ -1,6 +1,6 @@
 ghost use Rattle.std.specs.Prelude.{◌≡◌};
 ghost use Rattle.sk_world.specs.Rules.{IsWorld};
-ghost use Rattle.sk_machine.specs.Turns.{wait_ends, is_runnable, need_of};
+ghost use Rattle.sk_machine.specs.Turns.{waits_no_more, is_runnable, need_of};
 
 use crate::reasons::{halted, is_waiting, signal_for};
 use sk_machine::Need;
@@ -22,7 +22,7 @@ pub fn runnable<S: ProcStore>(store: &S, pid: u32) -> bool
     match process.body.life {
         Life::Zombie(_) => false,
         Life::Stopped => is_due,
-        Life::Running => is_due || wait_ends(store, pid, process.body.waiting),
+        Life::Running => is_due || waits_no_more(store, pid, process.body.waiting),
     }
 }
 
@@ -44,9 +44,9 @@ pub fn need<S: ProcStore>(store: &S, pid: u32) -> Need
 }
 
 /// Whether the call that a process waits in would end now.
-fn wait_ends<S: ProcStore>(store: &S, pid: u32, waiting: Waiting) -> bool
+fn waits_no_more<S: ProcStore>(store: &S, pid: u32, waiting: Waiting) -> bool
     requires { IsWorld (S.contents store.now) }
-    ensures { result ≡ wait_ends (S.contents store.now) pid waiting }
+    ensures { result ≡ waits_no_more (S.contents store.now) pid waiting }
 {
     match waiting {
         Waiting::Nothing => true,

@@ -21,7 +21,9 @@ abbrev pub has_links_within : Option Proc → Bool
 has_links_within o = option_map_or (λ p. is_within p.links) o true
 
 -- the rules of the world. Process 1 is there, with at most 1023 others. Until the system halts the
--- parent of every other process is there and has not ended: wait(2), "Notes"
+-- parent of every other process is there and has not ended: wait(2), "Notes". It asks more than these rules of the
+-- manual, since code and proofs rely on more: process 1 has no parent and is not stopped, and every number, the last
+-- pid given too, is one that a pid can be
 pub record IsWorld (w : World) : Type 0 where
   pub init : IsTrue (is_init (at w INIT))
   pub room : count w.procs ≤ PROCESSES

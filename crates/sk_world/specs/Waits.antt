@@ -17,7 +17,8 @@ use Rattle.sk_world.specs.declared.request.Poll.TheVariants.{Told, NoMatch, NotR
 use Rattle.sk_world.specs.Processes.{pids}
 use Rattle.sk_world.specs.World.{World, at, is_zombie, stored, changed}
 
--- the options that a register's bits stand for: WNOHANG is bit 0, WUNTRACED bit 1, WCONTINUED bit 3
+-- the options that a register's bits stand for, which are kept as these bits, the type's one field 0: WNOHANG is bit 0,
+-- WUNTRACED bit 1, WCONTINUED bit 3
 abbrev pub options_of : ℕ → WaitOptions
 options_of bits = record { 0 = bits }
 

@@ -1,19 +1,18 @@
-use Rattle.std.proofs.Common.{inr, refl, []}
-use Rattle.sk_engines.specs.Program.{fault_line}
-use Rattle.sk_engines.specs.declared.fault.CommandFault.TheVariants.{Write}
-use Rattle.sk_engines.proofs.Finishing.{begins_held, none_more}
+use Rattle.std.proofs.Common.{rules, inl, inr, refl}
+use Rattle.sk_ends.specs.Counted.{inner_of, failures_of}
+use Rattle.sk_engines.specs.Program.{device}
 use Rattle.sk_engines.proofs.program.finish.Goals as goal
 
 pub returns-in-Err : goal.returns-in-Err
 returns-in-Err g c =
-    let out = g.W.Write.contents c.into_parts-writer.result.0 in
+    let left = device (g.W.Write.contents (inner_of c.send.new.writer)) (failures_of c.send.new.writer) in
     record {
-      ends = inr (
-        refl,
-        record {
-          between = out;
-          begun = rw c.into_parts-writer.ensures.inner (begins_held _ _ _ c.flush-flushed.ensures.bytes);
-          told = record { begun = []; left = fault_line Write; parts = refl; appended = none_more out };
-        },
-      );
+      ends = inr (refl, record { between = left; begun = search rules; failed = search rules; told = inl (search rules, refl) });
+    }
+
+pub returns : goal.returns
+returns g c =
+    let left = device (g.W.Write.contents (inner_of c.send.new.writer)) (failures_of c.send.new.writer) in
+    record {
+      ends = inr (search rules, record { between = left; begun = search rules; failed = search rules; told = inr (search rules, search rules) });
     }

@@ -7,22 +7,22 @@ use Rattle.sk_filter_cli.specs.Words.{word_of, word_named}
 use Rattle.sk_filter_cli.proofs.Parsing.{name_is_of_rows, only_one, program_is_simple, reads_word}
 use Rattle.sk_filter_cli.proofs.word.word_in.Goals as goal
 
-pub returns-in-Ok : goal.returns-in-Ok
-returns-in-Ok c =
+pub returns-in-Ok-clause-exact : goal.returns-in-Ok-clause-exact
+returns-in-Ok-clause-exact c =
     let one = only_one c.args.words.now (search rules) in
     let is = c.in_ok-parser.ensures.words in
     let met = (c.in-Ok.ensures.matches (ap is_simple is ∙ program_is_simple)).1 ∙ ap₂ subcommand_of is (ap (map string_bytes) one.1) in
     let found : c.and_then.result ≡ option_and_then word_named (option_map (λ s. s.now) c.subcommand_name.result) = search rules in
     let name = c.subcommand_name.ensures ∙ name_is_of_rows c.in-Ok.matches ∙ ap (option_map (λ p. p.0)) met in
-    record { exact = found ∙ ap (option_and_then word_named) name ∙ (reads_word (string_bytes one.0)).0 ∙ sym (ap (λ words. word_of (map string_bytes words)) one.1) }
+    found ∙ ap (option_and_then word_named) name ∙ (reads_word (string_bytes one.0)).0 ∙ sym (ap (λ words. word_of (map string_bytes words)) one.1)
 
-pub returns-in-Err-2 : goal.returns-in-Err-2
-returns-in-Err-2 c =
+pub returns-in-Err-2-clause-exact : goal.returns-in-Err-2-clause-exact
+returns-in-Err-2-clause-exact c =
     let one = only_one c.args.words.now (search rules) in
     let is = c.in_ok-parser.ensures.words in
     elim ((reads_word (string_bytes one.0)).1) [
       | inl taken ↦
           let refused = c.in-Err.ensures.passes (ap₂ takes is (ap (map string_bytes) one.1) ∙ taken) in
           absurd (true≢false (sym (rw (c.kind.ensures ∙ refused) at c.eq.ensures) ∙ c.if-eq.false))
-      | inr none ↦ record { exact = sym (ap (λ words. word_of (map string_bytes words)) one.1 ∙ none) }
+      | inr none ↦ sym (ap (λ words. word_of (map string_bytes words)) one.1 ∙ none)
     ]

@@ -1,0 +1,4 @@
+pub mod Wholes
+pub mod Among
+pub mod Numbered
+pub mod Refusing

@@ -1,0 +1,105 @@
+-- What words ask.
+use Rattle.std.specs.Prelude.{ℕ, ◌≡◌, ◌==◌, ◌&&◌, ◌++◌, nat_lt, is_some, Bool, true, false, if◌then◌else◌, List, [], ◌∷◌, length, codes, map, string_bytes, slice_index, Option, Some, None, Result, Ok, Err, ⊤}
+use Rattle.std.specs.Str.{bytes_eq}
+use Rattle.std.specs.Option.{option_map}
+use Rattle.sk_ask.specs.declared.trouble.Trouble.{Trouble}
+use Rattle.sk_ask.specs.declared.trouble.Trouble.TheVariants.{Refused, Reading, Memory}
+use Rattle.sk_ask.specs.declared.words.Asked.{Asked}
+use Rattle.sk_ask.specs.declared.words.Word.{Word}
+use Rattle.sk_ask.specs.declared.words.Word.TheVariants.{Calls, Filter}
+use Rattle.sk_ask.specs.Complaints.{of_word}
+
+-- the word behind `--call`, and whether it is awaited; whether there was `--examples`, `--raw` or `--help`; and the names of
+-- the files
+pub record Question : Type 0 where
+  pub call : Option (List ℕ)
+  pub awaits : Bool
+  pub examples : Bool
+  pub raw : Bool
+  pub help : Bool
+  pub names : List (List ℕ)
+
+abbrev pub nothing_asked : Question
+nothing_asked = record { call = None; awaits = false; examples = false; raw = false; help = false; names = [] }
+
+abbrev pub word_name : Word → List ℕ
+word_name Calls = codes "calls"
+word_name Filter = codes "filter"
+
+abbrev pub word_named : List ℕ → Option Word
+word_named name =
+    if bytes_eq name (codes "calls") then Some Calls
+    else if bytes_eq name (codes "filter") then Some Filter
+    else None
+
+-- ---- one word more
+
+-- a word that begins with `-` (45) is an option; that alone is the name of standard input
+abbrev pub is_option : List ℕ → Bool
+is_option text = slice_index text 0 == 45 && nat_lt 1 (length text)
+
+-- a word that is no option of these is the name of a file
+abbrev pub with_name : Word → Question → List ℕ → Result Question (List ℕ)
+with_name word asked text =
+    if is_option text then Err (of_word (word_name word ++ codes ": no option is named ") text)
+    else Ok (record asked { names = asked.names ++ text ∷ [] })
+
+-- `--call` is there once, with a word behind it
+abbrev pub with_call : Question → Result Question (List ℕ)
+with_call asked =
+    if is_some asked.call then Err (of_word (codes "calls: given twice: ") (codes "--call"))
+    else Ok (record asked { awaits = true })
+
+-- an option of this word
+abbrev pub with_option : Word → Question → List ℕ → Result Question (List ℕ)
+with_option Calls asked text =
+    if bytes_eq text (codes "--call") then with_call asked
+    else if bytes_eq text (codes "--examples") then Ok (record asked { examples = true })
+    else with_name Calls asked text
+with_option Filter asked text =
+    if bytes_eq text (codes "--raw") then Ok (record asked { raw = true }) else with_name Filter asked text
+
+abbrev pub with_word : Word → Question → List ℕ → Result Question (List ℕ)
+with_word word asked text =
+    if asked.awaits then Ok (record asked { call = Some text; awaits = false })
+    else if bytes_eq text (codes "--help") then Ok (record asked { help = true })
+    else with_option word asked text
+
+-- ---- all of them
+
+-- without `--help` there is a file
+abbrev pub with_files : Word → Question → List (List ℕ) → Result Question (List ℕ)
+with_files word asked [] =
+    if asked.help then Ok asked else Err (of_word (word_name word ++ codes ": no FILE is given") [])
+with_files word asked (name ∷ names) = Ok asked
+
+abbrev pub ended : Word → Question → Result Question (List ℕ)
+ended word asked =
+    if asked.awaits then Err (of_word (codes "calls: expected a name or a number behind ") (codes "--call"))
+    else with_files word asked asked.names
+
+-- what is asked with the words that are left
+abbrev pub asked_of : Word → Question → List (List ℕ) → Result Question (List ℕ)
+asked_of word asked [] = ended word asked
+asked_of word asked (text ∷ words) = elim (with_word word asked text) [
+  | Err line ↦ Err line
+  | Ok more ↦ asked_of word more words
+]
+
+-- ---- what the code's answers say
+
+abbrev pub question_of : Asked → Question
+question_of asked = record {
+  call = option_map (λ call. call.now) asked.call;
+  awaits = asked.awaits;
+  examples = asked.examples;
+  raw = asked.raw;
+  help = asked.help;
+  names = map string_bytes asked.names.items;
+}
+
+abbrev pub Asks : Result Asked Trouble → Result Question (List ℕ) → Type 0
+Asks (Ok asked) said = said ≡ Ok (question_of asked)
+Asks (Err (Refused line)) said = said ≡ Err line.items
+Asks (Err (Reading line)) said = ⊥
+Asks (Err Memory) said = ⊤

@@ -1,0 +1,68 @@
+-- What is known of filters that were read from files by their names.
+use Rattle.std.specs.Prelude.{ℕ, ◌≡◌, ◌⊎◌, List, [], Option, Some, None, Result, Ok, Err, unwrap_or, slice_get, ⊤}
+use Rattle.sk_insn.specs.declared.insn.Insn.{Insn}
+use Rattle.sk_ask_files.specs.declared.fault.Refused.{Refused}
+use Rattle.sk_ask_files.specs.Filters.{Filters, filters_in, chain_of}
+use Rattle.sk_ask_files.specs.Finding.{filters_of}
+use Rattle.sk_ask_files.specs.Texts.{fault_text}
+use Rattle.sk_ask.specs.declared.filters.Filters.{Filters as Given}
+use Rattle.sk_ask.specs.declared.trouble.Trouble.{Trouble}
+use Rattle.sk_ask.specs.declared.trouble.Trouble.TheVariants as trouble
+use Rattle.sk_ask.specs.Complaints.{about}
+use Rattle.sk_ask.specs.Shelves.{AreHeld, IsUnreadOf}
+
+abbrev pub name_at : List (List ℕ) → ℕ → List ℕ
+name_at names number = unwrap_or (slice_get names number) []
+
+-- the line that refuses one of the files with these names
+abbrev pub refusal_line : List (List ℕ) → Refused → List ℕ
+refusal_line names refused = about (name_at names refused.file) (fault_text refused.why)
+
+-- ---- files whose bytes were read
+
+abbrev pub with_chain : Filters → Result (List (List Insn)) Refused → Result (Filters × List (List Insn)) Refused
+with_chain found (Err refused) = Err refused
+with_chain found (Ok chain) = Ok (found, chain)
+
+-- the filters in files with these bytes and their chain, or which file is refused
+abbrev pub judged : List (List ℕ) → Result (Filters × List (List Insn)) Refused
+judged files = elim (filters_in files) [
+  | Err refused ↦ Err refused
+  | Ok found ↦ with_chain found (chain_of found)
+]
+
+abbrev pub with_line : List (List ℕ) → Result (Filters × List (List Insn)) Refused → Result (Filters × List (List Insn)) (List ℕ)
+with_line names (Err refused) = Err (refusal_line names refused)
+with_line names (Ok read) = Ok read
+
+-- the same of files with these names, with the line that refuses one
+abbrev pub read_of : List (List ℕ) → List (List ℕ) → Result (Filters × List (List Insn)) (List ℕ)
+read_of names files = with_line names (judged files)
+
+-- ---- what the code's answers say
+
+abbrev pub pair_of : Given → Filters × List (List Insn)
+pair_of given = (filters_of given.found, given.chain)
+
+abbrev pub Judges : Result Given Refused → Result (Filters × List (List Insn)) Refused → Type 0
+Judges (Ok given) said = said ≡ Ok (pair_of given)
+Judges (Err refused) said = said ≡ Err refused
+
+abbrev pub IsReadAs : Result Given Trouble → Result (Filters × List (List Insn)) (List ℕ) → Type 0
+IsReadAs (Ok given) said = said ≡ Ok (pair_of given)
+IsReadAs (Err (trouble.Refused line)) said = said ≡ Err line.items
+IsReadAs (Err (trouble.Reading line)) said = ⊥
+IsReadAs (Err trouble.Memory) said = ⊤
+
+-- ---- files by their names
+
+-- these are the filters in the files with these names, and their chain
+abbrev pub ReadsFilters : (List ℕ → Option (List ℕ)) → List (List ℕ) → Filters → List (List Insn) → Type 0
+ReadsFilters held names found chain =
+    (files : List (List ℕ)) × AreHeld held names files × (read_of names files ≡ Ok (found, chain))
+
+-- one of the files is not read, or what it holds is refused, or memory
+abbrev pub IsRefusedOf : (List ℕ → Option (List ℕ)) → List (List ℕ) → Trouble → Type 0
+IsRefusedOf held names why =
+    IsUnreadOf held names why
+    ⊎ (((files : List (List ℕ)) × AreHeld held names files × IsReadAs (Err why) (read_of names files)) ⊎ (why ≡ trouble.Memory))

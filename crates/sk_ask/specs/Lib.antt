@@ -1,0 +1,11 @@
+pub mod Answering
+pub mod Asking
+pub mod Calls
+pub mod CallsText
+pub mod Complaints
+pub mod Endings
+pub mod Filters
+pub mod FilterText
+pub mod Helping
+pub mod Shelves
+pub mod Telling

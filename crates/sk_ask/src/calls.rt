@@ -1,0 +1,100 @@
+//! `ask calls`: what filters can answer to each call.
+ghost use Rattle.std.specs.Prelude.{◌≡◌, ◌≢◌, ℕ, IfOk, IfErr, IfSome, IfNone, Some, map, string_bytes};
+ghost use Rattle.std.specs.Option.{option_map};
+ghost use Rattle.sk_ask.specs.Endings.{CountsReads, answered, ending_of};
+ghost use Rattle.sk_ask.specs.Asking.{question_of};
+ghost use Rattle.sk_ask.specs.Answering.{AnswersCalls, TellsSurvey};
+ghost use Rattle.sk_ask.specs.CallsText.{calls_text};
+ghost use Rattle.sk_ask.specs.Calls.{IsAskedCall, IsNoCall, IsCall, NoCall, begins_with_zero, call_number};
+
+use crate::calls_text::calls_text;
+use crate::complaint::of_word;
+use crate::filters::asked_filters;
+use crate::shelf::Shelf;
+use crate::trouble::{Answer, Trouble};
+use crate::words::Asked;
+use sk_call_names::number;
+use sk_chain::Chain;
+use sk_survey_engine::{Line, Options, lines_of};
+use sk_text::number_up_to;
+use std::alloc::{AllocError, Global};
+
+/// Answers `ask calls`.
+pub fn calls<S: Shelf>(
+    alloc: Global,
+    asked: &Asked<'_>,
+    shelf: &S,
+    reads: &mut u64,
+) -> Result<Answer, Trouble>
+    ensures told { AnswersCalls (S.held shelf.now) (question_of asked.now) (ending_of result) }
+    ensures counted { CountsReads result reads.old reads.new }
+{
+    let call = asked_call(alloc, asked.call)?;
+    let filters = asked_filters(alloc, asked, shelf, reads)?;
+    let options = Options {
+        call,
+        examples: asked.examples,
+        diff: false,
+    };
+    Ok(survey(alloc, options, &filters.chain)?)
+}
+
+fn survey(alloc: Global, options: Options, chain: &Chain) -> Result<Answer, AllocError>
+    ensures survey { IfOk result (λ answer. TellsSurvey options chain.now (answered answer.text.items answer.denies)) }
+{
+    let lines = lines_of(alloc, options, chain)?;
+    Ok(Answer {
+        text: text_of(alloc, &lines)?,
+        denies: false,
+    })
+}
+
+fn text_of(alloc: Global, lines: &[Line]) -> Result<Vec<u8>, AllocError>
+    ensures text { IfOk result (λ text. text.items ≡ calls_text lines.now) }
+{
+    Ok(calls_text(alloc, lines)?.into_bytes())
+}
+
+fn asked_call(alloc: Global, asked: Option<&str>) -> Result<Option<u32>, Trouble>
+    ensures call { IfOk result (IsAskedCall (option_map (λ word. word.now) asked.entry)) }
+    ensures no_call { IfErr result (λ why. IsNoCall why (option_map (λ word. word.now) asked.entry)) }
+{
+    let Some(word) = asked else {
+        return Ok(None);
+    };
+    match call_named(word.as_bytes()) {
+        Some(nr) => Ok(Some(nr)),
+        None => Err(Trouble::Refused(of_word(alloc, "no call is named ", word)?)),
+    }
+}
+
+/// The number of the call that a word is: a name, or a number in decimal without a 0 before it, or `0x` and hexadecimal
+/// digits.
+pub fn call_named(word: &[u8]) -> Option<u32>
+    ensures call { IfSome result (IsCall word.now) }
+    ensures none { IfNone result (NoCall word.now) }
+{
+    match number(word) {
+        Some(nr) => Some(nr),
+        None => call_number(word),
+    }
+}
+
+fn call_number(word: &[u8]) -> Option<u32>
+    ensures number { result ≡ call_number word.now }
+{
+    if begins_with_zero(word) {
+        return None;
+    }
+    let number = number_up_to(word, u64::from(u32::MAX))?;
+    Some(number as u32)
+}
+
+fn begins_with_zero(word: &[u8]) -> bool
+    ensures zero { result ≡ begins_with_zero word.now }
+{
+    match word {
+        [first, second, ..] => *first == b'0' && *second != b'x',
+        _ => false,
+    }
+}

@@ -1,0 +1,118 @@
+//! The program over any files and writers.
+ghost use Rattle.std.specs.Prelude.{◌≡◌, ◌≤◌, false, IfOk, map, string_bytes};
+ghost use Rattle.sk_ask.specs.Answering.{AnswersWords, AnswersAsked, AnswersQuestion};
+ghost use Rattle.sk_ask.specs.Asking.{question_of, asked_of, nothing_asked};
+ghost use Rattle.sk_ask.specs.Endings.{CountsReads, Complains, ending_of, wordless_line, written};
+ghost use Rattle.sk_ask.specs.Telling.{Told};
+
+use crate::calls::calls;
+use crate::complaint::of_word;
+use crate::filter::filter;
+use crate::help::{HELP, word_help};
+use crate::output::{complain, put};
+use crate::shelf::Shelf;
+use crate::trouble::{Answer, Trouble};
+use crate::words::{Asked, Word, asked_in};
+use sk_ends::Sink;
+use sk_text::is_word;
+use std::alloc::{AllocError, Global};
+
+/// Does what the words ask, which leave out the program's name, and gives the exit status: 0 where they are answered, 1
+/// where that says no, and 2 for trouble. A read that fails is counted.
+pub fn command<S: Shelf, W: Sink, E: Sink>(
+    alloc: Global,
+    words: &[String],
+    shelf: &S,
+    reads: &mut u64,
+    out: &mut W,
+    complaints: &mut E,
+) -> u8
+    ensures told { Told (S.held shelf.now) (map string_bytes words.now) reads.old reads.new result
+        (written (W.contents out.old) (W.failed out.old)) (written (W.contents out.new) (W.failed out.new))
+        (written (E.contents complaints.old) (E.failed complaints.old)) (written (E.contents complaints.new) (E.failed complaints.new)) }
+    ensures status { result ≤ 2 }
+{
+    let outcome = answer(alloc, words, shelf, reads);
+    put(&outcome, out, complaints)
+}
+
+/// Tells why the words of the program are not there: memory was refused for them, or one of them is no text.
+pub fn misused<E: Sink>(complaints: &mut E, memory: bool) -> u8
+    ensures told { Complains (wordless_line memory) result
+        (written (E.contents complaints.old) (E.failed complaints.old)) (written (E.contents complaints.new) (E.failed complaints.new)) }
+{
+    if memory {
+        complain(complaints, b"ask: out of memory\n")
+    } else {
+        complain(complaints, b"ask: a word is not UTF-8\n")
+    }
+}
+
+fn answer<S: Shelf>(
+    alloc: Global,
+    words: &[String],
+    shelf: &S,
+    reads: &mut u64,
+) -> Result<Answer, Trouble>
+    ensures told { AnswersWords (S.held shelf.now) (map string_bytes words.now) (ending_of result) }
+    ensures counted { CountsReads result reads.old reads.new }
+{
+    let Some((first, rest)) = words.split_first() else {
+        return Err(Trouble::Refused(bytes_of(alloc, "ask: no word is given; see ask --help\n")?));
+    };
+    if is_word(first.as_bytes(), b"--help") {
+        return Ok(said(alloc, HELP)?);
+    }
+    match Word::named(first.as_bytes()) {
+        Some(word) => word_answer(alloc, word, rest, shelf, reads),
+        None => Err(Trouble::Refused(of_word(alloc, "no word is named ", first.as_str())?)),
+    }
+}
+
+fn word_answer<S: Shelf>(
+    alloc: Global,
+    word: Word,
+    words: &[String],
+    shelf: &S,
+    reads: &mut u64,
+) -> Result<Answer, Trouble>
+    ensures told { AnswersAsked (S.held shelf.now) word (asked_of word nothing_asked (map string_bytes words.now)) (ending_of result) }
+    ensures counted { CountsReads result reads.old reads.new }
+{
+    let asked = asked_in(alloc, word, words)?;
+    if asked.help {
+        return Ok(said(alloc, word_help(word))?);
+    }
+    question_answer(alloc, word, &asked, shelf, reads)
+}
+
+fn question_answer<S: Shelf>(
+    alloc: Global,
+    word: Word,
+    asked: &Asked<'_>,
+    shelf: &S,
+    reads: &mut u64,
+) -> Result<Answer, Trouble>
+    ensures told { AnswersQuestion (S.held shelf.now) word (question_of asked.now) (ending_of result) }
+    ensures counted { CountsReads result reads.old reads.new }
+{
+    match word {
+        Word::Calls => calls(alloc, asked, shelf, reads),
+        Word::Filter => filter(alloc, asked, shelf, reads),
+    }
+}
+
+fn said(alloc: Global, text: &str) -> Result<Answer, AllocError>
+    ensures answer { IfOk result (λ answer. (answer.text.items ≡ text.now) × (answer.denies ≡ false)) }
+{
+    Ok(Answer {
+        text: bytes_of(alloc, text)?,
+        denies: false,
+    })
+}
+
+fn bytes_of(alloc: Global, text: &str) -> Result<Vec<u8>, AllocError>
+    ensures bytes { IfOk result (λ bytes. bytes.items ≡ text.now) }
+{
+    text.as_bytes().to_vec(alloc)
+}

@@ -1,0 +1,87 @@
+//! The filters of the files that the words name.
+ghost use Rattle.std.specs.Prelude.{◌≡◌, IfOk, IfErr, map, string_bytes};
+ghost use Rattle.sk_ask_files.specs.Finding.{filters_of};
+ghost use Rattle.sk_ask.specs.Asking.{question_of};
+ghost use Rattle.sk_ask.specs.Endings.{CountsReads};
+ghost use Rattle.sk_ask.specs.Filters.{ReadsFilters, IsRefusedOf, IsReadAs, Judges, judged, read_of, name_at, refusal_line};
+
+use crate::complaint::about;
+use crate::shelf::{Shelf, contents};
+use crate::trouble::Trouble;
+use crate::words::Asked;
+use sk_ask_files::{Found, Refused, attach, fault_text, find};
+use sk_chain::Chain;
+use std::alloc::{AllocError, Global};
+
+/// Filters as they were found, the oldest first, and their chain.
+#[derive(Drop)]
+pub struct Filters {
+    pub found: Found,
+    pub chain: Chain,
+}
+
+/// The filters in the files that are asked of, the oldest first.
+pub fn asked_filters<S: Shelf>(
+    alloc: Global,
+    asked: &Asked<'_>,
+    shelf: &S,
+    reads: &mut u64,
+) -> Result<Filters, Trouble>
+    ensures read { IfOk result (λ filters. ReadsFilters (S.held shelf.now) (question_of asked.now).names (filters_of filters.found) filters.chain) }
+    ensures refused { IfErr result (IsRefusedOf (S.held shelf.now) (question_of asked.now).names) }
+    ensures counted { CountsReads result reads.old reads.new }
+{
+    filters_in(alloc, shelf, reads, &asked.names)
+}
+
+fn filters_in<S: Shelf>(
+    alloc: Global,
+    shelf: &S,
+    reads: &mut u64,
+    names: &[String],
+) -> Result<Filters, Trouble>
+    ensures read { IfOk result (λ filters. ReadsFilters (S.held shelf.now) (map string_bytes names.now) (filters_of filters.found) filters.chain) }
+    ensures refused { IfErr result (IsRefusedOf (S.held shelf.now) (map string_bytes names.now)) }
+    ensures counted { CountsReads result reads.old reads.new }
+{
+    let files = contents(alloc, shelf, reads, names)?;
+    read(alloc, names, &files)
+}
+
+fn read(alloc: Global, names: &[String], files: &[Vec<u8>]) -> Result<Filters, Trouble>
+    ensures exact { IsReadAs result (read_of (map string_bytes names.now) (map (λ file. file.items) files.now)) }
+{
+    match judged(alloc, files)? {
+        Ok(filters) => Ok(filters),
+        Err(refused) => Err(Trouble::Refused(refusal_line(alloc, names, refused)?)),
+    }
+}
+
+fn judged(alloc: Global, files: &[Vec<u8>]) -> Result<Result<Filters, Refused>, AllocError>
+    ensures exact { IfOk result (λ said. Judges said (judged (map (λ file. file.items) files.now))) }
+{
+    let found = match find(alloc, files)? {
+        Ok(found) => found,
+        Err(refused) => return Ok(Err(refused)),
+    };
+    match attach(alloc, &found)? {
+        Ok(chain) => Ok(Ok(Filters { found, chain })),
+        Err(refused) => Ok(Err(refused)),
+    }
+}
+
+fn refusal_line(alloc: Global, names: &[String], refused: Refused) -> Result<Vec<u8>, AllocError>
+    ensures line { IfOk result (λ line. line.items ≡ refusal_line (map string_bytes names.now) refused) }
+{
+    let what = fault_text(alloc, refused.why)?;
+    about(alloc, name_at(names, refused.file), what.as_str())
+}
+
+fn name_at(names: &[String], number: usize) -> &str
+    ensures name { result.now ≡ name_at (map string_bytes names.now) number }
+{
+    match names.get(number) {
+        Some(name) => name.as_str(),
+        None => "",
+    }
+}

@@ -1,0 +1,38 @@
+//! What `ask --help` and `ask WORD --help` say.
+ghost use Rattle.std.specs.Prelude.{◌≡◌};
+ghost use Rattle.sk_ask.specs.Helping.{word_help_text};
+
+use crate::words::Word;
+
+/// What `ask --help` says.
+pub const HELP: &str = "usage: ask WORD ..
+  ask calls [--call CALL] [--examples] FILE..   what seccomp filters can answer to each call
+  ask filter [--raw] FILE..                     the filters in another form
+  ask WORD --help                               more on a word
+FILE holds raw struct sock_filter, hexadecimal digits, or lines filter HEX; - is standard input.
+Several FILEs are one chain, the oldest filter first.
+Status: 0 yes or answered, 1 answered with no, 2 trouble, which standard error tells.
+";
+
+/// What `ask calls --help` says.
+pub const CALLS_HELP: &str = "usage: ask calls [--call CALL] [--examples] FILE..
+For each call of x86-64, by its number and its name, the verdicts that the filters in the FILEs can come to.
+  --call CALL   only this call: a name or a number, decimal or 0x and hexadecimal
+  --examples    below each line a call for each verdict, or ? where none was found
+";
+
+/// What `ask filter --help` says.
+pub const FILTER_HELP: &str = "usage: ask filter [--raw] FILE..
+The filters in the FILEs as lines filter HEX, the oldest first.
+  --raw         one filter as the bytes of struct sock_filter
+";
+
+/// What `ask WORD --help` says.
+pub fn word_help(word: Word) -> &'static str
+    ensures text { result.now ≡ word_help_text word }
+{
+    match word {
+        Word::Calls => CALLS_HELP,
+        Word::Filter => FILTER_HELP,
+    }
+}

@@ -1,0 +1,18 @@
+//! The program `ask` as a function of its words, over files that are known by their names, a writer for answers and one for
+//! complaints. What is wrong comes to no answer: it is one line for the second writer, and status 2.
+#![tactic(auto)]
+
+mod calls;
+mod calls_text;
+mod cli;
+mod complaint;
+mod filter;
+mod filters;
+mod help;
+mod output;
+mod shelf;
+mod trouble;
+mod words;
+
+pub use cli::{command, misused};
+pub use shelf::{Shelf, Unread};

@@ -1,0 +1,174 @@
+//! The words behind `ask WORD`.
+ghost use Rattle.std.specs.Prelude.{◌≡◌, string_bytes, map};
+ghost use Rattle.sk_ask.specs.Asking.{asked_of, nothing_asked, with_word, with_option, with_call, with_name, ended, is_option, question_of, word_named, word_name, Asks};
+
+use crate::complaint::of_word;
+use crate::trouble::Trouble;
+use sk_text::is_word;
+use std::alloc::Global;
+
+/// What is asked for.
+#[derive(Clone, Copy, Debug, PartialEq, Eq)]
+pub enum Word {
+    /// What filters can answer to each call.
+    Calls,
+    /// The filters in another form.
+    Filter,
+}
+
+impl Word {
+    /// The one with this name.
+    pub fn named(name: &[u8]) -> Option<Word>
+        ensures word { result ≡ word_named name.now }
+    {
+        if is_word(name, b"calls") {
+            Some(Word::Calls)
+        } else if is_word(name, b"filter") {
+            Some(Word::Filter)
+        } else {
+            None
+        }
+    }
+
+    /// Its name.
+    pub fn name(self) -> &'static str
+        ensures name { result.now ≡ word_name self }
+    {
+        match self {
+            Word::Calls => "calls",
+            Word::Filter => "filter",
+        }
+    }
+}
+
+/// What the words behind it ask.
+#[derive(Drop)]
+pub struct Asked<'a> {
+    /// The word behind `--call`.
+    pub call: Option<&'a str>,
+    /// `--call` was the last word.
+    pub awaits: bool,
+    pub examples: bool,
+    pub raw: bool,
+    pub help: bool,
+    /// The names of the files.
+    pub names: Vec<String>,
+}
+
+/// What the words behind this one ask, or the line that refuses them.
+pub fn asked_in<'a>(alloc: Global, word: Word, words: &'a [String]) -> Result<Asked<'a>, Trouble>
+    ensures exact { Asks result (asked_of word nothing_asked (map string_bytes words.now)) }
+{
+    let mut asked = Asked {
+        call: None,
+        awaits: false,
+        examples: false,
+        raw: false,
+        help: false,
+        names: Vec::new(alloc),
+    };
+    let mut rest = words;
+    while let Some((text, left)) = rest.split_first() {
+        asked = with_word(alloc, word, asked, text)?;
+        rest = left;
+    }
+    ended(alloc, word, asked)
+}
+
+fn with_word<'a>(
+    alloc: Global,
+    word: Word,
+    asked: Asked<'a>,
+    text: &'a String,
+) -> Result<Asked<'a>, Trouble>
+    ensures exact { Asks result (with_word word (question_of asked.entry) (string_bytes text.now)) }
+{
+    let bytes = text.as_bytes();
+    if asked.awaits {
+        Ok(Asked {
+            call: Some(text.as_str()),
+            awaits: false,
+            ..asked
+        })
+    } else if is_word(bytes, b"--help") {
+        Ok(Asked {
+            help: true,
+            ..asked
+        })
+    } else {
+        with_option(alloc, word, asked, text)
+    }
+}
+
+fn with_option<'a>(
+    alloc: Global,
+    word: Word,
+    asked: Asked<'a>,
+    text: &String,
+) -> Result<Asked<'a>, Trouble>
+    ensures exact { Asks result (with_option word (question_of asked.entry) (string_bytes text.now)) }
+{
+    let bytes = text.as_bytes();
+    match word {
+        Word::Calls if is_word(bytes, b"--call") => with_call(alloc, asked),
+        Word::Calls if is_word(bytes, b"--examples") => Ok(Asked {
+            examples: true,
+            ..asked
+        }),
+        Word::Filter if is_word(bytes, b"--raw") => Ok(Asked { raw: true, ..asked }),
+        _ => with_name(alloc, word, asked, text),
+    }
+}
+
+fn with_call<'a>(alloc: Global, asked: Asked<'a>) -> Result<Asked<'a>, Trouble>
+    ensures exact { Asks result (with_call (question_of asked.entry)) }
+{
+    if asked.call.is_some() {
+        return Err(Trouble::Refused(of_word(alloc, "calls: given twice: ", "--call")?));
+    }
+    Ok(Asked {
+        awaits: true,
+        ..asked
+    })
+}
+
+fn with_name<'a>(
+    alloc: Global,
+    word: Word,
+    asked: Asked<'a>,
+    text: &String,
+) -> Result<Asked<'a>, Trouble>
+    ensures exact { Asks result (with_name word (question_of asked.entry) (string_bytes text.now)) }
+{
+    if is_option(text.as_bytes()) {
+        let what = format!(in alloc; "{}: no option is named ", word.name())?;
+        return Err(Trouble::Refused(of_word(alloc, &what, text.as_str())?));
+    }
+    let mut asked = asked;
+    asked.names.push(text.clone()?)?;
+    Ok(asked)
+}
+
+// A word that begins with `-` and is more than that.
+fn is_option(word: &[u8]) -> bool
+    ensures exact { result ≡ is_option word.now }
+{
+    word.first() == Some(&b'-') && word.len() > 1
+}
+
+fn ended<'a>(alloc: Global, word: Word, asked: Asked<'a>) -> Result<Asked<'a>, Trouble>
+    ensures exact { Asks result (ended word (question_of asked.entry)) }
+{
+    if asked.awaits {
+        return Err(Trouble::Refused(of_word(
+            alloc,
+            "calls: expected a name or a number behind ",
+            "--call",
+        )?));
+    }
+    if asked.names.is_empty() && !asked.help {
+        let what = format!(in alloc; "{}: no FILE is given", word.name())?;
+        return Err(Trouble::Refused(of_word(alloc, &what, "")?));
+    }
+    Ok(asked)
+}

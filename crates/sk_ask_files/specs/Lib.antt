@@ -1,0 +1,5 @@
+pub mod Filters
+pub mod Finding
+pub mod Forms
+pub mod Lines
+pub mod Texts

@@ -1,0 +1,38 @@
+//! The chain of filters that were found.
+ghost use Rattle.std.specs.Prelude.{◌≡◌, IfOk, unwrap_or, slice_get};
+ghost use Rattle.sk_ask_files.specs.Filters.{chain_of, place_at};
+ghost use Rattle.sk_ask_files.specs.Finding.{filters_of};
+
+use crate::fault::{FileFault, Refused};
+use crate::found::{Found, Place};
+use sk_chain::Chain;
+use sk_engines::chain_of;
+use std::alloc::{AllocError, Global};
+
+/// The chain of the filters that were found, or the file of the first that is refused, and why.
+pub fn attach(alloc: Global, found: &Found) -> Result<Result<Chain, Refused>, AllocError>
+    ensures exact { IfOk result (λ chain. chain ≡ chain_of (filters_of found.now)) }
+{
+    match chain_of(alloc, &found.images)? {
+        Ok(chain) => Ok(Ok(chain)),
+        Err((number, why)) => {
+            let place = place_at(&found.places, number);
+            Ok(Err(Refused {
+                file: place.file,
+                why: FileFault::Filter(place.line, why),
+            }))
+        }
+    }
+}
+
+fn place_at(places: &[Place], number: usize) -> Place
+    ensures place { result ≡ place_at places.now number }
+{
+    match places.get(number) {
+        Some(place) => *place,
+        None => Place {
+            file: 0,
+            line: None,
+        },
+    }
+}

@@ -1,0 +1,74 @@
+use crate::ends::run;
+use std::test::Fail;
+
+/// The words, and the whole answer.
+const ANSWERS: &[(&[&str], &[u8])] = &[
+    (
+        &["calls", "--call", "getpid", "getpid"],
+        b"39 getpid errno/1 EPERM\n",
+    ),
+    (
+        &["calls", "--call", "0x27", "all", "getpid"],
+        b"39 getpid errno/1 EPERM\n",
+    ),
+    (
+        &["calls", "all", "--call", "4294967295"],
+        b"4294967295 - allow\n",
+    ),
+    (
+        &["calls", "--examples", "--call", "read", "all"],
+        b"0 read allow\n  allow filter 0 at 0 record 000000003e0000c00000000000000000000000000000000000000000000000000000000000000000000000000000000000000000000000000000000000000000\n",
+    ),
+    (
+        &["filter", "all", "getpid"],
+        b"filter 060000000000ff7f\nfilter 200000000000000015000001270000000600000001000500060000000000ff7f\n",
+    ),
+    (&["filter", "--raw", "all"], &[6, 0, 0, 0, 0, 0, 0xff, 0x7f]),
+];
+
+#[test]
+fn answers_go_to_standard_output(rt: HostRuntime) -> Result<(), Fail> {
+    for &(words, answer) in ANSWERS {
+        let ran = run(rt.alloc(), words, 0)?;
+        assert_eq!(rt;
+            (
+                ran.status,
+                ran.out.as_slice(),
+                ran.complaints.len(),
+                ran.reads
+            ),
+            (0, answer, 0, 0),
+            "at {words:?}"
+        );
+    }
+    Ok(())
+}
+
+/// All lines of a filter that allows everything: one for each call with a name, and one for the numbers between and behind
+/// them.
+#[test]
+fn all_calls(rt: HostRuntime) -> Result<(), Fail> {
+    let ran = run(rt.alloc(), &["calls", "all"], 0)?;
+    let lines = ran.out.iter().filter(|byte| **byte == b'\n').count();
+    assert_eq!(rt; (ran.status, lines), (0, 364));
+    assert!(rt; ran.out.starts_with(b"0 read allow\n1 write allow\n"));
+    assert!(rt; ran.out.ends_with(b"\n451-4294967295 - allow\n"));
+    Ok(())
+}
+
+#[test]
+fn help_is_an_answer(rt: HostRuntime) -> Result<(), Fail> {
+    let rows: [(&[&str], &[u8]); 3] = [
+        (&["--help"], b"usage: ask WORD ..\n"),
+        (&["calls", "--help"], b"usage: ask calls "),
+        (&["filter", "all", "--help"], b"usage: ask filter "),
+    ];
+    for (words, first) in rows {
+        let ran = run(rt.alloc(), words, 0)?;
+        assert!(rt;
+            ran.status == 0 && ran.complaints.is_empty() && ran.out.starts_with(first),
+            "at {words:?}"
+        );
+    }
+    Ok(())
+}

@@ -1,0 +1,118 @@
+//! Files and writers in memory.
+ghost use Rattle.std.specs.Prelude.{None};
+
+use sk_ask::{Shelf, Unread, command};
+use sk_ends::Counted;
+use std::alloc::{AllocError, Global};
+use std::io;
+use std::io::{ErrorKind, Write};
+
+/// getpid has errno 1, in digits.
+pub const GETPID: &[u8] = b"200000000000000015000001270000000600000001000500060000000000ff7f\n";
+
+/// Everything is allowed, as raw bytes.
+pub const ALL: &[u8] = &[6, 0, 0, 0, 0, 0, 0xff, 0x7f];
+
+/// The files that each row may name. A read of `fails` fails.
+const FILES: &[(&str, &[u8])] = &[
+    ("getpid", GETPID),
+    ("all", ALL),
+    (
+        "two",
+        b"; two\nfilter 060000000000ff7f\r\nfilter 060000000000ff7f\n",
+    ),
+    ("empty", b""),
+    ("words", b"; one\nhello\n"),
+    ("code", b"# two\nfilter 2100000000000000060000000000ff7f"),
+];
+
+/// A shelf with these files.
+pub struct Files;
+
+impl Shelf for Files {
+    ghost held = { λ _ _. None };
+
+    fn take(
+        &self,
+        alloc: Global,
+        reads: &mut u64,
+        name: &str,
+        most: usize,
+    ) -> Result<Vec<u8>, Unread> {
+        for (known, bytes) in FILES {
+            if known.as_bytes() == name.as_bytes() {
+                return match bytes[..bytes.len().min(most)].to_vec(alloc) {
+                    Ok(bytes) => Ok(bytes),
+                    Err(AllocError) => Err(Unread::Memory),
+                };
+            }
+        }
+        if name.as_bytes() == b"fails".as_slice() {
+            *reads = reads.saturating_add(1);
+            return Err(Unread::Reading);
+        }
+        Err(Unread::Missing)
+    }
+}
+
+/// Keeps the bytes that it takes; the first so many writes fail.
+#[derive(Drop)]
+pub struct Output {
+    pub held: Vec<u8>,
+    pub failing: u64,
+}
+
+impl Write for Output {
+    fn write(&mut self, bytes: &[u8]) -> io::Result<usize> {
+        if self.failing > 0 {
+            self.failing -= 1;
+            return Err(io::Error::from(ErrorKind::StorageFull));
+        }
+        self.held.extend_from_slice(bytes)?;
+        Ok(bytes.len())
+    }
+
+    fn flush(&mut self) -> io::Result<()> {
+        Ok(())
+    }
+}
+
+/// What the program came to: its status, what it wrote, and how many reads failed.
+#[derive(Drop)]
+pub struct Ran {
+    pub status: u8,
+    pub out: Vec<u8>,
+    pub complaints: Vec<u8>,
+    pub reads: u64,
+}
+
+/// A run with these words, of which the first so many writes of answers fail.
+pub fn run(alloc: Global, given: &[&str], failing: u64) -> Result<Ran, AllocError> {
+    let mut words = Vec::new(alloc);
+    for word in given {
+        words.push(String::from_str(alloc, word)?)?;
+    }
+    let mut out = Counted::new(Output {
+        held: Vec::new(alloc),
+        failing,
+    });
+    let mut complaints = Counted::new(Output {
+        held: Vec::new(alloc),
+        failing: 0,
+    });
+    let mut reads = 0;
+    let status = command(
+        alloc,
+        words.as_slice(),
+        &Files,
+        &mut reads,
+        &mut out,
+        &mut complaints,
+    );
+    Ok(Ran {
+        status,
+        out: out.into_inner().held,
+        complaints: complaints.into_inner().held,
+        reads,
+    })
+}

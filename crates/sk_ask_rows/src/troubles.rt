@@ -1,0 +1,115 @@
+use crate::ends::{Output, run};
+use sk_ask::misused;
+use sk_ends::Counted;
+use std::test::Fail;
+
+/// The words, and the line that says what is wrong.
+const TROUBLES: &[(&[&str], &[u8])] = &[
+    (&[], b"ask: no word is given; see ask --help\n"),
+    (&["foo"], b"ask: no word is named foo\n"),
+    (&["calls"], b"ask: calls: no FILE is given\n"),
+    (
+        &["calls", "all", "--exmples"],
+        b"ask: calls: no option is named --exmples\n",
+    ),
+    (
+        &["filter", "--call", "read", "all"],
+        b"ask: filter: no option is named --call\n",
+    ),
+    (
+        &["calls", "all", "--call"],
+        b"ask: calls: expected a name or a number behind --call\n",
+    ),
+    (
+        &["calls", "--call", "read", "--call", "read", "all"],
+        b"ask: calls: given twice: --call\n",
+    ),
+    (
+        &["calls", "--call", "mseal2", "all"],
+        b"ask: no call is named mseal2\n",
+    ),
+    (
+        &["calls", "--call", "010", "all"],
+        b"ask: no call is named 010\n",
+    ),
+    (&["calls", "a\nb"], b"ask: a?b: no such file\n"),
+    (
+        &["filter", "all", "empty"],
+        b"ask: empty: holds no filter: expected bytes of struct sock_filter, hexadecimal digits or lines filter HEX\n",
+    ),
+    (
+        &["filter", "words", "all"],
+        b"ask: words: line 2: expected filter HEX\n",
+    ),
+    (
+        &["filter", "all", "code"],
+        b"ask: code: line 2: instruction 0: the code is none of the 41 that seccomp(2) permits\n",
+    ),
+    (
+        &["filter", "--raw", "two"],
+        b"ask: filter: the FILEs hold several filters: expected one with --raw\n",
+    ),
+];
+
+#[test]
+fn trouble_leaves_no_answer(rt: HostRuntime) -> Result<(), Fail> {
+    for &(words, line) in TROUBLES {
+        let ran = run(rt.alloc(), words, 0)?;
+        assert_eq!(rt;
+            (
+                ran.status,
+                ran.out.len(),
+                ran.complaints.as_slice(),
+                ran.reads
+            ),
+            (2, 0, line, 0),
+            "at {words:?}"
+        );
+    }
+    Ok(())
+}
+
+#[test]
+fn failures_are_counted_and_told(rt: HostRuntime) -> Result<(), Fail> {
+    let rows: [(&[&str], u64, &[u8], u64); 3] = [
+        (
+            &["filter", "all", "fails"],
+            0,
+            b"ask: fails: reading failed\n",
+            1,
+        ),
+        (&["filter", "all"], 1, b"ask: writing failed\n", 0),
+        (&["--help"], 1, b"ask: writing failed\n", 0),
+    ];
+    for (words, failing, line, reads) in rows {
+        let ran = run(rt.alloc(), words, failing)?;
+        assert_eq!(rt;
+            (
+                ran.status,
+                ran.out.len(),
+                ran.complaints.as_slice(),
+                ran.reads
+            ),
+            (2, 0, line, reads),
+            "at {words:?}"
+        );
+    }
+    Ok(())
+}
+
+#[test]
+fn words_that_are_not_there(rt: HostRuntime) {
+    let rows: [(bool, &[u8]); 2] = [
+        (true, b"ask: out of memory\n"),
+        (false, b"ask: a word is not UTF-8\n"),
+    ];
+    for (memory, line) in rows {
+        let mut complaints = Counted::new(Output {
+            held: Vec::new(rt.alloc()),
+            failing: 0,
+        });
+        let status = misused(&mut complaints, memory);
+        let held = complaints.into_inner().held;
+        assert_eq!(rt; (status, held.as_slice()), (2, line));
+    }
+}

@@ -1,0 +1,43 @@
+use Rattle.std.proofs.Common.{◌≡◌, ◌+◌, Some, slice_get, slice_index_or, ap, subst, ◌∙◌, arith}
+use Rattle.std.proofs.lemmas.Option.{slice_get-get_or}
+use Rattle.sk_insn.specs.declared.insn.Insn.{Insn}
+use Rattle.sk_conditions.specs.Following.{TellsFrom}
+use Rattle.sk_conditions.proofs.Exploring.{tells_skip, stops_at_end, stops_at_fork}
+use Rattle.sk_conditions.proofs.explore.next_stop.Goals as goal
+
+abbrev no_insn : Insn
+no_insn = record { code = 0; jt = 0; jf = 0; k = 0 }
+
+pub loop-at-preserved : goal.loop-at-preserved
+loop-at-preserved c =
+    let insns = c.args.insns.now in
+    let at = c.loop-at.at in
+    let insn = slice_index_or insns at no_insn in
+    let here : slice_get insns at ≡ Some insn = slice_get-get_or insns at no_insn c.loop-at-test.true in
+    record {
+      before = λ tree onward.
+          c.loop-at.invariant.before tree
+          (tells_skip insns c.args.numbers.first c.args.numbers.last at insn c.loop-at.held c.in-Skip.after c.in-Skip.skip c.args.path.now here c.in-Skip.ensures.leads tree
+          (subst (λ place. TellsFrom insns c.args.numbers.first c.args.numbers.last place c.in-Skip.after c.args.path.now tree) c.landing-at.ensures.place onward));
+      behind = omega (arith, c.loop-at.invariant.behind, c.landing-at.ensures.place);
+    }
+
+pub returns-in-Fork-clause-stops : goal.returns-in-Fork-clause-stops
+returns-in-Fork-clause-stops c =
+    let insns = c.args.insns.now in
+    let at = c.loop-at.at in
+    let insn = slice_index_or insns at no_insn in
+    let here : slice_get insns at ≡ Some insn = slice_get-get_or insns at no_insn c.loop-at-test.true in
+    let at_held : c.landing.result ≡ at + (1 + insn.jt) = c.landing.ensures.place ∙ ap (λ skip. at + (1 + skip)) c.distance.ensures in
+    let at_failed : c.landing-in-Fork.result ≡ at + (1 + insn.jf) = c.landing-in-Fork.ensures.place ∙ ap (λ skip. at + (1 + skip)) c.distance-in-Fork.ensures in
+    λ tree tells. c.loop-at.invariant.before tree
+    (stops_at_fork insns c.args.numbers.first c.args.numbers.last at insn c.loop-at.held c.in-Fork.test c.args.path.now c.landing.result c.landing-in-Fork.result here c.in-Fork.ensures.leads at_held at_failed tree tells)
+
+pub returns-in-End-clause-stops : goal.returns-in-End-clause-stops
+returns-in-End-clause-stops c =
+    let insns = c.args.insns.now in
+    let at = c.loop-at.at in
+    let insn = slice_index_or insns at no_insn in
+    let here : slice_get insns at ≡ Some insn = slice_get-get_or insns at no_insn c.loop-at-test.true in
+    λ tree tells. c.loop-at.invariant.before tree
+    (stops_at_end insns c.args.numbers.first c.args.numbers.last at insn c.loop-at.held c.in-End.value c.args.path.now here c.in-End.ensures.leads tree tells)

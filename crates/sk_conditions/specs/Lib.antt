@@ -1,0 +1,6 @@
+pub mod Conditions
+pub mod ConditionsLaws
+pub mod Following
+pub mod Comparing
+pub mod Pairs
+pub mod WorkedComparisons

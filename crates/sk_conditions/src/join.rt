@@ -1,0 +1,66 @@
+//! The verdict of two filters, as a tree made of theirs.
+ghost use Rattle.std.specs.Prelude.{◌≡◌, ℕ, if◌then◌else◌, IfOk, Some};
+ghost use Rattle.sk_insn.specs.declared.record.Record.{Record};
+ghost use Rattle.sk_chain.specs.Choosing.{chosen};
+ghost use Rattle.sk_conditions.specs.Conditions.{Agrees, told, holds_on};
+ghost use Rattle.sk_conditions.specs.Following.{MeetsPath, TellsFirst};
+
+use crate::pair::{Pair, Parts, parts_of};
+use crate::path::Path;
+use crate::{Test, Tree};
+use sk_chain::sooner;
+use std::alloc::{AllocError, Global};
+
+/// What comes first of what a newer tree tells, the first of the two, and an older one, for the calls that come out so
+/// in these tests.
+pub fn joined(
+    alloc: Global,
+    pair: Pair<'_>,
+    path: &Path,
+    left: &mut u32,
+) -> Result<Tree, AllocError>
+    ensures tells { IfOk result (λ tree. (call : Record) → MeetsPath path.now call → TellsFirst tree pair.entry.one.now pair.entry.other.now call) }
+{
+    match parts_of(pair) {
+        Parts::Ends(newer, older) => Ok(first(newer, older)),
+        Parts::Test(test, held, failed) => match path.answer(test) {
+            Some(true) => joined(alloc, held, path, left),
+            Some(false) => joined(alloc, failed, path, left),
+            None => {
+                if *left == 0 {
+                    return Ok(Tree::Untold);
+                }
+                *left -= 1;
+                let yes = Path::Beyond(&*path, test, true);
+                let held = joined(alloc, held, &yes, left)?;
+                let no = Path::Beyond(&*path, test, false);
+                let failed = joined(alloc, failed, &no, left)?;
+                asked(alloc, test, held, failed)
+            }
+        },
+    }
+}
+
+// The first of two ends.
+fn first(newer: Option<u32>, older: Option<u32>) -> Tree
+    ensures tells { (call : Record) (u v first : ℕ) → Agrees newer u → Agrees older v → chosen (Some u) v ≡ Some first → Agrees (told result call) first }
+{
+    if let (Some(newer), Some(older)) = (newer, older) {
+        if let Some(value) = sooner(Some(newer), older) {
+            return Tree::Is(value);
+        }
+    }
+    Tree::Untold
+}
+
+/// A test of two trees, or one of them where they are one value.
+pub fn asked(alloc: Global, test: Test, held: Tree, failed: Tree) -> Result<Tree, AllocError>
+    ensures tells { IfOk result (λ tree. (call : Record) → told tree call ≡ if holds_on test call then told held call else told failed call) }
+{
+    if let (Tree::Is(value), Tree::Is(other)) = (&held, &failed) {
+        if *value == *other {
+            return Ok(held);
+        }
+    }
+    Ok(Tree::Ask(test, Box::new(alloc, held)?, Box::new(alloc, failed)?))
+}

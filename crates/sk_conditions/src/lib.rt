@@ -1,0 +1,22 @@
+//! Under which conditions on the rest of a call each value comes, for every call of some numbers.
+#![tactic(auto)]
+
+mod chains;
+mod explore;
+mod follow;
+mod join;
+pub mod laws;
+mod numbers;
+mod pair;
+mod path;
+mod standing;
+mod test;
+mod tree;
+mod witness;
+
+pub use chains::chain_tree;
+pub use explore::program_tree;
+pub use numbers::Numbers;
+pub use standing::{Comparing, Found, Relation, compare};
+pub use test::Test;
+pub use tree::Tree;

@@ -1,0 +1,131 @@
+//! The tests on the way to a place, with their answers, and what follows from them.
+ghost use Rattle.std.specs.Prelude.{◌≡◌, true, IfSome};
+ghost use Rattle.sk_insn.specs.declared.record.Record.{Record};
+ghost use Rattle.sk_interp.specs.Meaning.{holds};
+ghost use Rattle.sk_conditions.specs.Conditions.{holds_on};
+ghost use Rattle.sk_conditions.specs.Following.{MeetsPath};
+
+use crate::Test;
+use sk_insn::Comparison;
+use sk_interp::holds;
+
+/// The tests on the way, the last one first.
+#[derive(Clone, Copy)]
+pub enum Path<'a> {
+    /// None.
+    Start,
+    /// One more, with its answer.
+    Beyond(&'a Path<'a>, Test, bool),
+}
+
+impl Path<'_> {
+    /// The answer of a test, where an earlier one tells it.
+    pub fn answer(&self, test: Test) -> Option<bool>
+        ensures told { IfSome result (λ answer. (call : Record) → MeetsPath self.now call → holds_on test call ≡ answer) }
+    {
+        match self {
+            Path::Start => None,
+            Path::Beyond(earlier, met, answer) => match implied(*met, *answer, test) {
+                None => earlier.answer(test),
+                told => told,
+            },
+        }
+    }
+}
+
+/// The answer of a test, where that of another one tells it: they are the same, or the other one says what these bits
+/// are, or both ask for bits in common.
+fn implied(met: Test, answer: bool, test: Test) -> Option<bool>
+    ensures told { IfSome result (λ told. (call : Record) → holds_on met call ≡ answer → holds_on test call ≡ told) }
+{
+    if met == test {
+        return Some(answer);
+    }
+    if answer
+        && met.comparison == Comparison::Equal
+        && met.place == test.place
+        && met.mask & test.mask == test.mask
+    {
+        return Some(holds(test.comparison, met.k & test.mask, test.k));
+    }
+    if met.comparison == Comparison::CommonBits {
+        return by_common_bits(met, answer, test);
+    }
+    if answer {
+        return excluded(met, test);
+    }
+    None
+}
+
+/// Two tests of common bits of one word: where it has some of a few bits it has some of more, and where it has none of
+/// many it has none of fewer.
+fn by_common_bits(met: Test, answer: bool, test: Test) -> Option<bool>
+    requires common { met.comparison ≡ Comparison.CommonBits }
+    ensures told { IfSome result (λ told. (call : Record) → holds_on met call ≡ answer → holds_on test call ≡ told) }
+{
+    if test.comparison != Comparison::CommonBits || met.place != test.place {
+        return None;
+    }
+    let known = met.mask & met.k;
+    let wanted = test.mask & test.k;
+    if answer {
+        return if wanted & known == known {
+            Some(true)
+        } else {
+            None
+        };
+    }
+    if known & wanted == wanted {
+        Some(false)
+    } else {
+        None
+    }
+}
+
+/// Two equalities of one word that want one bit otherwise.
+fn excluded(met: Test, test: Test) -> Option<bool>
+    ensures told { IfSome result (λ told. (call : Record) → holds_on met call ≡ true → holds_on test call ≡ told) }
+{
+    if met.comparison != Comparison::Equal
+        || test.comparison != Comparison::Equal
+        || met.place != test.place
+    {
+        return None;
+    }
+    let bits = met.k & test.mask;
+    let wanted = test.k & met.mask;
+    if bits == wanted {
+        return None;
+    }
+    Some(false)
+}
+
+impl Path<'_> {
+    /// Whether a word at a place with these bits may come out so in each test, as far as is seen; the bits of `open` may be
+    /// any.
+    pub fn leaves_open(&self, place: u8, bits: u32, open: u32) -> bool {
+        match self {
+            Path::Start => true,
+            Path::Beyond(earlier, test, answer) => {
+                (test.place != place || may_come_out(*test, *answer, bits, open))
+                    && earlier.leaves_open(place, bits, open)
+            }
+        }
+    }
+}
+
+// Whether a word with these bits, and any in place of the open ones, may come out so in a test, as far as is seen.
+fn may_come_out(test: Test, answer: bool, bits: u32, open: u32) -> bool {
+    let least = bits & test.mask;
+    let most = (bits | open) & test.mask;
+    match (test.comparison, answer) {
+        (Comparison::Equal, true) => { (least ^ test.k) & !open == 0 && test.k & !test.mask == 0 }
+        (Comparison::Equal, false) => least != test.k || most != test.k,
+        (Comparison::Greater, true) => most > test.k,
+        (Comparison::Greater, false) => least <= test.k,
+        (Comparison::GreaterOrEqual, true) => most >= test.k,
+        (Comparison::GreaterOrEqual, false) => least < test.k,
+        (Comparison::CommonBits, true) => most & test.k != 0,
+        (Comparison::CommonBits, false) => least & test.k == 0,
+    }
+}

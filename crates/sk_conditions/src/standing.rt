@@ -1,0 +1,135 @@
+//! How the verdicts of two chains stand to each other on every call of some numbers.
+ghost use Rattle.std.specs.Prelude.{◌≡◌, ◌≤◌, ◌⊎◌, IfOk};
+ghost use Rattle.sk_insn.specs.declared.record.Record.{Record};
+ghost use Rattle.sk_conditions.specs.Comparing.{relates, StandsAll, IsApart};
+ghost use Rattle.sk_conditions.specs.Pairs.{StandsOn};
+
+use crate::pair::{Pair, Parts, parts_of};
+use crate::path::Path;
+use crate::witness::witness;
+use crate::{Numbers, chain_tree};
+use sk_chain::{Chain, sooner};
+use sk_insn::Record;
+use std::alloc::{AllocError, Global};
+
+/// The most tests and pairs of ends that are looked at for one range of numbers.
+const MOST_STEPS: u32 = 65536;
+
+/// How a new verdict has to stand to an old one.
+#[derive(Clone, Copy, Debug, PartialEq, Eq)]
+pub enum Relation {
+    /// It is the same.
+    Same,
+    /// Its action takes precedence, or is as strict.
+    AsStrict,
+}
+
+/// What was found of two chains.
+#[derive(Clone, Copy, Debug, PartialEq, Eq)]
+pub enum Found {
+    /// Their verdicts stand so to each other on every call.
+    Everywhere,
+    /// On this call they do not.
+    Apart(Record),
+    /// Neither was found.
+    Undecided,
+}
+
+/// Two chains whose verdicts are compared, on calls with some numbers.
+#[derive(Clone, Copy)]
+pub struct Comparing<'a> {
+    pub relation: Relation,
+    pub old: &'a Chain,
+    pub new: &'a Chain,
+    pub numbers: Numbers,
+}
+
+/// Compares the verdicts of two chains on every call of the numbers. A call on which they do not stand so was run through
+/// both.
+pub fn compare(alloc: Global, chains: Comparing<'_>) -> Result<Found, AllocError>
+    requires range { chains.numbers.first ≤ chains.numbers.last }
+    ensures stands { IfOk result (StandsAll chains.entry) }
+{
+    let old = chain_tree(alloc, chains.old, chains.numbers)?;
+    let new = chain_tree(alloc, chains.new, chains.numbers)?;
+    let mut left = MOST_STEPS;
+    let pair = Pair {
+        one: &old,
+        other: &new,
+    };
+    Ok(compared(chains, pair, &Path::Start, &mut left))
+}
+
+/// Compares what two trees tell of the calls that come out so in these tests.
+fn compared(chains: Comparing<'_>, pair: Pair<'_>, path: &Path, left: &mut u32) -> Found
+    ensures stands { StandsOn chains.entry pair.entry.one.now pair.entry.other.now path.now result }
+{
+    match parts_of(pair) {
+        Parts::Ends(Some(old), Some(new)) if stands(chains.relation, old, new) => Found::Everywhere,
+        Parts::Ends(_, _) => apart(chains, path, left),
+        Parts::Test(test, held, failed) => match path.answer(test) {
+            Some(true) => compared(chains, held, path, left),
+            Some(false) => compared(chains, failed, path, left),
+            None => {
+                if *left == 0 {
+                    return Found::Undecided;
+                }
+                *left -= 1;
+                let yes = Path::Beyond(&*path, test, true);
+                let held = compared(chains, held, &yes, left);
+                if let Found::Apart(call) = held {
+                    return Found::Apart(call);
+                }
+                let no = Path::Beyond(&*path, test, false);
+                both(held, compared(chains, failed, &no, left))
+            }
+        },
+    }
+}
+
+/// What is found of all calls, of what was found of those on either side of a test.
+fn both(held: Found, failed: Found) -> Found
+    ensures everywhere { result ≡ Found.Everywhere → (held ≡ Found.Everywhere) × (failed ≡ Found.Everywhere) }
+    ensures apart { (call : Record) → result ≡ Found.Apart call → (held ≡ Found.Apart call) ⊎ (failed ≡ Found.Apart call) }
+{
+    match held {
+        Found::Apart(call) => Found::Apart(call),
+        Found::Everywhere => failed,
+        Found::Undecided => match failed {
+            Found::Apart(call) => Found::Apart(call),
+            Found::Everywhere | Found::Undecided => Found::Undecided,
+        },
+    }
+}
+
+/// A call that comes out so in these tests, where one is found on which the verdicts do not stand so to each other.
+fn apart(chains: Comparing<'_>, path: &Path, left: &mut u32) -> Found
+    ensures apart { IsApart chains.entry result }
+{
+    if *left == 0 {
+        return Found::Undecided;
+    }
+    *left -= 1;
+    let call = witness(path, chains.numbers);
+    if call.nr < chains.numbers.first
+        || chains.numbers.last < call.nr
+        || stands(
+            chains.relation,
+            chains.old.verdict(&call),
+            chains.new.verdict(&call),
+        )
+    {
+        return Found::Undecided;
+    }
+    Found::Apart(call)
+}
+
+// Whether two verdicts stand so to each other.
+fn stands(relation: Relation, old: u32, new: u32) -> bool
+    ensures stands { result ≡ relates relation old new }
+{
+    match relation {
+        Relation::Same => old == new,
+        Relation::AsStrict => sooner(Some(new), old) == Some(new),
+    }
+}

@@ -1,0 +1,270 @@
+#!/usr/bin/env python3
+"""Checks what the built program `ask` does with files, words and streams that are good, bad or missing: what is wrong is one
+line on standard error with status 2, and nothing is answered then. And that it names errors as errno(3) of this machine does.
+
+check_ask.py [PROGRAM]: each row is a command, run by bash in a folder of files, with the status, the whole of standard error
+and the whole of standard output that it has to end with. `ask` in a command is PROGRAM, or else the one that is built here.
+Prints each row that comes out otherwise, and at last 'N passed, M failed'. A row that needs a privilege to be given up where
+that can't be done is told, and not counted."""
+import errno
+import os
+import shutil
+import struct
+import subprocess
+import sys
+import tempfile
+from typing import NamedTuple
+
+ROOT = os.path.dirname(os.path.dirname(os.path.abspath(__file__)))
+SECONDS = 60
+MIB = 1 << 20
+
+
+def insn(code, jt=0, jf=0, k=0, order="<"):
+    return struct.pack(order + "HBBI", code, jt, jf, k)
+
+
+LOAD_NUMBER, RETURN_ALLOW = insn(0x20), insn(0x06, k=0x7FFF0000)
+ALLOW = RETURN_ALLOW
+# getpid is call 39, and gets errno 1.
+GETPID = LOAD_NUMBER + insn(0x15, 0, 1, 39) + insn(0x06, k=0x00050001) + ALLOW
+# 4000 instructions: nine times they are past the limit of a chain.
+LONG = LOAD_NUMBER * 3999 + ALLOW
+
+
+def line(image):
+    return f"filter {image.hex()}\n".encode()
+
+
+DIGITS = GETPID.hex()
+SPREAD = " ".join(DIGITS[place:place + 16] for place in range(0, len(DIGITS), 16))
+FILES = {
+    "raw": GETPID,
+    "digits": DIGITS.encode() + b"\n",
+    "upper": DIGITS.upper().encode(),
+    "spread": SPREAD.replace(" ", " \n").encode() + b"\n",
+    "crlf": SPREAD.replace(" ", "\r\n").encode() + b"\r\n",
+    "lines": b"; a filter\n# and another comment\n\n" + line(GETPID),
+    "lines_crlf": b"; a filter\r\n" + line(GETPID).replace(b"\n", b"\r\n"),
+    "all": ALLOW.hex().encode(),
+    "two": line(ALLOW) + line(GETPID),
+    "sixteen": line(ALLOW) * 16,
+    "thirty_two": line(ALLOW) * 32,
+    "thirty_three": b"; one too many\n" + line(ALLOW) * 33,
+    "empty": b"",
+    "blank": b" \n\r\n  ",
+    "comments": b"; nothing\n# here\n",
+    "odd": b"060000000000ff7",
+    "word": b"; one\nhello\n",
+    "bad_digits": line(ALLOW) + b"filter 06zz\n",
+    "odd_line": b"filter 060000000000ff7\n",
+    "no_digits": b"filter\n",
+    "marked": b"\xef\xbb\xbf" + line(ALLOW),
+    "tab": line(ALLOW).replace(b" ", b"\t"),
+    "glued": b"filter060000000000ff7f\n",
+    "record": b"record 00\n" + line(ALLOW),
+    "big_endian": insn(0x20, order=">") + insn(0x06, k=0x7FFF0000, order=">"),
+    "ragged": GETPID + b"\0",
+    "mib": b" " * MIB,
+    "mib_and_one": b" " * (MIB + 1),
+    "no_return": LOAD_NUMBER,
+    "load": ALLOW + insn(0x20, k=2) + ALLOW,
+    "load_past": insn(0x20, k=64) + ALLOW,
+    "division": insn(0x34) + ALLOW,
+    "shift": insn(0x64, k=32) + ALLOW,
+    "scratch": insn(0x02, k=16) + ALLOW,
+    "jump": insn(0x05, k=1) + ALLOW,
+    "unstored": insn(0x60, k=3) + insn(0x16),
+    "code": line(ALLOW) + line(LOAD_NUMBER + insn(0x35, 0, 0, 1) + insn(0x21) + ALLOW),
+    "long": ALLOW * 4097,
+    "chain": line(LONG) * 9,
+    "trap": insn(0x06, k=0x00030005).hex().encode(),
+    "kill": insn(0x06, k=0x80000000).hex().encode(),
+    "argument": insn(0x20, k=16) + insn(0x16),
+    "flag": insn(0x20, k=16) + insn(0x45, 0, 1, 1) + insn(0x06, k=0x00050026) + ALLOW,
+}
+
+
+# EHWPOISON is in asm-generic/errno.h; Python has no name for it.
+ERRORS = {**errno.errorcode, 133: "EHWPOISON"}
+
+
+class Row(NamedTuple):
+    command: str
+    status: int
+    complaint: str
+    answer: str
+
+
+GOT = "39 getpid errno/1 EPERM\n"
+LINE = line(GETPID).decode()
+NO_FILTER = "holds no filter: expected bytes of struct sock_filter, hexadecimal digits or lines filter HEX"
+
+
+def record(number, first=0):
+    """The digits of struct seccomp_data of a call on x86-64 with this first argument."""
+    return struct.pack("<IIQ6Q", number, 0xC000003E, 0, first, *[0] * 5).hex()
+
+
+def trouble(command, complaint):
+    return Row(command, 2, f"ask: {complaint}\n" if complaint else "", "")
+
+
+def good(command, answer):
+    return Row(command, 0, "", answer)
+
+
+GOOD = [
+    *[good(f"ask calls --call getpid {name}", GOT) for name in ("raw", "digits", "upper", "spread", "crlf", "lines", "lines_crlf")],
+    good("ask calls --call 39 raw", GOT), good("ask calls --call 0x27 raw", GOT), good("ask calls --call 0x0027 raw", GOT),
+    good("ask calls raw --call getpid", GOT), good("ask calls --call read raw", "0 read allow\n"),
+    good("ask calls --call 4294967295 raw", "4294967295 - allow\n"),
+    good("ask calls --call getpid - < raw", GOT), good("ask calls --call getpid /dev/stdin < raw", GOT),
+    good("cat raw | ask calls --call getpid /dev/stdin", GOT), good("cat lines | ask calls --call getpid -", GOT),
+    good("ask calls --call getpid <(cat digits)", GOT),
+    good("mkfifo fifo; cat lines > fifo & timeout 20 ask calls --call getpid fifo", GOT),
+    good("ask calls --call getpid all raw", GOT), good("ask calls --call getpid two", GOT),
+    good("ask calls --call getpid sixteen sixteen", "39 getpid allow\n"), good("ask calls --call getpid thirty_two", "39 getpid allow\n"),
+    good("ask calls --call getpid trap raw", "39 getpid trap/5\n"), good("ask calls --call getpid kill", "39 getpid kill_process\n"),
+    good("ask calls --call getpid argument", "39 getpid any\n"),
+    good("ask calls --call getpid flag", "39 getpid errno/38 ENOSYS | allow\n"),
+    good("ask calls --call getpid --examples flag",
+         f"39 getpid errno/38 ENOSYS | allow\n  errno/38 ENOSYS filter 0 at 2 record {record(39, 1)}\n  allow filter 0 at 3 record {record(39)}\n"),
+    good("ask calls --examples --call read all raw", f"0 read allow\n  allow filter 1 at 3 record {record(0)}\n"),
+    good("ask calls all | head -n 2", "0 read allow\n1 write allow\n"),
+    good("ask calls all | grep -c ' allow$'", "364\n"), good("ask calls all | tail -n 1", "451-4294967295 - allow\n"),
+    good("ask filter raw", LINE), good("ask filter lines digits", LINE * 2), good("ask filter all raw", line(ALLOW).decode() + LINE),
+    good("ask filter raw | ask filter - ", LINE), good("ask filter --raw crlf | cmp - raw", ""), good("ask filter lines --raw | cmp - raw", ""),
+    good("ask --help | head -n 1", "usage: ask WORD ..\n"), good("ask calls --help | head -n 1", "usage: ask calls [--call CALL] [--examples] FILE..\n"),
+    good("ask filter nofile --help | head -n 1", "usage: ask filter [--raw] FILE..\n"),
+]
+WORDS = [
+    trouble("ask", "no word is given; see ask --help"), trouble("ask foo", "no word is named foo"), trouble("ask '' raw", "no word is named "),
+    trouble("ask --raw filter raw", "no word is named --raw"),
+    trouble("ask calls", "calls: no FILE is given"), trouble("ask filter --raw", "filter: no FILE is given"),
+    trouble("ask calls --exmples raw", "calls: no option is named --exmples"), trouble("ask calls --raw raw", "calls: no option is named --raw"),
+    trouble("ask filter --examples raw", "filter: no option is named --examples"), trouble("ask calls -x raw", "calls: no option is named -x"),
+    trouble("ask calls raw --call", "calls: expected a name or a number behind --call"),
+    trouble("ask calls --call read --call write raw", "calls: given twice: --call"),
+    *[trouble(f"ask calls --call '{word}' raw", f"no call is named {word}") for word in (
+        "mseal2", "", "010", "00", "-1", "0x", "1e3", "getpid ", "GETPID", "4294967296", "0x100000000", "18446744073709551616")],
+    trouble("ask calls --call \"$(printf 'a\\nb')\" raw", "no call is named a?b"),
+    trouble("ask calls \"$(printf 'a\\xff')\"", "a word is not UTF-8"),
+]
+UNREAD = [
+    trouble("ask calls nofile", "nofile: no such file"), trouble("ask calls ''", ": no such file"), trouble("ask calls folder", "folder: is a folder"),
+    trouble("ask calls .", ".: is a folder"), trouble("ask calls raw/x", "raw/x: can't be opened"),
+    trouble("chmod 000 raw; $as_owner ask calls raw", "raw: may not be read"),
+    trouble("ask calls \"$(printf 'a\\nb')\"", "a?b: no such file"), trouble("ask calls raw nofile", "nofile: no such file"),
+    trouble("ask filter nofile word", "nofile: no such file"), trouble("ask filter word nofile", "nofile: no such file"),
+    trouble("ask calls mib_and_one", "mib_and_one: has more than 1048576 bytes"), trouble("ask calls /dev/zero", "/dev/zero: has more than 1048576 bytes"),
+    trouble("ask calls - <&-", "-: reading failed"), trouble("ask calls - < folder", "-: reading failed"),
+    trouble("ask calls - - < raw", f"-: {NO_FILTER}"),
+]
+REFUSED = [
+    *[trouble(f"ask calls {name}", f"{name}: {NO_FILTER}") for name in ("empty", "blank", "comments", "mib")],
+    trouble("ask calls /dev/null", f"/dev/null: {NO_FILTER}"), trouble("ask calls all empty", f"empty: {NO_FILTER}"),
+    trouble("ask calls odd", "odd: has an odd number of hexadecimal digits: expected two for each byte"),
+    trouble("ask calls word", "word: line 2: expected filter HEX"), trouble("ask calls marked", "marked: line 1: expected filter HEX"),
+    trouble("ask calls tab", "tab: line 1: expected filter HEX"), trouble("ask calls glued", "glued: line 1: expected filter HEX"),
+    trouble("ask calls record", "record: line 1: expected filter HEX"),
+    trouble("ask calls bad_digits", "bad_digits: line 2: expected hexadecimal digits behind filter, two for each byte"),
+    trouble("ask calls odd_line", "odd_line: line 1: expected hexadecimal digits behind filter, two for each byte"),
+    trouble("ask calls no_digits", "no_digits: line 1: there is no instruction"),
+    trouble("ask calls raw digits odd", "odd: has an odd number of hexadecimal digits: expected two for each byte"),
+    trouble("ask calls thirty_three", "thirty_three: line 34: one filter too many: expected at most 32 in all files"),
+    trouble("ask calls thirty_two raw", "raw: one filter too many: expected at most 32 in all files"),
+    trouble("ask calls sixteen sixteen two", "two: line 1: one filter too many: expected at most 32 in all files"),
+    trouble("ask calls big_endian", "big_endian: instruction 0: the code is none of the 41 that seccomp(2) permits"),
+    trouble("ask calls all code", "code: line 2: instruction 2: the code is none of the 41 that seccomp(2) permits"),
+    trouble("ask calls ragged", "ragged: the length is no multiple of 8 bytes: expected instructions as struct sock_filter has them"),
+    trouble("ask filter no_return", "no_return: the last instruction is no return"),
+    trouble("ask filter load", "load: instruction 1: no word of struct seccomp_data begins at k: expected a multiple of 4 below 64"),
+    trouble("ask filter load_past", "load_past: instruction 0: no word of struct seccomp_data begins at k: expected a multiple of 4 below 64"),
+    trouble("ask filter division", "division: instruction 0: division by the constant 0"),
+    trouble("ask filter shift", "shift: instruction 0: shift by a constant of 32 or more"),
+    trouble("ask filter scratch", "scratch: instruction 0: there are 16 scratch words: expected k below 16"),
+    trouble("ask filter jump", "jump: instruction 0: a jump past the last instruction"),
+    trouble("ask filter unstored", "unstored: instruction 0: loads scratch word 3, which some path there does not store"),
+    trouble("ask filter long", "long: there are more than 4096 instructions"),
+    trouble("ask filter chain", "chain: line 9: the filters are too long together: expected at most 32768 instructions, with 4 more for each filter before this one"),
+    trouble("ask filter --raw two", "filter: the FILEs hold several filters: expected one with --raw"),
+    trouble("ask filter --raw raw all", "filter: the FILEs hold several filters: expected one with --raw"),
+]
+STREAMS = [
+    trouble("ask calls raw > /dev/full", "writing failed"), trouble("ask calls raw >&-", "writing failed"), trouble("ask --help > /dev/full", "writing failed"),
+    trouble("ask calls nofile 2>&-", ""), trouble("ask calls raw > /dev/full 2>&-", ""), trouble("ask calls nofile 2> /dev/full", ""),
+]
+
+
+def error_rows():
+    """The verdict of each number as an error, by errno(3) of this machine."""
+    for number in range(140):
+        name = ERRORS.get(number)
+        image = insn(0x06, k=0x00050000 + number).hex()
+        yield number, name, f"echo {image} | ask calls --call read -"
+
+
+def as_owner():
+    """Words before a command that take from root what lets it read all files; None where it can't be done."""
+    if os.geteuid():
+        return ""
+    return "setpriv --bounding-set=-dac_override,-dac_read_search" if shutil.which("setpriv") else None
+
+
+def ran(command, program):
+    """The status of a command, and its texts."""
+    with tempfile.TemporaryDirectory() as room:
+        for name, content in FILES.items():
+            with open(os.path.join(room, name), "wb") as file:
+                file.write(content)
+        os.mkdir(os.path.join(room, "folder"))
+        os.mkdir(os.path.join(room, "bin"))
+        os.symlink(program, os.path.join(room, "bin", "ask"))
+        os.chmod(room, 0o755)
+        env = {**os.environ, "PATH": f"{room}/bin:{os.environ['PATH']}", "as_owner": as_owner() or ""}
+        end = subprocess.run(["bash", "-c", f"set -o pipefail\n{command}"], cwd=room, env=env, stdin=subprocess.DEVNULL, capture_output=True,
+                             timeout=SECONDS, check=False)
+    return end.returncode, end.stderr.decode("utf-8", "replace"), end.stdout.decode("utf-8", "replace")
+
+
+def judged(row, program):
+    """What is wrong with a row, or nothing; None where it can't be tried."""
+    if "$as_owner" in row.command and as_owner() is None:
+        return None
+    got = ran(row.command, program)
+    return [f"{what} is {it!r} and not {wanted!r}" for what, it, wanted in zip(
+        ("status", "standard error", "standard output"), got, row[1:]) if it != wanted]
+
+
+def judged_error(number, name, command, program):
+    """What is wrong with the name of an error."""
+    status, complaint, answer = ran(command, program)
+    said = answer.removeprefix(f"0 read errno/{number}").strip()
+    same = (said == name or getattr(errno, said, None) == number) if name else said == ""
+    return [] if (status, complaint) == (0, "") and same else [f"{answer!r}, where errno(3) has {name}"]
+
+
+def main(words):
+    program = os.path.abspath(words[0]) if words else os.path.join(ROOT, "crates/ask/out/ask")
+    passed = failed = 0
+    rows = [(row.command, lambda row=row: judged(row, program)) for row in GOOD + WORDS + UNREAD + REFUSED + STREAMS]
+    rows += [(f"errno {it[0]}", lambda it=it: judged_error(*it, program)) for it in error_rows()]
+    for name, judge in rows:
+        try:
+            problems = judge()
+        except subprocess.TimeoutExpired:
+            problems = [f"there is no end within {SECONDS} seconds"]
+        if problems is None:
+            print(f"not tried, for want of setpriv: `{name}`")
+            continue
+        passed += not problems
+        failed += bool(problems)
+        for problem in problems:
+            print(f"`{name}`: {problem}")
+    print(f"{passed} passed, {failed} failed")
+    return 1 if failed else 0
+
+
+if __name__ == "__main__":
+    sys.exit(main(sys.argv[1:]))
