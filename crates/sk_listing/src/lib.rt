@@ -5,4 +5,5 @@ pub mod laws;
 mod line;
 mod listing;
 
+pub use line::push_words;
 pub use listing::list;

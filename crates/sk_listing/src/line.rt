@@ -22,9 +22,9 @@ pub(crate) fn push_line(text: &mut String, insn: Insn) -> Result<(), AllocError>
     text.push_str("\n")
 }
 
-// Writes its words, without the end of the line.
+/// Appends an instruction's words, without the end of the line.
 #[tactic(auto, unfolding(crate::specs::Listing::words_for))]
-fn push_words(text: &mut String, insn: Insn) -> Result<(), AllocError>
+pub fn push_words(text: &mut String, insn: Insn) -> Result<(), AllocError>
     ensures words { OnOk result (string_bytes text.new ≡ string_bytes text.old ++ join_with_byte 32 (words_for insn)) }
 {
     match decode(insn.code) {

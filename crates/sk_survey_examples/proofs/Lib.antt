@@ -1,3 +1,3 @@
-pub mod Answering
+pub mod Newer
 pub mod Runs
 pub mod OneSource

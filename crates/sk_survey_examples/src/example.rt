@@ -68,8 +68,8 @@ fn shown(chain: &Chain, first: u32, last: u32, value: u32, call: Record) -> Opti
     })
 }
 
-// The newest filter that answers the value, and where it ends.
-fn answering(chain: &Chain, call: &Record, value: u32) -> Option<(usize, usize)>
+/// The newest filter that answers the value, where the oldest is 0, and the place where it ends.
+pub fn answering(chain: &Chain, call: &Record, value: u32) -> Option<(usize, usize)>
     ensures source { IfSome result (λ found. ComesFrom chain.now call.now value found.0 found.1) }
     ensures none { IfNone result ((newer : ℕ) → slice_get (values_of chain.now call.now) newer ≢ Some value) }
 {

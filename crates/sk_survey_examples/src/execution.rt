@@ -58,6 +58,20 @@ impl Run {
         }
     }
 
+    /// What A holds.
+    pub fn a(&self) -> u32
+        ensures a { result ≡ (state_of self.now).a }
+    {
+        self.a.number
+    }
+
+    /// What X holds.
+    pub fn x(&self) -> u32
+        ensures x { result ≡ (state_of self.now).x }
+    {
+        self.x.number
+    }
+
     /// Executes an instruction for a call. Beside where it leads stands a call on which it may lead elsewhere.
     pub fn execute(&mut self, insn: &Insn, call: &Record) -> (Next, Option<Record>)
         requires constant { TakesConstant (operation_of insn.now.code) insn.now }

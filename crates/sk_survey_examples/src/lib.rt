@@ -7,4 +7,5 @@ pub mod laws;
 mod origin;
 mod tracing;
 
-pub use example::{Example, find};
+pub use example::{Example, answering, find};
+pub use execution::{Next, Run};

@@ -1,7 +1,7 @@
 use Rattle.std.proofs.Common.{◌≡◌, ◌+◌, ◌-◌, length, drop, Some, arith, subst, ap, ◌∙◌}
 use Rattle.sk_chain.specs.Verdict.{values_of}
 use Rattle.sk_survey_examples.specs.Runs.{EndsAt}
-use Rattle.sk_survey_examples.proofs.Answering.{IsNotBefore, is_at, is_within, passed, all_passed, answers_at, nor_here, none_answers}
+use Rattle.sk_survey_examples.proofs.Newer.{IsNotBefore, is_at, is_within, passed, all_passed, answers_at, nor_here, none_answers}
 use Rattle.sk_survey_examples.proofs.example.answering.Goals as goal
 
 pub returns-then-end-value-clause-source : goal.returns-then-end-value-clause-source

@@ -1,6 +1,6 @@
 use Rattle.std.proofs.Common.{length, drop, ◌≡◌, ◌-◌, ◌≤◌}
 use Rattle.sk_chain.specs.Verdict.{values_of}
-use Rattle.sk_survey_examples.proofs.Answering.{IsNotBefore}
+use Rattle.sk_survey_examples.proofs.Newer.{IsNotBefore}
 use Rattle.sk_survey_examples.proofs.example.answering.Given as goal
 
 -- what is left are the older ones, and no newer one answers the value

@@ -1,0 +1,6 @@
+pub mod Paths
+pub mod PathLaws
+pub mod PathText
+pub mod WorkedPaths
+pub use Rattle.sk_survey_examples.specs.Runs
+pub use Rattle.sk_survey_examples.specs.Examples
