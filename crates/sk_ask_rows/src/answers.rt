@@ -52,7 +52,7 @@ fn all_calls(rt: HostRuntime) -> Result<(), Fail> {
     let lines = ran.out.iter().filter(|byte| **byte == b'\n').count();
     assert_eq!(rt; (ran.status, lines), (0, 364));
     assert!(rt; ran.out.starts_with(b"0 read allow\n1 write allow\n"));
-    assert!(rt; ran.out.ends_with(b"\n451-4294967295 - allow\n"));
+    assert!(rt; ran.out.ends_with(b"\n463-4294967295 - allow\n"));
     Ok(())
 }
 
