@@ -1,0 +1,5 @@
+pub mod Arguments
+pub mod Marks
+pub mod Tallies
+pub mod Counting
+pub mod Parts
