@@ -97,7 +97,7 @@ const WHOLE: &[(&[&str], usize, &[u8], &[u8])] = &[
     ),
     (
         &[X32_BY_JSET],
-        367,
+        380,
         b"0 read allow/0\n",
         b"2147483648-3221225471 - allow/0\n3221225472-4294967295 - kill_process/0\n",
     ),
