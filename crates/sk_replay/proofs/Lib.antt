@@ -3,3 +3,4 @@ pub mod Marks
 pub mod Tallies
 pub mod Counting
 pub mod Parts
+pub mod Examples
