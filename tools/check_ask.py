@@ -132,7 +132,7 @@ GOOD = [
          f"39 getpid errno/38 ENOSYS | allow\n  errno/38 ENOSYS filter 0 at 2 record {record(39, 1)}\n  allow filter 0 at 3 record {record(39)}\n"),
     good("ask calls --examples --call read all raw", f"0 read allow\n  allow filter 1 at 3 record {record(0)}\n"),
     good("ask calls all | head -n 2", "0 read allow\n1 write allow\n"),
-    good("ask calls all | grep -c ' allow$'", "364\n"), good("ask calls all | tail -n 1", "451-4294967295 - allow\n"),
+    good("ask calls all | grep -c ' allow$'", "377\n"), good("ask calls all | tail -n 1", "463-4294967295 - allow\n"),
     good("ask filter raw", LINE), good("ask filter lines digits", LINE * 2), good("ask filter all raw", line(ALLOW).decode() + LINE),
     good("ask filter raw | ask filter - ", LINE), good("ask filter --raw crlf | cmp - raw", ""), good("ask filter lines --raw | cmp - raw", ""),
     good("ask --help | head -n 1", "usage: ask WORD ..\n"), good("ask calls --help | head -n 1", "usage: ask calls [--call CALL] [--examples] FILE..\n"),

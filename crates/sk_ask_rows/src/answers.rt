@@ -50,9 +50,9 @@ fn answers_go_to_standard_output(rt: HostRuntime) -> Result<(), Fail> {
 fn all_calls(rt: HostRuntime) -> Result<(), Fail> {
     let ran = run(rt.alloc(), &["calls", "all"], 0)?;
     let lines = ran.out.iter().filter(|byte| **byte == b'\n').count();
-    assert_eq!(rt; (ran.status, lines), (0, 364));
+    assert_eq!(rt; (ran.status, lines), (0, 377));
     assert!(rt; ran.out.starts_with(b"0 read allow\n1 write allow\n"));
-    assert!(rt; ran.out.ends_with(b"\n451-4294967295 - allow\n"));
+    assert!(rt; ran.out.ends_with(b"\n463-4294967295 - allow\n"));
     Ok(())
 }
 

@@ -1,38 +1,62 @@
--- The name at a place of a table.
-use Rattle.std.proofs.Common.{◌≡◌, ◌≢◌, ℕ, ◌<◌, ◌≤◌, ◌+◌, List, length, map, get_or, slice_get, Some, Bor, true, false, arith, rules, ap, sym, ◌∙◌, subst}
-use Rattle.std.specs.Option.{option_map}
+-- The place of a name in a table.
+use Rattle.std.proofs.Common.{◌≡◌, ◌≢◌, ℕ, suc, ◌<◌, ◌≤◌, ◌+◌, List, [], ◌∷◌, length, map, get_or, slice_get, position, Option, Some, None, Bor, Bool, not, cond, arith, rules, ap, refl, ◌∙◌}
 use Rattle.std.specs.Str.{bytes_eq}
+use Rattle.std.specs.List.{position_or_len, prefix_len}
 use Rattle.std.proofs.Math.Logic.{⊎_elim}
-use Rattle.std.proofs.lemmas.Option.{slice_get-map, slice_get-get_or, slice_get_past}
+use Rattle.std.proofs.lemmas.Option.{slice_get-get_or, slice_get_past}
+use Rattle.std.proofs.lemmas.List.Quantifiers.{position-Some}
+use Rattle.std.proofs.lemmas.List.Sums.{fails_before_first}
 use Rattle.std.proofs.lemmas.Slice.Eq.{bytes_eq-Decides}
-use Rattle.std.proofs.lemmas.Bool.{cases_lt}
+use Rattle.std.proofs.lemmas.Bool.{cases_lt, lt-ltb}
 
-pub name_at : (names : List (Bor (List ℕ))) (k : ℕ) (d : Bor (List ℕ)) → k < length names → slice_get (map (λ name. name.now) names) k ≡ Some (get_or names k d).now
-name_at names k d h = slice_get-map (λ name. name.now) names k ∙ ap (option_map (λ name. name.now)) (slice_get-get_or names k d h)
+-- the place of a text among others
+abbrev pub at : List (List ℕ) → List ℕ → Option ℕ
+at names wanted = position (λ name. bytes_eq name wanted) names
 
-pub is_at : (names : List (Bor (List ℕ))) (k : ℕ) (d : Bor (List ℕ)) (name wanted : List ℕ) → k < length names → name ≡ (get_or names k d).now → bytes_eq name wanted ≡ true → slice_get (map (λ name. name.now) names) k ≡ Some wanted
-is_at names k d name wanted h is same =
-    let e : name ≡ wanted = search (rules, bytes_eq-Decides name wanted, same) in
-    name_at names k d h ∙ ap Some (sym is ∙ e)
+-- ---- the texts of a table
 
-pub is_not_at : (names : List (Bor (List ℕ))) (k : ℕ) (d : Bor (List ℕ)) (name wanted : List ℕ) → k < length names → name ≡ (get_or names k d).now → bytes_eq name wanted ≡ false → slice_get (map (λ name. name.now) names) k ≢ Some wanted
-is_not_at names k d name wanted h is other =
-    let ne : name ≢ wanted = search (rules, bytes_eq-Decides name wanted, other) in
-    let at = name_at names k d h in
-    search (rules, ne, at, is)
+prefix-texts : (test : List ℕ → Bool) (names : List (Bor (List ℕ))) → prefix_len test (map (λ name. name.now) names) ≡ prefix_len (λ name. test name.now) names
+prefix-texts test [] = refl
+prefix-texts test (name ∷ names) = ap (λ n. cond (test name.now) (1 + n) 0) (prefix-texts test names)
 
-abbrev pub IsNotAt : List (Bor (List ℕ)) → List ℕ → ℕ → Type 0
-IsNotAt names wanted k = slice_get (map (λ name. name.now) names) k ≢ Some wanted
+length-texts : (names : List (Bor (List ℕ))) → length (map (λ name. name.now) names) ≡ length names
+length-texts [] = refl
+length-texts (name ∷ names) = ap suc (length-texts names)
 
-pub one_more : (names : List (Bor (List ℕ))) (wanted : List ℕ) (n : ℕ) → ((k : ℕ) → k < n → IsNotAt names wanted k) → IsNotAt names wanted n → (k : ℕ) → k < n + 1 → IsNotAt names wanted k
-one_more names wanted n before here k h =
-    ⊎_elim (λ less. before k less) (λ more. let e : n ≡ k = omega arith in subst (IsNotAt names wanted) e here) (cases_lt k n)
+pub position_texts : (test : List ℕ → Bool) (names : List (Bor (List ℕ))) → position test (map (λ name. name.now) names) ≡ position (λ name. test name.now) names
+position_texts test names =
+    let same = prefix-texts (λ text. not (test text)) names in
+    let long = length-texts names in
+    rw (same, long) refl
 
-pub nowhere : (names : List (Bor (List ℕ))) (wanted : List ℕ) (n : ℕ) → length names ≤ n → ((k : ℕ) → k < n → IsNotAt names wanted k) → (k : ℕ) → IsNotAt names wanted k
-nowhere names wanted n all before k =
-    ⊎_elim (λ less. before k less) (λ more. past names wanted k (omega arith)) (cases_lt k n)
+-- ---- the name at a place
+
+at_place : (names : List (List ℕ)) (wanted : List ℕ) (k : ℕ) → at names wanted ≡ Some k → slice_get names k ≡ Some wanted
+at_place names wanted k h =
+    let there = position-Some (λ name. bytes_eq name wanted) names k [] h in
+    let e : get_or names k [] ≡ wanted = search (rules, bytes_eq-Decides (get_or names k []) wanted, there.1) in
+    slice_get-get_or names k [] there.0 ∙ ap Some e
+
+pub is_at : (names : List (List ℕ)) (wanted : List ℕ) (k : ℕ) → at names wanted ≡ Some k → (k < length names) × (slice_get names k ≡ Some wanted)
+is_at names wanted k h = ((position-Some (λ name. bytes_eq name wanted) names k [] h).0, at_place names wanted k h)
+
+-- ---- no place
+
+all_before : (names : List (List ℕ)) (wanted : List ℕ) → at names wanted ≡ None → length names ≤ position_or_len (λ name. bytes_eq name wanted) names
+all_before names wanted h =
+    ⊎_elim (λ less. let t = lt-ltb _ _ less in let u = rw t at h in absurd (search (rules, u))) (λ more. more)
+    (cases_lt (position_or_len (λ name. bytes_eq name wanted) names) (length names))
+
+pub nowhere : (names : List (List ℕ)) (wanted : List ℕ) → at names wanted ≡ None → (k : ℕ) → slice_get names k ≢ Some wanted
+nowhere names wanted h k = ⊎_elim (λ less. apart k less) (λ more. past k more) (cases_lt k (length names))
   where
-    past : (names : List (Bor (List ℕ))) (wanted : List ℕ) (k : ℕ) → length names ≤ k → IsNotAt names wanted k
-    past names wanted k h =
-        let none = slice_get-map (λ name. name.now) names k ∙ ap (option_map (λ name. name.now)) (slice_get_past names k h) in
-        search (rules, none)
+    apart : (k : ℕ) → k < length names → slice_get names k ≢ Some wanted
+    apart k less is =
+        let all = all_before names wanted h in
+        let other = fails_before_first (λ name. bytes_eq name wanted) names k [] (omega arith) in
+        let ne : get_or names k [] ≢ wanted = search (rules, bytes_eq-Decides (get_or names k []) wanted, other) in
+        let there = slice_get-get_or names k [] less in
+        search (rules, ne, there, is)
+
+    past : (k : ℕ) → length names ≤ k → slice_get names k ≢ Some wanted
+    past k more = let none = slice_get_past names k more in search (rules, none)

@@ -1,6 +1,6 @@
-//! The names of the calls, by their numbers.
-/// The names of numbers 0 to 334.
-pub const EARLY: [&str; 335] = [
+//! The names of the calls, by their numbers. `tools/call_names` makes them from a header of Linux.
+/// The names of numbers 0 to 335.
+pub const EARLY: [&str; 336] = [
     "read",
     "write",
     "open",
@@ -336,10 +336,11 @@ pub const EARLY: [&str; 335] = [
     "statx",
     "io_pgetevents",
     "rseq",
+    "uretprobe",
 ];
 
 /// The names of the numbers from 424 on, which the calls of all architectures share.
-pub const LATE: [&str; 27] = [
+pub const LATE: [&str; 39] = [
     "pidfd_send_signal",
     "io_uring_setup",
     "io_uring_enter",
@@ -367,4 +368,16 @@ pub const LATE: [&str; 27] = [
     "process_mrelease",
     "futex_waitv",
     "set_mempolicy_home_node",
+    "cachestat",
+    "fchmodat2",
+    "map_shadow_stack",
+    "futex_wake",
+    "futex_wait",
+    "futex_requeue",
+    "statmount",
+    "listmount",
+    "lsm_get_self_attr",
+    "lsm_set_self_attr",
+    "lsm_list_modules",
+    "mseal",
 ];

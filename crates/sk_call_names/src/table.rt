@@ -1,6 +1,7 @@
-ghost use Rattle.std.specs.Prelude.{◌≡◌, ◌≢◌, ℕ, ◌<◌, ◌++◌, length, map, slice_get, is_some, if◌then◌else◌, [], ◌∷◌, Some, IfOk, OnOk, IfNone, IfSome};
+ghost use Rattle.std.specs.Prelude.{◌≡◌, ◌≢◌, ℕ, ◌<◌, ◌++◌, length, map, position, slice_get, is_some, if◌then◌else◌, [], ◌∷◌, Some, IfOk, OnOk, IfNone, IfSome};
 ghost use Rattle.std.specs.Option.{option_map};
-ghost use Rattle.sk_call_names.specs.Names.{name_of, named_from};
+ghost use Rattle.std.specs.Str.{bytes_eq};
+ghost use Rattle.sk_call_names.specs.Names.{name_of, named_from, names_end, number_named};
 
 use crate::names::{EARLY, LATE};
 use std::alloc::{AllocError, Global};
@@ -24,8 +25,8 @@ pub fn name(nr: u32) -> Option<&'static str>
 }
 
 /// The number of the call with this name, if there is one.
-#[tactic(auto, unfolding(crate::specs::Names::name_of))]
 pub fn number(name: &[u8]) -> Option<u32>
+    ensures first { result ≡ number_named name.now }
     ensures found { IfSome result (λ nr. name_of nr ≡ Some name.now) }
     ensures none { IfNone result ((nr : ℕ) → name_of nr ≢ Some name.now) }
 {
@@ -37,7 +38,7 @@ pub fn number(name: &[u8]) -> Option<u32>
 
 /// The numbers of all calls that have a name, in rising order.
 pub fn numbers(alloc: Global) -> Result<Vec<u32>, AllocError>
-    ensures all { IfOk result (λ numbers. numbers.items ≡ named_from 451 0) }
+    ensures all { IfOk result (λ numbers. numbers.items ≡ named_from names_end 0) }
 {
     named_below(alloc, COUNT)
 }
@@ -68,14 +69,15 @@ fn name_at(names: &[&'static str], place: usize) -> Option<&'static str>
 }
 
 fn place_of(names: &[&'static str], wanted: &[u8]) -> Option<usize>
-    ensures found { IfSome result (λ place. slice_get (map (λ name. name.now) names.now) place ≡ Some wanted.now) }
+    ensures first { result ≡ position (λ name. bytes_eq name wanted.now) (map (λ name. name.now) names.now) }
     ensures within { IfSome result (λ place. place < length names.now) }
-    ensures none { IfNone result ((place : ℕ) → slice_get (map (λ name. name.now) names.now) place ≢ Some wanted.now) }
 {
-    for (place, name) in names.iter().enumerate() {
-        if name.as_bytes() == wanted {
-            return Some(place);
-        }
-    }
-    None
+    place_in(names, wanted)
+}
+
+fn place_in(names: &[&'static str], wanted: &[u8]) -> Option<usize>
+    ensures first { result ≡ position (λ name. bytes_eq name.now wanted.now) names.now }
+    ensures within { IfSome result (λ place. place < length names.now) }
+{
+    names.iter().position(|name| name.as_bytes() == wanted)
 }

@@ -16,15 +16,15 @@ use Rattle.sk_survey_engine.specs.declared.line.Sign.TheVariants as sign
 use Rattle.sk_survey_engine.specs.Lines.{row_of, TellsNamedAlone}
 use Rattle.sk_survey_engine.specs.Differences.{Told, told_of, differ, piece, pieces}
 
-unnamed : (nr : ℕ) → 451 ≤ nr → name_of nr ≡ None
+unnamed : (nr : ℕ) → 463 ≤ nr → name_of nr ≡ None
 unfolding name_of
 unnamed nr high =
     let past : slice_get LATE (nr - 424) ≡ None = slice_get_past LATE (nr - 424) (omega arith) in
     rw (le-ltb nr 424 (omega arith)) (slice_get-map (λ name. name.now) LATE (nr - 424) ∙ ap (option_map (λ name. name.now)) past)
 
-is_below : (nr : ℕ) → IsTrue (is_some (name_of nr)) → nr < 451
+is_below : (nr : ℕ) → IsTrue (is_some (name_of nr)) → nr < 463
 is_below nr named =
-    elim (cases_lt nr 451) [
+    elim (cases_lt nr 463) [
       | inl low ↦ low
       | inr high ↦ let none = ap is_some (unnamed nr high) in cc
     ]
@@ -46,9 +46,9 @@ is_among (suc count) from nr low high named =
           rw named' (0, omega arith, sym is)
     ]
 
-pub named_alone : (rows : List Row) → StandAlone (named_from 451 0) rows → All TellsNamedAlone rows
+pub named_alone : (rows : List Row) → StandAlone (named_from 463 0) rows → All TellsNamedAlone rows
 named_alone rows stand k d less nr named =
-    All-contains (λ nr. All (TellsAlone nr) rows) (named_from 451 0) nr stand (is_among 451 0 nr (omega arith) (is_below nr named) named) k d less
+    All-contains (λ nr. All (TellsAlone nr) rows) (named_from 463 0) nr stand (is_among 463 0 nr (omega arith) (is_below nr named) named) k d less
 
 -- the same of a line without what stands below it
 abbrev IsToldAlone : Told → Type 0

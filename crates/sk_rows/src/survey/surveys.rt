@@ -79,25 +79,25 @@ fn one_number(rt: HostRuntime) -> Result<(), Fail> {
 const WHOLE: &[(&[&str], usize, &[u8], &[u8])] = &[
     (
         &[ALL],
-        364,
+        377,
         b"0 read allow/0\n1 write allow/0\n",
-        b"450 set_mempolicy_home_node allow/0\n451-4294967295 - allow/0\n",
+        b"462 mseal allow/0\n463-4294967295 - allow/0\n",
     ),
     (
         &[FROM_1000],
-        365,
+        378,
         b"0 read allow/0\n",
-        b"451-999 - allow/0\n1000-4294967295 - kill_process/0\n",
+        b"463-999 - allow/0\n1000-4294967295 - kill_process/0\n",
     ),
     (
         &[X32_BY_JGE],
-        365,
+        378,
         b"0 read allow/0\n",
-        b"451-1073741823 - allow/0\n1073741824-4294967295 - kill_process/0\n",
+        b"463-1073741823 - allow/0\n1073741824-4294967295 - kill_process/0\n",
     ),
     (
         &[X32_BY_JSET],
-        367,
+        380,
         b"0 read allow/0\n",
         b"2147483648-3221225471 - allow/0\n3221225472-4294967295 - kill_process/0\n",
     ),

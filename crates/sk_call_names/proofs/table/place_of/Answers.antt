@@ -1,15 +1,8 @@
 use Rattle.std.proofs.Common.{sym, ◌∙◌}
-use Rattle.sk_call_names.proofs.Places.{is_at, is_not_at, one_more, nowhere}
+use Rattle.std.specs.Str.{bytes_eq}
+use Rattle.sk_call_names.proofs.Places.{position_texts}
 use Rattle.sk_call_names.proofs.table.place_of.Goals as goal
 
-pub returns-then-eq-clause-found : goal.returns-then-eq-clause-found
-returns-then-eq-clause-found c =
-    is_at _ _ _ _ _ c.loop-place-test.true c.as_bytes.ensures.value (sym c.eq.ensures ∙ c.if-eq.true)
-
-pub loop-place-preserved : goal.loop-place-preserved
-loop-place-preserved c =
-    one_more _ _ _ c.loop-place.invariant
-    (is_not_at _ _ _ _ _ c.loop-place-test.true c.as_bytes.ensures.value (sym c.eq.ensures ∙ c.if-eq.false))
-
-pub returns-clause-none : goal.returns-clause-none
-returns-clause-none c = nowhere _ _ _ c.loop-place-test.false c.loop-place.invariant
+pub returns-clause-first : goal.returns-clause-first
+returns-clause-first c =
+    c.place_in.ensures.first ∙ sym (position_texts (λ name. bytes_eq name c.args.wanted.now) c.args.names.now)

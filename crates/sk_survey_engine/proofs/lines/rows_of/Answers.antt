@@ -9,7 +9,7 @@ use Rattle.sk_survey_engine.proofs.lines.rows_of.Goals as goal
 
 pub returns-in-None-clause-alone : goal.returns-in-None-clause-alone
 returns-in-None-clause-alone c =
-    IfOk-weaker c.rows.result (λ rows. StandAlone (named_from 451 0) rows.items) (λ rows. All TellsNamedAlone rows.items)
+    IfOk-weaker c.rows.result (λ rows. StandAlone (named_from 463 0) rows.items) (λ rows. All TellsNamedAlone rows.items)
     (λ rows stand. named_alone rows.items stand)
     (subst (λ (named : List ℕ). IfOk c.rows.result (λ rows. StandAlone named rows.items))
     (c.deref.ensures.value ∙ c.in_ok-named-in-None.ensures.all) c.rows.ensures.alone)

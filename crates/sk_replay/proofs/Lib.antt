@@ -1,0 +1,6 @@
+pub mod Arguments
+pub mod Marks
+pub mod Tallies
+pub mod Counting
+pub mod Parts
+pub mod Examples

@@ -1,0 +1,149 @@
+-- The text of `ask replay`: the verdicts on the calls of a log.
+use Rattle.std.specs.Prelude.{ℕ, nat_eq, ◌+◌, ◌==◌, ◌||◌, ◌&&◌, not, Bool, false, true, if◌then◌else◌, List, [], ◌∷◌, ◌++◌, map, filter, flat_map, take, codes, Option, Some, None}
+use Rattle.std.specs.Bool.{beq}
+use Rattle.std.specs.Fmt.{decimal, radix_digits}
+use Rattle.std.specs.List.{count_by, list_any}
+use Rattle.std.specs.Option.{unwrap_or}
+use Rattle.std.specs.Map.{lookup}
+use Rattle.indexmap.specs.IndexMap.{insert_entry}
+use Rattle.std.specs.Cmp.Lexicographic.{pointwise}
+use Rattle.sk_text.specs.Lines.{lines_of}
+use Rattle.sk_insn.specs.declared.insn.Insn.{Insn}
+use Rattle.sk_insn.specs.Actions.{action_of, performs}
+use Rattle.sk_chain.specs.Verdict.{verdict_of}
+use Rattle.sk_verdict.specs.Verdicts.{verdict_text}
+use Rattle.sk_call_names.specs.Names.{name_of}
+use Rattle.sk_replay.specs.declared.call.Call.{Call}
+use Rattle.sk_replay.specs.declared.line.Line.{Line}
+use Rattle.sk_replay.specs.declared.line.Line.TheVariants.{Made, Event, Unclear}
+use Rattle.sk_replay.specs.declared.row.Row.{Row}
+use Rattle.sk_replay.specs.Calls.{record_of}
+use Rattle.sk_replay.specs.Lines.{line_of}
+
+-- ---- the calls of a log
+
+-- the call of a line that is one, in front of others
+abbrev pub onto_calls : Line → List Call → List Call
+onto_calls (Made call) calls = call ∷ calls
+onto_calls Event calls = calls
+onto_calls Unclear calls = calls
+
+-- the calls of the lines, in their order
+abbrev pub calls_of : List (List ℕ) → List Call
+calls_of [] = []
+calls_of (line ∷ lines) = onto_calls (line_of line) (calls_of lines)
+
+abbrev pub is_event : Line → Bool
+is_event Event = true
+is_event line = false
+
+abbrev pub is_unclear : Line → Bool
+is_unclear Unclear = true
+is_unclear line = false
+
+-- so many lines are no calls
+abbrev pub events_in : List (List ℕ) → ℕ
+events_in lines = count_by (λ line. is_event (line_of line)) lines
+
+-- so many lines are not understood
+abbrev pub unclear_in : List (List ℕ) → ℕ
+unclear_in lines = count_by (λ line. is_unclear (line_of line)) lines
+
+-- ---- each call once
+
+-- the same number and the same arguments
+abbrev pub is_same : Call → Call → Bool
+is_same a b = a.nr == b.nr && (a.shown == b.shown && pointwise nat_eq a.args b.args)
+
+-- the calls without those that came before, in the order in which they first came
+abbrev pub each_once : List Call → List Call
+each_once [] = []
+each_once (call ∷ calls) = call ∷ filter (λ other. not (is_same call other)) (each_once calls)
+
+-- each call once, with how often it was made
+abbrev pub tallied : List Call → List (Call × ℕ)
+tallied calls = map (λ call. (call, count_by (is_same call) calls)) (each_once calls)
+
+-- how often a call was made, by such a list
+abbrev pub times_of : List (Call × ℕ) → Call → ℕ
+times_of entries call = unwrap_or (lookup (is_same call) entries) 0
+
+-- the list with a call once more: behind the others, if it is new
+abbrev pub with_call : Call → List (Call × ℕ) → List (Call × ℕ)
+with_call call entries = insert_entry is_same entries call (times_of entries call + 1)
+
+-- the list after a line
+abbrev pub with_line : Line → List (Call × ℕ) → List (Call × ℕ)
+with_line (Made call) entries = with_call call entries
+with_line Event entries = entries
+with_line Unclear entries = entries
+
+-- ---- rows
+
+-- the row of a call: how often it was made, and the value that the filters give it
+abbrev pub row_of : List (List Insn) → Call × ℕ → Row
+row_of chain entry = record { call = entry.0; times = entry.1; value = verdict_of chain (record_of entry.0) }
+
+abbrev pub rows_of : List (List Insn) → List (List ℕ) → List Row
+rows_of chain lines = map (row_of chain) (tallied (calls_of lines))
+
+-- the call is performed
+abbrev pub is_performed : Row → Bool
+is_performed row = performs (action_of row.value)
+
+-- ---- the text
+
+-- an argument as strace writes it: `0`, or `0x` and hexadecimal digits
+unfoldable pub argument_text : ℕ → List ℕ
+argument_text value = if value == 0 then codes "0" else codes "0x" ++ radix_digits 16 false value
+
+abbrev pub arguments_text : List ℕ → List ℕ
+arguments_text [] = []
+arguments_text (first ∷ others) = argument_text first ++ flat_map (λ other. codes ", " ++ argument_text other) others
+
+-- the name of a call, or the one that strace gives a number without a name
+abbrev pub name_text : Option (List ℕ) → ℕ → List ℕ
+name_text None nr = codes "syscall_0x" ++ radix_digits 16 false nr
+name_text (Some name) nr = name
+
+-- a call as strace writes it
+unfoldable pub call_text : Call → List ℕ
+call_text call =
+    name_text (name_of call.nr) call.nr ++ (codes "(" ++ (arguments_text (take call.shown call.args) ++ codes ")"))
+
+-- a row: how often, the call, the verdict
+unfoldable pub row_text : Row → List ℕ
+row_text row =
+    decimal row.times ++ (codes " " ++ (call_text row.call ++ (codes " " ++ (verdict_text row.value ++ codes "\n"))))
+
+-- the row, if it is performed, or if it is not
+unfoldable pub one_text : Bool → Row → List ℕ
+one_text performed row = if beq (is_performed row) performed then row_text row else []
+
+-- those of the rows that are performed, or that are not
+abbrev pub part_text : Bool → List Row → List ℕ
+part_text performed rows = flat_map (one_text performed) rows
+
+-- how many lines there are of a kind, where there are some
+unfoldable pub count_text : ℕ → List ℕ → List ℕ → List ℕ
+count_text count one many =
+    if count == 0 then []
+    else if count == 1 then codes "1 " ++ (one ++ codes "\n")
+    else decimal count ++ (codes " " ++ (many ++ codes "\n"))
+
+-- first the calls that are not performed, then the others, then the lines that are none
+abbrev pub tally_text : List Row → ℕ → ℕ → List ℕ
+tally_text rows events unclear =
+    part_text false rows
+    ++ (part_text true rows
+    ++ (count_text events (codes "line is no call") (codes "lines are no calls")
+    ++ count_text unclear (codes "line is not understood") (codes "lines are not understood")))
+
+-- the text of a log
+abbrev pub replay_text : List ℕ → List (List Insn) → List ℕ
+replay_text log chain = tally_text (rows_of chain (lines_of log)) (events_in (lines_of log)) (unclear_in (lines_of log))
+
+-- some call is not performed, or a line is not understood, which may be one that is not
+abbrev pub replay_denies : List ℕ → List (List Insn) → Bool
+replay_denies log chain =
+    list_any (λ row. not (is_performed row)) (rows_of chain (lines_of log)) || not (unclear_in (lines_of log) == 0)

@@ -1,0 +1,8 @@
+//! What a replay answers.
+/// What `ask replay` answers.
+#[derive(Drop)]
+pub struct Replay {
+    pub text: String,
+    /// Whether some call is not performed, or some line is not understood.
+    pub denies: bool,
+}

@@ -1,0 +1,34 @@
+//! A call of a log and its verdict.
+ghost use Rattle.std.specs.Prelude.{◌≡◌};
+ghost use Rattle.sk_replay.specs.Replaying.{row_of, is_performed};
+
+use crate::call::Call;
+use sk_chain::Chain;
+use sk_insn::Action;
+
+/// A call, how often it was made, and the value that filters give it.
+#[derive(Clone, Copy, Debug)]
+pub struct Row {
+    pub call: Call,
+    pub times: u64,
+    pub value: u32,
+}
+
+impl Row {
+    pub(crate) fn of(chain: &Chain, call: Call, times: u64) -> Row
+        ensures row { result ≡ row_of chain.now (call, times) }
+    {
+        Row {
+            call,
+            times,
+            value: chain.verdict(&call.record()),
+        }
+    }
+
+    /// Whether the call is performed.
+    pub(crate) fn is_performed(&self) -> bool
+        ensures performed { result ≡ is_performed self.now }
+    {
+        Action::of(self.value).performs()
+    }
+}

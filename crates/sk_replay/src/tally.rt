@@ -1,0 +1,83 @@
+//! How often each call of a log was made.
+ghost use Rattle.std.specs.Prelude.{◌≡◌, ◌<◌, ◌-◌, ◌^◌, if◌then◌else◌, IfOk, OnOk};
+ghost use Rattle.std.specs.Map.{lookup, count_at};
+ghost use Rattle.sk_text.specs.Lines.{lines_of};
+ghost use Rattle.sk_replay.specs.declared.call.Call.{Call as TheCall};
+ghost use Rattle.sk_replay.specs.Replaying.{calls_of, events_in, unclear_in, tallied, times_of, with_call, with_line, is_event, is_unclear};
+
+use crate::call::Call;
+use crate::line::Line;
+use indexmap::IndexMap;
+use sk_text::Lines;
+use std::alloc::{AllocError, Global};
+
+/// The calls of a log with how often each was made, in the order in which they first came; how many lines are no calls,
+/// and how many are not understood.
+#[derive(Drop)]
+pub(crate) struct Tally {
+    pub(crate) calls: IndexMap<Call, u64>,
+    pub(crate) events: u64,
+    pub(crate) unclear: u64,
+}
+
+impl Tally {
+    /// The tally of a log.
+    pub(crate) fn of(alloc: Global, log: &[u8]) -> Result<Tally, AllocError>
+        ensures calls { IfOk result (λ tally. tally.calls.entries ≡ tallied (calls_of (lines_of log.now))) }
+        ensures events { IfOk result (λ tally. tally.events ≡ events_in (lines_of log.now)) }
+        ensures unclear { IfOk result (λ tally. tally.unclear ≡ unclear_in (lines_of log.now)) }
+    {
+        let mut calls = IndexMap::new(alloc);
+        let mut events = 0;
+        let mut unclear = 0;
+        for line in Lines(log) {
+            let said = Line::of(line);
+            count(&mut calls, said)?;
+            events += event_in(said);
+            unclear += unclear_in(said);
+        }
+        Ok(Tally {
+            calls,
+            events,
+            unclear,
+        })
+    }
+}
+
+// Counts the call of a line, if it is one.
+fn count(calls: &mut IndexMap<Call, u64>, line: Line) -> Result<(), AllocError>
+    requires room { (call : TheCall) → times_of calls.old.entries call < 2 ^ 64 - 1 }
+    ensures counted { OnOk result (calls.new.entries ≡ with_line line calls.old.entries) }
+{
+    match line {
+        Line::Made(call) => add(calls, call),
+        Line::Event | Line::Unclear => Ok(()),
+    }
+}
+
+fn add(calls: &mut IndexMap<Call, u64>, call: Call) -> Result<(), AllocError>
+    requires room { times_of calls.old.entries call < 2 ^ 64 - 1 }
+    ensures counted { OnOk result (calls.new.entries ≡ with_call call calls.old.entries) }
+{
+    let times = calls.get(&call).copied().unwrap_or(0);
+    calls.insert(call, times + 1)?;
+    Ok(())
+}
+
+fn event_in(line: Line) -> u64
+    ensures event { result ≡ if is_event line then 1 else 0 }
+{
+    match line {
+        Line::Event => 1,
+        Line::Made(_) | Line::Unclear => 0,
+    }
+}
+
+fn unclear_in(line: Line) -> u64
+    ensures unclear { result ≡ if is_unclear line then 1 else 0 }
+{
+    match line {
+        Line::Unclear => 1,
+        Line::Made(_) | Line::Event => 0,
+    }
+}

@@ -1,0 +1,134 @@
+//! The text of a replay.
+ghost use Rattle.std.specs.Prelude.{◌≡◌, ◌++◌, IfOk, OnOk, codes, flat_map, string_bytes};
+ghost use Rattle.sk_call_names.specs.Names.{name_of};
+ghost use Rattle.sk_replay.specs.Replaying.{argument_text, arguments_text, name_text, call_text, row_text, one_text, part_text, count_text, tally_text};
+
+use crate::call::Call;
+use crate::row::Row;
+use sk_call_names::name;
+use sk_verdict::push_verdict;
+use std::alloc::{AllocError, Global};
+use std::fmt::Write;
+
+/// The text of these rows, and of so many lines that are no calls, or are not understood.
+pub(crate) fn replay_text(
+    alloc: Global,
+    rows: &[Row],
+    events: u64,
+    unclear: u64,
+) -> Result<String, AllocError>
+    ensures text { IfOk result (λ text. string_bytes text ≡ tally_text rows.now events unclear) }
+{
+    let mut text = String::new(alloc);
+    push_part(&mut text, rows, false)?;
+    push_part(&mut text, rows, true)?;
+    push_count(&mut text, events, "line is no call", "lines are no calls")?;
+    push_count(
+        &mut text,
+        unclear,
+        "line is not understood",
+        "lines are not understood",
+    )?;
+    Ok(text)
+}
+
+// Writes the rows that are performed, or those that are not.
+fn push_part(text: &mut String, rows: &[Row], performed: bool) -> Result<(), AllocError>
+    ensures text { OnOk result (string_bytes text.new ≡ string_bytes text.old ++ part_text performed rows.now) }
+{
+    for row in rows {
+        push_one(text, row, performed)?;
+    }
+    Ok(())
+}
+
+#[tactic(auto, unfolding(crate::specs::Replaying::one_text))]
+fn push_one(text: &mut String, row: &Row, performed: bool) -> Result<(), AllocError>
+    ensures text { OnOk result (string_bytes text.new ≡
+        string_bytes text.old ++ one_text performed row.now) }
+{
+    if row.is_performed() == performed {
+        push_row(text, row)?;
+    }
+    Ok(())
+}
+
+#[tactic(auto, unfolding(crate::specs::Replaying::row_text))]
+fn push_row(text: &mut String, row: &Row) -> Result<(), AllocError>
+    ensures text { OnOk result (string_bytes text.new ≡ string_bytes text.old ++ row_text row.now) }
+{
+    let Row { call, times, value } = *row;
+    write!(text, "{times} ")?;
+    push_call(text, call)?;
+    text.push_str(" ")?;
+    push_verdict(text, value)?;
+    text.push_str("\n")
+}
+
+#[tactic(auto, unfolding(crate::specs::Replaying::call_text))]
+fn push_call(text: &mut String, call: Call) -> Result<(), AllocError>
+    ensures text { OnOk result (string_bytes text.new ≡ string_bytes text.old ++ call_text call) }
+{
+    push_name(text, call.nr)?;
+    text.push_str("(")?;
+    push_arguments(text, call.shown_args())?;
+    text.push_str(")")
+}
+
+fn push_name(text: &mut String, nr: u32) -> Result<(), AllocError>
+    ensures text { OnOk result (string_bytes text.new ≡ string_bytes text.old ++ name_text (name_of nr) nr) }
+{
+    match name(nr) {
+        Some(name) => text.push_str(name),
+        None => write!(text, "syscall_0x{nr:x}"),
+    }
+}
+
+fn push_arguments(text: &mut String, args: &[u64]) -> Result<(), AllocError>
+    ensures text { OnOk result (string_bytes text.new ≡ string_bytes text.old ++ arguments_text args.now) }
+{
+    let Some((first, others)) = args.split_first() else {
+        return Ok(());
+    };
+    push_argument(text, *first)?;
+    push_others(text, others)
+}
+
+fn push_others(text: &mut String, args: &[u64]) -> Result<(), AllocError>
+    ensures text { OnOk result (string_bytes text.new ≡
+        string_bytes text.old ++ flat_map (λ other. codes ", " ++ argument_text other) args.now) }
+{
+    for argument in args {
+        push_other(text, *argument)?;
+    }
+    Ok(())
+}
+
+fn push_other(text: &mut String, argument: u64) -> Result<(), AllocError>
+    ensures text { OnOk result (string_bytes text.new ≡ string_bytes text.old ++ (codes ", " ++ argument_text argument)) }
+{
+    text.push_str(", ")?;
+    push_argument(text, argument)
+}
+
+#[tactic(auto, unfolding(crate::specs::Replaying::argument_text))]
+fn push_argument(text: &mut String, argument: u64) -> Result<(), AllocError>
+    ensures text { OnOk result (string_bytes text.new ≡ string_bytes text.old ++ argument_text argument) }
+{
+    if argument == 0 {
+        text.push_str("0")
+    } else {
+        write!(text, "0x{argument:x}")
+    }
+}
+
+#[tactic(auto, unfolding(crate::specs::Replaying::count_text))]
+fn push_count(text: &mut String, count: u64, one: &str, many: &str) -> Result<(), AllocError>
+    ensures text { OnOk result (string_bytes text.new ≡ string_bytes text.old ++ count_text count one.now many.now) }
+{
+    match count {
+        0 => Ok(()),
+        1 => write!(text, "1 {one}\n"),
+        _ => write!(text, "{count} {many}\n"),
+    }
+}

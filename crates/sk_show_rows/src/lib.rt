@@ -1,0 +1,5 @@
+//! Worked examples of the replay of a log: its lines and its text.
+#![tactic(auto)]
+
+#[cfg(test)]
+mod replays;

@@ -1,0 +1,73 @@
+use sk_chain::Chain;
+use sk_check::check;
+use sk_insn::Insn;
+use sk_replay::replay;
+use std::alloc::Global;
+use std::test::Fail;
+
+/// A filter that answers EPERM to read, whose number is 0, and allows every other call.
+const NO_READ: [(u16, u8, u8, u32); 4] = [
+    (0x20, 0, 0, 0),
+    (0x15, 0, 1, 0),
+    (0x06, 0, 0, 0x0005_0001),
+    (0x06, 0, 0, 0x7fff_0000),
+];
+
+/// Logs as strace(1) writes them, what the filter answers, and whether that is a no.
+const LOGS: &[(&[u8], &str, bool)] = &[
+    (b"", "", false),
+    (
+        b"14587 brk(0)                            = 0x55cdc3d9c000\n14587 +++ exited with 0 +++\n",
+        "1 brk(0) allow\n1 line is no call\n",
+        false,
+    ),
+    (
+        b"7 getpid() = 0x7\n7 read(0x3, 0x7ffd, 0x40 <unfinished ...>\n7 <... read resumed>) = 0\n7 getpid() = 0x7\n",
+        "1 read(0x3, 0x7ffd, 0x40) errno/1 EPERM\n2 getpid() allow\n1 line is no call\n",
+        true,
+    ),
+    (
+        b"[pid  3486] 03:48:45.714604 exit_group(0)     = ?\n",
+        "1 exit_group(0) allow\n",
+        false,
+    ),
+    (
+        b"9 syscall_0x7fff(0x1, 0x2) = -1 ENOSYS (Function not implemented)\n",
+        "1 syscall_0x7fff(0x1, 0x2) allow\n",
+        false,
+    ),
+    (
+        b"9 no_such_call(0x1) = 0\n9 close(3) = 0\n9 close(0x3\n",
+        "3 lines are not understood\n",
+        true,
+    ),
+    (
+        b"[ Process PID=9 runs in 32 bit mode. ]\n",
+        "1 line is not understood\n",
+        true,
+    ),
+];
+
+#[test]
+fn logs(rt: HostRuntime) -> Result<(), Fail> {
+    let chain = chain(rt.alloc())?;
+    for &(log, text, denies) in LOGS {
+        let answer = replay(rt.alloc(), log, &chain)?;
+        assert_eq!(rt; (answer.text.as_str(), answer.denies), (text, denies));
+    }
+    Ok(())
+}
+
+fn chain(alloc: Global) -> Result<Chain, Fail> {
+    let mut insns = Vec::new(alloc);
+    for (code, jt, jf, k) in NO_READ {
+        insns.push(Insn { code, jt, jf, k })?;
+    }
+    let Ok(program) = check(insns) else {
+        return Err("not valid".into());
+    };
+    match Chain::empty(alloc).attach(program) {
+        Ok(chain) => Ok(chain),
+        Err(_) => Err("not attached".into()),
+    }
+}
