@@ -15,12 +15,13 @@ def files_of(name: str) -> Iterator[str]:
             yield from (f"{folder}/{it}" for it in names)
 
 
-def lines_of(name: str) -> int:
-    """How many lines of code and proof a crate has."""
+def lines_of(name: str, ending: str = "") -> int:
+    """How many lines the files of a crate have, or those of its files whose names end so."""
     count = 0
     for path in files_of(name):
-        with open(path, "rb") as file:
-            count += file.read().count(b"\n")
+        if path.endswith(ending):
+            with open(path, "rb") as file:
+                count += file.read().count(b"\n")
     return count
 
 
@@ -28,11 +29,11 @@ def is_program(name: str) -> bool:
     return os.path.isfile(f"{TOP}/crates/{name}/src/main.rt")
 
 
-def places(bytes_each: int) -> int:
+def places(bytes_each: int, most: int = PROCESSORS) -> int:
     """How many jobs there is room for, by the processors and by what free memory holds."""
     with open("/proc/meminfo", encoding="ascii") as file:
         free = next(1024 * int(line.split()[1]) for line in file if line.startswith("MemAvailable:"))
-    return max(1, min(PROCESSORS, free // bytes_each))
+    return max(1, min(most, free // bytes_each))
 
 
 class Crates:
@@ -43,7 +44,9 @@ class Crates:
             with open(f"{TOP}/crates.txt", encoding="utf-8") as file:
                 text = file.read()
         rows = [row for row in (line.partition("#")[0].strip() for line in text.splitlines()) if row]
-        self.rows = {row.partition(":")[0].split()[0]: row.partition(":")[2].split() for row in rows}
+        # The whole row of each, which a file crates.txt of a part of the repository takes.
+        self.lines = {row.partition(":")[0].split()[0]: row for row in rows}
+        self.rows = {name: row.partition(":")[2].split() for name, row in self.lines.items()}
 
     def __iter__(self) -> Iterator[str]:
         return iter(self.rows)
@@ -71,5 +74,8 @@ class Crates:
         if not os.path.isfile(made):
             return False
         # rt writes the stamp once it has seen that no file changed meanwhile. What rt ci builds has none.
-        proved = os.path.getmtime(next(it for it in (f"{out}/rlib/stamp", made) if os.path.isfile(it)))
-        return all(os.path.getmtime(path) <= proved for it in [*self.below(name), name] for path in files_of(it))
+        return self.is_older(name, os.path.getmtime(next(it for it in (f"{out}/rlib/stamp", made) if os.path.isfile(it))))
+
+    def is_older(self, name: str, moment: float) -> bool:
+        """Whether each file of the crate and of those below was written by then."""
+        return all(os.path.getmtime(path) <= moment for it in [*self.below(name), name] for path in files_of(it))

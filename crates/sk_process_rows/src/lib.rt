@@ -19,6 +19,8 @@ mod pairs;
 #[cfg(test)]
 mod processes;
 #[cfg(test)]
+mod same;
+#[cfg(test)]
 mod scenarios;
 #[cfg(test)]
 mod sessions;

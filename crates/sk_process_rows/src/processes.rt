@@ -1,3 +1,4 @@
+use crate::same::assert_same;
 use bitflags::Flags;
 use sk_chain::Chain;
 use sk_creds::Creds;
@@ -41,9 +42,10 @@ fn parent(rt: &HostRuntime) -> Proc {
 fn a_child_has_the_rights_and_nothing_that_pends(rt: HostRuntime) -> Result<(), Fail> {
     let parent = parent(&rt);
     let child = parent.child(7)?;
-    assert_eq!(rt;
+    assert_same(
+        &rt,
         parent.body.signals.pending(),
-        SigSet::empty().with(SIGTERM)
+        SigSet::empty().with(SIGTERM),
     );
     is_the_child(&rt, &child, &parent.body);
     Ok(())
@@ -56,14 +58,16 @@ fn is_the_child(rt: &impl Abort, child: &Proc, parent: &Body) {
         session: 7,
     };
     let body = &child.body;
-    assert_eq!(rt; (child.links, body.creds), (links, parent.creds));
-    assert_eq!(rt;
+    assert_same(rt, (child.links, body.creds), (links, parent.creds));
+    assert_same(
+        rt,
         (body.life, body.waiting, body.note),
-        (Life::Running, Waiting::Nothing, Note::Nothing)
+        (Life::Running, Waiting::Nothing, Note::Nothing),
     );
-    assert_eq!(rt;
+    assert_same(
+        rt,
         (body.signals.mask(), body.signals.pending()),
-        (parent.signals.mask(), SigSet::empty())
+        (parent.signals.mask(), SigSet::empty()),
     );
     assert!(rt; body.chain.is_empty() && !body.executed && !body.subreaper);
 }
@@ -83,6 +87,6 @@ fn wait_options_are_three_bits(rt: HostRuntime) {
         (16, None),
         (2_147_483_648, None),
     ] {
-        assert_eq!(rt; WaitOptions::from_bits(bits), options);
+        assert_same(&rt, WaitOptions::from_bits(bits), options);
     }
 }
