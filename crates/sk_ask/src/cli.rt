@@ -7,6 +7,7 @@ ghost use Rattle.sk_ask.specs.Telling.{Told};
 
 use crate::calls::calls;
 use crate::complaint::of_word;
+use crate::diff::diff;
 use crate::filter::filter;
 use crate::help::{HELP, word_help};
 use crate::output::{complain, put};
@@ -99,6 +100,7 @@ fn question_answer<S: Shelf>(
     match word {
         Word::Calls => calls(alloc, asked, shelf, reads),
         Word::Filter => filter(alloc, asked, shelf, reads),
+        Word::Diff => diff(alloc, asked, shelf, reads),
     }
 }
 

@@ -6,6 +6,7 @@ mod calls;
 mod calls_text;
 mod cli;
 mod complaint;
+mod diff;
 mod filter;
 mod filters;
 mod help;

@@ -1,6 +1,6 @@
 //! The words behind `ask WORD`.
 ghost use Rattle.std.specs.Prelude.{◌≡◌, string_bytes, map};
-ghost use Rattle.sk_ask.specs.Asking.{asked_of, nothing_asked, with_word, with_option, with_call, with_name, ended, is_option, question_of, word_named, word_name, Asks};
+ghost use Rattle.sk_ask.specs.Asking.{asked_of, nothing_asked, with_word, with_option, with_call, with_name, ended, named, is_option, question_of, word_named, word_name, Asks};
 
 use crate::complaint::of_word;
 use crate::trouble::Trouble;
@@ -14,6 +14,8 @@ pub enum Word {
     Calls,
     /// The filters in another form.
     Filter,
+    /// Where two chains answer otherwise.
+    Diff,
 }
 
 impl Word {
@@ -25,6 +27,8 @@ impl Word {
             Some(Word::Calls)
         } else if is_word(name, b"filter") {
             Some(Word::Filter)
+        } else if is_word(name, b"diff") {
+            Some(Word::Diff)
         } else {
             None
         }
@@ -37,6 +41,7 @@ impl Word {
         match self {
             Word::Calls => "calls",
             Word::Filter => "filter",
+            Word::Diff => "diff",
         }
     }
 }
@@ -50,6 +55,7 @@ pub struct Asked<'a> {
     pub awaits: bool,
     pub examples: bool,
     pub raw: bool,
+    pub stricter: bool,
     pub help: bool,
     /// The names of the files.
     pub names: Vec<String>,
@@ -64,6 +70,7 @@ pub fn asked_in<'a>(alloc: Global, word: Word, words: &'a [String]) -> Result<As
         awaits: false,
         examples: false,
         raw: false,
+        stricter: false,
         help: false,
         names: Vec::new(alloc),
     };
@@ -116,6 +123,10 @@ fn with_option<'a>(
             ..asked
         }),
         Word::Filter if is_word(bytes, b"--raw") => Ok(Asked { raw: true, ..asked }),
+        Word::Diff if is_word(bytes, b"--stricter") => Ok(Asked {
+            stricter: true,
+            ..asked
+        }),
         _ => with_name(alloc, word, asked, text),
     }
 }
@@ -166,9 +177,27 @@ fn ended<'a>(alloc: Global, word: Word, asked: Asked<'a>) -> Result<Asked<'a>, T
             "--call",
         )?));
     }
-    if asked.names.is_empty() && !asked.help {
-        let what = format!(in alloc; "{}: no FILE is given", word.name())?;
-        return Err(Trouble::Refused(of_word(alloc, &what, "")?));
+    if asked.help {
+        return Ok(asked);
     }
-    Ok(asked)
+    named(alloc, word, asked)
+}
+
+// Whether there are as many files as the word wants.
+fn named<'a>(alloc: Global, word: Word, asked: Asked<'a>) -> Result<Asked<'a>, Trouble>
+    ensures exact { Asks result (named word (question_of asked.entry)) }
+{
+    match (word, asked.names.len()) {
+        (Word::Diff, 2) => Ok(asked),
+        (Word::Diff, _) => Err(Trouble::Refused(of_word(
+            alloc,
+            "diff: expected two FILEs, OLD and NEW",
+            "",
+        )?)),
+        (_, 0) => {
+            let what = format!(in alloc; "{}: no FILE is given", word.name())?;
+            Err(Trouble::Refused(of_word(alloc, &what, "")?))
+        }
+        (_, _) => Ok(asked),
+    }
 }
