@@ -19,6 +19,7 @@ use Rattle.sk_ask.specs.Filters.{ReadsFilters, IsRefusedOf}
 use Rattle.sk_ask.specs.FilterText.{filter_lines}
 use Rattle.sk_ask.specs.Helping.{help_text, word_help_text}
 use Rattle.sk_ask.specs.Troubles.{IsTrouble}
+use Rattle.sk_ask.specs.Whens.{AnswersWhen}
 
 -- ---- calls
 
@@ -58,6 +59,7 @@ AnswersFilter held asked ending =
 abbrev pub AnswersQuestion : (List ℕ → Option (List ℕ)) → Word → Question → Ending → Type 0
 AnswersQuestion held word.Calls asked ending = AnswersCalls held asked ending
 AnswersQuestion held word.Filter asked ending = AnswersFilter held asked ending
+AnswersQuestion held word.When asked ending = AnswersWhen held asked ending
 AnswersQuestion held word.Diff asked ending = AnswersDiff held asked ending
 
 -- with `--help` among them the words ask how they are used

@@ -11,3 +11,4 @@ pub mod Helping
 pub mod Shelves
 pub mod Telling
 pub mod Troubles
+pub mod Whens

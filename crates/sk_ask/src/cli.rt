@@ -13,6 +13,7 @@ use crate::help::{HELP, word_help};
 use crate::output::{complain, put};
 use crate::shelf::Shelf;
 use crate::trouble::{Answer, Trouble};
+use crate::when::when;
 use crate::words::{Asked, Word, asked_in};
 use sk_ends::Sink;
 use sk_text::is_word;
@@ -100,6 +101,7 @@ fn question_answer<S: Shelf>(
     match word {
         Word::Calls => calls(alloc, asked, shelf, reads),
         Word::Filter => filter(alloc, asked, shelf, reads),
+        Word::When => when(alloc, asked, shelf, reads),
         Word::Diff => diff(alloc, asked, shelf, reads),
     }
 }

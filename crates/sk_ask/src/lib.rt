@@ -13,6 +13,7 @@ mod help;
 mod output;
 mod shelf;
 mod trouble;
+mod when;
 mod words;
 
 pub use cli::{command, misused};

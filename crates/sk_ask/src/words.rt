@@ -14,6 +14,8 @@ pub enum Word {
     Calls,
     /// The filters in another form.
     Filter,
+    /// Under which conditions each verdict comes.
+    When,
     /// Where two chains answer otherwise.
     Diff,
 }
@@ -27,6 +29,8 @@ impl Word {
             Some(Word::Calls)
         } else if is_word(name, b"filter") {
             Some(Word::Filter)
+        } else if is_word(name, b"when") {
+            Some(Word::When)
         } else if is_word(name, b"diff") {
             Some(Word::Diff)
         } else {
@@ -41,6 +45,7 @@ impl Word {
         match self {
             Word::Calls => "calls",
             Word::Filter => "filter",
+            Word::When => "when",
             Word::Diff => "diff",
         }
     }
@@ -117,7 +122,7 @@ fn with_option<'a>(
 {
     let bytes = text.as_bytes();
     match word {
-        Word::Calls if is_word(bytes, b"--call") => with_call(alloc, asked),
+        Word::Calls | Word::When if is_word(bytes, b"--call") => with_call(alloc, word, asked),
         Word::Calls if is_word(bytes, b"--examples") => Ok(Asked {
             examples: true,
             ..asked
@@ -131,11 +136,12 @@ fn with_option<'a>(
     }
 }
 
-fn with_call<'a>(alloc: Global, asked: Asked<'a>) -> Result<Asked<'a>, Trouble>
-    ensures exact { Asks result (with_call (question_of asked.entry)) }
+fn with_call<'a>(alloc: Global, word: Word, asked: Asked<'a>) -> Result<Asked<'a>, Trouble>
+    ensures exact { Asks result (with_call word (question_of asked.entry)) }
 {
     if asked.call.is_some() {
-        return Err(Trouble::Refused(of_word(alloc, "calls: given twice: ", "--call")?));
+        let what = format!(in alloc; "{}: given twice: ", word.name())?;
+        return Err(Trouble::Refused(of_word(alloc, &what, "--call")?));
     }
     Ok(Asked {
         awaits: true,
@@ -171,11 +177,8 @@ fn ended<'a>(alloc: Global, word: Word, asked: Asked<'a>) -> Result<Asked<'a>, T
     ensures exact { Asks result (ended word (question_of asked.entry)) }
 {
     if asked.awaits {
-        return Err(Trouble::Refused(of_word(
-            alloc,
-            "calls: expected a name or a number behind ",
-            "--call",
-        )?));
+        let what = format!(in alloc; "{}: expected a name or a number behind ", word.name())?;
+        return Err(Trouble::Refused(of_word(alloc, &what, "--call")?));
     }
     if asked.help {
         return Ok(asked);
