@@ -6,7 +6,7 @@ use Rattle.sk_ask.specs.declared.trouble.Answer.{Answer}
 use Rattle.sk_ask.specs.declared.trouble.Trouble.{Trouble}
 use Rattle.sk_ask.specs.declared.trouble.Trouble.TheVariants.{Refused, Reading, Memory}
 use Rattle.sk_ask.specs.declared.words.Word.{Word}
-use Rattle.sk_ask.specs.declared.words.Word.TheVariants.{Calls, Filter}
+use Rattle.sk_ask.specs.declared.words.Word.TheVariants.{Calls, Filter, When, Diff}
 use Rattle.sk_ask.specs.Asking.{Question, Asks}
 use Rattle.sk_ask.specs.Answering.{AnswersAsked, AnswersQuestion}
 use Rattle.sk_ask.specs.Endings.{ending_of, refused, no_memory}
@@ -18,6 +18,8 @@ either false P Q p q = q
 no_answer : (held : List ℕ → Option (List ℕ)) (word : Word) (asked : Question) → AnswersQuestion held word asked no_memory
 no_answer held Calls asked = inr (inl (Memory, tt, refl))
 no_answer held Filter asked = inr (Memory, inr (inr refl), refl)
+no_answer held When asked = inr (inl (Memory, tt, refl))
+no_answer held Diff asked = inr (inl (Memory, inr (inr refl), refl))
 
 asked_wrong : (held : List ℕ → Option (List ℕ)) (word : Word) (said : Result Question (List ℕ)) (why : Trouble) → Asks (Err why) said → AnswersAsked held word said (ending_of (Err why))
 asked_wrong held word said (Refused line) h = subst (λ s. AnswersAsked held word s (refused line.items)) (sym h) refl

@@ -1,5 +1,5 @@
 -- What the program answers to its words.
-use Rattle.std.specs.Prelude.{ℕ, ◌≡◌, ◌⊎◌, Bool, true, false, List, [], ◌∷◌, codes, Option, Some, None, Result, Ok, Err, ⊤}
+use Rattle.std.specs.Prelude.{ℕ, ◌≡◌, ◌⊎◌, Bool, true, false, List, [], ◌∷◌, codes, Option, Some, None, Result, Ok, Err}
 use Rattle.std.specs.Bool.{MatchBool}
 use Rattle.std.specs.Str.{bytes_eq}
 use Rattle.sk_insn.specs.declared.insn.Insn.{Insn}
@@ -7,21 +7,19 @@ use Rattle.sk_ask_files.specs.Filters.{Filters}
 use Rattle.sk_survey_engine.specs.declared.line.Line.{Line}
 use Rattle.sk_survey_engine.specs.declared.options.Options.{Options}
 use Rattle.sk_survey_engine.specs.Lines.{AreLinesOf}
-use Rattle.sk_ask.specs.declared.trouble.Trouble.{Trouble}
 use Rattle.sk_ask.specs.declared.words.Word.{Word}
 use Rattle.sk_ask.specs.declared.words.Word.TheVariants as word
 use Rattle.sk_ask.specs.Asking.{Question, asked_of, nothing_asked, word_named}
 use Rattle.sk_ask.specs.Calls.{IsAskedCall, IsNoCall}
 use Rattle.sk_ask.specs.CallsText.{calls_text}
 use Rattle.sk_ask.specs.Complaints.{of_word}
-use Rattle.sk_ask.specs.Endings.{Ending, answered, refused, no_memory, unread, ComesTo, ending_of}
+use Rattle.sk_ask.specs.Endings.{Ending, answered, refused, ComesTo}
+use Rattle.sk_ask.specs.Diffs.{AnswersDiff}
 use Rattle.sk_ask.specs.Filters.{ReadsFilters, IsRefusedOf}
 use Rattle.sk_ask.specs.FilterText.{filter_lines}
 use Rattle.sk_ask.specs.Helping.{help_text, word_help_text}
-
--- no answer came of it, for this reason
-abbrev pub IsTrouble : Ending → (Trouble → Type 0) → Type 0
-IsTrouble ending P = (why : Trouble) × P why × (ending ≡ ending_of (Err why))
+use Rattle.sk_ask.specs.Troubles.{IsTrouble}
+use Rattle.sk_ask.specs.Whens.{AnswersWhen}
 
 -- ---- calls
 
@@ -61,6 +59,8 @@ AnswersFilter held asked ending =
 abbrev pub AnswersQuestion : (List ℕ → Option (List ℕ)) → Word → Question → Ending → Type 0
 AnswersQuestion held word.Calls asked ending = AnswersCalls held asked ending
 AnswersQuestion held word.Filter asked ending = AnswersFilter held asked ending
+AnswersQuestion held word.When asked ending = AnswersWhen held asked ending
+AnswersQuestion held word.Diff asked ending = AnswersDiff held asked ending
 
 -- with `--help` among them the words ask how they are used
 abbrev pub AnswersAsked : (List ℕ → Option (List ℕ)) → Word → Result Question (List ℕ) → Ending → Type 0

@@ -6,30 +6,35 @@ use Rattle.sk_ask.specs.declared.trouble.Trouble.{Trouble}
 use Rattle.sk_ask.specs.declared.trouble.Trouble.TheVariants.{Refused, Reading, Memory}
 use Rattle.sk_ask.specs.declared.words.Asked.{Asked}
 use Rattle.sk_ask.specs.declared.words.Word.{Word}
-use Rattle.sk_ask.specs.declared.words.Word.TheVariants.{Calls, Filter}
+use Rattle.sk_ask.specs.declared.words.Word.TheVariants.{Calls, Filter, When, Diff}
 use Rattle.sk_ask.specs.Complaints.{of_word}
 
--- the word behind `--call`, and whether it is awaited; whether there was `--examples`, `--raw` or `--help`; and the names of
--- the files
+-- the word behind `--call`, and whether it is awaited; whether there was `--examples`, `--raw`, `--stricter` or `--help`; and the
+-- names of the files
 pub record Question : Type 0 where
   pub call : Option (List ℕ)
   pub awaits : Bool
   pub examples : Bool
   pub raw : Bool
+  pub stricter : Bool
   pub help : Bool
   pub names : List (List ℕ)
 
 abbrev pub nothing_asked : Question
-nothing_asked = record { call = None; awaits = false; examples = false; raw = false; help = false; names = [] }
+nothing_asked = record { call = None; awaits = false; examples = false; raw = false; stricter = false; help = false; names = [] }
 
 abbrev pub word_name : Word → List ℕ
 word_name Calls = codes "calls"
 word_name Filter = codes "filter"
+word_name When = codes "when"
+word_name Diff = codes "diff"
 
 abbrev pub word_named : List ℕ → Option Word
 word_named name =
     if bytes_eq name (codes "calls") then Some Calls
     else if bytes_eq name (codes "filter") then Some Filter
+    else if bytes_eq name (codes "when") then Some When
+    else if bytes_eq name (codes "diff") then Some Diff
     else None
 
 -- ---- one word more
@@ -45,19 +50,23 @@ with_name word asked text =
     else Ok (record asked { names = asked.names ++ text ∷ [] })
 
 -- `--call` is there once, with a word behind it
-abbrev pub with_call : Question → Result Question (List ℕ)
-with_call asked =
-    if is_some asked.call then Err (of_word (codes "calls: given twice: ") (codes "--call"))
+abbrev pub with_call : Word → Question → Result Question (List ℕ)
+with_call word asked =
+    if is_some asked.call then Err (of_word (word_name word ++ codes ": given twice: ") (codes "--call"))
     else Ok (record asked { awaits = true })
 
 -- an option of this word
 abbrev pub with_option : Word → Question → List ℕ → Result Question (List ℕ)
 with_option Calls asked text =
-    if bytes_eq text (codes "--call") then with_call asked
+    if bytes_eq text (codes "--call") then with_call Calls asked
     else if bytes_eq text (codes "--examples") then Ok (record asked { examples = true })
     else with_name Calls asked text
 with_option Filter asked text =
     if bytes_eq text (codes "--raw") then Ok (record asked { raw = true }) else with_name Filter asked text
+with_option When asked text =
+    if bytes_eq text (codes "--call") then with_call When asked else with_name When asked text
+with_option Diff asked text =
+    if bytes_eq text (codes "--stricter") then Ok (record asked { stricter = true }) else with_name Diff asked text
 
 abbrev pub with_word : Word → Question → List ℕ → Result Question (List ℕ)
 with_word word asked text =
@@ -67,16 +76,28 @@ with_word word asked text =
 
 -- ---- all of them
 
--- without `--help` there is a file
-abbrev pub with_files : Word → Question → List (List ℕ) → Result Question (List ℕ)
-with_files word asked [] =
-    if asked.help then Ok asked else Err (of_word (word_name word ++ codes ": no FILE is given") [])
-with_files word asked (name ∷ names) = Ok asked
+-- there is a file
+abbrev pub some_named : Word → Question → List (List ℕ) → Result Question (List ℕ)
+some_named word asked [] = Err (of_word (word_name word ++ codes ": no FILE is given") [])
+some_named word asked (name ∷ names) = Ok asked
+
+-- two chains are compared, an old one and a new one, each of a file
+abbrev pub two_named : Question → List (List ℕ) → Result Question (List ℕ)
+two_named asked (old ∷ (new ∷ [])) = Ok asked
+two_named asked names = Err (of_word (codes "diff: expected two FILEs, OLD and NEW") [])
+
+-- as many files as the word wants
+abbrev pub named : Word → Question → Result Question (List ℕ)
+named Calls asked = some_named Calls asked asked.names
+named Filter asked = some_named Filter asked asked.names
+named When asked = some_named When asked asked.names
+named Diff asked = two_named asked asked.names
 
 abbrev pub ended : Word → Question → Result Question (List ℕ)
 ended word asked =
-    if asked.awaits then Err (of_word (codes "calls: expected a name or a number behind ") (codes "--call"))
-    else with_files word asked asked.names
+    if asked.awaits then Err (of_word (word_name word ++ codes ": expected a name or a number behind ") (codes "--call"))
+    else if asked.help then Ok asked
+    else named word asked
 
 -- what is asked with the words that are left
 abbrev pub asked_of : Word → Question → List (List ℕ) → Result Question (List ℕ)
@@ -94,6 +115,7 @@ question_of asked = record {
   awaits = asked.awaits;
   examples = asked.examples;
   raw = asked.raw;
+  stricter = asked.stricter;
   help = asked.help;
   names = map string_bytes asked.names.items;
 }

@@ -1,5 +1,5 @@
 -- The call that a word is.
-use Rattle.std.specs.Prelude.{ℕ, ◌≡◌, ◌⊎◌, ◌≢◌, ◌==◌, ◌&&◌, not, Bool, false, if◌then◌else◌, List, [], ◌∷◌, codes, Option, Some, None, ⊤}
+use Rattle.std.specs.Prelude.{ℕ, ◌≡◌, ◌⊎◌, ◌≢◌, ◌==◌, ◌&&◌, not, Bool, false, if◌then◌else◌, List, ◌∷◌, codes, Option, Some, None, ⊤}
 use Rattle.sk_text.specs.Numbers.{number_of, up_to}
 use Rattle.sk_call_names.specs.Names.{name_of}
 use Rattle.sk_ask.specs.declared.trouble.Trouble.{Trouble}

@@ -1,8 +1,8 @@
 -- What `ask --help` and `ask WORD --help` say.
-use Rattle.std.specs.Prelude.{ℕ, List, codes}
+use Rattle.std.specs.Prelude.{ℕ, List}
 use Rattle.sk_ask.specs.declared.words.Word.{Word}
-use Rattle.sk_ask.specs.declared.words.Word.TheVariants.{Calls, Filter}
-use Rattle.sk_ask.specs.declared.help.TheConstants.{HELP, CALLS_HELP, FILTER_HELP}
+use Rattle.sk_ask.specs.declared.words.Word.TheVariants.{Calls, Filter, When, Diff}
+use Rattle.sk_ask.specs.declared.help.TheConstants.{HELP, CALLS_HELP, FILTER_HELP, WHEN_HELP, DIFF_HELP}
 
 abbrev pub help_text : List ℕ
 help_text = HELP.now
@@ -10,3 +10,5 @@ help_text = HELP.now
 abbrev pub word_help_text : Word → List ℕ
 word_help_text Calls = CALLS_HELP.now
 word_help_text Filter = FILTER_HELP.now
+word_help_text When = WHEN_HELP.now
+word_help_text Diff = DIFF_HELP.now

@@ -3,9 +3,12 @@ pub mod Asking
 pub mod Calls
 pub mod CallsText
 pub mod Complaints
+pub mod Diffs
 pub mod Endings
 pub mod Filters
 pub mod FilterText
 pub mod Helping
 pub mod Shelves
 pub mod Telling
+pub mod Troubles
+pub mod Whens

@@ -55,7 +55,8 @@ fn text_of(alloc: Global, lines: &[Line]) -> Result<Vec<u8>, AllocError>
     Ok(calls_text(alloc, lines)?.into_bytes())
 }
 
-fn asked_call(alloc: Global, asked: Option<&str>) -> Result<Option<u32>, Trouble>
+/// The number of the call that is asked for, if one is.
+pub fn asked_call(alloc: Global, asked: Option<&str>) -> Result<Option<u32>, Trouble>
     ensures call { IfOk result (IsAskedCall (option_map (λ word. word.now) asked.entry)) }
     ensures no_call { IfErr result (λ why. IsNoCall why (option_map (λ word. word.now) asked.entry)) }
 {

@@ -7,11 +7,13 @@ ghost use Rattle.sk_ask.specs.Telling.{Told};
 
 use crate::calls::calls;
 use crate::complaint::of_word;
+use crate::diff::diff;
 use crate::filter::filter;
 use crate::help::{HELP, word_help};
 use crate::output::{complain, put};
 use crate::shelf::Shelf;
 use crate::trouble::{Answer, Trouble};
+use crate::when::when;
 use crate::words::{Asked, Word, asked_in};
 use sk_ends::Sink;
 use sk_text::is_word;
@@ -99,6 +101,8 @@ fn question_answer<S: Shelf>(
     match word {
         Word::Calls => calls(alloc, asked, shelf, reads),
         Word::Filter => filter(alloc, asked, shelf, reads),
+        Word::When => when(alloc, asked, shelf, reads),
+        Word::Diff => diff(alloc, asked, shelf, reads),
     }
 }
 

@@ -34,7 +34,8 @@ pub fn asked_filters<S: Shelf>(
     filters_in(alloc, shelf, reads, &asked.names)
 }
 
-fn filters_in<S: Shelf>(
+/// The filters in the files with these names, the oldest first.
+pub fn filters_in<S: Shelf>(
     alloc: Global,
     shelf: &S,
     reads: &mut u64,

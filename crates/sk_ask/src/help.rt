@@ -8,6 +8,8 @@ use crate::words::Word;
 pub const HELP: &str = "usage: ask WORD ..
   ask calls [--call CALL] [--examples] FILE..   what seccomp filters can answer to each call
   ask filter [--raw] FILE..                     the filters in another form
+  ask when [--call CALL] FILE..                 under which arguments each verdict comes
+  ask diff [--stricter] OLD NEW                 the calls that two chains of filters answer otherwise
   ask WORD --help                               more on a word
 FILE holds raw struct sock_filter, hexadecimal digits, or lines filter HEX; - is standard input.
 Several FILEs are one chain, the oldest filter first.
@@ -27,6 +29,20 @@ The filters in the FILEs as lines filter HEX, the oldest first.
   --raw         one filter as the bytes of struct sock_filter
 ";
 
+/// What `ask when --help` says.
+pub const WHEN_HELP: &str = "usage: ask when [--call CALL] FILE..
+For each call of x86-64, by its number and its name, the verdicts of the filters in the FILEs, and where arguments decide the
+condition on each as an expression of C over args[0] to args[5], ip, and nr where a line has several numbers.
+  --call CALL   only this call: a name or a number, decimal or 0x and hexadecimal
+";
+
+/// What `ask diff --help` says.
+pub const DIFF_HELP: &str = "usage: ask diff [--stricter] OLD NEW
+Whether the filters of two FILEs answer the same to every call of x86-64, whatever its arguments are; and where not, the numbers
+with the old and the new verdict, and below them a call that shows it, those first where NEW is looser.
+  --stricter    whether NEW is at least as strict: no action of OLD takes precedence over that of NEW
+";
+
 /// What `ask WORD --help` says.
 pub fn word_help(word: Word) -> &'static str
     ensures text { result.now ≡ word_help_text word }
@@ -34,5 +50,7 @@ pub fn word_help(word: Word) -> &'static str
     match word {
         Word::Calls => CALLS_HELP,
         Word::Filter => FILTER_HELP,
+        Word::When => WHEN_HELP,
+        Word::Diff => DIFF_HELP,
     }
 }

@@ -6,12 +6,14 @@ mod calls;
 mod calls_text;
 mod cli;
 mod complaint;
+mod diff;
 mod filter;
 mod filters;
 mod help;
 mod output;
 mod shelf;
 mod trouble;
+mod when;
 mod words;
 
 pub use cli::{command, misused};

@@ -1,6 +1,6 @@
 //! The words behind `ask WORD`.
 ghost use Rattle.std.specs.Prelude.{◌≡◌, string_bytes, map};
-ghost use Rattle.sk_ask.specs.Asking.{asked_of, nothing_asked, with_word, with_option, with_call, with_name, ended, is_option, question_of, word_named, word_name, Asks};
+ghost use Rattle.sk_ask.specs.Asking.{asked_of, nothing_asked, with_word, with_option, with_call, with_name, ended, named, is_option, question_of, word_named, word_name, Asks};
 
 use crate::complaint::of_word;
 use crate::trouble::Trouble;
@@ -14,6 +14,10 @@ pub enum Word {
     Calls,
     /// The filters in another form.
     Filter,
+    /// Under which conditions each verdict comes.
+    When,
+    /// Where two chains answer otherwise.
+    Diff,
 }
 
 impl Word {
@@ -25,6 +29,10 @@ impl Word {
             Some(Word::Calls)
         } else if is_word(name, b"filter") {
             Some(Word::Filter)
+        } else if is_word(name, b"when") {
+            Some(Word::When)
+        } else if is_word(name, b"diff") {
+            Some(Word::Diff)
         } else {
             None
         }
@@ -37,6 +45,8 @@ impl Word {
         match self {
             Word::Calls => "calls",
             Word::Filter => "filter",
+            Word::When => "when",
+            Word::Diff => "diff",
         }
     }
 }
@@ -50,6 +60,7 @@ pub struct Asked<'a> {
     pub awaits: bool,
     pub examples: bool,
     pub raw: bool,
+    pub stricter: bool,
     pub help: bool,
     /// The names of the files.
     pub names: Vec<String>,
@@ -64,6 +75,7 @@ pub fn asked_in<'a>(alloc: Global, word: Word, words: &'a [String]) -> Result<As
         awaits: false,
         examples: false,
         raw: false,
+        stricter: false,
         help: false,
         names: Vec::new(alloc),
     };
@@ -110,21 +122,26 @@ fn with_option<'a>(
 {
     let bytes = text.as_bytes();
     match word {
-        Word::Calls if is_word(bytes, b"--call") => with_call(alloc, asked),
+        Word::Calls | Word::When if is_word(bytes, b"--call") => with_call(alloc, word, asked),
         Word::Calls if is_word(bytes, b"--examples") => Ok(Asked {
             examples: true,
             ..asked
         }),
         Word::Filter if is_word(bytes, b"--raw") => Ok(Asked { raw: true, ..asked }),
+        Word::Diff if is_word(bytes, b"--stricter") => Ok(Asked {
+            stricter: true,
+            ..asked
+        }),
         _ => with_name(alloc, word, asked, text),
     }
 }
 
-fn with_call<'a>(alloc: Global, asked: Asked<'a>) -> Result<Asked<'a>, Trouble>
-    ensures exact { Asks result (with_call (question_of asked.entry)) }
+fn with_call<'a>(alloc: Global, word: Word, asked: Asked<'a>) -> Result<Asked<'a>, Trouble>
+    ensures exact { Asks result (with_call word (question_of asked.entry)) }
 {
     if asked.call.is_some() {
-        return Err(Trouble::Refused(of_word(alloc, "calls: given twice: ", "--call")?));
+        let what = format!(in alloc; "{}: given twice: ", word.name())?;
+        return Err(Trouble::Refused(of_word(alloc, &what, "--call")?));
     }
     Ok(Asked {
         awaits: true,
@@ -160,15 +177,30 @@ fn ended<'a>(alloc: Global, word: Word, asked: Asked<'a>) -> Result<Asked<'a>, T
     ensures exact { Asks result (ended word (question_of asked.entry)) }
 {
     if asked.awaits {
-        return Err(Trouble::Refused(of_word(
+        let what = format!(in alloc; "{}: expected a name or a number behind ", word.name())?;
+        return Err(Trouble::Refused(of_word(alloc, &what, "--call")?));
+    }
+    if asked.help {
+        return Ok(asked);
+    }
+    named(alloc, word, asked)
+}
+
+// Whether there are as many files as the word wants.
+fn named<'a>(alloc: Global, word: Word, asked: Asked<'a>) -> Result<Asked<'a>, Trouble>
+    ensures exact { Asks result (named word (question_of asked.entry)) }
+{
+    match (word, asked.names.len()) {
+        (Word::Diff, 2) => Ok(asked),
+        (Word::Diff, _) => Err(Trouble::Refused(of_word(
             alloc,
-            "calls: expected a name or a number behind ",
-            "--call",
-        )?));
+            "diff: expected two FILEs, OLD and NEW",
+            "",
+        )?)),
+        (_, 0) => {
+            let what = format!(in alloc; "{}: no FILE is given", word.name())?;
+            Err(Trouble::Refused(of_word(alloc, &what, "")?))
+        }
+        (_, _) => Ok(asked),
     }
-    if asked.names.is_empty() && !asked.help {
-        let what = format!(in alloc; "{}: no FILE is given", word.name())?;
-        return Err(Trouble::Refused(of_word(alloc, &what, "")?));
-    }
-    Ok(asked)
 }

@@ -1,4 +1,4 @@
-use Rattle.std.proofs.Common.{◌≡◌, Bool, true, false, refl, inl, inr, rules}
+use Rattle.std.proofs.Common.{refl, inl, inr, rules}
 use Rattle.sk_ask.proofs.output.put_answer.Goals as goal
 
 pub returns-in-Ok-clause-left : goal.returns-in-Ok-clause-left

@@ -1,0 +1,21 @@
+-- Each worked example is what the definitions compute.
+use Rattle.std.proofs.Common.{refl}
+use Rattle.std.specs.Fmt.{digits}
+use Rattle.sk_insn.specs.Actions.{action_of}
+use Rattle.sk_insn.specs.Operations.{operation_of}
+use Rattle.sk_call_names.specs.Names.{name_of}
+use Rattle.sk_verdict.specs.Verdicts.{verdict_text}
+use Rattle.sk_verdict.specs.Errors.{error_named}
+use Rattle.sk_diff.specs.DiffText.{call_text, verdicts_text, head_text, argument_text}
+use Rattle.sk_diff.specs.WorkedDiffs.{CallsWork, DifferencesWork, StandingsWork}
+
+pub calls_work : CallsWork
+unfolding digits call_text argument_text name_of
+calls_work = record { named = refl; numbered = refl }
+
+pub differences_work : DifferencesWork
+unfolding digits action_of operation_of verdict_text error_named verdicts_text head_text name_of
+differences_work = record { verdicts = refl; stricter = refl; looser = refl; neither = refl; single = refl; several = refl }
+
+pub standings_work : StandingsWork
+standings_work = record { apart = refl; undecided = refl; everywhere = refl }

@@ -1,0 +1,36 @@
+-- What a comparison of two chains is, and what it says of every call.
+use Rattle.std.specs.Prelude.{ℕ, ◌≡◌, ◌^◌, ◌<◌, true, false, List}
+use Rattle.sk_insn.specs.declared.insn.Insn.{Insn}
+use Rattle.sk_insn.specs.declared.record.Record.{Record}
+use Rattle.sk_conditions.specs.declared.standing.Relation.{Relation}
+use Rattle.sk_diff.specs.declared.comparison.Standing.{Standing}
+use Rattle.sk_diff.specs.declared.comparison.Standing.TheVariants.{Everywhere, Apart, Undecided}
+use Rattle.sk_diff.specs.declared.piece.Piece.{Piece}
+use Rattle.sk_diff.specs.DiffText.{differences_text, everywhere_text}
+use Rattle.sk_diff.specs.Pieces.{AreCompared, stands_on, standing_of}
+
+abbrev pub text_of : Relation → Standing → List (List Insn) → List (List Insn) → List Piece → List ℕ
+text_of relation Everywhere old new pieces = everywhere_text relation
+text_of relation Apart old new pieces = differences_text old new pieces
+text_of relation Undecided old new pieces = differences_text old new pieces
+
+-- pieces of all numbers were compared, and this is what is said of them
+pub record IsComparison (relation : Relation) (old new : List (List Insn)) (standing : Standing) (text : List ℕ) : Type 0 where
+  pub pieces : List Piece
+  pub compared : AreCompared relation old new 0 4294967296 pieces
+  pub stands : standing ≡ standing_of pieces
+  pub says : text ≡ text_of relation standing old new pieces
+
+-- what is said to hold on every call does
+abbrev pub EverywhereIsEveryCall : Type 0
+EverywhereIsEveryCall =
+    (relation : Relation) (old new : List (List Insn)) (text : List ℕ)
+    → IsComparison relation old new Everywhere text
+    → (call : Record) → call.nr < 2 ^ 32 → stands_on relation old new call ≡ true
+
+-- what is said not to does not on some call
+abbrev pub ApartIsACall : Type 0
+ApartIsACall =
+    (relation : Relation) (old new : List (List Insn)) (text : List ℕ)
+    → IsComparison relation old new Apart text
+    → (call : Record) × (call.nr < 2 ^ 32) × (stands_on relation old new call ≡ false)

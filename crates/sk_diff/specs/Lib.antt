@@ -1,0 +1,4 @@
+pub mod Diffs
+pub mod DiffText
+pub mod Pieces
+pub mod WorkedDiffs

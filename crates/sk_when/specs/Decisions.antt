@@ -1,0 +1,18 @@
+-- Trees of terms, and what they tell of a call.
+use Rattle.std.specs.Prelude.{ℕ, ◌≡◌, if◌then◌else◌, Option, Some, None}
+use Rattle.sk_insn.specs.declared.record.Record.{Record}
+use Rattle.sk_conditions.specs.declared.tree.Tree.{Tree}
+use Rattle.sk_conditions.specs.Conditions.{Agrees, told}
+use Rattle.sk_when.specs.declared.decision.Decision.{Decision}
+use Rattle.sk_when.specs.declared.decision.Decision.TheVariants.{Is, Untold, Ask'}
+use Rattle.sk_when.specs.Terms.{holds_term}
+
+-- the value that a tree of terms tells of a call, if it tells one
+abbrev pub decided : Decision → Record → Option ℕ
+decided (Is value) call = Some value
+decided Untold call = None
+decided (Ask' term p held q failed) call = if holds_term term call then decided held call else decided failed call
+
+-- what a tree of tests tells rightly, this one does not tell otherwise
+abbrev pub DecidesAs : Decision → Tree → Type 0
+DecidesAs decision tree = (call : Record) (value : ℕ) → Agrees (told tree call) value → Agrees (decided decision call) value

@@ -1,0 +1,28 @@
+-- What the text of `ask when` says of a chain.
+use Rattle.std.specs.Prelude.{ℕ, ◌≡◌, ◌≤◌, List, map, Option}
+use Rattle.std.specs.List.{All}
+use Rattle.sk_insn.specs.declared.insn.Insn.{Insn}
+use Rattle.sk_survey.specs.declared.rows.Row.{Row}
+use Rattle.sk_survey.specs.Answers.{ChainAnswersAmong, answers_of}
+use Rattle.sk_survey.specs.Surveys.{Tell}
+use Rattle.sk_survey_engine.specs.Lines.{first_told, end_told, TellsNamedAlone}
+use Rattle.sk_when.specs.declared.row.Told.{Told}
+use Rattle.sk_when.specs.Lines.{IsTold}
+use Rattle.sk_when.specs.Text.{when_text}
+
+abbrev pub row_told : Told → Row
+row_told told = told.row
+
+-- the rows tell all numbers, or the one that is asked for, those with a name each alone; the lines of each are exact
+pub record AreTold (call : Option ℕ) (programs : List (List Insn)) (all : List Told) : Type 0 where
+  pub rows : Tell programs (first_told call) (end_told call) (map row_told all)
+  pub alone : All TellsNamedAlone (map row_told all)
+  pub told : All (IsTold programs) all
+
+-- a text is that of such rows
+abbrev pub TellsWhen : Option ℕ → List (List Insn) → List ℕ → Type 0
+TellsWhen call programs text = (rows : List Told) × AreTold call programs rows × (text ≡ when_text rows)
+
+-- a row of a survey has a number, and its verdicts are among those that it tells
+abbrev pub IsToldAmong : List (List Insn) → Row → Type 0
+IsToldAmong programs row = (row.first ≤ row.last) × ChainAnswersAmong programs row.first row.last (answers_of row.answers)

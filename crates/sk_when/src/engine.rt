@@ -1,0 +1,46 @@
+//! The engine of `ask when`.
+ghost use Rattle.std.specs.Prelude.{◌≡◌, IfOk, map, string_bytes};
+ghost use Rattle.std.specs.List.{All};
+ghost use Rattle.sk_survey_engine.specs.Lines.{row_of};
+ghost use Rattle.sk_when.specs.Telling.{TellsWhen, AreTold, IsToldAmong, row_told};
+ghost use Rattle.sk_when.specs.Lines.{IsTold};
+
+use crate::row::{Told, tell};
+use crate::text::when_text;
+use sk_chain::Chain;
+use sk_survey_engine::{Line, Options, lines_of};
+use std::alloc::{AllocError, Global};
+
+/// Tells under which conditions on a call each verdict of the chain comes, for every call or for the one with a number.
+pub fn when(alloc: Global, chain: &Chain, call: Option<u32>) -> Result<String, AllocError>
+    ensures text { IfOk result (λ text. TellsWhen call chain.now (string_bytes text)) }
+{
+    let rows = told_rows(alloc, chain, call)?;
+    when_text(alloc, &rows)
+}
+
+/// The rows of the chain's survey with their lines.
+fn told_rows(alloc: Global, chain: &Chain, call: Option<u32>) -> Result<Vec<Told>, AllocError>
+    ensures told { IfOk result (λ rows. AreTold call chain.now rows.items) }
+{
+    let options = Options {
+        call,
+        examples: false,
+        diff: false,
+    };
+    let lines = lines_of(alloc, options, chain)?;
+    tell_all(alloc, chain, lines)
+}
+
+fn tell_all(alloc: Global, chain: &Chain, lines: Vec<Line>) -> Result<Vec<Told>, AllocError>
+    requires holds { All (λ line. IsToldAmong chain.now line.row) lines.items }
+    ensures rows { IfOk result (λ rows. map row_told rows.items ≡ map row_of lines.items) }
+    ensures told { IfOk result (λ rows. All (IsTold chain.now) rows.items) }
+{
+    let mut rows = Vec::with_capacity(alloc, lines.len())?;
+    for line in lines {
+        let told = tell(alloc, chain, line.row)?;
+        rows.push(told)?;
+    }
+    Ok(rows)
+}

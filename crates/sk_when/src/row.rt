@@ -1,0 +1,81 @@
+//! A row: neighbouring numbers, and under which terms each verdict of their calls comes.
+ghost use Rattle.std.specs.Prelude.{◌≡◌, ◌≤◌, [], ◌∷◌, IfOk, IfSome, Some};
+ghost use Rattle.sk_insn.specs.declared.record.Record.{Record};
+ghost use Rattle.sk_survey.specs.Answers.{ChainAnswersAmong, answers_of};
+ghost use Rattle.sk_when.specs.Decisions.{decided};
+ghost use Rattle.sk_when.specs.Lines.{IsTold, told_by, shown};
+
+use crate::choice::heaviest;
+use crate::clause::Clause;
+use crate::decision::{Decision, decide};
+use crate::lines::{LeftOut, Line, add_lines};
+use sk_chain::Chain;
+use sk_conditions::{Numbers, chain_tree};
+use sk_survey::{Answers, Row};
+use std::alloc::{AllocError, Global};
+
+/// A row of a survey with its lines, and what the line `else` tells; none stands for what the survey's row answers.
+#[derive(Drop)]
+pub struct Told {
+    pub row: Row,
+    pub lines: Vec<Line>,
+    pub otherwise: Option<u32>,
+}
+
+/// The lines of a row of the chain's survey.
+pub fn tell(alloc: Global, chain: &Chain, row: Row) -> Result<Told, AllocError>
+    requires range { row.first ≤ row.last }
+    requires among { ChainAnswersAmong chain.now row.first row.last (answers_of row.answers) }
+    ensures row { IfOk result (λ told. told.row ≡ row) }
+    ensures told { IfOk result (IsTold chain.now) }
+{
+    if let Some(value) = only_answer(&row.answers) {
+        return Ok(Told {
+            row,
+            lines: Vec::new(alloc),
+            otherwise: Some(value),
+        });
+    }
+    let numbers = Numbers {
+        first: row.first,
+        last: row.last,
+    };
+    let tree = chain_tree(alloc, chain, numbers)?;
+    let decision = decide(alloc, &tree)?;
+    let all = lines_of(alloc, &decision, LeftOut::Nothing)?;
+    let otherwise = heaviest(alloc, &all)?;
+    let lines = lines_of(alloc, &decision, LeftOut::End(otherwise))?;
+    Ok(Told {
+        row,
+        lines,
+        otherwise,
+    })
+}
+
+fn lines_of(alloc: Global, decision: &Decision, left_out: LeftOut) -> Result<Vec<Line>, AllocError>
+    ensures told { IfOk result (λ lines. (call : Record) → told_by lines.items call ≡ shown left_out (decided decision.now call)) }
+{
+    let mut lines = Vec::new(alloc);
+    let every = Clause::All(Vec::new(alloc));
+    add_lines(alloc, decision, every, left_out, &mut lines)?;
+    Ok(lines)
+}
+
+// The one value, where the answers are no other.
+fn only_answer(answers: &Answers) -> Option<u32>
+    ensures only { IfSome result (λ value. answers_of answers.now ≡ Some (value ∷ [])) }
+{
+    match answers {
+        Answers::Any => None,
+        Answers::Among(values) => only_value(values),
+    }
+}
+
+fn only_value(values: &[u32]) -> Option<u32>
+    ensures only { IfSome result (λ value. values.now ≡ value ∷ []) }
+{
+    match values {
+        [value] => Some(*value),
+        _ => None,
+    }
+}
