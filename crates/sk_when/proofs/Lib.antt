@@ -1,5 +1,6 @@
 pub mod Masks
 pub mod Halves
 pub mod Meeting
+pub mod Together
 pub mod Elses
 pub mod Rows

@@ -30,6 +30,10 @@ holds_term term call = takes term (bit_and (register_of term.register call) term
 abbrev pub is_equality : Term → Bool
 is_equality term = term.inside && (term.first == term.last)
 
+-- the term takes all numbers but one
+abbrev pub is_inequality : Term → Bool
+is_inequality term = not term.inside && (term.first == term.last)
+
 -- what a comparison asks of a number
 abbrev pub says : Asked → ℕ → Bool
 says (asked.Always answer) n = answer

@@ -1,7 +1,7 @@
 //! A term: some bits of a register of a call, and the range in which their number lies or does not lie.
 ghost use Rattle.std.specs.Prelude.{◌≡◌, ◌↔◌, not, IsTrue};
 ghost use Rattle.sk_insn.specs.declared.record.Record.{Record};
-ghost use Rattle.sk_when.specs.Terms.{takes, holds_term, is_equality};
+ghost use Rattle.sk_when.specs.Terms.{takes, holds_term, is_equality, is_inequality};
 
 /// A register of a call, as a filter sees it.
 #[derive(Clone, Copy, Debug, PartialEq, Eq)]
@@ -42,6 +42,13 @@ impl Term {
         ensures one { result ≡ is_equality self.now }
     {
         self.inside && self.first == self.last
+    }
+
+    /// Whether it takes all numbers but one.
+    pub fn is_inequality(&self) -> bool
+        ensures all_but_one { result ≡ is_inequality self.now }
+    {
+        !self.inside && self.first == self.last
     }
 
     /// The term that holds where this one does not.

@@ -1,0 +1,113 @@
+//! The text of small filters for one call, worked out by hand from their instructions.
+use sk_chain::Chain;
+use sk_check::{Checked, check};
+use sk_insn::Insn;
+use sk_when::when;
+use std::alloc::Global;
+use std::test::Fail;
+
+const ALLOW: u32 = 0x7fff_0000;
+
+/// An error of number 1.
+const EPERM: u32 = 0x0005_0001;
+
+fn insn(code: u16, jt: u8, jf: u8, k: u32) -> Insn {
+    Insn { code, jt, jf, k }
+}
+
+fn ldabs(k: u32) -> Insn {
+    insn(0x20, 0, 0, k)
+}
+
+fn ret(k: u32) -> Insn {
+    insn(0x06, 0, 0, k)
+}
+
+fn checked(alloc: Global, program: &[Insn]) -> Result<Checked, Fail> {
+    let mut insns = Vec::new(alloc);
+    insns.extend_from_slice(program)?;
+    match check(insns) {
+        Ok(checked) => Ok(checked),
+        Err((_, fault)) => Err(Fail::from(fault)),
+    }
+}
+
+fn chain_of(alloc: Global, program: &[Insn]) -> Result<Chain, Fail> {
+    match Chain::empty(alloc).attach(checked(alloc, program)?) {
+        Ok(chain) => Ok(chain),
+        Err((_, _, fault)) => Err(Fail::from(fault)),
+    }
+}
+
+/// Filters, a number, and the text for it.
+fn rows(alloc: Global) -> Result<Vec<(Vec<Insn>, u32, &'static str)>, Fail> {
+    let mut rows = Vec::new(alloc);
+
+    // clone(2) with a flag that makes a namespace has an error.
+    rows.push((
+        vec![in alloc;
+            ldabs(16),
+            insn(0x45, 0, 1, 0x7e02_0000),
+            ret(EPERM),
+            ret(ALLOW),
+        ]?,
+        56,
+        "56 clone\n  allow where (args[0] & 0x7e020000) == 0\n  errno/1 EPERM else\n",
+    ))?;
+
+    // Both halves of an argument.
+    rows.push((
+        vec![in alloc;
+            ldabs(20),
+            insn(0x15, 0, 3, 1),
+            ldabs(16),
+            insn(0x15, 0, 1, 2),
+            ret(ALLOW),
+            ret(EPERM),
+        ]?,
+        39,
+        "39 getpid\n  allow where args[0] == 0x100000002\n  errno/1 EPERM else\n",
+    ))?;
+
+    // A masked word of the second argument.
+    rows.push((
+        vec![in alloc;
+            ldabs(24),
+            insn(0x54, 0, 0, 0xf0),
+            insn(0x15, 0, 1, 0x20),
+            ret(ALLOW),
+            ret(EPERM),
+        ]?,
+        39,
+        "39 getpid\n  allow where (args[1] & 0xf0) == 0x20\n  errno/1 EPERM else\n",
+    ))?;
+
+    // The higher half of the instruction pointer: from 2 on in that half is from 2 * 2^32 on.
+    rows.push((
+        vec![in alloc; ldabs(12), insn(0x25, 0, 1, 1), ret(ALLOW), ret(EPERM)]?,
+        39,
+        "39 getpid\n  allow where ip >= 0x200000000\n  errno/1 EPERM else\n",
+    ))?;
+
+    // A word is returned, which is not followed.
+    rows.push((
+        vec![in alloc; ldabs(16), insn(0x16, 0, 0, 0)]?,
+        39,
+        "39 getpid any\n",
+    ))?;
+
+    // One verdict.
+    rows.push((vec![in alloc; ret(ALLOW)]?, 0, "0 read allow\n"))?;
+    Ok(rows)
+}
+
+#[test]
+fn small_filters(rt: HostRuntime) -> Result<(), Fail> {
+    let alloc = rt.alloc();
+    for (program, nr, wanted) in &rows(alloc)? {
+        let chain = chain_of(alloc, program)?;
+        let text = when(alloc, &chain, Some(*nr))?;
+        assert_eq!(rt; text.as_str(), *wanted, "at {wanted:?}");
+    }
+    Ok(())
+}
