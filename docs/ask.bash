@@ -382,12 +382,14 @@ _ask() {
     local word=${COMP_WORDS[COMP_CWORD]} before=${COMP_WORDS[COMP_CWORD - 1]} asked=${COMP_WORDS[1]}
     COMPREPLY=()
     if [ "$COMP_CWORD" -eq 1 ]; then
-        mapfile -t COMPREPLY < <(compgen -W 'calls why show filter replay --help' -- "$word")
-    elif [ "$before" = --call ] || { [ "$asked" = why ] && [ "$COMP_CWORD" -eq 2 ]; }; then
+        mapfile -t COMPREPLY < <(compgen -W 'calls when diff filter --help' -- "$word")
+    elif [ "$before" = --call ]; then
         mapfile -t COMPREPLY < <(compgen -W "$_ask_calls" -- "$word")
     elif [[ $word == -* ]]; then
         case $asked in
         calls) mapfile -t COMPREPLY < <(compgen -W '--call --examples --help' -- "$word") ;;
+        when) mapfile -t COMPREPLY < <(compgen -W '--call --help' -- "$word") ;;
+        diff) mapfile -t COMPREPLY < <(compgen -W '--stricter --help' -- "$word") ;;
         filter) mapfile -t COMPREPLY < <(compgen -W '--raw --help' -- "$word") ;;
         *) mapfile -t COMPREPLY < <(compgen -W '--help' -- "$word") ;;
         esac

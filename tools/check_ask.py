@@ -106,6 +106,12 @@ def record(number, first=0):
     return struct.pack("<IIQ6Q", number, 0xC000003E, 0, first, *[0] * 5).hex()
 
 
+def difference(number, name, old, new, first=0):
+    """The lines on a call that gets another verdict."""
+    arguments = "".join(f", {it:#x}" for it in (first, 0, 0, 0, 0, 0))
+    return f"{number} {name}: {old} -> {new}\n  record {record(number, first)}\n  syscall(SYS_{name}{arguments})\n"
+
+
 def trouble(command, complaint):
     return Row(command, 2, f"ask: {complaint}\n" if complaint else "", "")
 
@@ -135,12 +141,26 @@ GOOD = [
     good("ask calls all | grep -c ' allow$'", "377\n"), good("ask calls all | tail -n 1", "463-4294967295 - allow\n"),
     good("ask filter raw", LINE), good("ask filter lines digits", LINE * 2), good("ask filter all raw", line(ALLOW).decode() + LINE),
     good("ask filter raw | ask filter - ", LINE), good("ask filter --raw crlf | cmp - raw", ""), good("ask filter lines --raw | cmp - raw", ""),
+    good("ask when --call getpid raw", GOT), good("ask when all | tail -n 1", "463-4294967295 - allow\n"),
+    good("ask when --call getpid flag", "39 getpid\n  allow where (args[0] & 0x1) == 0\n  errno/38 ENOSYS else\n"),
+    good("ask diff raw digits", "the same on every call\n"), good("ask diff - raw < lines", "the same on every call\n"),
+    good("ask diff <(cat raw) <(cat digits)", "the same on every call\n"), good("ask diff --stricter all flag", "as strict on every call\n"),
+    Row("ask diff all raw", 1, "", difference(39, "getpid", "allow", "errno/1 EPERM")),
+    Row("ask diff raw --stricter all", 1, "", difference(39, "getpid", "errno/1 EPERM", "allow")),
+    Row("ask diff flag all | sed -n 1,3p", 1, "", difference(0, "read", "errno/38 ENOSYS", "allow", 1)),
+    good("ask when --help | head -n 1", "usage: ask when [--call CALL] FILE..\n"),
+    good("ask diff --help | head -n 1", "usage: ask diff [--stricter] OLD NEW\n"),
     good("ask --help | head -n 1", "usage: ask WORD ..\n"), good("ask calls --help | head -n 1", "usage: ask calls [--call CALL] [--examples] FILE..\n"),
     good("ask filter nofile --help | head -n 1", "usage: ask filter [--raw] FILE..\n"),
 ]
 WORDS = [
     trouble("ask", "no word is given; see ask --help"), trouble("ask foo", "no word is named foo"), trouble("ask '' raw", "no word is named "),
     trouble("ask --raw filter raw", "no word is named --raw"),
+    trouble("ask when", "when: no FILE is given"), trouble("ask when raw --call", "when: expected a name or a number behind --call"),
+    trouble("ask when --examples raw", "when: no option is named --examples"), trouble("ask when --call mseal2 raw", "no call is named mseal2"),
+    *[trouble(f"ask diff {files}", "diff: expected two FILEs, OLD and NEW") for files in ("", "raw", "raw raw raw", "--stricter all")],
+    trouble("ask diff --call read raw all", "diff: no option is named --call"), trouble("ask diff raw nofile", "nofile: no such file"),
+    trouble("ask diff empty raw", f"empty: {NO_FILTER}"), trouble("ask diff - - < raw", f"-: {NO_FILTER}"),
     trouble("ask calls", "calls: no FILE is given"), trouble("ask filter --raw", "filter: no FILE is given"),
     trouble("ask calls --exmples raw", "calls: no option is named --exmples"), trouble("ask calls --raw raw", "calls: no option is named --raw"),
     trouble("ask filter --examples raw", "filter: no option is named --examples"), trouble("ask calls -x raw", "calls: no option is named -x"),

@@ -24,7 +24,58 @@ const ANSWERS: &[(&[&str], &[u8])] = &[
         b"filter 060000000000ff7f\nfilter 200000000000000015000001270000000600000001000500060000000000ff7f\n",
     ),
     (&["filter", "--raw", "all"], &[6, 0, 0, 0, 0, 0, 0xff, 0x7f]),
+    (
+        &["when", "--call", "getpid", "getpid"],
+        b"39 getpid errno/1 EPERM\n",
+    ),
+    (
+        &["when", "flag", "--call", "0"],
+        b"0 read\n  allow where (args[0] & 0x1) == 0\n  errno/38 ENOSYS else\n",
+    ),
+    (&["diff", "getpid", "getpid"], b"the same on every call\n"),
+    (
+        &["diff", "all", "--stricter", "getpid"],
+        b"as strict on every call\n",
+    ),
 ];
+
+/// Words whose answer says no, and the whole answer.
+const DENIALS: &[(&[&str], &[u8])] = &[
+    (
+        &["diff", "all", "getpid"],
+        b"39 getpid: allow -> errno/1 EPERM\n  record 270000003e0000c00000000000000000000000000000000000000000000000000000000000000000000000000000000000000000000000000000000000000000\n  syscall(SYS_getpid, 0x0, 0x0, 0x0, 0x0, 0x0, 0x0)\n",
+    ),
+    (
+        &["diff", "--stricter", "getpid", "two"],
+        b"39 getpid: errno/1 EPERM -> allow\n  record 270000003e0000c00000000000000000000000000000000000000000000000000000000000000000000000000000000000000000000000000000000000000000\n  syscall(SYS_getpid, 0x0, 0x0, 0x0, 0x0, 0x0, 0x0)\n",
+    ),
+];
+
+#[test]
+fn a_no_is_an_answer(rt: HostRuntime) -> Result<(), Fail> {
+    for &(words, answer) in DENIALS {
+        let ran = run(rt.alloc(), words, 0)?;
+        assert_eq!(rt;
+            (ran.status, ran.out.as_slice(), ran.complaints.len()),
+            (1, answer, 0),
+            "at {words:?}"
+        );
+    }
+    Ok(())
+}
+
+/// A filter that answers an argument can't be followed, and that is no answer.
+#[test]
+fn undecided_is_trouble(rt: HostRuntime) -> Result<(), Fail> {
+    let ran = run(rt.alloc(), &["diff", "argument", "argument"], 0)?;
+    assert_eq!(rt; (ran.status, ran.out.len()), (2, 0));
+    assert!(rt;
+        ran.complaints.starts_with(
+            b"ask: diff: the filters could not be compared on all calls:\n0 read: undecided\n",
+        )
+    );
+    Ok(())
+}
 
 #[test]
 fn answers_go_to_standard_output(rt: HostRuntime) -> Result<(), Fail> {
@@ -58,10 +109,12 @@ fn all_calls(rt: HostRuntime) -> Result<(), Fail> {
 
 #[test]
 fn help_is_an_answer(rt: HostRuntime) -> Result<(), Fail> {
-    let rows: [(&[&str], &[u8]); 3] = [
+    let rows: [(&[&str], &[u8]); 5] = [
         (&["--help"], b"usage: ask WORD ..\n"),
         (&["calls", "--help"], b"usage: ask calls "),
         (&["filter", "all", "--help"], b"usage: ask filter "),
+        (&["when", "--help"], b"usage: ask when "),
+        (&["diff", "--help", "all"], b"usage: ask diff "),
     ];
     for (words, first) in rows {
         let ran = run(rt.alloc(), words, 0)?;

@@ -33,6 +33,32 @@ const TROUBLES: &[(&[&str], &[u8])] = &[
         b"ask: no call is named 010\n",
     ),
     (&["calls", "a\nb"], b"ask: a?b: no such file\n"),
+    (&["when"], b"ask: when: no FILE is given\n"),
+    (
+        &["when", "all", "--call"],
+        b"ask: when: expected a name or a number behind --call\n",
+    ),
+    (
+        &["when", "--call", "mseal2", "all"],
+        b"ask: no call is named mseal2\n",
+    ),
+    (
+        &["diff", "all"],
+        b"ask: diff: expected two FILEs, OLD and NEW\n",
+    ),
+    (
+        &["diff", "all", "all", "all"],
+        b"ask: diff: expected two FILEs, OLD and NEW\n",
+    ),
+    (
+        &["diff", "--call", "read", "all"],
+        b"ask: diff: no option is named --call\n",
+    ),
+    (&["diff", "all", "nofile"], b"ask: nofile: no such file\n"),
+    (
+        &["diff", "empty", "all"],
+        b"ask: empty: holds no filter: expected bytes of struct sock_filter, hexadecimal digits or lines filter HEX\n",
+    ),
     (
         &["filter", "all", "empty"],
         b"ask: empty: holds no filter: expected bytes of struct sock_filter, hexadecimal digits or lines filter HEX\n",
