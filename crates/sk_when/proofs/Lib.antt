@@ -4,3 +4,4 @@ pub mod Meeting
 pub mod Together
 pub mod Elses
 pub mod Rows
+pub mod WorkedTerms

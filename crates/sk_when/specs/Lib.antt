@@ -4,3 +4,4 @@ pub mod Lines
 pub mod Expressions
 pub mod Text
 pub mod Telling
+pub mod WorkedTerms
