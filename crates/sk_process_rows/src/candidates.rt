@@ -2,7 +2,6 @@
 ghost use Rattle.std.specs.Prelude.{◌≡◌};
 ghost use Rattle.sk_world.specs.Rules.{IsWorld};
 
-use crate::same::assert_same;
 use crate::sessions::world::lead_group;
 use crate::world::{after_forks, end_of};
 use bitflags::Flags;
@@ -88,7 +87,7 @@ fn candidates_keep_what_the_store_keeps<S: ProcStore, R: Abort + AllocGlobal>(
 }
 
 fn keeps_processes_1_and_2<S: ProcStore>(rt: &impl Abort, store: &S) {
-    assert_same(rt, (store.count(), store.last(), store.fresh()), (2, 2, 3));
+    assert_eq!(rt; (store.count(), store.last(), store.fresh()), (2, 2, 3));
     for (after, next, child, member) in [
         (0, Some(1), Some(2), Some(1)),
         (1, Some(2), Some(2), Some(2)),
@@ -99,7 +98,7 @@ fn keeps_processes_1_and_2<S: ProcStore>(rt: &impl Abort, store: &S) {
             store.next_child(INIT, after),
             store.next_member(INIT, after),
         );
-        assert_same(rt, found, (next, child, member));
+        assert_eq!(rt; found, (next, child, member));
     }
     assert!(rt; store.next_member(2, 0).is_none());
     assert!(rt; store.used(2) && !store.used(3));
@@ -118,7 +117,7 @@ fn turns<S: ProcStore>(rt: &impl Abort, store: &Candidates<S>, rows: &[(u32, Opt
     requires { IsWorld store.now }
 {
     for (after, next) in rows {
-        assert!(rt; store.next_runnable(*after) == *next, "after {after}");
+        assert_eq!(rt; store.next_runnable(*after), *next, "after {after}");
     }
 }
 

@@ -19,8 +19,6 @@ mod pairs;
 #[cfg(test)]
 mod processes;
 #[cfg(test)]
-mod same;
-#[cfg(test)]
 mod scenarios;
 #[cfg(test)]
 mod sessions;

@@ -1,4 +1,3 @@
-use crate::same::assert_same;
 use bitflags::Flags;
 use sk_chain::Chain;
 use sk_creds::Creds;
@@ -42,10 +41,9 @@ fn parent(rt: &HostRuntime) -> Proc {
 fn a_child_has_the_rights_and_nothing_that_pends(rt: HostRuntime) -> Result<(), Fail> {
     let parent = parent(&rt);
     let child = parent.child(7)?;
-    assert_same(
-        &rt,
+    assert_eq!(rt;
         parent.body.signals.pending(),
-        SigSet::empty().with(SIGTERM),
+        SigSet::empty().with(SIGTERM)
     );
     is_the_child(&rt, &child, &parent.body);
     Ok(())
@@ -58,16 +56,14 @@ fn is_the_child(rt: &impl Abort, child: &Proc, parent: &Body) {
         session: 7,
     };
     let body = &child.body;
-    assert_same(rt, (child.links, body.creds), (links, parent.creds));
-    assert_same(
-        rt,
+    assert_eq!(rt; (child.links, body.creds), (links, parent.creds));
+    assert_eq!(rt;
         (body.life, body.waiting, body.note),
-        (Life::Running, Waiting::Nothing, Note::Nothing),
+        (Life::Running, Waiting::Nothing, Note::Nothing)
     );
-    assert_same(
-        rt,
+    assert_eq!(rt;
         (body.signals.mask(), body.signals.pending()),
-        (parent.signals.mask(), SigSet::empty()),
+        (parent.signals.mask(), SigSet::empty())
     );
     assert!(rt; body.chain.is_empty() && !body.executed && !body.subreaper);
 }
@@ -87,6 +83,6 @@ fn wait_options_are_three_bits(rt: HostRuntime) {
         (16, None),
         (2_147_483_648, None),
     ] {
-        assert_same(&rt, WaitOptions::from_bits(bits), options);
+        assert_eq!(rt; WaitOptions::from_bits(bits), options);
     }
 }

@@ -1,5 +1,4 @@
 use crate::deliveries::world::{ROOT, catch, deliver, pending_bits, wait4};
-use crate::same::assert_same;
 use crate::sessions::world::lead_group;
 use crate::world::{after_forks, life, waiting};
 use sk_delivery::kill;
@@ -11,26 +10,24 @@ use std::test::Fail;
 #[test]
 fn default_actions_end_all_but_process_1(rt: HostRuntime) -> Result<(), Fail> {
     let mut store: ListStore = after_forks(&rt, &[INIT, INIT])?;
-    assert_same(&rt, kill(&mut store, 1, ROOT, 2, 15), Ok(0));
-    assert_same(
-        &rt,
+    assert_eq!(rt; kill(&mut store, 1, ROOT, 2, 15), Ok(0));
+    assert_eq!(rt;
         (
             deliver(&rt, &mut store, INIT, SIGTERM),
             deliver(&rt, &mut store, 2, SIGCHLD),
             deliver(&rt, &mut store, 2, SIGTERM),
-            deliver(&rt, &mut store, 3, SIGKILL),
+            deliver(&rt, &mut store, 3, SIGKILL)
         ),
         (
             Effect::Ignored,
             Effect::Ignored,
             Effect::Ended(15),
-            Effect::Ended(9),
-        ),
+            Effect::Ended(9)
+        )
     );
-    assert_same(
-        &rt,
+    assert_eq!(rt;
         (life(&store, 2), pending_bits(&store, 2)),
-        (Some(Life::Zombie(15)), Some(0)),
+        (Some(Life::Zombie(15)), Some(0))
     );
     Ok(())
 }
@@ -40,19 +37,18 @@ fn default_actions_end_all_but_process_1(rt: HostRuntime) -> Result<(), Fail> {
 fn handler_interrupts_a_wait(rt: HostRuntime) -> Result<(), Fail> {
     let mut store: ListStore = after_forks(&rt, &[INIT, 2])?;
     catch(&mut store, 2, SIGUSR1);
-    assert_same(&rt, wait4(&rt, &mut store, 2, -1, 0), Outcome::Waits);
+    assert_eq!(rt; wait4(&rt, &mut store, 2, -1, 0), Outcome::Waits);
     for interrupted in [true, false] {
-        assert_same(&rt, kill(&mut store, 1, ROOT, 2, 10), Ok(0));
-        assert_same(&rt, pending_bits(&store, 2), Some(1 << 9));
+        assert_eq!(rt; kill(&mut store, 1, ROOT, 2, 10), Ok(0));
+        assert_eq!(rt; pending_bits(&store, 2), Some(1 << 9));
         let handled = Effect::Handler {
             program: 7,
             interrupted,
         };
-        assert_same(&rt, deliver(&rt, &mut store, 2, SIGUSR1), handled);
-        assert_same(
-            &rt,
+        assert_eq!(rt; deliver(&rt, &mut store, 2, SIGUSR1), handled);
+        assert_eq!(rt;
             (pending_bits(&store, 2), waiting(&store, 2)),
-            (Some(0), Some(Waiting::Nothing)),
+            (Some(0), Some(Waiting::Nothing))
         );
     }
     Ok(())
@@ -64,17 +60,16 @@ fn seventeenth_handler_ends_the_process(rt: HostRuntime) -> Result<(), Fail> {
     let mut store: ListStore = after_forks(&rt, &[INIT])?;
     catch(&mut store, 2, SIGUSR1);
     for _ in 0..16 {
-        assert_same(
-            &rt,
+        assert_eq!(rt;
             deliver(&rt, &mut store, 2, SIGUSR1),
             Effect::Handler {
                 program: 7,
-                interrupted: false,
-            },
+                interrupted: false
+            }
         );
     }
-    assert_same(&rt, deliver(&rt, &mut store, 2, SIGUSR1), Effect::Ended(11));
-    assert_same(&rt, life(&store, 2), Some(Life::Zombie(11)));
+    assert_eq!(rt; deliver(&rt, &mut store, 2, SIGUSR1), Effect::Ended(11));
+    assert_eq!(rt; life(&store, 2), Some(Life::Zombie(11)));
     Ok(())
 }
 
@@ -83,26 +78,24 @@ fn seventeenth_handler_ends_the_process(rt: HostRuntime) -> Result<(), Fail> {
 fn terminal_stops_nobody_in_an_orphaned_group(rt: HostRuntime) -> Result<(), Fail> {
     let mut store: ListStore = after_forks(&rt, &[INIT, 2])?;
     catch(&mut store, 2, SIGCHLD);
-    assert_same(&rt, deliver(&rt, &mut store, 3, SIGTSTP), Effect::Ignored);
-    assert_same(
-        &rt,
+    assert_eq!(rt; deliver(&rt, &mut store, 3, SIGTSTP), Effect::Ignored);
+    assert_eq!(rt;
         (life(&store, 3), pending_bits(&store, 2)),
-        (Some(Life::Running), Some(0)),
+        (Some(Life::Running), Some(0))
     );
     lead_group(&rt, &mut store, 3);
-    assert_same(&rt, deliver(&rt, &mut store, 3, SIGTSTP), Effect::Stopped);
+    assert_eq!(rt; deliver(&rt, &mut store, 3, SIGTSTP), Effect::Stopped);
     // The parent, which catches SIGCHLD, 17, is sent it.
-    assert_same(
-        &rt,
+    assert_eq!(rt;
         (life(&store, 3), pending_bits(&store, 2)),
-        (Some(Life::Stopped), Some(1 << 16)),
+        (Some(Life::Stopped), Some(1 << 16))
     );
-    assert_same(&rt, deliver(&rt, &mut store, 2, SIGSTOP), Effect::Stopped);
+    assert_eq!(rt; deliver(&rt, &mut store, 2, SIGSTOP), Effect::Stopped);
     // SIGTSTP is 20: the status of a stop is the signal times 256 and 127.
     let told = Outcome::Told {
         pid: 3,
         status: 20 * 256 + 127,
     };
-    assert_same(&rt, wait4(&rt, &mut store, 2, 3, 2), told);
+    assert_eq!(rt; wait4(&rt, &mut store, 2, 3, 2), told);
     Ok(())
 }

@@ -1,7 +1,6 @@
 ghost use Rattle.sk_world.specs.Rules.{IsWorld};
 
 use crate::deliveries::world::{resume, wait4};
-use crate::same::assert_same;
 use crate::sessions::world::end;
 use crate::world::{after_forks, forks_of, opening, waiting};
 use bitflags::Flags;
@@ -18,7 +17,7 @@ fn come_to(rt: &impl Abort, store: &mut ListStore, rows: &[(i32, u32, Outcome)])
 {
     for (argument, options, expected) in rows {
         let outcome = wait4(rt, store, INIT, *argument, *options);
-        assert!(rt; outcome == *expected, "wait4({argument}) with {options}");
+        assert_eq!(rt; outcome, *expected, "wait4({argument}) with {options}");
     }
 }
 
@@ -38,7 +37,7 @@ fn rows_of_wait4(rt: HostRuntime) -> Result<(), Fail> {
         &mut store,
         &[(3, 0, Returned(-10)), (0, 11, Returned(0))],
     );
-    assert_same(&rt, waiting(&store, INIT), Some(Waiting::Nothing));
+    assert_eq!(rt; waiting(&store, INIT), Some(Waiting::Nothing));
     end(&rt, &mut store, 2, 0x300);
     let told = Told {
         pid: 2,
@@ -57,16 +56,14 @@ fn wait_ends_as_a_child_ends(rt: HostRuntime) -> Result<(), Fail> {
         who: Who::Group(1),
         options: WaitOptions::empty(),
     };
-    assert_same(
-        &rt,
+    assert_eq!(rt;
         (waiting(&store, INIT), resume(&rt, &mut store, INIT)),
-        (Some(Waiting::Asks(request)), Waits),
+        (Some(Waiting::Asks(request)), Waits)
     );
     end(&rt, &mut store, 2, 9);
-    assert_same(
-        &rt,
+    assert_eq!(rt;
         (resume(&rt, &mut store, INIT), waiting(&store, INIT)),
-        (Told { pid: 2, status: 9 }, Some(Waiting::Nothing)),
+        (Told { pid: 2, status: 9 }, Some(Waiting::Nothing))
     );
     Ok(())
 }

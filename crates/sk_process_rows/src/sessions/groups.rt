@@ -1,6 +1,5 @@
 ghost use Rattle.sk_world.specs.Rules.{IsWorld};
 
-use crate::same::assert_same;
 use crate::sessions::world::{end, execute, group_and_session, setpgid, setsid};
 use crate::world::after_forks;
 use sk_creds::Errno;
@@ -15,21 +14,20 @@ fn come_to(rt: &impl Abort, store: &mut ListStore, rows: &[(u32, i32, i32, Resul
 {
     for (caller, pid, group, expected) in rows {
         let result = setpgid(rt, store, *caller, *pid, *group);
-        assert!(rt; result == *expected, "setpgid({pid}, {group}) of {caller}");
+        assert_eq!(rt; result, *expected, "setpgid({pid}, {group}) of {caller}");
     }
 }
 
 #[test]
 fn groups_are_set_as_the_manual_says(rt: HostRuntime) -> Result<(), Fail> {
     let mut store: ListStore = after_forks(&rt, &[INIT, INIT])?;
-    assert_same(
-        &rt,
+    assert_eq!(rt;
         (
             setsid(&rt, &mut store, 2),
             setsid(&rt, &mut store, 2),
-            setsid(&rt, &mut store, INIT),
+            setsid(&rt, &mut store, INIT)
         ),
-        (Ok(2), Err(Errno::Eperm), Err(Errno::Eperm)),
+        (Ok(2), Err(Errno::Eperm), Err(Errno::Eperm))
     );
     // A child of another session, executed or not.
     come_to(&rt, &mut store, &[(INIT, 2, 0, Err(Errno::Eperm))]);
@@ -76,10 +74,9 @@ fn groups_and_sessions_are_told_of_zombies_too(rt: HostRuntime) -> Result<(), Fa
         (INIT, 3, Err(Errno::Esrch), Err(Errno::Esrch)),
         (INIT, -2, Err(Errno::Esrch), Err(Errno::Esrch)),
     ] {
-        assert_same(
-            &rt,
+        assert_eq!(rt;
             group_and_session(&rt, &store, caller, pid),
-            (group, session),
+            (group, session)
         );
     }
     Ok(())

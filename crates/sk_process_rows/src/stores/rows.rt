@@ -1,4 +1,3 @@
-use crate::same::assert_same;
 use crate::signals::handler;
 use crate::stores::testing::{is_subreaper, mark, on_sigchld, reap_of, reparent_of, wait_of};
 use crate::world::{
@@ -46,26 +45,24 @@ fn sigcont_continues_and_is_told_once<S: ProcStore, R: Abort + AllocGlobal>(
     let mut store: S = after_forks(rt, &[INIT])?;
     stop(&mut store, 2, SIGTSTP);
     send(&mut store, 2, SIGCONT);
-    assert_same(rt, life(&store, 2), Some(Life::Running));
+    assert_eq!(rt; life(&store, 2), Some(Life::Running));
     let stops = WaitOptions::WNOHANG | WaitOptions::WUNTRACED;
     let all = stops | WaitOptions::WCONTINUED;
     let continued = Poll::Told {
         pid: 2,
         status: 0xffff,
     };
-    assert_same(
-        rt,
+    assert_eq!(rt;
         (
             wait_of(rt, &mut store, INIT, Who::Any, stops),
-            wait_of(rt, &mut store, INIT, Who::Any, all),
+            wait_of(rt, &mut store, INIT, Who::Any, all)
         ),
-        (Poll::NotReady, continued),
+        (Poll::NotReady, continued)
     );
-    assert_same(rt, note(&store, 2), Some(Note::Nothing));
-    assert_same(
-        rt,
+    assert_eq!(rt; note(&store, 2), Some(Note::Nothing));
+    assert_eq!(rt;
         wait_of(rt, &mut store, INIT, Who::Any, all),
-        Poll::NotReady,
+        Poll::NotReady
     );
     Ok(())
 }
@@ -81,16 +78,15 @@ fn stop_is_told_to_wuntraced_once<S: ProcStore, R: Abort + AllocGlobal>(
         pid: 2,
         status: 0x147f,
     };
-    assert_same(
-        rt,
+    assert_eq!(rt;
         (
             wait_of(rt, &mut store, INIT, Who::Any, continues),
             wait_of(rt, &mut store, INIT, Who::Any, stops),
-            wait_of(rt, &mut store, INIT, Who::Any, stops),
+            wait_of(rt, &mut store, INIT, Who::Any, stops)
         ),
-        (Poll::NotReady, stopped, Poll::NotReady),
+        (Poll::NotReady, stopped, Poll::NotReady)
     );
-    assert_same(rt, life(&store, 2), Some(Life::Stopped));
+    assert_eq!(rt; life(&store, 2), Some(Life::Stopped));
     Ok(())
 }
 
@@ -100,17 +96,15 @@ fn continuing_is_announced_to_the_parent<S: ProcStore, R: Abort + AllocGlobal>(
     let mut store: S = after_forks(rt, &[INIT, 2])?;
     on_sigchld(&mut store, 2, handler(), true);
     send(&mut store, 3, SIGCONT);
-    assert_same(
-        rt,
+    assert_eq!(rt;
         (note(&store, 3), pending(&store, 2)),
-        (Some(Note::Nothing), Some(SigSet::empty())),
+        (Some(Note::Nothing), Some(SigSet::empty()))
     );
     stop(&mut store, 3, SIGTSTP);
     send(&mut store, 3, SIGCONT);
-    assert_same(
-        rt,
+    assert_eq!(rt;
         (pending(&store, 2), pending(&store, INIT)),
-        (Some(SigSet::empty().with(SIGCHLD)), Some(SigSet::empty())),
+        (Some(SigSet::empty().with(SIGCHLD)), Some(SigSet::empty()))
     );
     Ok(())
 }
@@ -123,20 +117,19 @@ fn process_1_and_zombies_take_no_signal<S: ProcStore, R: Abort + AllocGlobal>(
     for pid in [INIT, 2, 3, 4] {
         send(&mut store, pid, SIGTERM);
     }
-    assert_same(
-        rt,
+    assert_eq!(rt;
         (
             pending(&store, INIT),
             pending(&store, 2),
             pending(&store, 3),
-            pending(&store, 4),
+            pending(&store, 4)
         ),
         (
             Some(SigSet::empty()),
             Some(SigSet::empty().with(SIGTERM)),
             Some(SigSet::empty()),
-            None,
-        ),
+            None
+        )
     );
     Ok(())
 }
@@ -148,21 +141,18 @@ fn handed_on_zombie_is_announced_to_process_1<S: ProcStore, R: Abort + AllocGlob
     on_sigchld(&mut store, INIT, handler(), false);
     forks_of(rt, &mut store, &[INIT, 2, 2])?;
     end_of(rt, &mut store, 3, 9);
-    assert_same(
-        rt,
+    assert_eq!(rt;
         (parent(&store, 3), pending(&store, INIT)),
-        (Some(2), Some(SigSet::empty())),
+        (Some(2), Some(SigSet::empty()))
     );
     reparent_of(rt, &mut store, 2);
-    assert_same(
-        rt,
+    assert_eq!(rt;
         (parent(&store, 3), parent(&store, 4), pending(&store, INIT)),
-        (Some(INIT), Some(INIT), Some(SigSet::empty().with(SIGCHLD))),
+        (Some(INIT), Some(INIT), Some(SigSet::empty().with(SIGCHLD)))
     );
-    assert_same(
-        rt,
+    assert_eq!(rt;
         wait_of(rt, &mut store, INIT, Who::Any, WaitOptions::WNOHANG),
-        Poll::Told { pid: 3, status: 9 },
+        Poll::Told { pid: 3, status: 9 }
     );
     Ok(())
 }
@@ -173,31 +163,29 @@ fn orphans_go_to_the_nearest_subreaper<S: ProcStore, R: Abort + AllocGlobal>(
     let mut store: S = after_forks(rt, &[INIT])?;
     mark(&mut store, 2, true);
     fork_of(rt, &mut store, 2)?;
-    assert_same(
-        rt,
+    assert_eq!(rt;
         (is_subreaper(&store, 2), is_subreaper(&store, 3)),
-        (Some(true), Some(false)),
+        (Some(true), Some(false))
     );
     mark(&mut store, 3, true);
     forks_of(rt, &mut store, &[3, 4])?;
-    assert_same(
-        rt,
+    assert_eq!(rt;
         (
             reaper(&store, 5),
             reaper(&store, 4),
             reaper(&store, 3),
-            reaper(&store, 2),
+            reaper(&store, 2)
         ),
-        (3, 3, 2, INIT),
+        (3, 3, 2, INIT)
     );
     end_of(rt, &mut store, 4, 0);
-    assert_same(rt, parent(&store, 5), Some(3));
+    assert_eq!(rt; parent(&store, 5), Some(3));
     end_of(rt, &mut store, 3, 0);
-    assert_same(rt, parent(&store, 5), Some(2));
+    assert_eq!(rt; parent(&store, 5), Some(2));
     mark(&mut store, 2, false);
-    assert_same(rt, parent(&store, 5), Some(2));
+    assert_eq!(rt; parent(&store, 5), Some(2));
     end_of(rt, &mut store, 2, 0);
-    assert_same(rt, parent(&store, 5), Some(INIT));
+    assert_eq!(rt; parent(&store, 5), Some(INIT));
     Ok(())
 }
 
@@ -210,23 +198,18 @@ fn zombie_is_announced_to_the_subreaper<S: ProcStore, R: Abort + AllocGlobal>(
     on_sigchld(&mut store, 2, handler(), false);
     end_of(rt, &mut store, 5, 9);
     end_of(rt, &mut store, 4, 0);
-    assert_same(
-        rt,
+    assert_eq!(rt;
         (pending(&store, INIT), pending(&store, 2)),
-        (Some(SigSet::empty()), Some(SigSet::empty().with(SIGCHLD))),
+        (Some(SigSet::empty()), Some(SigSet::empty().with(SIGCHLD)))
     );
     let asked = Request {
         who: Who::Any,
         options: WaitOptions::WNOHANG,
     };
     if store.get(2).is_some() {
-        assert_same(
-            rt,
-            ready(&store, 2, &asked),
-            Poll::Told { pid: 5, status: 9 },
-        );
+        assert_eq!(rt; ready(&store, 2, &asked), Poll::Told { pid: 5, status: 9 });
     }
-    assert_same(rt, life(&store, 5), Some(Life::Zombie(9)));
+    assert_eq!(rt; life(&store, 5), Some(Life::Zombie(9)));
     Ok(())
 }
 
@@ -239,13 +222,12 @@ fn handed_on_zombie_goes_under_an_ignored_sigchld<S: ProcStore, R: Abort + Alloc
     on_sigchld(&mut store, 2, Disposition::Default, false);
     forks_of(rt, &mut store, &[2, 2])?;
     end_of(rt, &mut store, 3, 9);
-    assert_same(rt, life(&store, 3), Some(Life::Zombie(9)));
+    assert_eq!(rt; life(&store, 3), Some(Life::Zombie(9)));
     end_of(rt, &mut store, 2, 0x100);
-    assert_same(rt, (life(&store, 2), life(&store, 3)), (None, None));
-    assert_same(
-        rt,
+    assert_eq!(rt; (life(&store, 2), life(&store, 3)), (None, None));
+    assert_eq!(rt;
         (parent(&store, 4), pending(&store, INIT)),
-        (Some(INIT), Some(SigSet::empty())),
+        (Some(INIT), Some(SigSet::empty()))
     );
     Ok(())
 }
@@ -259,22 +241,20 @@ fn end_is_told_and_then_nobody_matches<S: ProcStore, R: Abort + AllocGlobal>(
     stop(&mut store, 2, SIGTSTP);
     send(&mut store, 2, SIGTERM);
     end_of(rt, &mut store, 2, 9);
-    assert_same(
-        rt,
+    assert_eq!(rt;
         (pending(&store, 2), note(&store, 2), pending(&store, INIT)),
         (
             Some(SigSet::empty()),
             Some(Note::Nothing),
-            Some(SigSet::empty().with(SIGCHLD)),
-        ),
+            Some(SigSet::empty().with(SIGCHLD))
+        )
     );
-    assert_same(
-        rt,
+    assert_eq!(rt;
         (
             wait_of(rt, &mut store, INIT, Who::Child(2), WaitOptions::WNOHANG),
-            wait_of(rt, &mut store, INIT, Who::Child(2), WaitOptions::WNOHANG),
+            wait_of(rt, &mut store, INIT, Who::Child(2), WaitOptions::WNOHANG)
         ),
-        (Poll::Told { pid: 2, status: 9 }, Poll::NoMatch),
+        (Poll::Told { pid: 2, status: 9 }, Poll::NoMatch)
     );
     Ok(())
 }
@@ -284,10 +264,9 @@ fn end_of_process_1_hands_no_children_on<S: ProcStore, R: Abort + AllocGlobal>(
 ) -> Result<(), Fail> {
     let mut store: S = after_forks(rt, &[INIT])?;
     end_of(rt, &mut store, INIT, 11);
-    assert_same(
-        rt,
+    assert_eq!(rt;
         (life(&store, INIT), life(&store, 2), parent(&store, 2)),
-        (Some(Life::Zombie(11)), Some(Life::Running), Some(INIT)),
+        (Some(Life::Zombie(11)), Some(Life::Running), Some(INIT))
     );
     Ok(())
 }
@@ -296,10 +275,9 @@ fn nobody_is_told_of_where_nobody_is_ready<S: ProcStore, R: Abort + AllocGlobal>
     rt: &R,
 ) -> Result<(), Fail> {
     let mut store = opening::<S>(rt.alloc())?;
-    assert_same(
-        rt,
+    assert_eq!(rt;
         wait_of(rt, &mut store, INIT, Who::Any, WaitOptions::WNOHANG),
-        Poll::NoMatch,
+        Poll::NoMatch
     );
     forks_of(rt, &mut store, &[INIT, 2])?;
     end_of(rt, &mut store, 3, 9);
@@ -314,10 +292,9 @@ fn nobody_is_told_of_where_nobody_is_ready<S: ProcStore, R: Abort + AllocGlobal>
         (2, Who::Any, Poll::NoMatch),
     ];
     for (caller, who, poll) in rows {
-        assert_same(
-            rt,
+        assert_eq!(rt;
             wait_of(rt, &mut store, caller, who, WaitOptions::WNOHANG),
-            poll,
+            poll
         );
     }
     Ok(())
@@ -332,10 +309,9 @@ fn lowest_ready_child_is_told<S: ProcStore, R: Abort + AllocGlobal>(rt: &R) -> R
         Poll::Told { pid: 4, status: 4 },
         Poll::NotReady,
     ] {
-        assert_same(
-            rt,
+        assert_eq!(rt;
             wait_of(rt, &mut store, INIT, Who::Any, WaitOptions::WNOHANG),
-            poll,
+            poll
         );
     }
     Ok(())
@@ -344,7 +320,7 @@ fn lowest_ready_child_is_told<S: ProcStore, R: Abort + AllocGlobal>(rt: &R) -> R
 fn zombie_is_reaped<S: ProcStore, R: Abort + AllocGlobal>(rt: &R) -> Result<(), Fail> {
     let mut store: S = after_forks(rt, &[INIT])?;
     end_of(rt, &mut store, 2, 0x300);
-    assert_same(rt, reap_of(rt, &mut store, 2), 0x300);
-    assert_same(rt, (life(&store, 2), store.count()), (None, 1));
+    assert_eq!(rt; reap_of(rt, &mut store, 2), 0x300);
+    assert_eq!(rt; (life(&store, 2), store.count()), (None, 1));
     Ok(())
 }

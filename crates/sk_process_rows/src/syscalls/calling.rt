@@ -1,6 +1,5 @@
 ghost use Rattle.sk_world.specs.Rules.{IsWorld};
 
-use crate::same::assert_same;
 use crate::world::assert_alive;
 use sk_insn::Record;
 use sk_machine::{Images, Outcome};
@@ -34,7 +33,7 @@ pub(crate) fn come_to<R: Abort + AllocGlobal>(
 {
     for (pid, nr, args, expected) in rows {
         let outcome = make_call(rt, store, images, *pid, *nr, *args)?;
-        assert_same(rt, outcome, *expected);
+        assert_eq!(rt; outcome, *expected);
     }
     Ok(())
 }

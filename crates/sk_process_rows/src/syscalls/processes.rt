@@ -1,4 +1,3 @@
-use crate::same::assert_same;
 use crate::syscalls::calling::{come_to, nothing_declared};
 use crate::world::{opening, waiting};
 use sk_machine::Outcome::{Ended, Returned, Told, Waits};
@@ -69,7 +68,7 @@ fn processes_come_and_go(rt: HostRuntime) -> Result<(), Fail> {
         (INIT, PAUSE, [0; 3], Waits),
     ];
     come_to(&rt, &mut store, &images, &rows)?;
-    assert_same(&rt, waiting(&store, INIT), Some(Waiting::Pause));
+    assert_eq!(rt; waiting(&store, INIT), Some(Waiting::Pause));
     Ok(())
 }
 
