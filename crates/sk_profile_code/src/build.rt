@@ -1,0 +1,104 @@
+//! The filter of rows.
+ghost use Rattle.std.specs.Prelude.{ℕ, ◌≡◌, ◌<◌, ◌++◌, length, List, map, OnOk, IfOk};
+ghost use Rattle.sk_insn.specs.declared.insn.Insn.{Insn};
+ghost use Rattle.sk_profile_code.specs.Sayings.{Tree};
+ghost use Rattle.sk_profile_code.specs.Code.{fork_code, filter_code};
+ghost use Rattle.sk_profile_code.specs.Means.{MeansRows};
+ghost use Rattle.sk_profile_code.specs.Views.{saying_of, row_of, AreRows, Emits};
+
+use crate::emit::push_saying;
+use crate::instructions::{answer, branch, jump, load};
+use crate::saying::{Row, Saying};
+use sk_insn::{ARCHITECTURE, Comparison, Insn, MOST_INSNS};
+use std::alloc::{AllocError, AllocFailed, Global};
+
+/// Why rows have no filter.
+#[derive(Clone, Copy, Debug, PartialEq, Eq)]
+pub enum CodeFault {
+    /// It would have more than 4096 instructions.
+    TooLong,
+    /// Memory was refused.
+    Memory,
+}
+
+impl From<AllocError> for CodeFault {
+    fn from(_refused: AllocError) -> CodeFault {
+        CodeFault::Memory
+    }
+}
+
+impl<T: Drop> From<AllocFailed<T>> for CodeFault {
+    fn from(_refused: AllocFailed<T>) -> CodeFault {
+        CodeFault::Memory
+    }
+}
+
+// Goes on behind what is below where the number is not below.
+fn push_head(code: &mut Vec<Insn>, number: u32, below: usize) -> Result<(), CodeFault>
+    ensures code { OnOk result ((front back : List Insn) → length front ≡ below →
+        code.new.items ++ (front ++ back) ≡ code.old.items ++ fork_code number front back) }
+{
+    if below <= 255 {
+        code.push(branch(Comparison::GreaterOrEqual, number, below as u8, 0))?;
+    } else if below <= MOST_INSNS {
+        code.push(branch(Comparison::GreaterOrEqual, number, 0, 1))?;
+        code.push(jump(below as u32))?;
+    } else {
+        return Err(CodeFault::TooLong);
+    }
+    Ok(())
+}
+
+// Which row to cut at: any is right.
+fn cut(rows: &[Row]) -> usize
+    requires some { 0 < length rows.now }
+    ensures inside { result < length rows.now }
+{
+    rows.len() / 2
+}
+
+// The rows, where this is said below the first of them.
+fn push_rows(
+    alloc: Global,
+    code: &mut Vec<Insn>,
+    before: &Saying,
+    rows: &[Row],
+) -> Result<(), CodeFault>
+    requires rows { AreRows before.now rows.now }
+    ensures emits { OnOk result (Emits code.old.items code.new.items before.now rows.now) }
+{
+    if rows.is_empty() {
+        push_saying(code, before)?;
+        return Ok(());
+    }
+    let at = cut(rows);
+    let middle = &rows[at];
+    let mut below = Vec::new(alloc);
+    push_rows(alloc, &mut below, before, &rows[..at])?;
+    push_head(code, middle.start, below.len())?;
+    code.extend_from_slice(&below)?;
+    push_rows(alloc, code, &middle.saying, &rows[at + 1..])
+}
+
+/// The filter that answers to every call what the rows say, and `bad` on every other architecture.
+pub fn filter(
+    alloc: Global,
+    bad: u32,
+    before: &Saying,
+    rows: &[Row],
+) -> Result<Vec<Insn>, CodeFault>
+    requires rows { AreRows before.now rows.now }
+    ensures means { IfOk result (λ code. MeansRows code.items (saying_of before.now) (map row_of rows.now)) }
+    ensures guard { IfOk result (λ code. (tree : Tree) × (code.items ≡ filter_code bad tree)) }
+{
+    let mut code = Vec::new(alloc);
+    code.push(load(4))?;
+    code.push(branch(Comparison::Equal, ARCHITECTURE, 1, 0))?;
+    code.push(answer(bad))?;
+    code.push(load(0))?;
+    push_rows(alloc, &mut code, before, rows)?;
+    if code.len() > MOST_INSNS {
+        return Err(CodeFault::TooLong);
+    }
+    Ok(code)
+}

@@ -1,0 +1,138 @@
+//! The instructions of conditions, and of what is said of the calls of one number.
+ghost use Rattle.std.specs.Prelude.{ℕ, ◌≡◌, ◌+◌, ◌*◌, ◌<◌, ◌≤◌, ◌++◌, length, map, List, OnOk, All};
+ghost use Rattle.sk_insn.specs.declared.insn.Insn.{Insn};
+ghost use Rattle.sk_profile_code.specs.declared.condition.Condition.{Condition};
+ghost use Rattle.sk_profile_code.specs.Code.{test_code, conditions_code, arms_code, saying_code};
+ghost use Rattle.sk_profile_code.specs.Views.{arm_of, saying_of, IsArmOfCode, IsSayingOfCode};
+
+use crate::condition::{Condition, Test};
+use crate::instructions::{answer, branch, load, with};
+use crate::saying::{Arm, Saying};
+use sk_insn::{Comparison, Insn};
+use std::alloc::AllocError;
+
+// How many instructions compare an argument.
+fn length_of(test: Test) -> usize
+    ensures exact { (i n away : ℕ) → length (test_code test i n away) ≡ result }
+    ensures few { result ≤ 6 }
+{
+    match test {
+        Test::Is | Test::IsNot => 4,
+        Test::Below | Test::AtMost | Test::Above | Test::AtLeast => 5,
+        Test::Masked(_) => 6,
+    }
+}
+
+// Compares an argument, and goes on where the test holds.
+fn push_test(code: &mut Vec<Insn>, condition: Condition, away: u8) -> Result<(), AllocError>
+    requires index { condition.index < 6 }
+    requires near { away ≤ 200 }
+    ensures code { OnOk result (code.new.items ≡
+        code.old.items ++ test_code condition.test condition.index condition.value away) }
+{
+    let low = (condition.value % 0x1_0000_0000) as u32;
+    let high = (condition.value / 0x1_0000_0000) as u32;
+    let low_place = 16 + 8 * u32::from(condition.index);
+    code.push(load(20 + 8 * u32::from(condition.index)))?;
+    match condition.test {
+        Test::Is => {
+            code.push(branch(Comparison::Equal, high, 0, 2 + away))?;
+            code.push(load(low_place))?;
+            code.push(branch(Comparison::Equal, low, 0, away))?;
+        }
+        Test::IsNot => {
+            code.push(branch(Comparison::Equal, high, 0, 2))?;
+            code.push(load(low_place))?;
+            code.push(branch(Comparison::Equal, low, away, 0))?;
+        }
+        Test::Below => {
+            code.push(branch(Comparison::Greater, high, 3 + away, 0))?;
+            code.push(branch(Comparison::Equal, high, 0, 2))?;
+            code.push(load(low_place))?;
+            code.push(branch(Comparison::GreaterOrEqual, low, away, 0))?;
+        }
+        Test::AtMost => {
+            code.push(branch(Comparison::Greater, high, 3 + away, 0))?;
+            code.push(branch(Comparison::Equal, high, 0, 2))?;
+            code.push(load(low_place))?;
+            code.push(branch(Comparison::Greater, low, away, 0))?;
+        }
+        Test::Above => {
+            code.push(branch(Comparison::Greater, high, 3, 0))?;
+            code.push(branch(Comparison::Equal, high, 0, 2 + away))?;
+            code.push(load(low_place))?;
+            code.push(branch(Comparison::Greater, low, 0, away))?;
+        }
+        Test::AtLeast => {
+            code.push(branch(Comparison::Greater, high, 3, 0))?;
+            code.push(branch(Comparison::Equal, high, 0, 2 + away))?;
+            code.push(load(low_place))?;
+            code.push(branch(Comparison::GreaterOrEqual, low, 0, away))?;
+        }
+        Test::Masked(mask) => {
+            code.push(with((mask / 0x1_0000_0000) as u32))?;
+            code.push(branch(Comparison::Equal, high, 0, 3 + away))?;
+            code.push(load(low_place))?;
+            code.push(with((mask % 0x1_0000_0000) as u32))?;
+            code.push(branch(Comparison::Equal, low, 0, away))?;
+        }
+    }
+    Ok(())
+}
+
+// How many instructions compare all arguments of a rule.
+fn length_of_all(conditions: &[Condition]) -> u8
+    requires few { length conditions.now ≤ 6 }
+    ensures exact { (away : ℕ) → length (conditions_code conditions.now away) ≡ result }
+    ensures bound { result ≤ 6 * length conditions.now }
+{
+    match conditions.split_first() {
+        None => 0,
+        Some((condition, rest)) => length_of(condition.test) as u8 + length_of_all(rest),
+    }
+}
+
+// Compares all arguments of a rule, and goes on where all tests hold.
+fn push_conditions(
+    code: &mut Vec<Insn>,
+    conditions: &[Condition],
+    away: u8,
+) -> Result<(), AllocError>
+    requires indices { All (λ (c : Condition). c.index < 6) conditions.now }
+    requires few { length conditions.now ≤ 6 }
+    requires near { away ≤ 100 }
+    ensures code { OnOk result (code.new.items ≡ code.old.items ++ conditions_code conditions.now away) }
+{
+    match conditions.split_first() {
+        None => Ok(()),
+        Some((condition, rest)) => {
+            push_test(code, *condition, length_of_all(rest) + away)?;
+            push_conditions(code, rest, away)
+        }
+    }
+}
+
+// What the arms answer. What they leave stands behind.
+fn push_arms(code: &mut Vec<Insn>, arms: &[Arm]) -> Result<(), AllocError>
+    requires arms { All IsArmOfCode arms.now }
+    ensures code { OnOk result ((behind : List Insn) →
+        code.new.items ++ behind ≡ code.old.items ++ arms_code (map arm_of arms.now) behind) }
+{
+    let mut left = arms;
+    while let Some((arm, rest)) = left.split_first() {
+        push_conditions(code, &arm.conditions, 1)?;
+        code.push(answer(arm.value))?;
+        left = rest;
+    }
+    Ok(())
+}
+
+/// Appends the instructions of what is said of the calls of one number.
+pub fn push_saying(code: &mut Vec<Insn>, saying: &Saying) -> Result<(), AllocError>
+    requires arms { IsSayingOfCode saying.now }
+    ensures code { OnOk result (code.new.items ≡ code.old.items ++ saying_code (saying_of saying.now)) }
+{
+    push_arms(code, &saying.arms)?;
+    code.push(answer(saying.otherwise))?;
+    Ok(())
+}
