@@ -19,31 +19,6 @@ one_holds P x h (suc k) d less = absurd (omega arith)
 pub one_more_holds : {X : Type 0} (P : X → Type 0) (xs : List X) (x : X) → All P xs → P x → All P (xs ++ x ∷ [])
 one_more_holds P xs x all h = All-append P xs (x ∷ []) all (one_holds P x h)
 
-rows_hold : (programs : List (List Insn)) (from end : ℕ) (rows : List Row) → Tell programs from end rows → All (Holds programs) rows
-rows_hold programs from end [] told k d less = absurd (omega arith)
-rows_hold programs from end (row ∷ rows) told zero d less = told.3
-rows_hold programs from end (row ∷ rows) told (suc k) d less = rows_hold programs (row.last + 1) end rows told.4 k d (omega arith)
-
-pub all_rows : (programs : List (List Insn)) (from end : ℕ) (rows : List Row) → Tell programs from end rows → All TellsNamedAlone rows → All (IsRowOf programs) rows
-all_rows programs from end rows told alone k d less = (rows_hold programs from end rows told k d less, alone k d less)
-
--- what a row tells holds of a part of it
-pub part_among : (programs : List (List Insn)) (whole row : Row) → Holds programs whole → IsPartOf whole row
-    → ChainAnswersAmong programs row.first row.last (answers_of row.answers)
-part_among programs whole row holds part call within =
-    let begins = part.begins in
-    let ends = part.ends in
-    subst (IsAmong (verdict_of programs call)) (sym part.values) (holds.among call (omega (arith, begins, within.0), omega (arith, ends, within.1)))
-
--- a line is one of the chain that its sign says
-pub is_of_first : (examples : Bool) (first second : List (List Insn)) (line : Line) → line.sign ≡ sign.First → IsLineOf first examples line
-    → IsLineOfEither examples first second line
-is_of_first examples first second line its holds = rw its (rw its at holds)
-
-pub is_of_second : (examples : Bool) (first second : List (List Insn)) (line : Line) → line.sign ≡ sign.Second → IsLineOf second examples line
-    → IsLineOfEither examples first second line
-is_of_second examples first second line its holds = rw its (rw its at holds)
-
 -- with one line more behind them
 pub still_hold : (P : Line → Type 0) (lines next : List Line) (line : Line) → next ≡ lines ++ line ∷ [] → All P lines → P line → All P next
 still_hold P lines next line is all h = subst (All P) (sym is) (one_more_holds P lines line all h)

@@ -27,9 +27,3 @@ abbrev pub NamedHasARow : Type 0
 NamedHasARow =
     (programs : List (List Insn)) (from end nr : ℕ) (rows : List Row) → Tell programs from end rows → All TellsNamedAlone rows
     → from ≤ nr → nr < end → IsTrue (is_some (name_of nr)) → Any (λ row. (row.first ≡ nr) × (row.last ≡ nr)) rows
-
--- a line that tells a number with a name is no part of a longer row, so what holds of a row holds of it
-abbrev pub NamedLineHolds : Type 0
-NamedLineHolds =
-    (programs : List (List Insn)) (examples : Bool) (line : Line) (nr : ℕ) → IsLineOf programs examples line
-    → IsTrue (is_some (name_of nr)) → line.row.first ≤ nr → nr ≤ line.row.last → Holds programs line.row
