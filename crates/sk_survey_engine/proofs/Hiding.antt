@@ -7,11 +7,8 @@ use Rattle.std.proofs.lemmas.List.Elements.{All-head, All-tail}
 use Rattle.std.proofs.lemmas.List.Sums.{AllPass-from_list_all}
 use Rattle.sk_call_names.specs.declared.names.TheConstants.{EARLY, LATE}
 use Rattle.sk_call_names.specs.Names.{name_of}
-use Rattle.sk_survey.specs.Answers.{AreRising, answers_of}
-use Rattle.sk_survey.specs.Ends.{OnlyVerdicts}
-use Rattle.sk_survey.specs.Settling.{AllSettle, TellsOne}
 use Rattle.sk_survey_engine.specs.Lines.{TellsNamedAlone}
-use Rattle.sk_survey_engine.specs.NamesLaws.{NameIsOfEach, NoNameIsHidden, NamedHasARow, NamedLineHolds}
+use Rattle.sk_survey_engine.specs.NamesLaws.{NameIsOfEach, NoNameIsHidden, NamedHasARow}
 
 abbrev has_more : List ℕ → Bool
 has_more name = nat_lt 1 (length name)

@@ -1,16 +1,11 @@
 -- What holds of each element, and of one more.
-use Rattle.std.proofs.Common.{◌≡◌, ℕ, zero, suc, ◌+◌, Bool, List, [], ◌∷◌, ◌++◌, map, arith, ap, ◌∙◌, append_assoc, sym, subst}
+use Rattle.std.proofs.Common.{◌≡◌, zero, suc, List, [], ◌∷◌, ◌++◌, map, arith, ap, ◌∙◌, append_assoc, sym, subst}
 use Rattle.std.specs.List.{All}
 use Rattle.std.proofs.lemmas.List.{map-append}
 use Rattle.std.proofs.lemmas.List.Elements.{All-append}
-use Rattle.sk_insn.specs.declared.insn.Insn.{Insn}
 use Rattle.sk_survey.specs.declared.rows.Row.{Row}
-use Rattle.sk_chain.specs.Verdict.{verdict_of}
-use Rattle.sk_survey.specs.Answers.{IsAmong, ChainAnswersAmong, answers_of}
-use Rattle.sk_survey.specs.Surveys.{Holds, Tell}
 use Rattle.sk_survey_engine.specs.declared.line.Line.{Line}
-use Rattle.sk_survey_engine.specs.declared.line.Sign.TheVariants as sign
-use Rattle.sk_survey_engine.specs.Lines.{row_of, TellsNamedAlone, IsRowOf, IsPartOf, IsLineOf, IsLineOfEither}
+use Rattle.sk_survey_engine.specs.Lines.{row_of}
 
 one_holds : {X : Type 0} (P : X → Type 0) (x : X) → P x → All P (x ∷ [])
 one_holds P x h zero d less = h

@@ -1,20 +1,15 @@
 -- Numbers with a name, and the rows and pieces of rows that tell them.
-use Rattle.std.proofs.Common.{◌≡◌, ℕ, zero, suc, ◌+◌, ◌-◌, ◌<◌, ◌≤◌, max, min, Bool, true, false, cond, is_some, IsTrue, inl, inr, List, [], ◌∷◌, map, flat_map, Option, None, slice_get, arith, sym, ap, subst, ◌∙◌}
+use Rattle.std.proofs.Common.{◌≡◌, ℕ, zero, suc, ◌+◌, ◌-◌, ◌<◌, ◌≤◌, Bool, true, false, cond, is_some, IsTrue, inl, inr, List, ◌∷◌, None, slice_get, arith, sym, ap, subst, ◌∙◌}
 use Rattle.std.specs.List.{All, Contains}
 use Rattle.std.specs.Option.{option_map}
 use Rattle.std.proofs.lemmas.Bool.{cases_lt, le-ltb}
 use Rattle.std.proofs.lemmas.Option.{slice_get-map, slice_get_past}
-use Rattle.std.proofs.lemmas.List.Elements.{All-nil, All-cons, All-head, All-tail, All-append, All-contains, All-same}
+use Rattle.std.proofs.lemmas.List.Elements.{All-contains}
 use Rattle.sk_call_names.specs.declared.names.TheConstants.{LATE}
 use Rattle.sk_call_names.specs.Names.{name_of, named_from}
 use Rattle.sk_survey.specs.declared.rows.Row.{Row}
-use Rattle.sk_survey.specs.Answers.{answers_of}
 use Rattle.sk_survey.specs.Surveys.{TellsAlone, StandAlone}
-use Rattle.sk_survey_engine.specs.declared.line.Line.{Line}
-use Rattle.sk_survey_engine.specs.declared.line.Sign.{Sign}
-use Rattle.sk_survey_engine.specs.declared.line.Sign.TheVariants as sign
-use Rattle.sk_survey_engine.specs.Lines.{row_of, TellsNamedAlone}
-use Rattle.sk_survey_engine.specs.Differences.{Told, told_of, differ, piece, pieces}
+use Rattle.sk_survey_engine.specs.Lines.{TellsNamedAlone}
 
 unnamed : (nr : ℕ) → 463 ≤ nr → name_of nr ≡ None
 unfolding name_of

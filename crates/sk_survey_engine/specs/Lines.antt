@@ -1,11 +1,11 @@
 -- What the lines of a survey say of the chains.
-use Rattle.std.specs.Prelude.{ℕ, ◌≡◌, ◌+◌, ◌^◌, ◌≤◌, Bool, true, false, is_some, IsTrue, List, [], map, Option, Some, None, IfSome}
+use Rattle.std.specs.Prelude.{ℕ, ◌≡◌, ◌+◌, ◌^◌, Bool, true, false, is_some, IsTrue, List, [], map, Option, Some, None, IfSome}
 use Rattle.std.specs.List.{All}
 use Rattle.sk_insn.specs.declared.insn.Insn.{Insn}
 use Rattle.sk_call_names.specs.Names.{name_of}
 use Rattle.sk_survey.specs.declared.rows.Row.{Row}
-use Rattle.sk_survey.specs.Answers.{ChainAnswersAmong, answers_of}
-use Rattle.sk_survey.specs.Surveys.{Holds, Tell, TellsAlone}
+use Rattle.sk_survey.specs.Answers.{answers_of}
+use Rattle.sk_survey.specs.Surveys.{Tell, TellsAlone}
 use Rattle.sk_survey_examples.specs.Examples.{IsExample}
 use Rattle.sk_survey_engine.specs.declared.line.Line.{Line}
 use Rattle.sk_survey_engine.specs.declared.line.Shown.{Shown}

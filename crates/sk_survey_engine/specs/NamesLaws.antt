@@ -1,13 +1,12 @@
 -- Laws on the names of lines, by the rows that they tell.
-use Rattle.std.specs.Prelude.{ℕ, ◌≡◌, ◌≤◌, ◌<◌, is_some, Bool, IsTrue, List, codes, None}
+use Rattle.std.specs.Prelude.{ℕ, ◌≡◌, ◌≤◌, ◌<◌, is_some, IsTrue, List, codes, None}
 use Rattle.std.specs.List.{All, Any}
 use Rattle.std.specs.Option.{unwrap_or}
 use Rattle.sk_insn.specs.declared.insn.Insn.{Insn}
 use Rattle.sk_call_names.specs.Names.{name_of}
 use Rattle.sk_survey.specs.declared.rows.Row.{Row}
-use Rattle.sk_survey.specs.Surveys.{Holds, Tell}
-use Rattle.sk_survey_engine.specs.declared.line.Line.{Line}
-use Rattle.sk_survey_engine.specs.Lines.{TellsNamedAlone, IsLineOf}
+use Rattle.sk_survey.specs.Surveys.{Tell}
+use Rattle.sk_survey_engine.specs.Lines.{TellsNamedAlone}
 use Rattle.sk_survey_engine.specs.Text.{name_text}
 
 -- the name that a line of these numbers has is that of each of them, and `-` for one without a name

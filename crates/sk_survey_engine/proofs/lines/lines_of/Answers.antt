@@ -1,4 +1,3 @@
-use Rattle.std.proofs.Common.{◌≡◌}
 use Rattle.sk_survey_engine.specs.Lines.{Shows}
 use Rattle.sk_survey_engine.proofs.Holding.{still_hold, one_line_more}
 use Rattle.sk_survey_engine.proofs.lines.lines_of.Goals as goal
