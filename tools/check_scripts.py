@@ -22,9 +22,10 @@ STACK = 256
 PRELUDE = """
 tree=examples/filters/docker-default-tree.hex
 linear=examples/filters/docker-default-linear.hex
+openat=010100003e0000c0$(printf 0%.0s $(seq 112))
 fail() { echo "$1" >&2; exit 99; }
 sandboxed() { # starts a process that has attached a filter, as $pid
-    examples/filter $linear | examples/attach sleep 100 &
+    ./ask filter $linear | examples/attach sleep 100 &
     pid=$!
     for turn in $(seq 100); do
         if grep -q '^Seccomp:.2' /proc/$pid/status; then return; fi
@@ -33,7 +34,6 @@ sandboxed() { # starts a process that has attached a filter, as $pid
     fail 'no process attached a filter'
 }
 """
-NOT_UNDERSTOOD = r"skern: line \d+: not understood\n"
 THREADS = """
 import os, threading, time
 for _ in range(8):
@@ -52,101 +52,60 @@ class Row(NamedTuple):
 
 # Good uses, so that a row below fails for what it says and for nothing else.
 GOOD = [
-    Row("{ examples/record clone3; examples/filter $tree; } | ./skern eval", 0, "", r"return 0x00050026 errno data 38 steps 16\n"),
-    Row("{ examples/record 435 0xFFffFFffFFffFFff 18446744073709551615 0 0x0 5 6; examples/filter - < $tree; } | ./skern eval",
-        0, "", r"return 0x00050026 errno data 38 steps 16\n"),
-    Row("examples/record 4294967295 1 2 3 4 5 0xAB", 0, "",
-        "record ffffffff3e0000c0" + "0" * 16 + "".join(f"0{n}" + "0" * 14 for n in range(1, 6)) + "ab" + "0" * 14 + r"\n"),
-    Row("./survey --call clone3 $tree", 0, "", r"435 clone3 errno/38\n"),
-    Row("./survey --call clone3 --diff $tree <(echo filter 060000000000ff7f)", 0, "", r"- 435 clone3 errno/38\n\+ 435 clone3 allow/0\n"),
-    Row("examples/filter $tree | examples/attach echo ran", 0, "", r"ran\n"),
-    Row("examples/filter $tree | examples/attached examples/attach true | grep -c '^filter '", 0, "", r"1\n"),
+    Row("./ask why clone3 $tree | tail -n 1", 0, "", r"errno/38 ENOSYS by filter 0 at \d+\n"),
+    Row("./ask filter $tree | examples/attach echo ran", 0, "", r"ran\n"),
+    Row("./ask filter $tree | examples/attached examples/attach true | grep -c '^filter '", 0, "", r"1\n"),
+    Row("sandboxed; examples/process-filters $pid > $room/seen; status=$?; kill $pid; ./ask diff $room/seen $linear || status=1; exit $status",
+        0, "", r"the same on every call\n"),
 ]
-# A file that is read once, and what is no file of filters.
-SURVEYED = [
-    Row("./survey --call clone3 <(examples/filter $tree)", 0, "", r"435 clone3 errno/38\n"),
-    Row("cat $tree | ./survey --call clone3 /dev/stdin", 0, "", r"435 clone3 errno/38\n"),
-    Row("mkfifo $room/fifo; examples/filter $tree > $room/fifo & timeout 20 ./survey --call clone3 $room/fifo", 0, "", r"435 clone3 errno/38\n"),
-    Row("./survey --call clone3 examples", 3, r"(?s).*survey: examples can't be read\n", ""),
-    Row("./survey --call clone3 /dev/null", 3, r"survey: /dev/null holds no filter\n", ""),
-    Row("printf ' \\n\\n' > $room/blank; ./survey --call clone3 $room/blank", 3, r"survey: \S+ holds no filter\n", ""),
-    Row("./survey --call clone3 nofile", 3, r"(?s).*survey: nofile can't be read\n", ""),
-    Row("./survey --call clone3 ''", 3, r"(?s).*survey:  can't be read\n", ""),
-    Row("touch $room/closed; chmod 000 $room/closed; $as_owner ./survey --call clone3 $room/closed", 3, r"(?s).*survey: \S+ can't be read\n", ""),
-    Row("./survey --diff $tree nofile", 3, r"(?s).*survey: nofile can't be read\n", ""),
-    Row("./survey --diff $tree /dev/null", 3, r"survey: /dev/null holds no filter\n", ""),
-    Row("./survey --diff $tree", 1, "", NOT_UNDERSTOOD),
-    Row("./survey --call clone3 examples/exports/unix-sockets.bpf", 1, "", NOT_UNDERSTOOD),
-    Row("echo '; a filter' > $room/comment; ./survey --call clone3 $room/comment", 1, "", NOT_UNDERSTOOD),
-    Row("examples/filter nofile | ./survey --call clone3", 1, r"filter: nofile: No such file or directory\n", NOT_UNDERSTOOD),
-]
-# A filter or a call that can't be read is not left out.
+# A filter that can't be read is not left out: what comes behind a pipe finds no filter, and answers nothing.
+NO_FILTER = r"ask: -: holds no filter: .*\n"
 ASKED = [
-    Row("{ examples/record openat; examples/filter nofile; } | ./skern eval", 1, r"filter: nofile: .*\n", NOT_UNDERSTOOD),
-    Row("{ examples/record openat; examples/filter $tree nofile; } | ./skern eval", 1, r"filter: nofile: .*\n", NOT_UNDERSTOOD),
-    Row("{ examples/record openat; examples/filter examples; } | ./skern eval", 1, r"filter: examples: .*\n", NOT_UNDERSTOOD),
-    Row("{ examples/record openat; examples/filter /dev/null; } | ./skern eval", 1, r"filter: /dev/null holds no filter\n", NOT_UNDERSTOOD),
-    Row("{ examples/record openat; examples/filter - - < $tree; } | ./skern eval", 1, r"filter: standard input is read once\n", NOT_UNDERSTOOD),
-    Row("{ examples/record openat; examples/filter; } | ./skern eval", 1, r"usage: filter .*\n", NOT_UNDERSTOOD),
-    Row("{ examples/record openat; examples/filter --pid 1x; } | ./skern eval", 1, r"usage: filter .*\n", NOT_UNDERSTOOD),
-    Row("{ examples/record openat; examples/filter --pid $$; } | ./skern eval", 1, r"filter: process \d+ has no filter\n", NOT_UNDERSTOOD),
-    Row("{ examples/record openat; examples/filter --pid 4194305; } | ./skern eval", 1, r"filter: process 4194305: .*\n", NOT_UNDERSTOOD),
-    Row("sandboxed; { examples/record openat; $unprivileged examples/filter --pid $pid; } | ./skern eval; status=$?; kill $pid; exit $status",
-        1, r"filter: process \d+: (Operation not permitted|Permission denied)\n", NOT_UNDERSTOOD),
-    Row("examples/filter nofile", 1, r"filter: nofile: .*\n", r"unread\n"),
-    Row("examples/record", 2, r"usage: record .*\n", ""),
-    Row("examples/record nosuchcall", 2, r"record: no call is named nosuchcall\n", ""),
-    Row("examples/record -1", 2, r"record: no call is named -1\n", ""),
-    Row("examples/record 4294967296", 2, r"record: 4294967296 is too large\n", ""),
-    Row("examples/record 0x100000000", 2, r"record: 0x100000000 is too large\n", ""),
-    Row("examples/record 010", 2, r"record: 010 is no number\n", ""),
-    Row("examples/record openat word", 2, r"record: word is no number\n", ""),
-    Row("examples/record openat 1e3", 2, r"record: 1e3 is no number\n", ""),
-    Row("examples/record openat 0x", 2, r"record: 0x is no number\n", ""),
-    Row("examples/record openat ''", 2, r"record:  is no number\n", ""),
-    Row("examples/record openat 010", 2, r"record: 010 is no number\n", ""),
-    Row("examples/record openat -1", 2, r"record: -1 is no number\n", ""),
-    Row("examples/record openat 18446744073709551616", 2, r"record: 18446744073709551616 is too large\n", ""),
-    Row("examples/record openat 0x10000000000000000", 2, r"record: 0x10000000000000000 is too large\n", ""),
-    Row("examples/record openat 1 2 3 4 5 6 7", 2, r"usage: record .*\n", ""),
-    Row("{ examples/record openat 010; examples/filter $tree; } | ./skern eval", 1, r"record: 010 is no number\n", NOT_UNDERSTOOD),
+    Row("examples/process-filters | ./ask why openat -", 2, r"process-filters: process-filters PID\n" + NO_FILTER, ""),
+    Row("examples/process-filters 1x | ./ask why openat -", 2, r"process-filters: process-filters PID\n" + NO_FILTER, ""),
+    Row("examples/process-filters $$ | ./ask why openat -", 2, r"(process-filters: .*\n)?" + NO_FILTER, ""),
+    Row("examples/process-filters 4194305 | ./ask why openat -", 2, r"process-filters: process 4194305: .*\n" + NO_FILTER, ""),
+    Row("sandboxed; $unprivileged examples/process-filters $pid | ./ask why openat -; status=$?; kill $pid; exit $status",
+        2, r"process-filters: process \d+: (Operation not permitted|Permission denied)\n" + NO_FILTER, ""),
+    Row("examples/attached true | ./ask why openat -", 2, r"attached: no filter was attached\nask: -: line \d+: .*\n", ""),
+    Row("./ask filter nofile | ./ask why openat -", 2, r"ask: nofile: no such file\n" + NO_FILTER, ""),
 ]
 # Nothing is run outside the filters that it was to have.
 ATTACHED = [
-    Row("examples/filter nofile | examples/attach echo ran", 125, r"filter: .*\nattach: line 1 .*; nothing was run\n", ""),
+    Row("./ask filter nofile | examples/attach echo ran", 125, r"ask: .*\nattach: standard input names no filter; nothing was run\n", ""),
     Row("examples/attach echo ran < /dev/null", 125, r"attach: standard input names no filter; nothing was run\n", ""),
     Row("echo '; none' | examples/attach echo ran", 125, r"attach: standard input names no filter; nothing was run\n", ""),
-    Row("{ examples/filter $tree; echo filters 060000000000ff7f; } | examples/attach echo ran", 125, r"attach: line 2 .*; nothing was run\n", ""),
+    Row("{ ./ask filter $tree; echo filters 060000000000ff7f; } | examples/attach echo ran", 125, r"attach: line 2 .*; nothing was run\n", ""),
     Row("examples/attach echo ran < $tree", 125, r"attach: line 1 .*; nothing was run\n", ""),
     Row("echo filter 060000000000ff7 | examples/attach echo ran", 125, r"attach: line 1 .*; nothing was run\n", ""),
     Row("echo filter 060000000000ff7f06 | examples/attach echo ran", 125, r"attach: line 1 .*; nothing was run\n", ""),
     Row("echo filter | examples/attach echo ran", 125, r"attach: line 1 .*; nothing was run\n", ""),
     Row("echo filter 0000000000000000 | examples/attach echo ran", 125, r"attach: Invalid argument; nothing was run\n", ""),
     Row("examples/attach < $tree", 125, r"usage: attach .*\n", ""),
-    Row("examples/filter $tree | examples/attach nosuchcommand", 127, r"attach: nosuchcommand: .*\n", ""),
-    Row("examples/filter $tree | examples/attach $tree", 126, r"attach: \S+: Permission denied\n", ""),
-    Row("examples/filter $linear | examples/attached examples/attach sh -c 'exit 7' | tail -n 1 | cut -c 1-22; exit ${PIPESTATUS[1]}",
+    Row("./ask filter $tree | examples/attach nosuchcommand", 127, r"attach: nosuchcommand: .*\n", ""),
+    Row("./ask filter $tree | examples/attach $tree", 126, r"attach: \S+: Permission denied\n", ""),
+    Row("./ask filter $linear | examples/attached examples/attach sh -c 'exit 7' | tail -n 1 | cut -c 1-22; exit ${PIPESTATUS[1]}",
         7, "", r"filter 200000000400000\n"),
-    Row("examples/filter $linear | examples/attached examples/attach sh -c 'kill -9 $$' > /dev/null", 137, "", ""),
-    Row("for turn in $(seq 12); do examples/filter $linear | examples/attached examples/attach python3 -c \"$threads\" > /dev/null; echo $?; done",
+    Row("./ask filter $linear | examples/attached examples/attach sh -c 'kill -9 $$' > /dev/null", 137, "", ""),
+    Row("for turn in $(seq 12); do ./ask filter $linear | examples/attached examples/attach python3 -c \"$threads\" > /dev/null; echo $?; done",
         0, "", r"(7\n){12}"),
-    Row("{ examples/record openat; examples/attached true; } | ./skern eval", 1, r"attached: no filter was attached\n", NOT_UNDERSTOOD),
     Row("examples/attached true > /dev/null", 125, r"attached: no filter was attached\n", ""),
     Row("examples/attached nosuchcommand", 127, r"attached: nosuchcommand: .*\n", r"unread\n"),
     Row("examples/attached", 125, r"usage: attached .*\n", r"unread\n"),
 ]
 # Each program under the stack that is named, on input that takes as much of its depth as any that is known.
 UNDER_STACK = [
-    Row("{ examples/record openat; for turn in $(seq 24); do examples/filter $tree; done; } > $room/in; narrow skern eval | tail -n 1", 0, "",
+    Row("{ echo record $openat; for turn in $(seq 24); do ./ask filter $tree; done; } > $room/in; narrow skern eval | tail -n 1", 0, "",
         r"verdict 0x7fff0000 allow data 0\n"),
     Row("printf '0600000000000000%.0s' $(seq 4096) > $room/in; narrow skern check", 0, "", r"ok 4096\n"),
     Row("printf '0600000000000000%.0s' $(seq 4096) > $room/in; narrow skern list | uniq -c", 0, "", r" *4096 ret 0x00000000\n"),
     Row("{ printf 'jeq 1 end +0\\n%.0s' $(seq 200); echo end:; echo ret allow; } > $room/in; narrow skern asm | tail -n 1", 0, "", r"060000000000ff7f\n"),
     Row("container=$(echo filter container; sed 's/^/bytes /' $tree; echo end); for it in examples/scenarios/*.scenario examples/differences/*.scenario; do { [[ $it != */start.scenario ]] || echo \"$container\"; cat $it; } > $room/in; narrow skern run | tail -n 1; done | cut -c 1-4 | uniq",
         0, "", r"end \n"),
-    Row("examples/filter $tree > $room/in; narrow survey --call clone3", 0, "", r"435 clone3 errno/38\n"),
-    Row("examples/filter $tree > $room/in; narrow survey --examples | grep -c ' filter 0 at '", 0, "", r"[1-9]\d\d\n"),
-    Row("{ examples/filter $tree; echo against; examples/filter $linear; } > $room/in; narrow survey --examples --diff", 0, "", ""),
+    Row("./ask filter $tree > $room/in; narrow ask calls --examples - | grep -c ' filter 0 at '", 0, "", r"[1-9]\d\d\n"),
+    Row("./ask filter $tree > $room/in; narrow ask when - | grep -c else", 0, "", r"2\n"),
+    Row("./ask filter $tree > $room/in; narrow ask diff $linear -", 0, "", r"the same on every call\n"),
+    Row("{ for turn in $(seq 24); do ./ask filter $tree; done; } > $room/in; narrow ask why openat - | tail -n 1", 0, "", r"allow by filter 23 at \d+\n"),
 ]
 
 
@@ -164,8 +123,7 @@ def variables(room):
 
 def narrow(folder):
     """The shell's function that runs a program on the file `in`, under the stack that is named, with no environment."""
-    found = [path for path in ("{0}/bin/{1}", "{0}/{1}", "{0}/crates/{1}/out/{1}") if os.path.exists(path.format(folder, "survey"))]
-    place = found[-1].format(folder, '$1')
+    place = f"{folder}/crates/$1/out/$1" if os.path.exists(f"{folder}/crates") else f"{folder}/$1"
     return f'narrow() {{ (ulimit -S -s {STACK} && exec env -i "{place}" "${{@:2}}" < "$room/in"); }}\n'
 
 
@@ -188,7 +146,7 @@ def judged(row, folder):
 def main(words):
     folder = os.path.abspath(words[0]) if words else ROOT
     passed = failed = 0
-    for row in GOOD + SURVEYED + ASKED + ATTACHED + UNDER_STACK:
+    for row in GOOD + ASKED + ATTACHED + UNDER_STACK:
         try:
             problems = judged(row, folder)
         except subprocess.TimeoutExpired:

@@ -32,7 +32,7 @@ TellsSurvey options chain ending =
 abbrev pub IsSurvey : Question → List (List Insn) → Ending → Type 0
 IsSurvey asked chain ending =
     (call : Option ℕ) × IsAskedCall asked.call call
-    × TellsSurvey (record { call = call; examples = asked.examples; diff = false }) chain ending
+    × TellsSurvey (record { call = call; examples = asked.examples }) chain ending
 
 -- a survey of the chain that the files make; or no call has the name, or a file is refused or not read
 abbrev pub AnswersCalls : (List ℕ → Option (List ℕ)) → Question → Ending → Type 0

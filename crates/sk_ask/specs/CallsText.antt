@@ -1,5 +1,5 @@
 -- The text of `ask calls`: that of a survey, with verdicts as people read them.
-use Rattle.std.specs.Prelude.{ℕ, ◌++◌, List, [], ◌∷◌, codes, flat_map, Option, Some, None}
+use Rattle.std.specs.Prelude.{ℕ, ◌++◌, List, codes, flat_map, Option, Some, None}
 use Rattle.std.specs.Fmt.{decimal}
 use Rattle.hex.specs.Hex.{encode_lower}
 use Rattle.sk_insn.specs.Record.{record_bytes}
@@ -9,17 +9,8 @@ use Rattle.sk_survey.specs.Answers.{answers_of}
 use Rattle.sk_survey_examples.specs.declared.example.Example.{Example}
 use Rattle.sk_survey_engine.specs.declared.line.Shown.{Shown}
 use Rattle.sk_survey_engine.specs.declared.line.Line.{Line}
-use Rattle.sk_survey_engine.specs.Text.{numbers_text, name_text}
+use Rattle.sk_survey_engine.specs.Text.{numbers_text, name_text, answers_text}
 use Rattle.sk_verdict.specs.Verdicts.{verdict_text}
-
--- the values in their order, with a bar between two
-abbrev pub values_text : List ℕ → List ℕ
-values_text [] = []
-values_text (value ∷ values) = verdict_text value ++ flat_map (λ other. codes " | " ++ verdict_text other) values
-
-abbrev pub answers_text : Option (List ℕ) → List ℕ
-answers_text None = codes "any"
-answers_text (Some values) = values_text values
 
 -- one row: its numbers, the name of a single one, and the verdicts
 unfoldable pub row_text : Row → List ℕ

@@ -34,7 +34,6 @@ pub fn calls<S: Shelf>(
     let options = Options {
         call,
         examples: asked.examples,
-        diff: false,
     };
     Ok(survey(alloc, options, &filters.chain)?)
 }

@@ -1,16 +1,12 @@
 //! The text of `ask calls`.
-ghost use Rattle.std.specs.Prelude.{◌≡◌, ◌++◌, IfOk, OnOk, string_bytes, codes, flat_map};
+ghost use Rattle.std.specs.Prelude.{◌≡◌, ◌++◌, IfOk, OnOk, string_bytes, flat_map};
 ghost use Rattle.hex.specs.Hex.{encode_lower};
 ghost use Rattle.sk_insn.specs.Record.{record_bytes};
 ghost use Rattle.sk_engines.specs.Output.{line};
-ghost use Rattle.sk_survey.specs.Answers.{answers_of};
-ghost use Rattle.sk_survey_engine.specs.Text.{numbers_text, name_text};
-ghost use Rattle.sk_verdict.specs.Verdicts.{verdict_text};
-ghost use Rattle.sk_ask.specs.CallsText.{values_text, answers_text, row_text, found_text, shown_text, line_text, calls_text};
+ghost use Rattle.sk_ask.specs.CallsText.{row_text, found_text, shown_text, line_text, calls_text};
 
-use sk_call_names::name;
-use sk_survey::{Answers, Row};
-use sk_survey_engine::{Line, Shown};
+use sk_survey::Row;
+use sk_survey_engine::{Line, Shown, name_of_numbers, push_answers, push_numbers};
 use sk_survey_examples::Example;
 use sk_text::HexDigits;
 use sk_verdict::push_verdict;
@@ -42,68 +38,10 @@ fn push_row(text: &mut String, row: &Row) -> Result<(), AllocError>
 {
     push_numbers(text, row.first, row.last)?;
     text.push_str(" ")?;
-    text.push_str(name_in(row.first, row.last))?;
+    text.push_str(name_of_numbers(row.first, row.last))?;
     text.push_str(" ")?;
     push_answers(text, &row.answers)?;
     text.push_str("\n")
-}
-
-fn push_numbers(text: &mut String, first: u32, last: u32) -> Result<(), AllocError>
-    ensures text { OnOk result (string_bytes text.new ≡ string_bytes text.old ++ numbers_text first last) }
-{
-    if first == last {
-        write!(text, "{first}")
-    } else {
-        write!(text, "{first}-{last}")
-    }
-}
-
-fn name_in(first: u32, last: u32) -> &'static str
-    ensures text { result.now ≡ name_text first last }
-{
-    if first != last {
-        return "-";
-    }
-    match name(first) {
-        Some(name) => name,
-        None => "-",
-    }
-}
-
-fn push_answers(text: &mut String, answers: &Answers) -> Result<(), AllocError>
-    ensures text { OnOk result (string_bytes text.new ≡ string_bytes text.old ++ answers_text (answers_of answers.now)) }
-{
-    match answers {
-        Answers::Any => text.push_str("any"),
-        Answers::Among(values) => push_values(text, values),
-    }
-}
-
-fn push_values(text: &mut String, values: &[u32]) -> Result<(), AllocError>
-    ensures text { OnOk result (string_bytes text.new ≡ string_bytes text.old ++ values_text values.now) }
-{
-    let Some((first, others)) = values.split_first() else {
-        return Ok(());
-    };
-    push_verdict(text, *first)?;
-    push_others(text, others)
-}
-
-fn push_others(text: &mut String, values: &[u32]) -> Result<(), AllocError>
-    ensures text { OnOk result (string_bytes text.new ≡
-        string_bytes text.old ++ flat_map (λ other. codes " | " ++ verdict_text other) values.now) }
-{
-    for value in values {
-        push_other(text, *value)?;
-    }
-    Ok(())
-}
-
-fn push_other(text: &mut String, value: u32) -> Result<(), AllocError>
-    ensures text { OnOk result (string_bytes text.new ≡ string_bytes text.old ++ (codes " | " ++ verdict_text value)) }
-{
-    text.push_str(" | ")?;
-    push_verdict(text, value)
 }
 
 fn push_all_shown(text: &mut String, all: &[Shown]) -> Result<(), AllocError>

@@ -1,5 +1,5 @@
 //! Worked examples of `ask`: its words and texts over files and writers in memory, which fail where they are told to, the
-//! forms of files, and the texts of verdicts.
+//! forms of files, the texts of verdicts, and the names of calls.
 #![tactic(auto)]
 
 #[cfg(test)]
@@ -8,6 +8,8 @@ mod answers;
 mod ends;
 #[cfg(test)]
 mod files;
+#[cfg(test)]
+mod names;
 #[cfg(test)]
 mod troubles;
 #[cfg(test)]

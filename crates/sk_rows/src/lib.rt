@@ -1,4 +1,4 @@
-//! Worked examples that cross the crates: the commands, and the words of `skern` and `survey`, over readers and
+//! Worked examples that cross the crates: the commands, and the words of `skern`, over readers and
 //! writers in memory, which give and take as few bytes as they like and fail where they are told to.
 #![tactic(auto)]
 
@@ -16,8 +16,6 @@ mod failing_ends;
 mod failing_runs;
 #[cfg(test)]
 mod report_rows;
-#[cfg(test)]
-mod survey;
 #[cfg(test)]
 mod unready;
 #[cfg(test)]

@@ -7,11 +7,8 @@ use Rattle.std.proofs.lemmas.List.Elements.{All-head, All-tail}
 use Rattle.std.proofs.lemmas.List.Sums.{AllPass-from_list_all}
 use Rattle.sk_call_names.specs.declared.names.TheConstants.{EARLY, LATE}
 use Rattle.sk_call_names.specs.Names.{name_of}
-use Rattle.sk_survey.specs.Answers.{AreRising, answers_of}
-use Rattle.sk_survey.specs.Ends.{OnlyVerdicts}
-use Rattle.sk_survey.specs.Settling.{AllSettle, TellsOne}
 use Rattle.sk_survey_engine.specs.Lines.{TellsNamedAlone}
-use Rattle.sk_survey_engine.specs.NamesLaws.{NameIsOfEach, NoNameIsHidden, NamedHasARow, NamedLineHolds}
+use Rattle.sk_survey_engine.specs.NamesLaws.{NameIsOfEach, NoNameIsHidden, NamedHasARow}
 
 abbrev has_more : List ℕ → Bool
 has_more name = nat_lt 1 (length name)
@@ -52,23 +49,3 @@ row_of_named programs from end nr (row ∷ rows) told all low high named =
           let begins = told.0 in
           (0, row, omega arith, refl, All-head TellsNamedAlone row rows all nr named (omega arith) here)
     ]
-
-pub named_holds : NamedLineHolds
-named_holds programs examples line nr it named low high =
-    let part = it.part in
-    let begins = part.begins in
-    let ends = part.ends in
-    let is = it.holds.1 nr named (omega (arith, begins, low, high)) (omega (arith, ends, low, high)) in
-    let from = is.0 in
-    let to = is.1 in
-    let first : it.whole.first ≡ line.row.first = omega (arith, begins, low, from) in
-    let last : it.whole.last ≡ line.row.last = omega (arith, ends, high, to) in
-    let holds = it.holds.0 in
-    record {
-      among = it.among;
-      rising = subst AreRising (sym part.values) holds.rising;
-      only = subst (λ values. OnlyVerdicts programs line.row.first line.row.last values) (sym part.values)
-          (subst (λ n. OnlyVerdicts programs n line.row.last (answers_of it.whole.answers)) first
-          (subst (λ n. OnlyVerdicts programs it.whole.first n (answers_of it.whole.answers)) last holds.only));
-      settled = λ one settle. subst TellsOne (sym part.values) (holds.settled (first ∙ one ∙ sym last) (subst (AllSettle programs) (sym first) settle));
-    }

@@ -1,16 +1,11 @@
 -- What holds of each element, and of one more.
-use Rattle.std.proofs.Common.{◌≡◌, ℕ, zero, suc, ◌+◌, Bool, List, [], ◌∷◌, ◌++◌, map, arith, ap, ◌∙◌, append_assoc, sym, subst}
+use Rattle.std.proofs.Common.{◌≡◌, zero, suc, List, [], ◌∷◌, ◌++◌, map, arith, ap, ◌∙◌, append_assoc, sym, subst}
 use Rattle.std.specs.List.{All}
 use Rattle.std.proofs.lemmas.List.{map-append}
 use Rattle.std.proofs.lemmas.List.Elements.{All-append}
-use Rattle.sk_insn.specs.declared.insn.Insn.{Insn}
 use Rattle.sk_survey.specs.declared.rows.Row.{Row}
-use Rattle.sk_chain.specs.Verdict.{verdict_of}
-use Rattle.sk_survey.specs.Answers.{IsAmong, ChainAnswersAmong, answers_of}
-use Rattle.sk_survey.specs.Surveys.{Holds, Tell}
 use Rattle.sk_survey_engine.specs.declared.line.Line.{Line}
-use Rattle.sk_survey_engine.specs.declared.line.Sign.TheVariants as sign
-use Rattle.sk_survey_engine.specs.Lines.{row_of, TellsNamedAlone, IsRowOf, IsPartOf, IsLineOf, IsLineOfEither}
+use Rattle.sk_survey_engine.specs.Lines.{row_of}
 
 one_holds : {X : Type 0} (P : X → Type 0) (x : X) → P x → All P (x ∷ [])
 one_holds P x h zero d less = h
@@ -18,31 +13,6 @@ one_holds P x h (suc k) d less = absurd (omega arith)
 
 pub one_more_holds : {X : Type 0} (P : X → Type 0) (xs : List X) (x : X) → All P xs → P x → All P (xs ++ x ∷ [])
 one_more_holds P xs x all h = All-append P xs (x ∷ []) all (one_holds P x h)
-
-rows_hold : (programs : List (List Insn)) (from end : ℕ) (rows : List Row) → Tell programs from end rows → All (Holds programs) rows
-rows_hold programs from end [] told k d less = absurd (omega arith)
-rows_hold programs from end (row ∷ rows) told zero d less = told.3
-rows_hold programs from end (row ∷ rows) told (suc k) d less = rows_hold programs (row.last + 1) end rows told.4 k d (omega arith)
-
-pub all_rows : (programs : List (List Insn)) (from end : ℕ) (rows : List Row) → Tell programs from end rows → All TellsNamedAlone rows → All (IsRowOf programs) rows
-all_rows programs from end rows told alone k d less = (rows_hold programs from end rows told k d less, alone k d less)
-
--- what a row tells holds of a part of it
-pub part_among : (programs : List (List Insn)) (whole row : Row) → Holds programs whole → IsPartOf whole row
-    → ChainAnswersAmong programs row.first row.last (answers_of row.answers)
-part_among programs whole row holds part call within =
-    let begins = part.begins in
-    let ends = part.ends in
-    subst (IsAmong (verdict_of programs call)) (sym part.values) (holds.among call (omega (arith, begins, within.0), omega (arith, ends, within.1)))
-
--- a line is one of the chain that its sign says
-pub is_of_first : (examples : Bool) (first second : List (List Insn)) (line : Line) → line.sign ≡ sign.First → IsLineOf first examples line
-    → IsLineOfEither examples first second line
-is_of_first examples first second line its holds = rw its (rw its at holds)
-
-pub is_of_second : (examples : Bool) (first second : List (List Insn)) (line : Line) → line.sign ≡ sign.Second → IsLineOf second examples line
-    → IsLineOfEither examples first second line
-is_of_second examples first second line its holds = rw its (rw its at holds)
 
 -- with one line more behind them
 pub still_hold : (P : Line → Type 0) (lines next : List Line) (line : Line) → next ≡ lines ++ line ∷ [] → All P lines → P line → All P next

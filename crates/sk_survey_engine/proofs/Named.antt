@@ -1,20 +1,15 @@
 -- Numbers with a name, and the rows and pieces of rows that tell them.
-use Rattle.std.proofs.Common.{◌≡◌, ℕ, zero, suc, ◌+◌, ◌-◌, ◌<◌, ◌≤◌, max, min, Bool, true, false, cond, is_some, IsTrue, inl, inr, List, [], ◌∷◌, map, flat_map, Option, None, slice_get, arith, sym, ap, subst, ◌∙◌}
+use Rattle.std.proofs.Common.{◌≡◌, ℕ, zero, suc, ◌+◌, ◌-◌, ◌<◌, ◌≤◌, Bool, true, false, cond, is_some, IsTrue, inl, inr, List, ◌∷◌, None, slice_get, arith, sym, ap, subst, ◌∙◌}
 use Rattle.std.specs.List.{All, Contains}
 use Rattle.std.specs.Option.{option_map}
 use Rattle.std.proofs.lemmas.Bool.{cases_lt, le-ltb}
 use Rattle.std.proofs.lemmas.Option.{slice_get-map, slice_get_past}
-use Rattle.std.proofs.lemmas.List.Elements.{All-nil, All-cons, All-head, All-tail, All-append, All-contains, All-same}
+use Rattle.std.proofs.lemmas.List.Elements.{All-contains}
 use Rattle.sk_call_names.specs.declared.names.TheConstants.{LATE}
 use Rattle.sk_call_names.specs.Names.{name_of, named_from}
 use Rattle.sk_survey.specs.declared.rows.Row.{Row}
-use Rattle.sk_survey.specs.Answers.{answers_of}
 use Rattle.sk_survey.specs.Surveys.{TellsAlone, StandAlone}
-use Rattle.sk_survey_engine.specs.declared.line.Line.{Line}
-use Rattle.sk_survey_engine.specs.declared.line.Sign.{Sign}
-use Rattle.sk_survey_engine.specs.declared.line.Sign.TheVariants as sign
-use Rattle.sk_survey_engine.specs.Lines.{row_of, TellsNamedAlone}
-use Rattle.sk_survey_engine.specs.Differences.{Told, told_of, differ, piece, pieces}
+use Rattle.sk_survey_engine.specs.Lines.{TellsNamedAlone}
 
 unnamed : (nr : ℕ) → 463 ≤ nr → name_of nr ≡ None
 unfolding name_of
@@ -49,50 +44,3 @@ is_among (suc count) from nr low high named =
 pub named_alone : (rows : List Row) → StandAlone (named_from 463 0) rows → All TellsNamedAlone rows
 named_alone rows stand k d less nr named =
     All-contains (λ nr. All (TellsAlone nr) rows) (named_from 463 0) nr stand (is_among 463 0 nr (omega arith) (is_below nr named) named) k d less
-
--- the same of a line without what stands below it
-abbrev IsToldAlone : Told → Type 0
-IsToldAlone told = (nr : ℕ) → IsTrue (is_some (name_of nr)) → told.first ≤ nr → nr ≤ told.last → (told.first ≡ nr) × (told.last ≡ nr)
-
-both_alone : (row other : Row) → TellsNamedAlone row → (nr : ℕ) → IsTrue (is_some (name_of nr))
-    → max row.first other.first ≤ nr → nr ≤ min row.last other.last → (max row.first other.first ≡ nr) × (min row.last other.last ≡ nr)
-both_alone row other alone nr named low high =
-    let is = alone nr named (omega arith) (omega arith) in
-    let begins = is.0 in let ends = is.1 in
-    (omega arith, omega arith)
-
-abbrev told_as : Sign → Row → Row → Option (List ℕ) → Told
-told_as its row other values =
-    record { sign = its; first = max row.first other.first; last = min row.last other.last; values = values }
-
-by_difference : (b : Bool) (lines : List Told) → All IsToldAlone lines → All IsToldAlone (cond b lines [])
-by_difference true lines all = all
-by_difference false lines all = All-nil IsToldAlone
-
-piece_alone : (row other : Row) → TellsNamedAlone row → All IsToldAlone (piece row other)
-unfolding piece
-piece_alone row other alone =
-    let first : Told = told_as sign.First row other (answers_of row.answers) in
-    let second : Told = told_as sign.Second row other (answers_of other.answers) in
-    let one = both_alone row other alone in
-    by_difference (differ row other) (first ∷ second ∷ [])
-    (All-cons IsToldAlone first (second ∷ []) one (All-cons IsToldAlone second [] one (All-nil IsToldAlone)))
-
-all_flat : {X Y : Type 0} (P : Y → Type 0) (f : X → List Y) (xs : List X) → All (λ x. All P (f x)) xs → All P (flat_map f xs)
-all_flat P f [] all = All-nil P
-all_flat P f (x ∷ xs) all =
-    All-append P (f x) (flat_map f xs) (All-head (λ x. All P (f x)) x xs all) (all_flat P f xs (All-tail (λ x. All P (f x)) x xs all))
-
-pieces_alone : (rows others : List Row) → All TellsNamedAlone rows → All IsToldAlone (pieces rows others)
-pieces_alone rows others all =
-    all_flat IsToldAlone (λ row. flat_map (piece row) others) rows (λ k d less.
-    all_flat IsToldAlone (piece _) others (λ n e inside. piece_alone _ _ (all k d less)))
-
-rows_alone : (lines : List Line) → All IsToldAlone (map told_of lines) → All TellsNamedAlone (map row_of lines)
-rows_alone [] all = All-nil TellsNamedAlone
-rows_alone (line ∷ lines) all =
-    All-cons TellsNamedAlone line.row (map row_of lines) (All-head IsToldAlone (told_of line) (map told_of lines) all)
-    (rows_alone lines (All-tail IsToldAlone (told_of line) (map told_of lines) all))
-
-pub told_alone : (lines : List Line) (rows others : List Row) → map told_of lines ≡ pieces rows others → All TellsNamedAlone rows → All TellsNamedAlone (map row_of lines)
-told_alone lines rows others told all = rows_alone lines (All-same IsToldAlone (map told_of lines) (pieces rows others) told (pieces_alone rows others all))

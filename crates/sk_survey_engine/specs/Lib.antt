@@ -1,10 +1,3 @@
-pub mod Input
-pub mod Gathering
-pub mod Asked
 pub mod Text
 pub mod Lines
-pub mod Delivering
-pub mod Chains
-pub mod Differences
-pub mod Telling
 pub mod NamesLaws

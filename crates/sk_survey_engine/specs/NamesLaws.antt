@@ -1,13 +1,12 @@
 -- Laws on the names of lines, by the rows that they tell.
-use Rattle.std.specs.Prelude.{ℕ, ◌≡◌, ◌≤◌, ◌<◌, is_some, Bool, IsTrue, List, codes, None}
+use Rattle.std.specs.Prelude.{ℕ, ◌≡◌, ◌≤◌, ◌<◌, is_some, IsTrue, List, codes, None}
 use Rattle.std.specs.List.{All, Any}
 use Rattle.std.specs.Option.{unwrap_or}
 use Rattle.sk_insn.specs.declared.insn.Insn.{Insn}
 use Rattle.sk_call_names.specs.Names.{name_of}
 use Rattle.sk_survey.specs.declared.rows.Row.{Row}
-use Rattle.sk_survey.specs.Surveys.{Holds, Tell}
-use Rattle.sk_survey_engine.specs.declared.line.Line.{Line}
-use Rattle.sk_survey_engine.specs.Lines.{TellsNamedAlone, IsLineOf}
+use Rattle.sk_survey.specs.Surveys.{Tell}
+use Rattle.sk_survey_engine.specs.Lines.{TellsNamedAlone}
 use Rattle.sk_survey_engine.specs.Text.{name_text}
 
 -- the name that a line of these numbers has is that of each of them, and `-` for one without a name
@@ -27,9 +26,3 @@ abbrev pub NamedHasARow : Type 0
 NamedHasARow =
     (programs : List (List Insn)) (from end nr : ℕ) (rows : List Row) → Tell programs from end rows → All TellsNamedAlone rows
     → from ≤ nr → nr < end → IsTrue (is_some (name_of nr)) → Any (λ row. (row.first ≡ nr) × (row.last ≡ nr)) rows
-
--- a line that tells a number with a name is no part of a longer row, so what holds of a row holds of it
-abbrev pub NamedLineHolds : Type 0
-NamedLineHolds =
-    (programs : List (List Insn)) (examples : Bool) (line : Line) (nr : ℕ) → IsLineOf programs examples line
-    → IsTrue (is_some (name_of nr)) → line.row.first ≤ nr → nr ≤ line.row.last → Holds programs line.row

@@ -1,6 +1,5 @@
 //! Laws on the lines of a survey. No program calls these functions: the contract of each is the law.
-
-ghost use Rattle.sk_survey_engine.specs.NamesLaws.{NameIsOfEach, NoNameIsHidden, NamedHasARow, NamedLineHolds};
+ghost use Rattle.sk_survey_engine.specs.NamesLaws.{NameIsOfEach, NoNameIsHidden, NamedHasARow};
 
 /// A line's name is right for each of its numbers, no call with a name hides in a line without one, and where all numbers
 /// are told each such call has a line by itself.
@@ -8,9 +7,4 @@ pub fn names_are_right()
     ensures each { NameIsOfEach }
     ensures hidden { NoNameIsHidden }
     ensures row { NamedHasARow }
-{}
-
-/// What holds of a row holds of the line of a call with a name, also where two chains differ.
-pub fn named_lines_hold()
-    ensures law { NamedLineHolds }
 {}

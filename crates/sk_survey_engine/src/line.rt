@@ -2,17 +2,6 @@
 use sk_survey::Row;
 use sk_survey_examples::Example;
 
-/// What the sign before a line says.
-#[derive(Clone, Copy, Debug, PartialEq, Eq)]
-pub enum Sign {
-    /// There is one chain.
-    None,
-    /// The first chain answers this.
-    First,
-    /// The second chain answers this in its place.
-    Second,
-}
-
 /// A verdict, and what was found that shows it.
 #[derive(Clone, Copy, Debug)]
 pub struct Shown {
@@ -23,7 +12,6 @@ pub struct Shown {
 /// A line, and below it the verdicts that were looked for.
 #[derive(Drop)]
 pub struct Line {
-    pub sign: Sign,
     pub row: Row,
     pub shown: Vec<Shown>,
 }

@@ -5,7 +5,7 @@ ghost use Rattle.sk_survey.specs.Answers.{answers_of};
 ghost use Rattle.sk_survey.specs.Surveys.{Tell};
 ghost use Rattle.sk_survey_engine.specs.Lines.{first_told, end_told, TellsNamedAlone, Shows, IsShown, AreLinesOf};
 
-use crate::line::{Line, Shown, Sign};
+use crate::line::{Line, Shown};
 use crate::options::Options;
 use sk_call_names::numbers;
 use sk_chain::Chain;
@@ -28,15 +28,10 @@ pub fn lines_of(alloc: Global, options: Options, chain: &Chain) -> Result<Vec<Li
 
 fn line_of(alloc: Global, examples: bool, chain: &Chain, row: Row) -> Result<Line, AllocError>
     ensures row { IfOk result (λ line. line.row ≡ row) }
-    ensures plain { IfOk result (λ line. line.sign ≡ Sign.None) }
     ensures shows { IfOk result (λ line. Shows chain.now examples line.row line.shown.items) }
 {
     let shown = shown_of(alloc, examples, chain, &row)?;
-    Ok(Line {
-        sign: Sign::None,
-        row,
-        shown,
-    })
+    Ok(Line { row, shown })
 }
 
 /// The rows of the numbers that are wanted. A number with a name has a row by itself.
@@ -64,7 +59,7 @@ pub fn rows_of(alloc: Global, call: Option<u32>, chain: &Chain) -> Result<Vec<Ro
 }
 
 /// What is shown below a row: calls for each of its values, where they are wanted.
-pub fn shown_of(
+fn shown_of(
     alloc: Global,
     examples: bool,
     chain: &Chain,

@@ -1,63 +1,17 @@
-//! The text of a survey.
-ghost use Rattle.std.specs.Prelude.{◌≡◌, ◌++◌, IfOk, OnOk, string_bytes, codes, flat_map};
-ghost use Rattle.hex.specs.Hex.{encode_lower};
-ghost use Rattle.sk_insn.specs.Record.{record_bytes};
-ghost use Rattle.sk_engines.specs.Output.{line};
+//! How numbers, names and verdicts are written.
+ghost use Rattle.std.specs.Prelude.{◌≡◌, ◌++◌, OnOk, string_bytes, codes, flat_map};
 ghost use Rattle.sk_survey.specs.Answers.{answers_of};
-ghost use Rattle.sk_survey_engine.specs.Text.{numbers_text, name_text, verdict_text, values_text, answers_text, row_text, found_text, shown_text, sign_text, line_text, lines_text};
+ghost use Rattle.sk_verdict.specs.Verdicts.{verdict_text};
+ghost use Rattle.sk_survey_engine.specs.Text.{numbers_text, name_text, values_text, answers_text};
 
-use crate::line::{Line, Shown, Sign};
 use sk_call_names::name;
-use sk_insn::{Action, Record};
-use sk_survey::{Answers, Row};
-use sk_survey_examples::Example;
-use sk_text::HexDigits;
-use std::alloc::{AllocError, Global};
+use sk_survey::Answers;
+use sk_verdict::push_verdict;
+use std::alloc::AllocError;
 use std::fmt::Write;
 
-/// The text of these lines.
-pub fn text_of(alloc: Global, lines: &[Line]) -> Result<String, AllocError>
-    ensures text { IfOk result (λ text. string_bytes text ≡ lines_text lines.now) }
-{
-    let mut text = String::new(alloc);
-    for line in lines {
-        push_line(&mut text, line)?;
-    }
-    Ok(text)
-}
-
-#[tactic(auto, unfolding(crate::specs::Text::line_text))]
-fn push_line(text: &mut String, line: &Line) -> Result<(), AllocError>
-    ensures text { OnOk result (string_bytes text.new ≡ string_bytes text.old ++ line_text line.now) }
-{
-    text.push_str(sign_of(line.sign))?;
-    push_row(text, &line.row)?;
-    push_all_shown(text, &line.shown)
-}
-
-fn sign_of(sign: Sign) -> &'static str
-    ensures text { result.now ≡ sign_text sign }
-{
-    match sign {
-        Sign::None => "",
-        Sign::First => "- ",
-        Sign::Second => "+ ",
-    }
-}
-
-#[tactic(auto, unfolding(crate::specs::Text::row_text))]
-fn push_row(text: &mut String, row: &Row) -> Result<(), AllocError>
-    ensures text { OnOk result (string_bytes text.new ≡ string_bytes text.old ++ row_text row.now) }
-{
-    push_numbers(text, row.first, row.last)?;
-    text.push_str(" ")?;
-    text.push_str(name_in(row.first, row.last))?;
-    text.push_str(" ")?;
-    push_answers(text, &row.answers)?;
-    text.push_str("\n")
-}
-
-fn push_numbers(text: &mut String, first: u32, last: u32) -> Result<(), AllocError>
+/// Appends a number, or a range of them.
+pub fn push_numbers(text: &mut String, first: u32, last: u32) -> Result<(), AllocError>
     ensures text { OnOk result (string_bytes text.new ≡ string_bytes text.old ++ numbers_text first last) }
 {
     if first == last {
@@ -67,7 +21,8 @@ fn push_numbers(text: &mut String, first: u32, last: u32) -> Result<(), AllocErr
     }
 }
 
-fn name_in(first: u32, last: u32) -> &'static str
+/// The name of a single number that has one, else `-`.
+pub fn name_of_numbers(first: u32, last: u32) -> &'static str
     ensures text { result.now ≡ name_text first last }
 {
     if first != last {
@@ -79,7 +34,8 @@ fn name_in(first: u32, last: u32) -> &'static str
     }
 }
 
-fn push_answers(text: &mut String, answers: &Answers) -> Result<(), AllocError>
+/// Appends the verdicts that may come, with a bar between two.
+pub fn push_answers(text: &mut String, answers: &Answers) -> Result<(), AllocError>
     ensures text { OnOk result (string_bytes text.new ≡ string_bytes text.old ++ answers_text (answers_of answers.now)) }
 {
     match answers {
@@ -113,53 +69,4 @@ fn push_other(text: &mut String, value: u32) -> Result<(), AllocError>
 {
     text.push_str(" | ")?;
     push_verdict(text, value)
-}
-
-#[tactic(auto, unfolding(crate::specs::Text::verdict_text))]
-fn push_verdict(text: &mut String, value: u32) -> Result<(), AllocError>
-    ensures text { OnOk result (string_bytes text.new ≡ string_bytes text.old ++ verdict_text value) }
-{
-    let name = Action::of(value).name();
-    let given = value % 0x1_0000;
-    write!(text, "{name}/{given}")
-}
-
-fn push_all_shown(text: &mut String, all: &[Shown]) -> Result<(), AllocError>
-    ensures text { OnOk result (string_bytes text.new ≡ string_bytes text.old ++ flat_map shown_text all.now) }
-{
-    for shown in all {
-        push_shown(text, *shown)?;
-    }
-    Ok(())
-}
-
-#[tactic(auto, unfolding(crate::specs::Text::shown_text))]
-fn push_shown(text: &mut String, shown: Shown) -> Result<(), AllocError>
-    ensures text { OnOk result (string_bytes text.new ≡ string_bytes text.old ++ shown_text shown) }
-{
-    text.push_str("  ")?;
-    push_verdict(text, shown.value)?;
-    push_found(text, shown.found)?;
-    text.push_str("\n")
-}
-
-fn push_found(text: &mut String, found: Option<Example>) -> Result<(), AllocError>
-    ensures text { OnOk result (string_bytes text.new ≡ string_bytes text.old ++ found_text found) }
-{
-    match found {
-        Some(example) => push_example(text, example),
-        None => text.push_str(" ?"),
-    }
-}
-
-fn push_example(text: &mut String, example: Example) -> Result<(), AllocError>
-    ensures text { OnOk result (string_bytes text.new ≡ string_bytes text.old ++ found_text (Some example)) }
-{
-    let Example {
-        call,
-        filter,
-        place,
-    } = example;
-    let record = HexDigits::<128>::of(&call.bytes());
-    write!(text, " filter {filter} at {place} record {record}")
 }

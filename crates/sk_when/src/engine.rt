@@ -26,7 +26,6 @@ fn told_rows(alloc: Global, chain: &Chain, call: Option<u32>) -> Result<Vec<Told
     let options = Options {
         call,
         examples: false,
-        diff: false,
     };
     let lines = lines_of(alloc, options, chain)?;
     tell_all(alloc, chain, lines)

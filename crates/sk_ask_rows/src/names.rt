@@ -1,3 +1,4 @@
+//! Some calls by their numbers and names.
 use sk_call_names::{name, number, numbers};
 use std::test::Fail;
 

@@ -1,8 +1,0 @@
-//! The program `survey` as a function of its words, a reader and a writer.
-#![tactic(auto)]
-
-mod cli;
-mod words;
-
-pub use cli::command;
-pub use sk_engines::{CommandFault, FAILED, failed, finish, words_of};
