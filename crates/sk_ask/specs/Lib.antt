@@ -8,6 +8,7 @@ pub mod Endings
 pub mod Filters
 pub mod FilterText
 pub mod Helping
+pub mod Replays
 pub mod Shelves
 pub mod Telling
 pub mod Troubles

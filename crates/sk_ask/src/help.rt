@@ -10,6 +10,7 @@ pub const HELP: &str = "usage: ask WORD ..
   ask filter [--raw] FILE..                     the filters in another form
   ask when [--call CALL] FILE..                 under which arguments each verdict comes
   ask diff [--stricter] OLD NEW                 the calls that two chains of filters answer otherwise
+  ask replay LOG FILE..                         the verdicts on the calls that strace -f -X raw -e raw=all wrote to LOG
   ask WORD --help                               more on a word
 FILE holds raw struct sock_filter, hexadecimal digits, or lines filter HEX; - is standard input.
 Several FILEs are one chain, the oldest filter first.
@@ -43,6 +44,13 @@ with the old and the new verdict, and below them a call that shows it, those fir
   --stricter    whether NEW is at least as strict: no action of OLD takes precedence over that of NEW
 ";
 
+/// What `ask replay --help` says.
+pub const REPLAY_HELP: &str = "usage: ask replay LOG FILE..
+The calls in LOG, which strace -f -X raw -e raw=all -o LOG COMMAND wrote: each once, with how often it was made and the verdict
+of the filters in the FILEs, those first that are not performed; then how many lines are no calls, or are not understood.
+Status 1 where a call is not performed, or a line not understood. LOG has at most 268435456 bytes; - is standard input.
+";
+
 /// What `ask WORD --help` says.
 pub fn word_help(word: Word) -> &'static str
     ensures text { result.now ≡ word_help_text word }
@@ -52,5 +60,6 @@ pub fn word_help(word: Word) -> &'static str
         Word::Filter => FILTER_HELP,
         Word::When => WHEN_HELP,
         Word::Diff => DIFF_HELP,
+        Word::Replay => REPLAY_HELP,
     }
 }

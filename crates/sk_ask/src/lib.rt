@@ -11,6 +11,7 @@ mod filter;
 mod filters;
 mod help;
 mod output;
+mod replay;
 mod shelf;
 mod trouble;
 mod when;
