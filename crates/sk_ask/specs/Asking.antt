@@ -6,7 +6,7 @@ use Rattle.sk_ask.specs.declared.trouble.Trouble.{Trouble}
 use Rattle.sk_ask.specs.declared.trouble.Trouble.TheVariants.{Refused, Reading, Memory}
 use Rattle.sk_ask.specs.declared.words.Asked.{Asked}
 use Rattle.sk_ask.specs.declared.words.Word.{Word}
-use Rattle.sk_ask.specs.declared.words.Word.TheVariants.{Calls, Filter, When, Diff, Replay}
+use Rattle.sk_ask.specs.declared.words.Word.TheVariants.{Calls, Filter, When, Diff, Replay, Why}
 use Rattle.sk_ask.specs.Complaints.{of_word}
 
 -- the word behind `--call`, and whether it is awaited; whether there was `--examples`, `--raw`, `--stricter` or `--help`; and the
@@ -29,6 +29,7 @@ word_name Filter = codes "filter"
 word_name When = codes "when"
 word_name Diff = codes "diff"
 word_name Replay = codes "replay"
+word_name Why = codes "why"
 
 abbrev pub word_named : List ℕ → Option Word
 word_named name =
@@ -37,6 +38,7 @@ word_named name =
     else if bytes_eq name (codes "when") then Some When
     else if bytes_eq name (codes "diff") then Some Diff
     else if bytes_eq name (codes "replay") then Some Replay
+    else if bytes_eq name (codes "why") then Some Why
     else None
 
 -- ---- one word more
@@ -69,7 +71,7 @@ with_option When asked text =
     if bytes_eq text (codes "--call") then with_call When asked else with_name When asked text
 with_option Diff asked text =
     if bytes_eq text (codes "--stricter") then Ok (record asked { stricter = true }) else with_name Diff asked text
-with_option Replay asked text = with_name Replay asked text
+with_option word asked text = with_name word asked text
 
 abbrev pub with_word : Word → Question → List ℕ → Result Question (List ℕ)
 with_word word asked text =
@@ -83,6 +85,7 @@ with_word word asked text =
 abbrev pub wanted : Word → List (List ℕ)
 wanted Diff = codes "OLD" ∷ codes "NEW" ∷ []
 wanted Replay = codes "LOG" ∷ codes "FILE" ∷ []
+wanted Why = codes "CALL" ∷ codes "FILE" ∷ []
 wanted word = codes "FILE" ∷ []
 
 -- the first that is wanted and has no name

@@ -13,3 +13,4 @@ pub mod Shelves
 pub mod Telling
 pub mod Troubles
 pub mod Whens
+pub mod Whys

@@ -15,6 +15,7 @@ use crate::replay::replay;
 use crate::shelf::Shelf;
 use crate::trouble::{Answer, Trouble};
 use crate::when::when;
+use crate::why::why;
 use crate::words::{Asked, Word, asked_in};
 use sk_ends::Sink;
 use sk_text::is_word;
@@ -68,7 +69,7 @@ fn answer<S: Shelf>(
     }
     match Word::named(first.as_bytes()) {
         Some(word) => word_answer(alloc, word, rest, shelf, reads),
-        None => Err(Trouble::Refused(of_word(alloc, "no word is named ", first.as_str())?)),
+        None => Err(Trouble::Refused(of_word(alloc, "no word is named ", first.as_bytes())?)),
     }
 }
 
@@ -106,6 +107,7 @@ fn question_answer<S: Shelf>(
         Word::When => when(alloc, asked, shelf, reads),
         Word::Diff => diff(alloc, asked, shelf, reads),
         Word::Replay => replay(alloc, asked, shelf, reads),
+        Word::Why => why(alloc, asked, shelf, reads),
     }
 }
 

@@ -15,6 +15,7 @@ mod replay;
 mod shelf;
 mod trouble;
 mod when;
+mod why;
 mod words;
 
 pub use cli::{command, misused};

@@ -21,6 +21,8 @@ pub enum Word {
     Diff,
     /// The verdicts on the calls of a log.
     Replay,
+    /// The path of a call through the filters.
+    Why,
 }
 
 impl Word {
@@ -38,6 +40,8 @@ impl Word {
             Some(Word::Diff)
         } else if is_word(name, b"replay") {
             Some(Word::Replay)
+        } else if is_word(name, b"why") {
+            Some(Word::Why)
         } else {
             None
         }
@@ -53,6 +57,7 @@ impl Word {
             Word::When => "when",
             Word::Diff => "diff",
             Word::Replay => "replay",
+            Word::Why => "why",
         }
     }
 }
@@ -158,7 +163,7 @@ fn with_call<'a>(alloc: Global, word: Word, asked: Asked<'a>) -> Result<Asked<'a
 {
     if asked.call.is_some() {
         let what = format!(in alloc; "{}: given twice: ", word.name())?;
-        return Err(Trouble::Refused(of_word(alloc, &what, "--call")?));
+        return Err(Trouble::Refused(of_word(alloc, &what, b"--call")?));
     }
     Ok(Asked {
         awaits: true,
@@ -176,7 +181,7 @@ fn with_name<'a>(
 {
     if is_option(text.as_bytes()) {
         let what = format!(in alloc; "{}: no option is named ", word.name())?;
-        return Err(Trouble::Refused(of_word(alloc, &what, text.as_str())?));
+        return Err(Trouble::Refused(of_word(alloc, &what, text.as_bytes())?));
     }
     let mut asked = asked;
     asked.names.push(text.clone()?)?;
@@ -196,7 +201,7 @@ fn ended<'a>(alloc: Global, word: Word, asked: Asked<'a>) -> Result<Asked<'a>, T
 {
     if asked.awaits {
         let what = format!(in alloc; "{}: expected a name or a number behind ", word.name())?;
-        return Err(Trouble::Refused(of_word(alloc, &what, "--call")?));
+        return Err(Trouble::Refused(of_word(alloc, &what, b"--call")?));
     }
     if asked.help {
         return Ok(asked);
@@ -211,7 +216,9 @@ fn named<'a>(alloc: Global, word: Word, asked: Asked<'a>) -> Result<Asked<'a>, T
 {
     match word {
         Word::Diff => two_named(alloc, asked),
-        Word::Calls | Word::Filter | Word::When | Word::Replay => none_missing(alloc, word, asked),
+        Word::Calls | Word::Filter | Word::When | Word::Replay | Word::Why => none_missing(
+            alloc, word, asked,
+        ),
     }
 }
 
@@ -223,7 +230,7 @@ fn two_named<'a>(alloc: Global, asked: Asked<'a>) -> Result<Asked<'a>, Trouble>
         return Ok(asked);
     }
     let what = "diff: expected two FILEs, OLD and NEW";
-    Err(Trouble::Refused(of_word(alloc, what, "")?))
+    Err(Trouble::Refused(of_word(alloc, what, b"")?))
 }
 
 fn none_missing<'a>(alloc: Global, word: Word, asked: Asked<'a>) -> Result<Asked<'a>, Trouble>
@@ -234,7 +241,7 @@ fn none_missing<'a>(alloc: Global, word: Word, asked: Asked<'a>) -> Result<Asked
         return Ok(asked);
     };
     let what = format!(in alloc; "{}: no {kind} is given", word.name())?;
-    Err(Trouble::Refused(of_word(alloc, &what, "")?))
+    Err(Trouble::Refused(of_word(alloc, &what, b"")?))
 }
 
 // What the first name stands for that is wanted behind so many.
@@ -245,7 +252,10 @@ fn missing(word: Word, count: usize) -> Option<&'static str>
         (Word::Diff, 0) => Some("OLD"),
         (Word::Diff, 1) => Some("NEW"),
         (Word::Replay, 0) => Some("LOG"),
-        (Word::Replay, 1) | (Word::Calls | Word::Filter | Word::When, 0) => Some("FILE"),
+        (Word::Why, 0) => Some("CALL"),
+        (Word::Replay | Word::Why, 1) | (Word::Calls | Word::Filter | Word::When, 0) => Some(
+            "FILE",
+        ),
         _ => None,
     }
 }
