@@ -82,6 +82,11 @@ FILES = {
     "kill": insn(0x06, k=0x80000000).hex().encode(),
     "argument": insn(0x20, k=16) + insn(0x16),
     "flag": insn(0x20, k=16) + insn(0x45, 0, 1, 1) + insn(0x06, k=0x00050026) + ALLOW,
+    "log": b"7 read(0x3, 0x7ffd, 0x40) = 0x40\n7 getpid() = 0x7\n7 read(0x3, 0x7ffd, 0x40) = 0x3\n7 +++ exited with 0 +++\n",
+    "log_cut": b"7 getpid() = 0x7\n7 read(0x3, 0x7f",
+    "log_crlf": b"7 getpid() = 0x7\r\n",
+    "log_ends": b"7 +++ exited with 0 +++\n",
+    "log_decoded": b'7 read(3, "ab", 64) = 2\n7 close(3) = 0\n',
 }
 
 
@@ -98,6 +103,7 @@ class Row(NamedTuple):
 
 GOT = "39 getpid errno/1 EPERM\n"
 LINE = line(GETPID).decode()
+NO_CALL = "holds no call: expected lines as strace -f -X raw -e raw=all writes them"
 NO_FILTER = "holds no filter: expected bytes of struct sock_filter, hexadecimal digits or lines filter HEX"
 
 
@@ -148,6 +154,15 @@ GOOD = [
     Row("ask diff all raw", 1, "", difference(39, "getpid", "allow", "errno/1 EPERM")),
     Row("ask diff raw --stricter all", 1, "", difference(39, "getpid", "errno/1 EPERM", "allow")),
     Row("ask diff flag all | sed -n 1,3p", 1, "", difference(0, "read", "errno/38 ENOSYS", "allow", 1)),
+    good("ask replay log all", "2 read(0x3, 0x7ffd, 0x40) allow\n1 getpid() allow\n1 line is no call\n"),
+    good("ask replay - all < log", "2 read(0x3, 0x7ffd, 0x40) allow\n1 getpid() allow\n1 line is no call\n"),
+    good("cat log | ask replay /dev/stdin <(cat all) | head -n 1", "2 read(0x3, 0x7ffd, 0x40) allow\n"),
+    good("mkfifo fifo; cat log > fifo & timeout 20 ask replay fifo - < all | tail -n 1", "1 line is no call\n"),
+    Row("ask replay log raw", 1, "", "1 getpid() errno/1 EPERM\n2 read(0x3, 0x7ffd, 0x40) allow\n1 line is no call\n"),
+    Row("ask replay log all raw | head -n 1", 1, "", "1 getpid() errno/1 EPERM\n"),
+    Row("ask replay log_cut all", 1, "", "1 getpid() allow\n1 line is not understood\n"),
+    good("ask replay log_crlf all", "1 getpid() allow\n"),
+    good("ask replay --help | head -n 1", "usage: ask replay LOG FILE..\n"),
     good("ask when --help | head -n 1", "usage: ask when [--call CALL] FILE..\n"),
     good("ask diff --help | head -n 1", "usage: ask diff [--stricter] OLD NEW\n"),
     good("ask --help | head -n 1", "usage: ask WORD ..\n"), good("ask calls --help | head -n 1", "usage: ask calls [--call CALL] [--examples] FILE..\n"),
@@ -161,6 +176,9 @@ WORDS = [
     *[trouble(f"ask diff {files}", "diff: expected two FILEs, OLD and NEW") for files in ("", "raw", "raw raw raw", "--stricter all")],
     trouble("ask diff --call read raw all", "diff: no option is named --call"), trouble("ask diff raw nofile", "nofile: no such file"),
     trouble("ask diff empty raw", f"empty: {NO_FILTER}"), trouble("ask diff - - < raw", f"-: {NO_FILTER}"),
+    trouble("ask replay", "replay: no LOG is given"), trouble("ask replay log", "replay: no FILE is given"),
+    trouble("ask replay -", "replay: no FILE is given"), trouble("ask replay --call read log all", "replay: no option is named --call"),
+    trouble("ask replay -- log all", "replay: no option is named --"),
     trouble("ask calls", "calls: no FILE is given"), trouble("ask filter --raw", "filter: no FILE is given"),
     trouble("ask calls --exmples raw", "calls: no option is named --exmples"), trouble("ask calls --raw raw", "calls: no option is named --raw"),
     trouble("ask filter --examples raw", "filter: no option is named --examples"), trouble("ask calls -x raw", "calls: no option is named -x"),
@@ -180,6 +198,15 @@ UNREAD = [
     trouble("ask calls mib_and_one", "mib_and_one: has more than 1048576 bytes"), trouble("ask calls /dev/zero", "/dev/zero: has more than 1048576 bytes"),
     trouble("ask calls - <&-", "-: reading failed"), trouble("ask calls - < folder", "-: reading failed"),
     trouble("ask calls - - < raw", f"-: {NO_FILTER}"),
+    trouble("ask replay nolog nofile", "nolog: no such file"), trouble("ask replay log nofile", "nofile: no such file"),
+    trouble("ask replay folder all", "folder: is a folder"), trouble("ask replay log folder", "folder: is a folder"),
+    trouble("ask replay \"$(printf 'a\\nb')\" all", "a?b: no such file"), trouble("ask replay '' all", ": no such file"),
+    trouble("chmod 000 log; $as_owner ask replay log all", "log: may not be read"), trouble("ask replay log/x all", "log/x: can't be opened"),
+    trouble("ask replay - all <&-", "-: reading failed"), trouble("ask replay - all < folder", "-: reading failed"),
+    trouble("ask replay log mib_and_one", "mib_and_one: has more than 1048576 bytes"),
+    trouble("ask replay /dev/zero all", "/dev/zero: has more than 268435456 bytes"),
+    trouble("truncate -s 268435457 big; ask replay big all", "big: has more than 268435456 bytes"),
+    trouble("ask replay - - < log", f"-: {NO_FILTER}"),
 ]
 REFUSED = [
     *[trouble(f"ask calls {name}", f"{name}: {NO_FILTER}") for name in ("empty", "blank", "comments", "mib")],
@@ -208,11 +235,17 @@ REFUSED = [
     trouble("ask filter unstored", "unstored: instruction 0: loads scratch word 3, which some path there does not store"),
     trouble("ask filter long", "long: there are more than 4096 instructions"),
     trouble("ask filter chain", "chain: line 9: the filters are too long together: expected at most 32768 instructions, with 4 more for each filter before this one"),
+    *[trouble(f"ask replay {name} all", f"{name}: {NO_CALL}") for name in ("empty", "/dev/null", "log_ends", "log_decoded", "raw", "lines", "mib_and_one", "chain")],
+    trouble("truncate -s 268435456 big; ask replay big all", f"big: {NO_CALL}"),
+    trouble("ask replay all log", "log: line 1: expected filter HEX"), trouble("ask replay empty empty", f"empty: {NO_FILTER}"),
+    trouble("ask replay log code", "code: line 2: instruction 2: the code is none of the 41 that seccomp(2) permits"),
+    trouble("ask replay log thirty_two all", "all: one filter too many: expected at most 32 in all files"),
     trouble("ask filter --raw two", "filter: the FILEs hold several filters: expected one with --raw"),
     trouble("ask filter --raw raw all", "filter: the FILEs hold several filters: expected one with --raw"),
 ]
 STREAMS = [
     trouble("ask calls raw > /dev/full", "writing failed"), trouble("ask calls raw >&-", "writing failed"), trouble("ask --help > /dev/full", "writing failed"),
+    trouble("ask replay log all > /dev/full", "writing failed"), trouble("ask replay log raw >&-", "writing failed"),
     trouble("ask calls nofile 2>&-", ""), trouble("ask calls raw > /dev/full 2>&-", ""), trouble("ask calls nofile 2> /dev/full", ""),
 ]
 

@@ -1,4 +1,3 @@
 pub mod Wholes
 pub mod Among
-pub mod Numbered
 pub mod Refusing

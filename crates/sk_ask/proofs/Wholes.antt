@@ -1,22 +1,22 @@
--- A file of which at most so many bytes were taken, and fewer came, was taken whole.
-use Rattle.std.proofs.Common.{◌≡◌, ℕ, ◌≤◌, ◌<◌, List, length, take, min, Option, Some, None, IfSome, arith, ◌∙◌, ap}
+-- A file of which at most one byte more than so many was taken, and no more than these came, was taken whole.
+use Rattle.std.proofs.Common.{◌≡◌, ℕ, ◌+◌, ◌≤◌, ◌<◌, List, length, take, min, Option, Some, None, IfSome, arith, ◌∙◌, ap}
 use Rattle.std.proofs.lemmas.List.{length-take, take_all}
 
-whole_of : (whole bytes : List ℕ) → bytes ≡ take 1048577 whole → length bytes ≤ 1048576 → bytes ≡ whole
-whole_of whole bytes e short =
-    let size : length bytes ≡ min 1048577 (length whole) = ap length e ∙ length-take 1048577 whole in
-    let fits : length whole ≤ 1048577 = omega arith in
-    e ∙ take_all 1048577 whole fits
+whole_of : (most : ℕ) (whole bytes : List ℕ) → bytes ≡ take (most + 1) whole → length bytes ≤ most → bytes ≡ whole
+whole_of most whole bytes e short =
+    let size : length bytes ≡ min (most + 1) (length whole) = ap length e ∙ length-take (most + 1) whole in
+    let fits : length whole ≤ most + 1 = omega arith in
+    e ∙ take_all (most + 1) whole fits
 
-pub held_whole : (held : Option (List ℕ)) (bytes : List ℕ) → IfSome held (λ whole. bytes ≡ take 1048577 whole) → length bytes ≤ 1048576 → IfSome held (λ whole. bytes ≡ whole)
-held_whole None bytes first short = first
-held_whole (Some whole) bytes first short = whole_of whole bytes first short
+pub held_whole : (most : ℕ) (held : Option (List ℕ)) (bytes : List ℕ) → IfSome held (λ whole. bytes ≡ take (most + 1) whole) → length bytes ≤ most → IfSome held (λ whole. bytes ≡ whole)
+held_whole most None bytes first short = first
+held_whole most (Some whole) bytes first short = whole_of most whole bytes first short
 
-longer_of : (whole bytes : List ℕ) → bytes ≡ take 1048577 whole → 1048576 < length bytes → 1048576 < length whole
-longer_of whole bytes e long =
-    let size : length bytes ≡ min 1048577 (length whole) = ap length e ∙ length-take 1048577 whole in
+longer_of : (most : ℕ) (whole bytes : List ℕ) → bytes ≡ take (most + 1) whole → most < length bytes → most < length whole
+longer_of most whole bytes e long =
+    let size : length bytes ≡ min (most + 1) (length whole) = ap length e ∙ length-take (most + 1) whole in
     omega arith
 
-pub is_longer : (held : Option (List ℕ)) (bytes : List ℕ) → IfSome held (λ whole. bytes ≡ take 1048577 whole) → 1048576 < length bytes → IfSome held (λ whole. 1048576 < length whole)
-is_longer None bytes first long = first
-is_longer (Some whole) bytes first long = longer_of whole bytes first long
+pub is_longer : (most : ℕ) (held : Option (List ℕ)) (bytes : List ℕ) → IfSome held (λ whole. bytes ≡ take (most + 1) whole) → most < length bytes → IfSome held (λ whole. most < length whole)
+is_longer most None bytes first long = first
+is_longer most (Some whole) bytes first long = longer_of most whole bytes first long

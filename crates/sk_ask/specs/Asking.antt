@@ -1,12 +1,12 @@
 -- What words ask.
-use Rattle.std.specs.Prelude.{ℕ, ◌≡◌, ◌==◌, ◌&&◌, ◌++◌, nat_lt, is_some, Bool, true, false, if◌then◌else◌, List, [], ◌∷◌, length, codes, map, string_bytes, slice_index, Option, Some, None, Result, Ok, Err, ⊤}
+use Rattle.std.specs.Prelude.{ℕ, ◌≡◌, ◌≤◌, ◌==◌, ◌&&◌, ◌++◌, nat_lt, is_some, Bool, true, false, if◌then◌else◌, List, [], ◌∷◌, length, slice_get, codes, map, string_bytes, slice_index, Option, Some, None, Result, Ok, Err, ⊤}
 use Rattle.std.specs.Str.{bytes_eq}
 use Rattle.std.specs.Option.{option_map}
 use Rattle.sk_ask.specs.declared.trouble.Trouble.{Trouble}
 use Rattle.sk_ask.specs.declared.trouble.Trouble.TheVariants.{Refused, Reading, Memory}
 use Rattle.sk_ask.specs.declared.words.Asked.{Asked}
 use Rattle.sk_ask.specs.declared.words.Word.{Word}
-use Rattle.sk_ask.specs.declared.words.Word.TheVariants.{Calls, Filter, When, Diff}
+use Rattle.sk_ask.specs.declared.words.Word.TheVariants.{Calls, Filter, When, Diff, Replay, Why}
 use Rattle.sk_ask.specs.Complaints.{of_word}
 
 -- the word behind `--call`, and whether it is awaited; whether there was `--examples`, `--raw`, `--stricter` or `--help`; and the
@@ -28,6 +28,8 @@ word_name Calls = codes "calls"
 word_name Filter = codes "filter"
 word_name When = codes "when"
 word_name Diff = codes "diff"
+word_name Replay = codes "replay"
+word_name Why = codes "why"
 
 abbrev pub word_named : List ℕ → Option Word
 word_named name =
@@ -35,6 +37,8 @@ word_named name =
     else if bytes_eq name (codes "filter") then Some Filter
     else if bytes_eq name (codes "when") then Some When
     else if bytes_eq name (codes "diff") then Some Diff
+    else if bytes_eq name (codes "replay") then Some Replay
+    else if bytes_eq name (codes "why") then Some Why
     else None
 
 -- ---- one word more
@@ -67,6 +71,7 @@ with_option When asked text =
     if bytes_eq text (codes "--call") then with_call When asked else with_name When asked text
 with_option Diff asked text =
     if bytes_eq text (codes "--stricter") then Ok (record asked { stricter = true }) else with_name Diff asked text
+with_option word asked text = with_name word asked text
 
 abbrev pub with_word : Word → Question → List ℕ → Result Question (List ℕ)
 with_word word asked text =
@@ -76,22 +81,30 @@ with_word word asked text =
 
 -- ---- all of them
 
--- there is a file
-abbrev pub some_named : Word → Question → List (List ℕ) → Result Question (List ℕ)
-some_named word asked [] = Err (of_word (word_name word ++ codes ": no FILE is given") [])
-some_named word asked (name ∷ names) = Ok asked
+-- what the names behind a word stand for. There may be more of the last
+abbrev pub wanted : Word → List (List ℕ)
+wanted Diff = codes "OLD" ∷ codes "NEW" ∷ []
+wanted Replay = codes "LOG" ∷ codes "FILE" ∷ []
+wanted Why = codes "CALL" ∷ codes "FILE" ∷ []
+wanted word = codes "FILE" ∷ []
+
+-- the first that is wanted and has no name
+abbrev pub missing : Word → Question → Option (List ℕ)
+missing word asked = slice_get (wanted word) (length asked.names)
+
+abbrev pub none_missing : Word → Question → Option (List ℕ) → Result Question (List ℕ)
+none_missing word asked None = Ok asked
+none_missing word asked (Some kind) = Err (of_word (word_name word ++ (codes ": no " ++ (kind ++ codes " is given"))) [])
 
 -- two chains are compared, an old one and a new one, each of a file
-abbrev pub two_named : Question → List (List ℕ) → Result Question (List ℕ)
-two_named asked (old ∷ (new ∷ [])) = Ok asked
-two_named asked names = Err (of_word (codes "diff: expected two FILEs, OLD and NEW") [])
+abbrev pub two_named : Question → Result Question (List ℕ)
+two_named asked =
+    if length asked.names == 2 then Ok asked else Err (of_word (codes "diff: expected two FILEs, OLD and NEW") [])
 
--- as many files as the word wants
+-- as many names as the word wants
 abbrev pub named : Word → Question → Result Question (List ℕ)
-named Calls asked = some_named Calls asked asked.names
-named Filter asked = some_named Filter asked asked.names
-named When asked = some_named When asked asked.names
-named Diff asked = two_named asked asked.names
+named Diff asked = two_named asked
+named word asked = none_missing word asked (missing word asked)
 
 abbrev pub ended : Word → Question → Result Question (List ℕ)
 ended word asked =
@@ -125,3 +138,7 @@ Asks (Ok asked) said = said ≡ Ok (question_of asked)
 Asks (Err (Refused line)) said = said ≡ Err line.items
 Asks (Err (Reading line)) said = ⊥
 Asks (Err Memory) said = ⊤
+
+-- but for `--help` there are as many names as the word wants
+abbrev pub HasNames : Word → Asked → Type 0
+HasNames word asked = asked.help ≡ false → length (wanted word) ≤ length asked.names.items

@@ -61,8 +61,8 @@ abbrev pub ReadsFilters : (List ℕ → Option (List ℕ)) → List (List ℕ) �
 ReadsFilters held names found chain =
     (files : List (List ℕ)) × AreHeld held names files × (read_of names files ≡ Ok (found, chain))
 
--- one of the files is not read, or what it holds is refused, or memory
+-- one of the files, of at most 1048576 bytes each, is not read, or what it holds is refused, or memory
 abbrev pub IsRefusedOf : (List ℕ → Option (List ℕ)) → List (List ℕ) → Trouble → Type 0
 IsRefusedOf held names why =
-    IsUnreadOf held names why
+    IsUnreadOf 1048576 held names why
     ⊎ (((files : List (List ℕ)) × AreHeld held names files × IsReadAs (Err why) (read_of names files)) ⊎ (why ≡ trouble.Memory))

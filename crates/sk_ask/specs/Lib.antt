@@ -8,7 +8,9 @@ pub mod Endings
 pub mod Filters
 pub mod FilterText
 pub mod Helping
+pub mod Replays
 pub mod Shelves
 pub mod Telling
 pub mod Troubles
 pub mod Whens
+pub mod Whys

@@ -1,5 +1,6 @@
 -- What is known of files that are read by their names.
-use Rattle.std.specs.Prelude.{ℕ, ◌≡◌, ◌⊎◌, ◌<◌, List, [], ◌∷◌, length, codes, Option, None, IfSome, Result, Ok, Err, ⊤}
+use Rattle.std.specs.Prelude.{ℕ, ◌≡◌, ◌⊎◌, ◌<◌, List, [], ◌∷◌, ◌++◌, length, codes, Option, None, IfSome, Result, Ok, Err, ⊤}
+use Rattle.std.specs.Fmt.{decimal}
 use Rattle.sk_ends.specs.Failures.{one_more}
 use Rattle.sk_ends.specs.declared.source.ReadFault.{ReadFault}
 use Rattle.sk_ends.specs.declared.source.ReadFault.TheVariants.{Read, Memory as MemoryRefused}
@@ -42,22 +43,26 @@ IsUnopened Reading held = ⊥
 IsUnopened Memory held = ⊥
 IsUnopened why held = held ≡ None
 
--- a file that is refused before its bytes are judged is one that can't be opened, or is too long
-abbrev pub IsRefused : Option (List ℕ) → List ℕ → List ℕ → Type 0
-IsRefused held name line =
+-- what is said of a file that has more bytes than so many
+abbrev pub too_long_text : ℕ → List ℕ
+too_long_text most = codes "has more than " ++ decimal most ++ codes " bytes"
+
+-- a file that is refused before its bytes are judged is one that can't be opened, or has more bytes than it may have
+abbrev pub IsRefused : ℕ → Option (List ℕ) → List ℕ → List ℕ → Type 0
+IsRefused most held name line =
     ((why : Unread) × IsUnopened why held × (line ≡ about name (unread_text why)))
-    ⊎ (IfSome held (λ whole. 1048576 < length whole) × (line ≡ about name (codes "has more than 1048576 bytes")))
+    ⊎ (IfSome held (λ whole. most < length whole) × (line ≡ about name (too_long_text most)))
 
 -- why the file with this name, of which this is known, is not read, and the line that says so
-abbrev pub IsUnread : Option (List ℕ) → List ℕ → Trouble → Type 0
-IsUnread held name (trouble.Refused line) = IsRefused held name line.items
-IsUnread held name (trouble.Reading line) = line.items ≡ about name (unread_text Reading)
-IsUnread held name trouble.Memory = ⊤
+abbrev pub IsUnread : ℕ → Option (List ℕ) → List ℕ → Trouble → Type 0
+IsUnread most held name (trouble.Refused line) = IsRefused most held name line.items
+IsUnread most held name (trouble.Reading line) = line.items ≡ about name (unread_text Reading)
+IsUnread most held name trouble.Memory = ⊤
 
 -- one of these files is not read
-abbrev pub IsUnreadOf : (List ℕ → Option (List ℕ)) → List (List ℕ) → Trouble → Type 0
-IsUnreadOf held [] why = ⊥
-IsUnreadOf held (name ∷ names) why = IsUnread (held name) name why ⊎ IsUnreadOf held names why
+abbrev pub IsUnreadOf : ℕ → (List ℕ → Option (List ℕ)) → List (List ℕ) → Trouble → Type 0
+IsUnreadOf most held [] why = ⊥
+IsUnreadOf most held (name ∷ names) why = IsUnread most (held name) name why ⊎ IsUnreadOf most held names why
 
 -- these are the bytes of the files with these names, one for one, wherever they are known
 abbrev pub AreHeld : (List ℕ → Option (List ℕ)) → List (List ℕ) → List (List ℕ) → Type 0

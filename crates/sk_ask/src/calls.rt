@@ -1,11 +1,11 @@
 //! `ask calls`: what filters can answer to each call.
-ghost use Rattle.std.specs.Prelude.{◌≡◌, ◌≢◌, ℕ, IfOk, IfErr, IfSome, IfNone, Some, map, string_bytes};
+ghost use Rattle.std.specs.Prelude.{◌≡◌, IfOk, IfErr};
 ghost use Rattle.std.specs.Option.{option_map};
 ghost use Rattle.sk_ask.specs.Endings.{CountsReads, answered, ending_of};
 ghost use Rattle.sk_ask.specs.Asking.{question_of};
 ghost use Rattle.sk_ask.specs.Answering.{AnswersCalls, TellsSurvey};
 ghost use Rattle.sk_ask.specs.CallsText.{calls_text};
-ghost use Rattle.sk_ask.specs.Calls.{IsAskedCall, IsNoCall, IsCall, NoCall, begins_with_zero, call_number};
+ghost use Rattle.sk_ask.specs.Calls.{IsAskedCall, IsNoCall};
 
 use crate::calls_text::calls_text;
 use crate::complaint::of_word;
@@ -13,10 +13,9 @@ use crate::filters::asked_filters;
 use crate::shelf::Shelf;
 use crate::trouble::{Answer, Trouble};
 use crate::words::Asked;
-use sk_call_names::number;
+use sk_call_text::call_named;
 use sk_chain::Chain;
 use sk_survey_engine::{Line, Options, lines_of};
-use sk_text::number_up_to;
 use std::alloc::{AllocError, Global};
 
 /// Answers `ask calls`.
@@ -64,37 +63,6 @@ pub fn asked_call(alloc: Global, asked: Option<&str>) -> Result<Option<u32>, Tro
     };
     match call_named(word.as_bytes()) {
         Some(nr) => Ok(Some(nr)),
-        None => Err(Trouble::Refused(of_word(alloc, "no call is named ", word)?)),
-    }
-}
-
-/// The number of the call that a word is: a name, or a number in decimal without a 0 before it, or `0x` and hexadecimal
-/// digits.
-pub fn call_named(word: &[u8]) -> Option<u32>
-    ensures call { IfSome result (IsCall word.now) }
-    ensures none { IfNone result (NoCall word.now) }
-{
-    match number(word) {
-        Some(nr) => Some(nr),
-        None => call_number(word),
-    }
-}
-
-fn call_number(word: &[u8]) -> Option<u32>
-    ensures number { result ≡ call_number word.now }
-{
-    if begins_with_zero(word) {
-        return None;
-    }
-    let number = number_up_to(word, u64::from(u32::MAX))?;
-    Some(number as u32)
-}
-
-fn begins_with_zero(word: &[u8]) -> bool
-    ensures zero { result ≡ begins_with_zero word.now }
-{
-    match word {
-        [first, second, ..] => *first == b'0' && *second != b'x',
-        _ => false,
+        None => Err(Trouble::Refused(of_word(alloc, "no call is named ", word.as_bytes())?)),
     }
 }

@@ -1,7 +1,7 @@
 //! The program over any files and writers.
-ghost use Rattle.std.specs.Prelude.{◌≡◌, ◌≤◌, false, IfOk, map, string_bytes};
+ghost use Rattle.std.specs.Prelude.{◌≡◌, ◌≤◌, false, IfOk, length, map, string_bytes};
 ghost use Rattle.sk_ask.specs.Answering.{AnswersWords, AnswersAsked, AnswersQuestion};
-ghost use Rattle.sk_ask.specs.Asking.{question_of, asked_of, nothing_asked};
+ghost use Rattle.sk_ask.specs.Asking.{question_of, asked_of, nothing_asked, wanted};
 ghost use Rattle.sk_ask.specs.Endings.{CountsReads, Complains, ending_of, wordless_line, written};
 ghost use Rattle.sk_ask.specs.Telling.{Told};
 
@@ -11,9 +11,11 @@ use crate::diff::diff;
 use crate::filter::filter;
 use crate::help::{HELP, word_help};
 use crate::output::{complain, put};
+use crate::replay::replay;
 use crate::shelf::Shelf;
 use crate::trouble::{Answer, Trouble};
 use crate::when::when;
+use crate::why::why;
 use crate::words::{Asked, Word, asked_in};
 use sk_ends::Sink;
 use sk_text::is_word;
@@ -67,7 +69,7 @@ fn answer<S: Shelf>(
     }
     match Word::named(first.as_bytes()) {
         Some(word) => word_answer(alloc, word, rest, shelf, reads),
-        None => Err(Trouble::Refused(of_word(alloc, "no word is named ", first.as_str())?)),
+        None => Err(Trouble::Refused(of_word(alloc, "no word is named ", first.as_bytes())?)),
     }
 }
 
@@ -95,6 +97,7 @@ fn question_answer<S: Shelf>(
     shelf: &S,
     reads: &mut u64,
 ) -> Result<Answer, Trouble>
+    requires named { length (wanted word) ≤ length asked.now.names.items }
     ensures told { AnswersQuestion (S.held shelf.now) word (question_of asked.now) (ending_of result) }
     ensures counted { CountsReads result reads.old reads.new }
 {
@@ -103,6 +106,8 @@ fn question_answer<S: Shelf>(
         Word::Filter => filter(alloc, asked, shelf, reads),
         Word::When => when(alloc, asked, shelf, reads),
         Word::Diff => diff(alloc, asked, shelf, reads),
+        Word::Replay => replay(alloc, asked, shelf, reads),
+        Word::Why => why(alloc, asked, shelf, reads),
     }
 }
 

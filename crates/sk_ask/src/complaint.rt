@@ -10,7 +10,7 @@ pub fn about(alloc: Global, name: &str, what: &str) -> Result<Vec<u8>, AllocErro
 {
     let mut line = Vec::new(alloc);
     line.extend_from_slice(b"ask: ")?;
-    line.extend_from_slice(&shown(alloc, name)?)?;
+    line.extend_from_slice(&shown(alloc, name.as_bytes())?)?;
     line.extend_from_slice(b": ")?;
     line.extend_from_slice(what.as_bytes())?;
     line.extend_from_slice(b"\n")?;
@@ -18,7 +18,7 @@ pub fn about(alloc: Global, name: &str, what: &str) -> Result<Vec<u8>, AllocErro
 }
 
 /// The line that says what is wrong, with the word that is meant at its end.
-pub fn of_word(alloc: Global, what: &str, word: &str) -> Result<Vec<u8>, AllocError>
+pub fn of_word(alloc: Global, what: &str, word: &[u8]) -> Result<Vec<u8>, AllocError>
     ensures line { IfOk result (λ line. line.items ≡ of_word what.now word.now) }
 {
     let mut line = Vec::new(alloc);
@@ -30,13 +30,10 @@ pub fn of_word(alloc: Global, what: &str, word: &str) -> Result<Vec<u8>, AllocEr
 }
 
 // A word with a question mark for each byte that would end the line or change how it is shown.
-fn shown(alloc: Global, word: &str) -> Result<Vec<u8>, AllocError>
+fn shown(alloc: Global, word: &[u8]) -> Result<Vec<u8>, AllocError>
     ensures bytes { IfOk result (λ bytes. bytes.items ≡ shown word.now) }
 {
-    word.as_bytes()
-        .iter()
-        .map(|byte| shown_byte(*byte))
-        .collect(alloc)
+    word.iter().map(|byte| shown_byte(*byte)).collect(alloc)
 }
 
 #[tactic(auto, unfolding(crate::specs::Complaints::shown_byte))]

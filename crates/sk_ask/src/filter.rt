@@ -51,7 +51,7 @@ fn only(alloc: Global, images: &[Vec<u8>]) -> Result<Answer, Trouble>
         _ => Err(Trouble::Refused(of_word(
             alloc,
             "filter: the FILEs hold several filters: expected one with ",
-            "--raw",
+            b"--raw",
         )?)),
     }
 }

@@ -10,6 +10,8 @@ pub const HELP: &str = "usage: ask WORD ..
   ask filter [--raw] FILE..                     the filters in another form
   ask when [--call CALL] FILE..                 under which arguments each verdict comes
   ask diff [--stricter] OLD NEW                 the calls that two chains of filters answer otherwise
+  ask replay LOG FILE..                         the verdicts on the calls that strace -f -X raw -e raw=all wrote to LOG
+  ask why 'CALL(ARG, ..)' FILE..                the path of one call through the filters, instruction by instruction
   ask WORD --help                               more on a word
 FILE holds raw struct sock_filter, hexadecimal digits, or lines filter HEX; - is standard input.
 Several FILEs are one chain, the oldest filter first.
@@ -43,6 +45,21 @@ with the old and the new verdict, and below them a call that shows it, those fir
   --stricter    whether NEW is at least as strict: no action of OLD takes precedence over that of NEW
 ";
 
+/// What `ask replay --help` says.
+pub const REPLAY_HELP: &str = "usage: ask replay LOG FILE..
+The calls in LOG, which strace -f -X raw -e raw=all -o LOG COMMAND wrote: each once, with how often it was made and the verdict
+of the filters in the FILEs, those first that are not performed; then how many lines are no calls, or are not understood.
+Status 1 where a call is not performed, or a line not understood. LOG has at most 268435456 bytes; - is standard input.
+";
+
+/// What `ask why --help` says.
+pub const WHY_HELP: &str = "usage: ask why 'CALL(ARG, ..)' FILE..
+The instructions of each filter that one call of x86-64 comes to, the newest filter first: the place, the instruction, what A and
+X hold behind it, what a jump compared and where it went; then the verdict, and the filter and the place that it comes from.
+CALL is a name or a number, decimal or 0x and hexadecimal; an ARG, of at most six, a number of 64 bits, or - and one of at most 2^63.
+Arguments that are not given are 0, and so is the instruction pointer.
+";
+
 /// What `ask WORD --help` says.
 pub fn word_help(word: Word) -> &'static str
     ensures text { result.now ≡ word_help_text word }
@@ -52,5 +69,7 @@ pub fn word_help(word: Word) -> &'static str
         Word::Filter => FILTER_HELP,
         Word::When => WHEN_HELP,
         Word::Diff => DIFF_HELP,
+        Word::Replay => REPLAY_HELP,
+        Word::Why => WHY_HELP,
     }
 }

@@ -11,9 +11,11 @@ mod filter;
 mod filters;
 mod help;
 mod output;
+mod replay;
 mod shelf;
 mod trouble;
 mod when;
+mod why;
 mod words;
 
 pub use cli::{command, misused};

@@ -1,8 +1,8 @@
 //! Files by their names, and their bytes.
-ghost use Rattle.std.specs.Prelude.{◌≡◌, ◌≤◌, ℕ, List, Option, take, IfOk, IfErr, IfSome, OnOk, ◌++◌, [], ◌∷◌, map, string_bytes, vec_len};
+ghost use Rattle.std.specs.Prelude.{◌≡◌, ◌≤◌, ◌<◌, ◌^◌, ◌-◌, ℕ, List, Option, take, IfOk, IfErr, IfSome, OnOk, ◌++◌, [], ◌∷◌, map, string_bytes, vec_len};
 ghost use Rattle.sk_ask.specs.Endings.{CountsReads, CountsTrouble};
 ghost use Rattle.sk_ask.specs.Complaints.{about};
-ghost use Rattle.sk_ask.specs.Shelves.{AreHeld, CountsUnread, CountsWhy, IsUnknownWhere, IsUnread, IsUnreadOf, unread_text};
+ghost use Rattle.sk_ask.specs.Shelves.{AreHeld, CountsUnread, CountsWhy, IsUnknownWhere, IsUnread, IsUnreadOf, too_long_text, unread_text};
 
 use crate::complaint::about;
 use crate::trouble::Trouble;
@@ -60,38 +60,46 @@ impl From<ReadFault> for Unread {
     }
 }
 
-/// The most bytes of a file.
+/// The most bytes of a file of filters.
 pub const MOST_BYTES: usize = 1_048_576;
 
-/// What the file with this name holds.
+/// The most bytes of a log.
+pub const MOST_LOG_BYTES: usize = 268_435_456;
+
+/// What the file with this name holds, which may have so many bytes.
 #[tactic(auto, using(crate::proofs::Wholes::held_whole, crate::proofs::Wholes::is_longer))]
 pub fn content<S: Shelf>(
     alloc: Global,
     shelf: &S,
     reads: &mut u64,
     name: &str,
+    most: usize,
 ) -> Result<Vec<u8>, Trouble>
+    requires limit { most < 2 ^ 64 - 1 }
     ensures held { IfOk result (λ bytes. IfSome (S.held shelf.now name.now) (λ whole. bytes.items ≡ whole)) }
-    ensures unread { IfErr result (IsUnread (S.held shelf.now name.now) name.now) }
+    ensures unread { IfErr result (IsUnread most (S.held shelf.now name.now) name.now) }
     ensures counted { CountsReads result reads.old reads.new }
 {
     // It is made before the read: where one has failed no memory may be asked for.
     let failed = about(alloc, name, unread_text(Unread::Reading))?;
-    match shelf.take(alloc, reads, name, MOST_BYTES + 1) {
-        Ok(bytes) if bytes.len() > MOST_BYTES => Err(Trouble::Refused(about(
-            alloc,
-            name,
-            "has more than 1048576 bytes",
-        )?)),
+    match shelf.take(alloc, reads, name, most + 1) {
+        Ok(bytes) if bytes.len() > most => Err(Trouble::Refused(too_long(alloc, name, most)?)),
         Ok(bytes) => Ok(bytes),
         Err(unread) => Err(untaken(alloc, name, unread, failed)),
     }
 }
 
+fn too_long(alloc: Global, name: &str, most: usize) -> Result<Vec<u8>, AllocError>
+    ensures line { IfOk result (λ line. line.items ≡ about name.now (too_long_text most)) }
+{
+    let what = format!(in alloc; "has more than {most} bytes")?;
+    about(alloc, name, &what)
+}
+
 // Why there is no content, where a line is made for a read that failed.
 fn untaken(alloc: Global, name: &str, unread: Unread, failed: Vec<u8>) -> Trouble
     requires { failed.items ≡ about name.now (unread_text Unread.Reading) }
-    ensures unread { (held : Option (List ℕ)) → IsUnknownWhere unread held → IsUnread held name.now result }
+    ensures unread { (most : ℕ) → (held : Option (List ℕ)) → IsUnknownWhere unread held → IsUnread most held name.now result }
     ensures counted { (old : ℕ) → (new : ℕ) → CountsWhy unread old new → CountsTrouble result old new }
 {
     match unread {
@@ -119,7 +127,7 @@ fn unread_text(unread: Unread) -> &'static str
     }
 }
 
-/// What the files with these names hold, or why the first that can't be read is not read.
+/// What the files of filters with these names hold, or why the first that can't be read is not read.
 pub fn contents<S: Shelf>(
     alloc: Global,
     shelf: &S,
@@ -127,13 +135,13 @@ pub fn contents<S: Shelf>(
     names: &[String],
 ) -> Result<Vec<Vec<u8>>, Trouble>
     ensures held { IfOk result (λ files. AreHeld (S.held shelf.now) (map string_bytes names.now) (map (λ file. file.items) files.items)) }
-    ensures unread { IfErr result (IsUnreadOf (S.held shelf.now) (map string_bytes names.now)) }
+    ensures unread { IfErr result (IsUnreadOf MOST_BYTES (S.held shelf.now) (map string_bytes names.now)) }
     ensures counted { CountsReads result reads.old reads.new }
 {
     let mut files = Vec::new(alloc);
     let mut rest = names;
     while let Some((name, left)) = rest.split_first() {
-        let bytes = content(alloc, shelf, reads, name.as_str())?;
+        let bytes = content(alloc, shelf, reads, name.as_str(), MOST_BYTES)?;
         files.push(bytes)?;
         rest = left;
     }

@@ -1,6 +1,7 @@
 //! The words behind `ask WORD`.
-ghost use Rattle.std.specs.Prelude.{◌≡◌, string_bytes, map};
-ghost use Rattle.sk_ask.specs.Asking.{asked_of, nothing_asked, with_word, with_option, with_call, with_name, ended, named, is_option, question_of, word_named, word_name, Asks};
+ghost use Rattle.std.specs.Prelude.{◌≡◌, ◌≤◌, ◌∷◌, IfOk, length, string_bytes, map, slice_get};
+ghost use Rattle.std.specs.Option.{option_map};
+ghost use Rattle.sk_ask.specs.Asking.{asked_of, nothing_asked, with_word, with_option, with_call, with_name, ended, named, none_missing, two_named, missing, wanted, is_option, question_of, word_named, word_name, Asks, HasNames};
 
 use crate::complaint::of_word;
 use crate::trouble::Trouble;
@@ -18,6 +19,10 @@ pub enum Word {
     When,
     /// Where two chains answer otherwise.
     Diff,
+    /// The verdicts on the calls of a log.
+    Replay,
+    /// The path of a call through the filters.
+    Why,
 }
 
 impl Word {
@@ -33,6 +38,10 @@ impl Word {
             Some(Word::When)
         } else if is_word(name, b"diff") {
             Some(Word::Diff)
+        } else if is_word(name, b"replay") {
+            Some(Word::Replay)
+        } else if is_word(name, b"why") {
+            Some(Word::Why)
         } else {
             None
         }
@@ -47,6 +56,8 @@ impl Word {
             Word::Filter => "filter",
             Word::When => "when",
             Word::Diff => "diff",
+            Word::Replay => "replay",
+            Word::Why => "why",
         }
     }
 }
@@ -62,13 +73,24 @@ pub struct Asked<'a> {
     pub raw: bool,
     pub stricter: bool,
     pub help: bool,
-    /// The names of the files.
+    /// The names of the files, or what else its names stand for.
     pub names: Vec<String>,
+}
+
+impl Asked<'_> {
+    /// The first name, and those behind it.
+    pub fn first_name(&self) -> (&str, &[String])
+        requires named { 1 ≤ length self.now.names.items }
+        ensures names { map string_bytes self.now.names.items ≡ result.0.now ∷ map string_bytes result.1.now }
+    {
+        (self.names[0].as_str(), &self.names[1..])
+    }
 }
 
 /// What the words behind this one ask, or the line that refuses them.
 pub fn asked_in<'a>(alloc: Global, word: Word, words: &'a [String]) -> Result<Asked<'a>, Trouble>
     ensures exact { Asks result (asked_of word nothing_asked (map string_bytes words.now)) }
+    ensures named { IfOk result (HasNames word) }
 {
     let mut asked = Asked {
         call: None,
@@ -141,7 +163,7 @@ fn with_call<'a>(alloc: Global, word: Word, asked: Asked<'a>) -> Result<Asked<'a
 {
     if asked.call.is_some() {
         let what = format!(in alloc; "{}: given twice: ", word.name())?;
-        return Err(Trouble::Refused(of_word(alloc, &what, "--call")?));
+        return Err(Trouble::Refused(of_word(alloc, &what, b"--call")?));
     }
     Ok(Asked {
         awaits: true,
@@ -159,7 +181,7 @@ fn with_name<'a>(
 {
     if is_option(text.as_bytes()) {
         let what = format!(in alloc; "{}: no option is named ", word.name())?;
-        return Err(Trouble::Refused(of_word(alloc, &what, text.as_str())?));
+        return Err(Trouble::Refused(of_word(alloc, &what, text.as_bytes())?));
     }
     let mut asked = asked;
     asked.names.push(text.clone()?)?;
@@ -175,10 +197,11 @@ fn is_option(word: &[u8]) -> bool
 
 fn ended<'a>(alloc: Global, word: Word, asked: Asked<'a>) -> Result<Asked<'a>, Trouble>
     ensures exact { Asks result (ended word (question_of asked.entry)) }
+    ensures named { IfOk result (HasNames word) }
 {
     if asked.awaits {
         let what = format!(in alloc; "{}: expected a name or a number behind ", word.name())?;
-        return Err(Trouble::Refused(of_word(alloc, &what, "--call")?));
+        return Err(Trouble::Refused(of_word(alloc, &what, b"--call")?));
     }
     if asked.help {
         return Ok(asked);
@@ -186,21 +209,53 @@ fn ended<'a>(alloc: Global, word: Word, asked: Asked<'a>) -> Result<Asked<'a>, T
     named(alloc, word, asked)
 }
 
-// Whether there are as many files as the word wants.
+// Whether there are as many names as the word wants.
 fn named<'a>(alloc: Global, word: Word, asked: Asked<'a>) -> Result<Asked<'a>, Trouble>
     ensures exact { Asks result (named word (question_of asked.entry)) }
+    ensures named { IfOk result (HasNames word) }
 {
-    match (word, asked.names.len()) {
-        (Word::Diff, 2) => Ok(asked),
-        (Word::Diff, _) => Err(Trouble::Refused(of_word(
-            alloc,
-            "diff: expected two FILEs, OLD and NEW",
-            "",
-        )?)),
-        (_, 0) => {
-            let what = format!(in alloc; "{}: no FILE is given", word.name())?;
-            Err(Trouble::Refused(of_word(alloc, &what, "")?))
-        }
-        (_, _) => Ok(asked),
+    match word {
+        Word::Diff => two_named(alloc, asked),
+        Word::Calls | Word::Filter | Word::When | Word::Replay | Word::Why => none_missing(
+            alloc, word, asked,
+        ),
+    }
+}
+
+fn two_named<'a>(alloc: Global, asked: Asked<'a>) -> Result<Asked<'a>, Trouble>
+    ensures exact { Asks result (two_named (question_of asked.entry)) }
+    ensures named { IfOk result (HasNames Word.Diff) }
+{
+    if asked.names.len() == 2 {
+        return Ok(asked);
+    }
+    let what = "diff: expected two FILEs, OLD and NEW";
+    Err(Trouble::Refused(of_word(alloc, what, b"")?))
+}
+
+fn none_missing<'a>(alloc: Global, word: Word, asked: Asked<'a>) -> Result<Asked<'a>, Trouble>
+    ensures exact { Asks result (none_missing word (question_of asked.entry) (missing word (question_of asked.entry))) }
+    ensures named { IfOk result (HasNames word) }
+{
+    let Some(kind) = missing(word, asked.names.len()) else {
+        return Ok(asked);
+    };
+    let what = format!(in alloc; "{}: no {kind} is given", word.name())?;
+    Err(Trouble::Refused(of_word(alloc, &what, b"")?))
+}
+
+// What the first name stands for that is wanted behind so many.
+fn missing(word: Word, count: usize) -> Option<&'static str>
+    ensures kind { option_map (λ kind. kind.now) result ≡ slice_get (wanted word) count }
+{
+    match (word, count) {
+        (Word::Diff, 0) => Some("OLD"),
+        (Word::Diff, 1) => Some("NEW"),
+        (Word::Replay, 0) => Some("LOG"),
+        (Word::Why, 0) => Some("CALL"),
+        (Word::Replay | Word::Why, 1) | (Word::Calls | Word::Filter | Word::When, 0) => Some(
+            "FILE",
+        ),
+        _ => None,
     }
 }

@@ -37,10 +37,22 @@ const ANSWERS: &[(&[&str], &[u8])] = &[
         &["diff", "all", "--stricter", "getpid"],
         b"as strict on every call\n",
     ),
+    (
+        &["replay", "log", "all"],
+        b"2 read(0x3, 0x7ffd, 0x40) allow\n1 getpid() allow\n1 line is no call\n",
+    ),
 ];
 
 /// Words whose answer says no, and the whole answer.
 const DENIALS: &[(&[&str], &[u8])] = &[
+    (
+        &["replay", "log", "all", "getpid"],
+        b"1 getpid() errno/1 EPERM\n2 read(0x3, 0x7ffd, 0x40) allow\n1 line is no call\n",
+    ),
+    (
+        &["replay", "cut", "all"],
+        b"1 getpid() allow\n1 line is not understood\n",
+    ),
     (
         &["diff", "all", "getpid"],
         b"39 getpid: allow -> errno/1 EPERM\n  record 270000003e0000c00000000000000000000000000000000000000000000000000000000000000000000000000000000000000000000000000000000000000000\n  syscall(SYS_getpid, 0x0, 0x0, 0x0, 0x0, 0x0, 0x0)\n",
@@ -109,12 +121,13 @@ fn all_calls(rt: HostRuntime) -> Result<(), Fail> {
 
 #[test]
 fn help_is_an_answer(rt: HostRuntime) -> Result<(), Fail> {
-    let rows: [(&[&str], &[u8]); 5] = [
+    let rows: [(&[&str], &[u8]); 6] = [
         (&["--help"], b"usage: ask WORD ..\n"),
         (&["calls", "--help"], b"usage: ask calls "),
         (&["filter", "all", "--help"], b"usage: ask filter "),
         (&["when", "--help"], b"usage: ask when "),
         (&["diff", "--help", "all"], b"usage: ask diff "),
+        (&["replay", "--help"], b"usage: ask replay "),
     ];
     for (words, first) in rows {
         let ran = run(rt.alloc(), words, 0)?;

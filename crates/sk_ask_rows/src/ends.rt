@@ -26,6 +26,11 @@ const FILES: &[(&str, &[u8])] = &[
         b"200000001000000045000001010000000600000026000500060000000000ff7f",
     ),
     ("argument", b"20000000100000001600000000000000"),
+    (
+        "log",
+        b"7 read(0x3, 0x7ffd, 0x40) = 0x40\n7 getpid() = 0x7\n7 read(0x3, 0x7ffd, 0x40) = 0x3\n7 +++ exited with 0 +++\n",
+    ),
+    ("cut", b"7 getpid() = 0x7\n7 read(0x3, 0x7f\n"),
     ("empty", b""),
     ("words", b"; one\nhello\n"),
     ("code", b"# two\nfilter 2100000000000000060000000000ff7f"),

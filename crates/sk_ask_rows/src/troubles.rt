@@ -55,6 +55,25 @@ const TROUBLES: &[(&[&str], &[u8])] = &[
         b"ask: diff: no option is named --call\n",
     ),
     (&["diff", "all", "nofile"], b"ask: nofile: no such file\n"),
+    (&["replay"], b"ask: replay: no LOG is given\n"),
+    (&["replay", "log"], b"ask: replay: no FILE is given\n"),
+    (
+        &["replay", "--call", "read", "log", "all"],
+        b"ask: replay: no option is named --call\n",
+    ),
+    (
+        &["replay", "nofile", "empty"],
+        b"ask: nofile: no such file\n",
+    ),
+    (&["replay", "log", "nofile"], b"ask: nofile: no such file\n"),
+    (
+        &["replay", "empty", "all"],
+        b"ask: empty: holds no call: expected lines as strace -f -X raw -e raw=all writes them\n",
+    ),
+    (
+        &["replay", "all", "log"],
+        b"ask: log: line 1: expected filter HEX\n",
+    ),
     (
         &["diff", "empty", "all"],
         b"ask: empty: holds no filter: expected bytes of struct sock_filter, hexadecimal digits or lines filter HEX\n",
@@ -97,9 +116,15 @@ fn trouble_leaves_no_answer(rt: HostRuntime) -> Result<(), Fail> {
 
 #[test]
 fn failures_are_counted_and_told(rt: HostRuntime) -> Result<(), Fail> {
-    let rows: [(&[&str], u64, &[u8], u64); 3] = [
+    let rows: [(&[&str], u64, &[u8], u64); 4] = [
         (
             &["filter", "all", "fails"],
+            0,
+            b"ask: fails: reading failed\n",
+            1,
+        ),
+        (
+            &["replay", "fails", "nofile"],
             0,
             b"ask: fails: reading failed\n",
             1,

@@ -1,5 +1,5 @@
 -- The text of `ask replay`: the verdicts on the calls of a log.
-use Rattle.std.specs.Prelude.{ℕ, nat_eq, ◌+◌, ◌==◌, ◌||◌, ◌&&◌, not, Bool, false, true, if◌then◌else◌, List, [], ◌∷◌, ◌++◌, map, filter, flat_map, take, codes, Option, Some, None}
+use Rattle.std.specs.Prelude.{ℕ, nat_eq, ◌+◌, ◌==◌, ◌||◌, ◌&&◌, not, Bool, false, true, if◌then◌else◌, List, [], ◌∷◌, ◌++◌, length, map, filter, flat_map, take, codes, Option, Some, None}
 use Rattle.std.specs.Bool.{beq}
 use Rattle.std.specs.Fmt.{decimal, radix_digits}
 use Rattle.std.specs.List.{count_by, list_any}
@@ -63,6 +63,10 @@ each_once (call ∷ calls) = call ∷ filter (λ other. not (is_same call other)
 -- each call once, with how often it was made
 abbrev pub tallied : List Call → List (Call × ℕ)
 tallied calls = map (λ call. (call, count_by (is_same call) calls)) (each_once calls)
+
+-- how many different calls there are among the lines of a log
+abbrev pub distinct_calls : List ℕ → ℕ
+distinct_calls log = length (each_once (calls_of (lines_of log)))
 
 -- how often a call was made, by such a list
 abbrev pub times_of : List (Call × ℕ) → Call → ℕ

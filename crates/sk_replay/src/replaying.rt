@@ -1,7 +1,7 @@
 //! The verdicts on the calls of a log.
 ghost use Rattle.std.specs.Prelude.{◌≡◌, IfOk, map, not, string_bytes};
 ghost use Rattle.std.specs.List.{list_any};
-ghost use Rattle.sk_replay.specs.Replaying.{replay_text, replay_denies, row_of, is_performed};
+ghost use Rattle.sk_replay.specs.Replaying.{replay_text, replay_denies, distinct_calls, row_of, is_performed};
 
 use crate::answer::Replay;
 use crate::call::Call;
@@ -16,6 +16,7 @@ use std::alloc::{AllocError, Global};
 pub fn replay(alloc: Global, log: &[u8], chain: &Chain) -> Result<Replay, AllocError>
     ensures text { IfOk result (λ replay. string_bytes replay.text ≡ replay_text log.now chain.now) }
     ensures denies { IfOk result (λ replay. replay.denies ≡ replay_denies log.now chain.now) }
+    ensures calls { IfOk result (λ replay. replay.calls ≡ distinct_calls log.now) }
 {
     let tally = Tally::of(alloc, log)?;
     let rows = rows_of(alloc, &tally.calls, chain)?;
@@ -23,6 +24,7 @@ pub fn replay(alloc: Global, log: &[u8], chain: &Chain) -> Result<Replay, AllocE
     Ok(Replay {
         text,
         denies: some_denied(&rows) || tally.unclear != 0,
+        calls: tally.calls.len(),
     })
 }
 

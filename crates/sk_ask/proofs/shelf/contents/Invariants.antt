@@ -6,7 +6,7 @@ use Rattle.sk_ask.proofs.shelf.contents.Given as goal
 abbrev pub invariant-loop-name : goal.invariant-loop-name
 invariant-loop-name g l = record {
   so_far : (more : List (List ℕ)) → AreHeld (g.S.Shelf.held l.shelf) (map string_bytes l.rest) more → AreHeld (g.S.Shelf.held l.shelf) (map string_bytes l.names) (map (λ file. file.items) l.files.items ++ more);
-  among : (why : Trouble) → IsUnreadOf (g.S.Shelf.held l.shelf) (map string_bytes l.rest) why → IsUnreadOf (g.S.Shelf.held l.shelf) (map string_bytes l.names) why;
+  among : (why : Trouble) → IsUnreadOf 1048576 (g.S.Shelf.held l.shelf) (map string_bytes l.rest) why → IsUnreadOf 1048576 (g.S.Shelf.held l.shelf) (map string_bytes l.names) why;
   counted : l.reads ≡ l.fn.reads;
 }
 

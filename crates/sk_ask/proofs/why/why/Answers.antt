@@ -1,0 +1,12 @@
+use Rattle.std.proofs.Common.{ℕ, List, sym, subst}
+use Rattle.sk_ask.specs.Endings.{ending_of}
+use Rattle.sk_ask.specs.Whys.{AnswersCall}
+use Rattle.sk_ask.specs.Troubles.{OfFirst}
+use Rattle.sk_ask.proofs.why.why.Goals as goal
+
+pub returns-clause-told : goal.returns-clause-told
+returns-clause-told g c =
+    let held = g.S.Shelf.held c.args.shelf.now in
+    let end = ending_of c.call_answer.result in
+    subst (λ (names : List (List ℕ)). OfFirst names end (λ word others. AnswersCall held word others end)) (sym c.first_name.ensures.names)
+    c.call_answer.ensures.told

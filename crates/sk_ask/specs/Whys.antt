@@ -1,0 +1,44 @@
+-- What `ask why` answers.
+use Rattle.std.specs.Prelude.{ℕ, ◌≡◌, ◌⊎◌, ◌++◌, false, List, [], codes, Option, Ok, Err, ⊤}
+use Rattle.sk_insn.specs.declared.insn.Insn.{Insn}
+use Rattle.sk_insn.specs.declared.record.Record.{Record}
+use Rattle.sk_call_text.specs.declared.fault.CallFault.{CallFault}
+use Rattle.sk_call_text.specs.declared.fault.CallFault.TheVariants.{NoCall}
+use Rattle.sk_call_text.specs.CallWords.{call_of, name_part}
+use Rattle.sk_call_text.specs.Faults.{fault_text}
+use Rattle.sk_why.specs.PathText.{TellsWhy}
+use Rattle.sk_ask_files.specs.Filters.{Filters}
+use Rattle.sk_ask.specs.declared.trouble.Trouble.{Trouble}
+use Rattle.sk_ask.specs.declared.trouble.Trouble.TheVariants.{Refused, Reading, Memory}
+use Rattle.sk_ask.specs.Asking.{Question}
+use Rattle.sk_ask.specs.Complaints.{of_word}
+use Rattle.sk_ask.specs.Endings.{Ending, answered}
+use Rattle.sk_ask.specs.Filters.{ReadsFilters, IsRefusedOf}
+use Rattle.sk_ask.specs.Troubles.{IsTrouble, OfFirst}
+
+-- the line that refuses a word which stands for no call
+abbrev pub fault_line : List ℕ → CallFault → List ℕ
+fault_line word NoCall = of_word (codes "no call is named ") (name_part word)
+fault_line word fault = of_word (codes "why: " ++ fault_text fault) []
+
+-- a word stands for no call, and the line says so
+abbrev pub IsFaultOf : List ℕ → Trouble → Type 0
+IsFaultOf word (Refused line) = (fault : CallFault) × (call_of word ≡ Err fault) × (line.items ≡ fault_line word fault)
+IsFaultOf word (Reading line) = ⊥
+IsFaultOf word Memory = ⊤
+
+-- a text tells the path of the call through the chain
+abbrev pub TellsWhyOf : Record → List (List Insn) → Ending → Type 0
+TellsWhyOf call chain ending = (text : List ℕ) × TellsWhy chain call text × (ending ≡ answered text false)
+
+-- the path of the call that the word stands for, through the chain that the files make; or it stands for none, or a file is
+-- refused or not read
+abbrev pub AnswersCall : (List ℕ → Option (List ℕ)) → List ℕ → List (List ℕ) → Ending → Type 0
+AnswersCall held word names ending =
+    ((call : Record) × (found : Filters) × (chain : List (List Insn)) × (call_of word ≡ Ok call)
+    × ReadsFilters held names found chain × TellsWhyOf call chain ending)
+    ⊎ (IsTrouble ending (IsFaultOf word) ⊎ IsTrouble ending (IsRefusedOf held names))
+
+-- the first name is the call
+abbrev pub AnswersWhy : (List ℕ → Option (List ℕ)) → Question → Ending → Type 0
+AnswersWhy held asked ending = OfFirst asked.names ending (λ word names. AnswersCall held word names ending)

@@ -1,0 +1,64 @@
+//! `ask replay`: the verdicts on the calls of a log.
+ghost use Rattle.std.specs.Prelude.{◌≡◌, ◌≤◌, length, map, string_bytes};
+ghost use Rattle.sk_ask.specs.Endings.{ComesTo, CountsReads, ending_of};
+ghost use Rattle.sk_ask.specs.Asking.{question_of, wanted};
+ghost use Rattle.sk_ask.specs.Replays.{AnswersReplay, AnswersLog, replayed};
+
+use crate::complaint::about;
+use crate::filters::filters_in;
+use crate::shelf::{MOST_LOG_BYTES, Shelf, content};
+use crate::trouble::{Answer, Trouble};
+use crate::words::{Asked, Word};
+use sk_chain::Chain;
+use sk_replay::Replay;
+use std::alloc::Global;
+
+/// What is said of a log without a call.
+const NO_CALL: &str = "holds no call: expected lines as strace -f -X raw -e raw=all writes them";
+
+/// Answers `ask replay`.
+pub fn replay<S: Shelf>(
+    alloc: Global,
+    asked: &Asked<'_>,
+    shelf: &S,
+    reads: &mut u64,
+) -> Result<Answer, Trouble>
+    requires named { length (wanted Word.Replay) ≤ length asked.now.names.items }
+    ensures told { AnswersReplay (S.held shelf.now) (question_of asked.now) (ending_of result) }
+    ensures counted { CountsReads result reads.old reads.new }
+{
+    let (log, files) = asked.first_name();
+    log_answer(alloc, shelf, reads, log, files)
+}
+
+fn log_answer<S: Shelf>(
+    alloc: Global,
+    shelf: &S,
+    reads: &mut u64,
+    name: &str,
+    files: &[String],
+) -> Result<Answer, Trouble>
+    ensures told { AnswersLog (S.held shelf.now) name.now (map string_bytes files.now) (ending_of result) }
+    ensures counted { CountsReads result reads.old reads.new }
+{
+    let log = content(alloc, shelf, reads, name, MOST_LOG_BYTES)?;
+    let filters = filters_in(alloc, shelf, reads, files)?;
+    replayed(alloc, name, &log, &filters.chain)
+}
+
+fn replayed(alloc: Global, name: &str, log: &[u8], chain: &Chain) -> Result<Answer, Trouble>
+    ensures told { ComesTo (replayed name.now log.now chain.now) (ending_of result) }
+{
+    let Replay {
+        text,
+        denies,
+        calls,
+    } = sk_replay::replay(alloc, log, chain)?;
+    if calls == 0 {
+        return Err(Trouble::Refused(about(alloc, name, NO_CALL)?));
+    }
+    Ok(Answer {
+        text: text.into_bytes(),
+        denies,
+    })
+}

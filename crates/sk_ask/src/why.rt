@@ -1,0 +1,78 @@
+//! `ask why`: the path of a call through the filters.
+ghost use Rattle.std.specs.Prelude.{◌≡◌, ◌≤◌, IfOk, IfErr, length, map, string_bytes};
+ghost use Rattle.sk_call_text.specs.CallWords.{call_of};
+ghost use Rattle.sk_ask.specs.Endings.{CountsReads, ending_of};
+ghost use Rattle.sk_ask.specs.Asking.{question_of, wanted};
+ghost use Rattle.sk_ask.specs.Whys.{AnswersCall, AnswersWhy, IsFaultOf, TellsWhyOf, fault_line};
+
+use crate::complaint::of_word;
+use crate::filters::filters_in;
+use crate::shelf::Shelf;
+use crate::trouble::{Answer, Trouble};
+use crate::words::{Asked, Word};
+use sk_call_text::{CallFault, call_in, name_part};
+use sk_chain::Chain;
+use sk_insn::Record;
+use std::alloc::{AllocError, Global};
+
+/// Answers `ask why`.
+pub fn why<S: Shelf>(
+    alloc: Global,
+    asked: &Asked<'_>,
+    shelf: &S,
+    reads: &mut u64,
+) -> Result<Answer, Trouble>
+    requires named { length (wanted Word.Why) ≤ length asked.now.names.items }
+    ensures told { AnswersWhy (S.held shelf.now) (question_of asked.now) (ending_of result) }
+    ensures counted { CountsReads result reads.old reads.new }
+{
+    let (word, files) = asked.first_name();
+    call_answer(alloc, shelf, reads, word, files)
+}
+
+fn call_answer<S: Shelf>(
+    alloc: Global,
+    shelf: &S,
+    reads: &mut u64,
+    word: &str,
+    files: &[String],
+) -> Result<Answer, Trouble>
+    ensures told { AnswersCall (S.held shelf.now) word.now (map string_bytes files.now) (ending_of result) }
+    ensures counted { CountsReads result reads.old reads.new }
+{
+    let call = meant(alloc, word)?;
+    let filters = filters_in(alloc, shelf, reads, files)?;
+    Ok(path(alloc, &filters.chain, &call)?)
+}
+
+// The call that a word stands for.
+fn meant(alloc: Global, word: &str) -> Result<Record, Trouble>
+    ensures call { IfOk result (λ call. call_of word.now ≡ Ok call) }
+    ensures fault { IfErr result (IsFaultOf word.now) }
+{
+    match call_in(word.as_bytes()) {
+        Ok(call) => Ok(call),
+        Err(fault) => Err(Trouble::Refused(fault_line(alloc, word, fault)?)),
+    }
+}
+
+fn fault_line(alloc: Global, word: &str, fault: CallFault) -> Result<Vec<u8>, AllocError>
+    ensures line { IfOk result (λ line. line.items ≡ fault_line word.now fault) }
+{
+    match fault {
+        CallFault::NoCall => of_word(alloc, "no call is named ", name_part(word.as_bytes())),
+        CallFault::Unclosed | CallFault::Argument(_) | CallFault::TooMany => {
+            let what = format!(in alloc; "why: {fault}")?;
+            of_word(alloc, &what, b"")
+        }
+    }
+}
+
+fn path(alloc: Global, chain: &Chain, call: &Record) -> Result<Answer, AllocError>
+    ensures told { IfOk result (λ answer. TellsWhyOf call.now chain.now (ending_of (Ok answer))) }
+{
+    Ok(Answer {
+        text: sk_why::why(alloc, chain, call)?.into_bytes(),
+        denies: false,
+    })
+}

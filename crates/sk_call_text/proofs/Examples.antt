@@ -1,0 +1,59 @@
+-- Each worked word is what the definition computes.
+use Rattle.std.proofs.Common.{refl}
+use Rattle.std.specs.Fmt.{digits}
+use Rattle.sk_text.specs.Numbers.{number_of}
+use Rattle.sk_call_names.specs.Names.{name_of, number_named}
+use Rattle.sk_call_text.specs.Calls.{plain_number}
+use Rattle.sk_call_text.specs.CallWords.{argument_number, argument_of, arguments_of, call_of, given_in, inside_of, named_by}
+use Rattle.sk_call_text.specs.WorkedWords.{WorkedWords}
+
+pub worked_words : WorkedWords
+unfolding digits number_of name_of number_named plain_number argument_number argument_of arguments_of call_of given_in inside_of named_by
+worked_words = record {
+  arguments = refl;
+  name = refl;
+  no_argument = refl;
+  number = refl;
+  largest_number = refl;
+  six_in_order = refl;
+  spaces = refl;
+  spaces_alone = refl;
+  octal_call = refl;
+  too_large_a_call = refl;
+  call_below_zero = refl;
+  unknown_name = refl;
+  no_name = refl;
+  nothing = refl;
+  two_names = refl;
+  left_open = refl;
+  behind = refl;
+  closed_twice = refl;
+  opened_twice = refl;
+  octal = refl;
+  empty_last = refl;
+  empty_between = refl;
+  empty_both = refl;
+  two_words = refl;
+  sixth = refl;
+  seven = refl;
+  seven_wrong = refl;
+  name_first = refl;
+  parentheses_second = refl;
+  largest = refl;
+  past_the_largest = refl;
+  largest_digits = refl;
+  least = refl;
+  below_the_least = refl;
+  minus_one = refl;
+  minus_digits = refl;
+  minus_zero = refl;
+  minus_octal = refl;
+  minus_twice = refl;
+  minus_alone = refl;
+  plus = refl;
+  zero = refl;
+  zeros = refl;
+  name_of_zero = refl;
+  number_without_a_name = refl;
+  told = refl;
+}

@@ -1,0 +1,4 @@
+pub mod Calls
+pub mod CallWords
+pub mod Faults
+pub mod WorkedWords

@@ -1,0 +1,55 @@
+//! The call that a word stands for.
+ghost use Rattle.std.specs.Prelude.{◌≡◌};
+ghost use Rattle.std.specs.Option.{option_map};
+ghost use Rattle.sk_call_text.specs.CallWords.{call_of, closed, inside_of, name_part, named_by};
+
+use crate::argument::arguments;
+use crate::cuts::cut_at;
+use crate::fault::CallFault;
+use crate::named::call_named;
+use sk_insn::Record;
+use sk_text::{Words, cut, no_word, one_word};
+
+/// The call that a word stands for, as `openat(-100, 0x7f00, 0)`, or the first of its faults. The instruction pointer is 0.
+#[tactic(auto, unfolding(crate::specs::CallWords::call_of))]
+pub fn call_in(word: &[u8]) -> Result<Record, CallFault>
+    ensures exact { result ≡ call_of word.now }
+{
+    let nr = named_by(word).ok_or(CallFault::NoCall)?;
+    let inside = inside_of(word).ok_or(CallFault::Unclosed)?;
+    let args = arguments(inside)?;
+    Ok(Record { nr, ip: 0, args })
+}
+
+/// What a word has before its parentheses.
+pub fn name_part(word: &[u8]) -> &[u8]
+    ensures name { result.now ≡ name_part word.now }
+{
+    let (name, _arguments) = cut(word, b'(');
+    name
+}
+
+#[tactic(auto, unfolding(crate::specs::CallWords::named_by))]
+fn named_by(word: &[u8]) -> Option<u32>
+    ensures number { result ≡ named_by word.now }
+{
+    call_named(one_word(Words(name_part(word)))?)
+}
+
+#[tactic(auto, unfolding(crate::specs::CallWords::inside_of))]
+fn inside_of(word: &[u8]) -> Option<&[u8]>
+    ensures inside { option_map (λ inside. inside.now) result ≡ inside_of word.now }
+{
+    match cut_at(word, b'(') {
+        Some((_name, rest)) => closed(rest),
+        None => Some(&[]),
+    }
+}
+
+fn closed(text: &[u8]) -> Option<&[u8]>
+    ensures inside { option_map (λ inside. inside.now) result ≡ closed text.now }
+{
+    let (inside, behind) = cut_at(text, b')')?;
+    no_word(Words(behind))?;
+    Some(inside)
+}

@@ -1,0 +1,48 @@
+//! Calls by their names and numbers.
+ghost use Rattle.std.specs.Prelude.{◌≡◌, ◌≤◌, IfSome, IfNone};
+ghost use Rattle.sk_text.specs.Numbers.{number_of, up_to};
+ghost use Rattle.sk_call_text.specs.Calls.{IsCall, NoCall, begins_with_zero, call_number, nr_of, plain_number};
+
+use sk_call_names::number;
+use sk_text::number_up_to;
+
+/// The number of the call that a word is: a name, or a number in decimal without a 0 before it, or `0x` and hexadecimal
+/// digits.
+pub fn call_named(word: &[u8]) -> Option<u32>
+    ensures exact { result ≡ nr_of word.now }
+    ensures call { IfSome result (IsCall word.now) }
+    ensures none { IfNone result (NoCall word.now) }
+{
+    match number(word) {
+        Some(nr) => Some(nr),
+        None => call_number(word),
+    }
+}
+
+fn call_number(word: &[u8]) -> Option<u32>
+    ensures number { result ≡ call_number word.now }
+{
+    let number = plain_number(word, u64::from(u32::MAX))?;
+    Some(number as u32)
+}
+
+// The number that a word is, where it is one and at most `most`, and no 0 stands before it.
+#[tactic(auto, unfolding(crate::specs::Calls::plain_number))]
+pub(crate) fn plain_number(word: &[u8], most: u64) -> Option<u64>
+    ensures number { result ≡ plain_number most word.now }
+    ensures bound { IfSome result (λ number. number ≤ most) }
+{
+    if begins_with_zero(word) {
+        return None;
+    }
+    number_up_to(word, most)
+}
+
+fn begins_with_zero(word: &[u8]) -> bool
+    ensures zero { result ≡ begins_with_zero word.now }
+{
+    match word {
+        [first, second, ..] => *first == b'0' && *second != b'x',
+        _ => false,
+    }
+}
