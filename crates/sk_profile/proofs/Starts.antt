@@ -1,0 +1,140 @@
+-- What rows say from one more start on, and behind the last.
+use Rattle.std.proofs.Common.{◌≡◌, ℕ, ◌+◌, ◌-◌, ◌<◌, ◌≤◌, nat_le, ◌^◌, inl, inr, Bool, true, false, if◌then◌else◌, List, [], ◌∷◌, ◌++◌, map, length, Some, None, slice_get, refl, sym, ap, ◌∙◌, subst, arith, append_assoc}
+use Rattle.std.specs.Prelude.{All}
+use Rattle.std.proofs.lemmas.Bool.{cases_lt, leb-true, leb-false, le-leb, lt-leb, lt-ltb, le-ltb, eq-eqb, ne_eqb}
+use Rattle.std.proofs.lemmas.List.{map-append}
+use Rattle.std.proofs.lemmas.List.Elements.{All-nil, All-cons, All-head, All-tail, All-append}
+use Rattle.sk_profile_code.specs.declared.saying.Row.{Row as RowOfCode}
+use Rattle.sk_profile_code.specs.Sayings.{Arm, Saying}
+use Rattle.sk_profile_code.specs.Rows.{saying_in}
+use Rattle.sk_profile_code.specs.declared.saying.Saying.{Saying as SayingOfCode}
+use Rattle.sk_profile_code.specs.Views.{saying_of, row_of, IsSayingOfCode, IsRowOfCode, AreRising, AreRows}
+use Rattle.sk_profile.specs.declared.profile.Rule.{Rule as RuleOfCode}
+use Rattle.sk_profile.specs.declared.profile.Profile.{Profile as ProfileOfCode}
+use Rattle.sk_profile.specs.Profiles.{plain_rule, arms_for, arm_of_rule, saying_of_rules, saying_for}
+use Rattle.sk_profile.specs.Views.{rule_of, profile_of}
+use Rattle.sk_profile.specs.Rows.{StartBelow, IsGood, AreGood}
+
+by_start : (start nr : ℕ) (old new : Saying) (r : ℕ) (rest : Saying) → r < start
+    → (if nat_le r nr then (if nat_le start nr then new else rest) else old) ≡ (if nat_le start nr then new else (if nat_le r nr then rest else old))
+by_start start nr old new r rest below = by (nat_le r nr) refl where
+  by : (b : Bool) → nat_le r nr ≡ b → (if b then (if nat_le start nr then new else rest) else old) ≡ (if nat_le start nr then new else (if b then rest else old))
+  by true e = refl
+  by false e = let less = leb-false r nr e in rw (lt-leb start nr (omega (arith, less, below))) refl
+
+one_more : (rows : List RowOfCode) (row : RowOfCode) (before : Saying) (nr : ℕ) → StartBelow row.start rows
+    → saying_in (map row_of rows ++ row_of row ∷ []) before nr ≡ (if nat_le row.start nr then saying_of row.saying else saying_in (map row_of rows) before nr)
+one_more [] row before nr below = refl
+one_more (first ∷ rows) row before nr below =
+    ap (λ said. if nat_le first.start nr then said else before) (one_more rows row (saying_of first.saying) nr (All-tail (λ (r : RowOfCode). r.start < row.start) first rows below))
+    ∙ by_start row.start nr before (saying_of row.saying) first.start (saying_in (map row_of rows) (saying_of first.saying) nr) (All-head (λ (r : RowOfCode). r.start < row.start) first rows below)
+
+-- from one more start on
+pub says_from : (rows new : List RowOfCode) (start : ℕ) (row : RowOfCode) (before : Saying) → row.start ≡ start → new ≡ rows ++ row ∷ [] → StartBelow start rows → (nr : ℕ)
+    → saying_in (map row_of new) before nr ≡ (if nat_le start nr then saying_of row.saying else saying_in (map row_of rows) before nr)
+says_from rows new start row before at is below nr =
+    ap (λ rows. saying_in (map row_of rows) before nr) is
+    ∙ ap (λ rows. saying_in rows before nr) (map-append row_of rows (row ∷ []))
+    ∙ one_more rows row before nr (subst (λ n. StartBelow n rows) (sym at) below)
+    ∙ ap (λ n. if nat_le n nr then saying_of row.saying else saying_in (map row_of rows) before nr) at
+
+-- where it is what was said already
+pub says_still : (rows : List RowOfCode) (start : ℕ) (before now : Saying) → ((nr : ℕ) → StartBelow (nr + 1) rows → saying_in (map row_of rows) before nr ≡ now) → StartBelow start rows → (nr : ℕ)
+    → saying_in (map row_of rows) before nr ≡ (if nat_le start nr then now else saying_in (map row_of rows) before nr)
+says_still rows start before now last below nr = by (nat_le start nr) refl where
+  by : (b : Bool) → nat_le start nr ≡ b → saying_in (map row_of rows) before nr ≡ (if b then now else saying_in (map row_of rows) before nr)
+  by true e = let up = leb-true start nr e in last nr (λ k d less. let one = below k d less in omega (arith, one, up))
+  by false e = refl
+
+last_from : (first row : RowOfCode) (rest : List RowOfCode) (before : Saying) (nr : ℕ) → slice_get (first ∷ rest) (length rest) ≡ Some row → StartBelow (nr + 1) (first ∷ rest)
+    → saying_in (map row_of (first ∷ rest)) before nr ≡ saying_of row.saying
+last_from first row [] before nr is below =
+    let here = All-head (λ (r : RowOfCode). r.start < nr + 1) first [] below in
+    let same : first ≡ row = cc in
+    rw (le-leb first.start nr (omega (arith, here))) (ap (λ (r : RowOfCode). saying_of r.saying) same)
+last_from first row (second ∷ rest) before nr is below =
+    let here = All-head (λ (r : RowOfCode). r.start < nr + 1) first (second ∷ rest) below in
+    rw (le-leb first.start nr (omega (arith, here)))
+    (last_from second row rest (saying_of first.saying) nr is (All-tail (λ (r : RowOfCode). r.start < nr + 1) first (second ∷ rest) below))
+
+-- behind the last start
+pub last_said : (rows : List RowOfCode) (row : RowOfCode) (before : Saying) (nr : ℕ) → slice_get rows (length rows - 1) ≡ Some row → StartBelow (nr + 1) rows
+    → saying_in (map row_of rows) before nr ≡ saying_of row.saying
+last_said [] row before nr is below = cc
+last_said (first ∷ rest) row before nr is below =
+    let past : length (first ∷ rest) - 1 ≡ length rest = omega arith in
+    last_from first row rest before nr (subst (λ n. slice_get (first ∷ rest) n ≡ Some row) past is) below
+
+-- rows that rise still do with one more behind them
+rising_more : (rows : List RowOfCode) (row : RowOfCode) → AreRising rows → StartBelow row.start rows → AreRising (rows ++ row ∷ [])
+rising_more [] row rising below = (All-nil (λ (r : RowOfCode). row.start ≤ r.start), tt)
+rising_more (first ∷ rows) row rising below =
+    let here = All-head (λ (r : RowOfCode). r.start < row.start) first rows below in (
+      All-append (λ (r : RowOfCode). first.start ≤ r.start) rows (row ∷ []) rising.0
+          (All-cons (λ (r : RowOfCode). first.start ≤ r.start) row [] (omega (arith, here)) (All-nil (λ (r : RowOfCode). first.start ≤ r.start))),
+      rising_more rows row rising.1 (All-tail (λ (r : RowOfCode). r.start < row.start) first rows below),
+    )
+
+pub still_rows : (before : SayingOfCode) (rows new : List RowOfCode) (row : RowOfCode) → new ≡ rows ++ row ∷ [] → StartBelow row.start rows → IsSayingOfCode row.saying → AreRows before rows → AreRows before new
+still_rows before rows new row is below good all = subst (AreRows before) (sym is) (record {
+  below = all.below;
+  each = All-append IsRowOfCode rows (row ∷ []) all.each (All-cons IsRowOfCode row [] good (All-nil IsRowOfCode));
+  rising = rising_more rows row all.rising below;
+})
+
+-- above all numbers of rules the default is said
+no_plain : (rules : List RuleOfCode) (nr : ℕ) → All IsGood rules → 1024 ≤ nr → plain_rule (map rule_of rules) nr ≡ None
+no_plain [] nr good up = refl
+no_plain (rule ∷ rules) nr good up =
+    let number = (All-head IsGood rule rules good).number in
+    rw (ne_eqb rule.number nr (λ e. absurd (omega (arith, number, up, e)))) (no_plain rules nr (All-tail IsGood rule rules good) up)
+
+no_arms : (rules : List RuleOfCode) (nr : ℕ) → All IsGood rules → 1024 ≤ nr → arms_for (map rule_of rules) nr ≡ []
+no_arms [] nr good up = refl
+no_arms (rule ∷ rules) nr good up =
+    let number = (All-head IsGood rule rules good).number in
+    rw (ne_eqb rule.number nr (λ e. absurd (omega (arith, number, up, e)))) (no_arms rules nr (All-tail IsGood rule rules good) up)
+
+pub default_above : (profile : ProfileOfCode) (nr : ℕ) → AreGood profile → 1024 ≤ nr → saying_of_rules (profile_of profile) nr ≡ record { arms = []; otherwise = profile.default }
+default_above profile nr good up =
+    rw (no_plain profile.rules.items nr good up) (rw (no_arms profile.rules.items nr good up) refl)
+
+-- all four parts of the numbers
+pub all_said : (profile : ProfileOfCode) (said : ℕ → Saying) (nr : ℕ) → AreGood profile → (nr < 1024 → said nr ≡ saying_of_rules (profile_of profile) nr) → nr < 2 ^ 32
+    → (if nat_le 0xffffffff nr then record { arms = []; otherwise = profile.default }
+    else if nat_le 0x40000000 nr then record { arms = []; otherwise = profile.bad }
+    else if nat_le 1024 nr then record { arms = []; otherwise = profile.default } else said nr) ≡ saying_for (profile_of profile) nr
+all_said profile said nr good low fits =
+    elim (cases_lt nr 1024) [
+      | inl below ↦
+          rw (lt-leb 0xffffffff nr (omega (arith, below)), lt-leb 0x40000000 nr (omega (arith, below)), lt-leb 1024 nr below) (low below)
+      | inr up ↦
+          elim (cases_lt nr 0x40000000) [
+            | inl below ↦
+                rw (lt-leb 0xffffffff nr (omega (arith, below)), lt-leb 0x40000000 nr below, le-leb 1024 nr up) (sym (default_above profile nr good up))
+            | inr x32 ↦
+                elim (cases_lt nr 0xffffffff) [
+                  | inl below ↦ rw (lt-leb 0xffffffff nr below, le-leb 0x40000000 nr x32, lt-ltb nr 0xffffffff below) refl
+                  | inr past ↦
+                      rw (le-leb 0xffffffff nr past, le-leb 0x40000000 nr x32, le-ltb nr 0xffffffff past) (sym (default_above profile nr good up))
+                ]
+          ]
+    ]
+
+-- one rule more among the arms, where it is for the number
+pub with_rule : (old new : List Arm) (left rest whole : List RuleOfCode) (rule : RuleOfCode) (nr : ℕ) → new ≡ old ++ arm_of_rule (rule_of rule) ∷ [] → left ≡ rule ∷ rest → rule.number ≡ nr
+    → old ++ arms_for (map rule_of left) nr ≡ arms_for (map rule_of whole) nr → new ++ arms_for (map rule_of rest) nr ≡ arms_for (map rule_of whole) nr
+with_rule old new left rest whole rule nr is steps for_it so_far =
+    let first : arms_for (map rule_of (rule ∷ rest)) nr ≡ arm_of_rule (rule_of rule) ∷ arms_for (map rule_of rest) nr = rw (eq-eqb rule.number nr for_it) refl in
+    ap (λ arms. arms ++ arms_for (map rule_of rest) nr) is
+    ∙ append_assoc old (arm_of_rule (rule_of rule) ∷ []) (arms_for (map rule_of rest) nr)
+    ∙ ap (λ arms. old ++ arms) (sym first)
+    ∙ ap (λ rules. old ++ arms_for (map rule_of rules) nr) (sym steps)
+    ∙ so_far
+
+-- and where it is not
+pub without_rule : (arms : List Arm) (left rest whole : List RuleOfCode) (rule : RuleOfCode) (nr : ℕ) → left ≡ rule ∷ rest → (rule.number ≡ nr → ⊥)
+    → arms ++ arms_for (map rule_of left) nr ≡ arms_for (map rule_of whole) nr → arms ++ arms_for (map rule_of rest) nr ≡ arms_for (map rule_of whole) nr
+without_rule arms left rest whole rule nr steps not_for_it so_far =
+    let first : arms_for (map rule_of (rule ∷ rest)) nr ≡ arms_for (map rule_of rest) nr = rw (ne_eqb rule.number nr not_for_it) refl in
+    ap (λ more. arms ++ more) (sym first) ∙ ap (λ rules. arms ++ arms_for (map rule_of rules) nr) (sym steps) ∙ so_far

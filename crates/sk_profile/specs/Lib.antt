@@ -1,0 +1,3 @@
+pub mod Profiles
+pub mod Views
+pub mod Rows

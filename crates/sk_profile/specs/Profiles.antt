@@ -1,0 +1,58 @@
+-- What a profile says of a call: the object `seccomp` of the OCI runtime specification, config-linux.md, once its
+-- names are numbers. The specification leaves open what happens where two rules fit one call; this is
+-- seccomp_rule_add(3) where that is definite: a rule without conditions goes before those with them, and of several
+-- without the first counts.
+use Rattle.std.specs.Prelude.{ℕ, ◌&&◌, ◌==◌, nat_le, nat_lt, Bool, true, false, if◌then◌else◌, List, [], ◌∷◌, filter, find, map, Option, Some, None}
+use Rattle.sk_insn.specs.declared.record.Record.{Record}
+use Rattle.sk_profile_code.specs.declared.condition.Condition.{Condition}
+use Rattle.sk_profile_code.specs.Sayings.{Arm, Saying, said}
+
+-- `action` with its `errnoRet` as a filter's value, for one number of its `names`
+pub record Rule : Type 0 where
+  pub number : ℕ
+  pub conditions : List Condition
+  pub value : ℕ
+
+-- `syscalls` in their order, `defaultAction` with `defaultErrnoRet`, and the value for what is no call of x86-64
+pub record Profile : Type 0 where
+  pub rules : List Rule
+  pub default : ℕ
+  pub bad : ℕ
+
+-- the numbers of the x32 ABI; -1, by which a tracer passes over a call, is none
+abbrev pub is_x32 : ℕ → Bool
+is_x32 nr = nat_le 0x40000000 nr && nat_lt nr 0xffffffff
+
+abbrev pub has_none : List Condition → Bool
+has_none [] = true
+has_none (c ∷ conditions) = false
+
+-- the rules for a number, in their order
+abbrev pub is_for : ℕ → Rule → Bool
+is_for nr rule = rule.number == nr
+
+-- the first of these that has no conditions
+abbrev pub plain_rule : List Rule → ℕ → Option Rule
+plain_rule rules nr = find (λ (rule : Rule). is_for nr rule && has_none rule.conditions) rules
+
+abbrev pub arm_of_rule : Rule → Arm
+arm_of_rule rule = record { conditions = rule.conditions; value = rule.value }
+
+abbrev pub arms_for : List Rule → ℕ → List Arm
+arms_for rules nr = map arm_of_rule (filter (is_for nr) rules)
+
+-- a rule without conditions, if there is one, and else those with them
+abbrev pub settled : Option Rule → List Arm → ℕ → Saying
+settled (Some rule) arms default = record { arms = []; otherwise = rule.value }
+settled None arms default = record { arms = arms; otherwise = default }
+
+abbrev pub saying_of_rules : Profile → ℕ → Saying
+saying_of_rules profile nr = settled (plain_rule profile.rules nr) (arms_for profile.rules nr) profile.default
+
+abbrev pub saying_for : Profile → ℕ → Saying
+saying_for profile nr =
+    if is_x32 nr then record { arms = []; otherwise = profile.bad } else saying_of_rules profile nr
+
+-- what the profile says of a call
+abbrev pub said_by : Profile → Record → ℕ
+said_by profile call = said (saying_for profile call.nr) call

@@ -1,0 +1,27 @@
+-- Rows of what is said of the numbers of calls.
+use Rattle.std.specs.Prelude.{ℕ, ◌<◌, ◌≤◌, List, map, length, All}
+use Rattle.sk_profile_code.specs.declared.condition.Condition.{Condition}
+use Rattle.sk_profile_code.specs.declared.saying.Row.{Row}
+use Rattle.sk_profile_code.specs.Sayings.{Saying}
+use Rattle.sk_profile_code.specs.Rows.{saying_in}
+use Rattle.sk_profile_code.specs.Views.{saying_of, row_of}
+use Rattle.sk_profile.specs.declared.profile.Profile.{Profile}
+use Rattle.sk_profile.specs.declared.profile.Rule.{Rule}
+use Rattle.sk_profile.specs.declared.rows.Rows.{Rows}
+
+-- what is said of a number
+abbrev pub said_at : Rows → ℕ → Saying
+said_at rows nr = saying_in (map row_of rows.rows.items) (saying_of rows.before) nr
+
+-- each row starts below a number
+abbrev pub StartBelow : ℕ → List Row → Type 0
+StartBelow number rows = All (λ (row : Row). row.start < number) rows
+
+-- a rule of a call of x86-64, with conditions on its six arguments, at most one on each
+pub record IsGood (rule : Rule) : Type 0 where
+  pub number : rule.number < 1024
+  pub indices : All (λ (c : Condition). c.index < 6) rule.conditions.items
+  pub few : length rule.conditions.items ≤ 6
+
+abbrev pub AreGood : Profile → Type 0
+AreGood profile = All IsGood profile.rules.items

@@ -1,0 +1,81 @@
+//! The numbers of calls in rows of which the same is said.
+ghost use Rattle.std.specs.Prelude.{ℕ, ◌≡◌, ◌≤◌, ◌<◌, ◌+◌, ◌^◌, nat_le, if◌then◌else◌, map, All, IfOk, OnOk, IsTrue};
+ghost use Rattle.sk_profile_code.specs.declared.saying.Row.{Row};
+ghost use Rattle.sk_profile_code.specs.Rows.{saying_in};
+ghost use Rattle.sk_profile_code.specs.Views.{saying_of, row_of, AreRows, IsSayingOfCode};
+ghost use Rattle.sk_profile.specs.Profiles.{saying_for};
+ghost use Rattle.sk_profile.specs.Views.{profile_of};
+ghost use Rattle.sk_profile.specs.Rows.{said_at, StartBelow, AreGood};
+
+use crate::profile::Profile;
+use crate::saying::{plain, saying};
+use sk_profile_code::{Row, Saying};
+use std::alloc::{AllocError, Global};
+
+/// Calls of x86-64 have lower numbers.
+pub const NUMBERS: u32 = 1024;
+
+/// The first number of the x32 ABI.
+const X32: u32 = 0x4000_0000;
+
+/// Behind the last of them; a tracer passes over a call by this number.
+const PAST_X32: u32 = 0xffff_ffff;
+
+/// What is said of the first numbers, and from where on something else is said.
+#[derive(Drop)]
+pub struct Rows {
+    pub before: Saying,
+    pub rows: Vec<Row>,
+}
+
+/// The rows of what a profile says of each number.
+pub fn rows_of(alloc: Global, profile: &Profile) -> Result<Rows, AllocError>
+    requires good { AreGood profile.now }
+    ensures says { IfOk result (λ rows. (nr : ℕ) → nr < 2 ^ 32 → said_at rows nr ≡ saying_for (profile_of profile.now) nr) }
+    ensures rows { IfOk result (λ rows. AreRows rows.before rows.rows.items) }
+{
+    let mut rows = Rows {
+        before: saying(alloc, profile, 0)?,
+        rows: Vec::new(alloc),
+    };
+    for nr in 1..NUMBERS {
+        let said = saying(alloc, profile, nr)?;
+        say_from(&mut rows, nr, said)?;
+    }
+    say_from(&mut rows, NUMBERS, plain(alloc, profile.default))?;
+    say_from(&mut rows, X32, plain(alloc, profile.bad))?;
+    say_from(&mut rows, PAST_X32, plain(alloc, profile.default))?;
+    Ok(rows)
+}
+
+// From a number on this is said, which is above those at which something else was said.
+fn say_from(rows: &mut Rows, start: u32, saying: Saying) -> Result<(), AllocError>
+    requires behind { StartBelow start rows.now.rows.items }
+    requires good { IsSayingOfCode saying }
+    ensures says { OnOk result ((nr : ℕ) → said_at rows.new nr ≡ if nat_le start nr then saying_of saying else said_at rows.old nr) }
+    ensures start { OnOk result (StartBelow (start + 1) rows.new.rows.items) }
+    ensures rows { OnOk result (AreRows rows.old.before rows.old.rows.items → AreRows rows.new.before rows.new.rows.items) }
+{
+    if is_same(last(rows), &saying) {
+        return Ok(());
+    }
+    rows.rows.push(Row { start, saying })?;
+    Ok(())
+}
+
+// What is said behind the last number at which it changes.
+fn last(rows: &Rows) -> &Saying
+    ensures last { (nr : ℕ) → StartBelow (nr + 1) rows.now.rows.items → said_at rows.now nr ≡ saying_of result.now }
+{
+    match rows.rows.last() {
+        Some(row) => &row.saying,
+        None => &rows.before,
+    }
+}
+
+// Whether the same value is said of all calls.
+fn is_same(one: &Saying, other: &Saying) -> bool
+    ensures same { IsTrue result → saying_of one.now ≡ saying_of other.now }
+{
+    one.arms.is_empty() && other.arms.is_empty() && one.otherwise == other.otherwise
+}
