@@ -118,12 +118,34 @@ def difference(number, name, old, new, first=0):
     return f"{number} {name}: {old} -> {new}\n  record {record(number, first)}\n  syscall(SYS_{name}{arguments})\n"
 
 
+def step(place, insn, a, jump=""):
+    """The line of an instruction that a call comes to, where X holds 0."""
+    return f"{place:4} {insn:<24} A={a} X=0{jump}\n"
+
+
+def flag_path(low, outcome, end, value, verdict):
+    """What `why` says of the filter `flag`, by the low half of the first argument."""
+    return "filter 0\n" + step(0, "ldabs 16", low) + step(1, "jset 1 +0 +1", low, f"  {low} & 1 {outcome} 0: to {end}") \
+        + step(end, f"ret {value}", low) + f"  {verdict}\n{verdict} by filter 0 at {end}\n"
+
+
 def trouble(command, complaint):
     return Row(command, 2, f"ask: {complaint}\n" if complaint else "", "")
 
 
 def good(command, answer):
     return Row(command, 0, "", answer)
+
+
+GETPID_STEPS = step(0, "ldabs 0", 39) + step(1, "jeq 39 +0 +1", 39, "  39 == 39 getpid: to 2") + step(2, "ret 0x00050001", 39) + "  errno/1 EPERM\n"
+GETPID_PATH = "filter 0\n" + GETPID_STEPS + "errno/1 EPERM by filter 0 at 2\n"
+UNCLOSED = "why: CALL(ARG, ..) does not end with its parenthesis"
+TOO_MANY = "why: CALL(ARG, ..) has more than six arguments"
+
+
+def wrong(number):
+    """What is said of the argument with this number, from 1 on."""
+    return f"why: argument {number} of CALL(ARG, ..) is no number of 64 bits"
 
 
 GOOD = [
@@ -162,6 +184,16 @@ GOOD = [
     Row("ask replay log all raw | head -n 1", 1, "", "1 getpid() errno/1 EPERM\n"),
     Row("ask replay log_cut all", 1, "", "1 getpid() allow\n1 line is not understood\n"),
     good("ask replay log_crlf all", "1 getpid() allow\n"),
+    *[good(f"ask why '{call}' raw", GETPID_PATH) for call in ("getpid", "getpid()", "39", "0x27( )", "getpid(1, -1, 0xff)", " getpid ( 1 ) ")],
+    good("ask why getpid - < raw", GETPID_PATH), good("ask why getpid <(cat lines)", GETPID_PATH), good("cat raw | ask why getpid /dev/stdin", GETPID_PATH),
+    good("ask why getpid all raw", "filter 1\n" + GETPID_STEPS + "filter 0\n" + step(0, "ret 0x7fff0000", 0) + "  allow\nerrno/1 EPERM by filter 1 at 2\n"),
+    good("ask why 'read(1)' flag", flag_path(1, "!=", 2, "0x00050026", "errno/38 ENOSYS")),
+    good("ask why 'read(-1)' flag", flag_path(4294967295, "!=", 2, "0x00050026", "errno/38 ENOSYS")),
+    good("ask why 'read(18446744073709551615)' flag", flag_path(4294967295, "!=", 2, "0x00050026", "errno/38 ENOSYS")),
+    good("ask why 'read(0x100000000)' flag", flag_path(0, "==", 3, "0x7fff0000", "allow")),
+    good("ask why 'read(-9223372036854775808)' flag", flag_path(0, "==", 3, "0x7fff0000", "allow")),
+    good("ask why read flag", flag_path(0, "==", 3, "0x7fff0000", "allow")),
+    good("ask why --help | head -n 1", "usage: ask why 'CALL(ARG, ..)' FILE..\n"),
     good("ask replay --help | head -n 1", "usage: ask replay LOG FILE..\n"),
     good("ask when --help | head -n 1", "usage: ask when [--call CALL] FILE..\n"),
     good("ask diff --help | head -n 1", "usage: ask diff [--stricter] OLD NEW\n"),
@@ -179,6 +211,18 @@ WORDS = [
     trouble("ask replay", "replay: no LOG is given"), trouble("ask replay log", "replay: no FILE is given"),
     trouble("ask replay -", "replay: no FILE is given"), trouble("ask replay --call read log all", "replay: no option is named --call"),
     trouble("ask replay -- log all", "replay: no option is named --"),
+    trouble("ask why", "why: no CALL is given"), trouble("ask why getpid", "why: no FILE is given"), trouble("ask why raw", "why: no FILE is given"),
+    trouble("ask why --call getpid raw", "why: no option is named --call"), trouble("ask why -1 raw", "why: no option is named -1"),
+    *[trouble(f"ask why '{call}' nofile", f"no call is named {name}") for call, name in (
+        ("mseal2", "mseal2"), ("mseal2(1", "mseal2"), ("010", "010"), ("010(1)", "010"), ("", ""), ("(1)", ""), ("GETPID", "GETPID"),
+        ("4294967296", "4294967296"), ("getpid write", "getpid write"), ("-", "-"), ("raw", "raw"), ("0x", "0x"))],
+    trouble("ask why \"$(printf 'a\\nb')\" raw", "no call is named a?b"), trouble("ask why \"$(printf 'a\\xff')\" raw", "a word is not UTF-8"),
+    *[trouble(f"ask why '{call}' nofile", UNCLOSED) for call in ("read(", "read(1", "read(1) = 3", "read(1))", "read(1,2,3,4,5,6,7")],
+    *[trouble(f"ask why '{call}' nofile", TOO_MANY) for call in ("read(1,2,3,4,5,6,7)", "read(,,,,,,)", "read(x,2,3,4,5,6,7)")],
+    *[trouble(f"ask why '{call}' nofile", wrong(number)) for call, number in (
+        ("read(010)", 1), ("read(1, 010)", 2), ("read(18446744073709551616)", 1), ("read(0x10000000000000000)", 1), ("read(-9223372036854775809)", 1),
+        ("read(1,)", 2), ("read(,1)", 1), ("read(1,2,3,4,5,)", 6), ("read(\"a\")", 1), ("read(1 2)", 1), ("read(+1)", 1), ("read(1e3)", 1), ("read((1)", 1))],
+    trouble("ask why \"$(printf 'read(1\\t)')\" nofile", wrong(1)),
     trouble("ask calls", "calls: no FILE is given"), trouble("ask filter --raw", "filter: no FILE is given"),
     trouble("ask calls --exmples raw", "calls: no option is named --exmples"), trouble("ask calls --raw raw", "calls: no option is named --raw"),
     trouble("ask filter --examples raw", "filter: no option is named --examples"), trouble("ask calls -x raw", "calls: no option is named -x"),
@@ -207,6 +251,9 @@ UNREAD = [
     trouble("ask replay /dev/zero all", "/dev/zero: has more than 268435456 bytes"),
     trouble("truncate -s 268435457 big; ask replay big all", "big: has more than 268435456 bytes"),
     trouble("ask replay - - < log", f"-: {NO_FILTER}"),
+    *[trouble(f"ask why getpid {name}", complaint) for name, complaint in (
+        ("nofile", "nofile: no such file"), ("folder", "folder: is a folder"), ("raw nofile", "nofile: no such file"), ("raw/x", "raw/x: can't be opened"),
+        ("mib_and_one", "mib_and_one: has more than 1048576 bytes"), ("- <&-", "-: reading failed"), ("- - < raw", f"-: {NO_FILTER}"))],
 ]
 REFUSED = [
     *[trouble(f"ask calls {name}", f"{name}: {NO_FILTER}") for name in ("empty", "blank", "comments", "mib")],
@@ -238,6 +285,11 @@ REFUSED = [
     *[trouble(f"ask replay {name} all", f"{name}: {NO_CALL}") for name in ("empty", "/dev/null", "log_ends", "log_decoded", "raw", "lines", "mib_and_one", "chain")],
     trouble("truncate -s 268435456 big; ask replay big all", f"big: {NO_CALL}"),
     trouble("ask replay all log", "log: line 1: expected filter HEX"), trouble("ask replay empty empty", f"empty: {NO_FILTER}"),
+    *[trouble(f"ask why getpid {name}", f"{name}: {NO_FILTER}") for name in ("empty", "blank", "comments", "mib", "/dev/null")],
+    trouble("ask why getpid odd", "odd: has an odd number of hexadecimal digits: expected two for each byte"),
+    *[trouble(f"ask why getpid {name}", f"{name}: line 1: expected filter HEX") for name in ("marked", "tab", "log")],
+    trouble("ask why getpid sixteen sixteen two", "two: line 1: one filter too many: expected at most 32 in all files"),
+    trouble("ask why getpid big_endian", "big_endian: instruction 0: the code is none of the 41 that seccomp(2) permits"),
     trouble("ask replay log code", "code: line 2: instruction 2: the code is none of the 41 that seccomp(2) permits"),
     trouble("ask replay log thirty_two all", "all: one filter too many: expected at most 32 in all files"),
     trouble("ask filter --raw two", "filter: the FILEs hold several filters: expected one with --raw"),
@@ -246,6 +298,7 @@ REFUSED = [
 STREAMS = [
     trouble("ask calls raw > /dev/full", "writing failed"), trouble("ask calls raw >&-", "writing failed"), trouble("ask --help > /dev/full", "writing failed"),
     trouble("ask replay log all > /dev/full", "writing failed"), trouble("ask replay log raw >&-", "writing failed"),
+    trouble("ask why getpid raw > /dev/full", "writing failed"), trouble("ask why mseal2 raw >&-", "no call is named mseal2"),
     trouble("ask calls nofile 2>&-", ""), trouble("ask calls raw > /dev/full 2>&-", ""), trouble("ask calls nofile 2> /dev/full", ""),
 ]
 
