@@ -96,7 +96,10 @@ const TROUBLES: &[(&[&str], &[u8])] = &[
         &["why", "read(1,2,3,4,5,6,7)", "nofile"],
         b"ask: why: CALL(ARG, ..) has more than six arguments\n",
     ),
-    (&["why", "read(1)", "nofile"], b"ask: nofile: no such file\n"),
+    (
+        &["why", "read(1)", "nofile"],
+        b"ask: nofile: no such file\n",
+    ),
     (
         &["diff", "empty", "all"],
         b"ask: empty: holds no filter: expected bytes of struct sock_filter, hexadecimal digits or lines filter HEX\n",
