@@ -118,12 +118,34 @@ def difference(number, name, old, new, first=0):
     return f"{number} {name}: {old} -> {new}\n  record {record(number, first)}\n  syscall(SYS_{name}{arguments})\n"
 
 
+def step(place, insn, a, jump=""):
+    """The line of an instruction that a call comes to, where X holds 0."""
+    return f"{place:4} {insn:<24} A={a} X=0{jump}\n"
+
+
+def flag_path(low, outcome, end, value, verdict):
+    """What `why` says of the filter `flag`, by the low half of the first argument."""
+    return "filter 0\n" + step(0, "ldabs 16", low) + step(1, "jset 1 +0 +1", low, f"  {low} & 1 {outcome} 0: to {end}") \
+        + step(end, f"ret {value}", low) + f"  {verdict}\n{verdict} by filter 0 at {end}\n"
+
+
 def trouble(command, complaint):
     return Row(command, 2, f"ask: {complaint}\n" if complaint else "", "")
 
 
 def good(command, answer):
     return Row(command, 0, "", answer)
+
+
+GETPID_STEPS = step(0, "ldabs 0", 39) + step(1, "jeq 39 +0 +1", 39, "  39 == 39 getpid: to 2") + step(2, "ret 0x00050001", 39) + "  errno/1 EPERM\n"
+GETPID_PATH = "filter 0\n" + GETPID_STEPS + "errno/1 EPERM by filter 0 at 2\n"
+UNCLOSED = "why: CALL(ARG, ..) does not end with its parenthesis"
+TOO_MANY = "why: CALL(ARG, ..) has more than six arguments"
+
+
+def wrong(number):
+    """What is said of the argument with this number, from 1 on."""
+    return f"why: argument {number} of CALL(ARG, ..) is no number of 64 bits"
 
 
 GOOD = [
@@ -162,6 +184,16 @@ GOOD = [
     Row("ask replay log all raw | head -n 1", 1, "", "1 getpid() errno/1 EPERM\n"),
     Row("ask replay log_cut all", 1, "", "1 getpid() allow\n1 line is not understood\n"),
     good("ask replay log_crlf all", "1 getpid() allow\n"),
+    *[good(f"ask why '{call}' raw", GETPID_PATH) for call in ("getpid", "getpid()", "39", "0x27( )", "getpid(1, -1, 0xff)", " getpid ( 1 ) ")],
+    good("ask why getpid - < raw", GETPID_PATH), good("ask why getpid <(cat lines)", GETPID_PATH), good("cat raw | ask why getpid /dev/stdin", GETPID_PATH),
+    good("ask why getpid all raw", "filter 1\n" + GETPID_STEPS + "filter 0\n" + step(0, "ret 0x7fff0000", 0) + "  allow\nerrno/1 EPERM by filter 1 at 2\n"),
+    good("ask why 'read(1)' flag", flag_path(1, "!=", 2, "0x00050026", "errno/38 ENOSYS")),
+    good("ask why 'read(-1)' flag", flag_path(4294967295, "!=", 2, "0x00050026", "errno/38 ENOSYS")),
+    good("ask why 'read(18446744073709551615)' flag", flag_path(4294967295, "!=", 2, "0x00050026", "errno/38 ENOSYS")),
+    good("ask why 'read(0x100000000)' flag", flag_path(0, "==", 3, "0x7fff0000", "allow")),
+    good("ask why 'read(-9223372036854775808)' flag", flag_path(0, "==", 3, "0x7fff0000", "allow")),
+    good("ask why read flag", flag_path(0, "==", 3, "0x7fff0000", "allow")),
+    good("ask why --help | head -n 1", "usage: ask why 'CALL(ARG, ..)' FILE..\n"),
     good("ask replay --help | head -n 1", "usage: ask replay LOG FILE..\n"),
     good("ask when --help | head -n 1", "usage: ask when [--call CALL] FILE..\n"),
     good("ask diff --help | head -n 1", "usage: ask diff [--stricter] OLD NEW\n"),
@@ -174,11 +206,23 @@ WORDS = [
     trouble("ask when", "when: no FILE is given"), trouble("ask when raw --call", "when: expected a name or a number behind --call"),
     trouble("ask when --examples raw", "when: no option is named --examples"), trouble("ask when --call mseal2 raw", "no call is named mseal2"),
     *[trouble(f"ask diff {files}", "diff: expected two FILEs, OLD and NEW") for files in ("", "raw", "raw raw raw", "--stricter all")],
-    trouble("ask diff --call read raw all", "diff: no option is named --call"), trouble("ask diff raw nofile", "nofile: no such file"),
-    trouble("ask diff empty raw", f"empty: {NO_FILTER}"), trouble("ask diff - - < raw", f"-: {NO_FILTER}"),
+    trouble("ask diff --call read raw all", "diff: no option is named --call"), trouble("ask diff - - < raw", f"-: {NO_FILTER}"),
     trouble("ask replay", "replay: no LOG is given"), trouble("ask replay log", "replay: no FILE is given"),
     trouble("ask replay -", "replay: no FILE is given"), trouble("ask replay --call read log all", "replay: no option is named --call"),
     trouble("ask replay -- log all", "replay: no option is named --"),
+    trouble("ask why", "why: no CALL is given"), trouble("ask why getpid", "why: no FILE is given"), trouble("ask why raw", "why: no FILE is given"),
+    trouble("ask why --call getpid raw", "why: no option is named --call"), trouble("ask why -1 raw", "why: no option is named -1"),
+    *[trouble(f"ask why '{call}' nofile", f"no call is named {name}") for call, name in (
+        ("mseal2", "mseal2"), ("mseal2(1", "mseal2"), ("010", "010"), ("010(1)", "010"), ("", ""), ("(1)", ""), ("GETPID", "GETPID"),
+        ("4294967296", "4294967296"), ("getpid write", "getpid write"), ("-", "-"), ("raw", "raw"), ("0x", "0x"))],
+    trouble("ask why \"$(printf 'a\\nb')\" raw", "no call is named a?b"), trouble("ask why \"$(printf 'a\\xff')\" raw", "a word is not UTF-8"),
+    trouble("ask replay \"$(printf 'a\\xff')\" raw", "a word is not UTF-8"),
+    *[trouble(f"ask why '{call}' nofile", UNCLOSED) for call in ("read(", "read(1", "read(1) = 3", "read(1))", "read(1,2,3,4,5,6,7")],
+    *[trouble(f"ask why '{call}' nofile", TOO_MANY) for call in ("read(1,2,3,4,5,6,7)", "read(,,,,,,)", "read(x,2,3,4,5,6,7)")],
+    *[trouble(f"ask why '{call}' nofile", wrong(number)) for call, number in (
+        ("read(010)", 1), ("read(1, 010)", 2), ("read(18446744073709551616)", 1), ("read(0x10000000000000000)", 1), ("read(-9223372036854775809)", 1),
+        ("read(1,)", 2), ("read(,1)", 1), ("read(1,2,3,4,5,)", 6), ("read(\"a\")", 1), ("read(1 2)", 1), ("read(+1)", 1), ("read(1e3)", 1), ("read((1)", 1))],
+    trouble("ask why \"$(printf 'read(1\\t)')\" nofile", wrong(1)),
     trouble("ask calls", "calls: no FILE is given"), trouble("ask filter --raw", "filter: no FILE is given"),
     trouble("ask calls --exmples raw", "calls: no option is named --exmples"), trouble("ask calls --raw raw", "calls: no option is named --raw"),
     trouble("ask filter --examples raw", "filter: no option is named --examples"), trouble("ask calls -x raw", "calls: no option is named -x"),
@@ -187,66 +231,77 @@ WORDS = [
     *[trouble(f"ask calls --call '{word}' raw", f"no call is named {word}") for word in (
         "mseal2", "", "010", "00", "-1", "0x", "1e3", "getpid ", "GETPID", "4294967296", "0x100000000", "18446744073709551616")],
     trouble("ask calls --call \"$(printf 'a\\nb')\" raw", "no call is named a?b"),
-    trouble("ask calls \"$(printf 'a\\xff')\"", "a word is not UTF-8"),
 ]
+# What is said of one FILE, whatever is asked of it.
+NO_LINE, ODD = "expected filter HEX", "has an odd number of hexadecimal digits: expected two for each byte"
+NO_DIGITS = "expected hexadecimal digits behind filter, two for each byte"
+NO_CODE = "the code is none of the 41 that seccomp(2) permits"
+NO_WORD = "no word of struct seccomp_data begins at k: expected a multiple of 4 below 64"
+ONE = [
+    ("nofile", "nofile: no such file"), ("''", ": no such file"), ("folder", "folder: is a folder"), (".", ".: is a folder"),
+    ("raw/x", "raw/x: can't be opened"), ("\"$(printf 'a\\nb')\"", "a?b: no such file"), ("\"$(printf 'a\\xff')\"", "a word is not UTF-8"),
+    ("mib_and_one", "mib_and_one: has more than 1048576 bytes"), ("/dev/zero", "/dev/zero: has more than 1048576 bytes"),
+    ("- <&-", "-: reading failed"), ("- < folder", "-: reading failed"), ("- < odd", f"-: {ODD}"),
+    *[(name, f"{name}: {NO_FILTER}") for name in ("empty", "blank", "comments", "mib", "/dev/null")],
+    *[(name, f"{name}: line 1: {NO_LINE}") for name in ("marked", "tab", "glued", "record", "log")],
+    ("word", f"word: line 2: {NO_LINE}"), ("odd", f"odd: {ODD}"), ("bad_digits", f"bad_digits: line 2: {NO_DIGITS}"),
+    ("odd_line", f"odd_line: line 1: {NO_DIGITS}"), ("no_digits", "no_digits: line 1: there is no instruction"),
+    ("<(cat empty)", f"/dev/fd/63: {NO_FILTER}"), ("/dev/stdin < word", f"/dev/stdin: line 2: {NO_LINE}"),
+    ("thirty_three", "thirty_three: line 34: one filter too many: expected at most 32 in all files"),
+    ("big_endian", f"big_endian: instruction 0: {NO_CODE}"), ("code", f"code: line 2: instruction 2: {NO_CODE}"),
+    ("ragged", "ragged: the length is no multiple of 8 bytes: expected instructions as struct sock_filter has them"),
+    ("no_return", "no_return: the last instruction is no return"),
+    ("load", f"load: instruction 1: {NO_WORD}"), ("load_past", f"load_past: instruction 0: {NO_WORD}"),
+    ("division", "division: instruction 0: division by the constant 0"), ("shift", "shift: instruction 0: shift by a constant of 32 or more"),
+    ("scratch", "scratch: instruction 0: there are 16 scratch words: expected k below 16"),
+    ("jump", "jump: instruction 0: a jump past the last instruction"),
+    ("unstored", "unstored: instruction 0: loads scratch word 3, which some path there does not store"),
+    ("long", "long: there are more than 4096 instructions"),
+    ("chain", "chain: line 9: the filters are too long together: expected at most 32768 instructions, with 4 more for each filter before this one"),
+]
+# And of several that are one chain.
+SEVERAL = [
+    ("raw nofile", "nofile: no such file"), ("nofile word", "nofile: no such file"), ("word nofile", "nofile: no such file"),
+    ("all empty", f"empty: {NO_FILTER}"), ("- - < raw", f"-: {NO_FILTER}"), ("raw digits odd", f"odd: {ODD}"), ("code word", f"word: line 2: {NO_LINE}"),
+    ("thirty_two raw", "raw: one filter too many: expected at most 32 in all files"),
+    ("sixteen sixteen two", "two: line 1: one filter too many: expected at most 32 in all files"),
+    ("all code", f"code: line 2: instruction 2: {NO_CODE}"), ("big_endian no_return", f"big_endian: instruction 0: {NO_CODE}"),
+]
+# And of one that is made for it.
+MADE = [
+    ("chmod 000 raw; $as_owner {ask} raw", "raw: may not be read"), ("cat word | {ask} /dev/stdin", f"/dev/stdin: line 2: {NO_LINE}"),
+    ("cat odd | {ask} -", f"-: {ODD}"), ("mkfifo fifo; cat word > fifo & timeout 20 {ask} fifo", f"fifo: line 2: {NO_LINE}"),
+    ("mkdir -p deep/er; {ask} deep/er", "deep/er: is a folder"), ("ln -s nowhere link; {ask} link", "link: no such file"),
+]
+# All that asks something of a chain of FILEs, and of each of two.
+ASKING = ("calls", "calls --examples --call read", "when --call read", "filter", "replay log", "why 'getpid(1)'")
 UNREAD = [
-    trouble("ask calls nofile", "nofile: no such file"), trouble("ask calls ''", ": no such file"), trouble("ask calls folder", "folder: is a folder"),
-    trouble("ask calls .", ".: is a folder"), trouble("ask calls raw/x", "raw/x: can't be opened"),
-    trouble("chmod 000 raw; $as_owner ask calls raw", "raw: may not be read"),
-    trouble("ask calls \"$(printf 'a\\nb')\"", "a?b: no such file"), trouble("ask calls raw nofile", "nofile: no such file"),
-    trouble("ask filter nofile word", "nofile: no such file"), trouble("ask filter word nofile", "nofile: no such file"),
-    trouble("ask calls mib_and_one", "mib_and_one: has more than 1048576 bytes"), trouble("ask calls /dev/zero", "/dev/zero: has more than 1048576 bytes"),
-    trouble("ask calls - <&-", "-: reading failed"), trouble("ask calls - < folder", "-: reading failed"),
-    trouble("ask calls - - < raw", f"-: {NO_FILTER}"),
-    trouble("ask replay nolog nofile", "nolog: no such file"), trouble("ask replay log nofile", "nofile: no such file"),
-    trouble("ask replay folder all", "folder: is a folder"), trouble("ask replay log folder", "folder: is a folder"),
-    trouble("ask replay \"$(printf 'a\\nb')\" all", "a?b: no such file"), trouble("ask replay '' all", ": no such file"),
-    trouble("chmod 000 log; $as_owner ask replay log all", "log: may not be read"), trouble("ask replay log/x all", "log/x: can't be opened"),
-    trouble("ask replay - all <&-", "-: reading failed"), trouble("ask replay - all < folder", "-: reading failed"),
-    trouble("ask replay log mib_and_one", "mib_and_one: has more than 1048576 bytes"),
-    trouble("ask replay /dev/zero all", "/dev/zero: has more than 268435456 bytes"),
-    trouble("truncate -s 268435457 big; ask replay big all", "big: has more than 268435456 bytes"),
-    trouble("ask replay - - < log", f"-: {NO_FILTER}"),
+    *[trouble(f"ask {asking} {files}", says) for asking in ASKING for files, says in ONE + SEVERAL],
+    *[trouble(command.format(ask=f"ask {asking}"), says) for asking in (*ASKING, "diff all") for command, says in MADE],
+    *[trouble(f"ask diff {files}", says) for file, says in ONE for files in (f"all {file}", f"{file} all")],
+    trouble("ask diff word nofile", f"word: line 2: {NO_LINE}"), trouble("ask diff code word", f"code: line 2: instruction 2: {NO_CODE}"),
+]
+# What is said of a LOG.
+LOGS = [
+    ("nolog nofile", "nolog: no such file"), ("'' all", ": no such file"), ("folder all", "folder: is a folder"), ("log/x all", "log/x: can't be opened"),
+    ("\"$(printf 'a\\nb')\" all", "a?b: no such file"), ("- all <&-", "-: reading failed"), ("- all < folder", "-: reading failed"),
+    ("- - < log", f"-: {NO_FILTER}"), ("- all < empty", f"-: {NO_CALL}"), ("<(cat empty) all", f"/dev/fd/63: {NO_CALL}"),
+    ("/dev/zero all", "/dev/zero: has more than 268435456 bytes"), ("all log", f"log: line 1: {NO_LINE}"), ("empty empty", f"empty: {NO_FILTER}"),
+    *[(f"{name} all", f"{name}: {NO_CALL}") for name in ("empty", "/dev/null", "log_ends", "log_decoded", "raw", "lines", "mib_and_one", "chain")],
 ]
 REFUSED = [
-    *[trouble(f"ask calls {name}", f"{name}: {NO_FILTER}") for name in ("empty", "blank", "comments", "mib")],
-    trouble("ask calls /dev/null", f"/dev/null: {NO_FILTER}"), trouble("ask calls all empty", f"empty: {NO_FILTER}"),
-    trouble("ask calls odd", "odd: has an odd number of hexadecimal digits: expected two for each byte"),
-    trouble("ask calls word", "word: line 2: expected filter HEX"), trouble("ask calls marked", "marked: line 1: expected filter HEX"),
-    trouble("ask calls tab", "tab: line 1: expected filter HEX"), trouble("ask calls glued", "glued: line 1: expected filter HEX"),
-    trouble("ask calls record", "record: line 1: expected filter HEX"),
-    trouble("ask calls bad_digits", "bad_digits: line 2: expected hexadecimal digits behind filter, two for each byte"),
-    trouble("ask calls odd_line", "odd_line: line 1: expected hexadecimal digits behind filter, two for each byte"),
-    trouble("ask calls no_digits", "no_digits: line 1: there is no instruction"),
-    trouble("ask calls raw digits odd", "odd: has an odd number of hexadecimal digits: expected two for each byte"),
-    trouble("ask calls thirty_three", "thirty_three: line 34: one filter too many: expected at most 32 in all files"),
-    trouble("ask calls thirty_two raw", "raw: one filter too many: expected at most 32 in all files"),
-    trouble("ask calls sixteen sixteen two", "two: line 1: one filter too many: expected at most 32 in all files"),
-    trouble("ask calls big_endian", "big_endian: instruction 0: the code is none of the 41 that seccomp(2) permits"),
-    trouble("ask calls all code", "code: line 2: instruction 2: the code is none of the 41 that seccomp(2) permits"),
-    trouble("ask calls ragged", "ragged: the length is no multiple of 8 bytes: expected instructions as struct sock_filter has them"),
-    trouble("ask filter no_return", "no_return: the last instruction is no return"),
-    trouble("ask filter load", "load: instruction 1: no word of struct seccomp_data begins at k: expected a multiple of 4 below 64"),
-    trouble("ask filter load_past", "load_past: instruction 0: no word of struct seccomp_data begins at k: expected a multiple of 4 below 64"),
-    trouble("ask filter division", "division: instruction 0: division by the constant 0"),
-    trouble("ask filter shift", "shift: instruction 0: shift by a constant of 32 or more"),
-    trouble("ask filter scratch", "scratch: instruction 0: there are 16 scratch words: expected k below 16"),
-    trouble("ask filter jump", "jump: instruction 0: a jump past the last instruction"),
-    trouble("ask filter unstored", "unstored: instruction 0: loads scratch word 3, which some path there does not store"),
-    trouble("ask filter long", "long: there are more than 4096 instructions"),
-    trouble("ask filter chain", "chain: line 9: the filters are too long together: expected at most 32768 instructions, with 4 more for each filter before this one"),
-    *[trouble(f"ask replay {name} all", f"{name}: {NO_CALL}") for name in ("empty", "/dev/null", "log_ends", "log_decoded", "raw", "lines", "mib_and_one", "chain")],
+    *[trouble(f"ask replay {names}", says) for names, says in LOGS],
+    trouble("chmod 000 log; $as_owner ask replay log all", "log: may not be read"),
+    trouble("mkfifo fifo; cat empty > fifo & timeout 20 ask replay fifo all", f"fifo: {NO_CALL}"),
     trouble("truncate -s 268435456 big; ask replay big all", f"big: {NO_CALL}"),
-    trouble("ask replay all log", "log: line 1: expected filter HEX"), trouble("ask replay empty empty", f"empty: {NO_FILTER}"),
-    trouble("ask replay log code", "code: line 2: instruction 2: the code is none of the 41 that seccomp(2) permits"),
-    trouble("ask replay log thirty_two all", "all: one filter too many: expected at most 32 in all files"),
-    trouble("ask filter --raw two", "filter: the FILEs hold several filters: expected one with --raw"),
-    trouble("ask filter --raw raw all", "filter: the FILEs hold several filters: expected one with --raw"),
+    trouble("truncate -s 268435457 big; ask replay big all", "big: has more than 268435456 bytes"),
+    *[trouble(f"ask filter --raw {files}", "filter: the FILEs hold several filters: expected one with --raw") for files in ("two", "raw all", "thirty_two")],
 ]
 STREAMS = [
-    trouble("ask calls raw > /dev/full", "writing failed"), trouble("ask calls raw >&-", "writing failed"), trouble("ask --help > /dev/full", "writing failed"),
-    trouble("ask replay log all > /dev/full", "writing failed"), trouble("ask replay log raw >&-", "writing failed"),
-    trouble("ask calls nofile 2>&-", ""), trouble("ask calls raw > /dev/full 2>&-", ""), trouble("ask calls nofile 2> /dev/full", ""),
+    *[trouble(f"ask {words} {end}", "writing failed") for words in ("--help", "calls --help", *[f"{asking} raw" for asking in ASKING], "diff raw all")
+      for end in ("> /dev/full", ">&-")],
+    *[trouble(f"ask {asking} {files}", "") for asking in ASKING for files in ("nofile 2>&-", "nofile 2> /dev/full", "raw > /dev/full 2>&-")],
+    trouble("ask why mseal2 raw >&-", "no call is named mseal2"), trouble("ask replay nolog raw >&-", "nolog: no such file"),
 ]
 
 

@@ -10,7 +10,6 @@ use crate::shelf::{MOST_LOG_BYTES, Shelf, content};
 use crate::trouble::{Answer, Trouble};
 use crate::words::{Asked, Word};
 use sk_chain::Chain;
-use sk_replay::Replay;
 use std::alloc::Global;
 
 /// What is said of a log without a call.
@@ -49,16 +48,12 @@ fn log_answer<S: Shelf>(
 fn replayed(alloc: Global, name: &str, log: &[u8], chain: &Chain) -> Result<Answer, Trouble>
     ensures told { ComesTo (replayed name.now log.now chain.now) (ending_of result) }
 {
-    let Replay {
-        text,
-        denies,
-        calls,
-    } = sk_replay::replay(alloc, log, chain)?;
-    if calls == 0 {
+    let replay = sk_replay::replay(alloc, log, chain)?;
+    if replay.calls == 0 {
         return Err(Trouble::Refused(about(alloc, name, NO_CALL)?));
     }
     Ok(Answer {
-        text: text.into_bytes(),
-        denies,
+        text: replay.text.into_bytes(),
+        denies: replay.denies,
     })
 }

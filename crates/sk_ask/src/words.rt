@@ -253,9 +253,7 @@ fn missing(word: Word, count: usize) -> Option<&'static str>
         (Word::Diff, 1) => Some("NEW"),
         (Word::Replay, 0) => Some("LOG"),
         (Word::Why, 0) => Some("CALL"),
-        (Word::Replay | Word::Why, 1) | (Word::Calls | Word::Filter | Word::When, 0) => Some(
-            "FILE",
-        ),
+        (Word::Replay | Word::Why, 1) | (_, 0) => Some("FILE"),
         _ => None,
     }
 }

@@ -41,6 +41,14 @@ const ANSWERS: &[(&[&str], &[u8])] = &[
         &["replay", "log", "all"],
         b"2 read(0x3, 0x7ffd, 0x40) allow\n1 getpid() allow\n1 line is no call\n",
     ),
+    (
+        &["why", "getpid(1, -1)", "all", "getpid"],
+        b"filter 1\n   0 ldabs 0                  A=39 X=0\n   1 jeq 39 +0 +1             A=39 X=0  39 == 39 getpid: to 2\n   2 ret 0x00050001           A=39 X=0\n  errno/1 EPERM\nfilter 0\n   0 ret 0x7fff0000           A=0 X=0\n  allow\nerrno/1 EPERM by filter 1 at 2\n",
+    ),
+    (
+        &["why", "read(-2)", "flag"],
+        b"filter 0\n   0 ldabs 16                 A=4294967294 X=0\n   1 jset 1 +0 +1             A=4294967294 X=0  4294967294 & 1 == 0: to 3\n   3 ret 0x7fff0000           A=4294967294 X=0\n  allow\nallow by filter 0 at 3\n",
+    ),
 ];
 
 /// Words whose answer says no, and the whole answer.
@@ -121,13 +129,14 @@ fn all_calls(rt: HostRuntime) -> Result<(), Fail> {
 
 #[test]
 fn help_is_an_answer(rt: HostRuntime) -> Result<(), Fail> {
-    let rows: [(&[&str], &[u8]); 6] = [
+    let rows: [(&[&str], &[u8]); 7] = [
         (&["--help"], b"usage: ask WORD ..\n"),
         (&["calls", "--help"], b"usage: ask calls "),
         (&["filter", "all", "--help"], b"usage: ask filter "),
         (&["when", "--help"], b"usage: ask when "),
         (&["diff", "--help", "all"], b"usage: ask diff "),
         (&["replay", "--help"], b"usage: ask replay "),
+        (&["why", "mseal2", "--help"], b"usage: ask why "),
     ];
     for (words, first) in rows {
         let ran = run(rt.alloc(), words, 0)?;

@@ -74,6 +74,32 @@ const TROUBLES: &[(&[&str], &[u8])] = &[
         &["replay", "all", "log"],
         b"ask: log: line 1: expected filter HEX\n",
     ),
+    (&["why"], b"ask: why: no CALL is given\n"),
+    (&["why", "getpid"], b"ask: why: no FILE is given\n"),
+    (
+        &["why", "--call", "getpid", "all"],
+        b"ask: why: no option is named --call\n",
+    ),
+    (
+        &["why", "mseal2(1", "nofile"],
+        b"ask: no call is named mseal2\n",
+    ),
+    (
+        &["why", "read(1", "nofile"],
+        b"ask: why: CALL(ARG, ..) does not end with its parenthesis\n",
+    ),
+    (
+        &["why", "read(1, 010)", "nofile"],
+        b"ask: why: argument 2 of CALL(ARG, ..) is no number of 64 bits\n",
+    ),
+    (
+        &["why", "read(1,2,3,4,5,6,7)", "nofile"],
+        b"ask: why: CALL(ARG, ..) has more than six arguments\n",
+    ),
+    (
+        &["why", "read(1)", "nofile"],
+        b"ask: nofile: no such file\n",
+    ),
     (
         &["diff", "empty", "all"],
         b"ask: empty: holds no filter: expected bytes of struct sock_filter, hexadecimal digits or lines filter HEX\n",

@@ -1,0 +1,31 @@
+-- Each worked text is what the definition computes.
+use Rattle.std.proofs.Common.{refl}
+use Rattle.std.specs.Fmt.{digits}
+use Rattle.hex.specs.Hex.{encode_with}
+use Rattle.sk_text.specs.Hexadecimal.{hex_half, hex_word}
+use Rattle.sk_insn.specs.Actions.{action_of}
+use Rattle.sk_insn.specs.Operations.{operation_of}
+use Rattle.sk_call_names.specs.Names.{name_of}
+use Rattle.sk_listing.specs.Listing.{words_for}
+use Rattle.sk_verdict.specs.Errors.{error_named}
+use Rattle.sk_verdict.specs.Verdicts.{verdict_text}
+use Rattle.sk_show.specs.Notes.{argument_text, field_text, note_text}
+use Rattle.sk_show.specs.Showing.{comment_line, insn_line, lines_from, shown_lines, shown_words, side_word}
+use Rattle.sk_show.specs.WorkedTexts.{WorkedTexts}
+
+pub worked_texts : WorkedTexts
+unfolding words_for operation_of hex_word hex_half encode_with digits name_of action_of error_named verdict_text argument_text field_text note_text comment_line insn_line lines_from shown_lines shown_words side_word
+worked_texts = record {
+  no_instruction = refl;
+  filter = refl;
+  ways = refl;
+  next = refl;
+  last = refl;
+  label = refl;
+  number_field = refl;
+  pointer = refl;
+  first_argument = refl;
+  last_argument = refl;
+  no_field = refl;
+  no_word = refl;
+}

@@ -1,0 +1,7 @@
+pub mod Examples
+pub mod Landing
+pub mod Lines
+pub mod Names
+pub mod Notes
+pub mod Turns
+pub mod Whole

@@ -1,0 +1,6 @@
+pub mod Holding
+pub mod Notes
+pub mod RoundTrip
+pub mod Showing
+pub mod WorkedTexts
+pub use Rattle.sk_asm.specs.Assembly

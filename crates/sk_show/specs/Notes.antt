@@ -1,0 +1,62 @@
+-- What is said of an instruction beside its place: the field of `struct seccomp_data` of seccomp(2) that a load brings,
+-- what A is compared with where A holds the call's number or the architecture, and what a constant that is returned makes
+-- of the call.
+use Rattle.std.specs.Prelude.{ℕ, ◌-◌, ◌/◌, ◌%◌, ◌==◌, ◌&&◌, ◌++◌, nat_le, nat_lt, if◌then◌else◌, List, [], codes, Option, Some, None}
+use Rattle.std.specs.Fmt.{decimal}
+use Rattle.sk_insn.specs.declared.insn.Insn.{Insn}
+use Rattle.sk_insn.specs.declared.operation.Operand.TheVariants.{Constant}
+use Rattle.sk_insn.specs.declared.operation.Comparison.{Comparison}
+use Rattle.sk_insn.specs.declared.operation.Comparison.TheVariants.{CommonBits}
+use Rattle.sk_insn.specs.declared.operation.Operation.{Operation}
+use Rattle.sk_insn.specs.declared.operation.Operation.TheVariants.{LoadRecord, Branch, ReturnConstant}
+use Rattle.sk_insn.specs.Record.{architecture}
+use Rattle.sk_call_names.specs.Names.{name_of}
+use Rattle.sk_verdict.specs.Verdicts.{verdict_text}
+use Rattle.sk_show.specs.declared.held.Held.{Held}
+use Rattle.sk_show.specs.declared.held.Held.TheVariants.{Number, Architecture, Other}
+
+-- ---- loads
+
+-- which half of 64 bits begins at a place
+abbrev pub half_text : ℕ → List ℕ
+half_text place = if place % 8 == 0 then codes " low" else codes " high"
+
+-- an argument begins at each 8th place from 16 on
+unfoldable pub argument_text : ℕ → List ℕ
+argument_text place = codes " args[" ++ (decimal ((place - 16) / 8) ++ (codes "]" ++ half_text place))
+
+-- the word of the record that begins at a place
+unfoldable pub field_text : ℕ → List ℕ
+field_text place =
+    if place == 0 then codes " nr"
+    else if place == 4 then codes " arch"
+    else if place == 8 then codes " ip low"
+    else if place == 12 then codes " ip high"
+    else if nat_le 16 place && nat_lt place 64 && place % 4 == 0 then argument_text place
+    else []
+
+-- ---- comparisons
+
+-- the name of the call with this number, if there is one
+abbrev pub call_text : Option (List ℕ) → List ℕ
+call_text None = []
+call_text (Some name) = codes " " ++ name
+
+abbrev pub architecture_text : ℕ → List ℕ
+architecture_text number = if number == architecture then codes " x86-64" else []
+
+-- bits of a number are those of no call
+abbrev pub compared_text : Held → Comparison → ℕ → List ℕ
+compared_text held CommonBits number = []
+compared_text Number comparison number = call_text (name_of number)
+compared_text Architecture comparison number = architecture_text number
+compared_text Other comparison number = []
+
+-- ---- all
+
+-- of an instruction before which A holds this
+unfoldable pub note_text : Held → Option Operation → Insn → List ℕ
+note_text held (Some LoadRecord) insn = field_text insn.k
+note_text held (Some (Branch comparison Constant)) insn = compared_text held comparison insn.k
+note_text held (Some ReturnConstant) insn = codes " " ++ verdict_text insn.k
+note_text held operation insn = []

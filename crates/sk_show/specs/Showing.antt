@@ -1,0 +1,84 @@
+-- The text of `ask show`: for each instruction a label where jumps go, a comment with its place and what is said of it, and
+-- the instruction, whose jumps name labels, in the forms of McCanne and Jacobson (1993) that the assembler takes.
+use Rattle.std.specs.Prelude.{ℕ, ◌+◌, ◌==◌, ◌&&◌, ◌++◌, nat_lt, if◌then◌else◌, List, [], ◌∷◌, flat_map, length, codes, replicate, unwrap_or, Option, Some, None}
+use Rattle.std.specs.Fmt.{decimal}
+use Rattle.std.specs.List.{join_with_byte}
+use Rattle.sk_insn.specs.declared.insn.Insn.{Insn}
+use Rattle.sk_insn.specs.declared.operation.Operand.TheVariants.{Constant, IndexRegister}
+use Rattle.sk_insn.specs.declared.operation.Operation.{Operation}
+use Rattle.sk_insn.specs.declared.operation.Operation.TheVariants.{Jump, Branch}
+use Rattle.sk_insn.specs.Operations.{name_of, operation_of}
+use Rattle.sk_check.specs.Paths.{onward}
+use Rattle.sk_listing.specs.Listing.{distance_word, words_for}
+use Rattle.sk_show.specs.declared.held.Held.{Held}
+use Rattle.sk_show.specs.declared.held.Held.TheVariants.{Other}
+use Rattle.sk_show.specs.Holding.{Jumps, held_behind, joined_ways, jump_to, jumps_behind, next_behind}
+use Rattle.sk_show.specs.Notes.{note_text}
+
+-- ---- instructions
+
+-- the label of a place, `at12`
+abbrev pub label_name : ℕ → List ℕ
+label_name place = codes "at" ++ decimal place
+
+-- a side of a jump, from a place among so many: the label of where it lands, or the distance where it goes on at the next
+-- place, or out of the program
+unfoldable pub side_word : ℕ → ℕ → ℕ → List ℕ
+side_word count at distance =
+    if nat_lt 0 distance && nat_lt (at + 1 + distance) count then label_name (at + 1 + distance) else distance_word distance
+
+-- a jump has labels for distances, if its form shows all its fields; any other instruction is as it is listed
+abbrev pub shown_as : ℕ → ℕ → Option Operation → Insn → List (List ℕ)
+shown_as count at (Some Jump) insn =
+    if insn.jt == 0 && insn.jf == 0 then name_of Jump ∷ side_word count at insn.k ∷ [] else words_for insn
+shown_as count at (Some (Branch comparison Constant)) insn =
+    name_of (Branch comparison Constant) ∷ decimal insn.k ∷ side_word count at insn.jt ∷ side_word count at insn.jf ∷ []
+shown_as count at (Some (Branch comparison IndexRegister)) insn =
+    if insn.k == 0
+    then name_of (Branch comparison IndexRegister) ∷ side_word count at insn.jt ∷ side_word count at insn.jf ∷ []
+    else words_for insn
+shown_as count at operation insn = words_for insn
+
+unfoldable pub shown_words : ℕ → ℕ → Insn → List (List ℕ)
+shown_words count at insn = shown_as count at (operation_of insn.code) insn
+
+-- ---- lines
+
+abbrev pub label_lines : ℕ → Option Held → List (List ℕ)
+label_lines place None = []
+label_lines place (Some held) = (label_name place ++ codes ":") ∷ []
+
+unfoldable pub comment_line : ℕ → Held → Insn → List ℕ
+comment_line at held insn = codes "; " ++ (decimal at ++ note_text held (operation_of insn.code) insn)
+
+unfoldable pub insn_line : ℕ → ℕ → Insn → List ℕ
+insn_line count at insn = codes "    " ++ join_with_byte 32 (shown_words count at insn)
+
+-- those of the instruction at a place among so many, before which A holds this
+abbrev pub lines_of_insn : ℕ → ℕ → Option Held → Held → Insn → List (List ℕ)
+lines_of_insn count at jump held insn = label_lines at jump ++ (comment_line at held insn ∷ insn_line count at insn ∷ [])
+
+-- what A holds where a jump and the instruction before lead
+abbrev pub held_before : Option Held → Option Held → Held
+held_before jump next = unwrap_or (joined_ways jump next) Other
+
+-- those of all from a place on
+unfoldable pub lines_from : ℕ → ℕ → Jumps → Option Held → List Insn → List (List ℕ)
+lines_from count at jumps next [] = []
+lines_from count at jumps next (insn ∷ insns) =
+    let held = held_before (jump_to jumps at) next in
+    let behind = held_behind (operation_of insn.code) insn held in
+    let goes = onward at (operation_of insn.code) insn in
+    lines_of_insn count at (jump_to jumps at) held insn
+    ++ lines_from count (at + 1) (jumps_behind at goes behind jumps) (next_behind at goes behind) insns
+
+-- each line has its end
+abbrev pub text_of : List (List ℕ) → List ℕ
+text_of lines = flat_map (λ line. line ++ codes "\n") lines
+
+-- of nothing that A holds is anything known before the first instruction
+unfoldable pub shown_lines : List Insn → List (List ℕ)
+shown_lines insns = lines_from (length insns) 0 (replicate (length insns) None) (Some Other) insns
+
+abbrev pub show_text : List Insn → List ℕ
+show_text insns = text_of (shown_lines insns)

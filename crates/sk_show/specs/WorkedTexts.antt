@@ -1,0 +1,78 @@
+-- Texts that are worked out by hand.
+use Rattle.std.specs.Prelude.{◌≡◌, ◌++◌, List, [], ◌∷◌, codes}
+use Rattle.sk_insn.specs.declared.insn.Insn.{Insn}
+use Rattle.sk_asm.specs.Grammar.{insn}
+use Rattle.sk_show.specs.Notes.{field_text}
+use Rattle.sk_show.specs.Showing.{show_text, side_word}
+
+-- the architecture, then the number, then an argument: clone(2) with no bit of the first argument, and any call but execve(2)
+abbrev pub filter : List Insn
+filter =
+    insn 0x20 0 0 4 ∷
+    insn 0x15 1 0 0xc000003e ∷
+    insn 0x06 0 0 0x80000000 ∷
+    insn 0x20 0 0 0 ∷
+    insn 0x15 3 0 59 ∷
+    insn 0x15 0 1 56 ∷
+    insn 0x05 0 0 2 ∷
+    insn 0x06 0 0 0x7fff0000 ∷
+    insn 0x06 0 0 0x00050001 ∷
+    insn 0x20 0 0 20 ∷
+    insn 0x15 2 1 59 ∷
+    insn 0x45 0 0 1 ∷
+    insn 0x06 0 0 0x00030005 ∷
+    insn 0x16 0 0 0 ∷
+    []
+
+-- A holds the number on both ways to 3, on one of the two to 5, and on no way to 6
+abbrev pub ways : List Insn
+ways =
+    insn 0x20 0 0 0 ∷
+    insn 0x35 1 0 100 ∷
+    insn 0x1d 0 0 0 ∷
+    insn 0x25 1 0 39 ∷
+    insn 0x20 0 0 8 ∷
+    insn 0x15 0 0 39 ∷
+    insn 0x05 0 0 4294967295 ∷
+    insn 0x1d 0 1 1 ∷
+    insn 0x15 0 9 0 ∷
+    []
+
+pub record WorkedTexts : Type 0 where
+  pub no_instruction : show_text [] ≡ []
+  pub filter :
+      show_text filter
+      ≡ codes "; 0 arch\n    ldabs 4\n"
+      ++ (codes "; 1 x86-64\n    jeq 3221225534 at3 +0\n"
+      ++ (codes "; 2 kill_process\n    ret 0x80000000\n"
+      ++ (codes "at3:\n; 3 nr\n    ldabs 0\n"
+      ++ (codes "; 4 execve\n    jeq 59 at8 +0\n"
+      ++ (codes "; 5 clone\n    jeq 56 +0 at7\n"
+      ++ (codes "; 6\n    ja at9\n"
+      ++ (codes "at7:\n; 7 allow\n    ret 0x7fff0000\n"
+      ++ (codes "at8:\n; 8 errno/1 EPERM\n    ret 0x00050001\n"
+      ++ (codes "at9:\n; 9 args[0] high\n    ldabs 20\n"
+      ++ (codes "; 10\n    jeq 59 at13 at12\n"
+      ++ (codes "; 11\n    jset 1 +0 +0\n"
+      ++ (codes "at12:\n; 12 trap/5\n    ret 0x00030005\n"
+      ++ codes "at13:\n; 13\n    reta\n"))))))))))))
+  pub ways :
+      show_text ways
+      ≡ codes "; 0 nr\n    ldabs 0\n"
+      ++ (codes "; 1 times\n    jge 100 at3 +0\n"
+      ++ (codes "; 2\n    jeqx +0 +0\n"
+      ++ (codes "at3:\n; 3 getpid\n    jgt 39 at5 +0\n"
+      ++ (codes "; 4 ip low\n    ldabs 8\n"
+      ++ (codes "at5:\n; 5\n    jeq 39 +0 +0\n"
+      ++ (codes "; 6\n    ja +4294967295\n"
+      ++ (codes "; 7\n    .insn 0x001d 0 1 0x00000001\n"
+      ++ codes "; 8\n    jeq 0 +0 +9\n")))))))
+  pub next : side_word 9 3 0 ≡ codes "+0"
+  pub last : side_word 9 3 5 ≡ codes "+5"
+  pub label : side_word 9 3 4 ≡ codes "at8"
+  pub number_field : field_text 0 ≡ codes " nr"
+  pub pointer : field_text 12 ≡ codes " ip high"
+  pub first_argument : field_text 16 ≡ codes " args[0] low"
+  pub last_argument : field_text 60 ≡ codes " args[5] high"
+  pub no_field : field_text 64 ≡ []
+  pub no_word : field_text 18 ≡ []

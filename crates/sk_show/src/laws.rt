@@ -1,0 +1,29 @@
+//! Laws of what is shown. No program calls these functions: the contract of each is the law.
+ghost use Rattle.sk_asm.specs.Assembly.{Finds};
+ghost use Rattle.sk_show.specs.RoundTrip.{ShownAssembles};
+ghost use Rattle.sk_show.specs.WorkedTexts.{WorkedTexts};
+
+use crate::listing::show;
+use sk_asm::{AsmFault, assemble};
+use sk_check::Checked;
+use sk_insn::Insn;
+use std::alloc::Global;
+
+/// What is shown and assembled again is the same; only memory can be refused.
+pub fn assemble_shown(alloc: Global, program: &Checked) -> Result<Vec<Insn>, AsmFault>
+    ensures same { Finds (λ found. found.items) result program.now }
+{
+    let text = show(alloc, program)?;
+    assemble(alloc, text.as_bytes())
+}
+
+/// The text of any instructions, of which an assembler takes at most 4096, assembles to them.
+pub fn shown_assembles()
+    ensures law { ShownAssembles }
+{}
+
+/// The definition gives the texts that were worked out by hand.
+#[tactic(auto, using(crate::proofs::Examples::worked_texts))]
+pub fn worked_texts()
+    ensures law { WorkedTexts }
+{}
