@@ -139,6 +139,7 @@ def good(command, answer):
 
 GETPID_STEPS = step(0, "ldabs 0", 39) + step(1, "jeq 39 +0 +1", 39, "  39 == 39 getpid: to 2") + step(2, "ret 0x00050001", 39) + "  errno/1 EPERM\n"
 GETPID_PATH = "filter 0\n" + GETPID_STEPS + "errno/1 EPERM by filter 0 at 2\n"
+GETPID_SHOWN = "; 0 nr\n    ldabs 0\n; 1 getpid\n    jeq 39 +0 at3\n; 2 errno/1 EPERM\n    ret 0x00050001\nat3:\n; 3 allow\n    ret 0x7fff0000\n"
 UNCLOSED = "why: CALL(ARG, ..) does not end with its parenthesis"
 TOO_MANY = "why: CALL(ARG, ..) has more than six arguments"
 
@@ -193,6 +194,10 @@ GOOD = [
     good("ask why 'read(0x100000000)' flag", flag_path(0, "==", 3, "0x7fff0000", "allow")),
     good("ask why 'read(-9223372036854775808)' flag", flag_path(0, "==", 3, "0x7fff0000", "allow")),
     good("ask why read flag", flag_path(0, "==", 3, "0x7fff0000", "allow")),
+    *[good(f"ask show {name}", GETPID_SHOWN) for name in ("raw", "digits", "upper", "spread", "crlf", "lines", "lines_crlf", "- < raw", "/dev/stdin < lines", "<(cat raw)")],
+    good("ask show all", "; 0 allow\n    ret 0x7fff0000\n"), good("mkfifo fifo; cat all > fifo & timeout 20 ask show fifo", "; 0 allow\n    ret 0x7fff0000\n"),
+    good("ask show flag", "; 0 args[0] low\n    ldabs 16\n; 1\n    jset 1 +0 at3\n; 2 errno/38 ENOSYS\n    ret 0x00050026\nat3:\n; 3 allow\n    ret 0x7fff0000\n"),
+    good("ask show --help | head -n 1", "usage: ask show FILE\n"), good("ask show two --help | head -n 1", "usage: ask show FILE\n"),
     good("ask why --help | head -n 1", "usage: ask why 'CALL(ARG, ..)' FILE..\n"),
     good("ask replay --help | head -n 1", "usage: ask replay LOG FILE..\n"),
     good("ask when --help | head -n 1", "usage: ask when [--call CALL] FILE..\n"),
@@ -210,6 +215,8 @@ WORDS = [
     trouble("ask replay", "replay: no LOG is given"), trouble("ask replay log", "replay: no FILE is given"),
     trouble("ask replay -", "replay: no FILE is given"), trouble("ask replay --call read log all", "replay: no option is named --call"),
     trouble("ask replay -- log all", "replay: no option is named --"),
+    trouble("ask show", "show: no FILE is given"), trouble("ask show --raw raw", "show: no option is named --raw"),
+    trouble("ask show --call read raw", "show: no option is named --call"), trouble("ask show raw -x", "show: no option is named -x"),
     trouble("ask why", "why: no CALL is given"), trouble("ask why getpid", "why: no FILE is given"), trouble("ask why raw", "why: no FILE is given"),
     trouble("ask why --call getpid raw", "why: no option is named --call"), trouble("ask why -1 raw", "why: no option is named -1"),
     *[trouble(f"ask why '{call}' nofile", f"no call is named {name}") for call, name in (
@@ -274,7 +281,7 @@ MADE = [
     ("mkdir -p deep/er; {ask} deep/er", "deep/er: is a folder"), ("ln -s nowhere link; {ask} link", "link: no such file"),
 ]
 # All that asks something of a chain of FILEs, and of each of two.
-ASKING = ("calls", "calls --examples --call read", "when --call read", "filter", "replay log", "why 'getpid(1)'")
+ASKING = ("calls", "calls --examples --call read", "when --call read", "filter", "replay log", "why 'getpid(1)'", "show")
 UNREAD = [
     *[trouble(f"ask {asking} {files}", says) for asking in ASKING for files, says in ONE + SEVERAL],
     *[trouble(command.format(ask=f"ask {asking}"), says) for asking in (*ASKING, "diff all") for command, says in MADE],
@@ -295,6 +302,7 @@ REFUSED = [
     trouble("mkfifo fifo; cat empty > fifo & timeout 20 ask replay fifo all", f"fifo: {NO_CALL}"),
     trouble("truncate -s 268435456 big; ask replay big all", f"big: {NO_CALL}"),
     trouble("truncate -s 268435457 big; ask replay big all", "big: has more than 268435456 bytes"),
+    *[trouble(f"ask show {files}", "show: the FILEs hold several filters: expected one") for files in ("two", "raw all", "thirty_two", "raw - < raw")],
     *[trouble(f"ask filter --raw {files}", "filter: the FILEs hold several filters: expected one with --raw") for files in ("two", "raw all", "thirty_two")],
 ]
 STREAMS = [

@@ -6,7 +6,7 @@ use Rattle.sk_ask.specs.declared.trouble.Answer.{Answer}
 use Rattle.sk_ask.specs.declared.trouble.Trouble.{Trouble}
 use Rattle.sk_ask.specs.declared.trouble.Trouble.TheVariants.{Refused, Reading, Memory}
 use Rattle.sk_ask.specs.declared.words.Word.{Word}
-use Rattle.sk_ask.specs.declared.words.Word.TheVariants.{Calls, Filter, When, Diff, Replay, Why}
+use Rattle.sk_ask.specs.declared.words.Word.TheVariants.{Calls, Filter, When, Diff, Replay, Why, Show}
 use Rattle.sk_ask.specs.Asking.{Question, Asks}
 use Rattle.sk_ask.specs.Answering.{AnswersAsked, AnswersQuestion}
 use Rattle.sk_ask.specs.Replays.{AnswersLog}
@@ -33,6 +33,7 @@ no_answer held When asked = inr (inl (Memory, tt, refl))
 no_answer held Diff asked = inr (inl (Memory, inr (inr refl), refl))
 no_answer held Replay asked = no_log held asked.names
 no_answer held Why asked = no_call held asked.names
+no_answer held Show asked = inr (Memory, inr (inr refl), refl)
 
 asked_wrong : (held : List ℕ → Option (List ℕ)) (word : Word) (said : Result Question (List ℕ)) (why : Trouble) → Asks (Err why) said → AnswersAsked held word said (ending_of (Err why))
 asked_wrong held word said (Refused line) h = subst (λ s. AnswersAsked held word s (refused line.items)) (sym h) refl

@@ -19,6 +19,7 @@ use Rattle.sk_ask.specs.Filters.{ReadsFilters, IsRefusedOf}
 use Rattle.sk_ask.specs.FilterText.{filter_lines}
 use Rattle.sk_ask.specs.Helping.{help_text, word_help_text}
 use Rattle.sk_ask.specs.Replays.{AnswersReplay}
+use Rattle.sk_ask.specs.Shows.{AnswersShow}
 use Rattle.sk_ask.specs.Troubles.{IsTrouble}
 use Rattle.sk_ask.specs.Whens.{AnswersWhen}
 use Rattle.sk_ask.specs.Whys.{AnswersWhy}
@@ -65,6 +66,7 @@ AnswersQuestion held word.When asked ending = AnswersWhen held asked ending
 AnswersQuestion held word.Diff asked ending = AnswersDiff held asked ending
 AnswersQuestion held word.Replay asked ending = AnswersReplay held asked ending
 AnswersQuestion held word.Why asked ending = AnswersWhy held asked ending
+AnswersQuestion held word.Show asked ending = AnswersShow held asked ending
 
 -- with `--help` among them the words ask how they are used
 abbrev pub AnswersAsked : (List ℕ → Option (List ℕ)) → Word → Result Question (List ℕ) → Ending → Type 0

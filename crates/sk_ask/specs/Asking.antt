@@ -6,7 +6,7 @@ use Rattle.sk_ask.specs.declared.trouble.Trouble.{Trouble}
 use Rattle.sk_ask.specs.declared.trouble.Trouble.TheVariants.{Refused, Reading, Memory}
 use Rattle.sk_ask.specs.declared.words.Asked.{Asked}
 use Rattle.sk_ask.specs.declared.words.Word.{Word}
-use Rattle.sk_ask.specs.declared.words.Word.TheVariants.{Calls, Filter, When, Diff, Replay, Why}
+use Rattle.sk_ask.specs.declared.words.Word.TheVariants.{Calls, Filter, When, Diff, Replay, Why, Show}
 use Rattle.sk_ask.specs.Complaints.{of_word}
 
 -- the word behind `--call`, and whether it is awaited; whether there was `--examples`, `--raw`, `--stricter` or `--help`; and the
@@ -30,6 +30,7 @@ word_name When = codes "when"
 word_name Diff = codes "diff"
 word_name Replay = codes "replay"
 word_name Why = codes "why"
+word_name Show = codes "show"
 
 abbrev pub word_named : List ℕ → Option Word
 word_named name =
@@ -39,6 +40,7 @@ word_named name =
     else if bytes_eq name (codes "diff") then Some Diff
     else if bytes_eq name (codes "replay") then Some Replay
     else if bytes_eq name (codes "why") then Some Why
+    else if bytes_eq name (codes "show") then Some Show
     else None
 
 -- ---- one word more

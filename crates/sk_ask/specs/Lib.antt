@@ -10,6 +10,7 @@ pub mod FilterText
 pub mod Helping
 pub mod Replays
 pub mod Shelves
+pub mod Shows
 pub mod Telling
 pub mod Troubles
 pub mod Whens

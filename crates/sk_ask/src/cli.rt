@@ -13,6 +13,7 @@ use crate::help::{HELP, word_help};
 use crate::output::{complain, put};
 use crate::replay::replay;
 use crate::shelf::Shelf;
+use crate::show::show;
 use crate::trouble::{Answer, Trouble};
 use crate::when::when;
 use crate::why::why;
@@ -108,6 +109,7 @@ fn question_answer<S: Shelf>(
         Word::Diff => diff(alloc, asked, shelf, reads),
         Word::Replay => replay(alloc, asked, shelf, reads),
         Word::Why => why(alloc, asked, shelf, reads),
+        Word::Show => show(alloc, asked, shelf, reads),
     }
 }
 

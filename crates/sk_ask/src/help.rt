@@ -12,6 +12,7 @@ pub const HELP: &str = "usage: ask WORD ..
   ask diff [--stricter] OLD NEW                 the calls that two chains of filters answer otherwise
   ask replay LOG FILE..                         the verdicts on the calls that strace -f -X raw -e raw=all wrote to LOG
   ask why 'CALL(ARG, ..)' FILE..                the path of one call through the filters, instruction by instruction
+  ask show FILE                                 one filter for people, as a text that skern asm takes
   ask WORD --help                               more on a word
 FILE holds raw struct sock_filter, hexadecimal digits, or lines filter HEX; - is standard input.
 Several FILEs are one chain, the oldest filter first.
@@ -60,6 +61,13 @@ CALL is a name or a number, decimal or 0x and hexadecimal; an ARG, of at most si
 Arguments that are not given are 0, and so is the instruction pointer.
 ";
 
+/// What `ask show --help` says.
+pub const SHOW_HELP: &str = "usage: ask show FILE
+The instructions of one filter, with labels where jumps go, and above each as a comment its place and what it is about: the field
+that it loads, the call or the architecture that it compares with, the verdict that it returns. skern asm takes the text, and
+gives the same instructions.
+";
+
 /// What `ask WORD --help` says.
 pub fn word_help(word: Word) -> &'static str
     ensures text { result.now ≡ word_help_text word }
@@ -71,5 +79,6 @@ pub fn word_help(word: Word) -> &'static str
         Word::Diff => DIFF_HELP,
         Word::Replay => REPLAY_HELP,
         Word::Why => WHY_HELP,
+        Word::Show => SHOW_HELP,
     }
 }

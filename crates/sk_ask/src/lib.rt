@@ -13,6 +13,7 @@ mod help;
 mod output;
 mod replay;
 mod shelf;
+mod show;
 mod trouble;
 mod when;
 mod why;

@@ -23,6 +23,8 @@ pub enum Word {
     Replay,
     /// The path of a call through the filters.
     Why,
+    /// The listing of one filter.
+    Show,
 }
 
 impl Word {
@@ -42,6 +44,8 @@ impl Word {
             Some(Word::Replay)
         } else if is_word(name, b"why") {
             Some(Word::Why)
+        } else if is_word(name, b"show") {
+            Some(Word::Show)
         } else {
             None
         }
@@ -58,6 +62,7 @@ impl Word {
             Word::Diff => "diff",
             Word::Replay => "replay",
             Word::Why => "why",
+            Word::Show => "show",
         }
     }
 }
@@ -216,9 +221,8 @@ fn named<'a>(alloc: Global, word: Word, asked: Asked<'a>) -> Result<Asked<'a>, T
 {
     match word {
         Word::Diff => two_named(alloc, asked),
-        Word::Calls | Word::Filter | Word::When | Word::Replay | Word::Why => none_missing(
-            alloc, word, asked,
-        ),
+        Word::Calls | Word::Filter | Word::When | Word::Replay | Word::Why | Word::Show =>
+            none_missing(alloc, word, asked),
     }
 }
 

@@ -49,6 +49,11 @@ const ANSWERS: &[(&[&str], &[u8])] = &[
         &["why", "read(-2)", "flag"],
         b"filter 0\n   0 ldabs 16                 A=4294967294 X=0\n   1 jset 1 +0 +1             A=4294967294 X=0  4294967294 & 1 == 0: to 3\n   3 ret 0x7fff0000           A=4294967294 X=0\n  allow\nallow by filter 0 at 3\n",
     ),
+    (
+        &["show", "getpid"],
+        b"; 0 nr\n    ldabs 0\n; 1 getpid\n    jeq 39 +0 at3\n; 2 errno/1 EPERM\n    ret 0x00050001\nat3:\n; 3 allow\n    ret 0x7fff0000\n",
+    ),
+    (&["show", "all"], b"; 0 allow\n    ret 0x7fff0000\n"),
 ];
 
 /// Words whose answer says no, and the whole answer.
@@ -129,7 +134,7 @@ fn all_calls(rt: HostRuntime) -> Result<(), Fail> {
 
 #[test]
 fn help_is_an_answer(rt: HostRuntime) -> Result<(), Fail> {
-    let rows: [(&[&str], &[u8]); 7] = [
+    let rows: [(&[&str], &[u8]); 8] = [
         (&["--help"], b"usage: ask WORD ..\n"),
         (&["calls", "--help"], b"usage: ask calls "),
         (&["filter", "all", "--help"], b"usage: ask filter "),
@@ -137,6 +142,7 @@ fn help_is_an_answer(rt: HostRuntime) -> Result<(), Fail> {
         (&["diff", "--help", "all"], b"usage: ask diff "),
         (&["replay", "--help"], b"usage: ask replay "),
         (&["why", "mseal2", "--help"], b"usage: ask why "),
+        (&["show", "--help", "two"], b"usage: ask show "),
     ];
     for (words, first) in rows {
         let ran = run(rt.alloc(), words, 0)?;

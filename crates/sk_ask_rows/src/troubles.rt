@@ -100,6 +100,19 @@ const TROUBLES: &[(&[&str], &[u8])] = &[
         &["why", "read(1)", "nofile"],
         b"ask: nofile: no such file\n",
     ),
+    (&["show"], b"ask: show: no FILE is given\n"),
+    (
+        &["show", "--raw", "all"],
+        b"ask: show: no option is named --raw\n",
+    ),
+    (
+        &["show", "two"],
+        b"ask: show: the FILEs hold several filters: expected one\n",
+    ),
+    (
+        &["show", "all", "getpid"],
+        b"ask: show: the FILEs hold several filters: expected one\n",
+    ),
     (
         &["diff", "empty", "all"],
         b"ask: empty: holds no filter: expected bytes of struct sock_filter, hexadecimal digits or lines filter HEX\n",

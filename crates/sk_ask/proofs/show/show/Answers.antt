@@ -1,0 +1,7 @@
+use Rattle.std.proofs.Common.{inl}
+use Rattle.sk_ask_files.specs.Finding.{filters_of}
+use Rattle.sk_ask.proofs.show.show.Goals as goal
+
+pub returns-clause-told : goal.returns-clause-told
+returns-clause-told g c =
+    inl (filters_of c.in_ok-filters.filters.found, c.in_ok-filters.filters.chain, c.in_ok-filters.ensures.read, c.shown.ensures.told)
