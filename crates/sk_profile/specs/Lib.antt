@@ -1,3 +1,4 @@
 pub mod Profiles
 pub mod Views
 pub mod Rows
+pub mod Clashes
