@@ -82,3 +82,6 @@ IsClashAt one arms place = (other : Arm) × (slice_get arms place ≡ Some other
 -- two arms with these places may clash
 abbrev pub MayClash : List Arm → ℕ → ℕ → Type 0
 MayClash arms first second = (one : Arm) × (slice_get arms first ≡ Some one) × (first < second) × IsClashAt one arms second
+
+abbrev pub NeverClashIsClear : Type 0
+NeverClashIsClear = (arms : List Arm) → never_clash arms ≡ true → AreClear arms

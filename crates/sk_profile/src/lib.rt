@@ -3,6 +3,7 @@
 
 mod clash;
 mod filter;
+pub mod laws;
 mod profile;
 mod rows;
 mod saying;
