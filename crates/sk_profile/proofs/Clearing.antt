@@ -1,8 +1,7 @@
 -- Arms that never clash say the same of each call that they fit.
-use Rattle.std.proofs.Common.{◌≡◌, ℕ, zero, suc, ◌+◌, ◌-◌, ◌^◌, ◌<◌, ◌≤◌, ◌==◌, ◌||◌, nat_lt, not, bit_and, Bool, true, false, inl, inr, List, [], ◌∷◌, length, Option, Some, None, slice_index_or, refl, sym, ap, ◌∙◌, subst, arith}
-use Rattle.std.specs.Prelude.{All}
+use Rattle.std.proofs.Common.{◌≡◌, ℕ, zero, suc, ◌-◌, ◌^◌, ◌<◌, ◌≤◌, nat_lt, bit_and, Bool, true, false, inl, inr, List, [], ◌∷◌, length, Option, Some, None, slice_index_or, refl, sym, ap, ◌∙◌, subst, arith}
 use Rattle.std.specs.List.{Contains, list_any}
-use Rattle.std.proofs.lemmas.Bool.{both_ways, not-true, not-false, ltb-true, leb-true, eqb-true, eqb-false, ne_eqb, cases_lt, cases_Bool, and_parts, and_cases, or_cases}
+use Rattle.std.proofs.lemmas.Bool.{both_ways, not-true, not-false, ltb-true, leb-true, eqb-true, eqb-false, ne_eqb, lt-leb, cases_lt, cases_Bool, and_parts, and_cases, or_cases}
 use Rattle.std.proofs.lemmas.List.{get_or_past}
 use Rattle.std.proofs.lemmas.List.Folds.{list_any_at}
 use Rattle.std.proofs.lemmas.Nat.{and_assoc, and_comm}
@@ -12,7 +11,16 @@ use Rattle.sk_profile_code.specs.declared.condition.Test.{Test}
 use Rattle.sk_profile_code.specs.declared.condition.Test.TheVariants.{Is, IsNot, Below, AtMost, Above, AtLeast, Masked}
 use Rattle.sk_profile_code.specs.Means.{IsCall}
 use Rattle.sk_profile_code.specs.Sayings.{Arm, compares, holds_of, all_hold}
-use Rattle.sk_profile.specs.Clashes.{range_of, ranges_apart, not_met, masks_apart, excludes, told_apart, may_clash, never_clash, AreClear}
+use Rattle.sk_profile_code.specs.Sayings.{Saying}
+use Rattle.sk_profile.specs.declared.fault.Clash.{Clash}
+use Rattle.sk_profile.specs.declared.fault.ProfileFault.TheVariants.{Clashes}
+use Rattle.sk_profile.specs.declared.profile.Profile.{Profile as ProfileOfCode}
+use Rattle.sk_profile.specs.Clashes.{range_of, ranges_apart, not_met, masks_apart, excludes, told_apart, may_clash, never_clash, AreClear, IsClear, MayClash}
+use Rattle.sk_profile.specs.Faults.{IsFaultOf}
+use Rattle.sk_profile.specs.Profiles.{Profile, is_x32, saying_of_rules, saying_for}
+use Rattle.sk_profile.specs.Rows.{AreGood}
+use Rattle.sk_profile.specs.Views.{profile_of}
+use Rattle.sk_profile.proofs.Starts.{default_above}
 
 -- an argument has 64 bits
 fits : (call : Record) → IsCall call → (i : ℕ) → slice_index_or call.args i 0 < 2 ^ 64
@@ -143,3 +151,20 @@ never_clash_is_clear (arm ∷ arms) e call one other is (suc k, d, here) (zero, 
     sym (same_value other one call is (subst (λ (x : Arm). may_clash x one ≡ false) there (among (may_clash arm) arms one free (k, omega (arith, d), here))) too holds)
 never_clash_is_clear (arm ∷ arms) e call one other is (suc k, d, here) (suc j, f, there) holds too =
     never_clash_is_clear arms (and_parts _ _ e).1 call one other is (k, omega (arith, d), here) (j, omega (arith, f), there) holds too
+
+-- two rules for a number of x86-64 that may clash are a fault of the profile
+pub clash_of : (profile : Profile) (saying : Saying) (it : Clash) → it.number < 1024 → saying ≡ saying_of_rules profile it.number → MayClash saying.arms it.first it.second → IsFaultOf profile (Clashes it)
+clash_of profile saying it low is clash =
+    rw (lt-leb 0x40000000 it.number (omega (arith, low))) (subst (λ (said : Saying). MayClash said.arms it.first it.second) is clash)
+
+-- where no two may clash for these, none may for any number
+pub all_clear : (profile : ProfileOfCode) → AreGood profile → ((nr : ℕ) → nr < 1024 → AreClear (saying_of_rules (profile_of profile) nr).arms) → IsClear (profile_of profile)
+unfolding never_clash
+all_clear profile good low nr small =
+    elim (cases_lt nr 1024) [
+      | inl below ↦ rw (lt-leb 0x40000000 nr (omega (arith, below))) (low nr below)
+      | inr up ↦ by (is_x32 nr) refl up
+    ] where
+      by : (x32 : Bool) → is_x32 nr ≡ x32 → 1024 ≤ nr → AreClear (saying_for (profile_of profile) nr).arms
+      by true e up = rw e (never_clash_is_clear [] refl)
+      by false e up = rw e (rw (default_above profile nr good up) (never_clash_is_clear [] refl))

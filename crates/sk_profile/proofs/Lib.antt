@@ -1,3 +1,4 @@
 pub mod Starts
 pub mod Places
 pub mod Clearing
+pub mod Judging

@@ -1,5 +1,5 @@
 -- Arms by their places among others.
-use Rattle.std.proofs.Common.{◌≡◌, ℕ, zero, suc, ◌+◌, ◌<◌, Bool, true, false, not, ◌&&◌, List, [], ◌∷◌, length, drop, map, Option, Some, slice_get, refl, sym, ap, ◌∙◌, subst, arith}
+use Rattle.std.proofs.Common.{◌≡◌, ℕ, zero, suc, ◌+◌, true, false, List, [], ◌∷◌, length, drop, map, Some, slice_get, refl, sym, ap, ◌∙◌, arith}
 use Rattle.std.specs.List.{list_any}
 use Rattle.std.specs.Option.{option_map}
 use Rattle.std.proofs.lemmas.Option.{slice_get-map}
@@ -21,11 +21,13 @@ drop_more (suc n) [] rest x is = cc
 drop_more (suc n) (y ∷ ys) rest x is =
     let e : suc (n + 1) ≡ suc n + 1 = omega arith in drop_more n ys rest x is ∙ ap (λ k. drop k (y ∷ ys)) e
 
--- the first of what is left, and one behind it
-pub here : (arms left rest : List ArmOfCode) (arm : ArmOfCode) (place : ℕ) → left ≡ drop place arms → left ≡ arm ∷ rest → slice_get (map arm_of arms) place ≡ Some (arm_of arm)
-here arms left rest arm place is steps =
-    slice_get-map arm_of arms place
-    ∙ ap (option_map arm_of) (ap (slice_get arms) (omega arith) ∙ sym (at_drop place arms 0) ∙ ap (λ (xs : List ArmOfCode). slice_get xs 0) (sym is ∙ steps))
+-- the first of what is left, seen by a view
+pub here : {X Y : Type 0} (view : X → Y) (all left rest : List X) (first : X) (place : ℕ) → left ≡ drop place all → left ≡ first ∷ rest → slice_get (map view all) place ≡ Some (view first)
+here {X} view all left rest first place is steps =
+    slice_get-map view all place
+    ∙ ap (option_map view) (ap (slice_get all) (omega arith) ∙ sym (at_drop place all 0) ∙ ap (λ (xs : List X). slice_get xs 0) (sym is ∙ steps))
+
+-- and one behind it
 
 pub behind : (arms rest : List ArmOfCode) (place k : ℕ) → rest ≡ drop place arms → slice_get (map arm_of arms) (place + k) ≡ slice_get (map arm_of rest) k
 behind arms rest place k is =
@@ -38,7 +40,7 @@ pub found : (arms left rest : List ArmOfCode) (arm : ArmOfCode) (first k : ℕ) 
 found arms left rest arm first k is steps it =
     let more : rest ≡ drop (first + 1) arms = drop_more first arms rest arm (sym is ∙ steps) in (
       arm_of arm,
-      here arms left rest arm first is steps,
+      here arm_of arms left rest arm first is steps,
       omega arith,
       (it.0, behind arms rest (first + 1) k more ∙ it.1, it.2),
     )

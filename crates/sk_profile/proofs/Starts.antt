@@ -138,3 +138,19 @@ pub without_rule : (arms : List Arm) (left rest whole : List RuleOfCode) (rule :
 without_rule arms left rest whole rule nr steps not_for_it so_far =
     let first : arms_for (map rule_of (rule ∷ rest)) nr ≡ arms_for (map rule_of rest) nr = rw (ne_eqb rule.number nr not_for_it) refl in
     ap (λ more. arms ++ more) (sym first) ∙ ap (λ rules. arms ++ arms_for (map rule_of rules) nr) (sym steps) ∙ so_far
+
+-- one number more of which the right is said
+pub says_more : (new old right : ℕ → Saying) (at : ℕ) (now : Saying) → ((nr : ℕ) → new nr ≡ (if nat_le at nr then now else old nr)) → now ≡ right at
+    → ((nr : ℕ) → nr < at → old nr ≡ right nr) → (nr : ℕ) → nr < at + 1 → new nr ≡ right nr
+says_more new old right at now says is so_far nr less =
+    elim (cases_lt nr at) [
+      | inl below ↦ says nr ∙ rw (lt-leb at nr below) (so_far nr below)
+      | inr up ↦ let same : at ≡ nr = omega (arith, less, up) in says nr ∙ rw (le-leb at nr up) (is ∙ ap right same)
+    ]
+
+pub holds_more : (P : ℕ → Type 0) (at : ℕ) → P at → ((nr : ℕ) → nr < at → P nr) → (nr : ℕ) → nr < at + 1 → P nr
+holds_more P at now so_far nr less =
+    elim (cases_lt nr at) [
+      | inl below ↦ so_far nr below
+      | inr up ↦ let same : at ≡ nr = omega (arith, less, up) in subst P same now
+    ]

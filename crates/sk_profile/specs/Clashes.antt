@@ -1,7 +1,7 @@
 -- When two rules with conditions cannot both fit a call. libseccomp follows no rule of the profile where two do and say
 -- different things, so such a profile is refused. What is told apart here is apart on every call; what is not may be too.
-use Rattle.std.specs.Prelude.{ℕ, ◌≡◌, ◌+◌, ◌-◌, ◌^◌, ◌<◌, ◌==◌, ◌&&◌, ◌||◌, not, nat_lt, bit_and, Bool, true, false, if◌then◌else◌, List, [], ◌∷◌, length, slice_get, Option, Some, None, Contains}
-use Rattle.std.specs.List.{list_any, list_all}
+use Rattle.std.specs.Prelude.{ℕ, ◌≡◌, ◌+◌, ◌-◌, ◌^◌, ◌<◌, ◌==◌, ◌&&◌, ◌||◌, not, nat_lt, bit_and, Bool, true, false, if◌then◌else◌, List, [], ◌∷◌, slice_get, Option, Some, None, Contains}
+use Rattle.std.specs.List.{list_any}
 use Rattle.sk_insn.specs.declared.record.Record.{Record}
 use Rattle.sk_profile_code.specs.declared.condition.Condition.{Condition}
 use Rattle.sk_profile_code.specs.declared.condition.Test.{Test}

@@ -2,3 +2,4 @@ pub mod Profiles
 pub mod Views
 pub mod Rows
 pub mod Clashes
+pub mod Faults

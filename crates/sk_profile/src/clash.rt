@@ -7,8 +7,8 @@ ghost use Rattle.std.specs.List.{list_any};
 
 use sk_profile_code::{Arm, Condition, Test};
 
-/// The places of two arms that may fit one call and have different values, if there are such.
-pub fn clash(arms: &[Arm]) -> Option<(usize, usize)>
+// The places of two arms that may fit one call and have different values, if there are such.
+pub(crate) fn clash(arms: &[Arm]) -> Option<(usize, usize)>
     ensures none { IfNone result (never_clash (map arm_of arms.now) ≡ true) }
     ensures clash { IfSome result (λ it. MayClash (map arm_of arms.now) it.0 it.1) }
 {

@@ -1,26 +1,33 @@
 //! The filter that means a profile.
-ghost use Rattle.std.specs.Prelude.{ℕ, ◌≡◌, ◌<◌, IfOk};
+ghost use Rattle.std.specs.Prelude.{◌≡◌, IfOk, IfErr};
 ghost use Rattle.sk_insn.specs.declared.record.Record.{Record};
 ghost use Rattle.sk_interp.specs.Meaning.{meaning_of};
 ghost use Rattle.sk_profile_code.specs.Code.{filter_code};
 ghost use Rattle.sk_profile_code.specs.Means.{IsCall, Gives};
 ghost use Rattle.sk_profile_code.specs.Sayings.{Tree};
+ghost use Rattle.sk_profile.specs.Clashes.{IsClear};
+ghost use Rattle.sk_profile.specs.Faults.{IsFaultOf};
 ghost use Rattle.sk_profile.specs.Profiles.{said_by};
 ghost use Rattle.sk_profile.specs.Views.{profile_of};
-ghost use Rattle.sk_profile.specs.Rows.{AreGood};
 
+use crate::fault::ProfileFault;
+use crate::judge::wrong_rule;
 use crate::profile::Profile;
 use crate::rows::{Rows, rows_of};
 use sk_insn::Insn;
-use sk_profile_code::{CodeFault, filter};
+use sk_profile_code::filter;
 use std::alloc::Global;
 
 /// The filter that answers to every call what the profile says, and its value for no call to every other architecture.
-pub fn profile_filter(alloc: Global, profile: &Profile) -> Result<Vec<Insn>, CodeFault>
-    requires good { AreGood profile.now }
+pub fn profile_filter(alloc: Global, profile: &Profile) -> Result<Vec<Insn>, ProfileFault>
     ensures means { IfOk result (λ code. (call : Record) → IsCall call → Gives (said_by (profile_of profile.now) call) (meaning_of code.items call)) }
     ensures guard { IfOk result (λ code. (tree : Tree) × (code.items ≡ filter_code profile.now.bad tree)) }
+    ensures clear { IfOk result (λ _. IsClear (profile_of profile.now)) }
+    ensures fault { IfErr result (IsFaultOf (profile_of profile.now)) }
 {
+    if let Some(place) = wrong_rule(&profile.rules) {
+        return Err(ProfileFault::Rule(place));
+    }
     let Rows { before, rows } = rows_of(alloc, profile)?;
-    filter(alloc, profile.bad, &before, &rows)
+    Ok(filter(alloc, profile.bad, &before, &rows)?)
 }

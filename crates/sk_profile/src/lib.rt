@@ -2,12 +2,14 @@
 #![tactic(auto)]
 
 mod clash;
+mod fault;
 mod filter;
+mod judge;
 pub mod laws;
 mod profile;
 mod rows;
 mod saying;
 
-pub use clash::clash as arms_that_clash;
+pub use fault::{Clash, ProfileFault};
 pub use filter::profile_filter;
 pub use profile::{Profile, Rule};

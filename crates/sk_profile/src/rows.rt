@@ -1,12 +1,16 @@
 //! The numbers of calls in rows of which the same is said.
-ghost use Rattle.std.specs.Prelude.{ℕ, ◌≡◌, ◌≤◌, ◌<◌, ◌+◌, ◌^◌, nat_le, if◌then◌else◌, map, All, IfOk, OnOk, IsTrue};
+ghost use Rattle.std.specs.Prelude.{ℕ, ◌≡◌, ◌≤◌, ◌<◌, ◌+◌, ◌^◌, nat_le, if◌then◌else◌, map, All, IfOk, IfErr, OnOk, IsTrue};
 ghost use Rattle.sk_profile_code.specs.declared.saying.Row.{Row};
 ghost use Rattle.sk_profile_code.specs.Rows.{saying_in};
 ghost use Rattle.sk_profile_code.specs.Views.{saying_of, row_of, AreRows, IsSayingOfCode};
-ghost use Rattle.sk_profile.specs.Profiles.{saying_for};
+ghost use Rattle.sk_profile.specs.Clashes.{AreClear, IsClear};
+ghost use Rattle.sk_profile.specs.Faults.{IsFaultOf};
+ghost use Rattle.sk_profile.specs.Profiles.{saying_for, saying_of_rules};
 ghost use Rattle.sk_profile.specs.Views.{profile_of};
 ghost use Rattle.sk_profile.specs.Rows.{said_at, StartBelow, AreGood};
 
+use crate::clash::clash;
+use crate::fault::{Clash, ProfileFault};
 use crate::profile::Profile;
 use crate::saying::{plain, saying};
 use sk_profile_code::{Row, Saying};
@@ -29,23 +33,46 @@ pub struct Rows {
 }
 
 /// The rows of what a profile says of each number.
-pub fn rows_of(alloc: Global, profile: &Profile) -> Result<Rows, AllocError>
+pub fn rows_of(alloc: Global, profile: &Profile) -> Result<Rows, ProfileFault>
     requires good { AreGood profile.now }
+    ensures clear { IfOk result (λ _. IsClear (profile_of profile.now)) }
+    ensures fault { IfErr result (IsFaultOf (profile_of profile.now)) }
     ensures says { IfOk result (λ rows. (nr : ℕ) → nr < 2 ^ 32 → said_at rows nr ≡ saying_for (profile_of profile.now) nr) }
     ensures rows { IfOk result (λ rows. AreRows rows.before rows.rows.items) }
 {
     let mut rows = Rows {
-        before: saying(alloc, profile, 0)?,
+        before: clear_saying(alloc, profile, 0)?,
         rows: Vec::new(alloc),
     };
     for nr in 1..NUMBERS {
-        let said = saying(alloc, profile, nr)?;
+        let said = clear_saying(alloc, profile, nr)?;
         say_from(&mut rows, nr, said)?;
     }
     say_from(&mut rows, NUMBERS, plain(alloc, profile.default))?;
     say_from(&mut rows, X32, plain(alloc, profile.bad))?;
     say_from(&mut rows, PAST_X32, plain(alloc, profile.default))?;
     Ok(rows)
+}
+
+// What is said of the calls with a number, if no two rules may clash there.
+#[tactic(auto, using(crate::proofs::Clearing::never_clash_is_clear, crate::proofs::Clearing::clash_of))]
+fn clear_saying(alloc: Global, profile: &Profile, nr: u32) -> Result<Saying, ProfileFault>
+    requires good { AreGood profile.now }
+    requires number { nr < 1024 }
+    ensures saying { IfOk result (λ saying. saying_of saying ≡ saying_of_rules (profile_of profile.now) nr) }
+    ensures good { IfOk result IsSayingOfCode }
+    ensures clear { IfOk result (λ saying. AreClear (saying_of saying).arms) }
+    ensures fault { IfErr result (IsFaultOf (profile_of profile.now)) }
+{
+    let said = saying(alloc, profile, nr)?;
+    match clash(&said.arms) {
+        None => Ok(said),
+        Some((first, second)) => Err(ProfileFault::Clashes(Clash {
+            number: nr,
+            first,
+            second,
+        })),
+    }
 }
 
 // From a number on this is said, which is above those at which something else was said.

@@ -6,7 +6,7 @@ use Rattle.sk_profile.proofs.clash.clash_with.Goals as goal
 pub returns-then-may_clash-clause-place : goal.returns-then-may_clash-clause-place
 returns-then-may_clash-clause-place c = (
   arm_of c.in-Some.other.now,
-  here _ _ _ c.in-Some.other.now c.loop-other.place c.loop-other.invariant.left c.in-Some.ensures.cases.0,
+  here arm_of _ _ _ c.in-Some.other.now c.loop-other.place c.loop-other.invariant.left c.in-Some.ensures.cases.0,
   sym c.if-may_clash.ensures.may,
 )
 

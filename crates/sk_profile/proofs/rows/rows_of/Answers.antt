@@ -1,7 +1,12 @@
-use Rattle.std.proofs.Common.{arith, nat_le, if◌then◌else◌, [], ap, ◌∙◌}
+use Rattle.std.proofs.Common.{arith, nat_le, if◌then◌else◌, [], ap, subst, ◌∙◌}
 use Rattle.sk_profile_code.specs.Sayings.{Saying}
+use Rattle.sk_profile_code.specs.Views.{saying_of}
 use Rattle.sk_profile.specs.Rows.{said_at}
-use Rattle.sk_profile.proofs.Starts.{all_said}
+use Rattle.sk_profile.specs.Clashes.{AreClear}
+use Rattle.sk_profile.specs.Profiles.{saying_of_rules}
+use Rattle.sk_profile.specs.Views.{profile_of}
+use Rattle.sk_profile.proofs.Clearing.{all_clear}
+use Rattle.sk_profile.proofs.Starts.{all_said, says_more, holds_more}
 use Rattle.sk_profile.proofs.rows.rows_of.Goals as goal
 
 pub returns-clause-says : goal.returns-clause-says
@@ -17,3 +22,17 @@ returns-clause-says c = λ nr fits.
     ∙ ap (λ (said : Saying). if nat_le 0xffffffff nr then record { arms = []; otherwise = c.args.profile.now.default } else said) second in
     third
     ∙ all_said c.args.profile.now (said_at c.loop-nr.rows) nr c.requires.good (λ below. c.loop-nr.invariant.says nr (omega (arith, below, c.loop-nr-test.false))) fits
+
+pub loop-nr-preserved : goal.loop-nr-preserved
+loop-nr-preserved c =
+    let right = saying_of_rules (profile_of c.args.profile.now) in
+    let clear : AreClear (right c.loop-nr.nr).arms = subst (λ (said : Saying). AreClear said.arms) c.in_ok-said.ensures.saying c.in_ok-said.ensures.clear in record {
+      start = c.in_ok-say_from.ensures.start;
+      says = says_more (said_at c.say_from.new.rows) (said_at c.loop-nr.rows) right c.loop-nr.nr (saying_of c.in_ok-said.said) c.in_ok-say_from.ensures.says c.in_ok-said.ensures.saying c.loop-nr.invariant.says;
+      clear = holds_more (λ nr. AreClear (right nr).arms) c.loop-nr.nr clear c.loop-nr.invariant.clear;
+      good = c.in_ok-say_from.ensures.rows c.loop-nr.invariant.good;
+    }
+
+pub returns-clause-clear : goal.returns-clause-clear
+returns-clause-clear c =
+    all_clear c.args.profile.now c.requires.good (λ nr below. c.loop-nr.invariant.clear nr (omega (arith, below, c.loop-nr-test.false)))

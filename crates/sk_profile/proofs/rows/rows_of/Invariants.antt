@@ -1,5 +1,6 @@
 use Rattle.std.proofs.Common.{ℕ, ◌≡◌, ◌<◌}
 use Rattle.sk_profile_code.specs.Views.{AreRows}
+use Rattle.sk_profile.specs.Clashes.{AreClear}
 use Rattle.sk_profile.specs.Profiles.{saying_of_rules}
 use Rattle.sk_profile.specs.Views.{profile_of}
 use Rattle.sk_profile.specs.Rows.{said_at, StartBelow}
@@ -9,5 +10,6 @@ abbrev pub invariant-loop-nr : goal.invariant-loop-nr
 invariant-loop-nr l = record {
   start : StartBelow l.nr l.rows.rows.items;
   says : (nr : ℕ) → nr < l.nr → said_at l.rows nr ≡ saying_of_rules (profile_of l.profile) nr;
+  clear : (nr : ℕ) → nr < l.nr → AreClear (saying_of_rules (profile_of l.profile) nr).arms;
   good : AreRows l.rows.before l.rows.rows.items;
 }

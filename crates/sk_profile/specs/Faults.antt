@@ -1,0 +1,29 @@
+-- Why a profile has no filter.
+use Rattle.std.specs.Prelude.{ℕ, ◌≡◌, ◌&&◌, nat_lt, nat_le, Bool, false, List, length, slice_get, Some, ⊤}
+use Rattle.std.specs.List.{list_all}
+use Rattle.sk_profile_code.specs.declared.build.CodeFault.{CodeFault}
+use Rattle.sk_profile_code.specs.declared.build.CodeFault.TheVariants as code
+use Rattle.sk_profile_code.specs.declared.condition.Condition.{Condition}
+use Rattle.sk_profile.specs.declared.fault.ProfileFault.{ProfileFault}
+use Rattle.sk_profile.specs.declared.fault.ProfileFault.TheVariants.{Rule as WrongRule, Clashes, TooLong, Memory}
+use Rattle.sk_profile.specs.Clashes.{MayClash}
+use Rattle.sk_profile.specs.Profiles.{Rule, Profile, saying_for}
+
+abbrev pub of_code : CodeFault → ProfileFault
+of_code code.TooLong = TooLong
+of_code code.Memory = Memory
+
+-- a rule for a call of x86-64, with conditions on its six arguments, at most six
+abbrev pub is_good : Rule → Bool
+is_good rule =
+    nat_lt rule.number 1024 && (nat_le (length rule.conditions) 6 && list_all (λ (c : Condition). nat_lt c.index 6) rule.conditions)
+
+-- the rule at a place is none
+abbrev pub IsWrongAt : List Rule → ℕ → Type 0
+IsWrongAt rules place = (rule : Rule) × (slice_get rules place ≡ Some rule) × (is_good rule ≡ false)
+
+abbrev pub IsFaultOf : Profile → ProfileFault → Type 0
+IsFaultOf profile (WrongRule place) = IsWrongAt profile.rules place
+IsFaultOf profile (Clashes it) = MayClash (saying_for profile it.number).arms it.first it.second
+IsFaultOf profile TooLong = ⊤
+IsFaultOf profile Memory = ⊤

@@ -1,0 +1,60 @@
+//! Why a profile has no filter.
+use sk_profile_code::CodeFault;
+use std::alloc::{AllocError, AllocFailed};
+
+/// A number, and the places of two rules among those for the number.
+#[derive(Clone, Copy, Debug, PartialEq, Eq)]
+pub struct Clash {
+    pub number: u32,
+    pub first: usize,
+    pub second: usize,
+}
+
+/// Why a profile has no filter.
+#[derive(Clone, Copy, Debug, PartialEq, Eq)]
+pub enum ProfileFault {
+    /// The rule at this place is for no call of x86-64, or has a condition on a seventh argument, or more than six.
+    Rule(usize),
+    /// Two rules for a number have conditions that may fit one call, and different values.
+    Clashes(Clash),
+    /// The filter would have more than 4096 instructions.
+    TooLong,
+    /// Memory was refused.
+    Memory,
+}
+
+impl From<AllocError> for ProfileFault {
+    ghost use Rattle.std.specs.Prelude.{◌≡◌};
+    ghost use Rattle.sk_profile.specs.declared.fault.ProfileFault.TheVariants.{Memory};
+
+    ghost from_gives = { λ _ fault. fault ≡ Memory };
+
+    fn from(_refused: AllocError) -> ProfileFault {
+        ProfileFault::Memory
+    }
+}
+
+impl<T: Drop> From<AllocFailed<T>> for ProfileFault {
+    ghost use Rattle.std.specs.Prelude.{◌≡◌};
+    ghost use Rattle.sk_profile.specs.declared.fault.ProfileFault.TheVariants.{Memory};
+
+    ghost from_gives = { λ _ fault. fault ≡ Memory };
+
+    fn from(_refused: AllocFailed<T>) -> ProfileFault {
+        ProfileFault::Memory
+    }
+}
+
+impl From<CodeFault> for ProfileFault {
+    ghost use Rattle.std.specs.Prelude.{◌≡◌};
+    ghost use Rattle.sk_profile.specs.Faults.{of_code};
+
+    ghost from_gives = { λ code fault. fault ≡ of_code code };
+
+    fn from(fault: CodeFault) -> ProfileFault {
+        match fault {
+            CodeFault::TooLong => ProfileFault::TooLong,
+            CodeFault::Memory => ProfileFault::Memory,
+        }
+    }
+}

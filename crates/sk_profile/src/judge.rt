@@ -1,0 +1,41 @@
+//! Which rules a profile may have.
+ghost use Rattle.std.specs.Prelude.{◌≡◌, nat_lt, map, All, IfSome, IfNone};
+ghost use Rattle.std.specs.List.{list_all};
+ghost use Rattle.sk_profile_code.specs.declared.condition.Condition.{Condition};
+ghost use Rattle.sk_profile.specs.Faults.{is_good, IsWrongAt};
+ghost use Rattle.sk_profile.specs.Rows.{IsGood};
+ghost use Rattle.sk_profile.specs.Views.{rule_of};
+
+use crate::profile::Rule;
+use crate::rows::NUMBERS;
+use sk_profile_code::Condition;
+
+/// The place of the first rule that is for no call of x86-64, or has conditions that no call can be asked about.
+pub fn wrong_rule(rules: &[Rule]) -> Option<usize>
+    ensures none { IfNone result (All IsGood rules.now) }
+    ensures place { IfSome result (IsWrongAt (map rule_of rules.now)) }
+{
+    let mut place = 0;
+    let mut left = rules;
+    while let Some((rule, rest)) = left.split_first() {
+        if !is_good(rule) {
+            return Some(place);
+        }
+        place += 1;
+        left = rest;
+    }
+    None
+}
+
+fn is_good(rule: &Rule) -> bool
+    ensures good { result ≡ is_good (rule_of rule.now) }
+{
+    rule.number < NUMBERS && rule.conditions.len() <= 6 && are_asked(&rule.conditions)
+}
+
+// Whether each condition is on one of six arguments.
+fn are_asked(conditions: &[Condition]) -> bool
+    ensures all { result ≡ list_all (λ (c : Condition). nat_lt c.index 6) conditions.now }
+{
+    conditions.iter().all(|condition| condition.index < 6)
+}
