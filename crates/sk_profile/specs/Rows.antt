@@ -17,7 +17,7 @@ said_at rows nr = saying_in (map row_of rows.rows.items) (saying_of rows.before)
 abbrev pub StartBelow : ℕ → List Row → Type 0
 StartBelow number rows = All (λ (row : Row). row.start < number) rows
 
--- a rule of a call of x86-64, with conditions on its six arguments, at most one on each
+-- a rule for a call of x86-64, with conditions on its six arguments, at most six
 pub record IsGood (rule : Rule) : Type 0 where
   pub number : rule.number < 1024
   pub indices : All (λ (c : Condition). c.index < 6) rule.conditions.items
