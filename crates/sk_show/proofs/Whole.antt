@@ -19,7 +19,7 @@ use Rattle.sk_show.specs.declared.held.Held.TheVariants.{Other}
 use Rattle.sk_show.specs.Holding.{Jumps, held_before, held_behind, jump_to, jumps_behind, next_behind, ways_from, ways_to}
 use Rattle.sk_show.specs.RoundTrip.{ShownAssembles}
 use Rattle.sk_show.specs.Showing.{comment_line, insn_line, label_lines, label_name, lines_from, show_text, text_of}
-use Rattle.sk_show.proofs.Landing.{HasJump, jumps-length, kept-jump, landed-jump}
+use Rattle.sk_show.proofs.Landing.{HasJump, has-jump, jumps-length, still-jump}
 use Rattle.sk_show.proofs.Lines.{AreLabelled, comment-says, comment-short, label-says, said-line}
 use Rattle.sk_show.proofs.Names.{IsWord-label_line, other_label, same_label}
 
@@ -126,11 +126,11 @@ module _ (count at : ℕ) (jumps : Jumps) (held behind : Held) (given : Insn) (i
       → AreLabelled count at given labels
   labelled labels up place goes further inside =
       up place inside
-      (rest.given place (omega arith) inside (landed-jump at place (onward at (operation_of given.code) given) behind jumps goes further (omega arith)))
+      (rest.given place (omega arith) inside (has-jump at place (onward at (operation_of given.code) given) behind jumps goes further (omega arith)))
 
   still-given : (place : ℕ) → at < place → place < count → HasJump jumps place → label_place (labels_from (at + 1) rest.statements) (label_name place) ≡ Some place
   still-given place further inside has =
-      rest.given place (omega arith) inside (kept-jump at place (onward at (operation_of given.code) given) behind jumps (omega arith) has)
+      rest.given place (omega arith) inside (still-jump at place (onward at (operation_of given.code) given) behind jumps (omega arith) has)
 
   front-short : length (insn_line count at given) ≤ 64
       → length (text_of (comment_line at held given ∷ insn_line count at given ∷ lines)) ≤ 148 + 160 * (length (given ∷ insns) - 1)
