@@ -20,6 +20,7 @@ worked_texts = record {
   no_instruction = refl;
   filter = refl;
   ways = refl;
+  small = refl;
   next = refl;
   last = refl;
   label = refl;

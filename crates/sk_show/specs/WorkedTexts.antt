@@ -67,6 +67,9 @@ pub record WorkedTexts : Type 0 where
       ++ (codes "; 6\n    ja +4294967295\n"
       ++ (codes "; 7\n    .insn 0x001d 0 1 0x00000001\n"
       ++ codes "; 8\n    jeq 0 +0 +9\n")))))))
+  pub small :
+      show_text (insn 0x20 0 0 0 ∷ insn 0x15 1 0 59 ∷ insn 0x06 0 0 0x7fff0000 ∷ insn 0x06 0 0 0x00050001 ∷ [])
+      ≡ codes "; 0 nr\n    ldabs 0\n; 1 execve\n    jeq 59 at3 +0\n; 2 allow\n    ret 0x7fff0000\nat3:\n; 3 errno/1 EPERM\n    ret 0x00050001\n"
   pub next : side_word 9 3 0 ≡ codes "+0"
   pub last : side_word 9 3 5 ≡ codes "+5"
   pub label : side_word 9 3 4 ≡ codes "at8"
