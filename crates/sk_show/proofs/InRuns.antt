@@ -149,7 +149,7 @@ before-next held (Some way) = joined-second way held
 
 -- ---- a whole filter
 
-some-same : {X : Type 0} (x y : X) → Some x ≡ Some y → x ≡ y
+pub some-same : {X : Type 0} (x y : X) → Some x ≡ Some y → x ≡ y
 some-same x y h = cc
 
 ways-length : (at : ℕ) (jumps : Jumps) (next : Option Held) (insns : List Insn) → length (ways_from at jumps next insns) ≡ length insns
@@ -157,7 +157,7 @@ unfolding ways_from
 ways-length at jumps next [] = refl
 ways-length at jumps next (given ∷ insns) = let rest = ways-length (at + 1) _ _ insns in ap suc rest
 
-way-within : (at n : ℕ) (jumps : Jumps) (next : Option Held) (insns : List Insn) (way : Way) → slice_get (ways_from at jumps next insns) n ≡ Some way → n < length insns
+pub way-within : (at n : ℕ) (jumps : Jumps) (next : Option Held) (insns : List Insn) (way : Way) → slice_get (ways_from at jumps next insns) n ≡ Some way → n < length insns
 way-within at n jumps next insns way e =
     let size = ways-length at jumps next insns in
     let within = slice_get_within (ways_from at jumps next insns) n way e in

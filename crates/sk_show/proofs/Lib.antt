@@ -4,5 +4,6 @@ pub mod Landing
 pub mod Lines
 pub mod Names
 pub mod Notes
+pub mod Targets
 pub mod Turns
 pub mod Whole
