@@ -3,7 +3,7 @@
 
 A promise names the files that it is said in; what these import from other definitions is read with them, and so on.
 Statements of laws count where a promise cites them: those on each run and on each report. The last two figures are
-those of surveys, and of every file that docs/DEFINITIONS.md names, with all laws and with what stores and sets are to
+those of `ask`, and of every file that docs/DEFINITIONS.md names, with all laws and with what stores and sets are to
 their callers. What only code or proofs look at, and worked examples, are imported by no definition, and so not
 counted; nor are imports and blank lines. The lines of comments are told apart from those of the definitions that they
 say in words. Types are read in the sources, where they are declared."""
@@ -29,6 +29,8 @@ PROMISES = [
     ("'skern run', and that each report is a lawful run", ["sk_sched/Engine", "sk_sched/laws/ReportLaws"]),
     ("'skern' by its words", ["sk_cli/Running"]),
 ]
+# What `ask` answers to its words.
+ASK = "sk_ask/Telling"
 
 
 def path_of(name):
@@ -88,10 +90,6 @@ def count(name):
     return len(lines) - comments, comments
 
 
-def is_of_surveys(name):
-    return name.startswith(("sk_survey", "sk_call_names/"))
-
-
 def tell(what, found, verbose):
     lines, comments = (sum(numbers) for numbers in zip(*map(count, found)))
     print(f"lines to trust for {what}: {lines}, and {comments} of comments, in {len(found)} files")
@@ -105,8 +103,8 @@ def main():
     page = read_with(named_on_the_page())
     promised = [(what, read_with(names)) for what, names in PROMISES]
     whole = set().union(*(found for _, found in promised))
-    surveys = {name for name in page if is_of_surveys(name)}
-    for what, found in [*promised, ("everything that 'skern' promises", whole), ("surveys beside it", surveys - whole), ("every definition and law that docs/DEFINITIONS.md names", whole | page)]:
+    asked = read_with([ASK])
+    for what, found in [*promised, ("everything that 'skern' promises", whole), ("all that 'ask' promises, beside it", asked - whole), ("every definition and law that docs/DEFINITIONS.md names", whole | page)]:
         tell(what, found, verbose)
 
 
