@@ -10,15 +10,19 @@ use Rattle.sk_listing.specs.Listing.{words_for}
 use Rattle.sk_verdict.specs.Errors.{error_named}
 use Rattle.sk_verdict.specs.Verdicts.{verdict_text}
 use Rattle.sk_show.specs.Notes.{argument_text, field_text, note_text}
-use Rattle.sk_show.specs.Showing.{comment_line, insn_line, lines_from, shown_lines, shown_words, side_word}
+use Rattle.sk_show.specs.Holding.{ways_from, ways_to}
+use Rattle.sk_show.specs.Showing.{comment_line, insn_line, lines_from, shown_words, side_word}
 use Rattle.sk_show.specs.WorkedTexts.{WorkedTexts}
 
 pub worked_texts : WorkedTexts
-unfolding words_for operation_of hex_word hex_half encode_with digits name_of action_of error_named verdict_text argument_text field_text note_text comment_line insn_line lines_from shown_lines shown_words side_word
+unfolding words_for operation_of hex_word hex_half encode_with digits name_of action_of error_named verdict_text argument_text field_text note_text comment_line insn_line lines_from ways_from ways_to shown_words side_word
 worked_texts = record {
   no_instruction = refl;
   filter = refl;
   ways = refl;
+  kept = refl;
+  not_named = refl;
+  small = refl;
   next = refl;
   last = refl;
   label = refl;

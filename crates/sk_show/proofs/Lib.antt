@@ -1,4 +1,5 @@
 pub mod Examples
+pub mod InRuns
 pub mod Landing
 pub mod Lines
 pub mod Names

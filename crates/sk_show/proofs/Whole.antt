@@ -16,10 +16,10 @@ use Rattle.sk_listing.specs.RoundTrip.{IsInRange}
 use Rattle.sk_listing.proofs.Words.{lines_of-line}
 use Rattle.sk_show.specs.declared.held.Held.{Held}
 use Rattle.sk_show.specs.declared.held.Held.TheVariants.{Other}
-use Rattle.sk_show.specs.Holding.{Jumps, held_behind, jump_to, jumps_behind, next_behind}
+use Rattle.sk_show.specs.Holding.{Jumps, held_before, held_behind, jump_to, jumps_behind, next_behind, ways_from, ways_to}
 use Rattle.sk_show.specs.RoundTrip.{ShownAssembles}
-use Rattle.sk_show.specs.Showing.{comment_line, held_before, insn_line, label_lines, label_name, lines_from, show_text, shown_lines, text_of}
-use Rattle.sk_show.proofs.Landing.{HasJump, jumps-length, kept-jump, landed-jump}
+use Rattle.sk_show.specs.Showing.{comment_line, insn_line, label_lines, label_name, lines_from, show_text, text_of}
+use Rattle.sk_show.proofs.Landing.{HasJump, has-jump, jumps-length, still-jump}
 use Rattle.sk_show.proofs.Lines.{AreLabelled, comment-says, comment-short, label-says, said-line}
 use Rattle.sk_show.proofs.Names.{IsWord-label_line, other_label, same_label}
 
@@ -126,11 +126,11 @@ module _ (count at : ℕ) (jumps : Jumps) (held behind : Held) (given : Insn) (i
       → AreLabelled count at given labels
   labelled labels up place goes further inside =
       up place inside
-      (rest.given place (omega arith) inside (landed-jump at place (onward at (operation_of given.code) given) behind jumps goes further (omega arith)))
+      (rest.given place (omega arith) inside (has-jump at place (onward at (operation_of given.code) given) behind jumps goes further (omega arith)))
 
   still-given : (place : ℕ) → at < place → place < count → HasJump jumps place → label_place (labels_from (at + 1) rest.statements) (label_name place) ≡ Some place
   still-given place further inside has =
-      rest.given place (omega arith) inside (kept-jump at place (onward at (operation_of given.code) given) behind jumps (omega arith) has)
+      rest.given place (omega arith) inside (still-jump at place (onward at (operation_of given.code) given) behind jumps (omega arith) has)
 
   front-short : length (insn_line count at given) ≤ 64
       → length (text_of (comment_line at held given ∷ insn_line count at given ∷ lines)) ≤ 148 + 160 * (length (given ∷ insns) - 1)
@@ -213,8 +213,8 @@ with-label count at jumps (Some held) lines given insns few within some rest = r
 }
 
 shown-from : (count at : ℕ) (jumps : Jumps) (next : Option Held) (insns : List Insn) → count ≤ 4096 → length jumps ≡ count → at + length insns ≡ count → All IsInRange insns
-    → Shown count at jumps (lines_from count at jumps next insns) insns
-unfolding lines_from
+    → Shown count at jumps (lines_from count at (ways_from at jumps next insns) insns) insns
+unfolding lines_from ways_from
 shown-from count at jumps next [] few len all ranges = record {
   statements = [];
   says = tt;
@@ -229,7 +229,7 @@ shown-from count at jumps next (given ∷ insns) few len all ranges =
     let goes = onward at (operation_of given.code) given in
     let held = held_before (jump_to jumps at) next in
     let behind = held_behind (operation_of given.code) given held in
-    let others = lines_from count (at + 1) (jumps_behind at goes behind jumps) (next_behind at goes behind) insns in
+    let others = lines_from count (at + 1) (ways_from (at + 1) (jumps_behind at goes behind jumps) (next_behind at goes behind) insns) insns in
     let rest : Shown count (at + 1) (jumps_behind at goes behind jumps) others insns =
     shown-from count (at + 1) (jumps_behind at goes behind jumps) (next_behind at goes behind) insns few (jumps-length at goes behind jumps ∙ len) (omega arith)
     (All-tail IsInRange given insns ranges)
@@ -241,12 +241,12 @@ shown-from count at jumps next (given ∷ insns) few len all ranges =
     (with-label count at jumps (jump_to jumps at) (comment_line at held given ∷ insn_line count at given ∷ others) given insns few within refl here)
 
 pub shown_assembles : ShownAssembles
-unfolding shown_lines
+unfolding ways_to
 shown_assembles insns ranges few =
     let count = length insns in
     let all = shown-from count 0 (replicate count None) (Some Other) insns few (length-replicate count None) (omega arith) ranges in
     let short = all.short in
-    let same = text_lines (lines_from count 0 (replicate count None) (Some Other) insns) all.statements all.says in (
+    let same = text_lines (lines_from count 0 (ways_from 0 (replicate count None) (Some Other) insns) insns) all.statements all.says in (
       omega arith,
       (
         all.statements,

@@ -1,4 +1,5 @@
 pub mod Holding
+pub mod NoteLaws
 pub mod Notes
 pub mod RoundTrip
 pub mod Showing

@@ -1,6 +1,6 @@
 -- The text of `ask show`: for each instruction a label where jumps go, a comment with its place and what is said of it, and
 -- the instruction, whose jumps name labels, in the forms of McCanne and Jacobson (1993) that the assembler takes.
-use Rattle.std.specs.Prelude.{ℕ, ◌+◌, ◌==◌, ◌&&◌, ◌++◌, nat_lt, if◌then◌else◌, List, [], ◌∷◌, flat_map, length, codes, replicate, unwrap_or, Option, Some, None}
+use Rattle.std.specs.Prelude.{ℕ, ◌+◌, ◌==◌, ◌&&◌, ◌++◌, nat_lt, if◌then◌else◌, List, [], ◌∷◌, flat_map, length, codes, Option, Some, None}
 use Rattle.std.specs.Fmt.{decimal}
 use Rattle.std.specs.List.{join_with_byte}
 use Rattle.sk_insn.specs.declared.insn.Insn.{Insn}
@@ -8,11 +8,9 @@ use Rattle.sk_insn.specs.declared.operation.Operand.TheVariants.{Constant, Index
 use Rattle.sk_insn.specs.declared.operation.Operation.{Operation}
 use Rattle.sk_insn.specs.declared.operation.Operation.TheVariants.{Jump, Branch}
 use Rattle.sk_insn.specs.Operations.{name_of, operation_of}
-use Rattle.sk_check.specs.Paths.{onward}
 use Rattle.sk_listing.specs.Listing.{distance_word, words_for}
 use Rattle.sk_show.specs.declared.held.Held.{Held}
-use Rattle.sk_show.specs.declared.held.Held.TheVariants.{Other}
-use Rattle.sk_show.specs.Holding.{Jumps, held_behind, joined_ways, jump_to, jumps_behind, next_behind}
+use Rattle.sk_show.specs.Holding.{Way, ways_to}
 use Rattle.sk_show.specs.Notes.{note_text}
 
 -- ---- instructions
@@ -54,31 +52,19 @@ comment_line at held insn = codes "; " ++ (decimal at ++ note_text held (operati
 unfoldable pub insn_line : ℕ → ℕ → Insn → List ℕ
 insn_line count at insn = codes "    " ++ join_with_byte 32 (shown_words count at insn)
 
--- those of the instruction at a place among so many, before which A holds this
-abbrev pub lines_of_insn : ℕ → ℕ → Option Held → Held → Insn → List (List ℕ)
-lines_of_insn count at jump held insn = label_lines at jump ++ (comment_line at held insn ∷ insn_line count at insn ∷ [])
-
--- what A holds where a jump and the instruction before lead
-abbrev pub held_before : Option Held → Option Held → Held
-held_before jump next = unwrap_or (joined_ways jump next) Other
+-- those of the instruction at a place among so many, to which control comes so
+abbrev pub lines_of_insn : ℕ → ℕ → Way → Insn → List (List ℕ)
+lines_of_insn count at way insn = label_lines at way.jump ++ (comment_line at way.held insn ∷ insn_line count at insn ∷ [])
 
 -- those of all from a place on
-unfoldable pub lines_from : ℕ → ℕ → Jumps → Option Held → List Insn → List (List ℕ)
-lines_from count at jumps next [] = []
-lines_from count at jumps next (insn ∷ insns) =
-    let held = held_before (jump_to jumps at) next in
-    let behind = held_behind (operation_of insn.code) insn held in
-    let goes = onward at (operation_of insn.code) insn in
-    lines_of_insn count at (jump_to jumps at) held insn
-    ++ lines_from count (at + 1) (jumps_behind at goes behind jumps) (next_behind at goes behind) insns
+unfoldable pub lines_from : ℕ → ℕ → List Way → List Insn → List (List ℕ)
+lines_from count at ways [] = []
+lines_from count at [] (insn ∷ insns) = []
+lines_from count at (way ∷ ways) (insn ∷ insns) = lines_of_insn count at way insn ++ lines_from count (at + 1) ways insns
 
 -- each line has its end
 abbrev pub text_of : List (List ℕ) → List ℕ
 text_of lines = flat_map (λ line. line ++ codes "\n") lines
 
--- of nothing that A holds is anything known before the first instruction
-unfoldable pub shown_lines : List Insn → List (List ℕ)
-shown_lines insns = lines_from (length insns) 0 (replicate (length insns) None) (Some Other) insns
-
 abbrev pub show_text : List Insn → List ℕ
-show_text insns = text_of (shown_lines insns)
+show_text insns = text_of (lines_from (length insns) 0 (ways_to insns) insns)

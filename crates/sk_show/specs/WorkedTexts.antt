@@ -67,6 +67,18 @@ pub record WorkedTexts : Type 0 where
       ++ (codes "; 6\n    ja +4294967295\n"
       ++ (codes "; 7\n    .insn 0x001d 0 1 0x00000001\n"
       ++ codes "; 8\n    jeq 0 +0 +9\n")))))))
+  pub kept :
+      show_text
+      (insn 0x20 0 0 0 ∷ insn 0x07 0 0 0 ∷ insn 0x02 0 0 3 ∷ insn 0x01 0 0 7 ∷ insn 0x15 0 0 39 ∷ insn 0x54 0 0 1 ∷ insn 0x15 0 0 39 ∷ insn 0x06 0 0 0 ∷ [])
+      ≡ codes "; 0 nr\n    ldabs 0\n; 1\n    tax\n; 2\n    st 3\n; 3\n    ldximm 7\n; 4 getpid\n    jeq 39 +0 +0\n"
+      ++ codes "; 5\n    and 1\n; 6\n    jeq 39 +0 +0\n; 7 kill_thread\n    ret 0x00000000\n"
+  pub not_named :
+      show_text (insn 0x20 0 0 0 ∷ insn 0x45 0 0 39 ∷ insn 0x15 0 0 1000 ∷ insn 0x1d 0 0 0 ∷ insn 0x20 0 0 4 ∷ insn 0x15 1 0 0x40000003 ∷ insn 0x00 0 0 0 ∷ [])
+      ≡ codes "; 0 nr\n    ldabs 0\n; 1\n    jset 39 +0 +0\n; 2\n    jeq 1000 +0 +0\n; 3\n    jeqx +0 +0\n; 4 arch\n    ldabs 4\n"
+      ++ codes "; 5\n    jeq 1073741827 +1 +0\n; 6\n    ldimm 0\n"
+  pub small :
+      show_text (insn 0x20 0 0 0 ∷ insn 0x15 1 0 59 ∷ insn 0x06 0 0 0x7fff0000 ∷ insn 0x06 0 0 0x00050001 ∷ [])
+      ≡ codes "; 0 nr\n    ldabs 0\n; 1 execve\n    jeq 59 at3 +0\n; 2 allow\n    ret 0x7fff0000\nat3:\n; 3 errno/1 EPERM\n    ret 0x00050001\n"
   pub next : side_word 9 3 0 ≡ codes "+0"
   pub last : side_word 9 3 5 ≡ codes "+5"
   pub label : side_word 9 3 4 ≡ codes "at8"

@@ -1,8 +1,7 @@
 //! What A holds.
 ghost use Rattle.std.specs.Prelude.{◌≡◌};
 ghost use Rattle.sk_insn.specs.Operations.{operation_of};
-ghost use Rattle.sk_show.specs.Holding.{held_behind, held_word, joined, joined_ways};
-ghost use Rattle.sk_show.specs.Showing.{held_before};
+ghost use Rattle.sk_show.specs.Holding.{held_before, held_behind, held_word, joined, joined_ways};
 
 use sk_insn::{Insn, Operation, Register, decode};
 

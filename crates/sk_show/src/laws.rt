@@ -1,5 +1,6 @@
 //! Laws of what is shown. No program calls these functions: the contract of each is the law.
 ghost use Rattle.sk_asm.specs.Assembly.{Finds};
+ghost use Rattle.sk_show.specs.NoteLaws.{NotesAreRight};
 ghost use Rattle.sk_show.specs.RoundTrip.{ShownAssembles};
 ghost use Rattle.sk_show.specs.WorkedTexts.{WorkedTexts};
 
@@ -20,6 +21,11 @@ pub fn assemble_shown(alloc: Global, program: &Checked) -> Result<Vec<Insn>, Asm
 /// The text of any instructions, of which an assembler takes at most 4096, assembles to them.
 pub fn shown_assembles()
     ensures law { ShownAssembles }
+{}
+
+/// Where a note names a call or the architecture, A holds the number or the architecture in each run that comes there.
+pub fn notes_are_right()
+    ensures law { NotesAreRight }
 {}
 
 /// The definition gives the texts that were worked out by hand.

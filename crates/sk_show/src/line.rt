@@ -22,7 +22,7 @@ pub(crate) fn push_lines(
     insn: Insn,
 ) -> Result<(), AllocError>
     requires near { at < 2 ^ 32 }
-    ensures lines { OnOk result (string_bytes text.new ≡ string_bytes text.old ++ text_of (lines_of_insn count at jump held insn)) }
+    ensures lines { OnOk result (string_bytes text.new ≡ string_bytes text.old ++ text_of (lines_of_insn count at (record { jump = jump; held = held }) insn)) }
     // what the type says of its fields
     ensures range { IsInRange insn }
 {

@@ -1,12 +1,11 @@
 use Rattle.std.proofs.Common.{arith, ap, refl, ◌∙◌}
-use Rattle.sk_show.specs.Holding.{Jumps, jump_to}
-use Rattle.sk_show.specs.Showing.{shown_lines}
+use Rattle.sk_show.specs.Holding.{Jumps, jump_to, ways_to}
 use Rattle.sk_show.proofs.Turns.{ranges_end, ranges_turn, shown_end, shown_turn}
 use Rattle.sk_show.proofs.Whole.{text-assembles}
 use Rattle.sk_show.proofs.listing.shown.Goals as goal
 
 pub loop-insn-init : goal.loop-insn-init
-unfolding shown_lines
+unfolding ways_to
 loop-insn-init c = record {
   text = rw (c.new-text.ensures.bytes, c.in_ok-jumps.ensures.none) refl;
   left = omega arith;
