@@ -1,5 +1,5 @@
 -- What is known of filters that were read from files by their names.
-use Rattle.std.specs.Prelude.{ℕ, ◌≡◌, ◌⊎◌, List, [], Option, Some, Result, Ok, Err, slice_get, ⊤}
+use Rattle.std.specs.Prelude.{ℕ, ◌≡◌, ◌⊎◌, List, Option, Some, Result, Ok, Err, slice_get, ⊤}
 use Rattle.sk_insn.specs.declared.insn.Insn.{Insn}
 use Rattle.sk_ask_files.specs.declared.fault.Refused.{Refused}
 use Rattle.sk_ask_files.specs.Filters.{Filters, filters_in, chain_of}

@@ -1,4 +1,4 @@
-use Rattle.std.proofs.Common.{◌<◌, length}
+use Rattle.std.proofs.Common.{length}
 use Rattle.sk_ask_files.specs.Finding.{filters_of}
 use Rattle.sk_ask_files.specs.Given.{ArePlaced}
 use Rattle.sk_ask.proofs.filters.judged.Goals as goal
