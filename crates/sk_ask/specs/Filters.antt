@@ -1,5 +1,5 @@
 -- What is known of filters that were read from files by their names.
-use Rattle.std.specs.Prelude.{ℕ, ◌≡◌, ◌⊎◌, List, [], Option, Result, Ok, Err, unwrap_or, slice_get, ⊤}
+use Rattle.std.specs.Prelude.{ℕ, ◌≡◌, ◌⊎◌, List, Option, Some, Result, Ok, Err, slice_get, ⊤}
 use Rattle.sk_insn.specs.declared.insn.Insn.{Insn}
 use Rattle.sk_ask_files.specs.declared.fault.Refused.{Refused}
 use Rattle.sk_ask_files.specs.Filters.{Filters, filters_in, chain_of}
@@ -11,12 +11,10 @@ use Rattle.sk_ask.specs.declared.trouble.Trouble.TheVariants as trouble
 use Rattle.sk_ask.specs.Complaints.{about}
 use Rattle.sk_ask.specs.Shelves.{AreHeld, IsUnreadOf}
 
-abbrev pub name_at : List (List ℕ) → ℕ → List ℕ
-name_at names number = unwrap_or (slice_get names number) []
-
--- the line that refuses one of the files with these names
-abbrev pub refusal_line : List (List ℕ) → Refused → List ℕ
-refusal_line names refused = about (name_at names refused.file) (fault_text refused.why)
+-- the line that refuses one of the files with these names, which names it
+abbrev pub IsRefusal : List (List ℕ) → Refused → List ℕ → Type 0
+IsRefusal names refused line =
+    (name : List ℕ) × (slice_get names refused.file ≡ Some name) × (line ≡ about name (fault_text refused.why))
 
 -- ---- files whose bytes were read
 
@@ -31,14 +29,6 @@ judged files = elim (filters_in files) [
   | Ok found ↦ with_chain found (chain_of found)
 ]
 
-abbrev pub with_line : List (List ℕ) → Result (Filters × List (List Insn)) Refused → Result (Filters × List (List Insn)) (List ℕ)
-with_line names (Err refused) = Err (refusal_line names refused)
-with_line names (Ok read) = Ok read
-
--- the same of files with these names, with the line that refuses one
-abbrev pub read_of : List (List ℕ) → List (List ℕ) → Result (Filters × List (List Insn)) (List ℕ)
-read_of names files = with_line names (judged files)
-
 -- ---- what the code's answers say
 
 abbrev pub pair_of : Given → Filters × List (List Insn)
@@ -48,21 +38,22 @@ abbrev pub Judges : Result Given Refused → Result (Filters × List (List Insn)
 Judges (Ok given) said = said ≡ Ok (pair_of given)
 Judges (Err refused) said = said ≡ Err refused
 
-abbrev pub IsReadAs : Result Given Trouble → Result (Filters × List (List Insn)) (List ℕ) → Type 0
-IsReadAs (Ok given) said = said ≡ Ok (pair_of given)
-IsReadAs (Err (trouble.Refused line)) said = said ≡ Err line.items
-IsReadAs (Err (trouble.Reading line)) said = ⊥
-IsReadAs (Err trouble.Memory) said = ⊤
+-- of files with these names
+abbrev pub IsReadAs : List (List ℕ) → Result Given Trouble → Result (Filters × List (List Insn)) Refused → Type 0
+IsReadAs names (Ok given) said = said ≡ Ok (pair_of given)
+IsReadAs names (Err (trouble.Refused line)) said = (refused : Refused) × (said ≡ Err refused) × IsRefusal names refused line.items
+IsReadAs names (Err (trouble.Reading line)) said = ⊥
+IsReadAs names (Err trouble.Memory) said = ⊤
 
 -- ---- files by their names
 
 -- these are the filters in the files with these names, and their chain
 abbrev pub ReadsFilters : (List ℕ → Option (List ℕ)) → List (List ℕ) → Filters → List (List Insn) → Type 0
 ReadsFilters held names found chain =
-    (files : List (List ℕ)) × AreHeld held names files × (read_of names files ≡ Ok (found, chain))
+    (files : List (List ℕ)) × AreHeld held names files × (judged files ≡ Ok (found, chain))
 
 -- one of the files, of at most 1048576 bytes each, is not read, or what it holds is refused, or memory
 abbrev pub IsRefusedOf : (List ℕ → Option (List ℕ)) → List (List ℕ) → Trouble → Type 0
 IsRefusedOf held names why =
     IsUnreadOf 1048576 held names why
-    ⊎ (((files : List (List ℕ)) × AreHeld held names files × IsReadAs (Err why) (read_of names files)) ⊎ (why ≡ trouble.Memory))
+    ⊎ (((files : List (List ℕ)) × AreHeld held names files × IsReadAs names (Err why) (judged files)) ⊎ (why ≡ trouble.Memory))

@@ -1,9 +1,9 @@
 //! The filters of the files that the words name.
-ghost use Rattle.std.specs.Prelude.{◌≡◌, IfOk, IfErr, map, string_bytes};
+ghost use Rattle.std.specs.Prelude.{◌≡◌, ◌<◌, IfOk, IfErr, length, map, string_bytes};
 ghost use Rattle.sk_ask_files.specs.Finding.{filters_of};
 ghost use Rattle.sk_ask.specs.Asking.{question_of};
 ghost use Rattle.sk_ask.specs.Endings.{CountsReads};
-ghost use Rattle.sk_ask.specs.Filters.{ReadsFilters, IsRefusedOf, IsReadAs, Judges, judged, read_of, name_at, refusal_line};
+ghost use Rattle.sk_ask.specs.Filters.{ReadsFilters, IsRefusal, IsRefusedOf, IsReadAs, Judges, judged};
 
 use crate::complaint::about;
 use crate::shelf::{Shelf, contents};
@@ -50,7 +50,8 @@ pub fn filters_in<S: Shelf>(
 }
 
 fn read(alloc: Global, names: &[String], files: &[Vec<u8>]) -> Result<Filters, Trouble>
-    ensures exact { IsReadAs result (read_of (map string_bytes names.now) (map (λ file. file.items) files.now)) }
+    requires each { length files.now ≡ length names.now }
+    ensures exact { IsReadAs (map string_bytes names.now) result (judged (map (λ file. file.items) files.now)) }
 {
     match judged(alloc, files)? {
         Ok(filters) => Ok(filters),
@@ -60,6 +61,7 @@ fn read(alloc: Global, names: &[String], files: &[Vec<u8>]) -> Result<Filters, T
 
 fn judged(alloc: Global, files: &[Vec<u8>]) -> Result<Result<Filters, Refused>, AllocError>
     ensures exact { IfOk result (λ said. Judges said (judged (map (λ file. file.items) files.now))) }
+    ensures given { IfOk result (λ said. IfErr said (λ refused. refused.file < length files.now)) }
 {
     let found = match find(alloc, files)? {
         Ok(found) => found,
@@ -72,17 +74,9 @@ fn judged(alloc: Global, files: &[Vec<u8>]) -> Result<Result<Filters, Refused>, 
 }
 
 fn refusal_line(alloc: Global, names: &[String], refused: Refused) -> Result<Vec<u8>, AllocError>
-    ensures line { IfOk result (λ line. line.items ≡ refusal_line (map string_bytes names.now) refused) }
+    requires given { refused.file < length names.now }
+    ensures line { IfOk result (λ line. IsRefusal (map string_bytes names.now) refused line.items) }
 {
     let what = fault_text(alloc, refused.why)?;
-    about(alloc, name_at(names, refused.file), what.as_str())
-}
-
-fn name_at(names: &[String], number: usize) -> &str
-    ensures name { result.now ≡ name_at (map string_bytes names.now) number }
-{
-    match names.get(number) {
-        Some(name) => name.as_str(),
-        None => "",
-    }
+    about(alloc, &names[refused.file], &what)
 }

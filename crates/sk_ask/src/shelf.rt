@@ -1,5 +1,5 @@
 //! Files by their names, and their bytes.
-ghost use Rattle.std.specs.Prelude.{◌≡◌, ◌≤◌, ◌<◌, ◌^◌, ◌-◌, ℕ, List, Option, take, IfOk, IfErr, IfSome, OnOk, ◌++◌, [], ◌∷◌, map, string_bytes, vec_len};
+ghost use Rattle.std.specs.Prelude.{◌≡◌, ◌≤◌, ◌<◌, ◌^◌, ◌-◌, ℕ, List, Option, take, IfOk, IfErr, IfSome, OnOk, ◌++◌, [], ◌∷◌, length, map, string_bytes, vec_len};
 ghost use Rattle.sk_ask.specs.Endings.{CountsReads, CountsTrouble};
 ghost use Rattle.sk_ask.specs.Complaints.{about};
 ghost use Rattle.sk_ask.specs.Shelves.{AreHeld, CountsUnread, CountsWhy, IsUnknownWhere, IsUnread, IsUnreadOf, too_long_text, unread_text};
@@ -135,6 +135,7 @@ pub fn contents<S: Shelf>(
     names: &[String],
 ) -> Result<Vec<Vec<u8>>, Trouble>
     ensures held { IfOk result (λ files. AreHeld (S.held shelf.now) (map string_bytes names.now) (map (λ file. file.items) files.items)) }
+    ensures each { IfOk result (λ files. vec_len files ≡ length names.now) }
     ensures unread { IfErr result (IsUnreadOf MOST_BYTES (S.held shelf.now) (map string_bytes names.now)) }
     ensures counted { CountsReads result reads.old reads.new }
 {

@@ -83,7 +83,7 @@ filters_in files = with_files 0 no_filters files
 
 -- ---- their chain
 
--- where the filter with this number stands
+-- where the filter with this number stands; there is such a place, as `AreGiven` says
 abbrev pub place_at : List Place → ℕ → Place
 place_at places number = unwrap_or (slice_get places number) (record { file = 0; line = None })
 

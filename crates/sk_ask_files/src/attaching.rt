@@ -1,7 +1,8 @@
 //! The chain of filters that were found.
-ghost use Rattle.std.specs.Prelude.{◌≡◌, IfOk, unwrap_or, slice_get};
+ghost use Rattle.std.specs.Prelude.{◌≡◌, ◌<◌, ℕ, IfOk, length};
 ghost use Rattle.sk_ask_files.specs.Filters.{chain_of, place_at};
 ghost use Rattle.sk_ask_files.specs.Finding.{filters_of};
+ghost use Rattle.sk_ask_files.specs.Given.{ArePlaced, IsGiven};
 
 use crate::fault::{FileFault, Refused};
 use crate::found::{Found, Place};
@@ -11,7 +12,9 @@ use std::alloc::{AllocError, Global};
 
 /// The chain of the filters that were found, or the file of the first that is refused, and why.
 pub fn attach(alloc: Global, found: &Found) -> Result<Result<Chain, Refused>, AllocError>
+    requires paired { length (filters_of found.now).places ≡ length (filters_of found.now).images }
     ensures exact { IfOk result (λ chain. chain ≡ chain_of (filters_of found.now)) }
+    ensures given { (count : ℕ) → ArePlaced count (filters_of found.now) → IfOk result (IsGiven count) }
 {
     match chain_of(alloc, &found.images)? {
         Ok(chain) => Ok(Ok(chain)),
@@ -26,13 +29,8 @@ pub fn attach(alloc: Global, found: &Found) -> Result<Result<Chain, Refused>, Al
 }
 
 fn place_at(places: &[Place], number: usize) -> Place
+    requires placed { number < length places.now }
     ensures place { result ≡ place_at places.now number }
 {
-    match places.get(number) {
-        Some(place) => *place,
-        None => Place {
-            file: 0,
-            line: None,
-        },
-    }
+    places[number]
 }

@@ -1,7 +1,8 @@
 //! Several files, one after the other.
-ghost use Rattle.std.specs.Prelude.{◌≡◌, IfOk, map};
+ghost use Rattle.std.specs.Prelude.{◌≡◌, IfOk, length, map};
 ghost use Rattle.sk_ask_files.specs.Filters.{filters_in};
-ghost use Rattle.sk_ask_files.specs.Finding.{Finds};
+ghost use Rattle.sk_ask_files.specs.Finding.{Finds, found_in};
+ghost use Rattle.sk_ask_files.specs.Given.{AreGiven};
 
 use crate::fault::Refused;
 use crate::form::with_file;
@@ -11,6 +12,7 @@ use std::alloc::{AllocError, Global};
 /// The filters in files with these bytes, the oldest first, or the first file that can't be understood.
 pub fn find(alloc: Global, files: &[Vec<u8>]) -> Result<Result<Found, Refused>, AllocError>
     ensures exact { IfOk result (λ found. Finds found (filters_in (map (λ file. file.items) files.now))) }
+    ensures given { IfOk result (λ found. AreGiven (length files.now) (found_in found)) }
 {
     let mut found = nothing(alloc);
     let mut number = 0;

@@ -1,4 +1,4 @@
-use Rattle.std.proofs.Common.{ℕ, List, take, map, string_bytes, subst}
+use Rattle.std.proofs.Common.{ℕ, List, take, drop, map, string_bytes, subst, ap}
 use Rattle.sk_ask.specs.Diffs.{AnswersSides}
 use Rattle.sk_ask.specs.Endings.{ending_of}
 use Rattle.sk_ask.proofs.diff.diff.Goals as goal
@@ -14,4 +14,4 @@ returns-clause-told g c =
     subst (λ (old : List (List ℕ)). AnswersSides held stricter old behind end) c.sides.ensures.old c.diff_of.ensures.told in
     let both =
     subst (λ (new : List (List ℕ)). AnswersSides held stricter (take 1 names) new end) c.sides.ensures.new first in
-    rw c.deref.ensures.value at both
+    subst (λ (all : List (List ℕ)). AnswersSides held stricter (take 1 all) (drop 1 all) end) (ap (map string_bytes) c.deref.ensures.value) both
