@@ -2,4 +2,6 @@ pub mod Masks
 pub mod Halves
 pub mod Meeting
 pub mod Together
+pub mod Borders
+pub mod Kept
 pub mod WorkedTerms

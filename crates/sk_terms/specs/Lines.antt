@@ -18,11 +18,6 @@ abbrev pub meets_clause : Clause → Record → Bool
 meets_clause Never call = false
 meets_clause (All terms) call = meets_all terms.items call
 
--- no term stands for one that no call meets
-abbrev pub holds_if_any : Option Term → Record → Bool
-holds_if_any None call = false
-holds_if_any (Some term) call = holds_term term call
-
 -- a call meets the condition of a line
 abbrev pub meets_line : Line → Record → Bool
 meets_line line call = meets_all line.terms.items call

@@ -1,8 +1,10 @@
 //! Two terms that are one term together.
-ghost use Rattle.std.specs.Prelude.{◌≡◌, ◌&&◌, ◌||◌, true, bit_and, IfSome};
+ghost use Rattle.std.specs.Prelude.{◌≡◌, ◌&&◌, ◌||◌, not, true, bit_and, IfSome};
 ghost use Rattle.sk_insn.specs.declared.record.Record.{Record};
 ghost use Rattle.sk_terms.specs.Terms.{holds_term, holds_joined, is_equality, is_inequality};
 
+use crate::blocks::with_halves;
+use crate::ranges::on_same_bits;
 use crate::term::Term;
 
 /// What two terms come to.
@@ -21,6 +23,23 @@ pub fn both(one: Term, other: Term) -> Option<Joined>
     if one.register != other.register {
         return None;
     }
+    if one.mask == other.mask {
+        return on_same_bits(one, other);
+    }
+    match on_other_bits(one, other) {
+        None => match with_halves(one, other) {
+            None => with_halves(other, one),
+            joined => joined,
+        },
+        joined => joined,
+    }
+}
+
+/// The same of two terms on bits that differ.
+fn on_other_bits(one: Term, other: Term) -> Option<Joined>
+    requires register { one.register ≡ other.register }
+    ensures both { IfSome result (λ it. (call : Record) → holds_joined it call ≡ (holds_term one call && holds_term other call)) }
+{
     match told_by(one, other) {
         None => match told_by(other, one) {
             None => join(one, other),
@@ -30,11 +49,11 @@ pub fn both(one: Term, other: Term) -> Option<Joined>
     }
 }
 
-/// The term that holds where both of two do, if that is seen.
-pub fn as_one(one: Term, other: Term) -> Option<Term>
-    ensures both { IfSome result (λ it. (call : Record) → holds_term it call ≡ (holds_term one call && holds_term other call)) }
+/// The term that holds where one does and the other does not, if that is seen.
+pub fn unless(one: Term, other: Term) -> Option<Term>
+    ensures unless { IfSome result (λ it. (call : Record) → holds_term it call ≡ (holds_term one call && not (holds_term other call))) }
 {
-    match both(one, other) {
+    match both(one, other.negated()) {
         Some(Joined::One(joined)) => Some(joined),
         _ => None,
     }

@@ -1,6 +1,7 @@
 //! Terms on the registers of a call: trees of them, the lines of a tree, and conditions in expressions of C.
 #![tactic(auto)]
 
+mod blocks;
 mod choice;
 mod clause;
 mod decision;
@@ -8,6 +9,7 @@ mod joining;
 pub mod laws;
 mod lines;
 mod meaning;
+mod ranges;
 mod term;
 mod text;
 mod wording;

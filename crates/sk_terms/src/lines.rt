@@ -4,7 +4,7 @@ ghost use Rattle.sk_insn.specs.declared.record.Record.{Record};
 ghost use Rattle.sk_terms.specs.Decisions.{decided};
 ghost use Rattle.sk_terms.specs.Lines.{meets_all, meets_clause, told_by, shown, same_end};
 
-use crate::clause::{Clause, with_term};
+use crate::clause::{Clause, with_other_term, with_term};
 use crate::decision::Decision;
 use crate::term::Term;
 use std::alloc::{AllocError, Global};
@@ -57,9 +57,9 @@ pub fn add_lines(
         Decision::Is(value) => add_end(lines, left_out, Some(*value), terms),
         Decision::Untold => add_end(lines, left_out, None, terms),
         Decision::Ask(term, held, failed) => {
-            let yes = with_term(alloc, &terms, *term)?;
+            let yes = with_other_term(alloc, &terms, *term)?;
             add_lines(alloc, held, yes, left_out, lines)?;
-            let no = with_term(alloc, &terms, term.negated())?;
+            let no = with_term(terms, term.negated())?;
             add_lines(alloc, failed, no, left_out, lines)
         }
     }
