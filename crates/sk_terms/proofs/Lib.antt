@@ -4,4 +4,5 @@ pub mod Meeting
 pub mod Together
 pub mod Borders
 pub mod Kept
+pub mod Telling
 pub mod WorkedTerms

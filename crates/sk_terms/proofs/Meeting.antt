@@ -23,16 +23,16 @@ parted_lines shows before middle after true first last false held failed g h e f
     h ∙ ap (λ b. middle ++ (if b then shows failed else [])) f
     ∙ ap (λ xs. xs ++ shows failed) (g ∙ ap (λ b. before ++ (if b then shows held else [])) e ∙ append-nil before)
 
--- a term that leads to the same tree as a second one fails
-pub parted_unless : {X : Type 0} (term next joined : Bool) (up down whole failed : X) → joined ≡ (term && not next) → (if next then up else down) ≡ whole → failed ≡ up
-    → (if joined then down else failed) ≡ (if term then whole else failed)
-parted_unless true true joined up down whole failed e leads same = ap (λ b. if b then down else failed) e ∙ same ∙ leads
-parted_unless true false joined up down whole failed e leads same = ap (λ b. if b then down else failed) e ∙ leads
-parted_unless false next joined up down whole failed e leads same = ap (λ b. if b then down else failed) e
+-- a term that leads to the same tree as a second one fails, where that one holds
+pub parted_unless : {X : Type 0} (term next joined : Bool) (up down failed : X) → joined ≡ (term && not next) → failed ≡ up
+    → (if joined then down else failed) ≡ (if term then if next then up else down else failed)
+parted_unless true true joined up down failed e same = ap (λ b. if b then down else failed) e ∙ same
+parted_unless true false joined up down failed e same = ap (λ b. if b then down else failed) e
+parted_unless false next joined up down failed e same = ap (λ b. if b then down else failed) e
 
--- the same where one of the two terms holds
-pub parted_either : {X : Type 0} (term next joined : Bool) (up down whole held : X) → joined ≡ (term || next) → (if next then up else down) ≡ whole → held ≡ up
-    → (if joined then held else down) ≡ (if term then held else whole)
-parted_either true next joined up down whole held e leads same = ap (λ b. if b then held else down) e
-parted_either false true joined up down whole held e leads same = ap (λ b. if b then held else down) e ∙ same ∙ leads
-parted_either false false joined up down whole held e leads same = ap (λ b. if b then held else down) e ∙ leads
+-- the same of a second one that leads there where it fails
+pub parted_else : {X : Type 0} (term next joined : Bool) (up down held : X) → joined ≡ (term || not next) → held ≡ down
+    → (if joined then held else up) ≡ (if term then held else if next then up else down)
+parted_else true next joined up down held e same = ap (λ b. if b then held else up) e
+parted_else false true joined up down held e same = ap (λ b. if b then held else up) e
+parted_else false false joined up down held e same = ap (λ b. if b then held else up) e ∙ same

@@ -161,3 +161,8 @@ and_true false = refl
 pub and_false : (a : Bool) → (a && false) ≡ false
 and_false true = refl
 and_false false = refl
+
+pub or_from_neither : (a b : Bool) → false ≡ (not a && not b) → (a || b) ≡ true
+or_from_neither true b e = refl
+or_from_neither false true e = refl
+or_from_neither false false e = e

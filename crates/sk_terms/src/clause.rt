@@ -62,8 +62,8 @@ fn joining(terms: &[Term], term: Term) -> Option<Found>
     None
 }
 
-// Where a term stands among others: they are in the order of the registers.
-fn place_of(terms: &[Term], term: Term) -> usize
+/// Where a term stands among others: they are in the order of the registers.
+pub fn place_of(terms: &[Term], term: Term) -> usize
     ensures within { result ≤ length terms.now }
 {
     for (at, other) in terms.iter().enumerate() {

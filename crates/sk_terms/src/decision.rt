@@ -4,7 +4,7 @@ ghost use Rattle.sk_insn.specs.declared.record.Record.{Record};
 ghost use Rattle.sk_terms.specs.Terms.{holds_term};
 ghost use Rattle.sk_terms.specs.Decisions.{decided, decided_branching, DecidesAs};
 
-use crate::joining::{either, unless};
+use crate::joining::{as_one, either};
 use crate::meaning::{Meant, mean};
 use crate::term::Term;
 use sk_conditions::Tree;
@@ -30,28 +30,6 @@ struct Branching {
 }
 
 impl Branching {
-    /// The same tree, by the term that holds where this one does not.
-    fn turned(self) -> Branching
-        ensures same { (call : Record) → decided_branching result call ≡ decided_branching self call }
-    {
-        Branching {
-            term: self.term.negated(),
-            held: self.failed,
-            failed: self.held,
-        }
-    }
-
-    /// The same tree, which leads to another one where its term holds, if it leads to that one at all.
-    fn leading_to(self, other: &Decision) -> Branching
-        ensures same { (call : Record) → decided_branching result call ≡ decided_branching self call }
-    {
-        if same(other, &self.failed) {
-            self.turned()
-        } else {
-            self
-        }
-    }
-
     /// The same as a tree.
     fn whole(self) -> Decision
         ensures same { (call : Record) → decided result call ≡ decided_branching self call }
@@ -115,13 +93,17 @@ fn asked_then(
 ) -> Result<Decision, AllocError>
     ensures decided { IfOk result (λ it. (call : Record) → decided it call ≡ if holds_term term call then decided held call else decided_branching failed call) }
 {
-    let further = failed.leading_to(&held);
-    if same(&held, &further.held) {
-        if let Some(joined) = either(term, further.term) {
-            return fork(alloc, joined, held, Box::into_inner(further.failed));
+    if same(&held, &failed.held) {
+        if let Some(joined) = either(term, failed.term) {
+            return fork(alloc, joined, held, Box::into_inner(failed.failed));
         }
     }
-    asked_first(alloc, term, held, further.whole())
+    if same(&held, &failed.failed) {
+        if let Some(joined) = either(term, failed.term.negated()) {
+            return fork(alloc, joined, held, Box::into_inner(failed.held));
+        }
+    }
+    asked_first(alloc, term, held, failed.whole())
 }
 
 /// The same, where the first tree may begin with a term.
@@ -155,13 +137,17 @@ fn asked_both(
 ) -> Result<Decision, AllocError>
     ensures decided { IfOk result (λ it. (call : Record) → decided it call ≡ if holds_term term call then decided_branching held call else decided failed call) }
 {
-    let further = held.leading_to(&failed);
-    if same(&failed, &further.held) {
-        if let Some(joined) = unless(term, further.term) {
-            return fork(alloc, joined, Box::into_inner(further.failed), failed);
+    if same(&failed, &held.failed) {
+        if let Some(joined) = as_one(term, held.term) {
+            return fork(alloc, joined, Box::into_inner(held.held), failed);
         }
     }
-    fork(alloc, term, further.whole(), failed)
+    if same(&failed, &held.held) {
+        if let Some(joined) = as_one(term, held.term.negated()) {
+            return fork(alloc, joined, Box::into_inner(held.failed), failed);
+        }
+    }
+    fork(alloc, term, held.whole(), failed)
 }
 
 // A term of two trees.

@@ -1,5 +1,5 @@
 //! Two terms that are one term together.
-ghost use Rattle.std.specs.Prelude.{◌≡◌, ◌&&◌, ◌||◌, not, true, bit_and, IfSome};
+ghost use Rattle.std.specs.Prelude.{◌≡◌, ◌&&◌, ◌||◌, true, bit_and, IfSome, IsTrue};
 ghost use Rattle.sk_insn.specs.declared.record.Record.{Record};
 ghost use Rattle.sk_terms.specs.Terms.{holds_term, holds_joined, is_equality, is_inequality};
 
@@ -49,13 +49,23 @@ fn on_other_bits(one: Term, other: Term) -> Option<Joined>
     }
 }
 
-/// The term that holds where one does and the other does not, if that is seen.
-pub fn unless(one: Term, other: Term) -> Option<Term>
-    ensures unless { IfSome result (λ it. (call : Record) → holds_term it call ≡ (holds_term one call && not (holds_term other call))) }
+/// The term that holds where both of two do, if that is seen.
+pub fn as_one(one: Term, other: Term) -> Option<Term>
+    ensures both { IfSome result (λ it. (call : Record) → holds_term it call ≡ (holds_term one call && holds_term other call)) }
 {
-    match both(one, other.negated()) {
+    match both(one, other) {
         Some(Joined::One(joined)) => Some(joined),
         _ => None,
+    }
+}
+
+/// Whether one of two terms holds on every call, if that is seen.
+pub fn are_all(one: Term, other: Term) -> bool
+    ensures all { IsTrue result → (call : Record) → (holds_term one call || holds_term other call) ≡ true }
+{
+    match both(one.negated(), other.negated()) {
+        Some(Joined::Never) => true,
+        _ => false,
     }
 }
 
