@@ -1,5 +1,5 @@
 -- Terms that are put together while a clause grows, and the lines of a tree.
-use Rattle.std.proofs.Common.{◌≡◌, Bool, true, false, ◌&&◌, ◌||◌, not, if◌then◌else◌, List, [], ◌++◌, ap, sym, ◌∙◌, refl, append_assoc, append-nil}
+use Rattle.std.proofs.Common.{◌≡◌, Bool, true, false, ◌&&◌, ◌||◌, not, if◌then◌else◌, List, [], ◌++◌, ap, ◌∙◌, refl, append-nil}
 
 pub swapped : (a b : Bool) → (a && b) ≡ (b && a)
 swapped true true = refl

@@ -1,5 +1,5 @@
 -- The values of the lines that a call meets.
-use Rattle.std.proofs.Common.{◌≡◌, ℕ, zero, suc, ◌+◌, ◌<◌, ◌≤◌, ◌||◌, Bool, true, false, if◌then◌else◌, List, [], ◌∷◌, ◌++◌, length, get_or, Option, sym, ap, subst, ◌∙◌, refl, arith, append_assoc, append-nil, length-append}
+use Rattle.std.proofs.Common.{◌≡◌, ℕ, zero, suc, ◌<◌, ◌≤◌, ◌||◌, Bool, true, false, if◌then◌else◌, List, [], ◌∷◌, ◌++◌, length, get_or, Option, sym, ap, subst, ◌∙◌, refl, arith, append_assoc, length-append}
 use Rattle.std.specs.List.{remove}
 use Rattle.sk_insn.specs.declared.record.Record.{Record}
 use Rattle.sk_terms.specs.declared.lines.LeftOut.{LeftOut}

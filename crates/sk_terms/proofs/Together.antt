@@ -1,5 +1,5 @@
 -- Terms on the same register.
-use Rattle.std.proofs.Common.{◌≡◌, ◌≢◌, ℕ, ◌≤◌, ◌==◌, ◌&&◌, ◌||◌, nat_le, not, Option, Some, None, IfSome, Bool, true, false, if◌then◌else◌, bit_and, bit_or, min, max, sym, ap, subst, ◌∙◌, refl, eqb-true, eq-eqb, arith}
+use Rattle.std.proofs.Common.{◌≡◌, ◌≢◌, ℕ, ◌==◌, ◌&&◌, ◌||◌, not, Option, Some, None, IfSome, Bool, true, false, bit_and, bit_or, sym, ap, ◌∙◌, refl, eqb-true, eq-eqb, arith}
 use Rattle.std.proofs.lemmas.Bool.{ne_eqb}
 use Rattle.std.proofs.lemmas.Nat.{and_assoc, and_comm, or_comm, and_or_self}
 use Rattle.std.proofs.lemmas.Nat.Bits.{same_from_bits, bit_at_and, bit_at_or}

@@ -1,9 +1,7 @@
 use Rattle.std.proofs.Common.{◌≡◌, ◌&&◌, sym, ap, ◌∙◌, subst}
 use Rattle.std.proofs.lemmas.Result.{IfOk-weaker}
-use Rattle.sk_insn.specs.declared.record.Record.{Record}
-use Rattle.sk_terms.specs.declared.joining.Joined.{Joined}
 use Rattle.sk_terms.specs.Terms.{holds_term, holds_joined}
-use Rattle.sk_terms.specs.Lines.{meets_all, meets_clause}
+use Rattle.sk_terms.specs.Lines.{meets_all}
 use Rattle.sk_terms.proofs.Kept.{all_with, put_together}
 use Rattle.sk_terms.proofs.Together.{and_false}
 use Rattle.sk_terms.proofs.clause.+with_term.Goals as goal

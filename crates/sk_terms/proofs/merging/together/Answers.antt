@@ -1,4 +1,4 @@
-use Rattle.std.proofs.Common.{◌≡◌, ◌||◌, ap, sym, ◌∙◌, refl}
+use Rattle.std.proofs.Common.{◌||◌, ap, sym, ◌∙◌, refl}
 use Rattle.std.specs.List.{list_any}
 use Rattle.sk_terms.specs.Lines.{holds_choice}
 use Rattle.sk_terms.specs.Terms.{holds_term}
