@@ -1,8 +1,8 @@
 -- Masks, and ranges of masked numbers.
-use Rattle.std.proofs.Common.{◌≡◌, ℕ, ◌+◌, ◌*◌, ◌/◌, ◌%◌, ◌^◌, ◌<◌, ◌≤◌, ◌==◌, ◌≢◌, ◌&&◌, nat_le, nat_lt, not, Bool, true, false, bit_and, bit_or, min, max, sym, ap, ◌∙◌, refl, arith}
+use Rattle.std.proofs.Common.{◌≡◌, ℕ, ◌+◌, ◌*◌, ◌/◌, ◌%◌, ◌^◌, ◌<◌, ◌≤◌, ◌==◌, ◌≢◌, ◌&&◌, nat_le, nat_lt, not, false, bit_and, sym, ap, ◌∙◌, refl, arith}
 use Rattle.std.proofs.lemmas.Bool.{ne_eqb}
-use Rattle.std.proofs.lemmas.Nat.{and_assoc, and_comm, and_le_l, and_le_r, and_shr, and_mod, and_mask}
-use Rattle.std.proofs.lemmas.Nat.Bits.{same_from_bits, bit_at_and, bit_at_or, bit_at-lt}
+use Rattle.std.proofs.lemmas.Nat.{and_assoc, and_le_l, and_le_r, and_shr, and_mod, and_mask}
+use Rattle.std.proofs.lemmas.Nat.Bits.{same_from_bits, bit_at_and}
 use Rattle.std.proofs.lemmas.Bool.Decides.{nat_tests}
 use Rattle.std.specs.Int.Bits.{and_zero_r}
 

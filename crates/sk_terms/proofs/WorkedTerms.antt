@@ -19,4 +19,15 @@ terms_work = record {
   odd_text = refl;
   range_text = refl;
   other_text = refl;
+  bound = refl;
+  above_bound = refl;
+  above_half = refl;
+  bound_text = refl;
+  personality = refl;
+  personality_asked = refl;
+  no_personality = refl;
+  personality_text = refl;
+  personality_beside = refl;
+  alone_beside = refl;
+  range_beside = refl;
 }

@@ -1,5 +1,5 @@
 -- Trees of terms, and what they tell of a call.
-use Rattle.std.specs.Prelude.{ℕ, ◌≡◌, if◌then◌else◌, box_value, Option, Some, None}
+use Rattle.std.specs.Prelude.{ℕ, if◌then◌else◌, box_value, Option, Some, None}
 use Rattle.sk_insn.specs.declared.record.Record.{Record}
 use Rattle.sk_conditions.specs.declared.tree.Tree.{Tree}
 use Rattle.sk_conditions.specs.Conditions.{Agrees, told}

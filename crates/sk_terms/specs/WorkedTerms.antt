@@ -1,11 +1,12 @@
--- Worked examples of terms: clone(2)'s flags as docker's filter tests them, 64 bits at once, a masked number, and a bound of the
--- instruction pointer.
-use Rattle.std.specs.Prelude.{◌≡◌, ◌∷◌, [], true, false, codes}
+-- Worked examples of terms: clone(2)'s flags as docker's filter tests them, 64 bits at once, a masked number, a bound of the
+-- instruction pointer, and the numbers that docker's filter lets personality(2) have.
+use Rattle.std.specs.Prelude.{ℕ, ◌≡◌, Bool, List, ◌∷◌, [], true, false, codes}
+use Rattle.std.specs.List.{list_any}
 use Rattle.sk_insn.specs.declared.record.Record.{Record}
 use Rattle.sk_terms.specs.declared.term.Register.TheVariants.{Number, Pointer, Argument}
 use Rattle.sk_terms.specs.declared.term.Term.{Term}
 use Rattle.sk_terms.specs.Terms.{holds_term}
-use Rattle.sk_terms.specs.Text.{term_text}
+use Rattle.sk_terms.specs.Text.{choice_text, term_text, terms_text}
 
 -- a call with 0x100000002 in its first argument, from 2 ^ 33 in memory
 abbrev pub worked_call : Record
@@ -23,6 +24,23 @@ from_on = record { register = Pointer; mask = 0xffffffffffffffff; first = 0x2000
 abbrev pub odd : Term
 odd = record { register = Number; mask = 1; first = 0; last = 0; inside = false }
 
+-- PER_LINUX of personality(2), and the number that asks what it is
+abbrev pub linux : Term
+linux = record whole { first = 0; last = 0 }
+
+abbrev pub asking : Term
+asking = record whole { first = 0xffffffff; last = 0xffffffff }
+
+-- a bound in both halves
+abbrev pub at_most : Term
+at_most = record { register = Argument 1; mask = 0xffffffffffffffff; first = 0; last = 0x1400000; inside = true }
+
+abbrev pub sized : ℕ → Record
+sized n = record { nr = 10; ip = 0; args = 0 ∷ n ∷ 0 ∷ 0 ∷ 0 ∷ 0 ∷ [] }
+
+abbrev pub some_holds : List Term → ℕ → Bool
+some_holds terms n = list_any (λ term. holds_term term (record { nr = 135; ip = 0; args = n ∷ 0 ∷ 0 ∷ 0 ∷ 0 ∷ 0 ∷ [] })) terms
+
 pub record TermsWork : Type 0 where
   pub clone : holds_term no_namespaces worked_call ≡ true
   pub clone_of_another : holds_term (record no_namespaces { register = Argument 1; mask = 0x10000000 }) worked_call ≡ false
@@ -37,3 +55,14 @@ pub record TermsWork : Type 0 where
   pub odd_text : term_text odd ≡ codes "(nr & 0x1) != 0"
   pub range_text : term_text (record from_on { last = 0x2000000ff }) ≡ codes "0x200000000 <= ip && ip <= 0x2000000ff"
   pub other_text : term_text (record whole { first = 16; last = 31; inside = false }) ≡ codes "(args[0] < 0x10 || 0x1f < args[0])"
+  pub bound : holds_term at_most (sized 0x1400000) ≡ true
+  pub above_bound : holds_term at_most (sized 0x1400001) ≡ false
+  pub above_half : holds_term at_most (sized 0x100000000) ≡ false
+  pub bound_text : term_text at_most ≡ codes "args[1] <= 0x1400000"
+  pub personality : some_holds (linux ∷ asking ∷ []) 0 ≡ true
+  pub personality_asked : some_holds (linux ∷ asking ∷ []) 0xffffffff ≡ true
+  pub no_personality : some_holds (linux ∷ asking ∷ []) 0xffffffff00000000 ≡ false
+  pub personality_text : terms_text (linux ∷ asking ∷ []) ≡ codes "args[0] == 0 || args[0] == 0xffffffff"
+  pub personality_beside : choice_text (linux ∷ asking ∷ []) ≡ codes "(args[0] == 0 || args[0] == 0xffffffff)"
+  pub alone_beside : choice_text (linux ∷ []) ≡ codes "args[0] == 0"
+  pub range_beside : terms_text (record whole { first = 16; last = 31 } ∷ asking ∷ []) ≡ codes "(0x10 <= args[0] && args[0] <= 0x1f) || args[0] == 0xffffffff"

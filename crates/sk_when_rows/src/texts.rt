@@ -89,6 +89,83 @@ fn rows(alloc: Global) -> Result<Vec<(Vec<Insn>, u32, &'static str)>, Fail> {
         "39 getpid\n  allow where ip >= 0x200000000\n  errno/1 EPERM else\n",
     ))?;
 
+    // Two numbers of an argument, half by half: the lower one is compared twice.
+    rows.push((
+        vec![in alloc;
+            ldabs(20),
+            insn(0x15, 0, 4, 0),
+            ldabs(16),
+            insn(0x15, 1, 0, 0),
+            insn(0x15, 0, 1, 0xffff_ffff),
+            ret(ALLOW),
+            ret(EPERM),
+        ]?,
+        135,
+        "135 personality\n  allow where args[0] == 0 || args[0] == 0xffffffff\n  errno/1 EPERM else\n",
+    ))?;
+
+    // A bound of 64 bits: a higher half above 0 is above it, and else the lower half decides.
+    rows.push((
+        vec![in alloc;
+            ldabs(28),
+            insn(0x25, 4, 0, 0),
+            insn(0x15, 0, 2, 0),
+            ldabs(24),
+            insn(0x25, 1, 0, 0x0140_0000),
+            ret(ALLOW),
+            ret(EPERM),
+        ]?,
+        10,
+        "10 mprotect\n  allow where args[1] <= 0x1400000\n  errno/1 EPERM else\n",
+    ))?;
+
+    // Neighbouring numbers, and one apart from them.
+    rows.push((
+        vec![in alloc;
+            ldabs(16),
+            insn(0x15, 3, 0, 0x10),
+            insn(0x15, 2, 0, 0x11),
+            insn(0x15, 1, 0, 0x12),
+            insn(0x15, 0, 1, 0x20),
+            ret(ALLOW),
+            ret(EPERM),
+        ]?,
+        16,
+        "16 ioctl\n  allow where (0x10 <= (args[0] & 0xffffffff) && (args[0] & 0xffffffff) <= 0x12) || (args[0] & 0xffffffff) == 0x20\n  errno/1 EPERM else\n",
+    ))?;
+
+    // Where the first argument is 5 the other calls have one error, and else another one: for what is allowed it is the same.
+    rows.push((
+        vec![in alloc;
+            ldabs(16),
+            insn(0x15, 0, 3, 5),
+            ldabs(40),
+            insn(0x15, 3, 0, 1),
+            ret(0),
+            ldabs(40),
+            insn(0x15, 0, 1, 1),
+            ret(ALLOW),
+            ret(EPERM),
+        ]?,
+        25,
+        "25 mremap\n  kill_thread where (args[0] & 0xffffffff) == 0x5 && (args[3] & 0xffffffff) != 0x1\n  allow where (args[3] & 0xffffffff) == 0x1\n  errno/1 EPERM else\n",
+    ))?;
+
+    // A word that is tested again: the second test is told by the first.
+    rows.push((
+        vec![in alloc;
+            ldabs(16),
+            insn(0x15, 0, 2, 7),
+            insn(0x15, 0, 1, 8),
+            ret(0),
+            insn(0x15, 0, 1, 7),
+            ret(ALLOW),
+            ret(EPERM),
+        ]?,
+        39,
+        "39 getpid\n  allow where (args[0] & 0xffffffff) == 0x7\n  errno/1 EPERM else\n",
+    ))?;
+
     // A word is returned, which is not followed.
     rows.push((
         vec![in alloc; ldabs(16), insn(0x16, 0, 0, 0)]?,

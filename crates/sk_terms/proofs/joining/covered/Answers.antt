@@ -1,4 +1,4 @@
-use Rattle.std.proofs.Common.{◌&&◌, true, false, sym, ap, ◌∙◌}
+use Rattle.std.proofs.Common.{◌&&◌, sym, ap, ◌∙◌}
 use Rattle.sk_terms.specs.Terms.{holds_term}
 use Rattle.sk_terms.proofs.Together.{told_by_bits, and_true, and_false}
 use Rattle.sk_terms.proofs.joining.covered.Goals as goal

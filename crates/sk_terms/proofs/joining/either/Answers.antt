@@ -1,5 +1,5 @@
-use Rattle.std.proofs.Common.{◌&&◌, not, sym, ap, ◌∙◌}
-use Rattle.sk_terms.specs.Terms.{holds_term, holds_joined}
+use Rattle.std.proofs.Common.{◌&&◌, not, ap, ◌∙◌}
+use Rattle.sk_terms.specs.Terms.{holds_term}
 use Rattle.sk_terms.proofs.Together.{not_neither}
 use Rattle.sk_terms.proofs.joining.either.Goals as goal
 

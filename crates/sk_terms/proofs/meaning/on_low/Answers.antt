@@ -1,4 +1,4 @@
-use Rattle.std.proofs.Common.{◌/◌, ◌%◌, ◌^◌, bit_and, ap, sym, ◌∙◌, arith}
+use Rattle.std.proofs.Common.{◌%◌, ◌^◌, bit_and, ap, sym, ◌∙◌}
 use Rattle.sk_terms.specs.Terms.{register_of, says}
 use Rattle.sk_terms.proofs.Masks.{low_is, low_at_least, low_some}
 use Rattle.sk_terms.proofs.meaning.on_low.Goals as goal
