@@ -14,7 +14,8 @@ use Rattle.sk_ask.specs.Troubles.{IsTrouble, OfFirst}
 abbrev pub no_call_text : List ℕ
 no_call_text = codes "holds no call: expected lines as strace -f -X raw -e raw=all writes them"
 
--- the verdicts of the chain on the calls of the log with this name; no where one of them is not performed, and nothing where there is none
+-- the verdicts of the chain on the calls of the log with this name: no where one of them is not performed, or a line is not
+-- understood; and no answer where there is no call
 abbrev pub replayed : List ℕ → List ℕ → List (List Insn) → Ending
 replayed name log chain =
     if distinct_calls log == 0 then refused (about name no_call_text) else answered (replay_text log chain) (replay_denies log chain)
