@@ -92,12 +92,7 @@ fn push_fill(text: &mut String, colour: &str) -> Result<(), AllocError>
     push_three(text, "\", style=filled, fillcolor=", colour, "];\n")
 }
 
-fn push_three(
-    text: &mut String,
-    first: &str,
-    second: &str,
-    third: &str,
-) -> Result<(), AllocError>
+fn push_three(text: &mut String, first: &str, second: &str, third: &str) -> Result<(), AllocError>
     ensures text { OnOk result (string_bytes text.new ≡ string_bytes text.old ++ (first.now ++ (second.now ++ third.now))) }
 {
     text.push_str(first)?;
