@@ -24,4 +24,4 @@ pub use decision::{Decision, decide};
 pub use lines::{LeftOut, Line, add_lines, lines_of};
 pub use merging::merged;
 pub use term::{Register, Term};
-pub use text::push_condition;
+pub use text::{push_condition, push_term};

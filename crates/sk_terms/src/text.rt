@@ -100,7 +100,8 @@ fn push_beside(text: &mut String, term: Term) -> Result<(), AllocError>
     }
 }
 
-fn push_term(text: &mut String, term: Term) -> Result<(), AllocError>
+/// Adds one term.
+pub fn push_term(text: &mut String, term: Term) -> Result<(), AllocError>
     ensures text { OnOk result (string_bytes text.new ≡ string_bytes text.old ++ term_text term) }
 {
     push_wording(text, term.register, term.mask, worded(term))

@@ -1,5 +1,5 @@
 -- The line `else` of a row.
-use Rattle.std.proofs.Common.{◌≡◌, ℕ, ◌==◌, Bool, true, false, if◌then◌else◌, List, [], ◌∷◌, Option, Some, None, sym, ap, ◌∙◌, refl, eqb-true}
+use Rattle.std.proofs.Common.{◌≡◌, ℕ, ◌==◌, Bool, true, false, if◌then◌else◌, List, [], ◌∷◌, Option, Some, None, sym, ap, refl, eqb-true}
 use Rattle.sk_conditions.specs.Conditions.{Agrees}
 use Rattle.sk_survey.specs.Answers.{IsAmong}
 use Rattle.sk_terms.specs.declared.lines.LeftOut.TheVariants.{End}

@@ -2,8 +2,10 @@
 #![tactic(auto)]
 
 mod engine;
+mod picture;
 mod row;
 mod text;
 
 pub use engine::when;
+pub use picture::dot;
 pub use row::{Told, tell};

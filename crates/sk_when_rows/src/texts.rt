@@ -2,7 +2,7 @@
 use sk_chain::Chain;
 use sk_check::{Checked, check};
 use sk_insn::Insn;
-use sk_when::when;
+use sk_when::{dot, when};
 use std::alloc::Global;
 use std::test::Fail;
 
@@ -186,5 +186,23 @@ fn small_filters(rt: HostRuntime) -> Result<(), Fail> {
         let text = when(alloc, &chain, Some(*nr))?;
         assert_eq!(rt; text.as_str(), *wanted, "at {wanted:?}");
     }
+    Ok(())
+}
+
+/// clone(2) as above: a term with two ends.
+#[test]
+fn picture(rt: HostRuntime) -> Result<(), Fail> {
+    let alloc = rt.alloc();
+    let program = vec![in alloc;
+        ldabs(16),
+        insn(0x45, 0, 1, 0x7e02_0000),
+        ret(EPERM),
+        ret(ALLOW),
+    ]?;
+    let chain = chain_of(alloc, &program)?;
+    let text = dot(alloc, &chain, 56)?;
+    let wanted =
+        "digraph {\n  n0 [label=\"(args[0] & 0x7e020000) != 0\"];\n  n0 -> n1 [label=yes];\n  n1 [label=\"errno/1 EPERM\", style=filled, fillcolor=khaki];\n  n0 -> n2 [label=no];\n  n2 [label=\"allow\", style=filled, fillcolor=palegreen];\n}\n";
+    assert_eq!(rt; text.as_str(), wanted);
     Ok(())
 }
