@@ -1,6 +1,7 @@
 //! Under which conditions on the rest of a call each value comes, for every call of some numbers.
 #![tactic(auto)]
 
+mod budget;
 mod chains;
 mod explore;
 mod follow;
@@ -14,6 +15,7 @@ mod test;
 mod tree;
 mod witness;
 
+pub use budget::{Budget, MOST_OF_A_ROW, MOST_STEPS};
 pub use chains::chain_tree;
 pub use explore::program_tree;
 pub use numbers::Numbers;

@@ -5,7 +5,7 @@ ghost use Rattle.sk_interp.specs.Meaning.{holds};
 ghost use Rattle.sk_conditions.specs.Conditions.{holds_on};
 ghost use Rattle.sk_conditions.specs.Following.{MeetsPath};
 
-use crate::Test;
+use crate::{Budget, Test};
 use sk_insn::Comparison;
 use sk_interp::holds;
 
@@ -19,16 +19,21 @@ pub enum Path<'a> {
 }
 
 impl Path<'_> {
-    /// The answer of a test, where an earlier one tells it.
-    pub fn answer(&self, test: Test) -> Option<bool>
+    /// The answer of a test, where an earlier one tells it and the budget lets look so far.
+    pub fn answer(&self, test: Test, budget: &mut Budget) -> Option<bool>
         ensures told { IfSome result (λ answer. (call : Record) → MeetsPath self.now call → holds_on test call ≡ answer) }
     {
         match self {
             Path::Start => None,
-            Path::Beyond(earlier, met, answer) => match implied(*met, *answer, test) {
-                None => earlier.answer(test),
-                told => told,
-            },
+            Path::Beyond(earlier, met, answer) => {
+                if !budget.take(1) {
+                    return None;
+                }
+                match implied(*met, *answer, test) {
+                    None => earlier.answer(test, budget),
+                    told => told,
+                }
+            }
         }
     }
 }
@@ -103,12 +108,13 @@ fn excluded(met: Test, test: Test) -> Option<bool>
 impl Path<'_> {
     /// Whether a word at a place with these bits may come out so in each test, as far as is seen; the bits of `open` may be
     /// any.
-    pub fn leaves_open(&self, place: u8, bits: u32, open: u32) -> bool {
+    pub fn leaves_open(&self, place: u8, bits: u32, open: u32, budget: &mut Budget) -> bool {
         match self {
             Path::Start => true,
             Path::Beyond(earlier, test, answer) => {
-                (test.place != place || may_come_out(*test, *answer, bits, open))
-                    && earlier.leaves_open(place, bits, open)
+                budget.take(1)
+                    && (test.place != place || may_come_out(*test, *answer, bits, open))
+                    && earlier.leaves_open(place, bits, open, budget)
             }
         }
     }

@@ -3,14 +3,11 @@
 ghost use Rattle.std.specs.Prelude.{◌≤◌};
 
 use crate::path::Path;
-use crate::{Numbers, Test};
+use crate::{Budget, Numbers, Test};
 use sk_insn::{Comparison, Record};
 
-/// The most beginnings of a word that are tried.
-const MOST_BEGINNINGS: u32 = 4096;
-
 /// A call with one of the numbers, on the way of these tests where one was found.
-pub fn witness(path: &Path, numbers: Numbers) -> Record {
+pub fn witness(path: &Path, numbers: Numbers, budget: &mut Budget) -> Record {
     let least = Path::Beyond(
         &*path,
         on_number(Comparison::GreaterOrEqual, numbers.first),
@@ -18,15 +15,15 @@ pub fn witness(path: &Path, numbers: Numbers) -> Record {
     );
     let path = Path::Beyond(&least, on_number(Comparison::Greater, numbers.last), false);
     Record {
-        nr: word_on(&path, 0),
-        ip: number_on(&path, 8),
+        nr: word_on(&path, 0, budget),
+        ip: number_on(&path, 8, budget),
         args: [
-            number_on(&path, 16),
-            number_on(&path, 24),
-            number_on(&path, 32),
-            number_on(&path, 40),
-            number_on(&path, 48),
-            number_on(&path, 56),
+            number_on(&path, 16, budget),
+            number_on(&path, 24, budget),
+            number_on(&path, 32, budget),
+            number_on(&path, 40, budget),
+            number_on(&path, 48, budget),
+            number_on(&path, 56, budget),
         ],
     }
 }
@@ -41,30 +38,28 @@ fn on_number(comparison: Comparison, k: u32) -> Test {
 }
 
 // The number of 64 bits whose lower half stands at a place.
-fn number_on(path: &Path, place: u8) -> u64
+fn number_on(path: &Path, place: u8, budget: &mut Budget) -> u64
     requires inside { place ≤ 56 }
 {
-    u64::from(word_on(path, place)) | u64::from(word_on(path, place + 4)) << 32
+    u64::from(word_on(path, place, budget)) | u64::from(word_on(path, place + 4, budget)) << 32
 }
 
 // A word for a place, or 0 where none is found.
-fn word_on(path: &Path, place: u8) -> u32 {
-    let mut left = MOST_BEGINNINGS;
-    found_from(path, place, 0, u32::MAX, &mut left).unwrap_or(0)
+fn word_on(path: &Path, place: u8, budget: &mut Budget) -> u32 {
+    found_from(path, place, 0, u32::MAX, budget).unwrap_or(0)
 }
 
 // A word for a place, with these bits; `open` has those that are not settled, the lowest ones.
-fn found_from(path: &Path, place: u8, bits: u32, open: u32, left: &mut u32) -> Option<u32> {
-    if *left == 0 || !path.leaves_open(place, bits, open) {
+fn found_from(path: &Path, place: u8, bits: u32, open: u32, budget: &mut Budget) -> Option<u32> {
+    if !path.leaves_open(place, bits, open, budget) {
         return None;
     }
     if open == 0 {
         return Some(bits);
     }
-    *left -= 1;
     let rest = open >> 1;
-    match found_from(path, place, bits, rest, left) {
-        None => found_from(path, place, bits | (open - rest), rest, left),
+    match found_from(path, place, bits, rest, budget) {
+        None => found_from(path, place, bits | (open - rest), rest, budget),
         found => found,
     }
 }

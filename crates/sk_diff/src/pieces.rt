@@ -5,8 +5,8 @@ ghost use Rattle.sk_diff.specs.Pieces.{AreCompared, Stands};
 use crate::piece::Piece;
 use sk_call_names::numbers;
 use sk_chain::Chain;
-use sk_conditions::{Comparing, Numbers, Relation, compare};
-use sk_survey::{Row, Survey};
+use sk_conditions::{Budget, Comparing, Numbers, Relation, compare};
+use sk_survey::cuts::cuts;
 use std::alloc::{AllocError, Global};
 
 /// Compares two chains on the calls of all numbers.
@@ -18,6 +18,7 @@ pub fn pieces(
 ) -> Result<Vec<Piece>, AllocError>
     ensures compared { IfOk result (λ pieces. AreCompared relation old.now new.now 0 4294967296 pieces.items) }
 {
+    let mut budget = Budget::whole();
     let mut pieces = Vec::new(alloc);
     let mut first = 0;
     for beginning in &beginnings(alloc, old, new)? {
@@ -26,7 +27,7 @@ pub fn pieces(
                 first,
                 last: *beginning - 1,
             };
-            push_piece(alloc, &mut pieces, relation, old, new, numbers)?;
+            push_piece(alloc, &mut pieces, relation, old, new, numbers, &mut budget)?;
             first = *beginning;
         }
     }
@@ -34,7 +35,7 @@ pub fn pieces(
         first,
         last: u32::MAX,
     };
-    push_piece(alloc, &mut pieces, relation, old, new, numbers)?;
+    push_piece(alloc, &mut pieces, relation, old, new, numbers, &mut budget)?;
     Ok(pieces)
 }
 
@@ -47,39 +48,31 @@ fn push_piece(
     old: &Chain,
     new: &Chain,
     numbers: Numbers,
+    budget: &mut Budget,
 ) -> Result<(), AllocError>
     requires range { numbers.first ≤ numbers.last }
     ensures compared { OnOk result ((from : ℕ) → AreCompared relation old.now new.now from numbers.first pieces.old.items
         → AreCompared relation old.now new.now from (numbers.last + 1) pieces.new.items) }
 {
-    let found = compare(
-        alloc,
-        Comparing {
-            relation,
-            old,
-            new,
-            numbers,
-        },
-    )?;
+    let chains = Comparing {
+        relation,
+        old,
+        new,
+        numbers,
+    };
+    let mut row = budget.row();
+    let found = compare(alloc, chains, &mut row)?;
+    budget.put_back(row);
     pieces.push(Piece { numbers, found })?;
     Ok(())
 }
 
-/// The numbers at which the rows of a survey of either chain begin, in rising order. They decide in which pieces the
-/// numbers are told, and never what is found of them.
+/// The numbers at which the tests of either chain can change their answers, and those round each number with a name, in
+/// rising order. They decide in which pieces the numbers are told, and never what is found of them.
 fn beginnings(alloc: Global, old: &Chain, new: &Chain) -> Result<Vec<u32>, AllocError> {
     let named = numbers(alloc)?;
-    let mut survey = Survey::new(alloc)?;
-    let mut beginnings = Vec::new(alloc);
-    push_beginnings(&mut beginnings, &survey.rows(alloc, old, &named)?)?;
-    push_beginnings(&mut beginnings, &survey.rows(alloc, new, &named)?)?;
+    let mut beginnings = cuts(alloc, old, &named)?;
+    beginnings.extend_from_slice(&cuts(alloc, new, &[])?)?;
     beginnings.sort_unstable();
     Ok(beginnings)
-}
-
-fn push_beginnings(beginnings: &mut Vec<u32>, rows: &[Row]) -> Result<(), AllocError> {
-    for row in rows {
-        beginnings.push(row.first)?;
-    }
-    Ok(())
 }
