@@ -2,10 +2,10 @@
 ghost use Rattle.std.specs.Prelude.{◌≡◌, ◌+◌, ◌<◌, false, min, IsTrue};
 
 /// The most steps of one question: those that no real filter comes near to, and that take a few seconds.
-pub const MOST_STEPS: u64 = 1 << 27;
+pub const MOST_STEPS: u64 = 1 << 26;
 
 /// The most steps of one row of numbers, so that a row that takes too many leaves some to the others.
-pub const MOST_OF_A_ROW: u64 = 1 << 22;
+pub const MOST_OF_A_ROW: u64 = 1 << 20;
 
 /// The steps that are left. One is an instruction that is followed or run, or a test that is looked at.
 #[derive(Debug, Drop)]
@@ -16,7 +16,7 @@ pub struct Budget {
 impl Budget {
     /// All steps of one question.
     pub fn whole() -> Budget
-        ensures steps { result.steps ≡ 134217728 }
+        ensures steps { result.steps ≡ 67108864 }
     {
         Budget { steps: MOST_STEPS }
     }
@@ -36,7 +36,7 @@ impl Budget {
 
     /// The steps of one row, which are taken off.
     pub fn row(&mut self) -> Budget
-        ensures row { result.steps ≡ min self.old.steps 4194304 }
+        ensures row { result.steps ≡ min self.old.steps 1048576 }
         ensures left { self.new.steps + result.steps ≡ self.old.steps }
     {
         let steps = self.steps.min(MOST_OF_A_ROW);
