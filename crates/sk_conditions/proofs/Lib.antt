@@ -1,3 +1,6 @@
+pub mod Calls
+pub mod Coming
+pub mod Solving
 pub mod Words
 pub mod Lines
 pub mod Bits

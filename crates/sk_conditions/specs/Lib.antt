@@ -1,6 +1,7 @@
 pub mod Conditions
 pub mod ConditionsLaws
 pub mod Following
+pub mod Solving
 pub mod Comparing
 pub mod Pairs
 pub mod WorkedComparisons

@@ -10,6 +10,8 @@ pub mod laws;
 mod numbers;
 mod pair;
 mod path;
+mod solve;
+mod some_words;
 mod standing;
 mod test;
 mod tree;

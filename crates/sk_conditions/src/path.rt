@@ -104,34 +104,3 @@ fn excluded(met: Test, test: Test) -> Option<bool>
     }
     Some(false)
 }
-
-impl Path<'_> {
-    /// Whether a word at a place with these bits may come out so in each test, as far as is seen; the bits of `open` may be
-    /// any.
-    pub fn leaves_open(&self, place: u8, bits: u32, open: u32, budget: &mut Budget) -> bool {
-        match self {
-            Path::Start => true,
-            Path::Beyond(earlier, test, answer) => {
-                budget.take(1)
-                    && (test.place != place || may_come_out(*test, *answer, bits, open))
-                    && earlier.leaves_open(place, bits, open, budget)
-            }
-        }
-    }
-}
-
-// Whether a word with these bits, and any in place of the open ones, may come out so in a test, as far as is seen.
-fn may_come_out(test: Test, answer: bool, bits: u32, open: u32) -> bool {
-    let least = bits & test.mask;
-    let most = (bits | open) & test.mask;
-    match (test.comparison, answer) {
-        (Comparison::Equal, true) => { (least ^ test.k) & !open == 0 && test.k & !test.mask == 0 }
-        (Comparison::Equal, false) => least != test.k || most != test.k,
-        (Comparison::Greater, true) => most > test.k,
-        (Comparison::Greater, false) => least <= test.k,
-        (Comparison::GreaterOrEqual, true) => most >= test.k,
-        (Comparison::GreaterOrEqual, false) => least < test.k,
-        (Comparison::CommonBits, true) => most & test.k != 0,
-        (Comparison::CommonBits, false) => least & test.k == 0,
-    }
-}

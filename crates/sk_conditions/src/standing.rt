@@ -2,11 +2,12 @@
 ghost use Rattle.std.specs.Prelude.{◌≡◌, ◌≤◌, ◌⊎◌, IfOk};
 ghost use Rattle.sk_insn.specs.declared.record.Record.{Record};
 ghost use Rattle.sk_conditions.specs.Comparing.{relates, StandsAll, IsApart};
+ghost use Rattle.sk_conditions.specs.declared.tree.Tree.{Tree};
 ghost use Rattle.sk_conditions.specs.Pairs.{StandsOn};
 
 use crate::pair::{Pair, Parts, parts_of};
 use crate::path::Path;
-use crate::witness::witness;
+use crate::witness::{Missing, call_on};
 use crate::{Budget, Numbers, chain_tree};
 use sk_chain::{Chain, sooner};
 use sk_insn::Record;
@@ -101,11 +102,22 @@ fn both(held: Found, failed: Found) -> Found
     }
 }
 
-/// A call that comes out so in these tests, where one is found on which the verdicts do not stand so to each other.
+/// A call that comes out so in these tests, where one is found on which the verdicts do not stand so to each other; or that
+/// no call comes out so.
 fn apart(chains: Comparing<'_>, path: &Path, budget: &mut Budget) -> Found
+    ensures stands { (old new : Tree) → StandsOn chains.entry old new path.now result }
+{
+    match call_on(path, chains.numbers, budget) {
+        Ok(call) => shown(chains, call, budget),
+        Err(Missing::Nowhere) => Found::Everywhere,
+        Err(Missing::Unknown) => Found::Undecided,
+    }
+}
+
+/// A call, if the verdicts do not stand so to each other on it.
+fn shown(chains: Comparing<'_>, call: Record, budget: &mut Budget) -> Found
     ensures apart { IsApart chains.entry result }
 {
-    let call = witness(path, chains.numbers, budget);
     if !budget.take(u64::from(chains.old.cost()))
         || !budget.take(u64::from(chains.new.cost()))
         || call.nr < chains.numbers.first
