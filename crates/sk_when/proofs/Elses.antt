@@ -2,8 +2,9 @@
 use Rattle.std.proofs.Common.{◌≡◌, ℕ, ◌==◌, Bool, true, false, if◌then◌else◌, List, [], ◌∷◌, Option, Some, None, sym, ap, ◌∙◌, refl, eqb-true}
 use Rattle.sk_conditions.specs.Conditions.{Agrees}
 use Rattle.sk_survey.specs.Answers.{IsAmong}
-use Rattle.sk_when.specs.declared.lines.LeftOut.TheVariants.{End}
-use Rattle.sk_when.specs.Lines.{IsVerdict, or_else, shown}
+use Rattle.sk_terms.specs.declared.lines.LeftOut.TheVariants.{End}
+use Rattle.sk_terms.specs.Lines.{shown}
+use Rattle.sk_when.specs.Lines.{IsVerdict, or_else}
 
 -- what is left out is what `else` tells
 pub else_tells : (value otherwise : Option ℕ) → or_else (shown (End otherwise) value) otherwise ≡ value ∷ []

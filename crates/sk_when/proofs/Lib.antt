@@ -1,7 +1,2 @@
-pub mod Masks
-pub mod Halves
-pub mod Meeting
-pub mod Together
 pub mod Elses
 pub mod Rows
-pub mod WorkedTerms

@@ -1,7 +1,3 @@
-pub mod Terms
-pub mod Decisions
 pub mod Lines
-pub mod Expressions
 pub mod Text
 pub mod Telling
-pub mod WorkedTerms

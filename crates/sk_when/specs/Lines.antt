@@ -1,46 +1,11 @@
--- Lines of terms, and what they tell of a call.
-use Rattle.std.specs.Prelude.{ℕ, ◌≡◌, ◌==◌, Bool, true, false, if◌then◌else◌, List, [], ◌∷◌, map, filter, Option, Some, None}
-use Rattle.std.specs.List.{list_all}
+-- The lines of a row, and what they tell of a call.
+use Rattle.std.specs.Prelude.{ℕ, ◌≡◌, List, [], ◌∷◌, Option, Some, None}
 use Rattle.sk_insn.specs.declared.insn.Insn.{Insn}
 use Rattle.sk_insn.specs.declared.record.Record.{Record}
 use Rattle.sk_chain.specs.Verdict.{verdict_of}
 use Rattle.sk_survey.specs.Answers.{IsAmong, IsCallOf, answers_of}
-use Rattle.sk_when.specs.declared.clause.Clause.{Clause}
-use Rattle.sk_when.specs.declared.clause.Clause.TheVariants.{Never, All}
-use Rattle.sk_when.specs.declared.lines.LeftOut.{LeftOut}
-use Rattle.sk_when.specs.declared.lines.LeftOut.TheVariants.{Nothing, End}
-use Rattle.sk_when.specs.declared.lines.Line.{Line}
+use Rattle.sk_terms.specs.Lines.{told_by}
 use Rattle.sk_when.specs.declared.row.Told.{Told}
-use Rattle.sk_when.specs.declared.term.Term.{Term}
-use Rattle.sk_when.specs.Terms.{holds_term}
-
--- all terms hold on a call
-abbrev pub meets_all : List Term → Record → Bool
-meets_all terms call = list_all (λ term. holds_term term call) terms
-
-abbrev pub meets_clause : Clause → Record → Bool
-meets_clause Never call = false
-meets_clause (All terms) call = meets_all terms.items call
-
--- no term stands for one that no call meets
-abbrev pub holds_if_any : Option Term → Record → Bool
-holds_if_any None call = false
-holds_if_any (Some term) call = holds_term term call
-
--- the values of the lines that a call meets
-abbrev pub told_by : List Line → Record → List (Option ℕ)
-told_by lines call = map (λ line. line.value) (filter (λ line. meets_all line.terms.items call) lines)
-
--- the same value, or none twice
-abbrev pub same_end : Option ℕ → Option ℕ → Bool
-same_end None None = true
-same_end (Some value) (Some other) = value == other
-same_end value other = false
-
--- an end of a tree, as far as it is shown
-abbrev pub shown : LeftOut → Option ℕ → List (Option ℕ)
-shown Nothing value = value ∷ []
-shown (End otherwise) value = if same_end value otherwise then [] else value ∷ []
 
 -- the values of the lines that a call meets, or of the line `else` where it meets none
 abbrev pub or_else : List (Option ℕ) → Option ℕ → List (Option ℕ)

@@ -1,17 +1,12 @@
 //! A row: neighbouring numbers, and under which terms each verdict of their calls comes.
 ghost use Rattle.std.specs.Prelude.{◌≡◌, ◌≤◌, [], ◌∷◌, IfOk, IfSome, Some};
-ghost use Rattle.sk_insn.specs.declared.record.Record.{Record};
 ghost use Rattle.sk_survey.specs.Answers.{ChainAnswersAmong, answers_of};
-ghost use Rattle.sk_when.specs.Decisions.{decided};
-ghost use Rattle.sk_when.specs.Lines.{IsTold, told_by, shown};
+ghost use Rattle.sk_when.specs.Lines.{IsTold};
 
-use crate::choice::heaviest;
-use crate::clause::Clause;
-use crate::decision::{Decision, decide};
-use crate::lines::{LeftOut, Line, add_lines};
 use sk_chain::Chain;
 use sk_conditions::{Numbers, chain_tree};
 use sk_survey::{Answers, Row};
+use sk_terms::{LeftOut, Line, decide, heaviest, lines_of};
 use std::alloc::{AllocError, Global};
 
 /// A row of a survey with its lines, and what the line `else` tells; none stands for what the survey's row answers.
@@ -50,15 +45,6 @@ pub fn tell(alloc: Global, chain: &Chain, row: Row) -> Result<Told, AllocError>
         lines,
         otherwise,
     })
-}
-
-fn lines_of(alloc: Global, decision: &Decision, left_out: LeftOut) -> Result<Vec<Line>, AllocError>
-    ensures told { IfOk result (λ lines. (call : Record) → told_by lines.items call ≡ shown left_out (decided decision.now call)) }
-{
-    let mut lines = Vec::new(alloc);
-    let every = Clause::All(Vec::new(alloc));
-    add_lines(alloc, decision, every, left_out, &mut lines)?;
-    Ok(lines)
 }
 
 // The one value, where the answers are no other.

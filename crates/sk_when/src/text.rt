@@ -1,17 +1,14 @@
-//! The text of rows: verdicts, and the terms under which they come, in expressions of C.
+//! The text of rows: verdicts, and the conditions under which they come, in expressions of C.
 ghost use Rattle.std.specs.Prelude.{◌≡◌, ◌++◌, IfOk, OnOk, string_bytes, codes, flat_map};
 ghost use Rattle.sk_survey.specs.Answers.{answers_of};
 ghost use Rattle.sk_survey_engine.specs.Text.{numbers_text, name_text};
 ghost use Rattle.sk_verdict.specs.Verdicts.{verdict_text};
-ghost use Rattle.sk_when.specs.Expressions.{all_bits};
-ghost use Rattle.sk_when.specs.Text.{number_text, register_text, bits_text, wording_text, term_text, terms_text, values_text, answers_text, value_text, line_text, ends_text, row_text, when_text};
+ghost use Rattle.sk_when.specs.Text.{values_text, answers_text, value_text, line_text, ends_text, row_text, when_text};
 
-use crate::lines::Line;
 use crate::row::Told;
-use crate::term::{Register, Term};
-use crate::wording::{Wording, worded};
 use sk_call_names::name;
 use sk_survey::Answers;
+use sk_terms::{Line, push_condition};
 use sk_verdict::push_verdict;
 use std::alloc::{AllocError, Global};
 use std::fmt::Write;
@@ -96,7 +93,7 @@ fn push_line(text: &mut String, answers: &Answers, line: &Line) -> Result<(), Al
     text.push_str("  ")?;
     push_value(text, answers, line.value)?;
     text.push_str(" where ")?;
-    push_terms(text, &line.terms)?;
+    push_condition(text, line)?;
     text.push_str("\n")
 }
 
@@ -143,142 +140,4 @@ fn push_other(text: &mut String, value: u32) -> Result<(), AllocError>
 {
     text.push_str(" | ")?;
     push_verdict(text, value)
-}
-
-fn push_terms(text: &mut String, terms: &[Term]) -> Result<(), AllocError>
-    ensures text { OnOk result (string_bytes text.new ≡ string_bytes text.old ++ terms_text terms.now) }
-{
-    let Some((first, others)) = terms.split_first() else {
-        return text.push_str("1");
-    };
-    push_term(text, *first)?;
-    push_other_terms(text, others)
-}
-
-fn push_other_terms(text: &mut String, terms: &[Term]) -> Result<(), AllocError>
-    ensures text { OnOk result (string_bytes text.new ≡
-        string_bytes text.old ++ flat_map (λ other. codes " && " ++ term_text other) terms.now) }
-{
-    for term in terms {
-        push_other_term(text, *term)?;
-    }
-    Ok(())
-}
-
-fn push_other_term(text: &mut String, term: Term) -> Result<(), AllocError>
-    ensures text { OnOk result (string_bytes text.new ≡ string_bytes text.old ++ (codes " && " ++ term_text term)) }
-{
-    text.push_str(" && ")?;
-    push_term(text, term)
-}
-
-fn push_term(text: &mut String, term: Term) -> Result<(), AllocError>
-    ensures text { OnOk result (string_bytes text.new ≡ string_bytes text.old ++ term_text term) }
-{
-    push_wording(text, term.register, term.mask, worded(term))
-}
-
-fn push_wording(
-    text: &mut String,
-    register: Register,
-    mask: u64,
-    wording: Wording,
-) -> Result<(), AllocError>
-    ensures text { OnOk result (string_bytes text.new ≡ string_bytes text.old ++ wording_text (bits_text register mask) wording) }
-{
-    match wording {
-        Wording::Is(k) => push_behind(text, register, mask, " == ", k),
-        Wording::IsNot(k) => push_behind(text, register, mask, " != ", k),
-        Wording::AtMost(k) => push_behind(text, register, mask, " <= ", k),
-        Wording::AtLeast(k) => push_behind(text, register, mask, " >= ", k),
-        Wording::Within(first, last) => {
-            push_number(text, first)?;
-            text.push_str(" <= ")?;
-            push_bits(text, register, mask)?;
-            text.push_str(" && ")?;
-            push_behind(text, register, mask, " <= ", last)
-        }
-        Wording::Outside(first, last) => push_outside(text, register, mask, first, last),
-    }
-}
-
-fn push_outside(
-    text: &mut String,
-    register: Register,
-    mask: u64,
-    first: u64,
-    last: u64,
-) -> Result<(), AllocError>
-    ensures text { OnOk result (string_bytes text.new ≡ string_bytes text.old ++ wording_text (bits_text register mask) (Wording.Outside first last)) }
-{
-    text.push_str("(")?;
-    push_behind(text, register, mask, " < ", first)?;
-    text.push_str(" || ")?;
-    push_above(text, register, mask, last)
-}
-
-fn push_above(text: &mut String, register: Register, mask: u64, last: u64) -> Result<(), AllocError>
-    ensures text { OnOk result (string_bytes text.new ≡
-        string_bytes text.old ++ (number_text last ++ (codes " < " ++ (bits_text register mask ++ codes ")")))) }
-{
-    push_number(text, last)?;
-    text.push_str(" < ")?;
-    push_bits(text, register, mask)?;
-    text.push_str(")")
-}
-
-fn push_behind(
-    text: &mut String,
-    register: Register,
-    mask: u64,
-    operator: &str,
-    k: u64,
-) -> Result<(), AllocError>
-    ensures text { OnOk result (string_bytes text.new ≡ string_bytes text.old ++ (bits_text register mask ++ (operator.now ++ number_text k))) }
-{
-    push_bits(text, register, mask)?;
-    text.push_str(operator)?;
-    push_number(text, k)
-}
-
-fn push_bits(text: &mut String, register: Register, mask: u64) -> Result<(), AllocError>
-    ensures text { OnOk result (string_bytes text.new ≡ string_bytes text.old ++ bits_text register mask) }
-{
-    if mask == all_bits(register) {
-        return push_register(text, register);
-    }
-    text.push_str("(")?;
-    push_register(text, register)?;
-    text.push_str(" & ")?;
-    push_number(text, mask)?;
-    text.push_str(")")
-}
-
-fn all_bits(register: Register) -> u64
-    ensures all { result ≡ all_bits register }
-{
-    match register {
-        Register::Number => u64::from(u32::MAX),
-        Register::Pointer | Register::Argument(_) => u64::MAX,
-    }
-}
-
-fn push_register(text: &mut String, register: Register) -> Result<(), AllocError>
-    ensures text { OnOk result (string_bytes text.new ≡ string_bytes text.old ++ register_text register) }
-{
-    match register {
-        Register::Number => text.push_str("nr"),
-        Register::Pointer => text.push_str("ip"),
-        Register::Argument(i) => write!(text, "args[{i}]"),
-    }
-}
-
-fn push_number(text: &mut String, number: u64) -> Result<(), AllocError>
-    ensures text { OnOk result (string_bytes text.new ≡ string_bytes text.old ++ number_text number) }
-{
-    if number == 0 {
-        text.push_str("0")
-    } else {
-        write!(text, "0x{number:x}")
-    }
 }

@@ -1,7 +1,7 @@
 use Rattle.std.proofs.Common.{ap, ◌∙◌}
 use Rattle.sk_chain.specs.Verdict.{verdict_of}
 use Rattle.sk_survey.specs.Answers.{answers_of}
-use Rattle.sk_when.specs.Decisions.{decided}
+use Rattle.sk_terms.specs.Decisions.{decided}
 use Rattle.sk_when.specs.Lines.{or_else}
 use Rattle.sk_when.proofs.Elses.{else_tells, is_verdict}
 use Rattle.sk_when.proofs.row.tell.Goals as goal

@@ -1,0 +1,22 @@
+-- The worked examples of terms, by computation.
+use Rattle.std.proofs.Common.{refl}
+use Rattle.std.specs.Fmt.{digits}
+use Rattle.sk_terms.specs.WorkedTerms.{TermsWork}
+
+pub terms_work : TermsWork
+unfolding digits
+terms_work = record {
+  clone = refl;
+  clone_of_another = refl;
+  both_halves = refl;
+  one_half = refl;
+  at_the_border = refl;
+  behind_the_border = refl;
+  even = refl;
+  clone_text = refl;
+  whole_text = refl;
+  border_text = refl;
+  odd_text = refl;
+  range_text = refl;
+  other_text = refl;
+}

@@ -1,0 +1,23 @@
+-- Trees of terms, and what they tell of a call.
+use Rattle.std.specs.Prelude.{ℕ, ◌≡◌, if◌then◌else◌, box_value, Option, Some, None}
+use Rattle.sk_insn.specs.declared.record.Record.{Record}
+use Rattle.sk_conditions.specs.declared.tree.Tree.{Tree}
+use Rattle.sk_conditions.specs.Conditions.{Agrees, told}
+use Rattle.sk_terms.specs.declared.decision.Branching.{Branching}
+use Rattle.sk_terms.specs.declared.decision.Decision.{Decision}
+use Rattle.sk_terms.specs.declared.decision.Decision.TheVariants.{Is, Untold, Ask'}
+use Rattle.sk_terms.specs.Terms.{holds_term}
+
+-- the value that a tree of terms tells of a call, if it tells one
+abbrev pub decided : Decision → Record → Option ℕ
+decided (Is value) call = Some value
+decided Untold call = None
+decided (Ask' term p held q failed) call = if holds_term term call then decided held call else decided failed call
+
+-- so does one that begins with a term
+abbrev pub decided_branching : Branching → Record → Option ℕ
+decided_branching it call = if holds_term it.term call then decided (box_value it.held) call else decided (box_value it.failed) call
+
+-- what a tree of tests tells rightly, this one does not tell otherwise
+abbrev pub DecidesAs : Decision → Tree → Type 0
+DecidesAs decision tree = (call : Record) (value : ℕ) → Agrees (told tree call) value → Agrees (decided decision call) value

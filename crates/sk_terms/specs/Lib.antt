@@ -1,0 +1,6 @@
+pub mod Terms
+pub mod Decisions
+pub mod Lines
+pub mod Expressions
+pub mod Text
+pub mod WorkedTerms

@@ -1,0 +1,39 @@
+-- Worked examples of terms: clone(2)'s flags as docker's filter tests them, 64 bits at once, a masked number, and a bound of the
+-- instruction pointer.
+use Rattle.std.specs.Prelude.{◌≡◌, ◌∷◌, [], true, false, codes}
+use Rattle.sk_insn.specs.declared.record.Record.{Record}
+use Rattle.sk_terms.specs.declared.term.Register.TheVariants.{Number, Pointer, Argument}
+use Rattle.sk_terms.specs.declared.term.Term.{Term}
+use Rattle.sk_terms.specs.Terms.{holds_term}
+use Rattle.sk_terms.specs.Text.{term_text}
+
+-- a call with 0x100000002 in its first argument, from 2 ^ 33 in memory
+abbrev pub worked_call : Record
+worked_call = record { nr = 56; ip = 0x200000000; args = 0x100000002 ∷ 0x10000000 ∷ 0 ∷ 0 ∷ 0 ∷ 0 ∷ [] }
+
+abbrev pub no_namespaces : Term
+no_namespaces = record { register = Argument 0; mask = 0x7e020000; first = 0; last = 0; inside = true }
+
+abbrev pub whole : Term
+whole = record { register = Argument 0; mask = 0xffffffffffffffff; first = 0x100000002; last = 0x100000002; inside = true }
+
+abbrev pub from_on : Term
+from_on = record { register = Pointer; mask = 0xffffffffffffffff; first = 0x200000000; last = 0xffffffffffffffff; inside = true }
+
+abbrev pub odd : Term
+odd = record { register = Number; mask = 1; first = 0; last = 0; inside = false }
+
+pub record TermsWork : Type 0 where
+  pub clone : holds_term no_namespaces worked_call ≡ true
+  pub clone_of_another : holds_term (record no_namespaces { register = Argument 1; mask = 0x10000000 }) worked_call ≡ false
+  pub both_halves : holds_term whole worked_call ≡ true
+  pub one_half : holds_term (record whole { first = 2; last = 2 }) worked_call ≡ false
+  pub at_the_border : holds_term from_on worked_call ≡ true
+  pub behind_the_border : holds_term (record from_on { first = 0x200000001 }) worked_call ≡ false
+  pub even : holds_term odd worked_call ≡ false
+  pub clone_text : term_text no_namespaces ≡ codes "(args[0] & 0x7e020000) == 0"
+  pub whole_text : term_text whole ≡ codes "args[0] == 0x100000002"
+  pub border_text : term_text from_on ≡ codes "ip >= 0x200000000"
+  pub odd_text : term_text odd ≡ codes "(nr & 0x1) != 0"
+  pub range_text : term_text (record from_on { last = 0x2000000ff }) ≡ codes "0x200000000 <= ip && ip <= 0x2000000ff"
+  pub other_text : term_text (record whole { first = 16; last = 31; inside = false }) ≡ codes "(args[0] < 0x10 || 0x1f < args[0])"

@@ -1,0 +1,13 @@
+//! Laws on expressions, and worked examples. No program calls these functions: the contract of each is the law.
+ghost use Rattle.sk_terms.specs.Expressions.{WordingsAreExact};
+ghost use Rattle.sk_terms.specs.WorkedTerms.{TermsWork};
+
+/// What is said of a term is what it takes.
+pub fn wordings_are_exact()
+    ensures law { WordingsAreExact }
+{}
+
+/// Terms of the kinds that filters test, on a call, and in C.
+pub fn worked_terms()
+    ensures terms { TermsWork }
+{}

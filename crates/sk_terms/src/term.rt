@@ -1,0 +1,79 @@
+//! A term: some bits of a register of a call, and the range in which their number lies or does not lie.
+ghost use Rattle.std.specs.Prelude.{◌≡◌, ◌↔◌, not, IsTrue};
+ghost use Rattle.sk_insn.specs.declared.record.Record.{Record};
+ghost use Rattle.sk_terms.specs.Terms.{takes, holds_term, is_equality, is_inequality};
+
+/// A register of a call, as a filter sees it.
+#[derive(Clone, Copy, Debug, PartialEq, Eq)]
+pub enum Register {
+    /// The call's number.
+    Number,
+    /// The instruction pointer.
+    Pointer,
+    /// An argument, the first one being 0.
+    Argument(u8),
+}
+
+/// Some bits of a register, whose number lies in a range or outside of it.
+#[derive(Clone, Copy, Debug, PartialEq, Eq)]
+pub struct Term {
+    pub register: Register,
+    /// The bits.
+    pub mask: u64,
+    /// The range's first number.
+    pub first: u64,
+    /// The range's last number.
+    pub last: u64,
+    /// Whether the number lies in the range.
+    pub inside: bool,
+}
+
+impl Term {
+    /// Whether it takes a number of its bits.
+    pub fn takes(&self, number: u64) -> bool
+        ensures takes { result ≡ takes self.now number }
+    {
+        let lies = self.first <= number && number <= self.last;
+        if self.inside { lies } else { !lies }
+    }
+
+    /// Whether it takes one number alone.
+    pub fn is_equality(&self) -> bool
+        ensures one { result ≡ is_equality self.now }
+    {
+        self.inside && self.first == self.last
+    }
+
+    /// Whether it takes all numbers but one.
+    pub fn is_inequality(&self) -> bool
+        ensures all_but_one { result ≡ is_inequality self.now }
+    {
+        !self.inside && self.first == self.last
+    }
+
+    /// The term that holds where this one does not.
+    pub fn negated(self) -> Term
+        ensures negated { (call : Record) → holds_term result call ≡ not (holds_term self call) }
+    {
+        if self.inside && self.first != self.last {
+            if self.first == 0 && self.last < self.mask {
+                return Term {
+                    first: self.last + 1,
+                    last: self.mask,
+                    ..self
+                };
+            }
+            if 0 < self.first && self.mask <= self.last {
+                return Term {
+                    first: 0,
+                    last: self.first - 1,
+                    ..self
+                };
+            }
+        }
+        Term {
+            inside: !self.inside,
+            ..self
+        }
+    }
+}

@@ -1,5 +1,0 @@
-use Rattle.sk_when.proofs.WorkedTerms.{terms_work}
-use Rattle.sk_when.proofs.laws.worked_terms.Goals as goal
-
-pub returns : goal.returns
-returns c = record { terms = terms_work }

@@ -1,6 +1,0 @@
-use Rattle.std.proofs.Common.{◌≡◌, ◌++◌, take, codes, flat_map, string_bytes}
-use Rattle.sk_when.specs.Text.{term_text}
-use Rattle.sk_when.proofs.text.push_other_terms.Given as goal
-
-abbrev pub invariant-loop-term : goal.invariant-loop-term
-invariant-loop-term l = string_bytes l.text ≡ string_bytes l.initial.text ++ flat_map (λ other. codes " && " ++ term_text other) (take l.term-index l.terms)
