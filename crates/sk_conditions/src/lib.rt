@@ -3,6 +3,7 @@
 
 mod budget;
 mod chains;
+mod differences;
 mod explore;
 mod follow;
 mod join;
@@ -19,6 +20,7 @@ mod witness;
 
 pub use budget::{Budget, MOST_OF_A_ROW, MOST_STEPS};
 pub use chains::chain_tree;
+pub use differences::{Differences, Verdicts, differ};
 pub use explore::program_tree;
 pub use numbers::Numbers;
 pub use standing::{Comparing, Found, Relation, compare};

@@ -133,8 +133,8 @@ fn shown(chains: Comparing<'_>, call: Record, budget: &mut Budget) -> Found
     Found::Apart(call)
 }
 
-// Whether two verdicts stand so to each other.
-fn stands(relation: Relation, old: u32, new: u32) -> bool
+/// Whether two verdicts stand so to each other.
+pub fn stands(relation: Relation, old: u32, new: u32) -> bool
     ensures stands { result ≡ relates relation old new }
 {
     match relation {
