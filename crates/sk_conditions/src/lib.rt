@@ -23,6 +23,6 @@ pub use chains::chain_tree;
 pub use differences::{Differences, Verdicts, differ};
 pub use explore::program_tree;
 pub use numbers::Numbers;
-pub use standing::{Comparing, Found, Relation, compare};
+pub use standing::{Comparing, Found, Relation, compare, stands};
 pub use test::Test;
 pub use tree::Tree;
