@@ -11,7 +11,7 @@ use Rattle.sk_terms.specs.declared.joining.Joined.{Joined}
 use Rattle.sk_terms.proofs.Masks.{one_number}
 use Rattle.sk_terms.proofs.Meeting.{swapped}
 
-and_or : (r m n : ℕ) → bit_and r (bit_or m n) ≡ bit_or (bit_and r m) (bit_and r n)
+pub and_or : (r m n : ℕ) → bit_and r (bit_or m n) ≡ bit_or (bit_and r m) (bit_and r n)
 and_or r m n =
     same_from_bits (bit_and r (bit_or m n)) (bit_or (bit_and r m) (bit_and r n)) (λ i.
     let a = bit_at_and r (bit_or m n) i in
@@ -161,3 +161,8 @@ and_true false = refl
 pub and_false : (a : Bool) → (a && false) ≡ false
 and_false true = refl
 and_false false = refl
+
+pub or_from_neither : (a b : Bool) → false ≡ (not a && not b) → (a || b) ≡ true
+or_from_neither true b e = refl
+or_from_neither false true e = refl
+or_from_neither false false e = e

@@ -1,7 +1,8 @@
 -- Lines of terms, and what they tell of a call.
 use Rattle.std.specs.Prelude.{ℕ, ◌==◌, Bool, true, false, if◌then◌else◌, List, [], ◌∷◌, map, filter, Option, Some, None}
-use Rattle.std.specs.List.{list_all}
+use Rattle.std.specs.List.{list_all, list_any}
 use Rattle.sk_insn.specs.declared.record.Record.{Record}
+use Rattle.sk_terms.specs.declared.choices.Choice.{Choice}
 use Rattle.sk_terms.specs.declared.clause.Clause.{Clause}
 use Rattle.sk_terms.specs.declared.clause.Clause.TheVariants.{Never, All}
 use Rattle.sk_terms.specs.declared.lines.LeftOut.{LeftOut}
@@ -18,14 +19,16 @@ abbrev pub meets_clause : Clause → Record → Bool
 meets_clause Never call = false
 meets_clause (All terms) call = meets_all terms.items call
 
--- no term stands for one that no call meets
-abbrev pub holds_if_any : Option Term → Record → Bool
-holds_if_any None call = false
-holds_if_any (Some term) call = holds_term term call
+-- one of the terms holds
+abbrev pub holds_choice : Choice → Record → Bool
+holds_choice choice call = list_any (λ term. holds_term term call) choice.terms.items
 
--- a call meets the condition of a line
+abbrev pub meets_choices : List Choice → Record → Bool
+meets_choices choices call = list_all (λ choice. holds_choice choice call) choices
+
+-- a call meets the condition of a line: of each choice one of the terms holds
 abbrev pub meets_line : Line → Record → Bool
-meets_line line call = meets_all line.terms.items call
+meets_line line call = meets_choices line.choices.items call
 
 -- the values of the lines that a call meets
 abbrev pub told_by : List Line → Record → List (Option ℕ)
@@ -41,3 +44,7 @@ same_end value other = false
 abbrev pub shown : LeftOut → Option ℕ → List (Option ℕ)
 shown Nothing value = value ∷ []
 shown (End otherwise) value = if same_end value otherwise then [] else value ∷ []
+
+-- the value of a line that a call meets
+abbrev pub told_alone : Line → Record → List (Option ℕ)
+told_alone line call = if meets_line line call then line.value ∷ [] else []

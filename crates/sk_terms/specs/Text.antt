@@ -1,6 +1,7 @@
 -- Conditions as expressions of C.
 use Rattle.std.specs.Prelude.{ℕ, ◌==◌, ◌++◌, if◌then◌else◌, List, [], ◌∷◌, codes, flat_map, false}
 use Rattle.std.specs.Fmt.{decimal, digits}
+use Rattle.sk_terms.specs.declared.choices.Choice.{Choice}
 use Rattle.sk_terms.specs.declared.lines.Line.{Line}
 use Rattle.sk_terms.specs.declared.term.Register.{Register}
 use Rattle.sk_terms.specs.declared.term.Register.TheVariants.{Number, Pointer, Argument}
@@ -38,11 +39,33 @@ wording_text bits (Outside first last) =
 abbrev pub term_text : Term → List ℕ
 term_text term = wording_text (bits_text term.register term.mask) (wording_of term)
 
--- all terms hold; no term always does
+-- a term that stands beside others: what has `&&` in it is in brackets
+abbrev pub beside_text : Wording → List ℕ → List ℕ
+beside_text (Within first last) text = codes "(" ++ (text ++ codes ")")
+beside_text wording text = text
+
+abbrev pub other_text : Term → List ℕ
+other_text term = beside_text (wording_of term) (term_text term)
+
+-- one of the terms holds; of none at all none does
 abbrev pub terms_text : List Term → List ℕ
-terms_text [] = codes "1"
-terms_text (term ∷ terms) = term_text term ++ flat_map (λ other. codes " && " ++ term_text other) terms
+terms_text [] = codes "0"
+terms_text (term ∷ []) = term_text term
+terms_text (term ∷ other ∷ terms) = other_text term ++ flat_map (λ term. codes " || " ++ other_text term) (other ∷ terms)
+
+-- the same beside other conditions
+abbrev pub choice_text : List Term → List ℕ
+choice_text [] = codes "0"
+choice_text (term ∷ []) = term_text term
+choice_text (term ∷ other ∷ terms) = codes "(" ++ (terms_text (term ∷ other ∷ terms) ++ codes ")")
+
+-- of each choice one of the terms holds; where there is no choice, always
+abbrev pub choices_text : List Choice → List ℕ
+choices_text [] = codes "1"
+choices_text (choice ∷ []) = terms_text choice.terms.items
+choices_text (choice ∷ other ∷ choices) =
+    choice_text choice.terms.items ++ flat_map (λ choice. codes " && " ++ choice_text choice.terms.items) (other ∷ choices)
 
 -- the condition of a line
 abbrev pub condition_text : Line → List ℕ
-condition_text line = terms_text line.terms.items
+condition_text line = choices_text line.choices.items

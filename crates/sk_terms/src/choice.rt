@@ -1,5 +1,6 @@
 //! Which verdict gets the line `else`: the one whose lines are the longest to read. Whichever it is, the lines are exact.
 use crate::lines::Line;
+use crate::term::Term;
 use sk_chain::sooner;
 use std::alloc::{AllocError, Global};
 
@@ -44,7 +45,15 @@ fn add(weights: &mut Vec<Weight>, line: &Line) -> Result<(), AllocError> {
 // A term with a range that it leaves out reads hard.
 fn weight_of(line: &Line) -> u64 {
     let mut weight = 1u64;
-    for term in &line.terms {
+    for choice in &line.choices {
+        weight = weight.saturating_add(weight_of_terms(&choice.terms));
+    }
+    weight
+}
+
+fn weight_of_terms(terms: &[Term]) -> u64 {
+    let mut weight = 0u64;
+    for term in terms {
         let more = if term.inside { 1 } else { 8 };
         weight = weight.saturating_add(more);
     }

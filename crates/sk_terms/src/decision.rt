@@ -29,6 +29,15 @@ struct Branching {
     failed: Box<Decision>,
 }
 
+impl Branching {
+    /// The same as a tree.
+    fn whole(self) -> Decision
+        ensures same { (call : Record) → decided result call ≡ decided_branching self call }
+    {
+        Decision::Ask(self.term, self.held, self.failed)
+    }
+}
+
 /// A tree of tests as one of terms.
 pub fn decide(alloc: Global, tree: &Tree) -> Result<Decision, AllocError>
     ensures decides { IfOk result (λ decision. DecidesAs decision tree.now) }
@@ -89,12 +98,12 @@ fn asked_then(
             return fork(alloc, joined, held, Box::into_inner(failed.failed));
         }
     }
-    asked_first(
-        alloc,
-        term,
-        held,
-        Decision::Ask(failed.term, failed.held, failed.failed),
-    )
+    if same(&held, &failed.failed) {
+        if let Some(joined) = either(term, failed.term.negated()) {
+            return fork(alloc, joined, held, Box::into_inner(failed.held));
+        }
+    }
+    asked_first(alloc, term, held, failed.whole())
 }
 
 /// The same, where the first tree may begin with a term.
@@ -133,12 +142,12 @@ fn asked_both(
             return fork(alloc, joined, Box::into_inner(held.held), failed);
         }
     }
-    fork(
-        alloc,
-        term,
-        Decision::Ask(held.term, held.held, held.failed),
-        failed,
-    )
+    if same(&failed, &held.held) {
+        if let Some(joined) = as_one(term, held.term.negated()) {
+            return fork(alloc, joined, Box::into_inner(held.failed), failed);
+        }
+    }
+    fork(alloc, term, held.whole(), failed)
 }
 
 // A term of two trees.

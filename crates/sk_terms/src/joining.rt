@@ -1,8 +1,10 @@
 //! Two terms that are one term together.
-ghost use Rattle.std.specs.Prelude.{◌≡◌, ◌&&◌, ◌||◌, true, bit_and, IfSome};
+ghost use Rattle.std.specs.Prelude.{◌≡◌, ◌&&◌, ◌||◌, true, bit_and, IfSome, IsTrue};
 ghost use Rattle.sk_insn.specs.declared.record.Record.{Record};
 ghost use Rattle.sk_terms.specs.Terms.{holds_term, holds_joined, is_equality, is_inequality};
 
+use crate::blocks::with_halves;
+use crate::ranges::on_same_bits;
 use crate::term::Term;
 
 /// What two terms come to.
@@ -21,6 +23,23 @@ pub fn both(one: Term, other: Term) -> Option<Joined>
     if one.register != other.register {
         return None;
     }
+    if one.mask == other.mask {
+        return on_same_bits(one, other);
+    }
+    match on_other_bits(one, other) {
+        None => match with_halves(one, other) {
+            None => with_halves(other, one),
+            joined => joined,
+        },
+        joined => joined,
+    }
+}
+
+/// The same of two terms on bits that differ.
+fn on_other_bits(one: Term, other: Term) -> Option<Joined>
+    requires register { one.register ≡ other.register }
+    ensures both { IfSome result (λ it. (call : Record) → holds_joined it call ≡ (holds_term one call && holds_term other call)) }
+{
     match told_by(one, other) {
         None => match told_by(other, one) {
             None => join(one, other),
@@ -37,6 +56,16 @@ pub fn as_one(one: Term, other: Term) -> Option<Term>
     match both(one, other) {
         Some(Joined::One(joined)) => Some(joined),
         _ => None,
+    }
+}
+
+/// Whether one of two terms holds on every call, if that is seen.
+pub fn are_all(one: Term, other: Term) -> bool
+    ensures all { IsTrue result → (call : Record) → (holds_term one call || holds_term other call) ≡ true }
+{
+    match both(one.negated(), other.negated()) {
+        Some(Joined::Never) => true,
+        _ => false,
     }
 }
 

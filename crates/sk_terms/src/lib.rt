@@ -1,20 +1,27 @@
 //! Terms on the registers of a call: trees of them, the lines of a tree, and conditions in expressions of C.
 #![tactic(auto)]
 
+mod blocks;
 mod choice;
+mod choices;
 mod clause;
 mod decision;
 mod joining;
 pub mod laws;
 mod lines;
 mod meaning;
+mod merging;
+mod ranges;
 mod term;
 mod text;
+mod width;
 mod wording;
 
 pub use choice::heaviest;
+pub use choices::Choice;
 pub use clause::{Clause, with_term};
 pub use decision::{Decision, decide};
 pub use lines::{LeftOut, Line, add_lines, lines_of};
+pub use merging::merged;
 pub use term::{Register, Term};
 pub use text::push_condition;

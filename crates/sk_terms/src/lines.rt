@@ -4,16 +4,18 @@ ghost use Rattle.sk_insn.specs.declared.record.Record.{Record};
 ghost use Rattle.sk_terms.specs.Decisions.{decided};
 ghost use Rattle.sk_terms.specs.Lines.{meets_all, meets_clause, told_by, shown, same_end};
 
-use crate::clause::{Clause, with_term};
+use crate::choices::{Choice, choices_of};
+use crate::clause::{Clause, with_other_term, with_term};
 use crate::decision::Decision;
+use crate::merging::merged;
 use crate::term::Term;
 use std::alloc::{AllocError, Global};
 
-/// A value, or none where it is not told, and the terms under which it comes.
+/// A value, or none where it is not told, and the condition under which it comes: of each choice one term holds.
 #[derive(Drop)]
 pub struct Line {
     pub value: Option<u32>,
-    pub terms: Vec<Term>,
+    pub choices: Vec<Choice>,
 }
 
 /// Which ends of a tree get no line.
@@ -25,7 +27,7 @@ pub enum LeftOut {
     End(Option<u32>),
 }
 
-/// The lines of a tree.
+/// The lines of a tree, those put together that differ in one choice.
 pub fn lines_of(
     alloc: Global,
     decision: &Decision,
@@ -36,7 +38,7 @@ pub fn lines_of(
     let mut lines = Vec::new(alloc);
     let every = Clause::All(Vec::new(alloc));
     add_lines(alloc, decision, every, left_out, &mut lines)?;
-    Ok(lines)
+    merged(alloc, lines)
 }
 
 /// Adds the lines of a tree, for the calls that meet a clause.
@@ -54,12 +56,12 @@ pub fn add_lines(
         return Ok(());
     };
     match decision {
-        Decision::Is(value) => add_end(lines, left_out, Some(*value), terms),
-        Decision::Untold => add_end(lines, left_out, None, terms),
+        Decision::Is(value) => add_end(alloc, lines, left_out, Some(*value), terms),
+        Decision::Untold => add_end(alloc, lines, left_out, None, terms),
         Decision::Ask(term, held, failed) => {
-            let yes = with_term(alloc, &terms, *term)?;
+            let yes = with_other_term(alloc, &terms, *term)?;
             add_lines(alloc, held, yes, left_out, lines)?;
-            let no = with_term(alloc, &terms, term.negated())?;
+            let no = with_term(terms, term.negated())?;
             add_lines(alloc, failed, no, left_out, lines)
         }
     }
@@ -67,6 +69,7 @@ pub fn add_lines(
 
 /// Adds the line of one end.
 fn add_end(
+    alloc: Global,
     lines: &mut Vec<Line>,
     left_out: LeftOut,
     value: Option<u32>,
@@ -78,7 +81,8 @@ fn add_end(
     if is_left_out(left_out, value) {
         return Ok(());
     }
-    lines.push(Line { value, terms })?;
+    let choices = choices_of(alloc, &terms)?;
+    lines.push(Line { value, choices })?;
     Ok(())
 }
 

@@ -1,5 +1,5 @@
 //! A term: some bits of a register of a call, and the range in which their number lies or does not lie.
-ghost use Rattle.std.specs.Prelude.{◌≡◌, ◌↔◌, not, IsTrue};
+ghost use Rattle.std.specs.Prelude.{◌≡◌, ◌^◌, ℕ, not, true, IsTrue};
 ghost use Rattle.sk_insn.specs.declared.record.Record.{Record};
 ghost use Rattle.sk_terms.specs.Terms.{takes, holds_term, is_equality, is_inequality};
 
@@ -12,6 +12,17 @@ pub enum Register {
     Pointer,
     /// An argument, the first one being 0.
     Argument(u8),
+}
+
+impl Register {
+    /// Where its terms stand in a condition.
+    fn rank(self) -> u16 {
+        match self {
+            Register::Number => 0,
+            Register::Pointer => 1,
+            Register::Argument(i) => u16::from(i) + 2,
+        }
+    }
 }
 
 /// Some bits of a register, whose number lies in a range or outside of it.
@@ -55,25 +66,66 @@ impl Term {
     pub fn negated(self) -> Term
         ensures negated { (call : Record) → holds_term result call ≡ not (holds_term self call) }
     {
-        if self.inside && self.first != self.last {
-            if self.first == 0 && self.last < self.mask {
-                return Term {
-                    first: self.last + 1,
-                    last: self.mask,
-                    ..self
-                };
-            }
-            if 0 < self.first && self.mask <= self.last {
-                return Term {
-                    first: 0,
-                    last: self.first - 1,
-                    ..self
-                };
-            }
+        if !self.inside {
+            return Term {
+                inside: true,
+                ..self
+            };
+        }
+        if self.first == self.last {
+            return self.unequal();
+        }
+        if self.first == 0 && self.last < self.mask {
+            return Term {
+                first: self.last + 1,
+                last: self.mask,
+                ..self
+            };
+        }
+        if 0 < self.first && self.mask <= self.last {
+            return Term {
+                first: 0,
+                last: self.first - 1,
+                ..self
+            };
         }
         Term {
-            inside: !self.inside,
+            inside: false,
             ..self
         }
     }
+
+    /// Whether it stands before another one in a condition: by its register, its bits, and its first number.
+    pub fn precedes(&self, other: &Term) -> bool {
+        let mine = (self.register.rank(), u64::MAX - self.mask, self.first);
+        mine < (other.register.rank(), u64::MAX - other.mask, other.first)
+    }
+
+    // All numbers but one; of one bit this is one number again.
+    fn unequal(self) -> Term
+        requires inside { self.inside ≡ true }
+        requires one { self.first ≡ self.last }
+        ensures negated { (call : Record) → holds_term result call ≡ not (holds_term self call) }
+    {
+        if is_one_bit(self.mask) && (self.first == 0 || self.first == self.mask) {
+            let other = self.mask - self.first;
+            return Term {
+                first: other,
+                last: other,
+                ..self
+            };
+        }
+        Term {
+            inside: false,
+            ..self
+        }
+    }
+}
+
+// Whether a number has one bit alone.
+fn is_one_bit(mask: u64) -> bool
+    ensures one { IsTrue result → (place : ℕ) × (mask ≡ 2 ^ place) }
+{
+    let place = mask.trailing_zeros();
+    place < 64 && 1u64 << place == mask
 }

@@ -1,8 +1,9 @@
 //! Conditions in expressions of C.
 ghost use Rattle.std.specs.Prelude.{◌≡◌, ◌++◌, OnOk, string_bytes, codes, flat_map};
 ghost use Rattle.sk_terms.specs.Expressions.{all_bits};
-ghost use Rattle.sk_terms.specs.Text.{number_text, register_text, bits_text, wording_text, term_text, terms_text, condition_text};
+ghost use Rattle.sk_terms.specs.Text.{number_text, register_text, bits_text, wording_text, term_text, other_text, terms_text, choice_text, condition_text};
 
+use crate::choices::Choice;
 use crate::lines::Line;
 use crate::term::{Register, Term};
 use crate::wording::{Wording, worded};
@@ -13,22 +14,64 @@ use std::fmt::Write;
 pub fn push_condition(text: &mut String, line: &Line) -> Result<(), AllocError>
     ensures text { OnOk result (string_bytes text.new ≡ string_bytes text.old ++ condition_text line.now) }
 {
-    push_terms(text, &line.terms)
+    let Some((first, others)) = line.choices.split_first() else {
+        return text.push_str("1");
+    };
+    if others.is_empty() {
+        return push_terms(text, &first.terms);
+    }
+    push_choice(text, &first.terms)?;
+    push_other_choices(text, others)
+}
+
+fn push_other_choices(text: &mut String, choices: &[Choice]) -> Result<(), AllocError>
+    ensures text { OnOk result (string_bytes text.new ≡
+        string_bytes text.old ++ flat_map (λ choice. codes " && " ++ choice_text choice.terms.items) choices.now) }
+{
+    for choice in choices {
+        push_other_choice(text, &choice.terms)?;
+    }
+    Ok(())
+}
+
+fn push_other_choice(text: &mut String, terms: &[Term]) -> Result<(), AllocError>
+    ensures text { OnOk result (string_bytes text.new ≡ string_bytes text.old ++ (codes " && " ++ choice_text terms.now)) }
+{
+    text.push_str(" && ")?;
+    push_choice(text, terms)
+}
+
+// A choice that stands beside others.
+fn push_choice(text: &mut String, terms: &[Term]) -> Result<(), AllocError>
+    ensures text { OnOk result (string_bytes text.new ≡ string_bytes text.old ++ choice_text terms.now) }
+{
+    match terms {
+        [] => text.push_str("0"),
+        [term] => push_term(text, *term),
+        _ => {
+            text.push_str("(")?;
+            push_terms(text, terms)?;
+            text.push_str(")")
+        }
+    }
 }
 
 fn push_terms(text: &mut String, terms: &[Term]) -> Result<(), AllocError>
     ensures text { OnOk result (string_bytes text.new ≡ string_bytes text.old ++ terms_text terms.now) }
 {
     let Some((first, others)) = terms.split_first() else {
-        return text.push_str("1");
+        return text.push_str("0");
     };
-    push_term(text, *first)?;
+    if others.is_empty() {
+        return push_term(text, *first);
+    }
+    push_beside(text, *first)?;
     push_other_terms(text, others)
 }
 
 fn push_other_terms(text: &mut String, terms: &[Term]) -> Result<(), AllocError>
     ensures text { OnOk result (string_bytes text.new ≡
-        string_bytes text.old ++ flat_map (λ other. codes " && " ++ term_text other) terms.now) }
+        string_bytes text.old ++ flat_map (λ term. codes " || " ++ other_text term) terms.now) }
 {
     for term in terms {
         push_other_term(text, *term)?;
@@ -37,10 +80,24 @@ fn push_other_terms(text: &mut String, terms: &[Term]) -> Result<(), AllocError>
 }
 
 fn push_other_term(text: &mut String, term: Term) -> Result<(), AllocError>
-    ensures text { OnOk result (string_bytes text.new ≡ string_bytes text.old ++ (codes " && " ++ term_text term)) }
+    ensures text { OnOk result (string_bytes text.new ≡ string_bytes text.old ++ (codes " || " ++ other_text term)) }
 {
-    text.push_str(" && ")?;
-    push_term(text, term)
+    text.push_str(" || ")?;
+    push_beside(text, term)
+}
+
+// A term that stands beside others.
+fn push_beside(text: &mut String, term: Term) -> Result<(), AllocError>
+    ensures text { OnOk result (string_bytes text.new ≡ string_bytes text.old ++ other_text term) }
+{
+    match worded(term) {
+        Wording::Within(_, _) => {
+            text.push_str("(")?;
+            push_term(text, term)?;
+            text.push_str(")")
+        }
+        _ => push_term(text, term),
+    }
 }
 
 fn push_term(text: &mut String, term: Term) -> Result<(), AllocError>
@@ -125,7 +182,8 @@ fn push_bits(text: &mut String, register: Register, mask: u64) -> Result<(), All
     text.push_str(")")
 }
 
-fn all_bits(register: Register) -> u64
+/// All bits of a register.
+pub fn all_bits(register: Register) -> u64
     ensures all { result ≡ all_bits register }
 {
     match register {

@@ -1,7 +1,7 @@
 use Rattle.sk_terms.proofs.Together.{turned}
 use Rattle.sk_terms.proofs.joining.both.Goals as goal
 
-pub returns-in_default-told_by : goal.returns-in_default-told_by
-returns-in_default-told_by c = record {
-  both = turned c.args.one c.args.other c.told_by-in-None.result c.told_by-in-None.ensures.both;
+pub returns-in-None-with_halves : goal.returns-in-None-with_halves
+returns-in-None-with_halves c = record {
+  both = turned c.args.one c.args.other c.with_halves-in-None-with_halves.result c.with_halves-in-None-with_halves.ensures.both;
 }

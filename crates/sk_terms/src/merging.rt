@@ -1,0 +1,148 @@
+//! Lines of one value that differ in one choice, told as one line.
+ghost use Rattle.std.specs.Prelude.{◌≡◌, ◌≤◌, ◌<◌, ◌+◌, ◌++◌, ◌||◌, length, take, slice_index_or, true, IfOk, OnOk, IfSome, IsTrue};
+ghost use Rattle.std.specs.List.{remove, list_any};
+ghost use Rattle.sk_insn.specs.declared.record.Record.{Record};
+ghost use Rattle.sk_terms.specs.Terms.{holds_term};
+ghost use Rattle.sk_terms.specs.Lines.{holds_choice, meets_choices, meets_line, told_by, told_alone};
+ghost use Rattle.sk_terms.specs.Merging.{DifferIn};
+
+use crate::choices::{Choice, with_terms};
+use crate::joining::are_all;
+use crate::lines::Line;
+use crate::term::Term;
+use crate::width::is_short_with;
+use std::alloc::{AllocError, Global};
+
+/// How many lines back one is looked for that differs in one choice.
+const MOST_BACK: usize = 64;
+
+/// A place in a list of lines, and the one choice in which the line there differs from another one.
+#[derive(Clone, Copy, Debug)]
+struct Partner {
+    at: usize,
+    choice: usize,
+}
+
+/// Lines of which each call meets one at most, those of one value put together that differ in one choice and stay short.
+pub fn merged(alloc: Global, lines: Vec<Line>) -> Result<Vec<Line>, AllocError>
+    ensures told { IfOk result (λ merged. (call : Record) → length (told_by lines.items call) ≤ 1 → told_by merged.items call ≡ told_by lines.items call) }
+{
+    let mut merged = Vec::with_capacity(alloc, lines.len())?;
+    for line in lines {
+        add(&mut merged, line)?;
+    }
+    Ok(merged)
+}
+
+/// Adds a line that no call meets which meets one of the others.
+fn add(lines: &mut Vec<Line>, line: Line) -> Result<(), AllocError>
+    ensures told { OnOk result ((call : Record) → length (told_by lines.old.items call ++ told_alone line call) ≤ 1
+        → told_by lines.new.items call ≡ told_by lines.old.items call ++ told_alone line call) }
+{
+    let Some(partner) = partner_of(lines, &line) else {
+        lines.push(line)?;
+        return Ok(());
+    };
+    let other = lines.remove(partner.at);
+    let both = together(other, line, partner.choice)?;
+    add(lines, both)
+}
+
+/// A line that is met where one of two is which differ in one choice.
+fn together(one: Line, other: Line, at: usize) -> Result<Line, AllocError>
+    requires differ { DifferIn one other at }
+    ensures value { IfOk result (λ both. both.value ≡ one.value) }
+    ensures met { IfOk result (λ both. (call : Record) → meets_line both call ≡ (meets_line one call || meets_line other call)) }
+{
+    let Line { value, mut choices } = one;
+    let choice = choices.remove(at);
+    if cover_all(&choice.terms, &other.choices[at].terms) {
+        return Ok(Line { value, choices });
+    }
+    let both = with_terms(choice, &other.choices[at].terms)?;
+    choices.insert(at, both)?;
+    Ok(Line { value, choices })
+}
+
+// Whether one of two terms always holds.
+fn cover_all(one: &[Term], other: &[Term]) -> bool
+    ensures all { IsTrue result → (call : Record) → (list_any (λ term. holds_term term call) one.now || list_any (λ term. holds_term term call) other.now) ≡ true }
+{
+    match (one, other) {
+        ([term], [another]) => are_all(*term, *another),
+        _ => false,
+    }
+}
+
+// A line that differs in one choice, among the last ones.
+fn partner_of(lines: &[Line], line: &Line) -> Option<Partner>
+    ensures there { IfSome result (λ partner. partner.at < length lines.now) }
+    ensures differ { IfSome result (λ partner. DifferIn (slice_index_or lines.now partner.at line.now) line.now partner.choice) }
+{
+    for at in lines.len().saturating_sub(MOST_BACK)..lines.len() {
+        if let Some(choice) = differing(&lines[at], line) {
+            return Some(Partner { at, choice });
+        }
+    }
+    None
+}
+
+// The one choice in which two lines of one value differ, where they are short together.
+fn differing(one: &Line, other: &Line) -> Option<usize>
+    ensures differ { IfSome result (λ at. DifferIn one.now other.now at) }
+{
+    if !same_value(one.value, other.value) {
+        return None;
+    }
+    let at = same_from_start(&one.choices, &other.choices);
+    if at >= one.choices.len() || at >= other.choices.len() {
+        return None;
+    }
+    if !is_short_with(one, &one.choices[at], &other.choices[at]) {
+        return None;
+    }
+    if same_choices(&one.choices[at + 1..], &other.choices[at + 1..]) {
+        Some(at)
+    } else {
+        None
+    }
+}
+
+fn same_value(one: Option<u32>, other: Option<u32>) -> bool
+    ensures same { IsTrue result → one ≡ other }
+{
+    match (one, other) {
+        (None, None) => true,
+        (Some(value), Some(another)) => value == another,
+        _ => false,
+    }
+}
+
+// How many choices are the same from the start on.
+fn same_from_start(one: &[Choice], other: &[Choice]) -> usize
+    ensures one { result ≤ length one.now }
+    ensures other { result ≤ length other.now }
+    ensures same { (call : Record) → meets_choices (take result one.now) call ≡ meets_choices (take result other.now) call }
+{
+    let mut at = 0;
+    while at < one.len() && at < other.len() && same_terms(&one[at].terms, &other[at].terms) {
+        at += 1;
+    }
+    at
+}
+
+fn same_choices(one: &[Choice], other: &[Choice]) -> bool
+    ensures same { IsTrue result → (call : Record) → meets_choices one.now call ≡ meets_choices other.now call }
+{
+    one.len() == other.len() && same_from_start(one, other) == one.len()
+}
+
+fn same_terms(one: &[Term], other: &[Term]) -> bool
+    ensures same { IsTrue result → one.now ≡ other.now }
+{
+    match (one.split_first(), other.split_first()) {
+        (None, None) => true,
+        (Some((term, left)), Some((another, rest))) => *term == *another && same_terms(left, rest),
+        _ => false,
+    }
+}
