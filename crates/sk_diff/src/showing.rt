@@ -3,13 +3,13 @@ ghost use Rattle.std.specs.Prelude.{◌≡◌, true, IfSome, IsTrue, slice_index
 ghost use Rattle.std.specs.List.{list_any};
 ghost use Rattle.sk_survey.specs.Answers.{IsCallOf};
 ghost use Rattle.sk_terms.specs.Terms.{holds_term, register_of};
-ghost use Rattle.sk_terms.specs.Lines.{meets_line};
+ghost use Rattle.sk_terms.specs.Lines.{holds_choice, meets_line};
 ghost use Rattle.sk_diff.specs.Pieces.{HasVerdicts, is_shown};
 
 use crate::piece::Part;
 use sk_conditions::{Budget, Comparing, Numbers, Verdicts};
 use sk_insn::Record;
-use sk_terms::{Line, Register, Term};
+use sk_terms::{Choice, Line, Register, Term};
 
 /// The steps that it takes to see whether a call meets a line.
 const LOOK: u64 = 64;
@@ -62,7 +62,14 @@ fn runs_so(chains: Comparing<'_>, pair: Verdicts, call: &Record) -> bool
 fn meets(line: &Line, call: &Record) -> bool
     ensures meets { result ≡ meets_line line.now call.now }
 {
-    line.terms.iter().all(|term| holds(*term, call))
+    line.choices.iter().all(|choice| holds_one(choice, call))
+}
+
+/// Whether one of the terms holds on a call.
+fn holds_one(choice: &Choice, call: &Record) -> bool
+    ensures holds { result ≡ holds_choice choice.now call.now }
+{
+    choice.terms.iter().any(|term| holds(*term, call))
 }
 
 fn holds(term: Term, call: &Record) -> bool
