@@ -10,6 +10,7 @@ use Rattle.sk_conditions.specs.declared.path.Path.{Path}
 use Rattle.sk_conditions.specs.declared.path.Path.TheVariants.{Start}
 use Rattle.sk_conditions.specs.declared.test.Test.{Test}
 use Rattle.sk_conditions.specs.declared.tree.Tree.{Tree}
+use Rattle.sk_survey.specs.Answers.{IsCallOf}
 use Rattle.sk_conditions.specs.Comparing.{IsApart, StandsAll, relates}
 use Rattle.sk_conditions.specs.Pairs.{StandsOn, ToldSo}
 use Rattle.sk_conditions.specs.Conditions.{Agrees, TellsVerdict, holds_on, told}
@@ -35,7 +36,7 @@ told_so_of_parts relation path call test old new held_old held_new failed_old fa
 -- what is found of the calls on which a test holds, or fails, on the way of other tests
 abbrev OnSide : Comparing → Tree → Tree → Path → Test → Bool → Found → Type 0
 OnSide chains old new path test answer Everywhere =
-    (call : Record) → (holds_on test call ≡ answer) × MeetsPath path call → ToldSo chains.relation old new call
+    (call : Record) → IsCallOf chains.numbers.first chains.numbers.last call → (holds_on test call ≡ answer) × MeetsPath path call → ToldSo chains.relation old new call
 OnSide chains old new path test answer (Apart call) = IsApart chains (Apart call)
 OnSide chains old new path test answer Undecided = Unit {0}
 
@@ -46,11 +47,11 @@ pub stands_by_both : (chains : Comparing) (path : Path) (test : Test) (old new h
     → OnSide chains held_old held_new path test true held → OnSide chains failed_old failed_new path test false failed
     → StandsOn chains old new path both
 stands_by_both chains path test old new held_old held_new failed_old failed_new held failed Everywhere parts all one on_held on_failed =
-    λ call meets.
+    λ call within meets.
     let both = all refl in
     told_so_of_parts chains.relation path call test old new held_old held_new failed_old failed_new (parts call).0 (parts call).1
-    (λ e. subst (OnSide chains held_old held_new path test true) both.0 on_held call (e, meets))
-    (λ e. subst (OnSide chains failed_old failed_new path test false) both.1 on_failed call (e, meets))
+    (λ e. subst (OnSide chains held_old held_new path test true) both.0 on_held call within (e, meets))
+    (λ e. subst (OnSide chains failed_old failed_new path test false) both.1 on_failed call within (e, meets))
 stands_by_both chains path test old new held_old held_new failed_old failed_new held failed (Apart call) parts all one on_held on_failed =
     elim (one call refl) [
       | inl e ↦ subst (OnSide chains held_old held_new path test true) e on_held
@@ -72,6 +73,6 @@ pub stands_all : (chains : Comparing) (old new : Tree) (found : Found)
     → StandsOn chains old new Start found → StandsAll chains found
 stands_all chains old new Everywhere of_old of_new stands =
     λ call within.
-    related chains.relation old new call (verdict_of chains.old.now call) (verdict_of chains.new.now call) (stands call tt) (of_old call within) (of_new call within)
+    related chains.relation old new call (verdict_of chains.old.now call) (verdict_of chains.new.now call) (stands call within tt) (of_old call within) (of_new call within)
 stands_all chains old new (Apart call) of_old of_new stands = stands
 stands_all chains old new Undecided of_old of_new stands = tt

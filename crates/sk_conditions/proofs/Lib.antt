@@ -1,3 +1,7 @@
+pub mod Calls
+pub mod Coming
+pub mod Solving
+pub mod Differing
 pub mod Words
 pub mod Lines
 pub mod Bits

@@ -10,6 +10,7 @@ use Rattle.sk_conditions.specs.declared.standing.Comparing.{Comparing}
 use Rattle.sk_conditions.specs.declared.standing.Found.{Found}
 use Rattle.sk_conditions.specs.declared.standing.Found.TheVariants.{Everywhere, Apart, Undecided}
 use Rattle.sk_conditions.specs.declared.standing.Relation.{Relation}
+use Rattle.sk_survey.specs.Answers.{IsCallOf}
 use Rattle.sk_conditions.specs.Comparing.{IsApart, relates}
 use Rattle.sk_conditions.specs.Conditions.{holds_on, told}
 use Rattle.sk_conditions.specs.Following.{MeetsPath}
@@ -39,8 +40,9 @@ abbrev pub ToldSo : Relation → Tree → Tree → Record → Type 0
 ToldSo relation old new call =
     (u : ℕ) × (v : ℕ) × (told old call ≡ Some u) × (told new call ≡ Some v) × (relates relation u v ≡ true)
 
--- the same of two trees, and of the calls that come out so in the tests on the way
+-- the same of two trees, and of the calls with the numbers that come out so in the tests on the way
 abbrev pub StandsOn : Comparing → Tree → Tree → Path → Found → Type 0
-StandsOn chains old new path Everywhere = (call : Record) → MeetsPath path call → ToldSo chains.relation old new call
+StandsOn chains old new path Everywhere =
+    (call : Record) → IsCallOf chains.numbers.first chains.numbers.last call → MeetsPath path call → ToldSo chains.relation old new call
 StandsOn chains old new path (Apart call) = IsApart chains (Apart call)
 StandsOn chains old new path Undecided = Unit {0}

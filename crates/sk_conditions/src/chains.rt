@@ -5,25 +5,28 @@ ghost use Rattle.sk_chain.specs.Choosing.{chosen};
 ghost use Rattle.sk_conditions.specs.Conditions.{Agrees, TellsVerdict, told};
 ghost use Rattle.sk_conditions.specs.Following.{IsFirstTold};
 
-use crate::explore::MOST_TESTS;
 use crate::join::joined;
 use crate::pair::Pair;
 use crate::path::Path;
-use crate::{Numbers, Tree, program_tree};
+use crate::{Budget, Numbers, Tree, program_tree};
 use sk_chain::Chain;
 use sk_insn::ALLOW;
 use std::alloc::{AllocError, Global};
 
-/// The verdict of the chain on the calls of some numbers.
-pub fn chain_tree(alloc: Global, chain: &Chain, numbers: Numbers) -> Result<Tree, AllocError>
+/// The verdict of the chain on the calls of some numbers. What lies beyond the budget is not told.
+pub fn chain_tree(
+    alloc: Global,
+    chain: &Chain,
+    numbers: Numbers,
+    budget: &mut Budget,
+) -> Result<Tree, AllocError>
     requires range { numbers.first ≤ numbers.last }
     ensures tells { IfOk result (TellsVerdict chain.now numbers.first numbers.last) }
 {
-    let mut left = MOST_TESTS;
     let mut newer = None;
     for program in chain.programs() {
-        let older = program_tree(alloc, program, numbers)?;
-        newer = Some(with_older(alloc, newer, older, &mut left)?);
+        let older = program_tree(alloc, program, numbers, budget)?;
+        newer = Some(with_older(alloc, newer, older, budget)?);
     }
     match newer {
         Some(tree) => Ok(tree),
@@ -36,7 +39,7 @@ fn with_older(
     alloc: Global,
     newer: Option<Tree>,
     older: Tree,
-    left: &mut u32,
+    budget: &mut Budget,
 ) -> Result<Tree, AllocError>
     ensures tells { IfOk result (λ tree. (call : Record) (first : Option ℕ) (value : ℕ) → IsFirstTold call first newer
         → Agrees (told older call) value → IsFirstTold call (chosen first value) (Some tree)) }
@@ -49,7 +52,7 @@ fn with_older(
                 other: &older,
             },
             &Path::Start,
-            left,
+            budget,
         ),
         None => Ok(older),
     }

@@ -6,20 +6,24 @@ ghost use Rattle.sk_conditions.specs.Following.{TellsFrom, StopsAt, GoesBehind};
 use crate::follow::{Held, Next, distance, follow_on};
 use crate::join::asked;
 use crate::path::Path;
-use crate::{Numbers, Test, Tree};
+use crate::{Budget, Numbers, Test, Tree};
 use sk_check::Checked;
 use sk_insn::Insn;
 use std::alloc::{AllocError, Global};
 
-/// The most tests of one tree. What lies beyond them is not told.
-pub const MOST_TESTS: u32 = 4096;
+/// The steps that a fork counts for, which takes memory.
+pub const FORK: u64 = 64;
 
-/// What the program answers to the calls of some numbers.
-pub fn program_tree(alloc: Global, program: &Checked, numbers: Numbers) -> Result<Tree, AllocError>
+/// What the program answers to the calls of some numbers. What lies beyond the budget is not told.
+pub fn program_tree(
+    alloc: Global,
+    program: &Checked,
+    numbers: Numbers,
+    budget: &mut Budget,
+) -> Result<Tree, AllocError>
     requires range { numbers.first ≤ numbers.last }
     ensures tells { IfOk result (TellsProgram program.now numbers.first numbers.last) }
 {
-    let mut left = MOST_TESTS;
     let nothing = Held::Constant(0);
     explore(
         alloc,
@@ -28,7 +32,7 @@ pub fn program_tree(alloc: Global, program: &Checked, numbers: Numbers) -> Resul
         0,
         nothing,
         &Path::Start,
-        &mut left,
+        budget,
     )
 }
 
@@ -40,13 +44,13 @@ fn explore(
     place: usize,
     a: Held,
     path: &Path,
-    left: &mut u32,
+    budget: &mut Budget,
 ) -> Result<Tree, AllocError>
     requires few { length insns.now ≤ 4096 }
     requires range { numbers.first ≤ numbers.last }
     ensures tells { IfOk result (TellsFrom insns.now numbers.first numbers.last place a path.now) }
 {
-    match next_stop(insns, numbers, place, a, path) {
+    match next_stop(insns, numbers, place, a, path, budget) {
         Stop::End(value) => Ok(Tree::Is(value)),
         Stop::Untold => Ok(Tree::Untold),
         Stop::Fork {
@@ -55,14 +59,13 @@ fn explore(
             held,
             failed,
         } => {
-            if *left == 0 {
+            if !budget.take(FORK) {
                 return Ok(Tree::Untold);
             }
-            *left -= 1;
             let yes = Path::Beyond(&*path, test, true);
-            let held = explore(alloc, insns, numbers, held, a, &yes, left)?;
+            let held = explore(alloc, insns, numbers, held, a, &yes, budget)?;
             let no = Path::Beyond(&*path, test, false);
-            let failed = explore(alloc, insns, numbers, failed, a, &no, left)?;
+            let failed = explore(alloc, insns, numbers, failed, a, &no, budget)?;
             asked(alloc, test, held, failed)
         }
     }
@@ -85,7 +88,14 @@ pub enum Stop {
 }
 
 /// Goes on from a place as long as all calls go the same way.
-fn next_stop(insns: &[Insn], numbers: Numbers, place: usize, a: Held, path: &Path) -> Stop
+fn next_stop(
+    insns: &[Insn],
+    numbers: Numbers,
+    place: usize,
+    a: Held,
+    path: &Path,
+    budget: &mut Budget,
+) -> Stop
     requires few { length insns.now ≤ 4096 }
     requires range { numbers.first ≤ numbers.last }
     ensures stops { StopsAt insns.now numbers.first numbers.last place a path.now result }
@@ -94,8 +104,11 @@ fn next_stop(insns: &[Insn], numbers: Numbers, place: usize, a: Held, path: &Pat
     let mut at = place;
     let mut held = a;
     while at < insns.len() {
+        if !budget.take(1) {
+            return Stop::Untold;
+        }
         let insn = insns[at];
-        match follow_on(held, &insn, numbers, path) {
+        match follow_on(held, &insn, numbers, path, budget) {
             Next::Skip(skip, after) => {
                 at = landing(at, skip);
                 held = after;

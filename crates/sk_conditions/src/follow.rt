@@ -9,7 +9,7 @@ ghost use Rattle.sk_survey.specs.Answers.{IsCallOf};
 ghost use Rattle.sk_conditions.specs.Following.{Describes, Leads, MeetsPath};
 
 use crate::path::Path;
-use crate::{Numbers, Test};
+use crate::{Budget, Numbers, Test};
 use sk_insn::{ARCHITECTURE, Arithmetic, Comparison, Insn, Operand, Operation, Register, decode};
 use sk_interp::holds;
 use sk_survey::decide_number;
@@ -37,13 +37,13 @@ pub enum Next {
 }
 
 /// Follows one instruction for every call with one of the numbers that comes out so in the tests on the way.
-pub fn follow_on(a: Held, insn: &Insn, numbers: Numbers, path: &Path) -> Next
+pub fn follow_on(a: Held, insn: &Insn, numbers: Numbers, path: &Path, budget: &mut Budget) -> Next
     requires range { numbers.first ≤ numbers.last }
     ensures leads { (call : Record) (s : State) → IsCallOf numbers.first numbers.last call → MeetsPath path.now call
         → Describes a call s.a → Leads result a insn.now call (effect (operation_of insn.now.code) insn.now call s) }
 {
     match follow(a, insn, numbers) {
-        Next::Fork(test) => match path.answer(test) {
+        Next::Fork(test) => match path.answer(test, budget) {
             Some(answer) => Next::Skip(distance(insn, answer), a),
             None => Next::Fork(test),
         },

@@ -5,9 +5,10 @@ ghost use Rattle.sk_chain.specs.Choosing.{chosen};
 ghost use Rattle.sk_conditions.specs.Conditions.{Agrees, told, holds_on};
 ghost use Rattle.sk_conditions.specs.Following.{MeetsPath, TellsFirst};
 
+use crate::explore::FORK;
 use crate::pair::{Pair, Parts, parts_of};
 use crate::path::Path;
-use crate::{Test, Tree};
+use crate::{Budget, Test, Tree};
 use sk_chain::sooner;
 use std::alloc::{AllocError, Global};
 
@@ -17,24 +18,26 @@ pub fn joined(
     alloc: Global,
     pair: Pair<'_>,
     path: &Path,
-    left: &mut u32,
+    budget: &mut Budget,
 ) -> Result<Tree, AllocError>
     ensures tells { IfOk result (λ tree. (call : Record) → MeetsPath path.now call → TellsFirst tree pair.entry.one.now pair.entry.other.now call) }
 {
+    if !budget.take(1) {
+        return Ok(Tree::Untold);
+    }
     match parts_of(pair) {
         Parts::Ends(newer, older) => Ok(first(newer, older)),
-        Parts::Test(test, held, failed) => match path.answer(test) {
-            Some(true) => joined(alloc, held, path, left),
-            Some(false) => joined(alloc, failed, path, left),
+        Parts::Test(test, held, failed) => match path.answer(test, budget) {
+            Some(true) => joined(alloc, held, path, budget),
+            Some(false) => joined(alloc, failed, path, budget),
             None => {
-                if *left == 0 {
+                if !budget.take(FORK) {
                     return Ok(Tree::Untold);
                 }
-                *left -= 1;
                 let yes = Path::Beyond(&*path, test, true);
-                let held = joined(alloc, held, &yes, left)?;
+                let held = joined(alloc, held, &yes, budget)?;
                 let no = Path::Beyond(&*path, test, false);
-                let failed = joined(alloc, failed, &no, left)?;
+                let failed = joined(alloc, failed, &no, budget)?;
                 asked(alloc, test, held, failed)
             }
         },

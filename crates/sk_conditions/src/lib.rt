@@ -1,7 +1,9 @@
 //! Under which conditions on the rest of a call each value comes, for every call of some numbers.
 #![tactic(auto)]
 
+mod budget;
 mod chains;
+mod differences;
 mod explore;
 mod follow;
 mod join;
@@ -9,14 +11,18 @@ pub mod laws;
 mod numbers;
 mod pair;
 mod path;
+mod solve;
+mod some_words;
 mod standing;
 mod test;
 mod tree;
 mod witness;
 
+pub use budget::{Budget, MOST_OF_A_ROW, MOST_STEPS};
 pub use chains::chain_tree;
+pub use differences::{Differences, Verdicts, differ};
 pub use explore::program_tree;
 pub use numbers::Numbers;
-pub use standing::{Comparing, Found, Relation, compare};
+pub use standing::{Comparing, Found, Relation, compare, stands};
 pub use test::Test;
 pub use tree::Tree;

@@ -5,7 +5,7 @@ ghost use Rattle.sk_interp.specs.Meaning.{holds};
 ghost use Rattle.sk_conditions.specs.Conditions.{holds_on};
 ghost use Rattle.sk_conditions.specs.Following.{MeetsPath};
 
-use crate::Test;
+use crate::{Budget, Test};
 use sk_insn::Comparison;
 use sk_interp::holds;
 
@@ -19,16 +19,21 @@ pub enum Path<'a> {
 }
 
 impl Path<'_> {
-    /// The answer of a test, where an earlier one tells it.
-    pub fn answer(&self, test: Test) -> Option<bool>
+    /// The answer of a test, where an earlier one tells it and the budget lets look so far.
+    pub fn answer(&self, test: Test, budget: &mut Budget) -> Option<bool>
         ensures told { IfSome result (λ answer. (call : Record) → MeetsPath self.now call → holds_on test call ≡ answer) }
     {
         match self {
             Path::Start => None,
-            Path::Beyond(earlier, met, answer) => match implied(*met, *answer, test) {
-                None => earlier.answer(test),
-                told => told,
-            },
+            Path::Beyond(earlier, met, answer) => {
+                if !budget.take(1) {
+                    return None;
+                }
+                match implied(*met, *answer, test) {
+                    None => earlier.answer(test, budget),
+                    told => told,
+                }
+            }
         }
     }
 }
@@ -98,34 +103,4 @@ fn excluded(met: Test, test: Test) -> Option<bool>
         return None;
     }
     Some(false)
-}
-
-impl Path<'_> {
-    /// Whether a word at a place with these bits may come out so in each test, as far as is seen; the bits of `open` may be
-    /// any.
-    pub fn leaves_open(&self, place: u8, bits: u32, open: u32) -> bool {
-        match self {
-            Path::Start => true,
-            Path::Beyond(earlier, test, answer) => {
-                (test.place != place || may_come_out(*test, *answer, bits, open))
-                    && earlier.leaves_open(place, bits, open)
-            }
-        }
-    }
-}
-
-// Whether a word with these bits, and any in place of the open ones, may come out so in a test, as far as is seen.
-fn may_come_out(test: Test, answer: bool, bits: u32, open: u32) -> bool {
-    let least = bits & test.mask;
-    let most = (bits | open) & test.mask;
-    match (test.comparison, answer) {
-        (Comparison::Equal, true) => { (least ^ test.k) & !open == 0 && test.k & !test.mask == 0 }
-        (Comparison::Equal, false) => least != test.k || most != test.k,
-        (Comparison::Greater, true) => most > test.k,
-        (Comparison::Greater, false) => least <= test.k,
-        (Comparison::GreaterOrEqual, true) => most >= test.k,
-        (Comparison::GreaterOrEqual, false) => least < test.k,
-        (Comparison::CommonBits, true) => most & test.k != 0,
-        (Comparison::CommonBits, false) => least & test.k == 0,
-    }
 }

@@ -2,18 +2,16 @@
 ghost use Rattle.std.specs.Prelude.{◌≡◌, ◌≤◌, ◌⊎◌, IfOk};
 ghost use Rattle.sk_insn.specs.declared.record.Record.{Record};
 ghost use Rattle.sk_conditions.specs.Comparing.{relates, StandsAll, IsApart};
+ghost use Rattle.sk_conditions.specs.declared.tree.Tree.{Tree};
 ghost use Rattle.sk_conditions.specs.Pairs.{StandsOn};
 
 use crate::pair::{Pair, Parts, parts_of};
 use crate::path::Path;
-use crate::witness::witness;
-use crate::{Numbers, chain_tree};
+use crate::witness::{Missing, call_on};
+use crate::{Budget, Numbers, chain_tree};
 use sk_chain::{Chain, sooner};
 use sk_insn::Record;
 use std::alloc::{AllocError, Global};
-
-/// The most tests and pairs of ends that are looked at for one range of numbers.
-const MOST_STEPS: u32 = 65536;
 
 /// How a new verdict has to stand to an old one.
 #[derive(Clone, Copy, Debug, PartialEq, Eq)]
@@ -45,43 +43,45 @@ pub struct Comparing<'a> {
 }
 
 /// Compares the verdicts of two chains on every call of the numbers. A call on which they do not stand so was run through
-/// both.
-pub fn compare(alloc: Global, chains: Comparing<'_>) -> Result<Found, AllocError>
+/// both. What lies beyond the budget is undecided.
+pub fn compare(
+    alloc: Global,
+    chains: Comparing<'_>,
+    budget: &mut Budget,
+) -> Result<Found, AllocError>
     requires range { chains.numbers.first ≤ chains.numbers.last }
     ensures stands { IfOk result (StandsAll chains.entry) }
 {
-    let old = chain_tree(alloc, chains.old, chains.numbers)?;
-    let new = chain_tree(alloc, chains.new, chains.numbers)?;
-    let mut left = MOST_STEPS;
+    let old = chain_tree(alloc, chains.old, chains.numbers, budget)?;
+    let new = chain_tree(alloc, chains.new, chains.numbers, budget)?;
     let pair = Pair {
         one: &old,
         other: &new,
     };
-    Ok(compared(chains, pair, &Path::Start, &mut left))
+    Ok(compared(chains, pair, &Path::Start, budget))
 }
 
 /// Compares what two trees tell of the calls that come out so in these tests.
-fn compared(chains: Comparing<'_>, pair: Pair<'_>, path: &Path, left: &mut u32) -> Found
+fn compared(chains: Comparing<'_>, pair: Pair<'_>, path: &Path, budget: &mut Budget) -> Found
     ensures stands { StandsOn chains.entry pair.entry.one.now pair.entry.other.now path.now result }
 {
+    if !budget.take(1) {
+        return Found::Undecided;
+    }
     match parts_of(pair) {
         Parts::Ends(Some(old), Some(new)) if stands(chains.relation, old, new) => Found::Everywhere,
-        Parts::Ends(_, _) => apart(chains, path, left),
-        Parts::Test(test, held, failed) => match path.answer(test) {
-            Some(true) => compared(chains, held, path, left),
-            Some(false) => compared(chains, failed, path, left),
+        Parts::Ends(_, _) => apart(chains, path, budget),
+        Parts::Test(test, held, failed) => match path.answer(test, budget) {
+            Some(true) => compared(chains, held, path, budget),
+            Some(false) => compared(chains, failed, path, budget),
             None => {
-                if *left == 0 {
-                    return Found::Undecided;
-                }
-                *left -= 1;
                 let yes = Path::Beyond(&*path, test, true);
-                let held = compared(chains, held, &yes, left);
+                let held = compared(chains, held, &yes, budget);
                 if let Found::Apart(call) = held {
                     return Found::Apart(call);
                 }
                 let no = Path::Beyond(&*path, test, false);
-                both(held, compared(chains, failed, &no, left))
+                both(held, compared(chains, failed, &no, budget))
             }
         },
     }
@@ -102,16 +102,25 @@ fn both(held: Found, failed: Found) -> Found
     }
 }
 
-/// A call that comes out so in these tests, where one is found on which the verdicts do not stand so to each other.
-fn apart(chains: Comparing<'_>, path: &Path, left: &mut u32) -> Found
+/// A call that comes out so in these tests, where one is found on which the verdicts do not stand so to each other; or that
+/// no call comes out so.
+fn apart(chains: Comparing<'_>, path: &Path, budget: &mut Budget) -> Found
+    ensures stands { (old new : Tree) → StandsOn chains.entry old new path.now result }
+{
+    match call_on(path, chains.numbers, budget) {
+        Ok(call) => shown(chains, call, budget),
+        Err(Missing::Nowhere) => Found::Everywhere,
+        Err(Missing::Unknown) => Found::Undecided,
+    }
+}
+
+/// A call, if the verdicts do not stand so to each other on it.
+fn shown(chains: Comparing<'_>, call: Record, budget: &mut Budget) -> Found
     ensures apart { IsApart chains.entry result }
 {
-    if *left == 0 {
-        return Found::Undecided;
-    }
-    *left -= 1;
-    let call = witness(path, chains.numbers);
-    if call.nr < chains.numbers.first
+    if !budget.take(u64::from(chains.old.cost()))
+        || !budget.take(u64::from(chains.new.cost()))
+        || call.nr < chains.numbers.first
         || chains.numbers.last < call.nr
         || stands(
             chains.relation,
@@ -124,8 +133,8 @@ fn apart(chains: Comparing<'_>, path: &Path, left: &mut u32) -> Found
     Found::Apart(call)
 }
 
-// Whether two verdicts stand so to each other.
-fn stands(relation: Relation, old: u32, new: u32) -> bool
+/// Whether two verdicts stand so to each other.
+pub fn stands(relation: Relation, old: u32, new: u32) -> bool
     ensures stands { result ≡ relates relation old new }
 {
     match relation {

@@ -1,37 +1,45 @@
-//! A call that comes out in some tests as they are answered, one word after the other. Nothing is promised of it: whoever
-//! asks for it runs the filters on it.
-ghost use Rattle.std.specs.Prelude.{◌≤◌};
+//! A call that comes out in the tests on the way as they are answered, one word after the other, or that there is none. Nothing
+//! is promised of the call: whoever asks for it runs the filters on it.
+ghost use Rattle.std.specs.Prelude.{◌≡◌, ◌≤◌, IfErr};
+ghost use Rattle.sk_insn.specs.declared.record.Record.{Record};
+ghost use Rattle.sk_survey.specs.Answers.{IsCallOf};
+ghost use Rattle.sk_conditions.specs.Following.{MeetsPath};
 
 use crate::path::Path;
-use crate::{Numbers, Test};
+use crate::solve::{Sought, word_at};
+use crate::{Budget, Numbers, Test};
 use sk_insn::{Comparison, Record};
 
-/// The most beginnings of a word that are tried.
-const MOST_BEGINNINGS: u32 = 4096;
+/// Why there is no call.
+#[derive(Clone, Copy, Debug, PartialEq, Eq)]
+pub enum Missing {
+    /// None comes out so in the tests.
+    Nowhere,
+    /// None was found within the budget.
+    Unknown,
+}
 
-/// A call with one of the numbers, on the way of these tests where one was found.
-pub fn witness(path: &Path, numbers: Numbers) -> Record {
+/// A call with one of the numbers, on the way of these tests.
+pub fn call_on(path: &Path, numbers: Numbers, budget: &mut Budget) -> Result<Record, Missing>
+    ensures nowhere { IfErr result (λ missing. missing ≡ Missing.Nowhere
+        → (call : Record) → IsCallOf numbers.first numbers.last call → MeetsPath path.now call → ⊥) }
+{
     let least = Path::Beyond(
         &*path,
         on_number(Comparison::GreaterOrEqual, numbers.first),
         true,
     );
     let path = Path::Beyond(&least, on_number(Comparison::Greater, numbers.last), false);
-    Record {
-        nr: word_on(&path, 0),
-        ip: number_on(&path, 8),
-        args: [
-            number_on(&path, 16),
-            number_on(&path, 24),
-            number_on(&path, 32),
-            number_on(&path, 40),
-            number_on(&path, 48),
-            number_on(&path, 56),
-        ],
+    match words_on(&path, budget) {
+        Ok(words) => Ok(record_of(&words)),
+        Err(missing) => Err(missing),
     }
 }
 
-fn on_number(comparison: Comparison, k: u32) -> Test {
+/// A test of the call's number.
+fn on_number(comparison: Comparison, k: u32) -> Test
+    ensures test { result ≡ record { place = 0; mask = 4294967295; comparison = comparison; k = k } }
+{
     Test {
         place: 0,
         mask: u32::MAX,
@@ -40,31 +48,38 @@ fn on_number(comparison: Comparison, k: u32) -> Test {
     }
 }
 
-// The number of 64 bits whose lower half stands at a place.
-fn number_on(path: &Path, place: u8) -> u64
-    requires inside { place ≤ 56 }
+/// The words of a record, that of the architecture among them.
+fn words_on(path: &Path, budget: &mut Budget) -> Result<[u32; 16], Missing>
+    ensures nowhere { IfErr result (λ missing. missing ≡ Missing.Nowhere → (call : Record) → MeetsPath path.now call → ⊥) }
 {
-    u64::from(word_on(path, place)) | u64::from(word_on(path, place + 4)) << 32
+    let mut words = [0; 16];
+    for index in 0..16u8 {
+        match word_at(path, 4 * index, budget) {
+            Sought::Word(word) => words[usize::from(index)] = word,
+            Sought::Nothing => return Err(Missing::Nowhere),
+            Sought::Unknown => return Err(Missing::Unknown),
+        }
+    }
+    Ok(words)
 }
 
-// A word for a place, or 0 where none is found.
-fn word_on(path: &Path, place: u8) -> u32 {
-    let mut left = MOST_BEGINNINGS;
-    found_from(path, place, 0, u32::MAX, &mut left).unwrap_or(0)
+// The record of these words.
+fn record_of(words: &[u32; 16]) -> Record {
+    Record {
+        nr: words[0],
+        ip: joined(words[2], words[3]),
+        args: [
+            joined(words[4], words[5]),
+            joined(words[6], words[7]),
+            joined(words[8], words[9]),
+            joined(words[10], words[11]),
+            joined(words[12], words[13]),
+            joined(words[14], words[15]),
+        ],
+    }
 }
 
-// A word for a place, with these bits; `open` has those that are not settled, the lowest ones.
-fn found_from(path: &Path, place: u8, bits: u32, open: u32, left: &mut u32) -> Option<u32> {
-    if *left == 0 || !path.leaves_open(place, bits, open) {
-        return None;
-    }
-    if open == 0 {
-        return Some(bits);
-    }
-    *left -= 1;
-    let rest = open >> 1;
-    match found_from(path, place, bits, rest, left) {
-        None => found_from(path, place, bits | (open - rest), rest, left),
-        found => found,
-    }
+// The number of 64 bits with these halves.
+fn joined(low: u32, high: u32) -> u64 {
+    u64::from(low) | u64::from(high) << 32
 }

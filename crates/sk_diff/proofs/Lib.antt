@@ -1,3 +1,4 @@
-pub mod Compared
 pub mod Everywhere
+pub mod Joined
+pub mod PartsTold
 pub mod WorkedDiffs

@@ -7,7 +7,7 @@ use Rattle.sk_call_names.specs.Names.{name_of}
 use Rattle.sk_verdict.specs.Verdicts.{verdict_text}
 use Rattle.sk_verdict.specs.Errors.{error_named}
 use Rattle.sk_diff.specs.DiffText.{call_text, verdicts_text, head_text, argument_text}
-use Rattle.sk_diff.specs.WorkedDiffs.{CallsWork, DifferencesWork, StandingsWork}
+use Rattle.sk_diff.specs.WorkedDiffs.{CallsWork, DifferencesWork, PartsWork}
 
 pub calls_work : CallsWork
 unfolding digits call_text argument_text name_of
@@ -15,7 +15,17 @@ calls_work = record { named = refl; numbered = refl }
 
 pub differences_work : DifferencesWork
 unfolding digits action_of operation_of verdict_text error_named verdicts_text head_text name_of
-differences_work = record { verdicts = refl; stricter = refl; looser = refl; neither = refl; single = refl; several = refl }
+differences_work = record {
+  verdicts = refl;
+  unknown = refl;
+  this_one = refl;
+  stricter = refl;
+  looser = refl;
+  neither = refl;
+  told_apart = refl;
+  single = refl;
+  several = refl;
+}
 
-pub standings_work : StandingsWork
-standings_work = record { apart = refl; undecided = refl; everywhere = refl }
+pub parts_work : PartsWork
+parts_work = record { unseen = refl; seen = refl; undecided = refl; alike = refl; every = refl; others = refl }

@@ -1,20 +1,24 @@
 -- The text of a comparison: each difference with a call that shows it.
-use Rattle.std.specs.Prelude.{ℕ, ◌==◌, ◌++◌, not, Bool, false, if◌then◌else◌, List, [], codes, flat_map}
+use Rattle.std.specs.Prelude.{ℕ, ◌==◌, ◌++◌, Bool, true, false, if◌then◌else◌, List, [], Option, Some, None, codes, flat_map}
 use Rattle.std.specs.Fmt.{decimal, digits}
 use Rattle.std.specs.Option.{unwrap_or, option_map_or}
 use Rattle.hex.specs.Hex.{encode_lower}
-use Rattle.sk_insn.specs.declared.insn.Insn.{Insn}
 use Rattle.sk_insn.specs.declared.record.Record.{Record}
 use Rattle.sk_insn.specs.Record.{record_bytes}
-use Rattle.sk_chain.specs.Verdict.{verdict_of}
 use Rattle.sk_call_names.specs.Names.{name_of}
 use Rattle.sk_verdict.specs.Verdicts.{verdict_text}
+use Rattle.sk_conditions.specs.declared.differences.Verdicts.{Verdicts}
 use Rattle.sk_conditions.specs.declared.numbers.Numbers.{Numbers}
-use Rattle.sk_conditions.specs.declared.standing.Found.TheVariants.{Everywhere, Apart, Undecided}
 use Rattle.sk_conditions.specs.declared.standing.Relation.{Relation}
 use Rattle.sk_conditions.specs.declared.standing.Relation.TheVariants.{Same, AsStrict}
+use Rattle.sk_conditions.specs.Comparing.{relates}
+use Rattle.sk_terms.specs.Text.{condition_text}
+use Rattle.sk_diff.specs.declared.piece.Calls.{Calls}
+use Rattle.sk_diff.specs.declared.piece.Calls.TheVariants.{Every, Meeting, This}
+use Rattle.sk_diff.specs.declared.piece.Part.{Part}
 use Rattle.sk_diff.specs.declared.piece.Piece.{Piece}
-use Rattle.sk_diff.specs.Pieces.{stands_on}
+use Rattle.sk_diff.specs.declared.text.Kind.{Kind}
+use Rattle.sk_diff.specs.declared.text.Kind.TheVariants.{Looser, Other, Undecided}
 
 -- a number, or a range of them, and the name of a single number that has one
 abbrev pub numbers_text : ℕ → ℕ → List ℕ
@@ -43,53 +47,58 @@ unfoldable pub call_text : Record → List ℕ
 call_text call = codes "syscall(" ++ (call_name_text call.nr ++ (flat_map argument_text call.args ++ (codes ")" ++ address_text call.ip)))
 
 -- the verdict of the old chain, and that of the new one
-unfoldable pub verdicts_text : List (List Insn) → List (List Insn) → Record → List ℕ
-verdicts_text old new call = verdict_text (verdict_of old call) ++ (codes " -> " ++ verdict_text (verdict_of new call))
+unfoldable pub verdicts_text : Verdicts → List ℕ
+verdicts_text it = verdict_text it.old ++ (codes " -> " ++ verdict_text it.new)
+
+abbrev pub outcome_text : Option Verdicts → List ℕ
+outcome_text None = codes "undecided"
+outcome_text (Some it) = verdicts_text it
+
+-- under which condition of C, where it is not every call
+abbrev pub calls_text : Calls → List ℕ
+calls_text Every = []
+calls_text (Meeting line) = codes " where " ++ condition_text line
+calls_text This = codes " on this call"
 
 -- the call by its record, as `eval` takes it, and as C
-unfoldable pub shown_text : Record → List ℕ
-shown_text call = codes "  record " ++ (encode_lower (record_bytes call) ++ (codes "\n  " ++ (call_text call ++ codes "\n")))
+unfoldable pub record_text : Record → List ℕ
+record_text call = codes "  record " ++ (encode_lower (record_bytes call) ++ (codes "\n  " ++ (call_text call ++ codes "\n")))
+
+abbrev pub shown_text : Option Verdicts → Option Record → List ℕ
+shown_text verdicts (Some call) = record_text call
+shown_text (Some it) None = codes "  no call was found\n"
+shown_text None None = []
 
 -- numbers, with the name of a single one
 unfoldable pub head_text : Numbers → List ℕ
 head_text numbers = numbers_text numbers.first numbers.last ++ (codes " " ++ name_text numbers.first numbers.last)
 
--- one difference: the numbers, the verdicts, and below them the call
-unfoldable pub difference_text : List (List Insn) → List (List Insn) → Numbers → Record → List ℕ
-difference_text old new numbers call =
-    head_text numbers ++ (codes ": " ++ (verdicts_text old new call ++ (codes "\n" ++ shown_text call)))
+-- one difference: the numbers, the verdicts and their condition, and below them a call
+unfoldable pub part_text : Numbers → Part → List ℕ
+part_text numbers part =
+    head_text numbers ++ (codes ": " ++ (outcome_text part.verdicts ++ (calls_text part.calls ++ (codes "\n" ++ shown_text part.verdicts part.shown))))
 
--- the new chain does not answer the call as strictly as the old one
-abbrev pub is_looser : List (List Insn) → List (List Insn) → Record → Bool
-is_looser old new call = not (stands_on AsStrict old new call)
+-- the new chain does not answer as strictly as the old one, or it does, or it is undecided
+abbrev pub kind_of : Option Verdicts → Kind
+kind_of None = Undecided
+kind_of (Some it) = if relates AsStrict it.old it.new then Other else Looser
 
--- a piece with a difference where the new chain is looser, and one where it is not
-unfoldable pub looser_text : List (List Insn) → List (List Insn) → Piece → List ℕ
-looser_text old new piece = elim piece.found [
-  | Everywhere ↦ []
-  | Apart call ↦ if is_looser old new call then difference_text old new piece.numbers call else []
-  | Undecided ↦ []
-]
+abbrev pub is_kind : Kind → Kind → Bool
+is_kind Looser Looser = true
+is_kind Other Other = true
+is_kind Undecided Undecided = true
+is_kind one it = false
 
-unfoldable pub other_text : List (List Insn) → List (List Insn) → Piece → List ℕ
-other_text old new piece = elim piece.found [
-  | Everywhere ↦ []
-  | Apart call ↦ if is_looser old new call then [] else difference_text old new piece.numbers call
-  | Undecided ↦ []
-]
+unfoldable pub kind_text : Kind → Numbers → Part → List ℕ
+kind_text kind numbers part = if is_kind (kind_of part.verdicts) kind then part_text numbers part else []
 
--- a piece of which nothing was found
-unfoldable pub undecided_text : Piece → List ℕ
-undecided_text piece = elim piece.found [
-  | Everywhere ↦ []
-  | Apart call ↦ []
-  | Undecided ↦ head_text piece.numbers ++ codes ": undecided\n"
-]
+unfoldable pub piece_text : Kind → Piece → List ℕ
+piece_text kind piece = flat_map (kind_text kind piece.numbers) piece.parts.items
 
 -- the differences where the new chain is looser, the others, and what is undecided
-abbrev pub differences_text : List (List Insn) → List (List Insn) → List Piece → List ℕ
-differences_text old new pieces =
-    flat_map (looser_text old new) pieces ++ (flat_map (other_text old new) pieces ++ flat_map undecided_text pieces)
+abbrev pub differences_text : List Piece → List ℕ
+differences_text pieces =
+    flat_map (piece_text Looser) pieces ++ (flat_map (piece_text Other) pieces ++ flat_map (piece_text Undecided) pieces)
 
 -- what is said where they stand so on every call
 abbrev pub everywhere_text : Relation → List ℕ

@@ -9,17 +9,17 @@ use Rattle.sk_diff.specs.declared.piece.Piece.{Piece}
 use Rattle.sk_diff.specs.DiffText.{differences_text, everywhere_text}
 use Rattle.sk_diff.specs.Pieces.{AreCompared, stands_on, standing_of}
 
-abbrev pub text_of : Relation → Standing → List (List Insn) → List (List Insn) → List Piece → List ℕ
-text_of relation Everywhere old new pieces = everywhere_text relation
-text_of relation Apart old new pieces = differences_text old new pieces
-text_of relation Undecided old new pieces = differences_text old new pieces
+abbrev pub text_of : Relation → Standing → List Piece → List ℕ
+text_of relation Everywhere pieces = everywhere_text relation
+text_of relation Apart pieces = differences_text pieces
+text_of relation Undecided pieces = differences_text pieces
 
 -- pieces of all numbers were compared, and this is what is said of them
 pub record IsComparison (relation : Relation) (old new : List (List Insn)) (standing : Standing) (text : List ℕ) : Type 0 where
   pub pieces : List Piece
   pub compared : AreCompared relation old new 0 4294967296 pieces
   pub stands : standing ≡ standing_of pieces
-  pub says : text ≡ text_of relation standing old new pieces
+  pub says : text ≡ text_of relation standing pieces
 
 -- what is said to hold on every call does
 abbrev pub EverywhereIsEveryCall : Type 0

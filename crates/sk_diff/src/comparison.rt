@@ -1,14 +1,15 @@
 //! Two chains compared on every call.
 ghost use Rattle.std.specs.Prelude.{◌≡◌, IfOk, string_bytes};
 ghost use Rattle.std.specs.List.{list_any};
-ghost use Rattle.sk_diff.specs.Pieces.{is_apart, is_undecided, standing_of};
+ghost use Rattle.sk_diff.specs.Pieces.{is_apart, is_open, has_parts, standing_of};
 ghost use Rattle.sk_diff.specs.Diffs.{IsComparison, text_of};
 
-use crate::piece::Piece;
+use crate::piece::{Part, Piece};
 use crate::pieces::pieces;
+use crate::showing::any_shown;
 use crate::text::{differences_text, everywhere_text};
 use sk_chain::Chain;
-use sk_conditions::{Found, Relation};
+use sk_conditions::Relation;
 use std::alloc::{AllocError, Global};
 
 /// What was found of two chains on all calls.
@@ -18,7 +19,7 @@ pub enum Standing {
     Everywhere,
     /// On a call they do not.
     Apart,
-    /// No such call was found, and of some numbers nothing else.
+    /// No such call is shown, and there may be some.
     Undecided,
 }
 
@@ -40,7 +41,7 @@ pub fn diff(
 {
     let pieces = pieces(alloc, relation, old, new)?;
     let standing = standing_of(&pieces);
-    let text = text_of(alloc, relation, standing, old, new, &pieces)?;
+    let text = text_of(alloc, relation, standing, &pieces)?;
     Ok(Comparison { standing, text })
 }
 
@@ -48,11 +49,9 @@ fn text_of(
     alloc: Global,
     relation: Relation,
     standing: Standing,
-    old: &Chain,
-    new: &Chain,
     pieces: &[Piece],
 ) -> Result<String, AllocError>
-    ensures text { IfOk result (λ text. string_bytes text ≡ text_of relation standing old.now new.now pieces.now) }
+    ensures text { IfOk result (λ text. string_bytes text ≡ text_of relation standing pieces.now) }
 {
     match standing {
         Standing::Everywhere => {
@@ -60,7 +59,7 @@ fn text_of(
             text.push_str(everywhere_text(relation))?;
             Ok(text)
         }
-        Standing::Apart | Standing::Undecided => differences_text(alloc, old, new, pieces),
+        Standing::Apart | Standing::Undecided => differences_text(alloc, pieces),
     }
 }
 
@@ -69,7 +68,7 @@ fn standing_of(pieces: &[Piece]) -> Standing
 {
     if any_apart(pieces) {
         Standing::Apart
-    } else if any_undecided(pieces) {
+    } else if any_open(pieces) {
         Standing::Undecided
     } else {
         Standing::Everywhere
@@ -79,15 +78,17 @@ fn standing_of(pieces: &[Piece]) -> Standing
 fn any_apart(pieces: &[Piece]) -> bool
     ensures any { result ≡ list_any is_apart pieces.now }
 {
-    pieces
-        .iter()
-        .any(|piece| matches!(piece.found, Found::Apart(_)))
+    pieces.iter().any(|piece| any_shown(&piece.parts))
 }
 
-fn any_undecided(pieces: &[Piece]) -> bool
-    ensures any { result ≡ list_any is_undecided pieces.now }
+fn any_open(pieces: &[Piece]) -> bool
+    ensures any { result ≡ list_any is_open pieces.now }
 {
-    pieces
-        .iter()
-        .any(|piece| matches!(piece.found, Found::Undecided))
+    pieces.iter().any(|piece| has_parts(&piece.parts))
+}
+
+fn has_parts(parts: &[Part]) -> bool
+    ensures some { result ≡ has_parts parts.now }
+{
+    parts.split_first().is_some()
 }

@@ -1,6 +1,6 @@
 //! Laws of comparisons, and worked examples. No program calls these functions: the contract of each is the law.
 ghost use Rattle.sk_diff.specs.Diffs.{EverywhereIsEveryCall, ApartIsACall};
-ghost use Rattle.sk_diff.specs.WorkedDiffs.{CallsWork, DifferencesWork, StandingsWork};
+ghost use Rattle.sk_diff.specs.WorkedDiffs.{CallsWork, DifferencesWork, PartsWork};
 
 /// Where two chains are said to stand so on every call, they do.
 pub fn everywhere_is_every_call()
@@ -16,5 +16,5 @@ pub fn apart_is_a_call()
 pub fn worked_differences()
     ensures calls { CallsWork }
     ensures differences { DifferencesWork }
-    ensures standings { StandingsWork }
+    ensures parts { PartsWork }
 {}

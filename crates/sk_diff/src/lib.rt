@@ -4,10 +4,12 @@
 
 mod comparison;
 pub mod laws;
+mod parts;
 mod piece;
 mod pieces;
+mod showing;
 mod text;
 
 pub use comparison::{Comparison, Standing, diff};
-pub use piece::Piece;
+pub use piece::{Calls, Part, Piece};
 pub use sk_conditions::Relation;

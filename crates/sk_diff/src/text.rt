@@ -1,12 +1,12 @@
 //! The text of a comparison.
 ghost use Rattle.std.specs.Prelude.{◌≡◌, ◌++◌, IfOk, OnOk, string_bytes, codes, flat_map};
-ghost use Rattle.sk_diff.specs.DiffText.{numbers_text, name_text, call_name_text, argument_text, address_text, call_text, difference_text, differences_text, head_text, shown_text, verdicts_text, is_looser, looser_text, other_text, undecided_text, everywhere_text};
+ghost use Rattle.sk_diff.specs.DiffText.{numbers_text, name_text, call_name_text, argument_text, address_text, call_text, differences_text, piece_text, kind_text, kind_of, is_kind, part_text, outcome_text, calls_text, head_text, shown_text, record_text, everywhere_text};
 
-use crate::piece::Piece;
+use crate::piece::{Calls, Part, Piece};
 use sk_call_names::name;
-use sk_chain::{Chain, sooner};
-use sk_conditions::{Found, Numbers, Relation};
+use sk_conditions::{Numbers, Relation, Verdicts, stands};
 use sk_insn::Record;
+use sk_terms::push_condition;
 use sk_text::HexDigits;
 use sk_verdict::push_verdict;
 use std::alloc::{AllocError, Global};
@@ -22,136 +22,156 @@ pub fn everywhere_text(relation: Relation) -> &'static str
     }
 }
 
-/// The differences, those first where the new chain is looser, and behind them the numbers that are undecided.
-pub fn differences_text(
-    alloc: Global,
-    old: &Chain,
-    new: &Chain,
-    pieces: &[Piece],
-) -> Result<String, AllocError>
-    ensures text { IfOk result (λ text. string_bytes text ≡ differences_text old.now new.now pieces.now) }
+/// The kinds of differences, in the order in which they are told.
+#[derive(Clone, Copy, Debug, PartialEq, Eq)]
+pub enum Kind {
+    /// The old chain's action takes precedence over the new one's.
+    Looser,
+    /// It does not.
+    Other,
+    /// It is undecided.
+    Undecided,
+}
+
+/// The differences, those first where the new chain is looser, and behind the others what is undecided.
+pub fn differences_text(alloc: Global, pieces: &[Piece]) -> Result<String, AllocError>
+    ensures text { IfOk result (λ text. string_bytes text ≡ differences_text pieces.now) }
 {
     let mut text = String::new(alloc);
-    push_all_looser(&mut text, old, new, pieces)?;
-    push_all_others(&mut text, old, new, pieces)?;
-    push_all_undecided(&mut text, pieces)?;
+    push_all(&mut text, Kind::Looser, pieces)?;
+    push_all(&mut text, Kind::Other, pieces)?;
+    push_all(&mut text, Kind::Undecided, pieces)?;
     Ok(text)
 }
 
-fn push_all_looser(
+fn push_all(text: &mut String, kind: Kind, pieces: &[Piece]) -> Result<(), AllocError>
+    ensures text { OnOk result (string_bytes text.new ≡ string_bytes text.old ++ flat_map (piece_text kind) pieces.now) }
+{
+    for piece in pieces {
+        push_piece(text, kind, piece)?;
+    }
+    Ok(())
+}
+
+#[tactic(auto, unfolding(crate::specs::DiffText::piece_text))]
+fn push_piece(text: &mut String, kind: Kind, piece: &Piece) -> Result<(), AllocError>
+    ensures text { OnOk result (string_bytes text.new ≡ string_bytes text.old ++ piece_text kind piece.now) }
+{
+    push_parts(text, kind, piece.numbers, &piece.parts)
+}
+
+fn push_parts(
     text: &mut String,
-    old: &Chain,
-    new: &Chain,
-    pieces: &[Piece],
+    kind: Kind,
+    numbers: Numbers,
+    parts: &[Part],
 ) -> Result<(), AllocError>
-    ensures text { OnOk result (string_bytes text.new ≡ string_bytes text.old ++ flat_map (looser_text old.now new.now) pieces.now) }
+    ensures text { OnOk result (string_bytes text.new ≡ string_bytes text.old ++ flat_map (kind_text kind numbers) parts.now) }
 {
-    for piece in pieces {
-        push_looser(text, old, new, *piece)?;
+    for part in parts {
+        push_if_of(text, kind, numbers, part)?;
     }
     Ok(())
 }
 
-#[tactic(auto, unfolding(crate::specs::DiffText::looser_text))]
-fn push_looser(text: &mut String, old: &Chain, new: &Chain, piece: Piece) -> Result<(), AllocError>
-    ensures text { OnOk result (string_bytes text.new ≡ string_bytes text.old ++ looser_text old.now new.now piece) }
-{
-    match piece.found {
-        Found::Apart(call) if is_looser(old, new, call) => {
-            push_difference(text, old, new, piece.numbers, call)
-        }
-        _ => Ok(()),
-    }
-}
-
-fn push_all_others(
+#[tactic(auto, unfolding(crate::specs::DiffText::kind_text))]
+fn push_if_of(
     text: &mut String,
-    old: &Chain,
-    new: &Chain,
-    pieces: &[Piece],
+    kind: Kind,
+    numbers: Numbers,
+    part: &Part,
 ) -> Result<(), AllocError>
-    ensures text { OnOk result (string_bytes text.new ≡ string_bytes text.old ++ flat_map (other_text old.now new.now) pieces.now) }
+    ensures text { OnOk result (string_bytes text.new ≡ string_bytes text.old ++ kind_text kind numbers part.now) }
 {
-    for piece in pieces {
-        push_other(text, old, new, *piece)?;
-    }
-    Ok(())
-}
-
-#[tactic(auto, unfolding(crate::specs::DiffText::other_text))]
-fn push_other(text: &mut String, old: &Chain, new: &Chain, piece: Piece) -> Result<(), AllocError>
-    ensures text { OnOk result (string_bytes text.new ≡ string_bytes text.old ++ other_text old.now new.now piece) }
-{
-    match piece.found {
-        Found::Apart(call) if !is_looser(old, new, call) => {
-            push_difference(text, old, new, piece.numbers, call)
-        }
-        _ => Ok(()),
-    }
-}
-
-fn push_all_undecided(text: &mut String, pieces: &[Piece]) -> Result<(), AllocError>
-    ensures text { OnOk result (string_bytes text.new ≡ string_bytes text.old ++ flat_map undecided_text pieces.now) }
-{
-    for piece in pieces {
-        push_undecided(text, *piece)?;
-    }
-    Ok(())
-}
-
-#[tactic(auto, unfolding(crate::specs::DiffText::undecided_text))]
-fn push_undecided(text: &mut String, piece: Piece) -> Result<(), AllocError>
-    ensures text { OnOk result (string_bytes text.new ≡ string_bytes text.old ++ undecided_text piece) }
-{
-    if piece.found != Found::Undecided {
+    if !is_kind(kind_of(part.verdicts), kind) {
         return Ok(());
     }
-    push_head(text, piece.numbers)?;
-    text.push_str(": undecided\n")
+    push_part(text, numbers, part)
 }
 
-/// Whether the new chain answers the call by an action that the old one's takes precedence over.
-fn is_looser(old: &Chain, new: &Chain, call: Record) -> bool
-    ensures looser { result ≡ is_looser old.now new.now call }
+fn kind_of(verdicts: Option<Verdicts>) -> Kind
+    ensures kind { result ≡ kind_of verdicts }
 {
-    let verdict = new.verdict(&call);
-    sooner(Some(verdict), old.verdict(&call)) != Some(verdict)
+    match verdicts {
+        None => Kind::Undecided,
+        Some(pair) => {
+            if stands(Relation::AsStrict, pair.old, pair.new) {
+                Kind::Other
+            } else {
+                Kind::Looser
+            }
+        }
+    }
 }
 
-#[tactic(auto, unfolding(crate::specs::DiffText::difference_text))]
-fn push_difference(
-    text: &mut String,
-    old: &Chain,
-    new: &Chain,
-    numbers: Numbers,
-    call: Record,
-) -> Result<(), AllocError>
-    ensures text { OnOk result (string_bytes text.new ≡ string_bytes text.old ++ difference_text old.now new.now numbers call) }
+fn is_kind(one: Kind, other: Kind) -> bool
+    ensures same { result ≡ is_kind one other }
+{
+    match one {
+        Kind::Looser => matches!(other, Kind::Looser),
+        Kind::Other => matches!(other, Kind::Other),
+        Kind::Undecided => matches!(other, Kind::Undecided),
+    }
+}
+
+#[tactic(auto, unfolding(crate::specs::DiffText::part_text))]
+fn push_part(text: &mut String, numbers: Numbers, part: &Part) -> Result<(), AllocError>
+    ensures text { OnOk result (string_bytes text.new ≡ string_bytes text.old ++ part_text numbers part.now) }
 {
     push_head(text, numbers)?;
     text.push_str(": ")?;
-    push_verdicts(text, old, new, call)?;
+    push_outcome(text, part.verdicts)?;
+    push_calls(text, &part.calls)?;
     text.push_str("\n")?;
-    push_shown(text, call)
+    push_shown(text, part.verdicts, part.shown)
 }
 
 #[tactic(auto, unfolding(crate::specs::DiffText::verdicts_text))]
-fn push_verdicts(
-    text: &mut String,
-    old: &Chain,
-    new: &Chain,
-    call: Record,
-) -> Result<(), AllocError>
-    ensures text { OnOk result (string_bytes text.new ≡ string_bytes text.old ++ verdicts_text old.now new.now call) }
+fn push_outcome(text: &mut String, verdicts: Option<Verdicts>) -> Result<(), AllocError>
+    ensures text { OnOk result (string_bytes text.new ≡ string_bytes text.old ++ outcome_text verdicts) }
 {
-    push_verdict(text, old.verdict(&call))?;
-    text.push_str(" -> ")?;
-    push_verdict(text, new.verdict(&call))
+    match verdicts {
+        None => text.push_str("undecided"),
+        Some(pair) => {
+            push_verdict(text, pair.old)?;
+            text.push_str(" -> ")?;
+            push_verdict(text, pair.new)
+        }
+    }
 }
 
-#[tactic(auto, unfolding(crate::specs::DiffText::shown_text))]
-fn push_shown(text: &mut String, call: Record) -> Result<(), AllocError>
-    ensures text { OnOk result (string_bytes text.new ≡ string_bytes text.old ++ shown_text call) }
+fn push_calls(text: &mut String, calls: &Calls) -> Result<(), AllocError>
+    ensures text { OnOk result (string_bytes text.new ≡ string_bytes text.old ++ calls_text calls.now) }
+{
+    match calls {
+        Calls::Every => Ok(()),
+        Calls::Meeting(line) => {
+            text.push_str(" where ")?;
+            push_condition(text, line)
+        }
+        Calls::This => text.push_str(" on this call"),
+    }
+}
+
+fn push_shown(
+    text: &mut String,
+    verdicts: Option<Verdicts>,
+    shown: Option<Record>,
+) -> Result<(), AllocError>
+    ensures text { OnOk result (string_bytes text.new ≡ string_bytes text.old ++ shown_text verdicts shown) }
+{
+    match shown {
+        Some(call) => push_record(text, call),
+        None => match verdicts {
+            Some(_) => text.push_str("  no call was found\n"),
+            None => Ok(()),
+        },
+    }
+}
+
+#[tactic(auto, unfolding(crate::specs::DiffText::record_text))]
+fn push_record(text: &mut String, call: Record) -> Result<(), AllocError>
+    ensures text { OnOk result (string_bytes text.new ≡ string_bytes text.old ++ record_text call) }
 {
     let record = HexDigits::<128>::of(&call.bytes());
     write!(text, "  record {record}\n  ")?;

@@ -4,7 +4,7 @@ ghost use Rattle.std.specs.Prelude.{◌≡◌};
 use crate::filters::{chain_of, filter};
 use crate::insns::{ALLOW, EPERM, branch, jeq, ldabs, ret, with_k};
 use sk_conditions::{
-    Comparing, Found, Numbers, Relation, Test, Tree, chain_tree, compare, program_tree,
+    Budget, Comparing, Found, Numbers, Relation, Test, Tree, chain_tree, compare, program_tree,
 };
 use sk_insn::{Comparison, Insn};
 use std::alloc::Global;
@@ -71,10 +71,11 @@ fn flags_decide(rt: HostRuntime) -> Result<(), Fail> {
         comparison: Comparison::CommonBits,
         k: NAMESPACES,
     };
+    let mut budget = Budget::whole();
     let told = (
-        test_of(&program_tree(rt.alloc(), &program, only(CLONE))?),
-        test_of(&chain_tree(rt.alloc(), &chain, only(CLONE))?),
-        value_of(&chain_tree(rt.alloc(), &chain, others)?),
+        test_of(&program_tree(rt.alloc(), &program, only(CLONE), &mut budget)?),
+        test_of(&chain_tree(rt.alloc(), &chain, only(CLONE), &mut budget)?),
+        value_of(&chain_tree(rt.alloc(), &chain, others, &mut budget)?),
     );
     assert!(rt;
         told == (
@@ -93,6 +94,7 @@ fn found(
     relation: Relation,
     old: &[Insn],
     new: &[Insn],
+    mut budget: Budget,
 ) -> Result<(bool, Option<u64>), Fail> {
     let (old, new) = (chain_of(alloc, &[old])?, chain_of(alloc, &[new])?);
     let chains = Comparing {
@@ -101,7 +103,7 @@ fn found(
         new: &new,
         numbers: only(CLONE),
     };
-    Ok(match compare(alloc, chains)? {
+    Ok(match compare(alloc, chains, &mut budget)? {
         Found::Everywhere => (true, None),
         Found::Apart(call) => (false, Some(call.args[0])),
         Found::Undecided => (false, None),
@@ -114,11 +116,11 @@ fn filters_are_compared(rt: HostRuntime) -> Result<(), Fail> {
     let (few, all) = (refuses_flags(WITHOUT_CGROUPS), refuses_flags(NAMESPACES));
     let returned = [ldabs(16), with_k(0x16, 0)];
     let told = (
-        found(alloc, Relation::Same, &all, &all)?,
-        found(alloc, Relation::AsStrict, &few, &all)?,
-        found(alloc, Relation::Same, &few, &all)?,
-        found(alloc, Relation::AsStrict, &all, &few)?,
-        found(alloc, Relation::Same, &returned, &returned)?,
+        found(alloc, Relation::Same, &all, &all, Budget::whole())?,
+        found(alloc, Relation::AsStrict, &few, &all, Budget::whole())?,
+        found(alloc, Relation::Same, &few, &all, Budget::whole())?,
+        found(alloc, Relation::AsStrict, &all, &few, Budget::whole())?,
+        found(alloc, Relation::Same, &returned, &returned, Budget::whole())?,
     );
     let of_cgroups = (false, Some(0x0200_0000));
     assert!(rt;
@@ -130,5 +132,45 @@ fn filters_are_compared(rt: HostRuntime) -> Result<(), Fail> {
             (false, None)
         )
     );
+    Ok(())
+}
+
+/// A first argument above 5 that is 3 has this value, which no call gets.
+fn never(value: u32) -> [Insn; 6] {
+    [
+        ldabs(16),
+        branch(0x25, 5, 0, 2),
+        jeq(3, 0, 1),
+        ret(value),
+        ret(ALLOW),
+        ret(ALLOW),
+    ]
+}
+
+#[test]
+fn no_word_meets_both_tests(rt: HostRuntime) -> Result<(), Fail> {
+    let alloc = rt.alloc();
+    let told = found(
+        alloc,
+        Relation::Same,
+        &never(EPERM),
+        &never(ALLOW),
+        Budget::whole(),
+    )?;
+    assert!(rt; told == (true, None));
+    Ok(())
+}
+
+#[test]
+fn a_small_budget_leaves_it_undecided(rt: HostRuntime) -> Result<(), Fail> {
+    let alloc = rt.alloc();
+    let all = refuses_flags(NAMESPACES);
+    let none = (false, None);
+    let told = (
+        found(alloc, Relation::Same, &all, &all, Budget { steps: 0 })?,
+        found(alloc, Relation::Same, &all, &all, Budget { steps: 40 })?,
+        found(alloc, Relation::Same, &all, &all, Budget { steps: 400 })?,
+    );
+    assert!(rt; told == (none, none, (true, None)));
     Ok(())
 }

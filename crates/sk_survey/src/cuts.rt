@@ -14,7 +14,7 @@ const MOST_PARTS: u32 = 64;
 
 /// The numbers at which ranges begin, in rising order: the numbers that stand alone and the constants of the filters'
 /// conditional jumps, and what follows each.
-pub(crate) fn cuts(alloc: Global, chain: &Chain, alone: &[u32]) -> Result<Vec<u32>, AllocError>
+pub fn cuts(alloc: Global, chain: &Chain, alone: &[u32]) -> Result<Vec<u32>, AllocError>
     ensures alone { IfOk result (λ cuts. All (IsCutRound cuts.items) alone.now) }
     ensures rising { IfOk result (λ cuts. IsNonDecreasing cuts.items) }
 {

@@ -2,7 +2,7 @@
 #![tactic(auto)]
 
 mod answers;
-mod cuts;
+pub mod cuts;
 mod decide;
 mod follow;
 mod known;

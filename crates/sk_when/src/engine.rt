@@ -8,6 +8,7 @@ ghost use Rattle.sk_when.specs.Lines.{IsTold};
 use crate::row::{Told, tell};
 use crate::text::when_text;
 use sk_chain::Chain;
+use sk_conditions::{Budget, MOST_STEPS};
 use sk_survey_engine::{Line, Options, lines_of};
 use std::alloc::{AllocError, Global};
 
@@ -36,9 +37,12 @@ fn tell_all(alloc: Global, chain: &Chain, lines: Vec<Line>) -> Result<Vec<Told>,
     ensures rows { IfOk result (λ rows. map row_told rows.items ≡ map row_of lines.items) }
     ensures told { IfOk result (λ rows. All (IsTold chain.now) rows.items) }
 {
+    let mut budget = Budget {
+        steps: MOST_STEPS / 16,
+    };
     let mut rows = Vec::with_capacity(alloc, lines.len())?;
     for line in lines {
-        let told = tell(alloc, chain, line.row)?;
+        let told = tell(alloc, chain, line.row, &mut budget)?;
         rows.push(told)?;
     }
     Ok(rows)

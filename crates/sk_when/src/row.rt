@@ -4,7 +4,7 @@ ghost use Rattle.sk_survey.specs.Answers.{ChainAnswersAmong, answers_of};
 ghost use Rattle.sk_when.specs.Lines.{IsTold};
 
 use sk_chain::Chain;
-use sk_conditions::{Numbers, chain_tree};
+use sk_conditions::{Budget, Numbers, chain_tree};
 use sk_survey::{Answers, Row};
 use sk_terms::{LeftOut, Line, decide, heaviest, lines_of};
 use std::alloc::{AllocError, Global};
@@ -17,8 +17,8 @@ pub struct Told {
     pub otherwise: Option<u32>,
 }
 
-/// The lines of a row of the chain's survey.
-pub fn tell(alloc: Global, chain: &Chain, row: Row) -> Result<Told, AllocError>
+/// The lines of a row of the chain's survey. What lies beyond the budget is told by the survey's verdicts.
+pub fn tell(alloc: Global, chain: &Chain, row: Row, budget: &mut Budget) -> Result<Told, AllocError>
     requires range { row.first ≤ row.last }
     requires among { ChainAnswersAmong chain.now row.first row.last (answers_of row.answers) }
     ensures row { IfOk result (λ told. told.row ≡ row) }
@@ -35,7 +35,9 @@ pub fn tell(alloc: Global, chain: &Chain, row: Row) -> Result<Told, AllocError>
         first: row.first,
         last: row.last,
     };
-    let tree = chain_tree(alloc, chain, numbers)?;
+    let mut left = budget.row();
+    let tree = chain_tree(alloc, chain, numbers, &mut left)?;
+    budget.put_back(left);
     let decision = decide(alloc, &tree)?;
     let all = lines_of(alloc, &decision, LeftOut::Nothing)?;
     let otherwise = heaviest(alloc, &all)?;

@@ -8,3 +8,6 @@ returns-in_default t c = record {
       c.compared-held.result c.compared-in-None.result c.both.result
       c.in-Test.ensures.parts c.both.ensures.everywhere c.both.ensures.apart c.compared-held.ensures.stands c.compared-in-None.ensures.stands;
 }
+
+pub returns-in-Ends : goal.returns-in-Ends
+returns-in-Ends t c = record { stands = c.apart.ensures.stands c.args.pair.one.now c.args.pair.other.now }

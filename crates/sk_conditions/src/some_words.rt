@@ -1,0 +1,98 @@
+//! Words of which some bits are known.
+ghost use Rattle.std.specs.Prelude.{ℕ, ◌≡◌, ◌<◌, ◌≤◌, ◌^◌, ◌⊎◌, bit_and, false, true};
+ghost use Rattle.sk_interp.specs.Meaning.{holds};
+ghost use Rattle.sk_conditions.specs.Solving.{IsAmong};
+
+use sk_insn::Comparison;
+
+/// The words with these bits, where the bits of `free` may be any.
+#[derive(Clone, Copy, Debug)]
+pub struct SomeWords {
+    pub bits: u32,
+    pub free: u32,
+}
+
+impl SomeWords {
+    /// All words.
+    pub fn all() -> SomeWords
+        ensures all { (word : ℕ) → word < 2 ^ 32 → IsAmong result word }
+    {
+        SomeWords {
+            bits: 0,
+            free: u32::MAX,
+        }
+    }
+
+    /// What a mask leaves of them.
+    pub fn under(self, mask: u32) -> SomeWords
+        ensures under { (word : ℕ) → IsAmong self word → IsAmong result (bit_and word mask) }
+    {
+        SomeWords {
+            bits: self.bits & mask,
+            free: self.free & mask,
+        }
+    }
+
+    /// The least of them.
+    pub fn least(self) -> u32
+        ensures least { (word : ℕ) → IsAmong self word → result ≤ word }
+    {
+        self.bits & !self.free
+    }
+
+    /// The greatest of them.
+    pub fn most(self) -> u32
+        ensures most { (word : ℕ) → IsAmong self word → word ≤ result }
+    {
+        self.bits | self.free
+    }
+
+    /// Whether a word is one of them.
+    pub fn has(self, word: u32) -> bool
+        ensures has { result ≡ false → IsAmong self word → ⊥ }
+    {
+        word & !self.free == self.bits & !self.free
+    }
+
+    /// Those without the bit at a place, and those with it.
+    pub fn parted(self, place: u32) -> (SomeWords, SomeWords)
+        requires inside { place < 32 }
+        ensures either { (word : ℕ) → IsAmong self word → IsAmong result.0 word ⊎ IsAmong result.1 word }
+    {
+        let bit = 1 << place;
+        let free = self.free & !bit;
+        let without = SomeWords {
+            bits: self.bits & !bit,
+            free,
+        };
+        let with = SomeWords {
+            bits: self.bits | bit,
+            free,
+        };
+        (without, with)
+    }
+
+    /// Whether a comparison holds for some of them.
+    pub fn may_hold(self, comparison: Comparison, k: u32) -> bool
+        ensures never { result ≡ false → (word : ℕ) → IsAmong self word → holds comparison word k ≡ false }
+    {
+        match comparison {
+            Comparison::Equal => self.has(k),
+            Comparison::Greater => k < self.most(),
+            Comparison::GreaterOrEqual => k <= self.most(),
+            Comparison::CommonBits => 0 < self.under(k).most(),
+        }
+    }
+
+    /// Whether a comparison fails for some of them.
+    pub fn may_fail(self, comparison: Comparison, k: u32) -> bool
+        ensures always { result ≡ false → (word : ℕ) → IsAmong self word → holds comparison word k ≡ true }
+    {
+        match comparison {
+            Comparison::Equal => self.least() != k || self.most() != k,
+            Comparison::Greater => self.least() <= k,
+            Comparison::GreaterOrEqual => self.least() < k,
+            Comparison::CommonBits => self.under(k).least() == 0,
+        }
+    }
+}
