@@ -7,9 +7,9 @@ use Rattle.sk_engines.specs.Output.{line}
 use Rattle.sk_survey.specs.declared.rows.Row.{Row}
 use Rattle.sk_survey.specs.Answers.{answers_of}
 use Rattle.sk_survey_examples.specs.declared.example.Example.{Example}
-use Rattle.sk_survey_engine.specs.declared.line.Shown.{Shown}
-use Rattle.sk_survey_engine.specs.declared.line.Line.{Line}
-use Rattle.sk_survey_engine.specs.Text.{numbers_text, name_text, answers_text}
+use Rattle.sk_survey_lines.specs.declared.line.Shown.{Shown}
+use Rattle.sk_survey_lines.specs.declared.line.Line.{Line}
+use Rattle.sk_survey_lines.specs.Text.{numbers_text, name_text, answers_text}
 use Rattle.sk_verdict.specs.Verdicts.{verdict_text}
 
 -- one row: its numbers, the name of a single one, and the verdicts

@@ -15,7 +15,7 @@ use crate::trouble::{Answer, Trouble};
 use crate::words::Asked;
 use sk_call_text::call_named;
 use sk_chain::Chain;
-use sk_survey_engine::{Line, Options, lines_of};
+use sk_survey_lines::{Line, Options, lines_of};
 use std::alloc::{AllocError, Global};
 
 /// Answers `ask calls`.

@@ -6,6 +6,7 @@ use Rattle.hex.specs.Hex.{encode_lower}
 use Rattle.sk_insn.specs.declared.record.Record.{Record}
 use Rattle.sk_insn.specs.Record.{record_bytes}
 use Rattle.sk_call_names.specs.Names.{name_of}
+use Rattle.sk_survey_lines.specs.Text.{numbers_text, name_text}
 use Rattle.sk_verdict.specs.Verdicts.{verdict_text}
 use Rattle.sk_conditions.specs.declared.differences.Verdicts.{Verdicts}
 use Rattle.sk_conditions.specs.declared.numbers.Numbers.{Numbers}
@@ -19,13 +20,6 @@ use Rattle.sk_diff.specs.declared.piece.Part.{Part}
 use Rattle.sk_diff.specs.declared.piece.Piece.{Piece}
 use Rattle.sk_diff.specs.declared.text.Kind.{Kind}
 use Rattle.sk_diff.specs.declared.text.Kind.TheVariants.{Looser, Other, Undecided}
-
--- a number, or a range of them, and the name of a single number that has one
-abbrev pub numbers_text : ℕ → ℕ → List ℕ
-numbers_text first last = if first == last then decimal first else decimal first ++ (codes "-" ++ decimal last)
-
-abbrev pub name_text : ℕ → ℕ → List ℕ
-name_text first last = if first == last then unwrap_or (name_of first) (codes "-") else codes "-"
 
 -- a number in hexadecimal, as C has it
 abbrev pub hexadecimal : ℕ → List ℕ

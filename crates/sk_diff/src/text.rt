@@ -1,11 +1,12 @@
 //! The text of a comparison.
 ghost use Rattle.std.specs.Prelude.{◌≡◌, ◌++◌, IfOk, OnOk, string_bytes, codes, flat_map};
-ghost use Rattle.sk_diff.specs.DiffText.{numbers_text, name_text, call_name_text, argument_text, address_text, call_text, differences_text, piece_text, kind_text, kind_of, is_kind, part_text, outcome_text, calls_text, head_text, shown_text, record_text, everywhere_text};
+ghost use Rattle.sk_diff.specs.DiffText.{call_name_text, argument_text, address_text, call_text, differences_text, piece_text, kind_text, kind_of, is_kind, part_text, outcome_text, calls_text, head_text, shown_text, record_text, everywhere_text};
 
 use crate::piece::{Calls, Part, Piece};
 use sk_call_names::name;
 use sk_conditions::{Numbers, Relation, Verdicts, stands};
 use sk_insn::Record;
+use sk_survey_lines::{name_of_numbers, push_numbers};
 use sk_terms::push_condition;
 use sk_text::HexDigits;
 use sk_verdict::push_verdict;
@@ -183,32 +184,9 @@ fn push_record(text: &mut String, call: Record) -> Result<(), AllocError>
 fn push_head(text: &mut String, numbers: Numbers) -> Result<(), AllocError>
     ensures text { OnOk result (string_bytes text.new ≡ string_bytes text.old ++ head_text numbers) }
 {
-    push_numbers(text, numbers)?;
+    push_numbers(text, numbers.first, numbers.last)?;
     text.push_str(" ")?;
-    text.push_str(name_in(numbers))
-}
-
-fn push_numbers(text: &mut String, numbers: Numbers) -> Result<(), AllocError>
-    ensures text { OnOk result (string_bytes text.new ≡ string_bytes text.old ++ numbers_text numbers.first numbers.last) }
-{
-    let Numbers { first, last } = numbers;
-    if first == last {
-        write!(text, "{first}")
-    } else {
-        write!(text, "{first}-{last}")
-    }
-}
-
-fn name_in(numbers: Numbers) -> &'static str
-    ensures text { result.now ≡ name_text numbers.first numbers.last }
-{
-    if numbers.first != numbers.last {
-        return "-";
-    }
-    match name(numbers.first) {
-        Some(name) => name,
-        None => "-",
-    }
+    text.push_str(name_of_numbers(numbers.first, numbers.last))
 }
 
 #[tactic(auto, unfolding(crate::specs::DiffText::call_text))]

@@ -5,9 +5,9 @@ use Rattle.std.proofs.lemmas.List.{map-append}
 use Rattle.sk_insn.specs.declared.insn.Insn.{Insn}
 use Rattle.sk_survey.specs.declared.rows.Row.{Row}
 use Rattle.sk_survey.specs.Surveys.{Tell}
-use Rattle.sk_survey_engine.specs.declared.line.Line.{Line}
-use Rattle.sk_survey_engine.specs.Lines.{row_of}
-use Rattle.sk_survey_engine.proofs.Holding.{one_more_holds}
+use Rattle.sk_survey_lines.specs.declared.line.Line.{Line}
+use Rattle.sk_survey_lines.specs.Lines.{row_of}
+use Rattle.sk_survey_lines.proofs.Holding.{one_more_holds}
 use Rattle.sk_when.specs.declared.row.Told.{Told}
 use Rattle.sk_when.specs.Telling.{IsToldAmong, row_told}
 

@@ -5,7 +5,7 @@ use Rattle.sk_insn.specs.declared.insn.Insn.{Insn}
 use Rattle.sk_survey.specs.declared.rows.Row.{Row}
 use Rattle.sk_survey.specs.Answers.{ChainAnswersAmong, answers_of}
 use Rattle.sk_survey.specs.Surveys.{Tell}
-use Rattle.sk_survey_engine.specs.Lines.{first_told, end_told, TellsNamedAlone}
+use Rattle.sk_survey_lines.specs.Lines.{first_told, end_told, TellsNamedAlone}
 use Rattle.sk_when.specs.declared.row.Told.{Told}
 use Rattle.sk_when.specs.Lines.{IsTold}
 use Rattle.sk_when.specs.Text.{when_text}

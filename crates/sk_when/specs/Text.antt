@@ -2,20 +2,11 @@
 use Rattle.std.specs.Prelude.{ℕ, ◌++◌, List, [], ◌∷◌, codes, flat_map, Option, Some, None}
 use Rattle.sk_engines.specs.Output.{line}
 use Rattle.sk_survey.specs.Answers.{answers_of}
-use Rattle.sk_survey_engine.specs.Text.{numbers_text, name_text}
+use Rattle.sk_survey_lines.specs.Text.{numbers_text, name_text, answers_text}
 use Rattle.sk_terms.specs.declared.lines.Line.{Line}
 use Rattle.sk_terms.specs.Text.{condition_text}
 use Rattle.sk_verdict.specs.Verdicts.{verdict_text}
 use Rattle.sk_when.specs.declared.row.Told.{Told}
-
--- the values in their order, with a bar between two
-abbrev pub values_text : List ℕ → List ℕ
-values_text [] = []
-values_text (value ∷ values) = verdict_text value ++ flat_map (λ other. codes " | " ++ verdict_text other) values
-
-abbrev pub answers_text : Option (List ℕ) → List ℕ
-answers_text None = codes "any"
-answers_text (Some values) = values_text values
 
 -- a verdict, or those that the survey tells where it is not followed
 abbrev pub value_text : Option (List ℕ) → Option ℕ → List ℕ

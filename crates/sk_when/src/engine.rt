@@ -1,7 +1,7 @@
 //! The engine of `ask when`.
 ghost use Rattle.std.specs.Prelude.{◌≡◌, IfOk, map, string_bytes};
 ghost use Rattle.std.specs.List.{All};
-ghost use Rattle.sk_survey_engine.specs.Lines.{row_of};
+ghost use Rattle.sk_survey_lines.specs.Lines.{row_of};
 ghost use Rattle.sk_when.specs.Telling.{TellsWhen, AreTold, IsToldAmong, row_told};
 ghost use Rattle.sk_when.specs.Lines.{IsTold};
 
@@ -9,7 +9,7 @@ use crate::row::{Told, tell};
 use crate::text::when_text;
 use sk_chain::Chain;
 use sk_conditions::{Budget, MOST_STEPS};
-use sk_survey_engine::{Line, Options, lines_of};
+use sk_survey_lines::{Line, Options, lines_of};
 use std::alloc::{AllocError, Global};
 
 /// Tells under which conditions on a call each verdict of the chain comes, for every call or for the one with a number.

@@ -1,6 +1,6 @@
 use Rattle.std.proofs.Common.{◌≡◌, ◌++◌, map}
 use Rattle.std.specs.List.{All}
-use Rattle.sk_survey_engine.specs.Lines.{row_of}
+use Rattle.sk_survey_lines.specs.Lines.{row_of}
 use Rattle.sk_when.specs.Lines.{IsTold}
 use Rattle.sk_when.specs.Telling.{IsToldAmong, row_told}
 use Rattle.sk_when.proofs.engine.tell_all.Given as goal

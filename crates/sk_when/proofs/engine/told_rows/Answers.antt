@@ -1,4 +1,4 @@
-use Rattle.sk_survey_engine.specs.Lines.{first_told, end_told}
+use Rattle.sk_survey_lines.specs.Lines.{first_told, end_told}
 use Rattle.sk_when.proofs.Rows.{all_among}
 use Rattle.sk_when.proofs.engine.told_rows.Goals as goal
 

@@ -3,9 +3,9 @@ use Rattle.std.specs.List.{All}
 use Rattle.std.proofs.lemmas.Result.{IfOk-weaker}
 use Rattle.sk_call_names.specs.Names.{named_from}
 use Rattle.sk_survey.specs.Surveys.{StandAlone}
-use Rattle.sk_survey_engine.specs.Lines.{TellsNamedAlone}
-use Rattle.sk_survey_engine.proofs.Named.{named_alone}
-use Rattle.sk_survey_engine.proofs.lines.rows_of.Goals as goal
+use Rattle.sk_survey_lines.specs.Lines.{TellsNamedAlone}
+use Rattle.sk_survey_lines.proofs.Named.{named_alone}
+use Rattle.sk_survey_lines.proofs.lines.rows_of.Goals as goal
 
 pub returns-in-None-clause-alone : goal.returns-in-None-clause-alone
 returns-in-None-clause-alone c =

@@ -1,7 +1,7 @@
 use Rattle.std.proofs.Common.{◌≡◌, ◌++◌, map}
 use Rattle.std.specs.List.{All}
-use Rattle.sk_survey_engine.specs.Lines.{row_of, Shows}
-use Rattle.sk_survey_engine.proofs.lines.lines_of.Given as goal
+use Rattle.sk_survey_lines.specs.Lines.{row_of, Shows}
+use Rattle.sk_survey_lines.proofs.lines.lines_of.Given as goal
 
 abbrev pub invariant-loop-row : goal.invariant-loop-row
 invariant-loop-row l = record {

@@ -1,7 +1,7 @@
 use Rattle.std.proofs.Common.{◌≡◌, map, take}
 use Rattle.std.specs.List.{All}
-use Rattle.sk_survey_engine.specs.Lines.{IsShown}
-use Rattle.sk_survey_engine.proofs.lines.values_shown.Given as goal
+use Rattle.sk_survey_lines.specs.Lines.{IsShown}
+use Rattle.sk_survey_lines.proofs.lines.values_shown.Given as goal
 
 abbrev pub invariant-loop-value : goal.invariant-loop-value
 invariant-loop-value l = record {

@@ -9,7 +9,7 @@ use Rattle.sk_call_names.specs.declared.names.TheConstants.{LATE}
 use Rattle.sk_call_names.specs.Names.{name_of, named_from}
 use Rattle.sk_survey.specs.declared.rows.Row.{Row}
 use Rattle.sk_survey.specs.Surveys.{TellsAlone, StandAlone}
-use Rattle.sk_survey_engine.specs.Lines.{TellsNamedAlone}
+use Rattle.sk_survey_lines.specs.Lines.{TellsNamedAlone}
 
 unnamed : (nr : ℕ) → 463 ≤ nr → name_of nr ≡ None
 unfolding name_of

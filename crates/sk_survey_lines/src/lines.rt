@@ -3,7 +3,7 @@ ghost use Rattle.std.specs.Prelude.{◌≡◌, IfOk, map};
 ghost use Rattle.std.specs.List.{All};
 ghost use Rattle.sk_survey.specs.Answers.{answers_of};
 ghost use Rattle.sk_survey.specs.Surveys.{Tell};
-ghost use Rattle.sk_survey_engine.specs.Lines.{first_told, end_told, TellsNamedAlone, Shows, IsShown, AreLinesOf};
+ghost use Rattle.sk_survey_lines.specs.Lines.{first_told, end_told, TellsNamedAlone, Shows, IsShown, AreLinesOf};
 
 use crate::line::{Line, Shown};
 use crate::options::Options;

@@ -6,8 +6,8 @@ use Rattle.sk_insn.specs.declared.insn.Insn.{Insn}
 use Rattle.sk_call_names.specs.Names.{name_of}
 use Rattle.sk_survey.specs.declared.rows.Row.{Row}
 use Rattle.sk_survey.specs.Surveys.{Tell}
-use Rattle.sk_survey_engine.specs.Lines.{TellsNamedAlone}
-use Rattle.sk_survey_engine.specs.Text.{name_text}
+use Rattle.sk_survey_lines.specs.Lines.{TellsNamedAlone}
+use Rattle.sk_survey_lines.specs.Text.{name_text}
 
 -- the name that a line of these numbers has is that of each of them, and `-` for one without a name
 abbrev pub NameIsOfEach : Type 0

@@ -4,8 +4,8 @@ use Rattle.std.specs.List.{All}
 use Rattle.std.proofs.lemmas.List.{map-append}
 use Rattle.std.proofs.lemmas.List.Elements.{All-append}
 use Rattle.sk_survey.specs.declared.rows.Row.{Row}
-use Rattle.sk_survey_engine.specs.declared.line.Line.{Line}
-use Rattle.sk_survey_engine.specs.Lines.{row_of}
+use Rattle.sk_survey_lines.specs.declared.line.Line.{Line}
+use Rattle.sk_survey_lines.specs.Lines.{row_of}
 
 one_holds : {X : Type 0} (P : X → Type 0) (x : X) → P x → All P (x ∷ [])
 one_holds P x h zero d less = h

@@ -1,6 +1,6 @@
-use Rattle.sk_survey_engine.specs.Lines.{Shows}
-use Rattle.sk_survey_engine.proofs.Holding.{still_hold, one_line_more}
-use Rattle.sk_survey_engine.proofs.lines.lines_of.Goals as goal
+use Rattle.sk_survey_lines.specs.Lines.{Shows}
+use Rattle.sk_survey_lines.proofs.Holding.{still_hold, one_line_more}
+use Rattle.sk_survey_lines.proofs.lines.lines_of.Goals as goal
 
 pub loop-row-preserved : goal.loop-row-preserved
 loop-row-preserved c = record {

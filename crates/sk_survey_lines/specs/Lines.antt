@@ -7,9 +7,9 @@ use Rattle.sk_survey.specs.declared.rows.Row.{Row}
 use Rattle.sk_survey.specs.Answers.{answers_of}
 use Rattle.sk_survey.specs.Surveys.{Tell, TellsAlone}
 use Rattle.sk_survey_examples.specs.Examples.{IsExample}
-use Rattle.sk_survey_engine.specs.declared.line.Line.{Line}
-use Rattle.sk_survey_engine.specs.declared.line.Shown.{Shown}
-use Rattle.sk_survey_engine.specs.declared.options.Options.{Options}
+use Rattle.sk_survey_lines.specs.declared.line.Line.{Line}
+use Rattle.sk_survey_lines.specs.declared.line.Shown.{Shown}
+use Rattle.sk_survey_lines.specs.declared.options.Options.{Options}
 
 -- the numbers that are told: all, or the one that is wanted
 abbrev pub first_told : Option ℕ → ℕ

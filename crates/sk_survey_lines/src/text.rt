@@ -2,7 +2,7 @@
 ghost use Rattle.std.specs.Prelude.{◌≡◌, ◌++◌, OnOk, string_bytes, codes, flat_map};
 ghost use Rattle.sk_survey.specs.Answers.{answers_of};
 ghost use Rattle.sk_verdict.specs.Verdicts.{verdict_text};
-ghost use Rattle.sk_survey_engine.specs.Text.{numbers_text, name_text, values_text, answers_text};
+ghost use Rattle.sk_survey_lines.specs.Text.{numbers_text, name_text, values_text, answers_text};
 
 use sk_call_names::name;
 use sk_survey::Answers;

@@ -7,8 +7,8 @@ use Rattle.std.proofs.lemmas.List.Elements.{All-head, All-tail}
 use Rattle.std.proofs.lemmas.List.Sums.{AllPass-from_list_all}
 use Rattle.sk_call_names.specs.declared.names.TheConstants.{EARLY, LATE}
 use Rattle.sk_call_names.specs.Names.{name_of}
-use Rattle.sk_survey_engine.specs.Lines.{TellsNamedAlone}
-use Rattle.sk_survey_engine.specs.NamesLaws.{NameIsOfEach, NoNameIsHidden, NamedHasARow}
+use Rattle.sk_survey_lines.specs.Lines.{TellsNamedAlone}
+use Rattle.sk_survey_lines.specs.NamesLaws.{NameIsOfEach, NoNameIsHidden, NamedHasARow}
 
 abbrev has_more : List ℕ → Bool
 has_more name = nat_lt 1 (length name)
