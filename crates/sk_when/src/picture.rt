@@ -6,7 +6,7 @@ ghost use Rattle.sk_verdict.specs.Verdicts.{verdict_text};
 ghost use Rattle.sk_when.specs.Picture.{colour_of, next_node, node_after, fill_text, leaf_text, inner_text, edge_text, nodes_text, dot_text, IsPicture};
 
 use sk_chain::Chain;
-use sk_conditions::{Numbers, chain_tree};
+use sk_conditions::{Budget, Numbers, chain_tree};
 use sk_insn::Action;
 use sk_terms::{Decision, Term, decide, push_term};
 use sk_verdict::push_verdict;
@@ -21,7 +21,7 @@ pub fn dot(alloc: Global, chain: &Chain, nr: u32) -> Result<String, AllocError>
         first: nr,
         last: nr,
     };
-    let tree = chain_tree(alloc, chain, numbers)?;
+    let tree = chain_tree(alloc, chain, numbers, &mut Budget::whole())?;
     let decision = decide(alloc, &tree)?;
     dot_text(alloc, &decision)
 }
