@@ -388,7 +388,7 @@ _ask() {
     elif [[ $word == -* ]]; then
         case $asked in
         calls) mapfile -t COMPREPLY < <(compgen -W '--call --examples --help' -- "$word") ;;
-        when) mapfile -t COMPREPLY < <(compgen -W '--call --help' -- "$word") ;;
+        when) mapfile -t COMPREPLY < <(compgen -W '--call --dot --help' -- "$word") ;;
         diff) mapfile -t COMPREPLY < <(compgen -W '--stricter --help' -- "$word") ;;
         filter) mapfile -t COMPREPLY < <(compgen -W '--raw --help' -- "$word") ;;
         *) mapfile -t COMPREPLY < <(compgen -W '--help' -- "$word") ;;

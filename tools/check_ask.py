@@ -112,10 +112,10 @@ def record(number, first=0):
     return struct.pack("<IIQ6Q", number, 0xC000003E, 0, first, *[0] * 5).hex()
 
 
-def difference(number, name, old, new, first=0):
-    """The lines on a call that gets another verdict."""
+def difference(number, name, old, new, first=0, where=""):
+    """The lines on a call that gets another verdict, by the condition under which calls of its row do."""
     arguments = "".join(f", {it:#x}" for it in (first, 0, 0, 0, 0, 0))
-    return f"{number} {name}: {old} -> {new}\n  record {record(number, first)}\n  syscall(SYS_{name}{arguments})\n"
+    return f"{number} {name}: {old} -> {new}{where}\n  record {record(number, first)}\n  syscall(SYS_{name}{arguments})\n"
 
 
 def step(place, insn, a, jump=""):
@@ -137,6 +137,14 @@ def good(command, answer):
     return Row(command, 0, "", answer)
 
 
+def leaf(number, text, colour):
+    """The line of an end of a picture."""
+    return f'  n{number} [label="{text}", style=filled, fillcolor={colour}];\n'
+
+
+GETPID_DRAWN = "digraph {\n" + leaf(0, "errno/1 EPERM", "khaki") + "}\n"
+FLAG_DRAWN = "digraph {\n  n0 [label=\"(args[0] & 0x1) != 0\"];\n  n0 -> n1 [label=yes];\n" + leaf(1, "errno/38 ENOSYS", "khaki") \
+    + "  n0 -> n2 [label=no];\n" + leaf(2, "allow", "palegreen") + "}\n"
 GETPID_STEPS = step(0, "ldabs 0", 39) + step(1, "jeq 39 +0 +1", 39, "  39 == 39 getpid: to 2") + step(2, "ret 0x00050001", 39) + "  errno/1 EPERM\n"
 GETPID_PATH = "filter 0\n" + GETPID_STEPS + "errno/1 EPERM by filter 0 at 2\n"
 GETPID_SHOWN = "; 0 nr\n    ldabs 0\n; 1 getpid\n    jeq 39 +0 at3\n; 2 errno/1 EPERM\n    ret 0x00050001\nat3:\n; 3 allow\n    ret 0x7fff0000\n"
@@ -172,11 +180,15 @@ GOOD = [
     good("ask filter raw | ask filter - ", LINE), good("ask filter --raw crlf | cmp - raw", ""), good("ask filter lines --raw | cmp - raw", ""),
     good("ask when --call getpid raw", GOT), good("ask when all | tail -n 1", "463-4294967295 - allow\n"),
     good("ask when --call getpid flag", "39 getpid\n  allow where (args[0] & 0x1) == 0\n  errno/38 ENOSYS else\n"),
+    good("ask when --dot --call getpid raw", GETPID_DRAWN), good("ask when flag --call 39 --dot", FLAG_DRAWN),
+    good("ask when --dot --call read all raw", "digraph {\n" + leaf(0, "allow", "palegreen") + "}\n"),
+    good("ask when --call getpid --dot kill", "digraph {\n" + leaf(0, "kill_process", "salmon") + "}\n"),
+    good("ask when --call getpid --dot argument", "digraph {\n" + leaf(0, "not followed", "white") + "}\n"),
     good("ask diff raw digits", "the same on every call\n"), good("ask diff - raw < lines", "the same on every call\n"),
     good("ask diff <(cat raw) <(cat digits)", "the same on every call\n"), good("ask diff --stricter all flag", "as strict on every call\n"),
     Row("ask diff all raw", 1, "", difference(39, "getpid", "allow", "errno/1 EPERM")),
     Row("ask diff raw --stricter all", 1, "", difference(39, "getpid", "errno/1 EPERM", "allow")),
-    Row("ask diff flag all | sed -n 1,3p", 1, "", difference(0, "read", "errno/38 ENOSYS", "allow", 1)),
+    Row("ask diff flag all | sed -n 1,3p", 1, "", difference(0, "read", "errno/38 ENOSYS", "allow", 1, " where (args[0] & 0x1) != 0")),
     good("ask replay log all", "2 read(0x3, 0x7ffd, 0x40) allow\n1 getpid() allow\n1 line is no call\n"),
     good("ask replay - all < log", "2 read(0x3, 0x7ffd, 0x40) allow\n1 getpid() allow\n1 line is no call\n"),
     good("cat log | ask replay /dev/stdin <(cat all) | head -n 1", "2 read(0x3, 0x7ffd, 0x40) allow\n"),
@@ -200,7 +212,7 @@ GOOD = [
     good("ask show --help | head -n 1", "usage: ask show FILE\n"), good("ask show two --help | head -n 1", "usage: ask show FILE\n"),
     good("ask why --help | head -n 1", "usage: ask why 'CALL(ARG, ..)' FILE..\n"),
     good("ask replay --help | head -n 1", "usage: ask replay LOG FILE..\n"),
-    good("ask when --help | head -n 1", "usage: ask when [--call CALL] FILE..\n"),
+    good("ask when --help | head -n 1", "usage: ask when [--call CALL [--dot]] FILE..\n"),
     good("ask diff --help | head -n 1", "usage: ask diff [--stricter] OLD NEW\n"),
     good("ask --help | head -n 1", "usage: ask WORD ..\n"), good("ask calls --help | head -n 1", "usage: ask calls [--call CALL] [--examples] FILE..\n"),
     good("ask filter nofile --help | head -n 1", "usage: ask filter [--raw] FILE..\n"),
@@ -210,6 +222,10 @@ WORDS = [
     trouble("ask --raw filter raw", "no word is named --raw"),
     trouble("ask when", "when: no FILE is given"), trouble("ask when raw --call", "when: expected a name or a number behind --call"),
     trouble("ask when --examples raw", "when: no option is named --examples"), trouble("ask when --call mseal2 raw", "no call is named mseal2"),
+    *[trouble(f"ask when {words}", "when: expected --call CALL beside --dot") for words in ("--dot raw", "raw --dot", "--dot nofile")],
+    trouble("ask when --dot", "when: no FILE is given"), trouble("ask when --dot raw --call", "when: expected a name or a number behind --call"),
+    trouble("ask when --call mseal2 --dot raw", "no call is named mseal2"), trouble("ask when --call --dot raw", "no call is named --dot"),
+    *[trouble(f"ask {word} --dot raw", f"{word}: no option is named --dot") for word in ("calls", "filter", "diff", "show")],
     *[trouble(f"ask diff {files}", "diff: expected two FILEs, OLD and NEW") for files in ("", "raw", "raw raw raw", "--stricter all")],
     trouble("ask diff --call read raw all", "diff: no option is named --call"), trouble("ask diff - - < raw", f"-: {NO_FILTER}"),
     trouble("ask replay", "replay: no LOG is given"), trouble("ask replay log", "replay: no FILE is given"),
@@ -281,7 +297,7 @@ MADE = [
     ("mkdir -p deep/er; {ask} deep/er", "deep/er: is a folder"), ("ln -s nowhere link; {ask} link", "link: no such file"),
 ]
 # All that asks something of a chain of FILEs, and of each of two.
-ASKING = ("calls", "calls --examples --call read", "when --call read", "filter", "replay log", "why 'getpid(1)'", "show")
+ASKING = ("calls", "calls --examples --call read", "when --call read", "when --dot --call read", "filter", "replay log", "why 'getpid(1)'", "show")
 UNREAD = [
     *[trouble(f"ask {asking} {files}", says) for asking in ASKING for files, says in ONE + SEVERAL],
     *[trouble(command.format(ask=f"ask {asking}"), says) for asking in (*ASKING, "diff all") for command, says in MADE],

@@ -1,5 +1,5 @@
 -- What words ask.
-use Rattle.std.specs.Prelude.{ℕ, ◌≡◌, ◌≤◌, ◌==◌, ◌&&◌, ◌++◌, nat_lt, is_some, Bool, true, false, if◌then◌else◌, List, [], ◌∷◌, length, slice_get, codes, map, string_bytes, slice_index, Option, Some, None, Result, Ok, Err, ⊤}
+use Rattle.std.specs.Prelude.{ℕ, ◌≡◌, ◌≤◌, ◌==◌, ◌&&◌, ◌++◌, nat_lt, is_some, IsSome, not, Bool, true, false, if◌then◌else◌, List, [], ◌∷◌, length, slice_get, codes, map, string_bytes, slice_index, Option, Some, None, Result, Ok, Err, ⊤}
 use Rattle.std.specs.Str.{bytes_eq}
 use Rattle.std.specs.Option.{option_map}
 use Rattle.sk_ask.specs.declared.trouble.Trouble.{Trouble}
@@ -9,19 +9,29 @@ use Rattle.sk_ask.specs.declared.words.Word.{Word}
 use Rattle.sk_ask.specs.declared.words.Word.TheVariants.{Calls, Filter, When, Diff, Replay, Why, Show}
 use Rattle.sk_ask.specs.Complaints.{of_word}
 
--- the word behind `--call`, and whether it is awaited; whether there was `--examples`, `--raw`, `--stricter` or `--help`; and the
--- names of the files
+-- the word behind `--call`, and whether it is awaited; whether there was `--examples`, `--dot`, `--raw`, `--stricter` or `--help`;
+-- and the names of the files
 pub record Question : Type 0 where
   pub call : Option (List ℕ)
   pub awaits : Bool
   pub examples : Bool
+  pub dot : Bool
   pub raw : Bool
   pub stricter : Bool
   pub help : Bool
   pub names : List (List ℕ)
 
 abbrev pub nothing_asked : Question
-nothing_asked = record { call = None; awaits = false; examples = false; raw = false; stricter = false; help = false; names = [] }
+nothing_asked = record {
+  call = None;
+  awaits = false;
+  examples = false;
+  dot = false;
+  raw = false;
+  stricter = false;
+  help = false;
+  names = [];
+}
 
 abbrev pub word_name : Word → List ℕ
 word_name Calls = codes "calls"
@@ -70,7 +80,9 @@ with_option Calls asked text =
 with_option Filter asked text =
     if bytes_eq text (codes "--raw") then Ok (record asked { raw = true }) else with_name Filter asked text
 with_option When asked text =
-    if bytes_eq text (codes "--call") then with_call When asked else with_name When asked text
+    if bytes_eq text (codes "--call") then with_call When asked
+    else if bytes_eq text (codes "--dot") then Ok (record asked { dot = true })
+    else with_name When asked text
 with_option Diff asked text =
     if bytes_eq text (codes "--stricter") then Ok (record asked { stricter = true }) else with_name Diff asked text
 with_option word asked text = with_name word asked text
@@ -108,11 +120,21 @@ abbrev pub named : Word → Question → Result Question (List ℕ)
 named Diff asked = two_named asked
 named word asked = none_missing word asked (missing word asked)
 
+-- a picture is that of one call
+abbrev pub drawn : Word → Question → Result Question (List ℕ)
+drawn word asked =
+    if asked.dot && not (is_some asked.call)
+    then Err (of_word (word_name word ++ codes ": expected --call CALL beside ") (codes "--dot"))
+    else Ok asked
+
 abbrev pub ended : Word → Question → Result Question (List ℕ)
 ended word asked =
     if asked.awaits then Err (of_word (word_name word ++ codes ": expected a name or a number behind ") (codes "--call"))
     else if asked.help then Ok asked
-    else named word asked
+    else elim (named word asked) [
+      | Err line ↦ Err line
+      | Ok asked ↦ drawn word asked
+    ]
 
 -- what is asked with the words that are left
 abbrev pub asked_of : Word → Question → List (List ℕ) → Result Question (List ℕ)
@@ -129,6 +151,7 @@ question_of asked = record {
   call = option_map (λ call. call.now) asked.call;
   awaits = asked.awaits;
   examples = asked.examples;
+  dot = asked.dot;
   raw = asked.raw;
   stricter = asked.stricter;
   help = asked.help;
@@ -144,3 +167,7 @@ Asks (Err Memory) said = ⊤
 -- but for `--help` there are as many names as the word wants
 abbrev pub HasNames : Word → Asked → Type 0
 HasNames word asked = asked.help ≡ false → length (wanted word) ≤ length asked.names.items
+
+-- but for `--help` a call is named where a picture is asked for
+abbrev pub HasCall : Asked → Type 0
+HasCall asked = asked.help ≡ false → asked.dot ≡ true → IsSome asked.call

@@ -6,8 +6,8 @@ ghost use Rattle.sk_engines.specs.Output.{line};
 ghost use Rattle.sk_ask.specs.CallsText.{row_text, found_text, shown_text, line_text, calls_text};
 
 use sk_survey::Row;
-use sk_survey_lines::{Line, Shown, name_of_numbers, push_answers, push_numbers};
 use sk_survey_examples::Example;
+use sk_survey_lines::{Line, Shown, name_of_numbers, push_answers, push_numbers};
 use sk_text::HexDigits;
 use sk_verdict::push_verdict;
 use std::alloc::{AllocError, Global};

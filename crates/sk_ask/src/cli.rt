@@ -1,5 +1,5 @@
 //! The program over any files and writers.
-ghost use Rattle.std.specs.Prelude.{◌≡◌, ◌≤◌, false, IfOk, length, map, string_bytes};
+ghost use Rattle.std.specs.Prelude.{◌≡◌, ◌≤◌, true, false, IfOk, IsSome, length, map, string_bytes};
 ghost use Rattle.sk_ask.specs.Answering.{AnswersWords, AnswersAsked, AnswersQuestion};
 ghost use Rattle.sk_ask.specs.Asking.{question_of, asked_of, nothing_asked, wanted};
 ghost use Rattle.sk_ask.specs.Endings.{CountsReads, Complains, ending_of, wordless_line, written};
@@ -99,6 +99,7 @@ fn question_answer<S: Shelf>(
     reads: &mut u64,
 ) -> Result<Answer, Trouble>
     requires named { length (wanted word) ≤ length asked.now.names.items }
+    requires called { asked.now.dot ≡ true → IsSome asked.now.call }
     ensures told { AnswersQuestion (S.held shelf.now) word (question_of asked.now) (ending_of result) }
     ensures counted { CountsReads result reads.old reads.new }
 {

@@ -8,7 +8,7 @@ use crate::words::Word;
 pub const HELP: &str = "usage: ask WORD ..
   ask calls [--call CALL] [--examples] FILE..   what seccomp filters can answer to each call
   ask filter [--raw] FILE..                     the filters in another form
-  ask when [--call CALL] FILE..                 under which arguments each verdict comes
+  ask when [--call CALL [--dot]] FILE..         under which arguments each verdict comes, for Graphviz with --dot
   ask diff [--stricter] OLD NEW                 the calls that two chains of filters answer otherwise
   ask replay LOG FILE..                         the verdicts on the calls that strace -f -X raw -e raw=all wrote to LOG
   ask why 'CALL(ARG, ..)' FILE..                the path of one call through the filters, instruction by instruction
@@ -33,10 +33,11 @@ The filters in the FILEs as lines filter HEX, the oldest first.
 ";
 
 /// What `ask when --help` says.
-pub const WHEN_HELP: &str = "usage: ask when [--call CALL] FILE..
+pub const WHEN_HELP: &str = "usage: ask when [--call CALL [--dot]] FILE..
 For each call of x86-64, by its number and its name, the verdicts of the filters in the FILEs, and where arguments decide the
 condition on each as an expression of C over args[0] to args[5], ip, and nr where a line has several numbers.
   --call CALL   only this call: a name or a number, decimal or 0x and hexadecimal
+  --dot         a picture of the call's conditions and verdicts, as text for Graphviz
 ";
 
 /// What `ask diff --help` says.

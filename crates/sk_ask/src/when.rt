@@ -1,8 +1,8 @@
-//! `ask when`: under which conditions on a call each verdict comes.
-ghost use Rattle.std.specs.Prelude.{◌≡◌, ◌⊎◌, IfOk};
+//! `ask when`: under which conditions on a call each verdict comes, and with `--dot` the picture of a call's tree.
+ghost use Rattle.std.specs.Prelude.{◌≡◌, true, IfOk, IsSome, string_bytes};
 ghost use Rattle.sk_ask.specs.Endings.{CountsReads, ending_of};
 ghost use Rattle.sk_ask.specs.Asking.{question_of};
-ghost use Rattle.sk_ask.specs.Whens.{AnswersWhen, TellsWhenOf};
+ghost use Rattle.sk_ask.specs.Whens.{AnswersWhen, IsWhenText, TellsWhenOf};
 
 use crate::calls::asked_call;
 use crate::filters::asked_filters;
@@ -19,19 +19,31 @@ pub fn when<S: Shelf>(
     shelf: &S,
     reads: &mut u64,
 ) -> Result<Answer, Trouble>
+    requires called { asked.now.dot ≡ true → IsSome asked.now.call }
     ensures told { AnswersWhen (S.held shelf.now) (question_of asked.now) (ending_of result) }
     ensures counted { CountsReads result reads.old reads.new }
 {
     let call = asked_call(alloc, asked.call)?;
     let filters = asked_filters(alloc, asked, shelf, reads)?;
-    Ok(conditions(alloc, call, &filters.chain)?)
+    Ok(told(alloc, asked.dot, call, &filters.chain)?)
 }
 
-fn conditions(alloc: Global, call: Option<u32>, chain: &Chain) -> Result<Answer, AllocError>
-    ensures told { IfOk result (λ answer. TellsWhenOf call chain.now (ending_of (Ok answer))) }
+fn told(alloc: Global, dot: bool, call: Option<u32>, chain: &Chain) -> Result<Answer, AllocError>
+    requires called { dot ≡ true → IsSome call }
+    ensures told { IfOk result (λ answer. TellsWhenOf dot call chain.now (ending_of (Ok answer))) }
 {
     Ok(Answer {
-        text: sk_when::when(alloc, chain, call)?.into_bytes(),
+        text: text_of(alloc, dot, call, chain)?.into_bytes(),
         denies: false,
     })
+}
+
+fn text_of(alloc: Global, dot: bool, call: Option<u32>, chain: &Chain) -> Result<String, AllocError>
+    requires called { dot ≡ true → IsSome call }
+    ensures text { IfOk result (λ text. IsWhenText dot call chain.now (string_bytes text)) }
+{
+    match call {
+        Some(nr) if dot => sk_when::dot(alloc, chain, nr),
+        _ => sk_when::when(alloc, chain, call),
+    }
 }

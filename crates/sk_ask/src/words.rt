@@ -1,7 +1,7 @@
 //! The words behind `ask WORD`.
 ghost use Rattle.std.specs.Prelude.{◌≡◌, ◌≤◌, ◌∷◌, IfOk, length, string_bytes, map, slice_get};
 ghost use Rattle.std.specs.Option.{option_map};
-ghost use Rattle.sk_ask.specs.Asking.{asked_of, nothing_asked, with_word, with_option, with_call, with_name, ended, named, none_missing, two_named, missing, wanted, is_option, question_of, word_named, word_name, Asks, HasNames};
+ghost use Rattle.sk_ask.specs.Asking.{asked_of, nothing_asked, with_word, with_option, with_call, with_name, ended, named, none_missing, two_named, missing, wanted, is_option, question_of, word_named, word_name, Asks, HasCall, HasNames};
 
 use crate::complaint::of_word;
 use crate::trouble::Trouble;
@@ -75,6 +75,7 @@ pub struct Asked<'a> {
     /// `--call` was the last word.
     pub awaits: bool,
     pub examples: bool,
+    pub dot: bool,
     pub raw: bool,
     pub stricter: bool,
     pub help: bool,
@@ -96,11 +97,13 @@ impl Asked<'_> {
 pub fn asked_in<'a>(alloc: Global, word: Word, words: &'a [String]) -> Result<Asked<'a>, Trouble>
     ensures exact { Asks result (asked_of word nothing_asked (map string_bytes words.now)) }
     ensures named { IfOk result (HasNames word) }
+    ensures called { IfOk result HasCall }
 {
     let mut asked = Asked {
         call: None,
         awaits: false,
         examples: false,
+        dot: false,
         raw: false,
         stricter: false,
         help: false,
@@ -154,6 +157,7 @@ fn with_option<'a>(
             examples: true,
             ..asked
         }),
+        Word::When if is_word(bytes, b"--dot") => Ok(Asked { dot: true, ..asked }),
         Word::Filter if is_word(bytes, b"--raw") => Ok(Asked { raw: true, ..asked }),
         Word::Diff if is_word(bytes, b"--stricter") => Ok(Asked {
             stricter: true,
@@ -203,6 +207,7 @@ fn is_option(word: &[u8]) -> bool
 fn ended<'a>(alloc: Global, word: Word, asked: Asked<'a>) -> Result<Asked<'a>, Trouble>
     ensures exact { Asks result (ended word (question_of asked.entry)) }
     ensures named { IfOk result (HasNames word) }
+    ensures called { IfOk result HasCall }
 {
     if asked.awaits {
         let what = format!(in alloc; "{}: expected a name or a number behind ", word.name())?;
@@ -211,7 +216,12 @@ fn ended<'a>(alloc: Global, word: Word, asked: Asked<'a>) -> Result<Asked<'a>, T
     if asked.help {
         return Ok(asked);
     }
-    named(alloc, word, asked)
+    let asked = named(alloc, word, asked)?;
+    if asked.dot && asked.call.is_none() {
+        let what = format!(in alloc; "{}: expected --call CALL beside ", word.name())?;
+        return Err(Trouble::Refused(of_word(alloc, &what, b"--dot")?));
+    }
+    Ok(asked)
 }
 
 // Whether there are as many names as the word wants.

@@ -32,6 +32,10 @@ const ANSWERS: &[(&[&str], &[u8])] = &[
         &["when", "flag", "--call", "0"],
         b"0 read\n  allow where (args[0] & 0x1) == 0\n  errno/38 ENOSYS else\n",
     ),
+    (
+        &["when", "flag", "--dot", "--call", "0"],
+        b"digraph {\n  n0 [label=\"(args[0] & 0x1) != 0\"];\n  n0 -> n1 [label=yes];\n  n1 [label=\"errno/38 ENOSYS\", style=filled, fillcolor=khaki];\n  n0 -> n2 [label=no];\n  n2 [label=\"allow\", style=filled, fillcolor=palegreen];\n}\n",
+    ),
     (&["diff", "getpid", "getpid"], b"the same on every call\n"),
     (
         &["diff", "all", "--stricter", "getpid"],

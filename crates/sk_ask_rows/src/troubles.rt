@@ -43,6 +43,10 @@ const TROUBLES: &[(&[&str], &[u8])] = &[
         b"ask: no call is named mseal2\n",
     ),
     (
+        &["when", "--dot", "all"],
+        b"ask: when: expected --call CALL beside --dot\n",
+    ),
+    (
         &["diff", "all"],
         b"ask: diff: expected two FILEs, OLD and NEW\n",
     ),

@@ -10,5 +10,5 @@ returns-clause-told g c =
       c.in_ok-filters.ensures.read,
       c.in_ok-call.call,
       c.in_ok-call.ensures.call,
-      c.in_ok-conditions.ensures.told,
+      c.in_ok-told.ensures.told,
     )
