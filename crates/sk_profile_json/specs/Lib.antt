@@ -1,0 +1,5 @@
+pub mod Keys
+pub mod Fields
+pub mod Actions
+pub mod Arguments
+pub mod Conditions

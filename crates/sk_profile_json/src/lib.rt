@@ -1,0 +1,13 @@
+//! The seccomp profile of a container runtime, read from its JSON.
+#![tactic(auto)]
+
+mod actions;
+mod argument;
+mod conditions;
+mod fault;
+mod fields;
+
+pub use actions::{action_named, takes_number, value_with};
+pub use argument::{condition, test_named};
+pub use conditions::{WrongArgument, are_apart, conditions_of, wrong_argument};
+pub use fault::{Field, Wrong};
