@@ -1,7 +1,7 @@
 -- Values of JSON as lists.
-use Rattle.std.proofs.Common.{◌≡◌, ℕ, ◌+◌, ◌<◌, ◌≤◌, suc, Bool, cond, List, [], ◌∷◌, length, map, drop, get_or, Option, Some, None, true, false, refl, ap, sym, ◌∙◌, rules, Vec, add-one, drop-cons}
+use Rattle.std.proofs.Common.{◌≡◌, ◌&&◌, ◌||◌, ℕ, ◌+◌, ◌<◌, ◌≤◌, suc, Bool, cond, List, [], ◌∷◌, length, map, drop, get_or, Option, Some, None, true, false, refl, ap, sym, ◌∙◌, rules, Vec, add-one, drop-cons}
 use Rattle.std.proofs.Math.ListN.{drop_of_length-le}
-use Rattle.std.specs.List.{position_from}
+use Rattle.std.specs.List.{position_from, list_all, list_any}
 use Rattle.json.specs.Strict.{keys}
 use Rattle.std.specs.Borrow.{Bor}
 use Rattle.std.specs.Option.{option_map}
@@ -11,6 +11,14 @@ use Rattle.json.specs.Value.{items_of, members_view, value_view}
 use Rattle.json.specs.declared.value.Value.{Value, Array, Object, the_lemmas}
 use Rattle.sk_profile_json.specs.declared.fault.Field.{Field}
 use Rattle.sk_profile_json.specs.Fields.{list_of, wrong_members, wrong_keys}
+
+pub all_of_map : {X Y : Type 0} → (p : Y → Bool) (f : X → Y) (xs : List X) → list_all p (map f xs) ≡ list_all (λ x. p (f x)) xs
+all_of_map p f [] = refl
+all_of_map p f (x ∷ xs) = ap (λ b. p (f x) && b) (all_of_map p f xs)
+
+pub any_of_map : {X Y : Type 0} → (p : Y → Bool) (f : X → Y) (xs : List X) → list_any p (map f xs) ≡ list_any (λ x. p (f x)) xs
+any_of_map p f [] = refl
+any_of_map p f (x ∷ xs) = ap (λ b. p (f x) || b) (any_of_map p f xs)
 
 -- the items of an array are its values, seen as JSON
 pub list_of_items : (js : List Json) → list_of (items_of js) ≡ js

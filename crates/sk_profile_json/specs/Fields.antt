@@ -1,6 +1,6 @@
 -- Looking a field up in an object of a profile. A field that is null stands for none, as in the runtimes.
-use Rattle.std.specs.Prelude.{ℕ, not, Bool, if◌then◌else◌, List, [], ◌∷◌, Option, Some, None, Result, Ok, Err}
-use Rattle.std.specs.List.{list_any, position_from}
+use Rattle.std.specs.Prelude.{ℕ, not, Bool, false, if◌then◌else◌, List, [], ◌∷◌, is_some, Option, Some, None, Result, Ok, Err}
+use Rattle.std.specs.List.{list_any, list_all, position_from}
 use Rattle.std.specs.Option.{option_and_then, option_map}
 use Rattle.std.specs.Str.{bytes_eq}
 use Rattle.json.specs.Json.{Json, Items, no_items, item, Members}
@@ -64,6 +64,24 @@ items_of_kind field (Some j) = elim (as_array j) [ None ↦ Err (NotTaken field)
 
 abbrev pub list_in : Field → Json → Result (List Json) Wrong
 list_in field j = items_of_kind field (given field j)
+
+-- whether it is a text, and which
+abbrev pub is_text : Json → Bool
+is_text j = is_some (as_str j)
+
+abbrev pub is_written : List ℕ → Option (List ℕ) → Bool
+is_written wanted None = false
+is_written wanted (Some text) = bytes_eq text wanted
+
+abbrev pub is_the : List ℕ → Json → Bool
+is_the wanted j = is_written wanted (as_str j)
+
+-- a list of texts
+abbrev pub texts_of : Field → List Json → Result (List Json) Wrong
+texts_of field items = if list_all is_text items then Ok items else Err (NotTaken field)
+
+abbrev pub texts_in : Field → Json → Result (List Json) Wrong
+texts_in field j = result_then (texts_of field) (list_in field j)
 
 -- ---- keys
 

@@ -1,12 +1,12 @@
 //! Fields of an object.
 ghost use Rattle.std.specs.Prelude.{◌≡◌, ◌≤◌, map, not, [], IfOk, IfSome};
-ghost use Rattle.std.specs.List.{position_from};
+ghost use Rattle.std.specs.List.{position_from, list_all, list_any};
 ghost use Rattle.std.specs.Option.{option_map};
 ghost use Rattle.std.specs.Result.{result_map_both};
 ghost use Rattle.json.specs.Value.{value_view, members_view};
 ghost use Rattle.json.specs.Find.{as_array};
 ghost use Rattle.json.specs.Strict.{keys};
-ghost use Rattle.sk_profile_json.specs.Fields.{given, text_in, number_in, list_in, list_of, number_up_to, wrong_keys, wrong_members, is_known};
+ghost use Rattle.sk_profile_json.specs.Fields.{given, is_text, is_the, text_in, number_in, list_in, list_of, number_up_to, wrong_keys, wrong_members, is_known};
 
 use crate::fault::{Field, Wrong};
 use json::Value;
@@ -74,6 +74,51 @@ fn items_of<'v, 'a>(value: &'v Value<'a>) -> Option<&'v [Value<'a>]>
     ensures items { option_map (λ items. map value_view items.now) result ≡ option_map list_of (as_array (value_view value.now)) }
 {
     if let Value::Array(items) = value { Some(items) } else { None }
+}
+
+/// Whether a value is a text.
+pub(crate) fn is_text(value: &Value<'_>) -> bool
+    ensures text { result ≡ is_text (value_view value.now) }
+{
+    value.as_str().is_some()
+}
+
+/// Whether a value is this text.
+pub(crate) fn is_the(wanted: &str, value: &Value<'_>) -> bool
+    ensures same { result ≡ is_the wanted.now (value_view value.now) }
+{
+    match value.as_str() {
+        None => false,
+        Some(text) => text == wanted,
+    }
+}
+
+/// Whether all of these values are texts.
+#[tactic(auto, using(crate::proofs::Reading::all_of_map))]
+pub(crate) fn are_texts(values: &[Value<'_>]) -> bool
+    ensures texts { result ≡ list_all is_text (map value_view values.now) }
+{
+    each_is_text(values)
+}
+
+fn each_is_text(values: &[Value<'_>]) -> bool
+    ensures texts { result ≡ list_all (λ v. is_text (value_view v)) values.now }
+{
+    values.iter().all(|value| is_text(value))
+}
+
+/// Whether any of these values is this text.
+#[tactic(auto, using(crate::proofs::Reading::any_of_map))]
+pub(crate) fn has_text(wanted: &str, values: &[Value<'_>]) -> bool
+    ensures any { result ≡ list_any (is_the wanted.now) (map value_view values.now) }
+{
+    any_is_the(wanted, values)
+}
+
+fn any_is_the(wanted: &str, values: &[Value<'_>]) -> bool
+    ensures any { result ≡ list_any (λ v. is_the wanted.now (value_view v)) values.now }
+{
+    values.iter().any(|value| is_the(wanted, value))
 }
 
 /// What is wrong with an object by its keys: it may have no others than these.

@@ -4,6 +4,7 @@
 mod actions;
 mod argument;
 mod conditions;
+mod entry;
 mod fault;
 mod fields;
 
