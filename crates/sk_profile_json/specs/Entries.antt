@@ -59,7 +59,8 @@ pub record Entry : Type 0 where
 
 abbrev pub entry_fields : List Field
 entry_fields =
-    field.Names ∷ field.Name ∷ field.Action ∷ field.ErrnoRet ∷ field.Errno ∷ field.Args ∷ field.Comment ∷ []
+    field.Names ∷ field.Name ∷ field.Action ∷ field.ErrnoRet ∷ field.Errno ∷ field.Args ∷ field.Comment
+    ∷ field.Includes ∷ field.Excludes ∷ []
 
 abbrev pub entry_with : Json → List Json → Result Entry Wrong
 entry_with j names =

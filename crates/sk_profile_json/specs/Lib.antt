@@ -5,3 +5,7 @@ pub mod Arguments
 pub mod Conditions
 pub mod Entries
 pub mod EntryViews
+pub mod Contexts
+pub mod ContextViews
+pub mod Wholes
+pub mod WholeViews

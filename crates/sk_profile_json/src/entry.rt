@@ -13,7 +13,7 @@ use json::Value;
 use sk_insn::Action;
 
 /// The fields that an entry may have.
-const FIELDS: [Field; 7] = [
+const FIELDS: [Field; 9] = [
     Field::Names,
     Field::Name,
     Field::Action,
@@ -21,9 +21,12 @@ const FIELDS: [Field; 7] = [
     Field::Errno,
     Field::Args,
     Field::Comment,
+    Field::Includes,
+    Field::Excludes,
 ];
 
 /// The names that an entry is for, the value that it answers, and its arguments.
+#[derive(Clone, Copy, Debug, Drop)]
 pub(crate) struct Entry<'v, 'a> {
     pub names: &'v [Value<'a>],
     pub value: u32,
@@ -83,7 +86,8 @@ fn entry_value(names: &[Value<'_>], entry: &Value<'_>) -> Result<u32, Wrong>
     value(entry, action, Field::ErrnoRet, Field::Errno)
 }
 
-fn is_told(action: Action) -> bool
+/// Whether who listens is told of calls with an action.
+pub(crate) fn is_told(action: Action) -> bool
     ensures told { result ≡ is_told action }
 {
     matches!(action, Action::UserNotif)

@@ -2,6 +2,8 @@
 ghost use Rattle.std.specs.Prelude.{◌≡◌};
 ghost use Rattle.sk_profile_json.specs.Keys.{key_of};
 
+use std::alloc::{AllocError, AllocFailed};
+
 /// A field of a profile, of one of its entries, or of what these have in them.
 #[derive(Clone, Copy, Debug, Drop, PartialEq, Eq)]
 pub enum Field {
@@ -83,5 +85,58 @@ impl Field {
             Field::ValueTwo => "valueTwo",
             Field::Op => "op",
         }
+    }
+}
+
+/// Where something is wrong.
+#[derive(Clone, Copy, Debug, Drop, PartialEq, Eq)]
+pub enum Place {
+    /// The profile itself.
+    Profile,
+    /// The entry of `syscalls` with this number, from 0.
+    Entry(usize),
+    /// In the entry with the first number the argument with the second, each from 0.
+    Argument(usize, usize),
+}
+
+/// The first thing that is wrong with a profile.
+#[derive(Clone, Copy, Debug, Drop, PartialEq, Eq)]
+pub struct Fault {
+    pub place: Place,
+    pub wrong: Wrong,
+}
+
+/// Why no profile was read.
+#[derive(Clone, Copy, Debug, Drop, PartialEq, Eq)]
+pub enum ReadFault {
+    /// The text is no JSON, or nests deeper than is read.
+    NotJson,
+    /// A key comes twice in one object.
+    KeyTwice,
+    /// This is wrong with the profile.
+    Profile(Fault),
+    /// Memory was refused.
+    Memory,
+}
+
+impl From<AllocError> for ReadFault {
+    ghost use Rattle.std.specs.Prelude.{◌≡◌};
+    ghost use Rattle.sk_profile_json.specs.declared.fault.ReadFault.TheVariants.{Memory};
+
+    ghost from_gives = { λ _ fault. fault ≡ Memory };
+
+    fn from(_refused: AllocError) -> ReadFault {
+        ReadFault::Memory
+    }
+}
+
+impl<T: Drop> From<AllocFailed<T>> for ReadFault {
+    ghost use Rattle.std.specs.Prelude.{◌≡◌};
+    ghost use Rattle.sk_profile_json.specs.declared.fault.ReadFault.TheVariants.{Memory};
+
+    ghost from_gives = { λ _ fault. fault ≡ Memory };
+
+    fn from(_refused: AllocFailed<T>) -> ReadFault {
+        ReadFault::Memory
     }
 }

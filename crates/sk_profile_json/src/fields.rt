@@ -6,7 +6,7 @@ ghost use Rattle.std.specs.Result.{result_map_both};
 ghost use Rattle.json.specs.Value.{value_view, members_view};
 ghost use Rattle.json.specs.Find.{as_array};
 ghost use Rattle.json.specs.Strict.{keys};
-ghost use Rattle.sk_profile_json.specs.Fields.{given, is_text, is_the, text_in, number_in, list_in, list_of, number_up_to, wrong_keys, wrong_members, is_known};
+ghost use Rattle.sk_profile_json.specs.Fields.{given, is_text, is_the, text_in, number_in, list_in, texts_in, list_of, number_up_to, wrong_keys, wrong_members, is_known};
 
 use crate::fault::{Field, Wrong};
 use json::Value;
@@ -105,6 +105,14 @@ fn each_is_text(values: &[Value<'_>]) -> bool
     ensures texts { result ≡ list_all (λ v. is_text (value_view v)) values.now }
 {
     values.iter().all(|value| is_text(value))
+}
+
+/// A field that is a list of texts.
+pub(crate) fn texts<'v, 'a>(object: &'v Value<'a>, field: Field) -> Result<&'v [Value<'a>], Wrong>
+    ensures texts { result_map_both (λ items. map value_view items.now) (λ e. e) result ≡ texts_in field (value_view object.now) }
+{
+    let items = list(object, field)?;
+    if are_texts(items) { Ok(items) } else { Err(Wrong::NotTaken(field)) }
 }
 
 /// Whether any of these values is this text.
