@@ -9,3 +9,4 @@ pub mod Contexts
 pub mod ContextViews
 pub mod Wholes
 pub mod WholeViews
+pub mod WorkedProfiles

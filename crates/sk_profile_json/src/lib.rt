@@ -8,6 +8,7 @@ mod context;
 mod entry;
 mod fault;
 mod fields;
+pub mod laws;
 mod rules;
 mod whole;
 
