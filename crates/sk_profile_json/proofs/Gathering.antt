@@ -1,7 +1,6 @@
 -- Rules that a loop has gathered up to a place.
-use Rattle.std.proofs.Common.{◌≡◌, ℕ, ◌+◌, ◌<◌, ◌≤◌, suc, List, [], ◌∷◌, ◌++◌, length, map, drop, get_or, Option, Some, None, Result, Ok, Err, refl, ap, sym, ◌∙◌, add-one, append_assoc, append-nil}
+use Rattle.std.proofs.Common.{◌≡◌, ℕ, ◌+◌, ◌<◌, ◌≤◌, suc, List, [], ◌++◌, length, map, drop, get_or, Result, Ok, Err, refl, ap, sym, ◌∙◌, add-one, append_assoc, append-nil}
 use Rattle.std.specs.List.{cons_option}
-use Rattle.json.specs.Json.{Json}
 use Rattle.json.specs.Value.{value_view}
 use Rattle.json.specs.declared.value.Value.{Value}
 use Rattle.sk_profile_code.specs.declared.condition.Condition.{Condition}

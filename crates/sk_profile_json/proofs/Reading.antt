@@ -1,12 +1,12 @@
 -- Values of JSON as lists.
-use Rattle.std.proofs.Common.{◌≡◌, ◌&&◌, ◌||◌, ℕ, ◌+◌, ◌<◌, ◌≤◌, suc, Bool, cond, List, [], ◌∷◌, length, map, drop, get_or, Option, Some, None, true, false, refl, ap, sym, ◌∙◌, rules, Vec, add-one, drop-cons}
+use Rattle.std.proofs.Common.{◌≡◌, ◌&&◌, ◌||◌, ℕ, ◌+◌, ◌<◌, ◌≤◌, suc, Bool, cond, List, [], ◌∷◌, length, map, drop, get_or, Some, None, true, false, refl, ap, sym, ◌∙◌, rules, Vec, add-one, drop-cons}
 use Rattle.std.proofs.Math.ListN.{drop_of_length-le}
 use Rattle.std.specs.List.{position_from, list_all, list_any}
 use Rattle.json.specs.Strict.{keys}
 use Rattle.std.specs.Borrow.{Bor}
 use Rattle.std.specs.Option.{option_map}
 use Rattle.json.specs.Find.{as_array, as_object}
-use Rattle.json.specs.Json.{Json, Items}
+use Rattle.json.specs.Json.{Json}
 use Rattle.json.specs.Value.{items_of, members_view, value_view}
 use Rattle.json.specs.declared.value.Value.{Value, Array, Object, the_lemmas}
 use Rattle.sk_profile_json.specs.declared.fault.Field.{Field}

@@ -1,6 +1,6 @@
 -- The actions of a profile, and the values that a filter answers for them: config-linux.md of the OCI runtime
 -- specification, section "Seccomp"; seccomp(2).
-use Rattle.std.specs.Prelude.{ℕ, ◌+◌, ◌==◌, ◌&&◌, not, Bool, true, false, if◌then◌else◌, List, codes, is_some, Option, Some, None, Result, Ok, Err, unwrap_or}
+use Rattle.std.specs.Prelude.{ℕ, ◌+◌, ◌&&◌, not, Bool, true, false, if◌then◌else◌, List, codes, is_some, Option, Some, None, Result, Ok, Err, unwrap_or}
 use Rattle.std.specs.Str.{bytes_eq}
 use Rattle.json.specs.Json.{Json}
 use Rattle.sk_insn.specs.declared.action.Action.{Action}
@@ -9,7 +9,7 @@ use Rattle.sk_insn.specs.Actions.{value_of}
 use Rattle.sk_verdict.specs.Errors.{error_named}
 use Rattle.sk_profile_json.specs.declared.fault.Field.{Field}
 use Rattle.sk_profile_json.specs.declared.fault.Wrong.{Wrong}
-use Rattle.sk_profile_json.specs.declared.fault.Wrong.TheVariants.{NotTaken, Contradicts}
+use Rattle.sk_profile_json.specs.declared.fault.Wrong.TheVariants.{Contradicts}
 use Rattle.sk_profile_json.specs.Fields.{result_then, required, taken, text_in, number_in}
 
 -- `SCMP_ACT_KILL` is the older name of `SCMP_ACT_KILL_THREAD`

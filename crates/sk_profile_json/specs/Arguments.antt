@@ -1,8 +1,7 @@
 -- One of an entry's `args`: a comparison of an argument of the call, all 64 bits. With SCMP_CMP_MASKED_EQ `value` is the mask
 -- and `valueTwo` what is compared; no other operator has a `valueTwo` (config-linux.md of the OCI runtime specification,
 -- section "Seccomp"; seccomp_rule_add(3)).
-use Rattle.std.specs.Prelude.{ℕ, ◌==◌, ◌-◌, ◌^◌, ◌&&◌, not, Bool, true, false, bit_and, if◌then◌else◌, List, [], ◌∷◌, codes, Option, Some, None, Result, Ok, Err, unwrap_or}
-use Rattle.std.specs.List.{list_any}
+use Rattle.std.specs.Prelude.{ℕ, ◌==◌, ◌-◌, ◌^◌, bit_and, if◌then◌else◌, List, [], ◌∷◌, codes, Option, Some, None, Result, Ok, Err, unwrap_or}
 use Rattle.std.specs.Str.{bytes_eq}
 use Rattle.json.specs.Json.{Json}
 use Rattle.sk_profile_code.specs.declared.condition.Condition.{Condition}
@@ -50,8 +49,8 @@ operator_in value j =
 abbrev pub comparison_in : ℕ → Json → Result Condition Wrong
 comparison_in index j =
     result_then (λ value. result_then (λ two. result_then (condition_with index value (unwrap_or two 0))
-        (operator_in value j)) (number_in greatest_value field.ValueTwo j))
-        (result_then (required field.Value) (number_in greatest_value field.Value j))
+    (operator_in value j)) (number_in greatest_value field.ValueTwo j))
+    (result_then (required field.Value) (number_in greatest_value field.Value j))
 
 abbrev pub condition_if : Option Wrong → Json → Result Condition Wrong
 condition_if (Some wrong) j = Err wrong

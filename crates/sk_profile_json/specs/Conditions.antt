@@ -1,6 +1,6 @@
 -- An entry's `args`: all hold of a call that the entry is for. Each is on another argument, since the runtimes differ where two
--- are on one: runc takes either, crun and libseccomp neither.
-use Rattle.std.specs.Prelude.{ℕ, ◌==◌, ◌&&◌, ◌+◌, not, Bool, true, false, if◌then◌else◌, List, [], ◌∷◌, Option, Some, None, Result, Ok, Err}
+-- are on one: either is enough for runc and crun, and libseccomp refuses the rule.
+use Rattle.std.specs.Prelude.{ℕ, ◌==◌, ◌&&◌, ◌+◌, not, Bool, true, List, [], ◌∷◌, Option, Some, None, Result, Ok, Err}
 use Rattle.std.specs.List.{list_any, filter_map}
 use Rattle.std.specs.Option.{option_or}
 use Rattle.std.specs.Result.{result_ok}

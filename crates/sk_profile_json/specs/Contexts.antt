@@ -1,13 +1,11 @@
 -- Where an entry counts: `includes` and `excludes` of docker's and podman's profiles, as moby's
 -- profiles/seccomp/seccomp_linux.go reads them. An entry that excludes the architecture, any of the capabilities that
 -- are held, or the kernel, is left out, and so is one that includes others only.
-use Rattle.std.specs.Prelude.{ℕ, ◌+◌, ◌-◌, ◌^◌, ◌==◌, ◌&&◌, ◌||◌, not, nat_lt, nat_le, Bool, true, false, if◌then◌else◌, List, [], ◌∷◌, length, take, drop, codes, is_some, Option, Some, None, Result, Ok, Err}
+use Rattle.std.specs.Prelude.{ℕ, ◌+◌, ◌-◌, ◌^◌, ◌==◌, ◌&&◌, ◌||◌, not, nat_lt, nat_le, Bool, true, false, if◌then◌else◌, List, [], ◌∷◌, length, take, drop, codes, Option, Some, None, Result, Ok, Err}
 use Rattle.std.specs.Borrow.{Bor}
 use Rattle.std.specs.List.{list_any, list_all, position_from}
-use Rattle.std.specs.Option.{option_and_then, option_map}
 use Rattle.std.specs.Result.{result_ok}
 use Rattle.json.specs.Json.{Json}
-use Rattle.json.specs.Find.{as_str}
 use Rattle.sk_text.specs.Numbers.{number_of, up_to}
 use Rattle.sk_profile_json.specs.declared.context.Context.{Context}
 use Rattle.sk_profile_json.specs.declared.context.Kernel.{Kernel}
@@ -67,7 +65,7 @@ abbrev pub where_if : Option Wrong → Json → Result Where Wrong
 where_if (Some wrong) j = Err wrong
 where_if None j =
     result_then (λ arches. result_then (λ caps. result_then (λ kernel. Ok (record { arches = arches; caps = caps; kernel = kernel }))
-        (kernel_in j)) (texts_in field.Caps j)) (texts_in field.Arches j)
+    (kernel_in j)) (texts_in field.Caps j)) (texts_in field.Arches j)
 
 abbrev pub where_of : Json → Result Where Wrong
 where_of j = where_if (wrong_keys where_fields j) j
@@ -105,4 +103,4 @@ takes_in context place =
 abbrev pub counts : Context → Json → Result Bool Wrong
 counts context j =
     result_then (λ includes. result_then (λ excludes. Ok (takes_in context includes && not (leaves_out context excludes)))
-        (where_in field.Excludes j)) (where_in field.Includes j)
+    (where_in field.Excludes j)) (where_in field.Includes j)

@@ -1,6 +1,6 @@
 -- One entry of `syscalls`: rules for the calls that it names (config-linux.md of the OCI runtime specification, section
 -- "Seccomp"). An older profile has one `name` in place of `names`. A name that no call of x86-64 has gives no rule.
-use Rattle.std.specs.Prelude.{ℕ, ◌&&◌, not, Bool, true, false, if◌then◌else◌, List, [], ◌∷◌, codes, is_some, Option, Some, None, Result, Ok, Err}
+use Rattle.std.specs.Prelude.{ℕ, ◌&&◌, Bool, true, false, if◌then◌else◌, List, [], ◌∷◌, codes, Option, Some, None, Result, Ok, Err}
 use Rattle.std.specs.List.{list_any, list_all, filter_map}
 use Rattle.std.specs.Option.{option_and_then, option_map}
 use Rattle.json.specs.Json.{Json}
@@ -65,7 +65,7 @@ entry_fields =
 abbrev pub entry_with : Json → List Json → Result Entry Wrong
 entry_with j names =
     result_then (λ value. result_then (λ arguments. Ok (record { names = names; value = value; arguments = arguments }))
-        (list_in field.Args j)) (entry_value names j)
+    (list_in field.Args j)) (entry_value names j)
 
 abbrev pub entry_if : Option Wrong → Json → Result Entry Wrong
 entry_if (Some wrong) j = Err wrong
@@ -79,7 +79,7 @@ entry_of j = entry_if (wrong_keys entry_fields j) j
 abbrev pub rule_for : List Condition → ℕ → Json → Option Rule
 rule_for conditions value j =
     option_map (λ number. record { number = number; conditions = conditions; value = value })
-        (option_and_then number_named (as_str j))
+    (option_and_then number_named (as_str j))
 
 abbrev pub rules_for : List Condition → ℕ → List Json → List Rule
 rules_for conditions value names = filter_map (rule_for conditions value) names

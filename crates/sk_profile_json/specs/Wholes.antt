@@ -1,7 +1,7 @@
 -- A whole profile: the object `seccomp` of config-linux.md of the OCI runtime specification, with what docker's and podman's
 -- profiles have beside it. `flags`, `listenerPath` and `listenerMetadata` say how a filter is attached, and nothing of what
 -- it answers.
-use Rattle.std.specs.Prelude.{ℕ, ◌≡◌, ◌+◌, ◌==◌, ◌&&◌, ◌||◌, not, Bool, true, false, if◌then◌else◌, List, [], ◌∷◌, ◌++◌, codes, length, is_some, Option, Some, None, Result, Ok, Err, ⊤}
+use Rattle.std.specs.Prelude.{ℕ, ◌≡◌, ◌+◌, ◌&&◌, ◌||◌, not, Bool, true, false, if◌then◌else◌, List, [], ◌∷◌, ◌++◌, codes, is_some, Option, Some, None, Result, Ok, Err, ⊤}
 use Rattle.std.specs.List.{list_any, list_all}
 use Rattle.std.specs.Option.{IsSomeAnd}
 use Rattle.json.specs.Json.{Json, document}
@@ -25,7 +25,7 @@ use Rattle.sk_profile_json.specs.Actions.{action_in, value_in}
 use Rattle.sk_profile_json.specs.Conditions.{wrong_argument, conditions_of, are_apart}
 use Rattle.sk_profile_json.specs.Contexts.{counts, is_empty}
 use Rattle.sk_profile_json.specs.Entries.{Entry, entry_of, rules_for, is_told}
-use Rattle.sk_profile_json.specs.Fields.{result_then, given, list_in, texts_in, wrong_keys, is_the}
+use Rattle.sk_profile_json.specs.Fields.{result_then, given, list_in, wrong_keys, is_the}
 
 -- ---- its entries
 
@@ -134,7 +134,7 @@ head_unless None j =
 abbrev pub head_with : Json → Result Head Wrong
 head_with j =
     result_then (λ architectures. result_then (λ maps. head_unless (wrong_lists architectures maps) j) (list_in field.ArchMap j))
-        (list_in field.Architectures j)
+    (list_in field.Architectures j)
 
 abbrev pub head_if : Option Wrong → Json → Result Head Wrong
 head_if (Some wrong) j = Err wrong

@@ -1,5 +1,5 @@
 -- Profiles that are worked out by hand.
-use Rattle.std.specs.Prelude.{ℕ, ◌≡◌, List, [], ◌∷◌, codes, Option, Some, None, Result, Ok, Err}
+use Rattle.std.specs.Prelude.{ℕ, ◌≡◌, List, [], ◌∷◌, codes, Some, None, Result, Ok, Err}
 use Rattle.std.specs.Borrow.{Bor}
 use Rattle.json.specs.Json.{Json, null, string, number, array, object, Items, no_items, item, Members, no_members, member}
 use Rattle.sk_profile_code.specs.declared.condition.Condition.{Condition}
@@ -89,8 +89,11 @@ clone = allowing (codes "clone") (
     (codes "args", listed (argument (codes "0") (codes "2114060288") masked [] ∷ []))
     ∷ (codes "comment", string [])
     ∷ (codes "includes", object no_members)
-    ∷ (codes "excludes", object (members_from ((codes "caps", listed (string (codes "CAP_SYS_ADMIN") ∷ []))
-        ∷ (codes "arches", listed (string (codes "s390") ∷ string (codes "s390x") ∷ [])) ∷ [])))
+    ∷ (
+      codes "excludes",
+      object (members_from ((codes "caps", listed (string (codes "CAP_SYS_ADMIN") ∷ []))
+          ∷ (codes "arches", listed (string (codes "s390") ∷ string (codes "s390x") ∷ [])) ∷ [])),
+    )
     ∷ [])
 
 -- an entry for ptrace, from a kernel on
@@ -133,7 +136,6 @@ pub record WorkedProfiles : Type 0 where
   pub by_one_name : profile_in plain (refusing (object (members_from ((codes "name", string (codes "open")) ∷ (codes "action", string (codes "SCMP_ACT_LOG")) ∷ [])) ∷ []))
       ≡ says (rule 2 [] 0x7ffc0000 ∷ []) 0x50001
   pub no_call_of_x86_64 : profile_in plain (refusing (allowing (codes "chown32") [] ∷ [])) ≡ says [] 0x50001
-
   -- values
   pub older_kill : profile_in plain (profile (codes "SCMP_ACT_KILL") []) ≡ says [] 0
   pub kill_process : profile_in plain (profile (codes "SCMP_ACT_KILL_PROCESS") []) ≡ says [] 0x80000000
@@ -141,7 +143,6 @@ pub record WorkedProfiles : Type 0 where
   pub enosys : profile_in plain (refusing (failing ((codes "errnoRet", number (codes "38")) ∷ (codes "errno", string (codes "ENOSYS")) ∷ []) ∷ []))
       ≡ says (rule 435 [] 0x50026 ∷ []) 0x50001
   pub greatest : profile_in plain (profile (codes "SCMP_ACT_ERRNO") ((codes "defaultErrnoRet", number (codes "4094")) ∷ [])) ≡ says [] 0x50ffe
-
   -- where an entry counts
   pub from_this_kernel : profile_in plain (refusing (ptrace_from (codes "5.4") ∷ [])) ≡ says (rule 101 [] 0x7fff0000 ∷ []) 0x50001
   pub from_an_earlier_one : profile_in plain (refusing (ptrace_from (codes "4.8") ∷ [])) ≡ says (rule 101 [] 0x7fff0000 ∷ []) 0x50001
@@ -151,7 +152,6 @@ pub record WorkedProfiles : Type 0 where
   pub with_a_capability : profile_in admin (refusing (with_caps (codes "CAP_SYS_ADMIN") ∷ [])) ≡ says (rule 101 [] 0x7fff0000 ∷ []) 0x50001
   pub without_it : profile_in plain (refusing (with_caps (codes "CAP_SYS_ADMIN") ∷ [])) ≡ says [] 0x50001
   pub with_another : profile_in admin (refusing (with_caps (codes "CAP_SYS_BOOT") ∷ [])) ≡ says [] 0x50001
-
   -- what is refused of the profile
   pub no_object : profile_in plain (listed []) ≡ wrong place.Profile NotAnObject
   pub unknown_key : profile_in plain (profile (codes "SCMP_ACT_LOG") ((codes "default", null) ∷ [])) ≡ wrong place.Profile (UnknownKey 1)
@@ -172,7 +172,6 @@ pub record WorkedProfiles : Type 0 where
       ≡ wrong place.Profile (NotTaken field.DefaultErrnoRet)
   pub number_for_allow : profile_in plain (profile (codes "SCMP_ACT_ALLOW") ((codes "defaultErrnoRet", number (codes "1")) ∷ []))
       ≡ wrong place.Profile (Contradicts field.DefaultErrnoRet)
-
   -- and of an entry, the second here
   pub no_names : profile_in plain (refusing (clone ∷ object (members_from ((codes "action", string (codes "SCMP_ACT_LOG")) ∷ [])) ∷ []))
       ≡ wrong (place.Entry 1) (Missing field.Names)
@@ -203,7 +202,6 @@ pub record WorkedProfiles : Type 0 where
       argument (codes "2") (codes "1") eq [] ∷ argument (codes "2") (codes "2") eq [] ∷ []) ∷ []))
       ≡ wrong (place.Entry 1) (Contradicts field.Args)
   pub no_version : profile_in plain (refusing (clone ∷ ptrace_from (codes "4") ∷ [])) ≡ wrong (place.Entry 1) (NotTaken field.Includes)
-
   -- versions
   pub version : kernel_of (codes "6.12") ≡ Some (kernel 6 12)
   pub three_numbers : kernel_of (codes "6.12.1") ≡ None

@@ -18,7 +18,7 @@ const GREATEST_ERROR: u64 = 4094;
 const EPERM: u64 = 1;
 
 /// The action with a name of the OCI runtime specification.
-pub fn action_named(name: &str) -> Option<Action>
+pub(crate) fn action_named(name: &str) -> Option<Action>
     ensures named { result ≡ action_named name.now }
 {
     match name {
@@ -35,18 +35,22 @@ pub fn action_named(name: &str) -> Option<Action>
 }
 
 /// Whether an action gives an error's number on.
-pub fn takes_number(action: Action) -> bool
+pub(crate) fn takes_number(action: Action) -> bool
     ensures takes { result ≡ takes_number action }
 {
     matches!(action, Action::Errno | Action::Trace)
 }
 
 /// The value that a filter answers for an action, with the number of an error if it has one.
-pub fn value_with(action: Action, number: Option<u64>) -> u32
+pub(crate) fn value_with(action: Action, number: Option<u64>) -> u32
     requires small { IfSome number (λ n. n ≤ greatest_error) }
     ensures value { result ≡ value_with action number }
 {
-    let data = if takes_number(action) { number.unwrap_or(EPERM) } else { 0 };
+    let data = if takes_number(action) {
+        number.unwrap_or(EPERM)
+    } else {
+        0
+    };
     action.value().unwrap_or(0) + data as u32
 }
 
@@ -59,7 +63,12 @@ pub(crate) fn action(object: &Value<'_>, field: Field) -> Result<Action, Wrong>
 }
 
 /// The value for an action, with the number and the name of its error in these fields.
-pub(crate) fn value(object: &Value<'_>, action: Action, errno_ret: Field, errno: Field) -> Result<u32, Wrong>
+pub(crate) fn value(
+    object: &Value<'_>,
+    action: Action,
+    errno_ret: Field,
+    errno: Field,
+) -> Result<u32, Wrong>
     ensures value { result ≡ value_in errno_ret errno action (value_view object.now) }
 {
     let given = number(object, errno_ret, GREATEST_ERROR)?;

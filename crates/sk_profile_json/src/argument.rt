@@ -15,13 +15,15 @@ const FIELDS: [Field; 4] = [Field::Index, Field::Value, Field::ValueTwo, Field::
 const GREATEST_INDEX: u64 = 5;
 
 /// The condition that one of `args` is, or what is wrong with it.
-pub fn condition(argument: &Value<'_>) -> Result<Condition, Wrong>
+pub(crate) fn condition(argument: &Value<'_>) -> Result<Condition, Wrong>
     ensures condition { result ≡ condition_of (value_view argument.now) }
 {
     if let Some(wrong) = wrong_keys(&FIELDS, argument) {
         return Err(wrong);
     }
-    let index = number(argument, Field::Index, GREATEST_INDEX)?.ok_or(Wrong::Missing(Field::Index))?;
+    let index = number(argument, Field::Index, GREATEST_INDEX)?.ok_or(Wrong::Missing(
+        Field::Index,
+    ))?;
     comparison(index as u8, argument)
 }
 
@@ -45,7 +47,11 @@ fn condition_with(index: u8, value: u64, two: u64, test: Test) -> Result<Conditi
     ensures condition { result ≡ condition_with index value two test }
 {
     match test {
-        Test::Masked(mask) if two & mask == two => Ok(Condition { index, test, value: two }),
+        Test::Masked(mask) if two & mask == two => Ok(Condition {
+            index,
+            test,
+            value: two,
+        }),
         Test::Masked(_) => Err(Wrong::Contradicts(Field::ValueTwo)),
         _ if two == 0 => Ok(Condition { index, test, value }),
         _ => Err(Wrong::Contradicts(Field::ValueTwo)),
@@ -53,7 +59,7 @@ fn condition_with(index: u8, value: u64, two: u64, test: Test) -> Result<Conditi
 }
 
 /// The operator with a name of the OCI runtime specification, where `value` is this.
-pub fn test_named(name: &str, value: u64) -> Option<Test>
+pub(crate) fn test_named(name: &str, value: u64) -> Option<Test>
     ensures named { result ≡ test_named name.now value }
 {
     match name {

@@ -14,13 +14,13 @@ use std::alloc::{AllocError, Global};
 
 /// What is wrong with an argument, and its number from 0.
 #[derive(Clone, Copy, Debug, Drop, PartialEq, Eq)]
-pub struct WrongArgument {
+pub(crate) struct WrongArgument {
     pub place: usize,
     pub wrong: Wrong,
 }
 
 /// The first argument that is no condition.
-pub fn wrong_argument(arguments: &[Value<'_>]) -> Option<WrongArgument>
+pub(crate) fn wrong_argument(arguments: &[Value<'_>]) -> Option<WrongArgument>
     ensures first { result ≡ wrong_argument 0 (map value_view arguments.now) }
 {
     for (place, argument) in arguments.iter().enumerate() {
@@ -32,7 +32,10 @@ pub fn wrong_argument(arguments: &[Value<'_>]) -> Option<WrongArgument>
 }
 
 /// The conditions that arguments are, without those that are none.
-pub fn conditions_of(alloc: Global, arguments: &[Value<'_>]) -> Result<Vec<Condition>, AllocError>
+pub(crate) fn conditions_of(
+    alloc: Global,
+    arguments: &[Value<'_>],
+) -> Result<Vec<Condition>, AllocError>
     ensures all { IfOk result (λ conditions. conditions.items ≡ conditions_of (map value_view arguments.now)) }
 {
     let mut conditions = Vec::new(alloc);
@@ -52,7 +55,7 @@ fn push_condition(conditions: &mut Vec<Condition>, argument: &Value<'_>) -> Resu
 }
 
 /// Whether each condition is on another argument.
-pub fn are_apart(conditions: &[Condition]) -> bool
+pub(crate) fn are_apart(conditions: &[Condition]) -> bool
     ensures apart { result ≡ are_apart conditions.now }
 {
     let mut left = conditions;

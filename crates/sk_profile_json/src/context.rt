@@ -39,7 +39,7 @@ pub(crate) struct Where<'v, 'a> {
 const FIELDS: [Field; 3] = [Field::Arches, Field::Caps, Field::MinKernel];
 
 /// Whether an entry counts.
-pub fn counts(context: &Context<'_>, entry: &Value<'_>) -> Result<bool, Wrong>
+pub(crate) fn counts(context: &Context<'_>, entry: &Value<'_>) -> Result<bool, Wrong>
     ensures counts { result ≡ counts context.now (value_view entry.now) }
 {
     let includes = where_in(entry, Field::Includes)?;
@@ -62,7 +62,11 @@ fn where_in<'v, 'a>(entry: &'v Value<'a>, field: Field) -> Result<Where<'v, 'a>,
 fn nowhere<'v, 'a>() -> Where<'v, 'a>
     ensures nowhere { where_view result ≡ nowhere }
 {
-    Where { arches: &[], caps: &[], kernel: None }
+    Where {
+        arches: &[],
+        caps: &[],
+        kernel: None,
+    }
 }
 
 fn where_of<'v, 'a>(object: &'v Value<'a>) -> Result<Where<'v, 'a>, Wrong>
@@ -74,7 +78,11 @@ fn where_of<'v, 'a>(object: &'v Value<'a>) -> Result<Where<'v, 'a>, Wrong>
     let arches = texts(object, Field::Arches)?;
     let caps = texts(object, Field::Caps)?;
     let kernel = kernel_in(object)?;
-    Ok(Where { arches, caps, kernel })
+    Ok(Where {
+        arches,
+        caps,
+        kernel,
+    })
 }
 
 fn kernel_in(object: &Value<'_>) -> Result<Option<Kernel>, Wrong>

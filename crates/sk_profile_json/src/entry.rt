@@ -43,7 +43,11 @@ pub(crate) fn entry_of<'v, 'a>(entry: &'v Value<'a>) -> Result<Entry<'v, 'a>, Wr
     let names = names(entry)?;
     let value = entry_value(names, entry)?;
     let arguments = list(entry, Field::Args)?;
-    Ok(Entry { names, value, arguments })
+    Ok(Entry {
+        names,
+        value,
+        arguments,
+    })
 }
 
 fn names<'v, 'a>(entry: &'v Value<'a>) -> Result<&'v [Value<'a>], Wrong>
@@ -53,7 +57,10 @@ fn names<'v, 'a>(entry: &'v Value<'a>) -> Result<&'v [Value<'a>], Wrong>
     names_or(items, given(entry, Field::Name))
 }
 
-fn names_or<'v, 'a>(items: &'v [Value<'a>], name: Option<&'v Value<'a>>) -> Result<&'v [Value<'a>], Wrong>
+fn names_or<'v, 'a>(
+    items: &'v [Value<'a>],
+    name: Option<&'v Value<'a>>,
+) -> Result<&'v [Value<'a>], Wrong>
     ensures names { result_map_both (λ names. map value_view names.now) (λ e. e) result ≡ names_or (map value_view items.now) (option_map (λ v. value_view v.now) name.entry) }
 {
     match name {

@@ -73,7 +73,11 @@ fn no_items<'v, 'a>() -> &'v [Value<'a>]
 fn items_of<'v, 'a>(value: &'v Value<'a>) -> Option<&'v [Value<'a>]>
     ensures items { option_map (λ items. map value_view items.now) result ≡ option_map list_of (as_array (value_view value.now)) }
 {
-    if let Value::Array(items) = value { Some(items) } else { None }
+    if let Value::Array(items) = value {
+        Some(items)
+    } else {
+        None
+    }
 }
 
 /// Whether a value is a text.
@@ -112,7 +116,11 @@ pub(crate) fn texts<'v, 'a>(object: &'v Value<'a>, field: Field) -> Result<&'v [
     ensures texts { result_map_both (λ items. map value_view items.now) (λ e. e) result ≡ texts_in field (value_view object.now) }
 {
     let items = list(object, field)?;
-    if are_texts(items) { Ok(items) } else { Err(Wrong::NotTaken(field)) }
+    if are_texts(items) {
+        Ok(items)
+    } else {
+        Err(Wrong::NotTaken(field))
+    }
 }
 
 /// Whether any of these values is this text.

@@ -21,7 +21,11 @@ use sk_profile_code::Condition;
 use std::alloc::{AllocError, Global};
 
 /// The rules of these entries, in their order.
-pub(crate) fn rules_of(alloc: Global, context: &Context<'_>, entries: &[Value<'_>]) -> Result<Vec<Rule>, ReadFault>
+pub(crate) fn rules_of(
+    alloc: Global,
+    context: &Context<'_>,
+    entries: &[Value<'_>],
+) -> Result<Vec<Rule>, ReadFault>
     ensures rules { IfOk result (λ rules. rules_from context.now 0 (map value_view entries.now) ≡ Ok (map rule_of rules.items)) }
     ensures fault { IfErr result (IsFault (rules_from context.now 0 (map value_view entries.now))) }
 {
@@ -33,11 +37,21 @@ pub(crate) fn rules_of(alloc: Global, context: &Context<'_>, entries: &[Value<'_
 }
 
 // Adds the rules of the entry with this number.
-fn push_entry(alloc: Global, rules: &mut Vec<Rule>, context: &Context<'_>, place: usize, entry: &Value<'_>) -> Result<(), ReadFault>
+fn push_entry(
+    alloc: Global,
+    rules: &mut Vec<Rule>,
+    context: &Context<'_>,
+    place: usize,
+    entry: &Value<'_>,
+) -> Result<(), ReadFault>
     ensures pushed { OnOk result (before (map rule_of rules.old.items) (entry_rules context.now place (value_view entry.now)) ≡ Ok (map rule_of rules.new.items)) }
     ensures fault { IfErr result (IsFault (entry_rules context.now place (value_view entry.now))) }
 {
-    let Entry { names, value, arguments } = match entry_of(entry) {
+    let Entry {
+        names,
+        value,
+        arguments,
+    } = match entry_of(entry) {
         Ok(entry) => entry,
         Err(wrong) => return Err(fault(Place::Entry(place), wrong)),
     };
@@ -62,7 +76,13 @@ fn fault(place: Place, wrong: Wrong) -> ReadFault
 }
 
 // Adds a rule for each of these names that a call of x86-64 has.
-fn push_rules(alloc: Global, rules: &mut Vec<Rule>, conditions: &[Condition], value: u32, names: &[Value<'_>]) -> Result<(), AllocError>
+fn push_rules(
+    alloc: Global,
+    rules: &mut Vec<Rule>,
+    conditions: &[Condition],
+    value: u32,
+    names: &[Value<'_>],
+) -> Result<(), AllocError>
     ensures pushed { OnOk result (map rule_of rules.new.items ≡ map rule_of rules.old.items ++ rules_for conditions.now value (map value_view names.now)) }
 {
     for name in names {
@@ -71,12 +91,22 @@ fn push_rules(alloc: Global, rules: &mut Vec<Rule>, conditions: &[Condition], va
     Ok(())
 }
 
-fn push_rule(alloc: Global, rules: &mut Vec<Rule>, conditions: &[Condition], value: u32, name: &Value<'_>) -> Result<(), AllocError>
+fn push_rule(
+    alloc: Global,
+    rules: &mut Vec<Rule>,
+    conditions: &[Condition],
+    value: u32,
+    name: &Value<'_>,
+) -> Result<(), AllocError>
     ensures pushed { OnOk result (map rule_of rules.new.items ≡ map rule_of rules.old.items ++ cons_option (rule_for conditions.now value (value_view name.now)) []) }
 {
     if let Some(number) = number_of(name) {
         let conditions = Vec::from_slice(alloc, conditions)?;
-        rules.push(Rule { number, conditions, value })?;
+        rules.push(Rule {
+            number,
+            conditions,
+            value,
+        })?;
     }
     Ok(())
 }

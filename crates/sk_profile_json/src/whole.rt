@@ -23,7 +23,7 @@ use sk_profile::Profile;
 use std::alloc::Global;
 
 /// The architectures of the OCI runtime specification.
-pub const ARCHITECTURES: [&str; 23] = [
+pub(crate) const ARCHITECTURES: [&str; 23] = [
     "SCMP_ARCH_X86",
     "SCMP_ARCH_X86_64",
     "SCMP_ARCH_X32",
@@ -87,16 +87,27 @@ pub fn read(alloc: Global, context: &Context<'_>, text: &str) -> Result<Profile,
 }
 
 /// The profile that a value says, where it is to hold.
-pub fn profile_in(alloc: Global, context: &Context<'_>, value: &Value<'_>) -> Result<Profile, ReadFault>
+pub fn profile_in(
+    alloc: Global,
+    context: &Context<'_>,
+    value: &Value<'_>,
+) -> Result<Profile, ReadFault>
     ensures says { IfOk result (λ profile. profile_in context.now (value_view value.now) ≡ Ok (profile_of profile)) }
     ensures fault { IfErr result (IsFault (profile_in context.now (value_view value.now))) }
 {
     let Head { default, entries } = match head_of(value) {
         Ok(head) => head,
-        Err(wrong) => return Err(ReadFault::Profile(Fault { place: Place::Profile, wrong })),
+        Err(wrong) => return Err(ReadFault::Profile(Fault {
+            place: Place::Profile,
+            wrong,
+        })),
     };
     let rules = rules_of(alloc, context, entries)?;
-    Ok(Profile { rules, default, bad: 0 })
+    Ok(Profile {
+        rules,
+        default,
+        bad: 0,
+    })
 }
 
 fn head_of<'v, 'a>(profile: &'v Value<'a>) -> Result<Head<'v, 'a>, Wrong>
@@ -212,7 +223,9 @@ fn any_maps_x86_64(items: &[Value<'_>]) -> bool
 fn is_map(value: &Value<'_>) -> bool
     ensures map { result ≡ is_map (value_view value.now) }
 {
-    wrong_keys(&MAP_FIELDS, value).is_none() && names_architecture(value) && has_sub_architectures(value)
+    wrong_keys(&MAP_FIELDS, value).is_none()
+        && names_architecture(value)
+        && has_sub_architectures(value)
 }
 
 fn names_architecture(value: &Value<'_>) -> bool

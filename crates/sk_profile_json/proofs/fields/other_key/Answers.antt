@@ -1,4 +1,4 @@
-use Rattle.std.proofs.Common.{◌≡◌, Bool, true, false, not, List, ℕ, sym, ◌∙◌, ap, arith, rules}
+use Rattle.std.proofs.Common.{◌≡◌, true, false, not, sym, ◌∙◌, rules}
 use Rattle.sk_profile_json.specs.Fields.{is_known}
 use Rattle.sk_profile_json.proofs.Reading.{key_passes, key_fails, keys_end}
 use Rattle.sk_profile_json.proofs.fields.other_key.Goals as goal
