@@ -1,0 +1,62 @@
+-- Each worked profile is what the definition computes.
+use Rattle.std.proofs.Common.{refl}
+use Rattle.sk_text.specs.Numbers.{number_of}
+use Rattle.sk_call_names.specs.Names.{name_of, number_named}
+use Rattle.sk_verdict.specs.Errors.{error_named}
+use Rattle.sk_profile_json.specs.WorkedProfiles.{WorkedProfiles}
+
+pub worked_profiles : WorkedProfiles
+unfolding number_of name_of number_named error_named
+worked_profiles = record {
+  personality = refl;
+  clone_by_mask = refl;
+  clone_left_out = refl;
+  two_entries = refl;
+  two_arguments = refl;
+  by_one_name = refl;
+  no_call_of_x86_64 = refl;
+  older_kill = refl;
+  kill_process = refl;
+  trace = refl;
+  enosys = refl;
+  greatest = refl;
+  from_this_kernel = refl;
+  from_an_earlier_one = refl;
+  from_a_later_one = refl;
+  for_this_arch = refl;
+  for_another_arch = refl;
+  with_a_capability = refl;
+  without_it = refl;
+  with_another = refl;
+  no_object = refl;
+  unknown_key = refl;
+  both_lists = refl;
+  named = refl;
+  mapped = refl;
+  not_named = refl;
+  unknown_architecture = refl;
+  not_mapped = refl;
+  no_default = refl;
+  unknown_action = refl;
+  default_notify = refl;
+  too_great = refl;
+  number_for_allow = refl;
+  no_names = refl;
+  names_and_name = refl;
+  no_action = refl;
+  told_of_write = refl;
+  other_name = refl;
+  name_alone = refl;
+  seventh_argument = refl;
+  no_operator = refl;
+  below_zero = refl;
+  too_large = refl;
+  second_value = refl;
+  outside_the_mask = refl;
+  one_argument_twice = refl;
+  no_version = refl;
+  version = refl;
+  three_numbers = refl;
+  hexadecimal = refl;
+  nothing_behind = refl;
+}

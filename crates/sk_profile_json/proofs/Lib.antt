@@ -1,0 +1,4 @@
+pub mod Reading
+pub mod Following
+pub mod Gathering
+pub mod Examples

@@ -1,0 +1,85 @@
+-- One entry of `syscalls`: rules for the calls that it names (config-linux.md of the OCI runtime specification, section
+-- "Seccomp"). An older profile has one `name` in place of `names`. A name that no call of x86-64 has gives no rule.
+use Rattle.std.specs.Prelude.{ℕ, ◌&&◌, Bool, true, false, if◌then◌else◌, List, [], ◌∷◌, codes, Option, Some, None, Result, Ok, Err}
+use Rattle.std.specs.List.{list_any, list_all, filter_map}
+use Rattle.std.specs.Option.{option_and_then, option_map}
+use Rattle.json.specs.Json.{Json}
+use Rattle.json.specs.Find.{as_str}
+use Rattle.sk_call_names.specs.Names.{number_named}
+use Rattle.sk_insn.specs.declared.action.Action.{Action}
+use Rattle.sk_insn.specs.declared.action.Action.TheVariants.{KillProcess, KillThread, Trap, Errno, UserNotif, Trace, Log, Allow, Unknown}
+use Rattle.sk_profile_code.specs.declared.condition.Condition.{Condition}
+use Rattle.sk_profile.specs.Profiles.{Rule}
+use Rattle.sk_profile_json.specs.declared.fault.Field.{Field}
+use Rattle.sk_profile_json.specs.declared.fault.Field.TheVariants as field
+use Rattle.sk_profile_json.specs.declared.fault.Wrong.{Wrong}
+use Rattle.sk_profile_json.specs.declared.fault.Wrong.TheVariants.{Missing, NotTaken, Contradicts}
+use Rattle.sk_profile_json.specs.Fields.{result_then, given, list_in, wrong_keys, is_text, is_the}
+use Rattle.sk_profile_json.specs.Actions.{action_in, value_in}
+
+-- ---- its names
+
+abbrev pub names_or : List Json → Option Json → Result (List Json) Wrong
+names_or [] None = Err (Missing field.Names)
+names_or [] (Some name) = if is_text name then Ok (name ∷ []) else Err (NotTaken field.Name)
+names_or (j ∷ js) None = if list_all is_text (j ∷ js) then Ok (j ∷ js) else Err (NotTaken field.Names)
+names_or (j ∷ js) (Some name) = Err (Contradicts field.Name)
+
+abbrev pub names_in : Json → Result (List Json) Wrong
+names_in j = result_then (λ items. names_or items (given field.Name j)) (list_in field.Names j)
+
+-- ---- its action
+
+-- who listens for calls is told of them by write(2), so a runtime refuses to have that one told
+abbrev pub is_told : Action → Bool
+is_told KillProcess = false
+is_told KillThread = false
+is_told Trap = false
+is_told Errno = false
+is_told UserNotif = true
+is_told Trace = false
+is_told Log = false
+is_told Allow = false
+is_told Unknown = false
+
+abbrev pub value_unless_told : List Json → Json → Action → Result ℕ Wrong
+value_unless_told names j action =
+    if is_told action && list_any (is_the (codes "write")) names then Err (Contradicts field.Action)
+    else value_in field.ErrnoRet field.Errno action j
+
+abbrev pub entry_value : List Json → Json → Result ℕ Wrong
+entry_value names j = result_then (value_unless_told names j) (action_in field.Action j)
+
+-- ---- the whole, but for its conditions
+
+pub record Entry : Type 0 where
+  pub names : List Json
+  pub value : ℕ
+  pub arguments : List Json
+
+abbrev pub entry_fields : List Field
+entry_fields =
+    field.Names ∷ field.Name ∷ field.Action ∷ field.ErrnoRet ∷ field.Errno ∷ field.Args ∷ field.Comment
+    ∷ field.Includes ∷ field.Excludes ∷ []
+
+abbrev pub entry_with : Json → List Json → Result Entry Wrong
+entry_with j names =
+    result_then (λ value. result_then (λ arguments. Ok (record { names = names; value = value; arguments = arguments }))
+    (list_in field.Args j)) (entry_value names j)
+
+abbrev pub entry_if : Option Wrong → Json → Result Entry Wrong
+entry_if (Some wrong) j = Err wrong
+entry_if None j = result_then (entry_with j) (names_in j)
+
+abbrev pub entry_of : Json → Result Entry Wrong
+entry_of j = entry_if (wrong_keys entry_fields j) j
+
+-- ---- its rules
+
+abbrev pub rule_for : List Condition → ℕ → Json → Option Rule
+rule_for conditions value j =
+    option_map (λ number. record { number = number; conditions = conditions; value = value })
+    (option_and_then number_named (as_str j))
+
+abbrev pub rules_for : List Condition → ℕ → List Json → List Rule
+rules_for conditions value names = filter_map (rule_for conditions value) names

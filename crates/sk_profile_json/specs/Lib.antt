@@ -1,0 +1,12 @@
+pub mod Keys
+pub mod Fields
+pub mod Actions
+pub mod Arguments
+pub mod Conditions
+pub mod Entries
+pub mod EntryViews
+pub mod Contexts
+pub mod ContextViews
+pub mod Wholes
+pub mod WholeViews
+pub mod WorkedProfiles

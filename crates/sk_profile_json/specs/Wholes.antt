@@ -1,0 +1,179 @@
+-- A whole profile: the object `seccomp` of config-linux.md of the OCI runtime specification, with what docker's and podman's
+-- profiles have beside it. `flags`, `listenerPath` and `listenerMetadata` say how a filter is attached, and nothing of what
+-- it answers.
+use Rattle.std.specs.Prelude.{ℕ, ◌≡◌, ◌+◌, ◌&&◌, ◌||◌, not, Bool, true, false, if◌then◌else◌, List, [], ◌∷◌, ◌++◌, codes, is_some, Option, Some, None, Result, Ok, Err, ⊤}
+use Rattle.std.specs.List.{list_any, list_all}
+use Rattle.std.specs.Option.{IsSomeAnd}
+use Rattle.json.specs.Json.{Json, document}
+use Rattle.json.specs.Strict.{HasUniqueKeys}
+use Rattle.sk_insn.specs.declared.action.Action.{Action}
+use Rattle.sk_profile_code.specs.declared.condition.Condition.{Condition}
+use Rattle.sk_profile.specs.Profiles.{Rule, Profile}
+use Rattle.sk_profile_json.specs.declared.conditions.WrongArgument.{WrongArgument}
+use Rattle.sk_profile_json.specs.declared.context.Context.{Context}
+use Rattle.sk_profile_json.specs.declared.fault.Fault.{Fault}
+use Rattle.sk_profile_json.specs.declared.fault.Field.{Field}
+use Rattle.sk_profile_json.specs.declared.fault.Field.TheVariants as field
+use Rattle.sk_profile_json.specs.declared.fault.Place.{Place}
+use Rattle.sk_profile_json.specs.declared.fault.Place.TheVariants as place
+use Rattle.sk_profile_json.specs.declared.fault.ReadFault.{ReadFault}
+use Rattle.sk_profile_json.specs.declared.fault.ReadFault.TheVariants as read
+use Rattle.sk_profile_json.specs.declared.fault.Wrong.{Wrong}
+use Rattle.sk_profile_json.specs.declared.fault.Wrong.TheVariants.{NotTaken, Contradicts}
+use Rattle.sk_profile_json.specs.declared.whole.TheConstants.{ARCHITECTURES}
+use Rattle.sk_profile_json.specs.Actions.{action_in, value_in}
+use Rattle.sk_profile_json.specs.Conditions.{wrong_argument, conditions_of, are_apart}
+use Rattle.sk_profile_json.specs.Contexts.{counts, is_empty}
+use Rattle.sk_profile_json.specs.Entries.{Entry, entry_of, rules_for, is_told}
+use Rattle.sk_profile_json.specs.Fields.{result_then, given, list_in, wrong_keys, is_the}
+
+-- ---- its entries
+
+abbrev pub fault_at : Place → Wrong → Fault
+fault_at spot wrong = record { place = spot; wrong = wrong }
+
+abbrev pub rules_if : ℕ → List Rule → Result Bool Wrong → Result (List Rule) Fault
+rules_if at rules (Ok true) = Ok rules
+rules_if at rules (Ok false) = Ok []
+rules_if at rules (Err wrong) = Err (fault_at (place.Entry at) wrong)
+
+-- two conditions on one argument contradict the field
+abbrev pub rules_with : Context → ℕ → Json → Entry → List Condition → Result (List Rule) Fault
+rules_with context at j entry conditions =
+    if are_apart conditions then rules_if at (rules_for conditions entry.value entry.names) (counts context j)
+    else Err (fault_at (place.Entry at) (Contradicts field.Args))
+
+abbrev pub rules_unless : Context → ℕ → Json → Entry → Option WrongArgument → Result (List Rule) Fault
+rules_unless context at j entry None = rules_with context at j entry (conditions_of entry.arguments)
+rules_unless context at j entry (Some it) = Err (fault_at (place.Argument at it.place) it.wrong)
+
+abbrev pub rules_of_entry : Context → ℕ → Json → Result Entry Wrong → Result (List Rule) Fault
+rules_of_entry context at j (Ok entry) = rules_unless context at j entry (wrong_argument 0 entry.arguments)
+rules_of_entry context at j (Err wrong) = Err (fault_at (place.Entry at) wrong)
+
+-- the rules of the entry with this number
+abbrev pub entry_rules : Context → ℕ → Json → Result (List Rule) Fault
+entry_rules context at j = rules_of_entry context at j (entry_of j)
+
+-- these before others, if those are some
+abbrev pub before : List Rule → Result (List Rule) Fault → Result (List Rule) Fault
+before rules (Ok more) = Ok (rules ++ more)
+before rules (Err fault) = Err fault
+
+-- the rules of all entries, the first of which has this number, in their order
+abbrev pub rules_from : Context → ℕ → List Json → Result (List Rule) Fault
+rules_from context at [] = Ok []
+rules_from context at (j ∷ js) =
+    result_then (λ rules. before rules (rules_from context (at + 1) js)) (entry_rules context at j)
+
+-- ---- its architectures: x86-64 is among them, where any are named
+
+abbrev pub is_architecture : Json → Bool
+is_architecture j = list_any (λ name. is_the name.now j) ARCHITECTURES
+
+abbrev pub is_x86_64 : Json → Bool
+is_x86_64 j = is_the (codes "SCMP_ARCH_X86_64") j
+
+abbrev pub are_architectures : List Json → Bool
+are_architectures items = list_all is_architecture items && (is_empty items || list_any is_x86_64 items)
+
+abbrev pub map_fields : List Field
+map_fields = field.Architecture ∷ field.SubArchitectures ∷ []
+
+abbrev pub is_some_and : (Json → Bool) → Option Json → Bool
+is_some_and test None = false
+is_some_and test (Some j) = test j
+
+abbrev pub are_all : Result (List Json) Wrong → Bool
+are_all (Ok items) = list_all is_architecture items
+are_all (Err wrong) = false
+
+abbrev pub is_map : Json → Bool
+is_map j =
+    not (is_some (wrong_keys map_fields j))
+    && (is_some_and is_architecture (given field.Architecture j) && are_all (list_in field.SubArchitectures j))
+
+abbrev pub maps_x86_64 : Json → Bool
+maps_x86_64 j = is_some_and is_x86_64 (given field.Architecture j)
+
+abbrev pub are_maps : List Json → Bool
+are_maps items = list_all is_map items && (is_empty items || list_any maps_x86_64 items)
+
+-- only one of the two names any
+abbrev pub wrong_lists : List Json → List Json → Option Wrong
+wrong_lists architectures maps =
+    if not (is_empty architectures) && not (is_empty maps) then Some (Contradicts field.ArchMap)
+    else if not (are_architectures architectures) then Some (NotTaken field.Architectures)
+    else if not (are_maps maps) then Some (NotTaken field.ArchMap)
+    else None
+
+-- ---- the rest
+
+-- a default of NOTIFY would stop whoever is to listen
+abbrev pub default_with : Json → Action → Result ℕ Wrong
+default_with j action =
+    if is_told action then Err (NotTaken field.DefaultAction) else value_in field.DefaultErrnoRet field.DefaultErrno action j
+
+abbrev pub default_in : Json → Result ℕ Wrong
+default_in j = result_then (default_with j) (action_in field.DefaultAction j)
+
+abbrev pub profile_fields : List Field
+profile_fields =
+    field.DefaultAction ∷ field.DefaultErrnoRet ∷ field.DefaultErrno ∷ field.Architectures ∷ field.ArchMap ∷ field.Flags
+    ∷ field.ListenerPath ∷ field.ListenerMetadata ∷ field.Syscalls ∷ []
+
+pub record Head : Type 0 where
+  pub default : ℕ
+  pub entries : List Json
+
+abbrev pub head_unless : Option Wrong → Json → Result Head Wrong
+head_unless (Some wrong) j = Err wrong
+head_unless None j =
+    result_then (λ default. result_then (λ entries. Ok (record { default = default; entries = entries })) (list_in field.Syscalls j)) (default_in j)
+
+abbrev pub head_with : Json → Result Head Wrong
+head_with j =
+    result_then (λ architectures. result_then (λ maps. head_unless (wrong_lists architectures maps) j) (list_in field.ArchMap j))
+    (list_in field.Architectures j)
+
+abbrev pub head_if : Option Wrong → Json → Result Head Wrong
+head_if (Some wrong) j = Err wrong
+head_if None j = head_with j
+
+abbrev pub head_of : Json → Result Head Wrong
+head_of j = head_if (wrong_keys profile_fields j) j
+
+-- what is no call of x86-64 is killed, as libseccomp has it where nothing else is said: SECCOMP_RET_KILL_THREAD
+abbrev pub profile_with : ℕ → Result (List Rule) Fault → Result Profile Fault
+profile_with default (Ok rules) = Ok (record { rules = rules; default = default; bad = 0 })
+profile_with default (Err fault) = Err fault
+
+abbrev pub profile_if : Context → Result Head Wrong → Result Profile Fault
+profile_if context (Ok head) = profile_with head.default (rules_from context 0 head.entries)
+profile_if context (Err wrong) = Err (fault_at place.Profile wrong)
+
+-- the profile that a value says, where it counts, or the first thing that is wrong with it
+abbrev pub profile_in : Context → Json → Result Profile Fault
+profile_in context j = profile_if context (head_of j)
+
+-- ---- reading
+
+-- so something is wrong, or memory was refused
+abbrev pub IsFault : {A : Type 0} → Result A Fault → ReadFault → Type 0
+IsFault told (read.Profile fault) = told ≡ Err fault
+IsFault told read.Memory = ⊤
+IsFault told read.NotJson = ⊥
+IsFault told read.KeyTwice = ⊥
+
+-- the text is a value without a key that comes twice in one object
+abbrev pub IsText : List ℕ → Json → Type 0
+IsText text j = (document text ≡ Some j) × HasUniqueKeys j
+
+abbrev pub Says : Context → List ℕ → Profile → Type 0
+Says context text profile = (j : Json) × IsText text j × (profile_in context j ≡ Ok profile)
+
+abbrev pub IsReadFault : Context → List ℕ → ReadFault → Type 0
+IsReadFault context text (read.Profile fault) = (j : Json) × IsText text j × (profile_in context j ≡ Err fault)
+IsReadFault context text read.Memory = ⊤
+IsReadFault context text read.NotJson = document text ≡ None
+IsReadFault context text read.KeyTwice = IsSomeAnd (document text) (λ j. ¬ HasUniqueKeys j)

@@ -1,0 +1,209 @@
+-- Profiles that are worked out by hand.
+use Rattle.std.specs.Prelude.{ℕ, ◌≡◌, List, [], ◌∷◌, codes, Some, None, Result, Ok, Err}
+use Rattle.std.specs.Borrow.{Bor}
+use Rattle.json.specs.Json.{Json, null, string, number, array, object, Items, no_items, item, Members, no_members, member}
+use Rattle.sk_profile_code.specs.declared.condition.Condition.{Condition}
+use Rattle.sk_profile_code.specs.declared.condition.Test.{Test}
+use Rattle.sk_profile_code.specs.declared.condition.Test.TheVariants.{Is, Above, Masked}
+use Rattle.sk_profile.specs.Profiles.{Rule, Profile}
+use Rattle.sk_profile_json.specs.declared.context.Context.{Context}
+use Rattle.sk_profile_json.specs.declared.context.Kernel.{Kernel}
+use Rattle.sk_profile_json.specs.declared.fault.Fault.{Fault}
+use Rattle.sk_profile_json.specs.declared.fault.Field.TheVariants as field
+use Rattle.sk_profile_json.specs.declared.fault.Place.{Place}
+use Rattle.sk_profile_json.specs.declared.fault.Place.TheVariants as place
+use Rattle.sk_profile_json.specs.declared.fault.Wrong.{Wrong}
+use Rattle.sk_profile_json.specs.declared.fault.Wrong.TheVariants.{NotAnObject, UnknownKey, Missing, NotTaken, Contradicts}
+use Rattle.sk_profile_json.specs.Contexts.{kernel_of}
+use Rattle.sk_profile_json.specs.Wholes.{profile_in}
+
+-- ---- what the rows are made of
+
+abbrev pub of : {A : Type 0} → A → Bor A
+of x = record { ref_ptr = (0, 0); now = x }
+
+abbrev pub kernel : ℕ → ℕ → Kernel
+kernel major minor = record { major = major; minor = minor }
+
+-- kernel 5.4, without capabilities, and with one
+abbrev pub plain : Context
+plain = record { capabilities = of []; kernel = kernel 5 4 }
+
+abbrev pub admin : Context
+admin = record { capabilities = of (of (codes "CAP_SYS_ADMIN") ∷ []); kernel = kernel 5 4 }
+
+abbrev pub items_from : List Json → Items
+items_from [] = no_items
+items_from (j ∷ js) = item j (items_from js)
+
+abbrev pub members_from : List (List ℕ × Json) → Members
+members_from [] = no_members
+members_from (m ∷ ms) = member m.0 m.1 (members_from ms)
+
+abbrev pub listed : List Json → Json
+listed js = array (items_from js)
+
+-- what every entry of the rows has
+abbrev pub entry : List ℕ → List ℕ → List (List ℕ × Json) → Json
+entry name action more = object (members_from ((codes "names", listed (string name ∷ [])) ∷ (codes "action", string action) ∷ more))
+
+abbrev pub argument : List ℕ → List ℕ → List ℕ → List (List ℕ × Json) → Json
+argument index value op more =
+    object (members_from ((codes "index", number index) ∷ (codes "value", number value) ∷ (codes "op", string op) ∷ more))
+
+abbrev pub profile : List ℕ → List (List ℕ × Json) → Json
+profile action more = object (members_from ((codes "defaultAction", string action) ∷ more))
+
+-- a profile that refuses by EPERM but for these entries
+abbrev pub refusing : List Json → Json
+refusing entries = profile (codes "SCMP_ACT_ERRNO") ((codes "syscalls", listed entries) ∷ [])
+
+abbrev pub allowing : List ℕ → List (List ℕ × Json) → Json
+allowing name more = entry name (codes "SCMP_ACT_ALLOW") more
+
+-- the call may be made where these hold
+abbrev pub allowing_where : List ℕ → List Json → Json
+allowing_where name arguments = allowing name ((codes "args", listed arguments) ∷ [])
+
+abbrev pub rule : ℕ → List Condition → ℕ → Rule
+rule nr conditions value = record { number = nr; conditions = conditions; value = value }
+
+abbrev pub condition : ℕ → Test → ℕ → Condition
+condition index test value = record { index = index; test = test; value = value }
+
+abbrev pub says : List Rule → ℕ → Result Profile Fault
+says rules default = Ok (record { rules = rules; default = default; bad = 0 })
+
+abbrev pub wrong : Place → Wrong → Result Profile Fault
+wrong spot it = Err (record { place = spot; wrong = it })
+
+abbrev pub eq : List ℕ
+eq = codes "SCMP_CMP_EQ"
+
+abbrev pub masked : List ℕ
+masked = codes "SCMP_CMP_MASKED_EQ"
+
+-- docker's entry for clone, without CAP_SYS_ADMIN
+abbrev pub clone : Json
+clone = allowing (codes "clone") (
+    (codes "args", listed (argument (codes "0") (codes "2114060288") masked [] ∷ []))
+    ∷ (codes "comment", string [])
+    ∷ (codes "includes", object no_members)
+    ∷ (
+      codes "excludes",
+      object (members_from ((codes "caps", listed (string (codes "CAP_SYS_ADMIN") ∷ []))
+          ∷ (codes "arches", listed (string (codes "s390") ∷ string (codes "s390x") ∷ [])) ∷ [])),
+    )
+    ∷ [])
+
+-- an entry for ptrace, from a kernel on
+abbrev pub ptrace_from : List ℕ → Json
+ptrace_from version = allowing (codes "ptrace") (
+    (codes "args", null) ∷ (codes "includes", object (members_from ((codes "minKernel", string version) ∷ []))) ∷ [])
+
+abbrev pub for_arches : List ℕ → Json
+for_arches arch = allowing (codes "ptrace") ((codes "includes", object (members_from ((codes "arches", listed (string arch ∷ [])) ∷ []))) ∷ [])
+
+abbrev pub with_caps : List ℕ → Json
+with_caps cap = allowing (codes "ptrace") ((codes "includes", object (members_from ((codes "caps", listed (string cap ∷ [])) ∷ []))) ∷ [])
+
+abbrev pub failing : List (List ℕ × Json) → Json
+failing more = entry (codes "clone3") (codes "SCMP_ACT_ERRNO") more
+
+abbrev pub architectures : List ℕ → Json
+architectures name = listed (string (codes "SCMP_ARCH_X86") ∷ string name ∷ [])
+
+abbrev pub maps : List ℕ → Json
+maps name = listed (object (members_from ((codes "architecture", string name) ∷ (codes "subArchitectures", listed (string (codes "SCMP_ARCH_X32") ∷ [])) ∷ [])) ∷ [])
+
+abbrev pub x86_64 : List ℕ
+x86_64 = codes "SCMP_ARCH_X86_64"
+
+-- ---- the rows
+
+pub record WorkedProfiles : Type 0 where
+  -- docker's personality, and clone with its mask
+  pub personality : profile_in plain (refusing (allowing_where (codes "personality") (argument (codes "0") (codes "131080") eq [] ∷ []) ∷ []))
+      ≡ says (rule 135 (condition 0 Is 131080 ∷ []) 0x7fff0000 ∷ []) 0x50001
+  pub clone_by_mask : profile_in plain (refusing (clone ∷ [])) ≡ says (rule 56 (condition 0 (Masked 2114060288) 0 ∷ []) 0x7fff0000 ∷ []) 0x50001
+  pub clone_left_out : profile_in admin (refusing (clone ∷ [])) ≡ says [] 0x50001
+  pub two_entries : profile_in plain (refusing (allowing (codes "read") [] ∷ allowing (codes "write") [] ∷ []))
+      ≡ says (rule 0 [] 0x7fff0000 ∷ rule 1 [] 0x7fff0000 ∷ []) 0x50001
+  pub two_arguments : profile_in plain (refusing (allowing_where (codes "kcmp") (
+      argument (codes "1") (codes "1337") (codes "SCMP_CMP_GT") ((codes "valueTwo", number (codes "0")) ∷ [])
+      ∷ argument (codes "5") (codes "18446744073709551615") eq [] ∷ []) ∷ []))
+      ≡ says (rule 312 (condition 1 Above 1337 ∷ condition 5 Is 18446744073709551615 ∷ []) 0x7fff0000 ∷ []) 0x50001
+  pub by_one_name : profile_in plain (refusing (object (members_from ((codes "name", string (codes "open")) ∷ (codes "action", string (codes "SCMP_ACT_LOG")) ∷ [])) ∷ []))
+      ≡ says (rule 2 [] 0x7ffc0000 ∷ []) 0x50001
+  pub no_call_of_x86_64 : profile_in plain (refusing (allowing (codes "chown32") [] ∷ [])) ≡ says [] 0x50001
+  -- values
+  pub older_kill : profile_in plain (profile (codes "SCMP_ACT_KILL") []) ≡ says [] 0
+  pub kill_process : profile_in plain (profile (codes "SCMP_ACT_KILL_PROCESS") []) ≡ says [] 0x80000000
+  pub trace : profile_in plain (profile (codes "SCMP_ACT_TRACE") []) ≡ says [] 0x7ff00001
+  pub enosys : profile_in plain (refusing (failing ((codes "errnoRet", number (codes "38")) ∷ (codes "errno", string (codes "ENOSYS")) ∷ []) ∷ []))
+      ≡ says (rule 435 [] 0x50026 ∷ []) 0x50001
+  pub greatest : profile_in plain (profile (codes "SCMP_ACT_ERRNO") ((codes "defaultErrnoRet", number (codes "4094")) ∷ [])) ≡ says [] 0x50ffe
+  -- where an entry counts
+  pub from_this_kernel : profile_in plain (refusing (ptrace_from (codes "5.4") ∷ [])) ≡ says (rule 101 [] 0x7fff0000 ∷ []) 0x50001
+  pub from_an_earlier_one : profile_in plain (refusing (ptrace_from (codes "4.8") ∷ [])) ≡ says (rule 101 [] 0x7fff0000 ∷ []) 0x50001
+  pub from_a_later_one : profile_in plain (refusing (ptrace_from (codes "5.10") ∷ [])) ≡ says [] 0x50001
+  pub for_this_arch : profile_in plain (refusing (for_arches (codes "amd64") ∷ [])) ≡ says (rule 101 [] 0x7fff0000 ∷ []) 0x50001
+  pub for_another_arch : profile_in plain (refusing (for_arches (codes "arm64") ∷ [])) ≡ says [] 0x50001
+  pub with_a_capability : profile_in admin (refusing (with_caps (codes "CAP_SYS_ADMIN") ∷ [])) ≡ says (rule 101 [] 0x7fff0000 ∷ []) 0x50001
+  pub without_it : profile_in plain (refusing (with_caps (codes "CAP_SYS_ADMIN") ∷ [])) ≡ says [] 0x50001
+  pub with_another : profile_in admin (refusing (with_caps (codes "CAP_SYS_BOOT") ∷ [])) ≡ says [] 0x50001
+  -- what is refused of the profile
+  pub no_object : profile_in plain (listed []) ≡ wrong place.Profile NotAnObject
+  pub unknown_key : profile_in plain (profile (codes "SCMP_ACT_LOG") ((codes "default", null) ∷ [])) ≡ wrong place.Profile (UnknownKey 1)
+  pub both_lists : profile_in plain (profile (codes "SCMP_ACT_LOG") ((codes "architectures", architectures x86_64) ∷ (codes "archMap", maps x86_64) ∷ []))
+      ≡ wrong place.Profile (Contradicts field.ArchMap)
+  pub named : profile_in plain (profile (codes "SCMP_ACT_LOG") ((codes "architectures", architectures x86_64) ∷ [])) ≡ says [] 0x7ffc0000
+  pub mapped : profile_in plain (profile (codes "SCMP_ACT_LOG") ((codes "archMap", maps x86_64) ∷ [])) ≡ says [] 0x7ffc0000
+  pub not_named : profile_in plain (profile (codes "SCMP_ACT_LOG") ((codes "architectures", architectures (codes "SCMP_ARCH_ARM")) ∷ []))
+      ≡ wrong place.Profile (NotTaken field.Architectures)
+  pub unknown_architecture : profile_in plain (profile (codes "SCMP_ACT_LOG") ((codes "architectures", listed (string x86_64 ∷ string (codes "SCMP_ARCH_VAX") ∷ [])) ∷ []))
+      ≡ wrong place.Profile (NotTaken field.Architectures)
+  pub not_mapped : profile_in plain (profile (codes "SCMP_ACT_LOG") ((codes "archMap", maps (codes "SCMP_ARCH_ARM")) ∷ []))
+      ≡ wrong place.Profile (NotTaken field.ArchMap)
+  pub no_default : profile_in plain (object no_members) ≡ wrong place.Profile (Missing field.DefaultAction)
+  pub unknown_action : profile_in plain (profile (codes "ALLOW") []) ≡ wrong place.Profile (NotTaken field.DefaultAction)
+  pub default_notify : profile_in plain (profile (codes "SCMP_ACT_NOTIFY") []) ≡ wrong place.Profile (NotTaken field.DefaultAction)
+  pub too_great : profile_in plain (profile (codes "SCMP_ACT_ERRNO") ((codes "defaultErrnoRet", number (codes "4095")) ∷ []))
+      ≡ wrong place.Profile (NotTaken field.DefaultErrnoRet)
+  pub number_for_allow : profile_in plain (profile (codes "SCMP_ACT_ALLOW") ((codes "defaultErrnoRet", number (codes "1")) ∷ []))
+      ≡ wrong place.Profile (Contradicts field.DefaultErrnoRet)
+  -- and of an entry, the second here
+  pub no_names : profile_in plain (refusing (clone ∷ object (members_from ((codes "action", string (codes "SCMP_ACT_LOG")) ∷ [])) ∷ []))
+      ≡ wrong (place.Entry 1) (Missing field.Names)
+  pub names_and_name : profile_in plain (refusing (clone ∷ allowing (codes "read") ((codes "name", string (codes "read")) ∷ []) ∷ []))
+      ≡ wrong (place.Entry 1) (Contradicts field.Name)
+  pub no_action : profile_in plain (refusing (clone ∷ entry (codes "read") (codes "SCMP_ACT_NONE") [] ∷ []))
+      ≡ wrong (place.Entry 1) (NotTaken field.Action)
+  pub told_of_write : profile_in plain (refusing (clone ∷ entry (codes "write") (codes "SCMP_ACT_NOTIFY") [] ∷ []))
+      ≡ wrong (place.Entry 1) (Contradicts field.Action)
+  pub other_name : profile_in plain (refusing (clone ∷ failing ((codes "errnoRet", number (codes "38")) ∷ (codes "errno", string (codes "EPERM")) ∷ []) ∷ []))
+      ≡ wrong (place.Entry 1) (Contradicts field.Errno)
+  pub name_alone : profile_in plain (refusing (clone ∷ failing ((codes "errno", string (codes "EPERM")) ∷ []) ∷ []))
+      ≡ wrong (place.Entry 1) (Contradicts field.Errno)
+  pub seventh_argument : profile_in plain (refusing (clone ∷ allowing_where (codes "read") (argument (codes "6") (codes "0") eq [] ∷ []) ∷ []))
+      ≡ wrong (place.Argument 1 0) (NotTaken field.Index)
+  pub no_operator : profile_in plain (refusing (clone ∷ allowing_where (codes "read") (argument (codes "0") (codes "0") (codes "EQ") [] ∷ []) ∷ []))
+      ≡ wrong (place.Argument 1 0) (NotTaken field.Op)
+  pub below_zero : profile_in plain (refusing (clone ∷ allowing_where (codes "read") (argument (codes "0") (codes "-1") eq [] ∷ []) ∷ []))
+      ≡ wrong (place.Argument 1 0) (NotTaken field.Value)
+  pub too_large : profile_in plain (refusing (clone ∷ allowing_where (codes "read") (argument (codes "0") (codes "18446744073709551616") eq [] ∷ []) ∷ []))
+      ≡ wrong (place.Argument 1 0) (NotTaken field.Value)
+  pub second_value : profile_in plain (refusing (clone ∷ allowing_where (codes "read") (
+      argument (codes "0") (codes "1") eq [] ∷ argument (codes "1") (codes "1") eq ((codes "valueTwo", number (codes "1")) ∷ []) ∷ []) ∷ []))
+      ≡ wrong (place.Argument 1 1) (Contradicts field.ValueTwo)
+  pub outside_the_mask : profile_in plain (refusing (clone ∷ allowing_where (codes "read") (argument (codes "0") (codes "1") masked ((codes "valueTwo", number (codes "3")) ∷ []) ∷ []) ∷ []))
+      ≡ wrong (place.Argument 1 0) (Contradicts field.ValueTwo)
+  pub one_argument_twice : profile_in plain (refusing (clone ∷ allowing_where (codes "read") (
+      argument (codes "2") (codes "1") eq [] ∷ argument (codes "2") (codes "2") eq [] ∷ []) ∷ []))
+      ≡ wrong (place.Entry 1) (Contradicts field.Args)
+  pub no_version : profile_in plain (refusing (clone ∷ ptrace_from (codes "4") ∷ [])) ≡ wrong (place.Entry 1) (NotTaken field.Includes)
+  -- versions
+  pub version : kernel_of (codes "6.12") ≡ Some (kernel 6 12)
+  pub three_numbers : kernel_of (codes "6.12.1") ≡ None
+  pub hexadecimal : kernel_of (codes "0x6.1") ≡ None
+  pub nothing_behind : kernel_of (codes "6.") ≡ None

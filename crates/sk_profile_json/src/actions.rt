@@ -1,0 +1,104 @@
+//! Actions by name, and the values that a filter answers for them.
+ghost use Rattle.std.specs.Prelude.{◌≡◌, ◌≤◌, IfSome};
+ghost use Rattle.std.specs.Option.{option_map};
+ghost use Rattle.json.specs.Value.{value_view};
+ghost use Rattle.sk_profile_json.specs.Actions.{action_named, takes_number, value_with, greatest_error, action_in, value_in, agree, is_name_of};
+ghost use Rattle.sk_verdict.specs.Errors.{error_named};
+
+use crate::fault::{Field, Wrong};
+use crate::fields::{number, text};
+use json::Value;
+use sk_insn::Action;
+use sk_verdict::error_name;
+
+/// The greatest number of an error that libseccomp takes.
+const GREATEST_ERROR: u64 = 4094;
+
+/// The error that stands where a profile gives none: EPERM.
+const EPERM: u64 = 1;
+
+/// The action with a name of the OCI runtime specification.
+pub(crate) fn action_named(name: &str) -> Option<Action>
+    ensures named { result ≡ action_named name.now }
+{
+    match name {
+        "SCMP_ACT_KILL" | "SCMP_ACT_KILL_THREAD" => Some(Action::KillThread),
+        "SCMP_ACT_KILL_PROCESS" => Some(Action::KillProcess),
+        "SCMP_ACT_TRAP" => Some(Action::Trap),
+        "SCMP_ACT_ERRNO" => Some(Action::Errno),
+        "SCMP_ACT_TRACE" => Some(Action::Trace),
+        "SCMP_ACT_LOG" => Some(Action::Log),
+        "SCMP_ACT_NOTIFY" => Some(Action::UserNotif),
+        "SCMP_ACT_ALLOW" => Some(Action::Allow),
+        _ => None,
+    }
+}
+
+/// Whether an action gives an error's number on.
+pub(crate) fn takes_number(action: Action) -> bool
+    ensures takes { result ≡ takes_number action }
+{
+    matches!(action, Action::Errno | Action::Trace)
+}
+
+/// The value that a filter answers for an action, with the number of an error if it has one.
+pub(crate) fn value_with(action: Action, number: Option<u64>) -> u32
+    requires small { IfSome number (λ n. n ≤ greatest_error) }
+    ensures value { result ≡ value_with action number }
+{
+    let data = if takes_number(action) {
+        number.unwrap_or(EPERM)
+    } else {
+        0
+    };
+    action.value().unwrap_or(0) + data as u32
+}
+
+/// The action in a field.
+pub(crate) fn action(object: &Value<'_>, field: Field) -> Result<Action, Wrong>
+    ensures action { result ≡ action_in field (value_view object.now) }
+{
+    let name = text(object, field)?.ok_or(Wrong::Missing(field))?;
+    action_named(name).ok_or(Wrong::NotTaken(field))
+}
+
+/// The value for an action, with the number and the name of its error in these fields.
+pub(crate) fn value(
+    object: &Value<'_>,
+    action: Action,
+    errno_ret: Field,
+    errno: Field,
+) -> Result<u32, Wrong>
+    ensures value { result ≡ value_in errno_ret errno action (value_view object.now) }
+{
+    let given = number(object, errno_ret, GREATEST_ERROR)?;
+    let name = text(object, errno)?;
+    if given.is_some() && !takes_number(action) {
+        return Err(Wrong::Contradicts(errno_ret));
+    }
+    if !agree(given, name) {
+        return Err(Wrong::Contradicts(errno));
+    }
+    Ok(value_with(action, given))
+}
+
+// Whether an error's name is that of its number.
+fn agree(given: Option<u64>, name: Option<&str>) -> bool
+    requires small { IfSome given (λ n. n ≤ greatest_error) }
+    ensures agree { result ≡ agree given (option_map (λ s. s.now) name.entry) }
+{
+    match (given, name) {
+        (_, None) => true,
+        (None, Some(_)) => false,
+        (Some(number), Some(name)) => is_name_of(name, number as u32),
+    }
+}
+
+fn is_name_of(name: &str, number: u32) -> bool
+    ensures named { result ≡ is_name_of name.now (error_named number) }
+{
+    match error_name(number) {
+        None => false,
+        Some(known) => known == name,
+    }
+}

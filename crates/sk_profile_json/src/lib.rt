@@ -1,0 +1,17 @@
+//! The seccomp profile of a container runtime, read from its JSON.
+#![tactic(auto)]
+
+mod actions;
+mod argument;
+mod conditions;
+mod context;
+mod entry;
+mod fault;
+mod fields;
+pub mod laws;
+mod rules;
+mod whole;
+
+pub use context::{Context, Kernel, kernel_of};
+pub use fault::{Fault, Field, Place, ReadFault, Wrong};
+pub use whole::{profile_in, read};
