@@ -1,12 +1,13 @@
 -- Each worked profile is what the definition computes.
 use Rattle.std.proofs.Common.{refl}
+use Rattle.json.proofs.OnLiterals.{json_on_literals}
 use Rattle.sk_text.specs.Numbers.{number_of}
 use Rattle.sk_call_names.specs.Names.{name_of, number_named}
 use Rattle.sk_verdict.specs.Errors.{error_named}
 use Rattle.sk_profile_json.specs.WorkedProfiles.{WorkedProfiles}
 
 pub worked_profiles : WorkedProfiles
-unfolding number_of name_of number_named error_named
+unfolding json_on_literals number_of name_of number_named error_named
 worked_profiles = record {
   personality = refl;
   clone_by_mask = refl;
@@ -59,4 +60,5 @@ worked_profiles = record {
   three_numbers = refl;
   hexadecimal = refl;
   nothing_behind = refl;
+  by_text = refl;
 }

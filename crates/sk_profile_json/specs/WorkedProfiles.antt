@@ -1,7 +1,8 @@
 -- Profiles that are worked out by hand.
 use Rattle.std.specs.Prelude.{ℕ, ◌≡◌, List, [], ◌∷◌, codes, Some, None, Result, Ok, Err}
 use Rattle.std.specs.Borrow.{Bor}
-use Rattle.json.specs.Json.{Json, null, string, number, array, object, Items, no_items, item, Members, no_members, member}
+use Rattle.std.specs.Option.{option_map}
+use Rattle.json.specs.Json.{Json, document, null, string, number, array, object, Items, no_items, item, Members, no_members, member}
 use Rattle.sk_profile_code.specs.declared.condition.Condition.{Condition}
 use Rattle.sk_profile_code.specs.declared.condition.Test.{Test}
 use Rattle.sk_profile_code.specs.declared.condition.Test.TheVariants.{Is, Above, Masked}
@@ -207,3 +208,6 @@ pub record WorkedProfiles : Type 0 where
   pub three_numbers : kernel_of (codes "6.12.1") ≡ None
   pub hexadecimal : kernel_of (codes "0x6.1") ≡ None
   pub nothing_behind : kernel_of (codes "6.") ≡ None
+  -- a text
+  pub by_text : option_map (profile_in plain) (document (codes "{\"defaultAction\": \"SCMP_ACT_ERRNO\", \"defaultErrnoRet\": 38, \"syscalls\": null}"))
+      ≡ Some (says [] 0x50026)
