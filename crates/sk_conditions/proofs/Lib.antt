@@ -10,3 +10,4 @@ pub mod FirstTold
 pub mod Parting
 pub mod BothSides
 pub mod WorkedComparisons
+pub mod WorkedChains

@@ -6,3 +6,4 @@ pub mod Differing
 pub mod Comparing
 pub mod Pairs
 pub mod WorkedComparisons
+pub mod WorkedChains
