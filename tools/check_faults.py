@@ -1,5 +1,6 @@
 #!/usr/bin/env python3
-"""Checks that tools/faults tells planted faults apart: those that a contract refuses, and those that show nothing.
+"""Checks that tools/faults tells planted faults apart: those that a contract refuses, and those that show nothing; and that
+what it keeps of earlier runs serves the same texts alone.
 
 It runs the script on a small repository that is made here, with one fault of each kind. Prints each that is told
 otherwise, and at last 'N passed, M failed'."""
@@ -65,6 +66,19 @@ decreases-loop-count l = l.bound - l.count
 """
 LIBRARY = "//! One function.\n#![tactic(auto)]\n\npub fn same(number: u32) -> u32 {\n    number\n}\n"
 
+ANSWER = """\
+//! One answer.
+#![tactic(auto)]
+
+ghost use Rattle.std.specs.Prelude.{◌≡◌};
+
+pub fn answer() -> u32
+    ensures { result ≡ 42 }
+{
+    42
+}
+"""
+
 
 class Planted(NamedTuple):
     name: str
@@ -98,10 +112,10 @@ def write(path: str, text: str) -> None:
 
 def furnish(top: str) -> None:
     """Makes the repository: the crate with the faults, and one above a library that can't be proved."""
-    for it in ("faults", "crates.py"):
+    for it in ("faults", "crates.py", "kept.py"):
         write(f"{top}/tools/{it}", "")
         shutil.copy(f"{HERE}/{it}", f"{top}/tools/{it}")
-    write(f"{top}/crates.txt", "small:\nplain:\nbroken:\nabove: broken\n")
+    write(f"{top}/crates.txt", "small:\nplain:\nbroken:\nabove: broken\nanswer:\n")
     shutil.copy(f"{os.path.dirname(HERE)}/HANDLES", top)
     write(f"{top}/crates/small/src/lib.rt", SOURCE)
     write(f"{top}/crates/small/proofs/counted/Invariants.antt", INVARIANTS)
@@ -109,14 +123,31 @@ def furnish(top: str) -> None:
     write(f"{top}/crates/broken/src/lib.rt", LIBRARY.replace("{\n", "{\n    -"))
     write(f"{top}/crates/above/src/lib.rt", LIBRARY)
     write(f"{top}/crates/above/must-fail/changes.edit", "file: src/lib.rt\nold: number\nnew: 0\n")
+    write(f"{top}/crates/answer/src/lib.rt", ANSWER)
+    write(f"{top}/crates/answer/faults/answers_43.edit", "file: src/lib.rt\nold:     42\nnew:     43\n")
     for it in PLANTED:
         pairs = "".join(f"old: {old}\nnew: {new}\n" for old, new in it.changes)
         write(f"{top}/crates/small/faults/{it.name}.edit", f"file: src/lib.rt\n{pairs}")
 
 
 def faults(top: str, *words: str) -> tuple[int, list[str]]:
-    ran = subprocess.run([f"{top}/tools/faults", "--jobs", "1", *words], stdin=subprocess.DEVNULL, stdout=subprocess.PIPE, text=True)
+    how = {"stdin": subprocess.DEVNULL, "stdout": subprocess.PIPE, "text": True, "env": {**os.environ, "XDG_CACHE_HOME": f"{top}/kept"}}
+    ran = subprocess.run([f"{top}/tools/faults", "--jobs", "1", *words], **how)
     return ran.returncode, ran.stdout.splitlines()
+
+
+def kept(top: str) -> list[tuple[str, bool, object]]:
+    """Whether a refusal is kept while no text changes, and counts for nothing with `--anew` or where a contract was weakened."""
+    said = [faults(top, *words) for words in (["answer"], ["answer"], ["--anew", "answer"])]
+    write(f"{top}/crates/answer/src/lib.rt", ANSWER.replace("≡ 42 }", "≡ result }"))
+    said.append(faults(top, "answer"))
+    told = [lines[0].partition("answers_43: ")[2] for _, lines in said]
+    is_by_earlier = [it.startswith("refused: by an earlier run: ") for it in told]
+    is_refused = [it.startswith("refused: ") for it in told]
+    return [
+        ("what an earlier run refused", is_by_earlier == [False, True, False, False], said),
+        ("a contract that was weakened since", is_refused == [True, True, True, False] and said[3][0] == 1, said),
+    ]
 
 
 def judgements(top: str) -> list[tuple[str, bool, object]]:
@@ -132,6 +163,7 @@ def judgements(top: str) -> list[tuple[str, bool, object]]:
     judged += [("a fault in must-fail, without --all", left_out == (1, ["0 passed, 0 failed"]), left_out)]
     unproved = faults(top, "--all", "above")
     is_told = "the library broken is not proved" in unproved[1][0] and unproved[1][1:] == ["0 passed, 1 failed"]
+    judged += kept(top)
     return [*judged, ("a library that is not proved", is_told and unproved[0] == 1, unproved)]
 
 
