@@ -84,6 +84,7 @@ class Planted(NamedTuple):
     name: str
     changes: list[tuple[str, str]]
     told: str  # a pattern for what is said of it
+    look: str = ""  # the function that is looked at first
 
 
 IN_ONE_CHECK = r"refused: one of \d: .*it is not proved that .*"
@@ -97,6 +98,10 @@ PLANTED = [
     # What it does is right, and a file of proofs names what it takes away.
     Planted("bounds_by_another_name", [("let bound = most", "let limit = most"), ("count < bound", "count < limit")], "BY NAME ONLY: .*"),
     Planted("steps_by_four", [("const STEP: u32 = 3", "const STEP: u32 = 4")], "refused: .*it is not proved that .*"),
+    Planted("steps_by_five", [("const STEP: u32 = 3", "const STEP: u32 = 5")], "refused: .*it is not proved that .*", "raised"),
+    # Nothing is wrong with the function that it names, and the whole crate refuses it all the same.
+    Planted("steps_by_six", [("const STEP: u32 = 3", "const STEP: u32 = 6")], "refused: .*it is not proved that .*", "doubled"),
+    Planted("steps_by_seven", [("const STEP: u32 = 3", "const STEP: u32 = 7")], "BAD FAULT: it has no function halved .*", "halved"),
     Planted("doubles_nothing", [("number + number", "number +")], "BAD FAULT: .*"),
     Planted("doubles_a_truth", [("number + number", "true")], "BAD FAULT: .*"),
     Planted("doubles_what_is_not_there", [("number + numbers", "number")], "BAD FAULT: its old: text .*"),
@@ -127,7 +132,8 @@ def furnish(top: str) -> None:
     write(f"{top}/crates/answer/faults/answers_43.edit", "file: src/lib.rt\nold:     42\nnew:     43\n")
     for it in PLANTED:
         pairs = "".join(f"old: {old}\nnew: {new}\n" for old, new in it.changes)
-        write(f"{top}/crates/small/faults/{it.name}.edit", f"file: src/lib.rt\n{pairs}")
+        looks = f"look: {it.look}\n" if it.look else ""
+        write(f"{top}/crates/small/faults/{it.name}.edit", f"file: src/lib.rt\n{looks}{pairs}")
 
 
 def faults(top: str, *words: str) -> tuple[int, list[str]]:

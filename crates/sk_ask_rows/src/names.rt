@@ -1,5 +1,6 @@
 //! Some calls by their numbers and names.
 use sk_call_names::{name, number, numbers};
+use sk_expect::expect_eq;
 use std::test::Fail;
 
 #[test]
@@ -19,18 +20,18 @@ fn names_and_numbers(rt: HostRuntime) {
         (u32::MAX, None),
     ];
     for (nr, known) in rows {
-        assert_eq!(rt; name(nr), known);
+        expect_eq!(rt; name(nr), known);
         if let Some(known) = known {
-            assert_eq!(rt; number(known.as_bytes()), Some(nr));
+            expect_eq!(rt; number(known.as_bytes()), Some(nr));
         }
     }
-    assert_eq!(rt; (number(b"no_such_call"), number(b"")), (None, None));
+    expect_eq!(rt; (number(b"no_such_call"), number(b"")), (None, None));
 }
 
 #[test]
 fn all_named_calls(rt: HostRuntime) -> Result<(), Fail> {
     let all = numbers(rt.alloc())?;
-    assert_eq!(rt; all.len(), 375);
+    expect_eq!(rt; all.len(), 375);
     assert!(rt; all.contains(&334) && all.contains(&424) && !all.contains(&423));
     Ok(())
 }

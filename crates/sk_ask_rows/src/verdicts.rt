@@ -1,3 +1,4 @@
+use sk_expect::expect_eq;
 use sk_verdict::{error_name, push_verdict};
 use std::test::Fail;
 
@@ -23,7 +24,7 @@ fn verdicts(rt: HostRuntime) -> Result<(), Fail> {
     for &(value, verdict) in VERDICTS {
         let mut text = String::new(rt.alloc());
         push_verdict(&mut text, value)?;
-        assert_eq!(rt; text.as_str(), verdict);
+        expect_eq!(rt; text.as_str(), verdict);
     }
     Ok(())
 }
@@ -46,6 +47,6 @@ fn errors(rt: HostRuntime) {
         (134, None),
     ];
     for (number, name) in rows {
-        assert_eq!(rt; error_name(number), name);
+        expect_eq!(rt; error_name(number), name);
     }
 }

@@ -1,6 +1,7 @@
 use crate::filters::refuses_getppid;
 use crate::insns::{ALLOW, divx, ja, jeq, ldabs, ldimm, ldmem, ldximm, ret, reta, st, tax, with_k};
 use sk_check::{CheckFault, check};
+use sk_expect::expect_eq;
 use sk_insn::Insn;
 use std::alloc::{AllocError, Global};
 use std::test::Fail;
@@ -49,7 +50,7 @@ fn single_instructions(rt: HostRuntime) -> Result<(), Fail> {
         ),
     ];
     for (program, want) in rows {
-        assert_eq!(rt; outcome(rt.alloc(), program)?, want);
+        expect_eq!(rt; outcome(rt.alloc(), program)?, want);
     }
     Ok(())
 }
@@ -98,7 +99,7 @@ fn scratch_words(rt: HostRuntime) -> Result<(), Fail> {
         (&[ldimm(1), st(0), ja(1), ja(0), ldmem(0), reta()], Ok(6)),
     ];
     for (program, want) in rows {
-        assert_eq!(rt; outcome(rt.alloc(), program)?, want);
+        expect_eq!(rt; outcome(rt.alloc(), program)?, want);
     }
     Ok(())
 }
@@ -116,8 +117,8 @@ fn loads(alloc: Global, count: usize) -> Result<Vec<Insn>, AllocError> {
 
 #[test]
 fn longest_program(rt: HostRuntime) -> Result<(), Fail> {
-    assert_eq!(rt; outcome(rt.alloc(), &loads(rt.alloc(), 4094)?)?, Ok(4096));
-    assert_eq!(rt;
+    expect_eq!(rt; outcome(rt.alloc(), &loads(rt.alloc(), 4094)?)?, Ok(4096));
+    expect_eq!(rt;
         outcome(rt.alloc(), &loads(rt.alloc(), 4095)?)?,
         Err(CheckFault::TooLong)
     );

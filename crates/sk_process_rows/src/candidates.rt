@@ -6,6 +6,7 @@ use crate::sessions::world::lead_group;
 use crate::world::{after_forks, end_of};
 use bitflags::Flags;
 use sk_candidates::Candidates;
+use sk_expect::expect_eq;
 use sk_signal::number::SIGUSR1;
 use sk_table::{
     Body, INIT, ListStore, ProcStore, Request, SlotStore, WaitOptions, Waiting, Who, send,
@@ -87,7 +88,7 @@ fn candidates_keep_what_the_store_keeps<S: ProcStore, R: Abort + AllocGlobal>(
 }
 
 fn keeps_processes_1_and_2<S: ProcStore>(rt: &impl Abort, store: &S) {
-    assert_eq!(rt; (store.count(), store.last(), store.fresh()), (2, 2, 3));
+    expect_eq!(rt; (store.count(), store.last(), store.fresh()), (2, 2, 3));
     for (after, next, child, member) in [
         (0, Some(1), Some(2), Some(1)),
         (1, Some(2), Some(2), Some(2)),
@@ -98,7 +99,7 @@ fn keeps_processes_1_and_2<S: ProcStore>(rt: &impl Abort, store: &S) {
             store.next_child(INIT, after),
             store.next_member(INIT, after),
         );
-        assert_eq!(rt; found, (next, child, member));
+        expect_eq!(rt; found, (next, child, member));
     }
     assert!(rt; store.next_member(2, 0).is_none());
     assert!(rt; store.used(2) && !store.used(3));

@@ -1,3 +1,4 @@
+use sk_expect::expect_eq;
 use sk_machine::{Event, PrctlOption, Reason, SeccompOperation};
 
 #[test]
@@ -14,7 +15,7 @@ fn each_event_has_its_process(rt: HostRuntime) {
         (Event::Resume { pid: 4 }, 4),
         (Event::Fault { pid: 5 }, 5),
     ] {
-        assert_eq!(rt; event.pid(), pid);
+        expect_eq!(rt; event.pid(), pid);
     }
 }
 
@@ -25,7 +26,7 @@ fn reasons_are_numbered(rt: HostRuntime) {
         (Reason::SignalFirst, 5),
         (Reason::Halted, 7),
     ] {
-        assert_eq!(rt; reason.number(), number);
+        expect_eq!(rt; reason.number(), number);
     }
 }
 
@@ -40,7 +41,7 @@ fn options_of_prctl_have_the_numbers_of_linux(rt: HostRuntime) {
         (39, Some(PrctlOption::GetNoNewPrivs)),
         (1, None),
     ] {
-        assert_eq!(rt; PrctlOption::of(number), option);
+        expect_eq!(rt; PrctlOption::of(number), option);
     }
 }
 
@@ -52,6 +53,6 @@ fn operations_of_seccomp_have_the_numbers_of_linux(rt: HostRuntime) {
         (2, Some(SeccompOperation::GetActionAvail)),
         (3, None),
     ] {
-        assert_eq!(rt; SeccompOperation::of(number), operation);
+        expect_eq!(rt; SeccompOperation::of(number), operation);
     }
 }

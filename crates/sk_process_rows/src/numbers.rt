@@ -1,3 +1,4 @@
+use sk_expect::expect_eq;
 use sk_numbers::NumberSet;
 
 #[test]
@@ -8,8 +9,8 @@ fn members_come_in_rising_order(rt: HostRuntime) {
     }
     set.remove(4000);
     set.remove(4001);
-    assert_eq!(rt; set.first(), Some(0));
-    assert_eq!(rt; NumberSet::empty().first(), None);
+    expect_eq!(rt; set.first(), Some(0));
+    expect_eq!(rt; NumberSet::empty().first(), None);
     assert!(rt;
         set.contains(0)
             && set.contains(32767)
@@ -26,6 +27,6 @@ fn members_come_in_rising_order(rt: HostRuntime) {
         (32767, None),
         (u32::MAX, None),
     ] {
-        assert_eq!(rt; set.next(after), next);
+        expect_eq!(rt; set.next(after), next);
     }
 }
