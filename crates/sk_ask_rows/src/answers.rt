@@ -1,5 +1,4 @@
 use crate::ends::run;
-use sk_expect::expect_eq;
 use std::test::Fail;
 
 /// The words, and the whole answer.
@@ -98,7 +97,7 @@ fn a_no_is_an_answer(rt: HostRuntime) -> Result<(), Fail> {
 #[test]
 fn undecided_is_trouble(rt: HostRuntime) -> Result<(), Fail> {
     let ran = run(rt.alloc(), &["diff", "argument", "argument"], 0)?;
-    expect_eq!(rt; (ran.status, ran.out.len()), (2, 0));
+    assert_eq!(rt; (ran.status, ran.out.len()), (2, 0));
     assert!(rt;
         ran.complaints.starts_with(
             b"ask: diff: the filters could not be compared on all calls:\n0 read: undecided\n",
@@ -131,7 +130,7 @@ fn answers_go_to_standard_output(rt: HostRuntime) -> Result<(), Fail> {
 fn all_calls(rt: HostRuntime) -> Result<(), Fail> {
     let ran = run(rt.alloc(), &["calls", "all"], 0)?;
     let lines = ran.out.iter().filter(|byte| **byte == b'\n').count();
-    expect_eq!(rt; (ran.status, lines), (0, 377));
+    assert_eq!(rt; (ran.status, lines), (0, 377));
     assert!(rt; ran.out.starts_with(b"0 read allow\n1 write allow\n"));
     assert!(rt; ran.out.ends_with(b"\n463-4294967295 - allow\n"));
     Ok(())

@@ -1,7 +1,6 @@
 use sk_ask_files::{FileFault, Form, LineFault, Place, Refused, attach, fault_text, find, form_of};
 use sk_check::CheckFault;
 use sk_engines::Refusal;
-use sk_expect::expect_eq;
 use std::test::Fail;
 
 #[test]
@@ -16,7 +15,7 @@ fn forms(rt: HostRuntime) {
         (b"0g", Form::Lines),
     ];
     for (bytes, form) in rows {
-        expect_eq!(rt; form_of(bytes), form);
+        assert_eq!(rt; form_of(bytes), form);
     }
 }
 
@@ -30,10 +29,10 @@ fn places(rt: HostRuntime) -> Result<(), Fail> {
     let found = find(alloc, &files)?.ok().ok_or("refused")?;
     let places = [(0, None), (1, Some(2)), (1, Some(3))];
     for (place, (file, line)) in found.places.iter().zip(places) {
-        expect_eq!(rt; *place, Place { file, line });
+        assert_eq!(rt; *place, Place { file, line });
     }
     let why = FileFault::Filter(Some(3), Refusal::Program(CheckFault::NoReturn));
-    expect_eq!(rt;
+    assert_eq!(rt;
         attach(alloc, &found)?.err(),
         Some(Refused { file: 1, why })
     );
@@ -57,7 +56,7 @@ fn texts(rt: HostRuntime) -> Result<(), Fail> {
         ),
     ];
     for (fault, text) in rows {
-        expect_eq!(rt; fault_text(rt.alloc(), fault)?.as_str(), text);
+        assert_eq!(rt; fault_text(rt.alloc(), fault)?.as_str(), text);
     }
     Ok(())
 }

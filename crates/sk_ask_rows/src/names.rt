@@ -1,6 +1,5 @@
 //! Some calls by their numbers and names.
 use sk_call_names::{name, number, numbers};
-use sk_expect::expect_eq;
 use std::test::Fail;
 
 #[test]
@@ -20,18 +19,18 @@ fn names_and_numbers(rt: HostRuntime) {
         (u32::MAX, None),
     ];
     for (nr, known) in rows {
-        expect_eq!(rt; name(nr), known);
+        assert_eq!(rt; name(nr), known);
         if let Some(known) = known {
-            expect_eq!(rt; number(known.as_bytes()), Some(nr));
+            assert_eq!(rt; number(known.as_bytes()), Some(nr));
         }
     }
-    expect_eq!(rt; (number(b"no_such_call"), number(b"")), (None, None));
+    assert_eq!(rt; (number(b"no_such_call"), number(b"")), (None, None));
 }
 
 #[test]
 fn all_named_calls(rt: HostRuntime) -> Result<(), Fail> {
     let all = numbers(rt.alloc())?;
-    expect_eq!(rt; all.len(), 375);
+    assert_eq!(rt; all.len(), 375);
     assert!(rt; all.contains(&334) && all.contains(&424) && !all.contains(&423));
     Ok(())
 }

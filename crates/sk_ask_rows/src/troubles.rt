@@ -1,7 +1,6 @@
 use crate::ends::{Output, run};
 use sk_ask::misused;
 use sk_ends::Counted;
-use sk_expect::expect_eq;
 use std::test::Fail;
 
 /// The words, and the line that says what is wrong.
@@ -205,6 +204,6 @@ fn words_that_are_not_there(rt: HostRuntime) {
         });
         let status = misused(&mut complaints, memory);
         let held = complaints.into_inner().held;
-        expect_eq!(rt; (status, held.as_slice()), (2, line));
+        assert_eq!(rt; (status, held.as_slice()), (2, line));
     }
 }

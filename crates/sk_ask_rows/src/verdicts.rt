@@ -1,4 +1,3 @@
-use sk_expect::expect_eq;
 use sk_verdict::{error_name, push_verdict};
 use std::test::Fail;
 
@@ -24,7 +23,7 @@ fn verdicts(rt: HostRuntime) -> Result<(), Fail> {
     for &(value, verdict) in VERDICTS {
         let mut text = String::new(rt.alloc());
         push_verdict(&mut text, value)?;
-        expect_eq!(rt; text.as_str(), verdict);
+        assert_eq!(rt; text.as_str(), verdict);
     }
     Ok(())
 }
@@ -47,6 +46,6 @@ fn errors(rt: HostRuntime) {
         (134, None),
     ];
     for (number, name) in rows {
-        expect_eq!(rt; error_name(number), name);
+        assert_eq!(rt; error_name(number), name);
     }
 }

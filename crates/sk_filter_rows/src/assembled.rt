@@ -1,7 +1,6 @@
 //! Texts whose instructions or faults the grammar gives.
 use crate::insns::insn;
 use sk_asm::{AsmFault, Shape, assemble, assemble_block, is_end};
-use sk_expect::expect_eq;
 use sk_insn::Operation;
 use std::alloc::{AllocError, Global};
 use std::test::Fail;
@@ -76,7 +75,7 @@ const FORMS: &[(&[u8], u16, u8, u8, u32)] = &[
 fn assembles_each_form(rt: HostRuntime) -> Result<(), Fail> {
     for &(line, code, jt, jf, k) in FORMS {
         let insns = assemble(rt.alloc(), line)?;
-        expect_eq!(rt; insns.as_slice(), [insn(code, jt, jf, k)].as_slice());
+        assert_eq!(rt; insns.as_slice(), [insn(code, jt, jf, k)].as_slice());
     }
     Ok(())
 }
@@ -85,7 +84,7 @@ fn assembles_each_form(rt: HostRuntime) -> Result<(), Fail> {
 fn assembles_labels(rt: HostRuntime) -> Result<(), Fail> {
     let insns = assemble(rt.alloc(), b"; a jump\nja out\n\nret allow\nout:")?;
     let expected = [insn(0x05, 0, 0, 1), insn(0x06, 0, 0, 0x7fff_0000)];
-    expect_eq!(rt; insns.as_slice(), expected.as_slice());
+    assert_eq!(rt; insns.as_slice(), expected.as_slice());
     assert!(rt; assemble(rt.alloc(), b"")?.is_empty());
     Ok(())
 }
@@ -95,12 +94,12 @@ fn labels_lie_255_instructions_ahead_at_most(rt: HostRuntime) -> Result<(), Fail
     let alloc = rt.alloc();
     let nearest = repeated(alloc, b"jeq 1 far +0\n", 255, b"far:\nret allow")?;
     let insns = assemble(alloc, &nearest)?;
-    expect_eq!(rt;
+    assert_eq!(rt;
         (insns.len(), insns.first().copied()),
         (257, Some(insn(0x15, 255, 0, 1)))
     );
     let farther = repeated(alloc, b"jeq 1 far +0\n", 256, b"far:\nret allow")?;
-    expect_eq!(rt;
+    assert_eq!(rt;
         assemble(alloc, &farther).err(),
         Some(AsmFault::Far { n: 1 })
     );
@@ -140,7 +139,7 @@ const FAULTS: &[(&[u8], AsmFault)] = &[
 #[test]
 fn answers_the_first_fault(rt: HostRuntime) {
     for (text, fault) in FAULTS {
-        expect_eq!(rt; assemble(rt.alloc(), text).err(), Some(*fault));
+        assert_eq!(rt; assemble(rt.alloc(), text).err(), Some(*fault));
     }
 }
 
@@ -148,9 +147,9 @@ fn answers_the_first_fault(rt: HostRuntime) {
 fn programs_have_4096_instructions_at_most(rt: HostRuntime) -> Result<(), Fail> {
     let alloc = rt.alloc();
     let longest = repeated(alloc, b"", 4096, b"end:")?;
-    expect_eq!(rt; assemble(alloc, &longest)?.len(), 4096);
+    assert_eq!(rt; assemble(alloc, &longest)?.len(), 4096);
     let longer = repeated(alloc, b"", 4097, b"")?;
-    expect_eq!(rt;
+    assert_eq!(rt;
         assemble(alloc, &longer).err(),
         Some(AsmFault::TooLong { n: 4097 })
     );
@@ -162,13 +161,13 @@ fn lines_and_texts_have_a_limit(rt: HostRuntime) -> Result<(), Fail> {
     let alloc = rt.alloc();
     let spaces = [b' '; 256];
     assert!(rt; assemble(alloc, &spaces[..255])?.is_empty());
-    expect_eq!(rt;
+    assert_eq!(rt;
         assemble(alloc, &spaces).err(),
         Some(AsmFault::TooLong { n: 1 })
     );
     let ends = vec![in alloc; b'\n'; 1_048_577]?;
     assert!(rt; assemble(alloc, &ends.as_slice()[1..])?.is_empty());
-    expect_eq!(rt;
+    assert_eq!(rt;
         assemble(alloc, &ends).err(),
         Some(AsmFault::TooLong { n: 0 })
     );
@@ -179,13 +178,13 @@ fn lines_and_texts_have_a_limit(rt: HostRuntime) -> Result<(), Fail> {
 fn assembles_blocks(rt: HostRuntime) -> Result<(), Fail> {
     let alloc = rt.alloc();
     let insns = assemble_block(alloc, 1, b"ja end\nend:\n end \nbogus")?;
-    expect_eq!(rt; insns.as_slice(), [insn(0x05, 0, 0, 0)].as_slice());
+    assert_eq!(rt; insns.as_slice(), [insn(0x05, 0, 0, 0)].as_slice());
     for (text, fault) in [
         (b"ja x\nend".as_slice(), AsmFault::Label { n: 2 }),
         (b"a:\nja a\nend x", AsmFault::Line { n: 4 }),
         (b"a:\nja a", AsmFault::Back { n: 3 }),
     ] {
-        expect_eq!(rt; assemble_block(alloc, 1, text).err(), Some(fault));
+        assert_eq!(rt; assemble_block(alloc, 1, text).err(), Some(fault));
     }
     Ok(())
 }
@@ -200,11 +199,11 @@ fn knows_the_end_of_a_block(rt: HostRuntime) {
         (b"end\t", false),
         (b"", false),
     ] {
-        expect_eq!(rt; is_end(line), ends);
+        assert_eq!(rt; is_end(line), ends);
     }
 }
 
 #[test]
 fn jump_has_a_target(rt: HostRuntime) {
-    expect_eq!(rt; Shape::of(Operation::Jump), Shape::Target);
+    assert_eq!(rt; Shape::of(Operation::Jump), Shape::Target);
 }

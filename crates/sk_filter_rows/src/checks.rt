@@ -1,7 +1,6 @@
 use crate::filters::refuses_getppid;
 use crate::insns::{ALLOW, divx, ja, jeq, ldabs, ldimm, ldmem, ldximm, ret, reta, st, tax, with_k};
 use sk_check::{CheckFault, check};
-use sk_expect::expect_eq;
 use sk_insn::Insn;
 use std::alloc::{AllocError, Global};
 use std::test::Fail;
@@ -50,7 +49,7 @@ fn single_instructions(rt: HostRuntime) -> Result<(), Fail> {
         ),
     ];
     for (program, want) in rows {
-        expect_eq!(rt; outcome(rt.alloc(), program)?, want);
+        assert_eq!(rt; outcome(rt.alloc(), program)?, want);
     }
     Ok(())
 }
@@ -99,7 +98,7 @@ fn scratch_words(rt: HostRuntime) -> Result<(), Fail> {
         (&[ldimm(1), st(0), ja(1), ja(0), ldmem(0), reta()], Ok(6)),
     ];
     for (program, want) in rows {
-        expect_eq!(rt; outcome(rt.alloc(), program)?, want);
+        assert_eq!(rt; outcome(rt.alloc(), program)?, want);
     }
     Ok(())
 }
@@ -117,8 +116,8 @@ fn loads(alloc: Global, count: usize) -> Result<Vec<Insn>, AllocError> {
 
 #[test]
 fn longest_program(rt: HostRuntime) -> Result<(), Fail> {
-    expect_eq!(rt; outcome(rt.alloc(), &loads(rt.alloc(), 4094)?)?, Ok(4096));
-    expect_eq!(rt;
+    assert_eq!(rt; outcome(rt.alloc(), &loads(rt.alloc(), 4094)?)?, Ok(4096));
+    assert_eq!(rt;
         outcome(rt.alloc(), &loads(rt.alloc(), 4095)?)?,
         Err(CheckFault::TooLong)
     );

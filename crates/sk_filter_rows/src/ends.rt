@@ -1,6 +1,5 @@
 //! Ends over memory that give or take a few bytes a call, and that fail at a call of their own.
 use sk_ends::{Counted, ReadFault, Sink, Source, WriteFault, send, take_up_to};
-use sk_expect::expect_eq;
 use std::cmp::min;
 use std::io;
 use std::io::{ErrorKind, Read, Write};
@@ -103,9 +102,9 @@ fn takes_the_first_bytes(rt: HostRuntime) -> Result<(), Fail> {
             plan,
         });
         let bytes = take_up_to(rt.alloc(), &mut source, most)?;
-        expect_eq!(rt; bytes.as_slice(), taken);
-        expect_eq!(rt; source.failures(), 0);
-        expect_eq!(rt; source.into_inner().left, left);
+        assert_eq!(rt; bytes.as_slice(), taken);
+        assert_eq!(rt; source.failures(), 0);
+        assert_eq!(rt; source.into_inner().left, left);
     }
     Ok(())
 }
@@ -120,8 +119,8 @@ fn takes_more_than_a_piece(rt: HostRuntime) -> Result<(), Fail> {
         plan,
     });
     let bytes = take_up_to(rt.alloc(), &mut source, 4097)?;
-    expect_eq!(rt; bytes.len(), 4097);
-    expect_eq!(rt; source.into_inner().left.len(), 903);
+    assert_eq!(rt; bytes.len(), 4097);
+    assert_eq!(rt; source.into_inner().left.len(), 903);
     Ok(())
 }
 
@@ -135,9 +134,9 @@ fn a_read_that_fails_ends_it_and_is_not_tried_again(rt: HostRuntime) {
             plan,
         });
         let answer = take_up_to(rt.alloc(), &mut source, 9);
-        expect_eq!(rt; answer.err(), Some(ReadFault::Read));
-        expect_eq!(rt; source.failures(), 1);
-        expect_eq!(rt; source.into_inner().plan.calls, wrong_at);
+        assert_eq!(rt; answer.err(), Some(ReadFault::Read));
+        assert_eq!(rt; source.failures(), 1);
+        assert_eq!(rt; source.into_inner().plan.calls, wrong_at);
     }
 }
 
@@ -149,8 +148,8 @@ fn sends_the_whole_text(rt: HostRuntime) -> Result<(), Fail> {
         let mut sink = Counted::new(Writer { held, step, plan });
         send(&mut sink, b"abcdef").ok().ok_or("first text")?;
         send(&mut sink, b"").ok().ok_or("no text")?;
-        expect_eq!(rt; sink.failures(), 0);
-        expect_eq!(rt; sink.into_inner().held.as_slice(), b"abcdef".as_slice());
+        assert_eq!(rt; sink.failures(), 0);
+        assert_eq!(rt; sink.into_inner().held.as_slice(), b"abcdef".as_slice());
     }
     Ok(())
 }
@@ -168,10 +167,10 @@ fn a_write_that_fails_ends_it(rt: HostRuntime) {
                 plan,
             });
             assert!(rt; send(&mut sink, b"abcdef").is_err());
-            expect_eq!(rt; sink.failures(), 1);
+            assert_eq!(rt; sink.failures(), 1);
             let writer = sink.into_inner();
-            expect_eq!(rt; writer.plan.calls, wrong_at);
-            expect_eq!(rt; writer.held.as_slice(), front);
+            assert_eq!(rt; writer.plan.calls, wrong_at);
+            assert_eq!(rt; writer.held.as_slice(), front);
         }
     }
 }

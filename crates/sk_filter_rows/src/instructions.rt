@@ -1,4 +1,3 @@
-use sk_expect::expect_eq;
 use sk_insn::{
     Action, Arithmetic, Comparison, ImageFault, Insn, NoImage, Operand, Operation, Record,
     Register, decode, read_image, read_insns, write_insns,
@@ -46,19 +45,19 @@ fn an_image_is_read_and_written(rt: HostRuntime) -> Result<(), Fail> {
             k: 0x7fff_0000,
         },
     ];
-    expect_eq!(rt; insns.as_slice(), wanted.as_slice());
+    assert_eq!(rt; insns.as_slice(), wanted.as_slice());
     let image = write_insns(alloc, insns.as_slice())?;
-    expect_eq!(rt; image.as_slice(), REFUSES_GETPPID.as_slice());
+    assert_eq!(rt; image.as_slice(), REFUSES_GETPPID.as_slice());
     Ok(())
 }
 
 #[test]
 fn images_are_refused(rt: HostRuntime) -> Result<(), Fail> {
     let alloc = rt.alloc();
-    expect_eq!(rt; read_insns(alloc, &[]).err(), Some(ImageFault::Empty));
-    expect_eq!(rt; read_insns(alloc, &[0; 7]).err(), Some(ImageFault::Ragged));
+    assert_eq!(rt; read_insns(alloc, &[]).err(), Some(ImageFault::Empty));
+    assert_eq!(rt; read_insns(alloc, &[0; 7]).err(), Some(ImageFault::Ragged));
     assert!(rt; read_image(alloc, &RETURN_ALLOW)?.is_ok());
-    expect_eq!(rt; read_image(alloc, &[0; 7])?.err(), Some(NoImage::Ragged));
+    assert_eq!(rt; read_image(alloc, &[0; 7])?.err(), Some(NoImage::Ragged));
     Ok(())
 }
 
@@ -76,7 +75,7 @@ fn images_have_4096_instructions_at_most(rt: HostRuntime) -> Result<(), Fail> {
     let longest = read_insns(rt.alloc(), &image_of(rt.alloc(), 4096)?);
     assert!(rt; longest.is_ok());
     let longer = read_insns(rt.alloc(), &image_of(rt.alloc(), 4097)?);
-    expect_eq!(rt; longer.err(), Some(ImageFault::TooLong));
+    assert_eq!(rt; longer.err(), Some(ImageFault::TooLong));
     Ok(())
 }
 
@@ -94,9 +93,9 @@ fn a_record_is_its_64_bytes(rt: HostRuntime) {
         ip: 0,
         args: [0x22_0000_0011, 0, 0, 0, 0, 0x33 << 56],
     };
-    expect_eq!(rt; Record::of(&bytes), Some(call));
-    expect_eq!(rt; call.bytes().as_slice(), bytes.as_slice());
-    expect_eq!(rt;
+    assert_eq!(rt; Record::of(&bytes), Some(call));
+    assert_eq!(rt; call.bytes().as_slice(), bytes.as_slice());
+    assert_eq!(rt;
         [
             call.word(0),
             call.word(4),
@@ -107,7 +106,7 @@ fn a_record_is_its_64_bytes(rt: HostRuntime) {
         [39, 0xC000_003E, 0x11, 0x22, 0x3300_0000]
     );
     bytes[7] = 0x40;
-    expect_eq!(rt; Record::of(&bytes), None);
+    assert_eq!(rt; Record::of(&bytes), None);
 }
 
 /// A code, its name and its operation.
@@ -132,9 +131,9 @@ fn operations_stand_in_the_table(rt: HostRuntime) {
     for (code, name, operation) in OPERATIONS {
         let found = (decode(code), Operation::named(name.as_bytes()));
         assert_eq!(rt; found, (Some(operation), Some(operation)), "at {name}");
-        expect_eq!(rt; (operation.code(), operation.name()), (code, name));
+        assert_eq!(rt; (operation.code(), operation.name()), (code, name));
     }
-    expect_eq!(rt; Operation::named(b"mod"), None);
+    assert_eq!(rt; Operation::named(b"mod"), None);
 }
 
 #[test]
@@ -142,7 +141,7 @@ fn codes_of_41_operations_are_permitted(rt: HostRuntime) {
     let permitted = (0..=u16::MAX)
         .filter(|code| decode(*code).is_some())
         .count();
-    expect_eq!(rt; permitted, 41);
+    assert_eq!(rt; permitted, 41);
 }
 
 /// The least value of an action, its name, the action, and whether the call is performed.
@@ -162,7 +161,7 @@ fn values_ask_for_actions(rt: HostRuntime) {
     for (value, name, action, performs) in ACTIONS {
         let of_values = (Action::of(value), Action::of(value + 0xffff));
         assert_eq!(rt; of_values, (action, action), "at {name}");
-        expect_eq!(rt;
+        assert_eq!(rt;
             (
                 Action::named(name.as_bytes()),
                 action.value(),
@@ -177,10 +176,10 @@ fn values_ask_for_actions(rt: HostRuntime) {
 #[test]
 fn other_values_ask_for_no_action(rt: HostRuntime) {
     for value in [0x0006_0000, 0x7ffd_0000, 0x7ffe_0000, 0xffff_0000] {
-        expect_eq!(rt; Action::of(value), Action::Unknown);
+        assert_eq!(rt; Action::of(value), Action::Unknown);
     }
     let unknown = Action::Unknown;
-    expect_eq!(rt;
+    assert_eq!(rt;
         (
             Action::named(b"unknown"),
             unknown.value(),

@@ -1,7 +1,6 @@
 //! Lines of each form, and texts that assemble to what they list.
 use crate::insns::insn;
 use sk_asm::assemble;
-use sk_expect::expect_eq;
 use sk_insn::Insn;
 use sk_listing::{laws, list};
 use std::test::Fail;
@@ -64,8 +63,8 @@ const FORMS: &[(u16, u8, u8, u32, &str)] = &[
 fn lists_each_form(rt: HostRuntime) -> Result<(), Fail> {
     for &(code, jt, jf, k, line) in FORMS {
         let given = [insn(code, jt, jf, k)];
-        expect_eq!(rt; list(rt.alloc(), &given)?.as_str(), line);
-        expect_eq!(rt;
+        assert_eq!(rt; list(rt.alloc(), &given)?.as_str(), line);
+        assert_eq!(rt;
             assemble(rt.alloc(), line.as_bytes())?.as_slice(),
             given.as_slice()
         );
@@ -82,13 +81,13 @@ fn lists_filters(rt: HostRuntime) -> Result<(), Fail> {
         insn(0x06, 0, 0, 0x7fff_0000),
     ];
     let text = list(rt.alloc(), &filter)?;
-    expect_eq!(rt;
+    assert_eq!(rt;
         text.as_str(),
         "ldabs 0\njeq 110 +0 +1\nret 0x00050001\nret 0x7fff0000\n"
     );
     let again = laws::assemble_listing(rt.alloc(), &filter)?;
-    expect_eq!(rt; again.as_slice(), filter.as_slice());
-    expect_eq!(rt; list(rt.alloc(), &[])?.as_str(), "");
+    assert_eq!(rt; again.as_slice(), filter.as_slice());
+    assert_eq!(rt; list(rt.alloc(), &[])?.as_str(), "");
     Ok(())
 }
 
@@ -96,8 +95,8 @@ fn lists_filters(rt: HostRuntime) -> Result<(), Fail> {
 fn lists_the_longest_program(rt: HostRuntime) -> Result<(), Fail> {
     let insns = vec![in rt.alloc(); insn(0xffff, 255, 255, 0xffff_ffff); 4096]?;
     let text = list(rt.alloc(), insns.as_slice())?;
-    expect_eq!(rt; text.len(), 4096 * 32);
-    expect_eq!(rt;
+    assert_eq!(rt; text.len(), 4096 * 32);
+    assert_eq!(rt;
         assemble(rt.alloc(), text.as_bytes())?.as_slice(),
         insns.as_slice()
     );

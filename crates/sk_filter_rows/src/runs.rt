@@ -3,7 +3,6 @@ use crate::insns::{
     ALLOW, EPERM, branch, divx, ja, jeq, ldabs, ldimm, ldmem, ldximm, ret, reta, st, tax, txa,
     with_k,
 };
-use sk_expect::expect_eq;
 use sk_insn::{Arithmetic, Comparison, Insn, Record};
 use sk_interp::{Ran, calculate, holds, run, walk, walk_together};
 use std::test::Fail;
@@ -72,7 +71,7 @@ fn filters(rt: HostRuntime) -> Result<(), Fail> {
     ];
     for (program, nr, value, steps) in rows {
         let program = filter(rt.alloc(), program)?;
-        expect_eq!(rt; run(&program, &call(nr)), Ran { value, steps });
+        assert_eq!(rt; run(&program, &call(nr)), Ran { value, steps });
     }
     Ok(())
 }
@@ -92,7 +91,7 @@ fn loads(rt: HostRuntime) -> Result<(), Fail> {
     ];
     for (code, k, value) in rows {
         let program = filter(rt.alloc(), &[with_k(code, k), reta()])?;
-        expect_eq!(rt; run(&program, &call(39)), Ran { value, steps: 2 });
+        assert_eq!(rt; run(&program, &call(39)), Ran { value, steps: 2 });
     }
     Ok(())
 }
@@ -112,12 +111,12 @@ fn calculations(rt: HostRuntime) -> Result<(), Fail> {
     ];
     for (code, a, b, value) in rows {
         let constant = filter(rt.alloc(), &[ldimm(a), with_k(code, b), reta()])?;
-        expect_eq!(rt; run(&constant, &call(39)), Ran { value, steps: 3 });
+        assert_eq!(rt; run(&constant, &call(39)), Ran { value, steps: 3 });
         let index = filter(
             rt.alloc(),
             &[ldximm(b), ldimm(a), with_k(code | 8, 0), reta()],
         )?;
-        expect_eq!(rt; run(&index, &call(39)), Ran { value, steps: 4 });
+        assert_eq!(rt; run(&index, &call(39)), Ran { value, steps: 4 });
     }
     Ok(())
 }
@@ -139,7 +138,7 @@ fn comparisons(rt: HostRuntime) -> Result<(), Fail> {
             rt.alloc(),
             &[ldimm(a), branch(code, b, 1, 0), ret(0), ret(1)],
         )?;
-        expect_eq!(rt; run(&constant, &call(39)), Ran { value, steps: 3 });
+        assert_eq!(rt; run(&constant, &call(39)), Ran { value, steps: 3 });
         let index = filter(
             rt.alloc(),
             &[
@@ -150,7 +149,7 @@ fn comparisons(rt: HostRuntime) -> Result<(), Fail> {
                 ret(1),
             ],
         )?;
-        expect_eq!(rt; run(&index, &call(39)), Ran { value, steps: 4 });
+        assert_eq!(rt; run(&index, &call(39)), Ran { value, steps: 4 });
     }
     Ok(())
 }
@@ -164,7 +163,7 @@ fn longest_filter(rt: HostRuntime) -> Result<(), Fail> {
     }
     insns.push(reta())?;
     let program = filter(rt.alloc(), &insns)?;
-    expect_eq!(rt;
+    assert_eq!(rt;
         run(&program, &call(39)),
         Ran {
             value: 0,

@@ -3,7 +3,6 @@ use crate::filters::{chain_of, filter, refuses_getppid};
 use crate::insns::{
     ALLOW, EPERM, branch, divx, ja, jeq, ldabs, ldimm, ldmem, ldximm, ret, reta, st, tax,
 };
-use sk_expect::expect_eq;
 use sk_insn::Insn;
 use sk_survey::{Answers, Survey};
 use std::alloc::Global;
@@ -112,7 +111,7 @@ fn programs(rt: HostRuntime) -> Result<(), Fail> {
     for (program, first, last, expected) in rows {
         assert!(rt; first <= last);
         let answers = survey.program(alloc, &filter(alloc, program)?, first, last)?;
-        expect_eq!(rt; values(&answers), expected);
+        assert_eq!(rt; values(&answers), expected);
     }
     Ok(())
 }
@@ -152,9 +151,9 @@ fn rows_of_a_chain(rt: HostRuntime) -> Result<(), Fail> {
     let alloc = rt.alloc();
     let chain = chain_of(alloc, &[&refuses_getppid()])?;
     let rows = Survey::new(alloc)?.rows(alloc, &chain, &[39, 0xffff_ffff])?;
-    expect_eq!(rt; rows.len(), expected.len());
+    assert_eq!(rt; rows.len(), expected.len());
     for (row, (first, last, value)) in rows.iter().zip(expected) {
-        expect_eq!(rt;
+        assert_eq!(rt;
             (row.first, row.last, values(&row.answers)),
             (first, last, Some([value].as_slice()))
         );

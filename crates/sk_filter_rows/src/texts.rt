@@ -1,5 +1,4 @@
 //! Each public function at words and texts whose answers the grammar gives.
-use sk_expect::expect_eq;
 use sk_text::{
     HexDigits, HexFault, Lines, Words, bytes_of, bytes_of_text, cut, four_words, hex_half,
     hex_word, is_name, is_number, is_passed_over, is_printable, is_word, no_word, number_up_to,
@@ -11,17 +10,17 @@ use std::test::Fail;
 fn cuts_lines(rt: HostRuntime) {
     let mut lines = Lines(b"a  bc\n\n ;d\ne");
     for line in [b"a  bc".as_slice(), b"", b" ;d", b"e"] {
-        expect_eq!(rt; lines.next(), Some(line));
+        assert_eq!(rt; lines.next(), Some(line));
     }
     assert!(rt; lines.next().is_none());
-    expect_eq!(rt; (Lines(b"").count(), Lines(b"\n").count()), (0, 1));
+    assert_eq!(rt; (Lines(b"").count(), Lines(b"\n").count()), (0, 1));
 }
 
 #[test]
 fn cuts_words(rt: HostRuntime) {
     let mut words = Words(b"  ja\t top ");
-    expect_eq!(rt; words.next(), Some(b"ja\t".as_slice()));
-    expect_eq!(rt; words.next(), Some(b"top".as_slice()));
+    assert_eq!(rt; words.next(), Some(b"ja\t".as_slice()));
+    assert_eq!(rt; words.next(), Some(b"top".as_slice()));
     assert!(rt; words.next().is_none());
 }
 
@@ -36,8 +35,8 @@ fn judges_lines(rt: HostRuntime) {
         (b"a\t", false, false),
         (b"\x1f", false, false),
     ] {
-        expect_eq!(rt; is_printable(line), printable);
-        expect_eq!(rt; is_passed_over(line), passed_over);
+        assert_eq!(rt; is_printable(line), printable);
+        assert_eq!(rt; is_passed_over(line), passed_over);
     }
 }
 
@@ -54,7 +53,7 @@ fn reads_numbers(rt: HostRuntime) {
         (b"18446744073709551616", most, None),
         (b"0x10000000000000000", most, None),
     ] {
-        expect_eq!(rt; number_up_to(word, most), number);
+        assert_eq!(rt; number_up_to(word, most), number);
         assert!(rt; is_number(word));
     }
     for word in [
@@ -67,7 +66,7 @@ fn reads_numbers(rt: HostRuntime) {
         b"0xg",
         b"1 ",
     ] {
-        expect_eq!(rt; number_up_to(word, most), None);
+        assert_eq!(rt; number_up_to(word, most), None);
         assert!(rt; !is_number(word));
     }
 }
@@ -85,7 +84,7 @@ fn knows_names_and_words(rt: HostRuntime) {
         (b"aB", false),
         (b"a.", false),
     ] {
-        expect_eq!(rt; is_name(word), name);
+        assert_eq!(rt; is_name(word), name);
     }
     assert!(rt; is_word(b"end", b"end"));
     assert!(rt; !is_word(b"ends", b"end"));
@@ -93,14 +92,14 @@ fn knows_names_and_words(rt: HostRuntime) {
 
 #[test]
 fn counts_words(rt: HostRuntime) {
-    expect_eq!(rt;
+    assert_eq!(rt;
         (no_word(Words(b" ")), no_word(Words(b"a"))),
         (Some(()), None)
     );
     let one = (one_word(Words(b" a ")), one_word(Words(b"a b")));
-    expect_eq!(rt; one, (Some(b"a".as_slice()), None));
+    assert_eq!(rt; one, (Some(b"a".as_slice()), None));
     let two = two_words(Words(b"a b"));
-    expect_eq!(rt; two, Some((b"a".as_slice(), b"b".as_slice())));
+    assert_eq!(rt; two, Some((b"a".as_slice(), b"b".as_slice())));
     assert!(rt; three_words(Words(b"a b c")).is_some());
     assert!(rt; three_words(Words(b"a b")).is_none());
     assert!(rt; four_words(Words(b"a b c d")).is_some());
@@ -111,10 +110,10 @@ fn counts_words(rt: HostRuntime) {
 fn reads_hexadecimal(rt: HostRuntime) -> Result<(), Fail> {
     let alloc = rt.alloc();
     let bytes = bytes_of(alloc, Words(b"0 aF f"))?;
-    expect_eq!(rt; bytes.as_slice(), [0x0a, 0xff].as_slice());
+    assert_eq!(rt; bytes.as_slice(), [0x0a, 0xff].as_slice());
     assert!(rt; bytes_of(alloc, Words(b""))?.is_empty());
     let bytes = bytes_of_text(alloc, b"06 0\n0\n\n7F ")?;
-    expect_eq!(rt; bytes.as_slice(), [0x06, 0x00, 0x7f].as_slice());
+    assert_eq!(rt; bytes.as_slice(), [0x06, 0x00, 0x7f].as_slice());
     Ok(())
 }
 
@@ -126,7 +125,7 @@ fn refuses_what_is_not_hexadecimal(rt: HostRuntime) {
             bytes_of_text(rt.alloc(), text).err(),
         );
         let refused = Some(HexFault::NotHexadecimal);
-        expect_eq!(rt; faults, (refused, refused));
+        assert_eq!(rt; faults, (refused, refused));
     }
 }
 
@@ -135,8 +134,8 @@ fn shows_hexadecimal(rt: HostRuntime) -> Result<(), Fail> {
     let word = hex_word(0x7fff_00ab);
     let half = hex_half(0x1f);
     let bytes = HexDigits::<4>::of(b"\x06\xff");
-    expect_eq!(rt; word.as_str(), "7fff00ab");
+    assert_eq!(rt; word.as_str(), "7fff00ab");
     let text = format!(in rt.alloc(); "0x{word} {half} {bytes}")?;
-    expect_eq!(rt; text.as_str(), "0x7fff00ab 001f 06ff");
+    assert_eq!(rt; text.as_str(), "0x7fff00ab 001f 06ff");
     Ok(())
 }

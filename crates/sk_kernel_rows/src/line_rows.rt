@@ -5,7 +5,6 @@ use crate::row::Came::Gives;
 use crate::row::{NONE, Row, args_of};
 use sk_calls::Syscall;
 use sk_calls::Syscall::{Fork, Prctl, Setuid};
-use sk_expect::expect_eq;
 use sk_insn::Record;
 use sk_kernel::laws::{Lineage, line};
 use sk_kernel::{Answer, Event};
@@ -50,10 +49,10 @@ fn assert_lines<R: Abort + AllocGlobal>(
     events: &[Event],
     answers: &[Answer],
 ) -> Result<(), Fail> {
-    expect_eq!(rt; answers.len(), events.len());
+    assert_eq!(rt; answers.len(), events.len());
     for (pid, root, calls) in LINES {
         let told = line(rt.alloc(), events, answers, pid)?;
-        expect_eq!(rt; told.root, root);
+        assert_eq!(rt; told.root, root);
         assert!(rt; has_calls(&told, calls), "line of {pid}");
     }
     Ok(())

@@ -5,7 +5,6 @@ use sk_calls::Syscall;
 use sk_calls::Syscall::{
     Execve, ExitGroup, Fork, Geteuid, Getppid, Kill, Pause, Prctl, Seccomp, Setuid, Wait4,
 };
-use sk_expect::expect_eq;
 use sk_insn::Record;
 use sk_kernel::laws::{Lineage, line};
 use sk_kernel::{Answer, Event, Kernel, Need};
@@ -122,8 +121,8 @@ const STRANGERS: Orders = Orders {
 #[test]
 fn sandbox_is_judged_by_its_lines(rt: HostRuntime) -> Result<(), Fail> {
     let known = lines_in_all_orders(&rt, &SANDBOX)?;
-    expect_eq!(rt; known.len(), 11);
-    expect_eq!(rt; lines_that_refuse(&known, Getppid), 7);
+    assert_eq!(rt; known.len(), 11);
+    assert_eq!(rt; lines_that_refuse(&known, Getppid), 7);
     Ok(())
 }
 
@@ -131,8 +130,8 @@ fn sandbox_is_judged_by_its_lines(rt: HostRuntime) -> Result<(), Fail> {
 #[test]
 fn strangers_are_judged_by_their_lines(rt: HostRuntime) -> Result<(), Fail> {
     let known = lines_in_all_orders(&rt, &STRANGERS)?;
-    expect_eq!(rt; known.len(), 12);
-    expect_eq!(rt; lines_that_refuse(&known, Getppid), 0);
+    assert_eq!(rt; known.len(), 12);
+    assert_eq!(rt; lines_that_refuse(&known, Getppid), 0);
     Ok(())
 }
 
@@ -178,7 +177,7 @@ impl<S: ProcStore> Course<S> {
             self.meet_all(rt, known)?;
         }
         for (pid, script) in (1..).zip(orders.scripts) {
-            expect_eq!(rt; calls_of(pid, &self.events), script.len());
+            assert_eq!(rt; calls_of(pid, &self.events), script.len());
         }
         Ok(())
     }
@@ -193,7 +192,7 @@ impl<S: ProcStore> Course<S> {
         let event = orders.next(&self.kernel, pid, &self.events);
         self.events.push(event)?;
         let ran = self.kernel.run(&[event], &mut self.answers);
-        expect_eq!(rt; ran, Ok(()));
+        assert_eq!(rt; ran, Ok(()));
         let is_refused = matches!(self.answers.last(), Some(Answer::NotNow(_)));
         assert!(rt; !is_refused, "{event:?}");
         Ok(())
@@ -216,7 +215,7 @@ impl<S: ProcStore> Course<S> {
         pid: u32,
         verdicts: Vec<u32>,
     ) -> Result<Known, Fail> {
-        expect_eq!(rt; self.events.len(), self.answers.len());
+        assert_eq!(rt; self.events.len(), self.answers.len());
         let line = line(rt.alloc(), &self.events, &self.answers, pid)?;
         Ok(Known { line, verdicts })
     }
@@ -234,7 +233,7 @@ fn verdicts_of(alloc: Global, process: &Proc) -> Result<Vec<u32>, Fail> {
 fn meet<R: Abort>(rt: &R, met: Known, known: &mut Vec<Known>) -> Result<(), Fail> {
     let same = known.iter().position(|old| is_same(&old.line, &met.line));
     match same {
-        Some(place) => expect_eq!(rt; known[place].verdicts, met.verdicts),
+        Some(place) => assert_eq!(rt; known[place].verdicts, met.verdicts),
         None => known.push(met)?,
     }
     Ok(())

@@ -1,7 +1,6 @@
 use crate::given::Given;
 use crate::picture::{Picture, pictures};
 use crate::row::Row;
-use sk_expect::expect_eq;
 use sk_kernel::{Answer, Event, Images, Kernel, Need};
 use sk_signal::SigSet;
 use sk_table::{ListStore, ProcStore, SlotStore};
@@ -77,7 +76,7 @@ fn keep<S: ProcStore, R: Abort + AllocGlobal>(
 ) -> Result<(), Fail> {
     let mut kernel = played::<S, R>(rt, given.images(rt.alloc())?, before)?;
     let old = pictures(rt.alloc(), &kernel, kept)?;
-    expect_eq!(rt; old.len(), kept.len());
+    assert_eq!(rt; old.len(), kept.len());
     go_on(rt, &mut kernel, rows)?;
     assert_pictures(rt, &kernel, kept, &old)
 }
@@ -88,7 +87,7 @@ fn assert_pictures<S: ProcStore, R: Abort + AllocGlobal>(
     pids: &[u32],
     expected: &[Picture],
 ) -> Result<(), Fail> {
-    expect_eq!(rt; pictures(rt.alloc(), kernel, pids)?.as_slice(), expected);
+    assert_eq!(rt; pictures(rt.alloc(), kernel, pids)?.as_slice(), expected);
     Ok(())
 }
 
@@ -127,8 +126,8 @@ fn go_on<S: ProcStore, R: Abort + AllocGlobal>(
 ) -> Result<Vec<Answer>, Fail> {
     let mut answers = Vec::new(rt.alloc());
     let ran = kernel.run(&events_of(rt.alloc(), rows)?, &mut answers);
-    expect_eq!(rt; ran, Ok(()));
-    expect_eq!(rt; answers.len(), rows.len());
+    assert_eq!(rt; ran, Ok(()));
+    assert_eq!(rt; answers.len(), rows.len());
     for (place, (answer, row)) in answers.iter().zip(rows).enumerate() {
         assert_eq!(rt; *answer, row.1.answer(), "row {place}: {row:?}");
     }

@@ -1,5 +1,4 @@
 use sk_calls::Syscall;
-use sk_expect::expect_eq;
 
 #[test]
 fn calls_have_the_numbers_and_names_of_the_manual(rt: HostRuntime) {
@@ -11,8 +10,8 @@ fn calls_have_the_numbers_and_names_of_the_manual(rt: HostRuntime) {
         (317, "seccomp", Syscall::Seccomp),
     ] {
         let found = (Syscall::of(number), Syscall::named(name.as_bytes()));
-        expect_eq!(rt; found, (Some(call), Some(call)));
-        expect_eq!(rt; (call.number(), call.name()), (number, name));
+        assert_eq!(rt; found, (Some(call), Some(call)));
+        assert_eq!(rt; (call.number(), call.name()), (number, name));
     }
 }
 
@@ -25,6 +24,6 @@ fn other_numbers_and_names_are_no_calls(rt: HostRuntime) {
         (0x4000_0027, "fork "),
     ] {
         let found = (Syscall::of(number), Syscall::named(name.as_bytes()));
-        expect_eq!(rt; found, (None, None));
+        assert_eq!(rt; found, (None, None));
     }
 }

@@ -6,7 +6,6 @@ use crate::sessions::world::lead_group;
 use crate::world::{after_forks, end_of};
 use bitflags::Flags;
 use sk_candidates::Candidates;
-use sk_expect::expect_eq;
 use sk_signal::number::SIGUSR1;
 use sk_table::{
     Body, INIT, ListStore, ProcStore, Request, SlotStore, WaitOptions, Waiting, Who, send,
@@ -88,7 +87,7 @@ fn candidates_keep_what_the_store_keeps<S: ProcStore, R: Abort + AllocGlobal>(
 }
 
 fn keeps_processes_1_and_2<S: ProcStore>(rt: &impl Abort, store: &S) {
-    expect_eq!(rt; (store.count(), store.last(), store.fresh()), (2, 2, 3));
+    assert_eq!(rt; (store.count(), store.last(), store.fresh()), (2, 2, 3));
     for (after, next, child, member) in [
         (0, Some(1), Some(2), Some(1)),
         (1, Some(2), Some(2), Some(2)),
@@ -99,7 +98,7 @@ fn keeps_processes_1_and_2<S: ProcStore>(rt: &impl Abort, store: &S) {
             store.next_child(INIT, after),
             store.next_member(INIT, after),
         );
-        expect_eq!(rt; found, (next, child, member));
+        assert_eq!(rt; found, (next, child, member));
     }
     assert!(rt; store.next_member(2, 0).is_none());
     assert!(rt; store.used(2) && !store.used(3));

@@ -1,4 +1,3 @@
-use sk_expect::expect_eq;
 use sk_machine::{Event, PrctlOption, Reason, SeccompOperation};
 
 #[test]
@@ -15,7 +14,7 @@ fn each_event_has_its_process(rt: HostRuntime) {
         (Event::Resume { pid: 4 }, 4),
         (Event::Fault { pid: 5 }, 5),
     ] {
-        expect_eq!(rt; event.pid(), pid);
+        assert_eq!(rt; event.pid(), pid);
     }
 }
 
@@ -26,7 +25,7 @@ fn reasons_are_numbered(rt: HostRuntime) {
         (Reason::SignalFirst, 5),
         (Reason::Halted, 7),
     ] {
-        expect_eq!(rt; reason.number(), number);
+        assert_eq!(rt; reason.number(), number);
     }
 }
 
@@ -41,7 +40,7 @@ fn options_of_prctl_have_the_numbers_of_linux(rt: HostRuntime) {
         (39, Some(PrctlOption::GetNoNewPrivs)),
         (1, None),
     ] {
-        expect_eq!(rt; PrctlOption::of(number), option);
+        assert_eq!(rt; PrctlOption::of(number), option);
     }
 }
 
@@ -53,6 +52,6 @@ fn operations_of_seccomp_have_the_numbers_of_linux(rt: HostRuntime) {
         (2, Some(SeccompOperation::GetActionAvail)),
         (3, None),
     ] {
-        expect_eq!(rt; SeccompOperation::of(number), operation);
+        assert_eq!(rt; SeccompOperation::of(number), operation);
     }
 }

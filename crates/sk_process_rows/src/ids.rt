@@ -1,6 +1,5 @@
 use crate::deliveries::world::{ROOT, USER};
 use sk_creds::{Creds, Errno};
-use sk_expect::expect_eq;
 
 fn ids(real: u32, effective: u32, saved: u32) -> Creds {
     Creds {
@@ -26,7 +25,7 @@ fn one_id_is_taken(rt: HostRuntime) {
         (ids(1002, 1000, 1002), 1002, Ok(()), ids(1002, 1002, 1002)),
     ] {
         let mut creds = before;
-        expect_eq!(rt; (creds.setuid(id), creds), (result, after));
+        assert_eq!(rt; (creds.setuid(id), creds), (result, after));
     }
 }
 
@@ -40,7 +39,7 @@ fn ids_given_up_stay_given_up(rt: HostRuntime) {
         (1002, 0, 1002, Err(Errno::Eperm), ids(1002, 1000, 1002)),
     ] {
         let told = creds.setresuid(real, effective, saved);
-        expect_eq!(rt; (told, creds), (result, after));
+        assert_eq!(rt; (told, creds), (result, after));
     }
 }
 
@@ -58,7 +57,7 @@ fn execve_leaves_no_saved_id_behind(rt: HostRuntime) {
     ] {
         let mut creds = before;
         creds.after_exec(owner, setuid);
-        expect_eq!(rt; creds, after);
+        assert_eq!(rt; creds, after);
     }
 }
 
@@ -76,7 +75,7 @@ fn signals_go_by_the_targets_real_and_saved_ids(rt: HostRuntime) {
         (USER, ids(7, 1000, 7), false),
     ] {
         let told = (sender.may_signal(&target), sender.is_privileged());
-        expect_eq!(rt; told, (permitted, sender == ROOT));
+        assert_eq!(rt; told, (permitted, sender == ROOT));
     }
 }
 
@@ -96,6 +95,6 @@ fn errors_have_the_numbers_of_x86_64(rt: HostRuntime) {
         (Errno::Enosys, 38),
         (Errno::Eopnotsupp, 95),
     ] {
-        expect_eq!(rt; errno.number(), number);
+        assert_eq!(rt; errno.number(), number);
     }
 }

@@ -1,4 +1,3 @@
-use sk_expect::expect_eq;
 use sk_numbers::NumberSet;
 
 #[test]
@@ -9,8 +8,8 @@ fn members_come_in_rising_order(rt: HostRuntime) {
     }
     set.remove(4000);
     set.remove(4001);
-    expect_eq!(rt; set.first(), Some(0));
-    expect_eq!(rt; NumberSet::empty().first(), None);
+    assert_eq!(rt; set.first(), Some(0));
+    assert_eq!(rt; NumberSet::empty().first(), None);
     assert!(rt;
         set.contains(0)
             && set.contains(32767)
@@ -27,6 +26,6 @@ fn members_come_in_rising_order(rt: HostRuntime) {
         (32767, None),
         (u32::MAX, None),
     ] {
-        expect_eq!(rt; set.next(after), next);
+        assert_eq!(rt; set.next(after), next);
     }
 }

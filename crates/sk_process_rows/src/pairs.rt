@@ -1,4 +1,3 @@
-use sk_expect::expect_eq;
 use sk_pairs::PairRow;
 use std::test::Fail;
 
@@ -18,7 +17,7 @@ fn pairs_come_in_rising_order(rt: HostRuntime) -> Result<(), Fail> {
         (7, 0, Some(2)),
         (8, 0, None),
     ] {
-        expect_eq!(rt; row.next(first, after), next);
+        assert_eq!(rt; row.next(first, after), next);
     }
     row.remove(1, 5);
     assert!(rt; row.slice_of(1) == &[(1u32, 9u32)][..]);

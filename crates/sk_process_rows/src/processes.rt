@@ -1,7 +1,6 @@
 use bitflags::Flags;
 use sk_chain::Chain;
 use sk_creds::Creds;
-use sk_expect::expect_eq;
 use sk_signal::number::{SIGTERM, SIGUSR1};
 use sk_signal::{SigSet, SigState};
 use sk_world::{Body, INIT, Life, Links, Note, Proc, WaitOptions, Waiting};
@@ -42,7 +41,7 @@ fn parent(rt: &HostRuntime) -> Proc {
 fn a_child_has_the_rights_and_nothing_that_pends(rt: HostRuntime) -> Result<(), Fail> {
     let parent = parent(&rt);
     let child = parent.child(7)?;
-    expect_eq!(rt;
+    assert_eq!(rt;
         parent.body.signals.pending(),
         SigSet::empty().with(SIGTERM)
     );
@@ -57,12 +56,12 @@ fn is_the_child(rt: &impl Abort, child: &Proc, parent: &Body) {
         session: 7,
     };
     let body = &child.body;
-    expect_eq!(rt; (child.links, body.creds), (links, parent.creds));
-    expect_eq!(rt;
+    assert_eq!(rt; (child.links, body.creds), (links, parent.creds));
+    assert_eq!(rt;
         (body.life, body.waiting, body.note),
         (Life::Running, Waiting::Nothing, Note::Nothing)
     );
-    expect_eq!(rt;
+    assert_eq!(rt;
         (body.signals.mask(), body.signals.pending()),
         (parent.signals.mask(), SigSet::empty())
     );
@@ -84,6 +83,6 @@ fn wait_options_are_three_bits(rt: HostRuntime) {
         (16, None),
         (2_147_483_648, None),
     ] {
-        expect_eq!(rt; WaitOptions::from_bits(bits), options);
+        assert_eq!(rt; WaitOptions::from_bits(bits), options);
     }
 }

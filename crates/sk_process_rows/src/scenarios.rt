@@ -1,6 +1,5 @@
 //! Scenarios and what is read of them. The faults are those of the grammar, in the order of its rules.
 use crate::worked_scenarios::told;
-use sk_expect::expect_eq;
 use sk_scenario::{ScenarioFault, read};
 use std::alloc::{AllocError, Global};
 use std::test::Fail;
@@ -46,7 +45,7 @@ fn reads_a_scenario(rt: HostRuntime) -> Result<(), Fail> {
         b"program init owner 7 setuid\nkill &again -1 0x10 @f\nfork again\ncall 999 1\nend\nfilter e\nend\nfilter f\n ; bytes\nbytes 0 600\n  \nbytes fF\nend\nprogram again\nend\nsubreapers\nturns 007";
     let scenario = read(rt.alloc(), text)?;
     let told = told(rt.alloc(), &scenario)?;
-    expect_eq!(rt;
+    assert_eq!(rt;
         told.as_str(),
         "7 true 0 3; 7 true, 62 3 18446744073709551615 16 1, 57 of 1, 999 1; 0 false"
     );
@@ -61,7 +60,7 @@ fn reads_the_greatest_numbers(rt: HostRuntime) -> Result<(), Fail> {
     let text =
         b"program a owner 4294967294\nkill 18446744073709551615 -9223372036854775808\ncall 4294967295 1 2 3 4 5 6\nend\nprogram b setuid\nend\n";
     let scenario = read(rt.alloc(), text)?;
-    expect_eq!(rt;
+    assert_eq!(rt;
         told(rt.alloc(), &scenario)?.as_str(),
         "1000 false; 4294967294 false, 62 18446744073709551615 9223372036854775808, 4294967295 1 2 3 4 5 6; 0 true"
     );
@@ -111,7 +110,7 @@ fn tells_the_first_fault(rt: HostRuntime) {
         (b"program a\npause\nend\nend", line(4)),
         (&spaces, limit(1)),
     ] {
-        expect_eq!(rt; read(rt.alloc(), text).err(), Some(fault));
+        assert_eq!(rt; read(rt.alloc(), text).err(), Some(fault));
     }
     assert!(rt; read(rt.alloc(), &spaces[1..]).is_ok());
 }
@@ -173,9 +172,9 @@ fn each_beginning_is_a_scenario_or_has_one_fault(rt: HostRuntime) {
         }
     }
     // Nothing, the filter alone, and the whole: the last two with their last line end and without it.
-    expect_eq!(rt; scenarios, 5);
-    expect_eq!(rt; unresolved, 4);
-    expect_eq!(rt; lines, WITH_CHILD.len() - 8);
+    assert_eq!(rt; scenarios, 5);
+    assert_eq!(rt; unresolved, 4);
+    assert_eq!(rt; lines, WITH_CHILD.len() - 8);
     assert!(rt; read(rt.alloc(), REFUSES_GETPPID).is_ok());
 }
 
@@ -183,12 +182,12 @@ fn each_beginning_is_a_scenario_or_has_one_fault(rt: HostRuntime) {
 fn tells_refused_memory(rt: HostRuntime) -> Result<(), Fail> {
     match read(rt.alloc(), WITH_CHILD) {
         Ok(read) => {
-            expect_eq!(rt; read.filters.len(), 1);
-            expect_eq!(rt; read.filters[0].len(), 32);
-            expect_eq!(rt; read.programs.len(), 3);
-            expect_eq!(rt; read.programs[0].calls.len(), 6);
+            assert_eq!(rt; read.filters.len(), 1);
+            assert_eq!(rt; read.filters[0].len(), 32);
+            assert_eq!(rt; read.programs.len(), 3);
+            assert_eq!(rt; read.programs[0].calls.len(), 6);
         }
-        Err(fault) => expect_eq!(rt; fault, ScenarioFault::Memory),
+        Err(fault) => assert_eq!(rt; fault, ScenarioFault::Memory),
     }
     match format!(in rt.alloc(); "{}", unresolved(7)) {
         Ok(text) => assert!(rt; text.as_str() == "skern: line 7: no such name"),

@@ -1,4 +1,3 @@
-use sk_expect::expect_eq;
 use sk_signal::number::{SIGCHLD, SIGCONT, SIGHUP, SIGKILL, SIGSYS, SIGTERM, SIGTSTP, SIGUSR1};
 use sk_signal::{DefaultAction, Disposition, SigSet, SigState, default_action, tty_stop};
 use std::process::Abort;
@@ -31,21 +30,21 @@ fn sets_drop_the_bits_above_signal_31(rt: HostRuntime) {
         (0xffff_ffff_8000_0200, 0x200),
         (u64::MAX, 0x7fff_ffff),
     ] {
-        expect_eq!(rt; SigSet::from_bits_truncate(bits).bits(), kept);
+        assert_eq!(rt; SigSet::from_bits_truncate(bits).bits(), kept);
     }
 }
 
 #[test]
 fn sets_hold_each_signal_once(rt: HostRuntime) {
     let set = SigSet::empty().with(SIGTERM).with(SIGUSR1).with(SIGTERM);
-    expect_eq!(rt; set.bits(), 0x4200);
+    assert_eq!(rt; set.bits(), 0x4200);
     assert!(rt; set.contains(SIGUSR1) && !set.contains(SIGHUP));
     let lowest = (
         set.lowest(),
         set.without(SIGUSR1).lowest(),
         SigSet::empty().lowest(),
     );
-    expect_eq!(rt; lowest, (Some(SIGUSR1), Some(SIGTERM), None));
+    assert_eq!(rt; lowest, (Some(SIGUSR1), Some(SIGTERM), None));
 }
 
 #[test]
@@ -57,7 +56,7 @@ fn sets_are_joined_and_told_apart(rt: HostRuntime) {
         set.difference(more).bits(),
         more.blockable().bits(),
     );
-    expect_eq!(rt; bits, (0x4000_4300, 0x4000, 0x4000_0200));
+    assert_eq!(rt; bits, (0x4000_4300, 0x4000, 0x4000_0200));
 }
 
 #[test]
@@ -79,44 +78,44 @@ fn default_actions_are_those_of_the_manual(rt: HostRuntime) {
         assert!(rt; default_action(signal) == action);
     }
     for signal in 0..=u8::MAX {
-        expect_eq!(rt; tty_stop(signal), (20..=22).contains(&signal));
+        assert_eq!(rt; tty_stop(signal), (20..=22).contains(&signal));
     }
 }
 
 #[test]
 fn kill_gets_through_a_full_mask(rt: HostRuntime) {
     let mut state = deaf();
-    expect_eq!(rt; state.mask().bits(), 0x7ffb_feff);
+    assert_eq!(rt; state.mask().bits(), 0x7ffb_feff);
     state.generate(SIGTERM, false);
     state.generate(SIGUSR1, false);
     state.generate(SIGTERM, false);
-    expect_eq!(rt; due(&state), (0x4200, None));
+    assert_eq!(rt; due(&state), (0x4200, None));
     state.generate(SIGKILL, false);
-    expect_eq!(rt; due(&state), (0x4300, Some(SIGKILL)));
+    assert_eq!(rt; due(&state), (0x4300, Some(SIGKILL)));
     state.take(SIGKILL);
     state.set_mask(SigSet::empty());
-    expect_eq!(rt; due(&state), (0x4200, Some(SIGUSR1)));
+    assert_eq!(rt; due(&state), (0x4200, Some(SIGUSR1)));
     state.generate(SIGHUP, false);
     state.generate(SIGKILL, false);
-    expect_eq!(rt; due(&state), (0x4301, Some(SIGKILL)));
+    assert_eq!(rt; due(&state), (0x4301, Some(SIGKILL)));
 }
 
 #[test]
 fn stop_and_continue_discard_one_another(rt: HostRuntime) {
     let mut state = deaf();
     state.generate(SIGTSTP, false);
-    expect_eq!(rt; state.pending().bits(), 0x80000);
+    assert_eq!(rt; state.pending().bits(), 0x80000);
     state.generate(SIGCONT, false);
-    expect_eq!(rt; state.pending().bits(), 0x20000);
+    assert_eq!(rt; state.pending().bits(), 0x20000);
     state.generate(SIGTSTP, false);
-    expect_eq!(rt; state.pending().bits(), 0x80000);
+    assert_eq!(rt; state.pending().bits(), 0x80000);
     // Without a handler for it process 1 is not sent SIGCONT, which then discards nothing.
     state.generate(SIGCONT, true);
-    expect_eq!(rt; state.pending().bits(), 0x80000);
+    assert_eq!(rt; state.pending().bits(), 0x80000);
     // A SIGCONT that is dropped discards as well.
     state.set_mask(SigSet::empty());
     state.generate(SIGCONT, false);
-    expect_eq!(rt; state.pending().bits(), 0);
+    assert_eq!(rt; state.pending().bits(), 0);
 }
 
 #[test]
@@ -128,7 +127,7 @@ fn sixteen_handlers_run_inside_one_another(rt: HostRuntime) {
         assert_handles(&rt, &mut state);
     }
     assert!(rt; !state.push_frame(SIGTERM, SigSet::empty()));
-    expect_eq!(rt; state.mask().bits(), 0);
+    assert_eq!(rt; state.mask().bits(), 0);
     for _ in 0..16 {
         assert!(rt; state.pop_frame());
     }
@@ -150,9 +149,9 @@ fn a_return_restores_the_mask(rt: HostRuntime) {
     let mut state = SigState::new();
     state.set_mask(SigSet::empty().with(SIGHUP));
     assert!(rt; state.push_frame(SIGUSR1, SigSet::from_bits_truncate(0x44100)));
-    expect_eq!(rt; state.mask().bits(), 0x4201);
+    assert_eq!(rt; state.mask().bits(), 0x4201);
     assert!(rt; state.pop_frame());
-    expect_eq!(rt; state.mask().bits(), 1);
+    assert_eq!(rt; state.mask().bits(), 1);
 }
 
 #[test]
@@ -161,7 +160,7 @@ fn forced_sigsys_is_neither_blocked_nor_ignored(rt: HostRuntime) {
     state.set_action(SIGSYS, Disposition::Ignore, false);
     state.force();
     let forced = (state.deliverable(), state.mask().bits());
-    expect_eq!(rt; forced, (Some(SIGSYS), 0x3ffb_feff));
+    assert_eq!(rt; forced, (Some(SIGSYS), 0x3ffb_feff));
     assert!(rt; state.action(SIGSYS) == Disposition::Default);
 }
 
@@ -183,7 +182,7 @@ fn execve_resets_handlers_and_keeps_the_rest(rt: HostRuntime) {
     assert!(rt; state.push_frame(SIGTERM, SigSet::empty()));
     state.after_exec();
     let sets = (state.pending().bits(), state.mask().bits());
-    expect_eq!(rt; sets, (0x200, 0x4200));
+    assert_eq!(rt; sets, (0x200, 0x4200));
     assert!(rt; state.action(SIGUSR1) == Disposition::Default);
     assert!(rt; state.action(SIGTERM) == Disposition::Ignore);
     assert!(rt; !state.pop_frame());
@@ -197,16 +196,16 @@ fn ignored_signals_are_discarded(rt: HostRuntime) {
     state.generate(SIGUSR1, false);
     state.generate(SIGCHLD, false);
     state.set_action(SIGUSR1, Disposition::Ignore, false);
-    expect_eq!(rt; state.pending().bits(), 0x10000);
+    assert_eq!(rt; state.pending().bits(), 0x10000);
     state.set_action(SIGCHLD, Disposition::Default, false);
-    expect_eq!(rt; state.pending().bits(), 0);
+    assert_eq!(rt; state.pending().bits(), 0);
     state.set_mask(SigSet::empty());
     state.generate(SIGUSR1, false);
     state.generate(SIGCHLD, false);
-    expect_eq!(rt; state.pending().bits(), 0);
+    assert_eq!(rt; state.pending().bits(), 0);
     state.set_action(SIGCHLD, handler(), false);
     state.generate(SIGCHLD, false);
-    expect_eq!(rt; state.pending().bits(), 0x10000);
+    assert_eq!(rt; state.pending().bits(), 0x10000);
 }
 
 #[test]
@@ -217,10 +216,10 @@ fn children_start_with_nothing_pending(rt: HostRuntime) {
     assert!(rt; parent.push_frame(SIGUSR1, SigSet::empty()));
     let mut child = parent.forked();
     let sets = (child.pending().bits(), child.mask().bits());
-    expect_eq!(rt; sets, (0, 0x7ffb_feff));
+    assert_eq!(rt; sets, (0, 0x7ffb_feff));
     assert!(rt; child.action(SIGUSR1) == handler() && child.pop_frame());
     parent.clear();
-    expect_eq!(rt; parent.pending().bits(), 0);
+    assert_eq!(rt; parent.pending().bits(), 0);
     assert!(rt; !parent.pop_frame());
     assert!(rt; parent.action(SIGUSR1).is_handler());
 }

@@ -1,5 +1,4 @@
 //! The worked scenarios, and what is read of each.
-use sk_expect::expect_eq;
 use sk_scenario::{Program, Scenario, ScriptCall, read};
 use std::alloc::{AllocError, Global};
 use std::test::Fail;
@@ -97,7 +96,7 @@ fn reads_the_worked_scenarios(rt: HostRuntime) -> Result<(), Fail> {
         ),
     ] {
         let scenario = read(alloc, text)?;
-        expect_eq!(rt; told(alloc, &scenario)?.as_str(), wanted);
+        assert_eq!(rt; told(alloc, &scenario)?.as_str(), wanted);
     }
     Ok(())
 }

@@ -1,5 +1,4 @@
 use crate::Command;
-use sk_expect::expect_eq;
 use std::alloc::{AllocError, Global};
 use std::test::Fail;
 
@@ -213,11 +212,11 @@ fn commands_answer_worked_rows(rt: HostRuntime) {
 #[test]
 fn labels_lie_at_most_255_instructions_ahead(rt: HostRuntime) -> Result<(), Fail> {
     let (answer, held) = Command::Asm.on(rt.alloc(), &far_jump(&rt, 255)?);
-    expect_eq!(rt; (answer, held.len()), (Ok(0), 257 * 17));
+    assert_eq!(rt; (answer, held.len()), (Ok(0), 257 * 17));
     assert!(rt; held.starts_with(b"1500ff0001000000\n"));
     let (answer, held) = Command::Asm.on(rt.alloc(), &far_jump(&rt, 256)?);
     let refusal = b"skern: line 1: jump too far\n".as_slice();
-    expect_eq!(rt; (answer, held.as_slice()), (Ok(1), refusal));
+    assert_eq!(rt; (answer, held.as_slice()), (Ok(1), refusal));
     Ok(())
 }
 
@@ -233,15 +232,15 @@ fn returns(alloc: Global, count: usize) -> Result<Vec<u8>, AllocError> {
 #[test]
 fn programs_have_a_limit(rt: HostRuntime) -> Result<(), Fail> {
     let (answer, held) = Command::Asm.on(rt.alloc(), &returns(rt.alloc(), 4096)?);
-    expect_eq!(rt; (answer, held.len()), (Ok(0), 4096 * 17));
+    assert_eq!(rt; (answer, held.len()), (Ok(0), 4096 * 17));
     let (answer, checked) = Command::Check.on(rt.alloc(), &held);
-    expect_eq!(rt;
+    assert_eq!(rt;
         (answer, checked.as_slice()),
         (Ok(0), b"ok 4096\n".as_slice())
     );
     let (answer, held) = Command::Asm.on(rt.alloc(), &returns(rt.alloc(), 4097)?);
     let refusal = b"skern: line 4097: over the limit\n".as_slice();
-    expect_eq!(rt; (answer, held.as_slice()), (Ok(1), refusal));
+    assert_eq!(rt; (answer, held.as_slice()), (Ok(1), refusal));
     Ok(())
 }
 
@@ -254,7 +253,7 @@ fn images_have_a_limit(rt: HostRuntime) -> Result<(), Fail> {
     for command in [Command::Check, Command::List] {
         let (answer, held) = command.on(rt.alloc(), image.as_slice());
         let refusal = b"refused image too long\n".as_slice();
-        expect_eq!(rt; (answer, held.as_slice()), (Ok(1), refusal));
+        assert_eq!(rt; (answer, held.as_slice()), (Ok(1), refusal));
     }
     Ok(())
 }
@@ -263,10 +262,10 @@ fn images_have_a_limit(rt: HostRuntime) -> Result<(), Fail> {
 fn lines_have_a_limit(rt: HostRuntime) {
     let spaces = [b' '; 256];
     let (answer, held) = Command::Asm.on(rt.alloc(), &spaces[..255]);
-    expect_eq!(rt; (answer, held.len()), (Ok(0), 0));
+    assert_eq!(rt; (answer, held.len()), (Ok(0), 0));
     let (answer, held) = Command::Asm.on(rt.alloc(), &spaces);
     let refusal = b"skern: line 1: over the limit\n".as_slice();
-    expect_eq!(rt; (answer, held.as_slice()), (Ok(1), refusal));
+    assert_eq!(rt; (answer, held.as_slice()), (Ok(1), refusal));
 }
 
 /// As many line feeds as an input may have.

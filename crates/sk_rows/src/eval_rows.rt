@@ -1,5 +1,4 @@
 use crate::Command;
-use sk_expect::expect_eq;
 use std::alloc::{AllocError, Global};
 use std::test::Fail;
 
@@ -188,7 +187,7 @@ fn filters_have_their_limits(rt: HostRuntime) -> Result<(), Fail> {
     for (filters, insns, status, end) in rows {
         let text = with_filters(rt.alloc(), filters, insns)?;
         let (answer, held) = Command::Eval.on(rt.alloc(), &text);
-        expect_eq!(rt; answer, Ok(status));
+        assert_eq!(rt; answer, Ok(status));
         assert!(rt; held.ends_with(end.as_bytes()), "{filters} filters");
         // A refusal is all that is written.
         assert!(rt; status == 0 || held.len() == end.len());

@@ -1,7 +1,6 @@
 use crate::{Command, Reader, Trouble, Writer};
 use sk_ends::{Counted, Sink, Source};
 use sk_engines::CommandFault;
-use sk_expect::expect_eq;
 use std::alloc::Global;
 
 /// Each command with an input and its whole answer.
@@ -65,7 +64,7 @@ fn short_ends_change_nothing(rt: HostRuntime) {
             ..Writer::new(rt.alloc())
         };
         let ran = run(rt.alloc(), command, reader, writer);
-        expect_eq!(rt; (ran.answer, ran.failures), (Ok(status), (0, 0)));
+        assert_eq!(rt; (ran.answer, ran.failures), (Ok(status), (0, 0)));
         assert!(rt; ran.held.as_slice() == output.as_bytes(), "{command:?}");
     }
 }

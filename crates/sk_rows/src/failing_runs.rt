@@ -3,7 +3,6 @@ use crate::failing_ends::Endless;
 use crate::report_rows::{KEPT, KEPT_REPORT, NO_REPORT};
 use crate::{Reader, Trouble, Writer};
 use sk_ends::{Counted, Sink, Source};
-use sk_expect::expect_eq;
 use sk_scenario::ScenarioFault;
 use sk_sched::{End, EngineFault, engine};
 use std::alloc::Global;
@@ -53,7 +52,7 @@ fn short_ends_change_no_report(rt: HostRuntime) {
         ..Writer::new(rt.alloc())
     };
     let ran = run(rt.alloc(), reader, writer);
-    expect_eq!(rt;
+    assert_eq!(rt;
         (ran.answer, ran.failures, ran.held.as_slice()),
         (Ok(End::Halt(0)), (0, 0), KEPT_REPORT.as_bytes())
     );
@@ -241,7 +240,7 @@ fn cut_scenarios_have_a_report_or_one_fault(rt: HostRuntime) -> Result<(), Fail>
             line.number
         );
     }
-    expect_eq!(rt; text.as_slice(), KEPT.as_bytes());
+    assert_eq!(rt; text.as_slice(), KEPT.as_bytes());
     Ok(())
 }
 
@@ -266,7 +265,7 @@ fn endless_readers_give_no_scenario(rt: HostRuntime) {
     let mut writer = Counted::new(Writer::new(alloc));
     let answer = engine(alloc, &mut reader, &mut writer);
     let held = writer.into_inner().held;
-    expect_eq!(rt;
+    assert_eq!(rt;
         (answer, held.len(), reader.into_inner().taken),
         (Err(EngineFault::Scenario(TOO_LONG)), 0, 1_048_577)
     );

@@ -3,7 +3,6 @@ use crate::report_rows::{FAULTS, NO_REPORT};
 use crate::unready::{Input, Output, words};
 use sk_cli::{CommandFault, command, failed, finish};
 use sk_ends::Counted;
-use sk_expect::expect_eq;
 use sk_scenario::ScenarioFault;
 use sk_sched::EngineFault;
 use std::alloc::{AllocError, Global};
@@ -93,7 +92,7 @@ fn faults_are_written_as_they_display(rt: HostRuntime) -> Result<(), Fail> {
     ];
     for (fault, written) in faults {
         let text = format!(in rt.alloc(); "{fault}")?;
-        expect_eq!(rt; text.as_str(), written.text());
+        assert_eq!(rt; text.as_str(), written.text());
     }
     for &(input, text) in FAULTS {
         let (held, status) = answer(rt.alloc(), &["run"], Some(input.as_bytes()), 0)?;
@@ -110,9 +109,9 @@ fn faults_are_written_as_they_display(rt: HostRuntime) -> Result<(), Fail> {
 #[test]
 fn want_of_memory_is_told(rt: HostRuntime) {
     let mut writer = Counted::new(Output::new(rt.alloc(), 0));
-    expect_eq!(rt; failed(&mut writer, CommandFault::Memory), 3);
+    assert_eq!(rt; failed(&mut writer, CommandFault::Memory), 3);
     let held = writer.into_inner().held;
-    expect_eq!(rt; held.as_slice(), b"skern: out of memory\n".as_slice());
+    assert_eq!(rt; held.as_slice(), b"skern: out of memory\n".as_slice());
 }
 
 /// The same where the output is written in blocks of so many bytes.

@@ -1,7 +1,6 @@
 //! The text of small filters for one call, worked out by hand from their instructions.
 use sk_chain::Chain;
 use sk_check::{Checked, check};
-use sk_expect::expect_eq;
 use sk_insn::Insn;
 use sk_when::{dot, when};
 use std::alloc::Global;
@@ -204,6 +203,6 @@ fn picture(rt: HostRuntime) -> Result<(), Fail> {
     let text = dot(alloc, &chain, 56)?;
     let wanted =
         "digraph {\n  n0 [label=\"(args[0] & 0x7e020000) != 0\"];\n  n0 -> n1 [label=yes];\n  n1 [label=\"errno/1 EPERM\", style=filled, fillcolor=khaki];\n  n0 -> n2 [label=no];\n  n2 [label=\"allow\", style=filled, fillcolor=palegreen];\n}\n";
-    expect_eq!(rt; text.as_str(), wanted);
+    assert_eq!(rt; text.as_str(), wanted);
     Ok(())
 }

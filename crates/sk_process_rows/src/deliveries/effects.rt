@@ -2,7 +2,6 @@ use crate::deliveries::world::{ROOT, catch, deliver, pending_bits, wait4};
 use crate::sessions::world::lead_group;
 use crate::world::{after_forks, life, waiting};
 use sk_delivery::kill;
-use sk_expect::expect_eq;
 use sk_machine::{Effect, Outcome};
 use sk_signal::number::{SIGCHLD, SIGKILL, SIGSTOP, SIGTERM, SIGTSTP, SIGUSR1};
 use sk_table::{INIT, Life, ListStore, Waiting};
@@ -11,8 +10,8 @@ use std::test::Fail;
 #[test]
 fn default_actions_end_all_but_process_1(rt: HostRuntime) -> Result<(), Fail> {
     let mut store: ListStore = after_forks(&rt, &[INIT, INIT])?;
-    expect_eq!(rt; kill(&mut store, 1, ROOT, 2, 15), Ok(0));
-    expect_eq!(rt;
+    assert_eq!(rt; kill(&mut store, 1, ROOT, 2, 15), Ok(0));
+    assert_eq!(rt;
         (
             deliver(&rt, &mut store, INIT, SIGTERM),
             deliver(&rt, &mut store, 2, SIGCHLD),
@@ -26,7 +25,7 @@ fn default_actions_end_all_but_process_1(rt: HostRuntime) -> Result<(), Fail> {
             Effect::Ended(9)
         )
     );
-    expect_eq!(rt;
+    assert_eq!(rt;
         (life(&store, 2), pending_bits(&store, 2)),
         (Some(Life::Zombie(15)), Some(0))
     );
@@ -38,16 +37,16 @@ fn default_actions_end_all_but_process_1(rt: HostRuntime) -> Result<(), Fail> {
 fn handler_interrupts_a_wait(rt: HostRuntime) -> Result<(), Fail> {
     let mut store: ListStore = after_forks(&rt, &[INIT, 2])?;
     catch(&mut store, 2, SIGUSR1);
-    expect_eq!(rt; wait4(&rt, &mut store, 2, -1, 0), Outcome::Waits);
+    assert_eq!(rt; wait4(&rt, &mut store, 2, -1, 0), Outcome::Waits);
     for interrupted in [true, false] {
-        expect_eq!(rt; kill(&mut store, 1, ROOT, 2, 10), Ok(0));
-        expect_eq!(rt; pending_bits(&store, 2), Some(1 << 9));
+        assert_eq!(rt; kill(&mut store, 1, ROOT, 2, 10), Ok(0));
+        assert_eq!(rt; pending_bits(&store, 2), Some(1 << 9));
         let handled = Effect::Handler {
             program: 7,
             interrupted,
         };
-        expect_eq!(rt; deliver(&rt, &mut store, 2, SIGUSR1), handled);
-        expect_eq!(rt;
+        assert_eq!(rt; deliver(&rt, &mut store, 2, SIGUSR1), handled);
+        assert_eq!(rt;
             (pending_bits(&store, 2), waiting(&store, 2)),
             (Some(0), Some(Waiting::Nothing))
         );
@@ -61,7 +60,7 @@ fn seventeenth_handler_ends_the_process(rt: HostRuntime) -> Result<(), Fail> {
     let mut store: ListStore = after_forks(&rt, &[INIT])?;
     catch(&mut store, 2, SIGUSR1);
     for _ in 0..16 {
-        expect_eq!(rt;
+        assert_eq!(rt;
             deliver(&rt, &mut store, 2, SIGUSR1),
             Effect::Handler {
                 program: 7,
@@ -69,8 +68,8 @@ fn seventeenth_handler_ends_the_process(rt: HostRuntime) -> Result<(), Fail> {
             }
         );
     }
-    expect_eq!(rt; deliver(&rt, &mut store, 2, SIGUSR1), Effect::Ended(11));
-    expect_eq!(rt; life(&store, 2), Some(Life::Zombie(11)));
+    assert_eq!(rt; deliver(&rt, &mut store, 2, SIGUSR1), Effect::Ended(11));
+    assert_eq!(rt; life(&store, 2), Some(Life::Zombie(11)));
     Ok(())
 }
 
@@ -79,24 +78,24 @@ fn seventeenth_handler_ends_the_process(rt: HostRuntime) -> Result<(), Fail> {
 fn terminal_stops_nobody_in_an_orphaned_group(rt: HostRuntime) -> Result<(), Fail> {
     let mut store: ListStore = after_forks(&rt, &[INIT, 2])?;
     catch(&mut store, 2, SIGCHLD);
-    expect_eq!(rt; deliver(&rt, &mut store, 3, SIGTSTP), Effect::Ignored);
-    expect_eq!(rt;
+    assert_eq!(rt; deliver(&rt, &mut store, 3, SIGTSTP), Effect::Ignored);
+    assert_eq!(rt;
         (life(&store, 3), pending_bits(&store, 2)),
         (Some(Life::Running), Some(0))
     );
     lead_group(&rt, &mut store, 3);
-    expect_eq!(rt; deliver(&rt, &mut store, 3, SIGTSTP), Effect::Stopped);
+    assert_eq!(rt; deliver(&rt, &mut store, 3, SIGTSTP), Effect::Stopped);
     // The parent, which catches SIGCHLD, 17, is sent it.
-    expect_eq!(rt;
+    assert_eq!(rt;
         (life(&store, 3), pending_bits(&store, 2)),
         (Some(Life::Stopped), Some(1 << 16))
     );
-    expect_eq!(rt; deliver(&rt, &mut store, 2, SIGSTOP), Effect::Stopped);
+    assert_eq!(rt; deliver(&rt, &mut store, 2, SIGSTOP), Effect::Stopped);
     // SIGTSTP is 20: the status of a stop is the signal times 256 and 127.
     let told = Outcome::Told {
         pid: 3,
         status: 20 * 256 + 127,
     };
-    expect_eq!(rt; wait4(&rt, &mut store, 2, 3, 2), told);
+    assert_eq!(rt; wait4(&rt, &mut store, 2, 3, 2), told);
     Ok(())
 }

@@ -5,7 +5,6 @@ use crate::sessions::world::{end, lead_group};
 use crate::world::{after_forks, forks_of};
 use sk_creds::{Creds, Errno};
 use sk_delivery::kill;
-use sk_expect::expect_eq;
 use sk_table::{INIT, ListStore};
 use std::process::Abort;
 use std::test::Fail;
@@ -40,9 +39,9 @@ fn errors_of_kill_come_in_this_order(rt: HostRuntime) -> Result<(), Fail> {
         (1, ROOT, 2, 0, Ok(0)),
     ];
     come_to(&rt, &mut store, &nothing_sent);
-    expect_eq!(rt; pending_bits(&store, 2), Some(0));
+    assert_eq!(rt; pending_bits(&store, 2), Some(0));
     come_to(&rt, &mut store, &[(1, ROOT, 2, 15, Ok(0))]);
-    expect_eq!(rt; pending_bits(&store, 2), Some(1 << 14));
+    assert_eq!(rt; pending_bits(&store, 2), Some(1 << 14));
     Ok(())
 }
 
@@ -54,7 +53,7 @@ fn all_are_neither_process_1_nor_the_caller(rt: HostRuntime) -> Result<(), Fail>
     let rows = [(2, USER, -1, 9, Err(Errno::Eperm)), (2, ROOT, -1, 9, Ok(0))];
     come_to(&rt, &mut store, &rows);
     for (pid, bits) in [(1, 0), (2, 0), (3, 1 << 8), (4, 1 << 8)] {
-        expect_eq!(rt; pending_bits(&store, pid), Some(bits));
+        assert_eq!(rt; pending_bits(&store, pid), Some(bits));
     }
     Ok(())
 }
@@ -65,7 +64,7 @@ fn groups_are_meant_by_0_and_by_their_negated_numbers(rt: HostRuntime) -> Result
     let mut store: ListStore = after_forks(&rt, &[INIT, INIT])?;
     lead_group(&rt, &mut store, 3);
     come_to(&rt, &mut store, &[(2, ROOT, 0, 15, Ok(0))]);
-    expect_eq!(rt;
+    assert_eq!(rt;
         (pending_bits(&store, 2), pending_bits(&store, 3)),
         (Some(1 << 14), Some(0))
     );
@@ -75,12 +74,12 @@ fn groups_are_meant_by_0_and_by_their_negated_numbers(rt: HostRuntime) -> Result
         (2, ROOT, i32::MIN, 15, Err(Errno::Esrch)),
     ];
     come_to(&rt, &mut store, &rows);
-    expect_eq!(rt;
+    assert_eq!(rt;
         (pending_bits(&store, 2), pending_bits(&store, 3)),
         (Some(1 << 14), Some(1 << 8))
     );
     end(&rt, &mut store, 3, 9);
     come_to(&rt, &mut store, &[(2, ROOT, -3, 15, Ok(0))]);
-    expect_eq!(rt; pending_bits(&store, 3), Some(0));
+    assert_eq!(rt; pending_bits(&store, 3), Some(0));
     Ok(())
 }

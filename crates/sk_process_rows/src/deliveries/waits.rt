@@ -4,7 +4,6 @@ use crate::deliveries::world::{resume, wait4};
 use crate::sessions::world::end;
 use crate::world::{after_forks, forks_of, opening, waiting};
 use bitflags::Flags;
-use sk_expect::expect_eq;
 use sk_machine::Outcome;
 use sk_machine::Outcome::{Returned, Told, Waits};
 use sk_table::{INIT, ListStore, ProcStore, Request, WaitOptions, Waiting, Who};
@@ -38,7 +37,7 @@ fn rows_of_wait4(rt: HostRuntime) -> Result<(), Fail> {
         &mut store,
         &[(3, 0, Returned(-10)), (0, 11, Returned(0))],
     );
-    expect_eq!(rt; waiting(&store, INIT), Some(Waiting::Nothing));
+    assert_eq!(rt; waiting(&store, INIT), Some(Waiting::Nothing));
     end(&rt, &mut store, 2, 0x300);
     let told = Told {
         pid: 2,
@@ -57,12 +56,12 @@ fn wait_ends_as_a_child_ends(rt: HostRuntime) -> Result<(), Fail> {
         who: Who::Group(1),
         options: WaitOptions::empty(),
     };
-    expect_eq!(rt;
+    assert_eq!(rt;
         (waiting(&store, INIT), resume(&rt, &mut store, INIT)),
         (Some(Waiting::Asks(request)), Waits)
     );
     end(&rt, &mut store, 2, 9);
-    expect_eq!(rt;
+    assert_eq!(rt;
         (resume(&rt, &mut store, INIT), waiting(&store, INIT)),
         (Told { pid: 2, status: 9 }, Some(Waiting::Nothing))
     );

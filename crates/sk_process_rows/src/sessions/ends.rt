@@ -2,7 +2,6 @@ ghost use Rattle.sk_world.specs.Rules.{IsWorld};
 
 use crate::sessions::world::{end, is_hung_up, setpgid, setsid};
 use crate::world::{after_forks, forks_of, life, note, parent, stop};
-use sk_expect::expect_eq;
 use sk_session::orphaned;
 use sk_signal::number::SIGTSTP;
 use sk_table::{INIT, Life, ListStore, Note};
@@ -13,9 +12,9 @@ use std::test::Fail;
 #[test]
 fn stopped_job_of_a_shell_that_ends_is_hung_up(rt: HostRuntime) -> Result<(), Fail> {
     let mut store: ListStore = after_forks(&rt, &[INIT])?;
-    expect_eq!(rt; setsid(&rt, &mut store, 2), Ok(2));
+    assert_eq!(rt; setsid(&rt, &mut store, 2), Ok(2));
     forks_of(&rt, &mut store, &[2, 2])?;
-    expect_eq!(rt;
+    assert_eq!(rt;
         (
             setpgid(&rt, &mut store, 2, 3, 0),
             setpgid(&rt, &mut store, 2, 4, 0)
@@ -36,12 +35,12 @@ fn stopped_job_is_hung_up(rt: &impl Abort, store: &mut ListStore)
     end(rt, store, 2, 0x100);
     assert!(rt; orphaned(store, 3) && orphaned(store, 4));
     // SIGHUP waits to be delivered, and SIGCONT, whose default action is to go on, has been told by the note.
-    expect_eq!(rt;
+    assert_eq!(rt;
         (life(store, 3), is_hung_up(store, 3), note(store, 3)),
         (Some(Life::Running), Some(true), Some(Note::Continued))
     );
     // Nobody of group 4 is stopped, and nothing is sent to it.
-    expect_eq!(rt;
+    assert_eq!(rt;
         (is_hung_up(store, 4), note(store, 4)),
         (Some(false), Some(Note::Nothing))
     );
@@ -53,7 +52,7 @@ fn group_that_was_orphaned_before_is_left(rt: HostRuntime) -> Result<(), Fail> {
     let mut store: ListStore = after_forks(&rt, &[INIT, 2])?;
     stop(&mut store, 3, SIGTSTP);
     end(&rt, &mut store, 2, 0);
-    expect_eq!(rt;
+    assert_eq!(rt;
         (life(&store, 3), is_hung_up(&store, 3), parent(&store, 3)),
         (Some(Life::Stopped), Some(false), Some(INIT))
     );
@@ -65,20 +64,20 @@ fn group_that_was_orphaned_before_is_left(rt: HostRuntime) -> Result<(), Fail> {
 #[test]
 fn member_that_ends_orphans_its_own_group(rt: HostRuntime) -> Result<(), Fail> {
     let mut store: ListStore = after_forks(&rt, &[INIT])?;
-    expect_eq!(rt; setpgid(&rt, &mut store, INIT, 2, 0), Ok(0));
+    assert_eq!(rt; setpgid(&rt, &mut store, INIT, 2, 0), Ok(0));
     forks_of(&rt, &mut store, &[2, 3])?;
-    expect_eq!(rt; setsid(&rt, &mut store, 3), Ok(3));
+    assert_eq!(rt; setsid(&rt, &mut store, 3), Ok(3));
     stop(&mut store, 4, SIGTSTP);
     assert!(rt; !orphaned(&store, 2));
     end(&rt, &mut store, 2, 0);
     assert!(rt; orphaned(&store, 2));
-    expect_eq!(rt;
+    assert_eq!(rt;
         (life(&store, 4), is_hung_up(&store, 4)),
         (Some(Life::Running), Some(true))
     );
     // A zombie of the group gets nothing, and the end of process 1 hangs up nobody.
-    expect_eq!(rt; is_hung_up(&store, 2), Some(false));
+    assert_eq!(rt; is_hung_up(&store, 2), Some(false));
     end(&rt, &mut store, INIT, 0);
-    expect_eq!(rt; life(&store, INIT), Some(Life::Zombie(0)));
+    assert_eq!(rt; life(&store, INIT), Some(Life::Zombie(0)));
     Ok(())
 }

@@ -3,7 +3,6 @@ ghost use Rattle.sk_world.specs.Rules.{IsWorld};
 use crate::sessions::world::{end, execute, group_and_session, setpgid, setsid};
 use crate::world::after_forks;
 use sk_creds::Errno;
-use sk_expect::expect_eq;
 use sk_table::{INIT, ListStore};
 use std::process::Abort;
 use std::test::Fail;
@@ -22,7 +21,7 @@ fn come_to(rt: &impl Abort, store: &mut ListStore, rows: &[(u32, i32, i32, Resul
 #[test]
 fn groups_are_set_as_the_manual_says(rt: HostRuntime) -> Result<(), Fail> {
     let mut store: ListStore = after_forks(&rt, &[INIT, INIT])?;
-    expect_eq!(rt;
+    assert_eq!(rt;
         (
             setsid(&rt, &mut store, 2),
             setsid(&rt, &mut store, 2),
@@ -75,7 +74,7 @@ fn groups_and_sessions_are_told_of_zombies_too(rt: HostRuntime) -> Result<(), Fa
         (INIT, 3, Err(Errno::Esrch), Err(Errno::Esrch)),
         (INIT, -2, Err(Errno::Esrch), Err(Errno::Esrch)),
     ] {
-        expect_eq!(rt;
+        assert_eq!(rt;
             group_and_session(&rt, &store, caller, pid),
             (group, session)
         );

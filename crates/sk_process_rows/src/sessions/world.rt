@@ -3,7 +3,6 @@ ghost use Rattle.sk_world.specs.Rules.{IsWorld};
 
 use crate::world::{assert_alive, pending};
 use sk_creds::Errno;
-use sk_expect::expect_eq;
 use sk_signal::number::SIGHUP;
 use sk_table::{Body, ListStore, ProcStore};
 use std::process::Abort;
@@ -28,7 +27,7 @@ pub(crate) fn lead_group<S: ProcStore>(rt: &impl Abort, store: &mut S, pid: u32)
     requires { IsWorld (S.contents store.old) }
     ensures { IsWorld (S.contents store.new) }
 {
-    expect_eq!(rt; setpgid(rt, store, pid, 0, 0), Ok(0));
+    assert_eq!(rt; setpgid(rt, store, pid, 0, 0), Ok(0));
 }
 
 /// setsid of a process that is there.

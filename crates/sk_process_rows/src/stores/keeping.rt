@@ -1,6 +1,5 @@
 use crate::stores::testing::{has_no_room, insert, is_executed, links, set_executed};
 use crate::world::{fork_of, opening};
-use sk_expect::expect_eq;
 use sk_table::{INIT, LAST_PID, ListStore, ProcStore, SlotStore};
 use std::process::Abort;
 use std::test::Fail;
@@ -35,7 +34,7 @@ fn fresh_passes_over_groups_and_goes_round<S: ProcStore, R: Abort + AllocGlobal>
         links(INIT, INIT, INIT),
     );
     assert!(rt; store.remove(LAST_PID).is_some());
-    expect_eq!(rt; (store.last(), store.fresh()), (LAST_PID, 3));
+    assert_eq!(rt; (store.last(), store.fresh()), (LAST_PID, 3));
     Ok(())
 }
 
@@ -51,12 +50,12 @@ fn store_keeps_three_processes<S: ProcStore, R: Abort + AllocGlobal>(rt: &R) -> 
 }
 
 fn finds_three_processes<S: ProcStore>(rt: &impl Abort, store: &S) {
-    expect_eq!(rt; (store.count(), store.last()), (3, 5));
+    assert_eq!(rt; (store.count(), store.last()), (3, 5));
     for (after, next) in [(0, Some(1)), (1, Some(5)), (5, Some(9)), (9, None)] {
         let found = (store.next_pid(after), store.next_member(INIT, after));
-        expect_eq!(rt; found, (next, next));
+        assert_eq!(rt; found, (next, next));
     }
-    expect_eq!(rt;
+    assert_eq!(rt;
         (store.next_child(INIT, 0), store.next_child(INIT, 5)),
         (Some(5), Some(9))
     );
@@ -65,11 +64,11 @@ fn finds_three_processes<S: ProcStore>(rt: &impl Abort, store: &S) {
 fn moves_one_of_them<S: ProcStore>(rt: &impl Abort, store: &mut S) {
     assert!(rt; store.relink(9, links(5, 5, INIT)));
     assert!(rt; !store.relink(7, links(5, 5, INIT)));
-    expect_eq!(rt;
+    assert_eq!(rt;
         (store.next_child(INIT, 0), store.next_child(INIT, 5)),
         (Some(5), None)
     );
-    expect_eq!(rt;
+    assert_eq!(rt;
         (store.next_child(5, 0), store.next_member(5, 0)),
         (Some(9), Some(9))
     );
@@ -77,7 +76,7 @@ fn moves_one_of_them<S: ProcStore>(rt: &impl Abort, store: &mut S) {
 
 fn lends_one_of_them<S: ProcStore>(rt: &impl Abort, store: &mut S) {
     set_executed(store, 9);
-    expect_eq!(rt;
+    assert_eq!(rt;
         (is_executed(store, 9), is_executed(store, 5)),
         (Some(true), Some(false))
     );
@@ -85,10 +84,10 @@ fn lends_one_of_them<S: ProcStore>(rt: &impl Abort, store: &mut S) {
 }
 
 fn takes_one_of_them_out<S: ProcStore>(rt: &impl Abort, store: &mut S) {
-    expect_eq!(rt; store.remove(5).map(|proc| proc.links.parent), Some(INIT));
+    assert_eq!(rt; store.remove(5).map(|proc| proc.links.parent), Some(INIT));
     assert!(rt; store.remove(5).is_none() && store.get(5).is_none());
     assert!(rt; store.used(5) && store.used(9) && !store.used(7));
-    expect_eq!(rt; store.count(), 2);
+    assert_eq!(rt; store.count(), 2);
 }
 
 fn init_forks_until_there_is_no_room<S: ProcStore, R: Abort + AllocGlobal>(
@@ -96,9 +95,9 @@ fn init_forks_until_there_is_no_room<S: ProcStore, R: Abort + AllocGlobal>(
 ) -> Result<(), Fail> {
     let mut store = opening::<S>(rt.alloc())?;
     for pid in 2..=1024 {
-        expect_eq!(rt; fork_of(rt, &mut store, INIT)?, pid);
+        assert_eq!(rt; fork_of(rt, &mut store, INIT)?, pid);
     }
     assert!(rt; has_no_room(rt, &mut store, INIT)?);
-    expect_eq!(rt; (store.count(), store.last()), (1024, 1024));
+    assert_eq!(rt; (store.count(), store.last()), (1024, 1024));
     Ok(())
 }

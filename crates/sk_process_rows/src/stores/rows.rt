@@ -3,7 +3,6 @@ use crate::stores::testing::{is_subreaper, mark, on_sigchld, reap_of, reparent_o
 use crate::world::{
     after_forks, end_of, fork_of, forks_of, life, note, opening, parent, pending, stop,
 };
-use sk_expect::expect_eq;
 use sk_signal::number::{SIGCHLD, SIGCONT, SIGTERM, SIGTSTP};
 use sk_signal::{Disposition, SigSet};
 use sk_table::{
@@ -46,22 +45,22 @@ fn sigcont_continues_and_is_told_once<S: ProcStore, R: Abort + AllocGlobal>(
     let mut store: S = after_forks(rt, &[INIT])?;
     stop(&mut store, 2, SIGTSTP);
     send(&mut store, 2, SIGCONT);
-    expect_eq!(rt; life(&store, 2), Some(Life::Running));
+    assert_eq!(rt; life(&store, 2), Some(Life::Running));
     let stops = WaitOptions::WNOHANG | WaitOptions::WUNTRACED;
     let all = stops | WaitOptions::WCONTINUED;
     let continued = Poll::Told {
         pid: 2,
         status: 0xffff,
     };
-    expect_eq!(rt;
+    assert_eq!(rt;
         (
             wait_of(rt, &mut store, INIT, Who::Any, stops),
             wait_of(rt, &mut store, INIT, Who::Any, all)
         ),
         (Poll::NotReady, continued)
     );
-    expect_eq!(rt; note(&store, 2), Some(Note::Nothing));
-    expect_eq!(rt;
+    assert_eq!(rt; note(&store, 2), Some(Note::Nothing));
+    assert_eq!(rt;
         wait_of(rt, &mut store, INIT, Who::Any, all),
         Poll::NotReady
     );
@@ -79,7 +78,7 @@ fn stop_is_told_to_wuntraced_once<S: ProcStore, R: Abort + AllocGlobal>(
         pid: 2,
         status: 0x147f,
     };
-    expect_eq!(rt;
+    assert_eq!(rt;
         (
             wait_of(rt, &mut store, INIT, Who::Any, continues),
             wait_of(rt, &mut store, INIT, Who::Any, stops),
@@ -87,7 +86,7 @@ fn stop_is_told_to_wuntraced_once<S: ProcStore, R: Abort + AllocGlobal>(
         ),
         (Poll::NotReady, stopped, Poll::NotReady)
     );
-    expect_eq!(rt; life(&store, 2), Some(Life::Stopped));
+    assert_eq!(rt; life(&store, 2), Some(Life::Stopped));
     Ok(())
 }
 
@@ -97,13 +96,13 @@ fn continuing_is_announced_to_the_parent<S: ProcStore, R: Abort + AllocGlobal>(
     let mut store: S = after_forks(rt, &[INIT, 2])?;
     on_sigchld(&mut store, 2, handler(), true);
     send(&mut store, 3, SIGCONT);
-    expect_eq!(rt;
+    assert_eq!(rt;
         (note(&store, 3), pending(&store, 2)),
         (Some(Note::Nothing), Some(SigSet::empty()))
     );
     stop(&mut store, 3, SIGTSTP);
     send(&mut store, 3, SIGCONT);
-    expect_eq!(rt;
+    assert_eq!(rt;
         (pending(&store, 2), pending(&store, INIT)),
         (Some(SigSet::empty().with(SIGCHLD)), Some(SigSet::empty()))
     );
@@ -118,7 +117,7 @@ fn process_1_and_zombies_take_no_signal<S: ProcStore, R: Abort + AllocGlobal>(
     for pid in [INIT, 2, 3, 4] {
         send(&mut store, pid, SIGTERM);
     }
-    expect_eq!(rt;
+    assert_eq!(rt;
         (
             pending(&store, INIT),
             pending(&store, 2),
@@ -142,16 +141,16 @@ fn handed_on_zombie_is_announced_to_process_1<S: ProcStore, R: Abort + AllocGlob
     on_sigchld(&mut store, INIT, handler(), false);
     forks_of(rt, &mut store, &[INIT, 2, 2])?;
     end_of(rt, &mut store, 3, 9);
-    expect_eq!(rt;
+    assert_eq!(rt;
         (parent(&store, 3), pending(&store, INIT)),
         (Some(2), Some(SigSet::empty()))
     );
     reparent_of(rt, &mut store, 2);
-    expect_eq!(rt;
+    assert_eq!(rt;
         (parent(&store, 3), parent(&store, 4), pending(&store, INIT)),
         (Some(INIT), Some(INIT), Some(SigSet::empty().with(SIGCHLD)))
     );
-    expect_eq!(rt;
+    assert_eq!(rt;
         wait_of(rt, &mut store, INIT, Who::Any, WaitOptions::WNOHANG),
         Poll::Told { pid: 3, status: 9 }
     );
@@ -164,13 +163,13 @@ fn orphans_go_to_the_nearest_subreaper<S: ProcStore, R: Abort + AllocGlobal>(
     let mut store: S = after_forks(rt, &[INIT])?;
     mark(&mut store, 2, true);
     fork_of(rt, &mut store, 2)?;
-    expect_eq!(rt;
+    assert_eq!(rt;
         (is_subreaper(&store, 2), is_subreaper(&store, 3)),
         (Some(true), Some(false))
     );
     mark(&mut store, 3, true);
     forks_of(rt, &mut store, &[3, 4])?;
-    expect_eq!(rt;
+    assert_eq!(rt;
         (
             reaper(&store, 5),
             reaper(&store, 4),
@@ -180,13 +179,13 @@ fn orphans_go_to_the_nearest_subreaper<S: ProcStore, R: Abort + AllocGlobal>(
         (3, 3, 2, INIT)
     );
     end_of(rt, &mut store, 4, 0);
-    expect_eq!(rt; parent(&store, 5), Some(3));
+    assert_eq!(rt; parent(&store, 5), Some(3));
     end_of(rt, &mut store, 3, 0);
-    expect_eq!(rt; parent(&store, 5), Some(2));
+    assert_eq!(rt; parent(&store, 5), Some(2));
     mark(&mut store, 2, false);
-    expect_eq!(rt; parent(&store, 5), Some(2));
+    assert_eq!(rt; parent(&store, 5), Some(2));
     end_of(rt, &mut store, 2, 0);
-    expect_eq!(rt; parent(&store, 5), Some(INIT));
+    assert_eq!(rt; parent(&store, 5), Some(INIT));
     Ok(())
 }
 
@@ -199,7 +198,7 @@ fn zombie_is_announced_to_the_subreaper<S: ProcStore, R: Abort + AllocGlobal>(
     on_sigchld(&mut store, 2, handler(), false);
     end_of(rt, &mut store, 5, 9);
     end_of(rt, &mut store, 4, 0);
-    expect_eq!(rt;
+    assert_eq!(rt;
         (pending(&store, INIT), pending(&store, 2)),
         (Some(SigSet::empty()), Some(SigSet::empty().with(SIGCHLD)))
     );
@@ -208,9 +207,9 @@ fn zombie_is_announced_to_the_subreaper<S: ProcStore, R: Abort + AllocGlobal>(
         options: WaitOptions::WNOHANG,
     };
     if store.get(2).is_some() {
-        expect_eq!(rt; ready(&store, 2, &asked), Poll::Told { pid: 5, status: 9 });
+        assert_eq!(rt; ready(&store, 2, &asked), Poll::Told { pid: 5, status: 9 });
     }
-    expect_eq!(rt; life(&store, 5), Some(Life::Zombie(9)));
+    assert_eq!(rt; life(&store, 5), Some(Life::Zombie(9)));
     Ok(())
 }
 
@@ -223,10 +222,10 @@ fn handed_on_zombie_goes_under_an_ignored_sigchld<S: ProcStore, R: Abort + Alloc
     on_sigchld(&mut store, 2, Disposition::Default, false);
     forks_of(rt, &mut store, &[2, 2])?;
     end_of(rt, &mut store, 3, 9);
-    expect_eq!(rt; life(&store, 3), Some(Life::Zombie(9)));
+    assert_eq!(rt; life(&store, 3), Some(Life::Zombie(9)));
     end_of(rt, &mut store, 2, 0x100);
-    expect_eq!(rt; (life(&store, 2), life(&store, 3)), (None, None));
-    expect_eq!(rt;
+    assert_eq!(rt; (life(&store, 2), life(&store, 3)), (None, None));
+    assert_eq!(rt;
         (parent(&store, 4), pending(&store, INIT)),
         (Some(INIT), Some(SigSet::empty()))
     );
@@ -242,7 +241,7 @@ fn end_is_told_and_then_nobody_matches<S: ProcStore, R: Abort + AllocGlobal>(
     stop(&mut store, 2, SIGTSTP);
     send(&mut store, 2, SIGTERM);
     end_of(rt, &mut store, 2, 9);
-    expect_eq!(rt;
+    assert_eq!(rt;
         (pending(&store, 2), note(&store, 2), pending(&store, INIT)),
         (
             Some(SigSet::empty()),
@@ -250,7 +249,7 @@ fn end_is_told_and_then_nobody_matches<S: ProcStore, R: Abort + AllocGlobal>(
             Some(SigSet::empty().with(SIGCHLD))
         )
     );
-    expect_eq!(rt;
+    assert_eq!(rt;
         (
             wait_of(rt, &mut store, INIT, Who::Child(2), WaitOptions::WNOHANG),
             wait_of(rt, &mut store, INIT, Who::Child(2), WaitOptions::WNOHANG)
@@ -265,7 +264,7 @@ fn end_of_process_1_hands_no_children_on<S: ProcStore, R: Abort + AllocGlobal>(
 ) -> Result<(), Fail> {
     let mut store: S = after_forks(rt, &[INIT])?;
     end_of(rt, &mut store, INIT, 11);
-    expect_eq!(rt;
+    assert_eq!(rt;
         (life(&store, INIT), life(&store, 2), parent(&store, 2)),
         (Some(Life::Zombie(11)), Some(Life::Running), Some(INIT))
     );
@@ -276,7 +275,7 @@ fn nobody_is_told_of_where_nobody_is_ready<S: ProcStore, R: Abort + AllocGlobal>
     rt: &R,
 ) -> Result<(), Fail> {
     let mut store = opening::<S>(rt.alloc())?;
-    expect_eq!(rt;
+    assert_eq!(rt;
         wait_of(rt, &mut store, INIT, Who::Any, WaitOptions::WNOHANG),
         Poll::NoMatch
     );
@@ -293,7 +292,7 @@ fn nobody_is_told_of_where_nobody_is_ready<S: ProcStore, R: Abort + AllocGlobal>
         (2, Who::Any, Poll::NoMatch),
     ];
     for (caller, who, poll) in rows {
-        expect_eq!(rt;
+        assert_eq!(rt;
             wait_of(rt, &mut store, caller, who, WaitOptions::WNOHANG),
             poll
         );
@@ -310,7 +309,7 @@ fn lowest_ready_child_is_told<S: ProcStore, R: Abort + AllocGlobal>(rt: &R) -> R
         Poll::Told { pid: 4, status: 4 },
         Poll::NotReady,
     ] {
-        expect_eq!(rt;
+        assert_eq!(rt;
             wait_of(rt, &mut store, INIT, Who::Any, WaitOptions::WNOHANG),
             poll
         );
@@ -321,7 +320,7 @@ fn lowest_ready_child_is_told<S: ProcStore, R: Abort + AllocGlobal>(rt: &R) -> R
 fn zombie_is_reaped<S: ProcStore, R: Abort + AllocGlobal>(rt: &R) -> Result<(), Fail> {
     let mut store: S = after_forks(rt, &[INIT])?;
     end_of(rt, &mut store, 2, 0x300);
-    expect_eq!(rt; reap_of(rt, &mut store, 2), 0x300);
-    expect_eq!(rt; (life(&store, 2), store.count()), (None, 1));
+    assert_eq!(rt; reap_of(rt, &mut store, 2), 0x300);
+    assert_eq!(rt; (life(&store, 2), store.count()), (None, 1));
     Ok(())
 }

@@ -2,7 +2,6 @@ ghost use Rattle.sk_world.specs.Rules.{IsWorld};
 
 use crate::stores::testing::{insert, is_executed, links, reap_of, set_executed};
 use crate::world::{after_forks, end_of, fork_of, opening};
-use sk_expect::expect_eq;
 use sk_table::{INIT, LAST_PID, PROCESSES, ProcStore, SlotStore};
 use std::alloc::AllocError;
 use std::process::Abort;
@@ -82,9 +81,9 @@ fn fill(rt: &impl Abort, store: &mut SlotStore, first: u32) -> Result<(), AllocE
 {
     assert!(rt; first <= LAST_PID - 1023);
     for pid in first..first + 1023 {
-        expect_eq!(rt; fork_of(rt, store, INIT)?, pid);
+        assert_eq!(rt; fork_of(rt, store, INIT)?, pid);
     }
-    expect_eq!(rt;
+    assert_eq!(rt;
         (store.count(), store.children(INIT).len()),
         (PROCESSES, 1023)
     );
@@ -99,9 +98,9 @@ fn empty(rt: &impl Abort, store: &mut SlotStore, first: u32)
     assert!(rt; first <= LAST_PID - 1023);
     for pid in first..first + 1023 {
         end_of(rt, store, pid, 0);
-        expect_eq!(rt; reap_of(rt, store, pid), 0);
+        assert_eq!(rt; reap_of(rt, store, pid), 0);
     }
-    expect_eq!(rt; (store.count(), store.next_pid(INIT)), (1, None));
+    assert_eq!(rt; (store.count(), store.next_pid(INIT)), (1, None));
 }
 
 #[test]
@@ -119,9 +118,9 @@ fn come_and_go(rt: &impl Abort, store: &mut SlotStore, number: u32) -> Result<()
     requires { IsWorld store.old.world }
     ensures { IsWorld store.new.world }
 {
-    expect_eq!(rt; fork_of(rt, store, INIT)?, number);
+    assert_eq!(rt; fork_of(rt, store, INIT)?, number);
     end_of(rt, store, number, 0);
-    expect_eq!(rt; reap_of(rt, store, number), 0);
+    assert_eq!(rt; reap_of(rt, store, number), 0);
     Ok(())
 }
 
@@ -145,6 +144,6 @@ fn come_and_go_to_the_last(
 fn numbers_come_again_after_32765_forks(rt: HostRuntime) -> Result<(), Fail> {
     let mut store: SlotStore = after_forks(&rt, &[INIT])?;
     come_and_go_to_the_last(&rt, &mut store, 3)?;
-    expect_eq!(rt; fork_of(&rt, &mut store, INIT)?, 3);
+    assert_eq!(rt; fork_of(&rt, &mut store, INIT)?, 3);
     Ok(())
 }

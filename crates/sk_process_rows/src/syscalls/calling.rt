@@ -1,7 +1,6 @@
 ghost use Rattle.sk_world.specs.Rules.{IsWorld};
 
 use crate::world::assert_alive;
-use sk_expect::expect_eq;
 use sk_insn::Record;
 use sk_machine::{Images, Outcome};
 use sk_syscalls::perform;
@@ -34,7 +33,7 @@ pub(crate) fn come_to<R: Abort + AllocGlobal>(
 {
     for (pid, nr, args, expected) in rows {
         let outcome = make_call(rt, store, images, *pid, *nr, *args)?;
-        expect_eq!(rt; outcome, *expected);
+        assert_eq!(rt; outcome, *expected);
     }
     Ok(())
 }

@@ -1,6 +1,5 @@
 use crate::syscalls::calling::{come_to, nothing_declared};
 use crate::world::opening;
-use sk_expect::expect_eq;
 use sk_machine::Images;
 use sk_machine::Outcome::Returned;
 use sk_table::{INIT, ListStore, ProcStore};
@@ -67,7 +66,7 @@ fn errors_of_attaching_come_in_order(rt: HostRuntime) -> Result<(), Fail> {
         (INIT, SECCOMP, [SET_MODE_FILTER, 0, 0], Returned(0)),
     ];
     come_to(&rt, &mut store, &images, &rows)?;
-    expect_eq!(rt; filters_of(&store, INIT), Some(2));
+    assert_eq!(rt; filters_of(&store, INIT), Some(2));
     Ok(())
 }
 
@@ -83,7 +82,7 @@ fn filters_are_attached_up_to_the_path_limit(rt: HostRuntime) -> Result<(), Fail
         (INIT, SECCOMP, [SET_MODE_FILTER, 0, 0], Returned(0)),
     ];
     come_to(&rt, &mut store, &images, &rows)?;
-    expect_eq!(rt; filters_of(&store, INIT), Some(8));
+    assert_eq!(rt; filters_of(&store, INIT), Some(8));
     Ok(())
 }
 

@@ -1,6 +1,5 @@
 use crate::syscalls::calling::{come_to, nothing_declared};
 use crate::world::{opening, waiting};
-use sk_expect::expect_eq;
 use sk_machine::Outcome::{Ended, Returned, Told, Waits};
 use sk_table::{INIT, ListStore, Waiting};
 use std::test::Fail;
@@ -69,7 +68,7 @@ fn processes_come_and_go(rt: HostRuntime) -> Result<(), Fail> {
         (INIT, PAUSE, [0; 3], Waits),
     ];
     come_to(&rt, &mut store, &images, &rows)?;
-    expect_eq!(rt; waiting(&store, INIT), Some(Waiting::Pause));
+    assert_eq!(rt; waiting(&store, INIT), Some(Waiting::Pause));
     Ok(())
 }
 
