@@ -7,6 +7,7 @@ mod emit;
 mod instructions;
 pub mod laws;
 mod saying;
+mod weights;
 
 pub use build::{CodeFault, filter};
 pub use condition::{Condition, Test};
