@@ -6,8 +6,8 @@ ghost use Rattle.sk_profile_code.specs.Code.{fork_code, filter_code};
 ghost use Rattle.sk_profile_code.specs.Means.{MeansRows};
 ghost use Rattle.sk_profile_code.specs.Views.{saying_of, row_of, AreRows, Emits};
 
-use crate::emit::push_saying;
 use crate::instructions::{answer, branch, jump, load};
+use crate::pieces::push_saying;
 use crate::saying::{Row, Saying};
 use crate::weights::{EVERY, Numbers, weight};
 use sk_insn::{ARCHITECTURE, Comparison, Insn, MOST_INSNS};

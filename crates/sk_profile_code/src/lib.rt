@@ -6,6 +6,7 @@ mod condition;
 mod emit;
 mod instructions;
 pub mod laws;
+mod pieces;
 mod saying;
 mod weights;
 
