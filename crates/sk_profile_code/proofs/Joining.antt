@@ -33,7 +33,7 @@ single_on arm more o rest call s ok fits behind =
 halves_same : (a b : ℕ) → high a ≡ high b → low a ≡ low b → a ≡ b
 halves_same a b h l = omega (arith, h, l)
 
-as_many : (numbers : List ℕ) → length (lows_code numbers) ≡ length numbers
+pub as_many : (numbers : List ℕ) → length (lows_code numbers) ≡ length numbers
 as_many [] = refl
 as_many (number ∷ numbers) = ap suc (as_many numbers)
 

@@ -1,6 +1,7 @@
 //! The filter of rows.
 ghost use Rattle.std.specs.Prelude.{ℕ, ◌≡◌, ◌<◌, ◌++◌, length, List, map, OnOk, IfOk};
 ghost use Rattle.sk_insn.specs.declared.insn.Insn.{Insn};
+ghost use Rattle.sk_check.specs.Valid.{IsValid};
 ghost use Rattle.sk_profile_code.specs.Sayings.{Tree};
 ghost use Rattle.sk_profile_code.specs.Code.{fork_code, filter_code};
 ghost use Rattle.sk_profile_code.specs.Means.{MeansRows};
@@ -105,6 +106,7 @@ pub fn filter(
     requires rows { AreRows before.now rows.now }
     ensures means { IfOk result (λ code. MeansRows code.items (saying_of before.now) (map row_of rows.now)) }
     ensures guard { IfOk result (λ code. (tree : Tree) × (code.items ≡ filter_code bad tree)) }
+    ensures valid { IfOk result (λ code. IsValid code.items) }
 {
     let mut code = Vec::new(alloc);
     code.push(load(4))?;
