@@ -1,5 +1,6 @@
 //! The filter that means a profile.
 ghost use Rattle.std.specs.Prelude.{◌≡◌, IfOk, IfErr};
+ghost use Rattle.sk_check.specs.Valid.{IsValid};
 ghost use Rattle.sk_insn.specs.declared.record.Record.{Record};
 ghost use Rattle.sk_interp.specs.Meaning.{meaning_of};
 ghost use Rattle.sk_profile_code.specs.Code.{filter_code};
@@ -22,6 +23,7 @@ use std::alloc::Global;
 pub fn profile_filter(alloc: Global, profile: &Profile) -> Result<Vec<Insn>, ProfileFault>
     ensures means { IfOk result (λ code. (call : Record) → IsCall call → Gives (said_by (profile_of profile.now) call) (meaning_of code.items call)) }
     ensures guard { IfOk result (λ code. (tree : Tree) × (code.items ≡ filter_code profile.now.bad tree)) }
+    ensures valid { IfOk result (λ code. IsValid code.items) }
     ensures clear { IfOk result (λ _. IsClear (profile_of profile.now)) }
     ensures fault { IfErr result (IsFaultOf (profile_of profile.now)) }
 {

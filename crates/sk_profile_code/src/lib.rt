@@ -13,3 +13,4 @@ mod weights;
 pub use build::{CodeFault, filter};
 pub use condition::{Condition, Test};
 pub use saying::{Arm, Row, Saying};
+pub use weights::OFTEN;

@@ -2,7 +2,7 @@
 //! nothing of what it is answered.
 
 /// The numbers of calls that are made often, and how many of 495 calls each of them is: an estimate for servers and shells.
-const OFTEN: [(u32, usize); 55] = [
+pub const OFTEN: [(u32, usize); 55] = [
     (0, 60),
     (1, 60),
     (3, 20),
