@@ -1,5 +1,7 @@
 //! docker's default profile, for the capabilities that docker gives a container and kernels from 4.8 on: default.json in
 //! engine/profiles/seccomp of docker.io 20.10.24, Debian 12. A script made the numbers of its names once.
+ghost use Rattle.std.specs.Prelude.{◌≡◌, ◌∷◌, []};
+
 use sk_insn::{ALLOW, Record};
 use sk_profile::{Profile, Rule};
 use sk_profile_code::{Condition, Test};
@@ -45,16 +47,13 @@ const PERSONALITIES: [u64; 5] = [0x0, 0x8, 0x2_0000, 0x2_0008, 0xffff_ffff];
 /// The flags of clone(2) that make namespaces, none of which may be given.
 const NAMESPACES: u64 = 0x7e02_0000;
 
+/// The first and the last numbers around those of the x32 ABI.
+const BORDERS: [u32; 4] = [0x3fff_ffff, 0x4000_0000, 0xffff_fffe, 0xffff_ffff];
+
 /// The profile.
 pub fn profile(alloc: Global) -> Result<Profile, AllocError> {
     let mut rules = Vec::new(alloc);
-    for number in ALLOWED {
-        rules.push(Rule {
-            number,
-            conditions: Vec::new(alloc),
-            value: ALLOW,
-        })?;
-    }
+    push_allowed(alloc, &mut rules)?;
     for value in PERSONALITIES {
         rules.push(allowed_if(alloc, PERSONALITY, Test::Is, value)?)?;
     }
@@ -69,6 +68,17 @@ pub fn profile(alloc: Global) -> Result<Profile, AllocError> {
         default: EPERM,
         bad: KILL_THREAD,
     })
+}
+
+fn push_allowed(alloc: Global, rules: &mut Vec<Rule>) -> Result<(), AllocError> {
+    for number in ALLOWED {
+        rules.push(Rule {
+            number,
+            conditions: Vec::new(alloc),
+            value: ALLOW,
+        })?;
+    }
+    Ok(())
 }
 
 // A rule for a call whose first argument is compared.
@@ -86,28 +96,47 @@ fn allowed_if(alloc: Global, number: u32, test: Test, value: u64) -> Result<Rule
     })
 }
 
-/// Calls of each number up to 511 without arguments, some with those that it asks for, and numbers at the borders of x32.
+/// Calls of each number up to 511 and at the borders of x32, and some with the arguments that the profile asks for.
 pub fn calls(alloc: Global) -> Result<Vec<Record>, AllocError> {
     let mut calls = Vec::new(alloc);
-    for number in 0..512 {
+    push_numbers(&mut calls)?;
+    push_personalities(&mut calls)?;
+    push_clones(&mut calls)?;
+    for number in BORDERS {
         calls.push(call(number, 0))?;
-    }
-    for number in [0x3fff_ffff, 0x4000_0000, 0xffff_fffe, 0xffff_ffff] {
-        calls.push(call(number, 0))?;
-    }
-    for value in PERSONALITIES {
-        calls.push(call(PERSONALITY, value))?;
-        calls.push(call(PERSONALITY, value ^ 0x1_0000_0000))?;
-        calls.push(call(PERSONALITY, value ^ 0x4))?;
-    }
-    for bit in 0..64 {
-        calls.push(call(CLONE, 1 << bit))?;
     }
     Ok(calls)
 }
 
+fn push_numbers(calls: &mut Vec<Record>) -> Result<(), AllocError> {
+    for number in 0..512 {
+        calls.push(call(number, 0))?;
+    }
+    Ok(())
+}
+
+// Those that may be asked for, and ones that differ from them in a bit of either half.
+fn push_personalities(calls: &mut Vec<Record>) -> Result<(), AllocError> {
+    for value in PERSONALITIES {
+        calls.push(call(PERSONALITY, value))?;
+        calls.push(call(PERSONALITY, value ^ 0x4))?;
+        calls.push(call(PERSONALITY, value ^ 0x1_0000_0000))?;
+    }
+    Ok(())
+}
+
+// Each flag by itself.
+fn push_clones(calls: &mut Vec<Record>) -> Result<(), AllocError> {
+    for flag in 0..64u32 {
+        calls.push(call(CLONE, 1 << flag))?;
+    }
+    Ok(())
+}
+
 /// A call with this number and its first argument.
-pub fn call(number: u32, argument: u64) -> Record {
+pub fn call(number: u32, argument: u64) -> Record
+    ensures call { result ≡ record { nr = number; ip = 0; args = argument ∷ 0 ∷ 0 ∷ 0 ∷ 0 ∷ 0 ∷ [] } }
+{
     Record {
         nr: number,
         ip: 0,
