@@ -1,23 +1,27 @@
 -- Rows that are cut in two, and the code of the parts.
-use Rattle.std.proofs.Common.{◌≡◌, ℕ, zero, suc, ◌+◌, ◌<◌, ◌≤◌, List, [], ◌∷◌, ◌++◌, ◌-◌, length, get_or, take, drop, map, flat_map, refl, ap, sym, ◌∙◌, subst, arith, append_assoc, append-nil}
-use Rattle.std.specs.Prelude.{All, Result, Ok, Err, OnOk}
+use Rattle.std.proofs.Common.{◌≡◌, Bool, true, false, if◌then◌else◌, ℕ, zero, suc, ◌+◌, ◌<◌, ◌≤◌, List, [], ◌∷◌, ◌++◌, ◌-◌, length, get_or, take, drop, map, flat_map, refl, ap, sym, ◌∙◌, subst, arith, append_assoc, append-nil}
+use Rattle.std.specs.Prelude.{All, IsTrue, Result, Ok, Err, OnOk}
 use Rattle.std.proofs.lemmas.List.{length-drop, take_all, take_more, take-append-drop, map-append, flat_map_more}
 use Rattle.std.proofs.lemmas.List.Elements.{All-nil, All-cons, All-head, All-tail, All-get_or, All-take, All-drop, All-map, All-append, All-weaker}
 use Rattle.sk_insn.specs.declared.insn.Insn.{Insn}
+use Rattle.sk_insn.specs.declared.record.Record.{Record}
 use Rattle.sk_insn.specs.declared.operation.Comparison.TheVariants.{Equal}
+use Rattle.sk_insn.specs.Actions.{allow}
 use Rattle.sk_interp.specs.Meaning.{meaning_of}
+use Rattle.sk_interp.specs.Walk.{walks}
 use Rattle.sk_profile_code.specs.declared.condition.Condition.{Condition}
 use Rattle.sk_profile_code.specs.declared.condition.Test.TheVariants.{Is}
 use Rattle.sk_profile_code.specs.declared.saying.Arm.{Arm as ArmOfCode}
 use Rattle.sk_profile_code.specs.declared.saying.Saying.{Saying as SayingOfCode}
 use Rattle.sk_profile_code.specs.declared.saying.Row.{Row as RowOfCode}
-use Rattle.sk_profile_code.specs.Sayings.{Arm, asks, Choice, Piece, arms_of, Tree, Leaf, Fork, said}
+use Rattle.sk_profile_code.specs.Sayings.{Arm, asks, all_hold, first_held, Choice, Piece, Single, Joined, arms_of, Tree, Leaf, Fork, said}
 use Rattle.sk_profile_code.specs.Rows.{Row, saying_in}
 use Rattle.sk_profile_code.specs.Code.{load, branch, answer, high, high_place, low_place, lows_code, choice_code, piece_code, fork_code, tree_code, filter_code}
-use Rattle.sk_profile_code.specs.Means.{IsCall, IsPiece, Gives, MeansRows}
+use Rattle.sk_profile_code.specs.Means.{IsCall, IsPiece, Gives, MeansRows, KnowsRows}
 use Rattle.sk_profile_code.specs.Views.{arm_of, saying_of, row_of, asked_for, Asks, IsArmOfCode, IsRowOfCode, AreRising, AreRows, Emits, PutsPiece, PutsPieces, PutsSaying}
 use Rattle.sk_profile_code.proofs.Trees.{code_means_tree}
-use Rattle.sk_profile_code.proofs.Rows.{cuts_say_the_same}
+use Rattle.sk_profile_code.proofs.Rows.{cuts_say_the_same, asks_nothing}
+use Rattle.sk_profile_code.proofs.Knowing.{known_tree}
 
 rising_take : (n : ℕ) (rows : List RowOfCode) → AreRising rows → AreRising (take n rows)
 rising_take zero rows rising = tt
@@ -57,7 +61,7 @@ pub none_left : (old new : List Insn) (before : SayingOfCode) (rows : List RowOf
 none_left old new before [] none puts = record {
   tree = Leaf puts.pieces before.otherwise;
   code = puts.code;
-  cuts = (refl, ap (λ arms. record { arms = arms; otherwise = before.otherwise }) puts.has);
+  cuts = (refl, puts.shows);
   good = puts.good;
 }
 none_left old new before (row ∷ rows) none puts = absurd (omega (arith, none))
@@ -87,9 +91,14 @@ pub whole : (code : List Insn) (bad : ℕ) (before : SayingOfCode) (rows : List 
     → Rattle.sk_profile_code.specs.Rows.Cuts tree (saying_of before) (map row_of rows) → Rattle.sk_profile_code.specs.Means.IsTree tree → MeansRows code (saying_of before) (map row_of rows)
 whole code bad before rows tree e cuts good call ok =
     let found = code_means_tree bad tree good call ok in
-    let same = cuts_say_the_same tree (saying_of before) (map row_of rows) cuts call.nr in
+    let same = cuts_say_the_same tree (saying_of before) (map row_of rows) cuts call.nr call in
     subst (λ insns. Gives (said (saying_in (map row_of rows) (saying_of before) call.nr) call) (meaning_of insns call)) (sym e)
-    (subst (λ saying. Gives (said saying call) (meaning_of (filter_code bad tree) call)) same found)
+    (subst (λ value. Gives value (meaning_of (filter_code bad tree) call)) same found)
+
+pub known : (code : List Insn) (bad : ℕ) (before : SayingOfCode) (rows : List RowOfCode) (tree : Tree) → code ≡ filter_code bad tree
+    → Rattle.sk_profile_code.specs.Rows.Cuts tree (saying_of before) (map row_of rows) → KnowsRows code (saying_of before) (map row_of rows)
+known code bad before rows tree e cuts nr always =
+    subst (λ insns. IsTrue (walks insns nr)) (sym e) (known_tree bad tree nr (asks_nothing tree (saying_of before) (map row_of rows) cuts nr allow always))
 
 pub rest_of : {X : Type 0} (n : ℕ) (xs : List X) → take (length xs - n) (drop n xs) ≡ drop n xs
 rest_of n xs = take_all (length xs - n) (drop n xs) (omega (arith, length-drop n xs))
@@ -170,3 +179,52 @@ joined_code old new choice n as_many is =
     ∙ append_assoc (old ++ a ∷ []) (b ∷ []) (d ∷ (lows ++ last))
     ∙ append_assoc old (a ∷ []) (b ∷ d ∷ (lows ++ last))
     ∙ ap (λ m. old ++ a ∷ branch Equal (high choice.first) 0 (3 + m) ∷ d ∷ (lows ++ last)) (sym as_many)
+
+-- ---- arms at the end that answer what is answered without them
+
+abbrev Answers : ℕ → Arm → Type 0
+Answers value arm = arm.value ≡ value
+
+same_either_way : (b : Bool) (v w value : ℕ) → v ≡ value → w ≡ value → (if b then v else w) ≡ value
+same_either_way true v w value e f = e
+same_either_way false v w value e f = f
+
+none_matters : (arms : List Arm) (otherwise : ℕ) (call : Record) → All (Answers otherwise) arms → first_held arms otherwise call ≡ otherwise
+none_matters [] otherwise call all = refl
+none_matters (arm ∷ arms) otherwise call all =
+    same_either_way (all_hold arm.conditions call) arm.value (first_held arms otherwise call) otherwise (All-head (Answers otherwise) arm arms all)
+    (none_matters arms otherwise call (All-tail (Answers otherwise) arm arms all))
+
+without_them : (arms more : List Arm) (otherwise : ℕ) (call : Record) → All (Answers otherwise) more → first_held arms otherwise call ≡ first_held (arms ++ more) otherwise call
+without_them [] more otherwise call all = sym (none_matters more otherwise call all)
+without_them (arm ∷ arms) more otherwise call all = ap (λ value. if all_hold arm.conditions call then arm.value else value) (without_them arms more otherwise call all)
+
+of_code : (value : ℕ) (arms : List ArmOfCode) → All (Answers value) (map arm_of arms) → All (λ (arm : ArmOfCode). arm.value ≡ value) arms
+of_code value [] all = All-nil (λ (arm : ArmOfCode). arm.value ≡ value)
+of_code value (arm ∷ arms) all =
+    All-cons (λ (arm : ArmOfCode). arm.value ≡ value) arm arms (All-head (Answers value) (arm_of arm) (map arm_of arms) all) (of_code value arms (All-tail (Answers value) (arm_of arm) (map arm_of arms) all))
+
+no_pieces : (pieces : List Piece) → flat_map arms_of pieces ≡ [] → pieces ≡ []
+no_pieces [] e = refl
+no_pieces (Single arm ∷ pieces) e = cc
+no_pieces (Joined choice ∷ pieces) e = cc
+
+pub saying_put : (old code new : List Insn) (saying : SayingOfCode) (n : ℕ) → All (λ (arm : ArmOfCode). arm.value ≡ saying.otherwise) (drop n saying.arms.items)
+    → (All (λ (arm : ArmOfCode). arm.value ≡ saying.otherwise) saying.arms.items → n ≡ 0)
+    → PutsPieces old code (map arm_of (take n saying.arms.items)) → new ≡ code ++ answer saying.otherwise ∷ [] → PutsSaying old new (saying_of saying)
+saying_put old code new saying n rest none puts is =
+    let arms = saying.arms.items in
+    let more = map arm_of (drop n arms) in
+    let whole : map arm_of (take n arms) ++ more ≡ map arm_of arms = sym (map-append arm_of (take n arms) (drop n arms)) ∙ ap (λ arms. map arm_of arms) (take-append-drop n arms) in
+    let all = All-map (Answers saying.otherwise) arm_of (drop n arms) rest in record {
+      pieces = puts.pieces;
+      code = is ∙ ap (λ insns. insns ++ answer saying.otherwise ∷ []) puts.code ∙ append_assoc old (flat_map piece_code puts.pieces) (answer saying.otherwise ∷ []);
+      shows = record {
+        same = λ call.
+            ap (λ arms. first_held arms saying.otherwise call) puts.has ∙ without_them (map arm_of (take n arms)) more saying.otherwise call all
+            ∙ ap (λ arms. first_held arms saying.otherwise call) whole;
+        left = refl;
+        none = λ each. no_pieces puts.pieces (puts.has ∙ ap (λ n. map arm_of (take n arms)) (none (of_code saying.otherwise arms each)));
+      };
+      good = puts.good;
+    }

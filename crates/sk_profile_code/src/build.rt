@@ -4,7 +4,7 @@ ghost use Rattle.sk_insn.specs.declared.insn.Insn.{Insn};
 ghost use Rattle.sk_check.specs.Valid.{IsValid};
 ghost use Rattle.sk_profile_code.specs.Sayings.{Tree};
 ghost use Rattle.sk_profile_code.specs.Code.{fork_code, filter_code};
-ghost use Rattle.sk_profile_code.specs.Means.{MeansRows};
+ghost use Rattle.sk_profile_code.specs.Means.{MeansRows, KnowsRows};
 ghost use Rattle.sk_profile_code.specs.Views.{saying_of, row_of, AreRows, Emits};
 
 use crate::instructions::{answer, branch, jump, load};
@@ -107,6 +107,7 @@ pub fn filter(
     ensures means { IfOk result (λ code. MeansRows code.items (saying_of before.now) (map row_of rows.now)) }
     ensures guard { IfOk result (λ code. (tree : Tree) × (code.items ≡ filter_code bad tree)) }
     ensures valid { IfOk result (λ code. IsValid code.items) }
+    ensures known { IfOk result (λ code. KnowsRows code.items (saying_of before.now) (map row_of rows.now)) }
 {
     let mut code = Vec::new(alloc);
     code.push(load(4))?;

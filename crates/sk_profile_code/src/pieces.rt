@@ -1,7 +1,8 @@
 //! The instructions of what is said of the calls of one number. Arms that ask one argument for numbers with the same upper
 //! half, and have the same value, test that half once.
-ghost use Rattle.std.specs.Prelude.{◌≡◌, ◌+◌, ◌<◌, ◌≤◌, ◌++◌, ◌∷◌, [], length, map, take, OnOk, IfOk, IfSome, IsTrue, All};
+ghost use Rattle.std.specs.Prelude.{◌≡◌, ◌+◌, ◌<◌, ◌≤◌, ◌++◌, ◌∷◌, [], length, map, take, drop, OnOk, IfOk, IfSome, IsTrue, All};
 ghost use Rattle.sk_insn.specs.declared.operation.Comparison.TheVariants.{Equal};
+ghost use Rattle.sk_profile_code.specs.declared.saying.Arm.{Arm};
 ghost use Rattle.sk_profile_code.specs.Sayings.{asks};
 ghost use Rattle.sk_profile_code.specs.Code.{branch, high, low, lows_code, passed_over};
 ghost use Rattle.sk_profile_code.specs.Views.{arm_of, saying_of, asked_for, Asks, PutsPiece, PutsPieces, PutsSaying, IsArmOfCode, IsSayingOfCode};
@@ -164,12 +165,27 @@ fn push_arms(code: &mut Vec<Insn>, arms: &[Arm]) -> Result<(), AllocError>
     Ok(())
 }
 
+// How many arms there are without those at the end that answer what is answered without them.
+fn needed(saying: &Saying) -> usize
+    ensures inside { result ≤ length saying.now.arms.items }
+    ensures rest { All (λ (arm : Arm). arm.value ≡ saying.now.otherwise) (drop result saying.now.arms.items) }
+    ensures none { All (λ (arm : Arm). arm.value ≡ saying.now.otherwise) saying.now.arms.items → result ≡ 0 }
+{
+    let mut count = 0;
+    for (at, arm) in saying.arms.iter().enumerate() {
+        if arm.value != saying.otherwise {
+            count = at + 1;
+        }
+    }
+    count
+}
+
 /// Appends the instructions of what is said of the calls of one number.
 pub fn push_saying(code: &mut Vec<Insn>, saying: &Saying) -> Result<(), AllocError>
     requires arms { IsSayingOfCode saying.now }
     ensures code { OnOk result (PutsSaying code.old.items code.new.items (saying_of saying.now)) }
 {
-    push_arms(code, &saying.arms)?;
+    push_arms(code, &saying.arms[..needed(saying)])?;
     code.push(answer(saying.otherwise))?;
     Ok(())
 }
