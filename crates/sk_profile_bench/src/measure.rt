@@ -44,7 +44,7 @@ impl fmt::Display for Size {
         let hundredths = self.steps % 10;
         write!(
             f,
-            "{} instructions, {whole}.{tenths}{hundredths} steps a call that is made often, at most {} steps, {} numbers always allowed",
+            "{} instructions, {whole}.{tenths}{hundredths} steps a call, at most {}, {} numbers always allowed",
             self.length, self.most, self.known
         )
     }
@@ -115,7 +115,8 @@ fn steps_of_hundred(filter: &Checked) -> u64 {
         steps = steps.saturating_add(taken.saturating_mul(share as u64));
         made = made.saturating_add(share as u64);
     }
-    steps.saturating_mul(100).checked_div(made).unwrap_or(0)
+    let rounded = steps.saturating_mul(100).saturating_add(made / 2);
+    rounded.checked_div(made).unwrap_or(0)
 }
 
 // Of how many numbers each call is seen to be allowed.
