@@ -8,7 +8,7 @@ returns-clause-means c = whole c.push_rows.new.code.items c.args.bad c.args.befo
 
 pub returns-clause-valid : goal.returns-clause-valid
 returns-clause-valid c =
-    let few : length c.push_rows.new.code.items ≤ 4096 = omega (arith, c.len.ensures, c.push_rows.new.code.ok.0, c.if-len-gt-MOST_INSNS.false) in
+    let few : length c.push_rows.new.code.items ≤ 4096 = omega (arith, c.len.ensures, c.push_rows.new.code.ok.0) in
     valid_whole c.push_rows.new.code.items c.args.bad c.in_ok-push_rows.ensures.emits.tree (search rules) c.in_ok-push_rows.ensures.emits.good few
 
 pub returns-clause-known : goal.returns-clause-known
