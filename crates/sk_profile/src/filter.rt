@@ -1,13 +1,16 @@
 //! The filter that means a profile.
-ghost use Rattle.std.specs.Prelude.{◌≡◌, IfOk, IfErr};
+ghost use Rattle.std.specs.Prelude.{ℕ, ◌≡◌, ◌<◌, ◌^◌, IsTrue, IfOk, IfErr};
+ghost use Rattle.sk_check.specs.Valid.{IsValid};
 ghost use Rattle.sk_insn.specs.declared.record.Record.{Record};
+ghost use Rattle.sk_insn.specs.Actions.{allow};
 ghost use Rattle.sk_interp.specs.Meaning.{meaning_of};
+ghost use Rattle.sk_interp.specs.Walk.{walks};
 ghost use Rattle.sk_profile_code.specs.Code.{filter_code};
 ghost use Rattle.sk_profile_code.specs.Means.{IsCall, Gives};
-ghost use Rattle.sk_profile_code.specs.Sayings.{Tree};
+ghost use Rattle.sk_profile_code.specs.Sayings.{Tree, AlwaysSays};
 ghost use Rattle.sk_profile.specs.Clashes.{IsClear};
 ghost use Rattle.sk_profile.specs.Faults.{IsFaultOf};
-ghost use Rattle.sk_profile.specs.Profiles.{said_by};
+ghost use Rattle.sk_profile.specs.Profiles.{said_by, saying_for};
 ghost use Rattle.sk_profile.specs.Views.{profile_of};
 
 use crate::fault::ProfileFault;
@@ -22,6 +25,8 @@ use std::alloc::Global;
 pub fn profile_filter(alloc: Global, profile: &Profile) -> Result<Vec<Insn>, ProfileFault>
     ensures means { IfOk result (λ code. (call : Record) → IsCall call → Gives (said_by (profile_of profile.now) call) (meaning_of code.items call)) }
     ensures guard { IfOk result (λ code. (tree : Tree) × (code.items ≡ filter_code profile.now.bad tree)) }
+    ensures valid { IfOk result (λ code. IsValid code.items) }
+    ensures known { IfOk result (λ code. (nr : ℕ) → nr < 2 ^ 32 → AlwaysSays allow (saying_for (profile_of profile.now) nr) → IsTrue (walks code.items nr)) }
     ensures clear { IfOk result (λ _. IsClear (profile_of profile.now)) }
     ensures fault { IfErr result (IsFaultOf (profile_of profile.now)) }
 {

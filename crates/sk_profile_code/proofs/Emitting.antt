@@ -1,21 +1,27 @@
 -- Rows that are cut in two, and the code of the parts.
-use Rattle.std.proofs.Common.{◌≡◌, ℕ, zero, suc, ◌+◌, ◌<◌, ◌≤◌, List, [], ◌∷◌, ◌++◌, ◌-◌, length, get_or, take, drop, map, refl, ap, sym, ◌∙◌, subst, arith, append_assoc}
-use Rattle.std.specs.Prelude.{All, Result, Ok, Err, OnOk}
-use Rattle.std.proofs.lemmas.List.{length-drop, take_all}
-use Rattle.std.proofs.lemmas.List.Elements.{All-nil, All-cons, All-head, All-tail, All-get_or, All-take, All-drop, All-map}
+use Rattle.std.proofs.Common.{◌≡◌, Bool, true, false, if◌then◌else◌, ℕ, zero, suc, ◌+◌, ◌<◌, ◌≤◌, List, [], ◌∷◌, ◌++◌, ◌-◌, length, get_or, take, drop, map, flat_map, refl, ap, sym, ◌∙◌, subst, arith, append_assoc, append-nil}
+use Rattle.std.specs.Prelude.{All, IsTrue, Result, Ok, Err, OnOk}
+use Rattle.std.proofs.lemmas.List.{length-drop, take_all, take_more, take-append-drop, map-append, flat_map_more}
+use Rattle.std.proofs.lemmas.List.Elements.{All-nil, All-cons, All-head, All-tail, All-get_or, All-take, All-drop, All-map, All-append, All-weaker}
 use Rattle.sk_insn.specs.declared.insn.Insn.{Insn}
+use Rattle.sk_insn.specs.declared.record.Record.{Record}
+use Rattle.sk_insn.specs.declared.operation.Comparison.TheVariants.{Equal}
+use Rattle.sk_insn.specs.Actions.{allow}
 use Rattle.sk_interp.specs.Meaning.{meaning_of}
+use Rattle.sk_interp.specs.Walk.{walks}
 use Rattle.sk_profile_code.specs.declared.condition.Condition.{Condition}
+use Rattle.sk_profile_code.specs.declared.condition.Test.TheVariants.{Is}
 use Rattle.sk_profile_code.specs.declared.saying.Arm.{Arm as ArmOfCode}
 use Rattle.sk_profile_code.specs.declared.saying.Saying.{Saying as SayingOfCode}
 use Rattle.sk_profile_code.specs.declared.saying.Row.{Row as RowOfCode}
-use Rattle.sk_profile_code.specs.Sayings.{Arm, Tree, Leaf, Fork, said}
+use Rattle.sk_profile_code.specs.Sayings.{Arm, asks, all_hold, first_held, Choice, Piece, Single, Joined, arms_of, Tree, Leaf, Fork, said}
 use Rattle.sk_profile_code.specs.Rows.{Row, saying_in}
-use Rattle.sk_profile_code.specs.Code.{saying_code, fork_code, tree_code, filter_code}
-use Rattle.sk_profile_code.specs.Means.{IsCall, Gives, MeansRows}
-use Rattle.sk_profile_code.specs.Views.{arm_of, saying_of, row_of, IsArmOfCode, IsRowOfCode, AreRising, AreRows, Emits}
+use Rattle.sk_profile_code.specs.Code.{load, branch, answer, high, high_place, low_place, lows_code, choice_code, piece_code, fork_code, tree_code, filter_code}
+use Rattle.sk_profile_code.specs.Means.{IsCall, IsPiece, Gives, MeansRows, KnowsRows}
+use Rattle.sk_profile_code.specs.Views.{arm_of, saying_of, row_of, asked_for, Asks, IsArmOfCode, IsRowOfCode, AreRising, AreRows, Emits, PutsPiece, PutsPieces, PutsSaying}
 use Rattle.sk_profile_code.proofs.Trees.{code_means_tree}
-use Rattle.sk_profile_code.proofs.Rows.{cuts_say_the_same}
+use Rattle.sk_profile_code.proofs.Rows.{cuts_say_the_same, asks_nothing}
+use Rattle.sk_profile_code.proofs.Knowing.{known_tree}
 
 rising_take : (n : ℕ) (rows : List RowOfCode) → AreRising rows → AreRising (take n rows)
 rising_take zero rows rising = tt
@@ -51,12 +57,14 @@ right_part before rows n d inside are = record {
   rising = rising_drop (n + 1) rows are.rising;
 }
 
-good_arms : (arms : List ArmOfCode) → All IsArmOfCode arms → All (λ (arm : Arm). All (λ (c : Condition). c.index < 6) arm.conditions) (map arm_of arms)
-good_arms arms all = All-map (λ (arm : Arm). All (λ (c : Condition). c.index < 6) arm.conditions) arm_of arms (Rattle.std.proofs.lemmas.List.Elements.All-weaker IsArmOfCode (λ (arm : ArmOfCode). All (λ (c : Condition). c.index < 6) arm.conditions.items) (λ arm is. is.0) arms all)
-
-pub none_left : (old new : List Insn) (before : SayingOfCode) (rows : List RowOfCode) → AreRows before rows → length rows ≡ 0 → new ≡ old ++ saying_code (saying_of before) → Emits old new before rows
-none_left old new before [] are none e = record { tree = Leaf (saying_of before); code = e; cuts = (refl, refl); good = good_arms before.arms.items are.below }
-none_left old new before (row ∷ rows) are none e = absurd (omega arith)
+pub none_left : (old new : List Insn) (before : SayingOfCode) (rows : List RowOfCode) → length rows ≡ 0 → PutsSaying old new (saying_of before) → Emits old new before rows
+none_left old new before [] none puts = record {
+  tree = Leaf puts.pieces before.otherwise;
+  code = puts.code;
+  cuts = (refl, puts.shows);
+  good = puts.good;
+}
+none_left old new before (row ∷ rows) none puts = absurd (omega (arith, none))
 
 pub joined : (old head below new with_below : List Insn) (before : SayingOfCode) (rows : List RowOfCode) (n : ℕ) (d : RowOfCode) → AreRows before rows → n < length rows
     → Emits [] below before (take n rows)
@@ -83,19 +91,140 @@ pub whole : (code : List Insn) (bad : ℕ) (before : SayingOfCode) (rows : List 
     → Rattle.sk_profile_code.specs.Rows.Cuts tree (saying_of before) (map row_of rows) → Rattle.sk_profile_code.specs.Means.IsTree tree → MeansRows code (saying_of before) (map row_of rows)
 whole code bad before rows tree e cuts good call ok =
     let found = code_means_tree bad tree good call ok in
-    let same = cuts_say_the_same tree (saying_of before) (map row_of rows) cuts call.nr in
+    let same = cuts_say_the_same tree (saying_of before) (map row_of rows) cuts call.nr call in
     subst (λ insns. Gives (said (saying_in (map row_of rows) (saying_of before) call.nr) call) (meaning_of insns call)) (sym e)
-    (subst (λ saying. Gives (said saying call) (meaning_of (filter_code bad tree) call)) same found)
+    (subst (λ value. Gives value (meaning_of (filter_code bad tree) call)) same found)
 
-pub rest_of : (n : ℕ) (rows : List RowOfCode) → take (length rows - n) (drop n rows) ≡ drop n rows
-rest_of n rows = take_all (length rows - n) (drop n rows) (omega (arith, length-drop n rows))
+pub known : (code : List Insn) (bad : ℕ) (before : SayingOfCode) (rows : List RowOfCode) (tree : Tree) → code ≡ filter_code bad tree
+    → Rattle.sk_profile_code.specs.Rows.Cuts tree (saying_of before) (map row_of rows) → KnowsRows code (saying_of before) (map row_of rows)
+known code bad before rows tree e cuts nr always =
+    subst (λ insns. IsTrue (walks insns nr)) (sym e) (known_tree bad tree nr (asks_nothing tree (saying_of before) (map row_of rows) cuts nr allow always))
+
+pub rest_of : {X : Type 0} (n : ℕ) (xs : List X) → take (length xs - n) (drop n xs) ≡ drop n xs
+rest_of n xs = take_all (length xs - n) (drop n xs) (omega (arith, length-drop n xs))
 
 pub on_ok : {X E : Type 0} {P Q : Type 0} (r : Result X E) → (P → Q) → OnOk r P → OnOk r Q
 on_ok (Ok x) f p = f p
 on_ok (Err e) f p = tt
 
--- one arm's instructions more, and what they leave behind them
-pub one_arm_more : (before conditions code tail whole : List Insn) (last : Insn) → code ≡ (before ++ conditions) ++ last ∷ []
-    → before ++ (conditions ++ last ∷ tail) ≡ whole → code ++ tail ≡ whole
-one_arm_more before conditions code tail whole last is same =
-    ap (λ xs. xs ++ tail) is ∙ append_assoc (before ++ conditions) (last ∷ []) tail ∙ append_assoc before conditions (last ∷ tail) ∙ same
+-- an arm by itself
+pub one_arm : (before conditions code : List Insn) (last : Insn) → code ≡ (before ++ conditions) ++ last ∷ [] → code ≡ before ++ (conditions ++ last ∷ [])
+one_arm before conditions code last is = is ∙ append_assoc before conditions (last ∷ [])
+
+-- the pieces of the arms up to those that are left
+pub record PutsSome (old new : List Insn) (arms left : List Arm) : Type 0 where
+  pub pieces : List Piece
+  pub code : new ≡ old ++ flat_map piece_code pieces
+  pub has : flat_map arms_of pieces ++ left ≡ arms
+  pub good : All IsPiece pieces
+
+pub none_put : (code : List Insn) (arms : List Arm) → PutsSome code code arms arms
+none_put code arms = record { pieces = []; code = sym (append-nil code); has = refl; good = All-nil IsPiece }
+
+pub one_piece_more : (old code new : List Insn) (arms left rest : List Arm) (some : List Arm) → PutsSome old code arms left → PutsPiece code new some → left ≡ some ++ rest → PutsSome old new arms rest
+one_piece_more old code new arms left rest some puts put e = record {
+  pieces = puts.pieces ++ put.piece ∷ [];
+  code = put.code ∙ ap (λ insns. insns ++ piece_code put.piece) puts.code ∙ flat_map_more piece_code old puts.pieces put.piece;
+  has = ap (λ them. them ++ rest) (sym (flat_map_more arms_of [] puts.pieces put.piece)) ∙ append_assoc (flat_map arms_of puts.pieces) (arms_of put.piece) rest
+      ∙ ap (λ them. flat_map arms_of puts.pieces ++ (them ++ rest)) put.has ∙ ap (λ them. flat_map arms_of puts.pieces ++ them) (sym e) ∙ puts.has;
+  good = All-append IsPiece puts.pieces (put.piece ∷ []) puts.good (All-cons IsPiece put.piece [] put.good (All-nil IsPiece));
+}
+
+pub all_put : (old new : List Insn) (arms left : List Arm) → length left ≡ 0 → PutsSome old new arms left → PutsPieces old new arms
+all_put old new arms [] none puts = record { pieces = puts.pieces; code = puts.code; has = sym (append-nil (flat_map arms_of puts.pieces)) ∙ puts.has; good = puts.good }
+all_put old new arms (arm ∷ left) none puts = absurd (omega (arith, none))
+
+pub first_arms : (left : List ArmOfCode) (arm : ArmOfCode) (rest : List ArmOfCode) (n : ℕ) → left ≡ arm ∷ rest → map arm_of left ≡ (arm_of arm ∷ map arm_of (take n rest)) ++ map arm_of (drop n rest)
+first_arms left arm rest n e =
+    ap (λ arms. map arm_of arms) e
+    ∙ ap (λ arms. arm_of arm ∷ map arm_of arms) (sym (take-append-drop n rest))
+    ∙ ap (λ arms. arm_of arm ∷ arms) (map-append arm_of (take n rest) (drop n rest))
+
+-- ---- arms that share what they ask
+
+pub one_more : {X : Type 0} (P : X → Type 0) (xs : List X) (n : ℕ) (x : X) → n < length xs → x ≡ get_or xs n x → All P (take n xs) → P x → All P (take (n + 1) xs)
+one_more P xs n x inside is all here =
+    subst (All P) (sym (take_more xs n x inside)) (All-append P (take n xs) (get_or xs n x ∷ []) all (All-cons P (get_or xs n x) [] (subst P is here) (All-nil P)))
+
+pub index_inside : (arm : ArmOfCode) (index value number : ℕ) → arm_of arm ≡ asks index value number → IsArmOfCode arm → index < 6
+index_inside arm index value number is good =
+    let conditions = ap (λ (arm : Arm). arm.conditions) is in
+    All-head (λ (c : Condition). c.index < 6) (record { index = index; test = Is; value = number }) [] (subst (All (λ (c : Condition). c.index < 6)) conditions good.0)
+
+pub joined_arms : (index value upper first : ℕ) (others : List ArmOfCode) → All (Asks index value upper) others
+    → map (asks index value) (first ∷ map asked_for others) ≡ asks index value first ∷ map arm_of others
+joined_arms index value upper first others all = ap (λ arms. asks index value first ∷ arms) (by others all) where
+  by : (others : List ArmOfCode) → All (Asks index value upper) others → map (asks index value) (map asked_for others) ≡ map arm_of others
+  by [] all = refl
+  by (arm ∷ others) all =
+      ap (λ arm. arm ∷ map (asks index value) (map asked_for others)) (sym (All-head (Asks index value upper) arm others all).is)
+      ∙ ap (λ arms. arm_of arm ∷ arms) (by others (All-tail (Asks index value upper) arm others all))
+
+pub joined_halves : (index value upper : ℕ) (others : List ArmOfCode) → All (Asks index value upper) others → All (λ number. high number ≡ upper) (map asked_for others)
+joined_halves index value upper others all =
+    All-map (λ number. high number ≡ upper) asked_for others (All-weaker (Asks index value upper) (λ arm. high (asked_for arm) ≡ upper) (λ arm is. is.upper_half) others all)
+
+pub joined_code : (old new : List Insn) (choice : Choice) (n : ℕ) → length choice.others ≡ n
+    → new ≡ ((((old ++ load (high_place choice.index) ∷ []) ++ branch Equal (high choice.first) 0 (3 + n) ∷ []) ++ load (low_place choice.index) ∷ []) ++ lows_code (choice.first ∷ choice.others)) ++ answer choice.value ∷ []
+    → new ≡ old ++ choice_code choice
+joined_code old new choice n as_many is =
+    let a = load (high_place choice.index) in
+    let b = branch Equal (high choice.first) 0 (3 + n) in
+    let d = load (low_place choice.index) in
+    let lows = lows_code (choice.first ∷ choice.others) in
+    let last = answer choice.value ∷ [] in
+    is
+    ∙ append_assoc (((old ++ a ∷ []) ++ b ∷ []) ++ d ∷ []) lows last
+    ∙ append_assoc ((old ++ a ∷ []) ++ b ∷ []) (d ∷ []) (lows ++ last)
+    ∙ append_assoc (old ++ a ∷ []) (b ∷ []) (d ∷ (lows ++ last))
+    ∙ append_assoc old (a ∷ []) (b ∷ d ∷ (lows ++ last))
+    ∙ ap (λ m. old ++ a ∷ branch Equal (high choice.first) 0 (3 + m) ∷ d ∷ (lows ++ last)) (sym as_many)
+
+-- ---- arms at the end that answer what is answered without them
+
+abbrev Answers : ℕ → Arm → Type 0
+Answers value arm = arm.value ≡ value
+
+same_either_way : (b : Bool) (v w value : ℕ) → v ≡ value → w ≡ value → (if b then v else w) ≡ value
+same_either_way true v w value e f = e
+same_either_way false v w value e f = f
+
+none_matters : (arms : List Arm) (otherwise : ℕ) (call : Record) → All (Answers otherwise) arms → first_held arms otherwise call ≡ otherwise
+none_matters [] otherwise call all = refl
+none_matters (arm ∷ arms) otherwise call all =
+    same_either_way (all_hold arm.conditions call) arm.value (first_held arms otherwise call) otherwise (All-head (Answers otherwise) arm arms all)
+    (none_matters arms otherwise call (All-tail (Answers otherwise) arm arms all))
+
+without_them : (arms more : List Arm) (otherwise : ℕ) (call : Record) → All (Answers otherwise) more → first_held arms otherwise call ≡ first_held (arms ++ more) otherwise call
+without_them [] more otherwise call all = sym (none_matters more otherwise call all)
+without_them (arm ∷ arms) more otherwise call all = ap (λ value. if all_hold arm.conditions call then arm.value else value) (without_them arms more otherwise call all)
+
+of_code : (value : ℕ) (arms : List ArmOfCode) → All (Answers value) (map arm_of arms) → All (λ (arm : ArmOfCode). arm.value ≡ value) arms
+of_code value [] all = All-nil (λ (arm : ArmOfCode). arm.value ≡ value)
+of_code value (arm ∷ arms) all =
+    All-cons (λ (arm : ArmOfCode). arm.value ≡ value) arm arms (All-head (Answers value) (arm_of arm) (map arm_of arms) all) (of_code value arms (All-tail (Answers value) (arm_of arm) (map arm_of arms) all))
+
+no_pieces : (pieces : List Piece) → flat_map arms_of pieces ≡ [] → pieces ≡ []
+no_pieces [] e = refl
+no_pieces (Single arm ∷ pieces) e = cc
+no_pieces (Joined choice ∷ pieces) e = cc
+
+pub saying_put : (old code new : List Insn) (saying : SayingOfCode) (n : ℕ) → All (λ (arm : ArmOfCode). arm.value ≡ saying.otherwise) (drop n saying.arms.items)
+    → (All (λ (arm : ArmOfCode). arm.value ≡ saying.otherwise) saying.arms.items → n ≡ 0)
+    → PutsPieces old code (map arm_of (take n saying.arms.items)) → new ≡ code ++ answer saying.otherwise ∷ [] → PutsSaying old new (saying_of saying)
+saying_put old code new saying n rest none puts is =
+    let arms = saying.arms.items in
+    let more = map arm_of (drop n arms) in
+    let whole : map arm_of (take n arms) ++ more ≡ map arm_of arms = sym (map-append arm_of (take n arms) (drop n arms)) ∙ ap (λ arms. map arm_of arms) (take-append-drop n arms) in
+    let all = All-map (Answers saying.otherwise) arm_of (drop n arms) rest in record {
+      pieces = puts.pieces;
+      code = is ∙ ap (λ insns. insns ++ answer saying.otherwise ∷ []) puts.code ∙ append_assoc old (flat_map piece_code puts.pieces) (answer saying.otherwise ∷ []);
+      shows = record {
+        same = λ call.
+            ap (λ arms. first_held arms saying.otherwise call) puts.has ∙ without_them (map arm_of (take n arms)) more saying.otherwise call all
+            ∙ ap (λ arms. first_held arms saying.otherwise call) whole;
+        left = refl;
+        none = λ each. no_pieces puts.pieces (puts.has ∙ ap (λ n. map arm_of (take n arms)) (none (of_code saying.otherwise arms each)));
+      };
+      good = puts.good;
+    }

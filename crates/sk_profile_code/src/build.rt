@@ -1,14 +1,16 @@
 //! The filter of rows.
 ghost use Rattle.std.specs.Prelude.{ℕ, ◌≡◌, ◌<◌, ◌++◌, length, List, map, OnOk, IfOk};
 ghost use Rattle.sk_insn.specs.declared.insn.Insn.{Insn};
+ghost use Rattle.sk_check.specs.Valid.{IsValid};
 ghost use Rattle.sk_profile_code.specs.Sayings.{Tree};
 ghost use Rattle.sk_profile_code.specs.Code.{fork_code, filter_code};
-ghost use Rattle.sk_profile_code.specs.Means.{MeansRows};
+ghost use Rattle.sk_profile_code.specs.Means.{MeansRows, KnowsRows};
 ghost use Rattle.sk_profile_code.specs.Views.{saying_of, row_of, AreRows, Emits};
 
-use crate::emit::push_saying;
 use crate::instructions::{answer, branch, jump, load};
+use crate::pieces::push_saying;
 use crate::saying::{Row, Saying};
+use crate::weights::{EVERY, Numbers, weight};
 use sk_insn::{ARCHITECTURE, Comparison, Insn, MOST_INSNS};
 use std::alloc::{AllocError, AllocFailed, Global};
 
@@ -49,12 +51,24 @@ fn push_head(code: &mut Vec<Insn>, number: u32, below: usize) -> Result<(), Code
     Ok(())
 }
 
-// Which row to cut at: any is right.
-fn cut(rows: &[Row]) -> usize
+// Which row to cut at, so that both sides weigh as much as can be. Each row of a side weighs 1 besides its numbers.
+// Any is right.
+fn cut(rows: &[Row], numbers: Numbers) -> usize
     requires some { 0 < length rows.now }
     ensures inside { result < length rows.now }
 {
-    rows.len() / 2
+    let mut best = 0;
+    let mut least = usize::MAX;
+    for (at, row) in rows.iter().enumerate() {
+        let (low, high) = numbers.cut_at(row.start);
+        let below = weight(low).saturating_add(at + 1);
+        let above = weight(high).saturating_add(rows.len() - at);
+        if below.abs_diff(above) < least {
+            best = at;
+            least = below.abs_diff(above);
+        }
+    }
+    best
 }
 
 // The rows, where this is said below the first of them.
@@ -63,6 +77,7 @@ fn push_rows(
     code: &mut Vec<Insn>,
     before: &Saying,
     rows: &[Row],
+    numbers: Numbers,
 ) -> Result<(), CodeFault>
     requires rows { AreRows before.now rows.now }
     ensures emits { OnOk result (Emits code.old.items code.new.items before.now rows.now) }
@@ -71,13 +86,14 @@ fn push_rows(
         push_saying(code, before)?;
         return Ok(());
     }
-    let at = cut(rows);
+    let at = cut(rows, numbers);
     let middle = &rows[at];
+    let (low, high) = numbers.cut_at(middle.start);
     let mut below = Vec::new(alloc);
-    push_rows(alloc, &mut below, before, &rows[..at])?;
+    push_rows(alloc, &mut below, before, &rows[..at], low)?;
     push_head(code, middle.start, below.len())?;
     code.extend_from_slice(&below)?;
-    push_rows(alloc, code, &middle.saying, &rows[at + 1..])
+    push_rows(alloc, code, &middle.saying, &rows[at + 1..], high)
 }
 
 /// The filter that answers to every call what the rows say, and `bad` on every other architecture.
@@ -90,13 +106,15 @@ pub fn filter(
     requires rows { AreRows before.now rows.now }
     ensures means { IfOk result (λ code. MeansRows code.items (saying_of before.now) (map row_of rows.now)) }
     ensures guard { IfOk result (λ code. (tree : Tree) × (code.items ≡ filter_code bad tree)) }
+    ensures valid { IfOk result (λ code. IsValid code.items) }
+    ensures known { IfOk result (λ code. KnowsRows code.items (saying_of before.now) (map row_of rows.now)) }
 {
     let mut code = Vec::new(alloc);
     code.push(load(4))?;
     code.push(branch(Comparison::Equal, ARCHITECTURE, 1, 0))?;
     code.push(answer(bad))?;
     code.push(load(0))?;
-    push_rows(alloc, &mut code, before, rows)?;
+    push_rows(alloc, &mut code, before, rows, EVERY)?;
     if code.len() > MOST_INSNS {
         return Err(CodeFault::TooLong);
     }

@@ -1,13 +1,10 @@
-//! The instructions of conditions, and of what is said of the calls of one number.
-ghost use Rattle.std.specs.Prelude.{ℕ, ◌≡◌, ◌+◌, ◌*◌, ◌<◌, ◌≤◌, ◌++◌, length, map, List, OnOk, All};
-ghost use Rattle.sk_insn.specs.declared.insn.Insn.{Insn};
+//! The instructions of conditions.
+ghost use Rattle.std.specs.Prelude.{ℕ, ◌≡◌, ◌+◌, ◌*◌, ◌<◌, ◌≤◌, ◌++◌, length, OnOk, All};
 ghost use Rattle.sk_profile_code.specs.declared.condition.Condition.{Condition};
-ghost use Rattle.sk_profile_code.specs.Code.{test_code, conditions_code, arms_code, saying_code};
-ghost use Rattle.sk_profile_code.specs.Views.{arm_of, saying_of, IsArmOfCode, IsSayingOfCode};
+ghost use Rattle.sk_profile_code.specs.Code.{test_code, conditions_code};
 
 use crate::condition::{Condition, Test};
-use crate::instructions::{answer, branch, load, with};
-use crate::saying::{Arm, Saying};
+use crate::instructions::{branch, load, with};
 use sk_insn::{Comparison, Insn};
 use std::alloc::AllocError;
 
@@ -92,8 +89,8 @@ fn length_of_all(conditions: &[Condition]) -> u8
     }
 }
 
-// Compares all arguments of a rule, and goes on where all tests hold.
-fn push_conditions(
+/// Compares all arguments of a rule, and goes on where all tests hold.
+pub fn push_conditions(
     code: &mut Vec<Insn>,
     conditions: &[Condition],
     away: u8,
@@ -110,29 +107,4 @@ fn push_conditions(
             push_conditions(code, rest, away)
         }
     }
-}
-
-// What the arms answer. What they leave stands behind.
-fn push_arms(code: &mut Vec<Insn>, arms: &[Arm]) -> Result<(), AllocError>
-    requires arms { All IsArmOfCode arms.now }
-    ensures code { OnOk result ((behind : List Insn) →
-        code.new.items ++ behind ≡ code.old.items ++ arms_code (map arm_of arms.now) behind) }
-{
-    let mut left = arms;
-    while let Some((arm, rest)) = left.split_first() {
-        push_conditions(code, &arm.conditions, 1)?;
-        code.push(answer(arm.value))?;
-        left = rest;
-    }
-    Ok(())
-}
-
-/// Appends the instructions of what is said of the calls of one number.
-pub fn push_saying(code: &mut Vec<Insn>, saying: &Saying) -> Result<(), AllocError>
-    requires arms { IsSayingOfCode saying.now }
-    ensures code { OnOk result (code.new.items ≡ code.old.items ++ saying_code (saying_of saying.now)) }
-{
-    push_arms(code, &saying.arms)?;
-    code.push(answer(saying.otherwise))?;
-    Ok(())
 }

@@ -6,8 +6,11 @@ mod condition;
 mod emit;
 mod instructions;
 pub mod laws;
+mod pieces;
 mod saying;
+mod weights;
 
 pub use build::{CodeFault, filter};
 pub use condition::{Condition, Test};
 pub use saying::{Arm, Row, Saying};
+pub use weights::OFTEN;

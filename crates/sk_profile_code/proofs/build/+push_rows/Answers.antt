@@ -6,7 +6,7 @@ use Rattle.sk_profile_code.proofs.Emitting.{left_part, right_part, none_left, jo
 use Rattle.sk_profile_code.proofs.build.+push_rows.Goals as goal
 
 pub returns-then-is_empty : goal.returns-then-is_empty
-returns-then-is_empty t c = record { emits = none_left _ _ _ _ c.requires.rows (grind (arith, c.if-is_empty.true, c.is_empty.ensures)) c.in_ok-push_saying.ensures.code }
+returns-then-is_empty t c = record { emits = none_left _ _ _ _ (grind (arith, c.if-is_empty.true, c.is_empty.ensures)) c.in_ok-push_saying.ensures.code }
 
 pub push_rows-requires : goal.push_rows-requires
 push_rows-requires t c =

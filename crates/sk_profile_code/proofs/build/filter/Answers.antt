@@ -1,6 +1,15 @@
-use Rattle.std.proofs.Common.{rules}
-use Rattle.sk_profile_code.proofs.Emitting.{whole}
+use Rattle.std.proofs.Common.{rules, arith, ◌≤◌, length}
+use Rattle.sk_profile_code.proofs.Emitting.{whole, known}
+use Rattle.sk_profile_code.proofs.Fitting.{valid_whole}
 use Rattle.sk_profile_code.proofs.build.filter.Goals as goal
 
 pub returns-clause-means : goal.returns-clause-means
 returns-clause-means c = whole c.push_rows.new.code.items c.args.bad c.args.before.now c.args.rows.now c.in_ok-push_rows.ensures.emits.tree (search rules) c.in_ok-push_rows.ensures.emits.cuts c.in_ok-push_rows.ensures.emits.good
+
+pub returns-clause-valid : goal.returns-clause-valid
+returns-clause-valid c =
+    let few : length c.push_rows.new.code.items ≤ 4096 = omega (arith, c.len.ensures, c.push_rows.new.code.ok.0) in
+    valid_whole c.push_rows.new.code.items c.args.bad c.in_ok-push_rows.ensures.emits.tree (search rules) c.in_ok-push_rows.ensures.emits.good few
+
+pub returns-clause-known : goal.returns-clause-known
+returns-clause-known c = known c.push_rows.new.code.items c.args.bad c.args.before.now c.args.rows.now c.in_ok-push_rows.ensures.emits.tree (search rules) c.in_ok-push_rows.ensures.emits.cuts
