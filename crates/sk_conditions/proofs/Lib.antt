@@ -11,3 +11,4 @@ pub mod Parting
 pub mod BothSides
 pub mod WorkedComparisons
 pub mod WorkedChains
+pub mod WorkedPaths

@@ -7,3 +7,4 @@ pub mod Comparing
 pub mod Pairs
 pub mod WorkedComparisons
 pub mod WorkedChains
+pub mod WorkedPaths
