@@ -12,3 +12,4 @@ pub mod BothSides
 pub mod WorkedComparisons
 pub mod WorkedChains
 pub mod WorkedPaths
+pub mod Followed

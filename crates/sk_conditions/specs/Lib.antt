@@ -8,3 +8,4 @@ pub mod Pairs
 pub mod WorkedComparisons
 pub mod WorkedChains
 pub mod WorkedPaths
+pub mod Followed
