@@ -11,3 +11,5 @@ pub mod Parting
 pub mod BothSides
 pub mod WorkedComparisons
 pub mod WorkedChains
+pub mod WorkedPaths
+pub mod Followed

@@ -24,7 +24,7 @@ use Rattle.sk_conditions.proofs.Words.{word_nr, word_there, all_bits}
 abbrev refused_if : Bool → ℕ
 refused_if b = if b then 0x00050001 else 0x7fff0000
 
-load : (rest : List Insn) (call : Record) (s : State) (k word : ℕ) → word_of call k ≡ Some word
+pub load : (rest : List Insn) (call : Record) (s : State) (k word : ℕ) → word_of call k ≡ Some word
     → meaning (does LoadRecord k ∷ rest) 0 call s ≡ after_step (meaning rest 0 call (record s { a = word }))
 unfolding operation_of
 load rest call s k word there = ap (λ w. then_follows (loaded Accumulator s w) (λ skip s. meaning rest skip call s)) there

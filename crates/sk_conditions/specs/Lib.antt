@@ -7,3 +7,5 @@ pub mod Comparing
 pub mod Pairs
 pub mod WorkedComparisons
 pub mod WorkedChains
+pub mod WorkedPaths
+pub mod Followed

@@ -1,8 +1,10 @@
 //! The verdict of a chain, as a tree.
-ghost use Rattle.std.specs.Prelude.{ℕ, ◌≤◌, IfOk, Option, Some};
+ghost use Rattle.std.specs.Prelude.{ℕ, ◌<◌, ◌≤◌, IfOk, IfSome, Option, Some};
+ghost use Rattle.std.specs.List.{All};
 ghost use Rattle.sk_insn.specs.declared.record.Record.{Record};
 ghost use Rattle.sk_chain.specs.Choosing.{chosen};
 ghost use Rattle.sk_conditions.specs.Conditions.{Agrees, TellsVerdict, told};
+ghost use Rattle.sk_conditions.specs.Followed.{AreFollowed, TellsAll};
 ghost use Rattle.sk_conditions.specs.Following.{IsFirstTold};
 
 use crate::join::joined;
@@ -22,6 +24,8 @@ pub fn chain_tree(
 ) -> Result<Tree, AllocError>
     requires range { numbers.first ≤ numbers.last }
     ensures tells { IfOk result (TellsVerdict chain.now numbers.first numbers.last) }
+    ensures all { IfOk result (λ tree. All AreFollowed chain.now → 0 < budget.new.steps → TellsAll tree) }
+    ensures left { budget.new.steps ≤ budget.old.steps }
 {
     let mut newer = None;
     for program in chain.programs() {
@@ -43,6 +47,8 @@ fn with_older(
 ) -> Result<Tree, AllocError>
     ensures tells { IfOk result (λ tree. (call : Record) (first : Option ℕ) (value : ℕ) → IsFirstTold call first newer
         → Agrees (told older call) value → IsFirstTold call (chosen first value) (Some tree)) }
+    ensures all { IfOk result (λ tree. IfSome newer TellsAll → TellsAll older → 0 < budget.new.steps → TellsAll tree) }
+    ensures left { budget.new.steps ≤ budget.old.steps }
 {
     match newer {
         Some(newer) => joined(

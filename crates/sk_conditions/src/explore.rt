@@ -1,6 +1,7 @@
 //! All paths of a program for the calls of some numbers.
 ghost use Rattle.std.specs.Prelude.{◌≡◌, ◌≤◌, ◌<◌, ◌+◌, length, IfOk};
 ghost use Rattle.sk_conditions.specs.Conditions.{TellsProgram};
+ghost use Rattle.sk_conditions.specs.Followed.{AreFollowed, TellsAll, CanFollow, IsFollowedTo};
 ghost use Rattle.sk_conditions.specs.Following.{TellsFrom, StopsAt, GoesBehind};
 
 use crate::follow::{Held, Next, distance, follow_on};
@@ -23,6 +24,8 @@ pub fn program_tree(
 ) -> Result<Tree, AllocError>
     requires range { numbers.first ≤ numbers.last }
     ensures tells { IfOk result (TellsProgram program.now numbers.first numbers.last) }
+    ensures all { IfOk result (λ tree. AreFollowed program.now → 0 < budget.new.steps → TellsAll tree) }
+    ensures left { budget.new.steps ≤ budget.old.steps }
 {
     let nothing = Held::Constant(0);
     explore(
@@ -49,6 +52,8 @@ fn explore(
     requires few { length insns.now ≤ 4096 }
     requires range { numbers.first ≤ numbers.last }
     ensures tells { IfOk result (TellsFrom insns.now numbers.first numbers.last place a path.now) }
+    ensures all { IfOk result (λ tree. CanFollow insns.now place a → 0 < budget.new.steps → TellsAll tree) }
+    ensures left { budget.new.steps ≤ budget.old.steps }
 {
     match next_stop(insns, numbers, place, a, path, budget) {
         Stop::End(value) => Ok(Tree::Is(value)),
@@ -100,6 +105,8 @@ fn next_stop(
     requires range { numbers.first ≤ numbers.last }
     ensures stops { StopsAt insns.now numbers.first numbers.last place a path.now result }
     ensures behind { GoesBehind place insns.now result }
+    ensures followed { CanFollow insns.now place a → 0 < budget.new.steps → IsFollowedTo insns.now result }
+    ensures left { budget.new.steps ≤ budget.old.steps }
 {
     let mut at = place;
     let mut held = a;

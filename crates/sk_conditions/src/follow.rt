@@ -1,11 +1,14 @@
 //! One instruction, where it is known from which bits of the call A was made.
-ghost use Rattle.std.specs.Prelude.{◌≡◌, ◌≤◌, ℕ, bit_and, if◌then◌else◌, IfSome, Some};
+ghost use Rattle.std.specs.Prelude.{◌≡◌, ◌≤◌, ◌+◌, ℕ, bit_and, if◌then◌else◌, IfSome, IsTrue, Some};
 ghost use Rattle.sk_insn.specs.declared.insn.Insn.{Insn};
 ghost use Rattle.sk_insn.specs.declared.record.Record.{Record};
 ghost use Rattle.sk_insn.specs.Operations.{operation_of};
+ghost use Rattle.sk_check.specs.Fits.{TakesConstant};
+ghost use Rattle.sk_check.specs.Paths.{LeadsTo};
 ghost use Rattle.sk_insn.specs.declared.operation.Operation.{Operation};
 ghost use Rattle.sk_interp.specs.Meaning.{State, effect, holds};
 ghost use Rattle.sk_survey.specs.Answers.{IsCallOf};
+ghost use Rattle.sk_conditions.specs.Followed.{HoldsWord, IsStep, is_followed, is_word};
 ghost use Rattle.sk_conditions.specs.Following.{Describes, Leads, MeetsPath};
 
 use crate::path::Path;
@@ -41,6 +44,9 @@ pub fn follow_on(a: Held, insn: &Insn, numbers: Numbers, path: &Path, budget: &m
     requires range { numbers.first ≤ numbers.last }
     ensures leads { (call : Record) (s : State) → IsCallOf numbers.first numbers.last call → MeetsPath path.now call
         → Describes a call s.a → Leads result a insn.now call (effect (operation_of insn.now.code) insn.now call s) }
+    ensures step { TakesConstant (operation_of insn.now.code) insn.now → IsTrue (is_followed (operation_of insn.now.code)) → HoldsWord a
+        → IsStep result (operation_of insn.now.code) insn.now }
+    ensures left { budget.new.steps ≤ budget.old.steps }
 {
     match follow(a, insn, numbers) {
         Next::Fork(test) => match path.answer(test, budget) {
@@ -56,6 +62,8 @@ fn follow(a: Held, insn: &Insn, numbers: Numbers) -> Next
     requires range { numbers.first ≤ numbers.last }
     ensures leads { (call : Record) (s : State) → IsCallOf numbers.first numbers.last call → Describes a call s.a
         → Leads result a insn.now call (effect (operation_of insn.now.code) insn.now call s) }
+    ensures step { TakesConstant (operation_of insn.now.code) insn.now → IsTrue (is_followed (operation_of insn.now.code)) → HoldsWord a
+        → IsStep result (operation_of insn.now.code) insn.now }
 {
     match decode(insn.code) {
         Some(Operation::LoadRecord) => load(insn.k, numbers),
@@ -80,6 +88,7 @@ fn follow(a: Held, insn: &Insn, numbers: Numbers) -> Next
 fn load(k: u32, numbers: Numbers) -> Next
     ensures leads { (call : Record) (s : State) (a : Held) (insn : Insn) → IsCallOf numbers.first numbers.last call → insn.k ≡ k
         → Leads result a insn call (effect (Some Operation.LoadRecord) insn call s) }
+    ensures step { (insn : Insn) → IsTrue (is_word k) → IsStep result (Some Operation.LoadRecord) insn }
 {
     if k == 4 {
         Next::Skip(0, Held::Constant(ARCHITECTURE))
@@ -94,6 +103,7 @@ fn load(k: u32, numbers: Numbers) -> Next
 
 fn masked(a: Held, mask: u32) -> Held
     ensures bits { (call : Record) (n : ℕ) → Describes a call n → Describes result call (bit_and n mask) }
+    ensures word { HoldsWord a → HoldsWord result }
 {
     match a {
         Held::Constant(k) => Held::Constant(k & mask),
@@ -111,6 +121,7 @@ fn branch(a: Held, comparison: Comparison, insn: &Insn, numbers: Numbers) -> Nex
     requires range { numbers.first ≤ numbers.last }
     ensures leads { (call : Record) (s : State) → IsCallOf numbers.first numbers.last call → Describes a call s.a
         → Leads result a insn.now call (effect (Some (Operation.Branch comparison Operand.Constant)) insn.now call s) }
+    ensures step { HoldsWord a → IsStep result (Some (Operation.Branch comparison Operand.Constant)) insn.now }
 {
     match a {
         Held::Constant(k) => Next::Skip(distance(insn, holds(comparison, k, insn.k)), a),

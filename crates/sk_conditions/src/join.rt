@@ -1,8 +1,9 @@
 //! The verdict of two filters, as a tree made of theirs.
-ghost use Rattle.std.specs.Prelude.{◌≡◌, ℕ, if◌then◌else◌, IfOk, Some};
+ghost use Rattle.std.specs.Prelude.{◌≡◌, ℕ, ◌<◌, ◌≤◌, if◌then◌else◌, IfOk, IsSome, IsTrue, Some};
 ghost use Rattle.sk_insn.specs.declared.record.Record.{Record};
 ghost use Rattle.sk_chain.specs.Choosing.{chosen};
 ghost use Rattle.sk_conditions.specs.Conditions.{Agrees, told, holds_on};
+ghost use Rattle.sk_conditions.specs.Followed.{TellsAll, is_word};
 ghost use Rattle.sk_conditions.specs.Following.{MeetsPath, TellsFirst};
 
 use crate::explore::FORK;
@@ -21,6 +22,8 @@ pub fn joined(
     budget: &mut Budget,
 ) -> Result<Tree, AllocError>
     ensures tells { IfOk result (λ tree. (call : Record) → MeetsPath path.now call → TellsFirst tree pair.entry.one.now pair.entry.other.now call) }
+    ensures all { IfOk result (λ tree. TellsAll pair.entry.one.now → TellsAll pair.entry.other.now → 0 < budget.new.steps → TellsAll tree) }
+    ensures left { budget.new.steps ≤ budget.old.steps }
 {
     if !budget.take(1) {
         return Ok(Tree::Untold);
@@ -47,6 +50,7 @@ pub fn joined(
 // The first of two ends.
 fn first(newer: Option<u32>, older: Option<u32>) -> Tree
     ensures tells { (call : Record) (u v first : ℕ) → Agrees newer u → Agrees older v → chosen (Some u) v ≡ Some first → Agrees (told result call) first }
+    ensures all { IsSome newer → IsSome older → TellsAll result }
 {
     if let (Some(newer), Some(older)) = (newer, older) {
         if let Some(value) = sooner(Some(newer), older) {
@@ -59,6 +63,7 @@ fn first(newer: Option<u32>, older: Option<u32>) -> Tree
 /// A test of two trees, or one of them where they are one value.
 pub fn asked(alloc: Global, test: Test, held: Tree, failed: Tree) -> Result<Tree, AllocError>
     ensures tells { IfOk result (λ tree. (call : Record) → told tree call ≡ if holds_on test call then told held call else told failed call) }
+    ensures all { IfOk result (λ tree. IsTrue (is_word test.place) → TellsAll held → TellsAll failed → TellsAll tree) }
 {
     if let (Tree::Is(value), Tree::Is(other)) = (&held, &failed) {
         if *value == *other {

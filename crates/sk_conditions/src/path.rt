@@ -1,5 +1,5 @@
 //! The tests on the way to a place, with their answers, and what follows from them.
-ghost use Rattle.std.specs.Prelude.{◌≡◌, true, IfSome};
+ghost use Rattle.std.specs.Prelude.{◌≡◌, ◌≤◌, true, IfSome};
 ghost use Rattle.sk_insn.specs.declared.record.Record.{Record};
 ghost use Rattle.sk_interp.specs.Meaning.{holds};
 ghost use Rattle.sk_conditions.specs.Conditions.{holds_on};
@@ -22,6 +22,7 @@ impl Path<'_> {
     /// The answer of a test, where an earlier one tells it and the budget lets look so far.
     pub fn answer(&self, test: Test, budget: &mut Budget) -> Option<bool>
         ensures told { IfSome result (λ answer. (call : Record) → MeetsPath self.now call → holds_on test call ≡ answer) }
+        ensures left { budget.new.steps ≤ budget.old.steps }
     {
         match self {
             Path::Start => None,

@@ -1,15 +1,14 @@
 //! Calls that show a difference.
-ghost use Rattle.std.specs.Prelude.{◌≡◌, true, IfSome, IsTrue, slice_index_or};
+ghost use Rattle.std.specs.Prelude.{◌≡◌, true, IfSome, IsTrue};
 ghost use Rattle.std.specs.List.{list_any};
 ghost use Rattle.sk_survey.specs.Answers.{IsCallOf};
-ghost use Rattle.sk_terms.specs.Terms.{holds_term, register_of};
-ghost use Rattle.sk_terms.specs.Lines.{holds_choice, meets_line};
+ghost use Rattle.sk_terms.specs.Lines.{meets_line};
 ghost use Rattle.sk_diff.specs.Pieces.{HasVerdicts, is_shown};
 
 use crate::piece::Part;
 use sk_conditions::{Budget, Comparing, Numbers, Verdicts};
 use sk_insn::Record;
-use sk_terms::{Choice, Line, Register, Term};
+use sk_terms::{Line, meets};
 
 /// The steps that it takes to see whether a call meets a line.
 const LOOK: u64 = 64;
@@ -56,41 +55,4 @@ fn runs_so(chains: Comparing<'_>, pair: Verdicts, call: &Record) -> bool
     ensures runs { IsTrue result → HasVerdicts chains.entry.old.now chains.entry.new.now pair call.now }
 {
     chains.old.verdict(call) == pair.old && chains.new.verdict(call) == pair.new
-}
-
-/// Whether a call meets a line.
-fn meets(line: &Line, call: &Record) -> bool
-    ensures meets { result ≡ meets_line line.now call.now }
-{
-    line.choices.iter().all(|choice| holds_one(choice, call))
-}
-
-/// Whether one of the terms holds on a call.
-fn holds_one(choice: &Choice, call: &Record) -> bool
-    ensures holds { result ≡ holds_choice choice.now call.now }
-{
-    choice.terms.iter().any(|term| holds(*term, call))
-}
-
-fn holds(term: Term, call: &Record) -> bool
-    ensures holds { result ≡ holds_term term call.now }
-{
-    term.takes(register_in(term.register, call) & term.mask)
-}
-
-/// What a register of a call holds.
-fn register_in(register: Register, call: &Record) -> u64
-    ensures held { result ≡ register_of register call.now }
-{
-    match register {
-        Register::Number => u64::from(call.nr),
-        Register::Pointer => call.ip,
-        Register::Argument(i) => argument(&call.args, usize::from(i)),
-    }
-}
-
-fn argument(arguments: &[u64], i: usize) -> u64
-    ensures argument { result ≡ slice_index_or arguments.now i 0 }
-{
-    if i < arguments.len() { arguments[i] } else { 0 }
 }

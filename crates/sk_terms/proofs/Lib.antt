@@ -6,3 +6,4 @@ pub mod Borders
 pub mod Kept
 pub mod Telling
 pub mod WorkedTerms
+pub mod WorkedLines

@@ -18,6 +18,16 @@ decided (Ask' term p held q failed) call = if holds_term term call then decided 
 abbrev pub decided_branching : Branching → Record → Option ℕ
 decided_branching it call = if holds_term it.term call then decided (box_value it.held) call else decided (box_value it.failed) call
 
+-- a tree of terms has a value at each of its ends
+abbrev pub DecidesAll : Decision → Type 0
+DecidesAll (Is value) = Unit {0}
+DecidesAll Untold = ⊥
+DecidesAll (Ask' term p held q failed) = DecidesAll held × DecidesAll failed
+
+-- so has one that begins with a term
+abbrev pub BranchesAll : Branching → Type 0
+BranchesAll it = DecidesAll (box_value it.held) × DecidesAll (box_value it.failed)
+
 -- what a tree of tests tells rightly, this one does not tell otherwise
 abbrev pub DecidesAs : Decision → Tree → Type 0
 DecidesAs decision tree = (call : Record) (value : ℕ) → Agrees (told tree call) value → Agrees (decided decision call) value

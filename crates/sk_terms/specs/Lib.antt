@@ -5,3 +5,4 @@ pub mod Merging
 pub mod Expressions
 pub mod Text
 pub mod WorkedTerms
+pub mod WorkedLines

@@ -34,7 +34,7 @@ pub fn choices_of(alloc: Global, terms: &[Term]) -> Result<Vec<Choice>, AllocErr
     Ok(choices)
 }
 
-// No choice at all.
+// Of one term, which has to hold.
 fn only(alloc: Global, term: Term) -> Result<Choice, AllocError>
     ensures holds { IfOk result (λ choice. (call : Record) → holds_choice choice call ≡ holds_term term call) }
 {

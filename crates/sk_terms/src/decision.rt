@@ -2,7 +2,8 @@
 ghost use Rattle.std.specs.Prelude.{◌≡◌, ℕ, if◌then◌else◌, IfOk, IsTrue};
 ghost use Rattle.sk_insn.specs.declared.record.Record.{Record};
 ghost use Rattle.sk_terms.specs.Terms.{holds_term};
-ghost use Rattle.sk_terms.specs.Decisions.{decided, decided_branching, DecidesAs};
+ghost use Rattle.sk_conditions.specs.Followed.{TellsAll};
+ghost use Rattle.sk_terms.specs.Decisions.{decided, decided_branching, DecidesAs, DecidesAll, BranchesAll};
 
 use crate::joining::{as_one, either};
 use crate::meaning::{Meant, mean};
@@ -33,6 +34,7 @@ impl Branching {
     /// The same as a tree.
     fn whole(self) -> Decision
         ensures same { (call : Record) → decided result call ≡ decided_branching self call }
+        ensures all { BranchesAll self → DecidesAll result }
     {
         Decision::Ask(self.term, self.held, self.failed)
     }
@@ -41,6 +43,7 @@ impl Branching {
 /// A tree of tests as one of terms.
 pub fn decide(alloc: Global, tree: &Tree) -> Result<Decision, AllocError>
     ensures decides { IfOk result (λ decision. DecidesAs decision tree.now) }
+    ensures all { IfOk result (λ decision. TellsAll tree.now → DecidesAll decision) }
 {
     match tree {
         Tree::Is(value) => Ok(Decision::Is(*value)),
@@ -67,6 +70,7 @@ fn asked(
     failed: Decision,
 ) -> Result<Decision, AllocError>
     ensures decided { IfOk result (λ it. (call : Record) → decided it call ≡ if holds_term term call then decided held call else decided failed call) }
+    ensures all { IfOk result (λ it. DecidesAll held → DecidesAll failed → DecidesAll it) }
 {
     if same(&held, &failed) {
         return Ok(held);
@@ -92,6 +96,7 @@ fn asked_then(
     failed: Branching,
 ) -> Result<Decision, AllocError>
     ensures decided { IfOk result (λ it. (call : Record) → decided it call ≡ if holds_term term call then decided held call else decided_branching failed call) }
+    ensures all { IfOk result (λ it. DecidesAll held → BranchesAll failed → DecidesAll it) }
 {
     if same(&held, &failed.held) {
         if let Some(joined) = either(term, failed.term) {
@@ -114,6 +119,7 @@ fn asked_first(
     failed: Decision,
 ) -> Result<Decision, AllocError>
     ensures decided { IfOk result (λ it. (call : Record) → decided it call ≡ if holds_term term call then decided held call else decided failed call) }
+    ensures all { IfOk result (λ it. DecidesAll held → DecidesAll failed → DecidesAll it) }
 {
     match held {
         Decision::Ask(next, up, down) => {
@@ -136,6 +142,7 @@ fn asked_both(
     failed: Decision,
 ) -> Result<Decision, AllocError>
     ensures decided { IfOk result (λ it. (call : Record) → decided it call ≡ if holds_term term call then decided_branching held call else decided failed call) }
+    ensures all { IfOk result (λ it. BranchesAll held → DecidesAll failed → DecidesAll it) }
 {
     if same(&failed, &held.failed) {
         if let Some(joined) = as_one(term, held.term) {
@@ -153,6 +160,7 @@ fn asked_both(
 // A term of two trees.
 fn fork(alloc: Global, term: Term, held: Decision, failed: Decision) -> Result<Decision, AllocError>
     ensures decided { IfOk result (λ it. (call : Record) → decided it call ≡ if holds_term term call then decided held call else decided failed call) }
+    ensures all { IfOk result (λ it. DecidesAll held → DecidesAll failed → DecidesAll it) }
 {
     Ok(Decision::Ask(term, Box::new(alloc, held)?, Box::new(alloc, failed)?))
 }

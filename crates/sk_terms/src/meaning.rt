@@ -1,9 +1,10 @@
 //! What a test of a filter means: a term on a register.
-ghost use Rattle.std.specs.Prelude.{◌≡◌, ℕ, ◌==◌, ◌*◌, ◌%◌, ◌/◌, ◌^◌, nat_le, nat_lt, bit_and, IfSome, Some};
+ghost use Rattle.std.specs.Prelude.{◌≡◌, ℕ, ◌==◌, ◌*◌, ◌%◌, ◌/◌, ◌^◌, nat_le, nat_lt, bit_and, IfSome, IsSome, IsTrue, Some};
 ghost use Rattle.sk_insn.specs.declared.record.Record.{Record};
 ghost use Rattle.sk_insn.specs.Record.{word_of};
 ghost use Rattle.sk_interp.specs.Meaning.{holds};
 ghost use Rattle.sk_conditions.specs.Conditions.{holds_on};
+ghost use Rattle.sk_conditions.specs.Followed.{is_word};
 ghost use Rattle.sk_terms.specs.Terms.{says, half_of, register_of, register_at, holds_term, holds_meant};
 
 use crate::term::{Register, Term};
@@ -44,6 +45,7 @@ pub enum Meant {
 /// What a test means, where it looks at half of a register.
 pub fn mean(test: Test) -> Option<Meant>
     ensures meant { IfSome result (λ meant. (call : Record) → holds_on test call ≡ holds_meant meant call) }
+    ensures word { IsTrue (is_word test.place) → IsSome result }
 {
     if test.place == 4 {
         return Some(Meant::Always(on_architecture(test)));
@@ -84,6 +86,7 @@ fn asks(mask: u32, comparison: Comparison, k: u32) -> Asked
 /// The half of a register that is the word at a place.
 fn half_at(place: u8) -> Option<Half>
     ensures half { IfSome result (λ half. (call : Record) → word_of call place ≡ Some (half_of half call)) }
+    ensures word { IsTrue (is_word place) → (place ≡ 4 → ⊥) → IsSome result }
 {
     if place % 4 != 0 || place >= 64 || place == 4 {
         return None;

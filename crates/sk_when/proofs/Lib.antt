@@ -1,2 +1,3 @@
 pub mod Elses
 pub mod Rows
+pub mod WorkedRows

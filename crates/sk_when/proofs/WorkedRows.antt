@@ -1,0 +1,171 @@
+-- The worked rows: what is told of each call, and the text.
+use Rattle.std.proofs.Common.{◌≡◌, ℕ, ◌%◌, ◌==◌, ◌&&◌, ◌||◌, ◌^◌, Bool, true, false, if◌then◌else◌, nat_le, bit_and, List, [], ◌∷◌, ◌++◌, map, codes, Option, Some, sym, ap, subst, ◌∙◌, refl, arith, eqb-true}
+use Rattle.std.specs.Fmt.{digits}
+use Rattle.std.specs.Option.{option_map_or}
+use Rattle.std.proofs.lemmas.Bool.{leb-true, leb-false, eqb-false}
+use Rattle.std.proofs.lemmas.Nat.{and_mask}
+use Rattle.sk_insn.specs.declared.record.Record.{Record}
+use Rattle.sk_insn.specs.Actions.{action_of}
+use Rattle.sk_insn.specs.Operations.{operation_of}
+use Rattle.sk_interp.specs.WorkedMeanings.{call_of}
+use Rattle.sk_call_names.specs.Names.{name_of}
+use Rattle.sk_chain.specs.Verdict.{verdict_of}
+use Rattle.sk_verdict.specs.Errors.{error_named}
+use Rattle.sk_verdict.specs.Verdicts.{verdict_text}
+use Rattle.sk_conditions.specs.Conditions.{holds_on}
+use Rattle.sk_conditions.specs.WorkedPaths as paths
+use Rattle.sk_conditions.specs.WorkedPaths.{compares_again}
+use Rattle.sk_conditions.proofs.WorkedPaths.{every_call, paths_work}
+use Rattle.sk_survey.specs.Answers.{IsCallOf, answers_of}
+use Rattle.sk_survey_lines.specs.Text.{numbers_text, name_text}
+use Rattle.sk_terms.specs.declared.choices.Choice.{Choice}
+use Rattle.sk_terms.specs.declared.lines.Line.{Line}
+use Rattle.sk_terms.specs.declared.term.Register.TheVariants.{Argument}
+use Rattle.sk_terms.specs.declared.term.Term.{Term}
+use Rattle.sk_terms.specs.Lines.{told_by}
+use Rattle.sk_terms.specs.Terms.{holds_term, register_of}
+use Rattle.sk_terms.specs.Text.{choices_text, condition_text, terms_text}
+use Rattle.sk_terms.specs.WorkedLines.{terms_of}
+use Rattle.sk_terms.proofs.Halves.{argument_low}
+use Rattle.sk_terms.proofs.WorkedLines.{line_met, met_terms, told_first}
+use Rattle.sk_when.specs.declared.row.Told.{Told}
+use Rattle.sk_when.specs.Lines.{IsTold, IsVerdict, or_else, told_of}
+use Rattle.sk_when.specs.Text.{ends_text, line_text, row_text, value_text}
+use Rattle.sk_when.specs.WorkedRows.{Read, read, IsRow, is_seven, where_seven, RowsWork}
+
+-- the range from 7 to 7 is 7
+of_seven : (n : ℕ) → (nat_le 7 n && nat_le n 7) ≡ (n == 7)
+of_seven n = by_tests (n == 7) (nat_le 7 n) (nat_le n 7) refl refl refl where
+  by_tests : (b x y : Bool) → (n == 7) ≡ b → nat_le 7 n ≡ x → nat_le n 7 ≡ y → (x && y) ≡ b
+  by_tests true true true e g h = refl
+  by_tests true true false e g h = let same = eqb-true n 7 e in let more = leb-false n 7 h in absurd (omega (arith, same, more))
+  by_tests true false y e g h = let same = eqb-true n 7 e in let less = leb-false 7 n g in absurd (omega (arith, same, less))
+  by_tests false true true e g h =
+      let least = leb-true 7 n g in
+      let most = leb-true n 7 h in
+      absurd (eqb-false n 7 e (omega (arith, least, most)))
+  by_tests false true false e g h = refl
+  by_tests false false y e g h = refl
+
+same_bits : (a : ℕ) → bit_and a 0xffffffff ≡ bit_and (a % 2 ^ 32) 0xffffffff
+same_bits a = let one = and_mask a 32 in let other = and_mask (a % 2 ^ 32) 32 in omega (arith, one, other)
+
+-- the term says what the test says
+same_said : (call : Record) → holds_on paths.is_seven call ≡ holds_term is_seven call
+same_said call =
+    let a : ℕ = register_of (Argument 0) call in
+    ap (λ w. option_map_or (λ n. bit_and n 0xffffffff == 7) w false) (argument_low call 0 16 refl (omega arith))
+    ∙ ap (λ n. n == 7) (sym (same_bits a))
+    ∙ sym (of_seven (bit_and a 0xffffffff))
+
+abbrev allowed_if : Bool → ℕ
+allowed_if b = if b then 0x7fff0000 else 0x00050001
+
+verdict : (call : Record) → verdict_of (compares_again ∷ []) call ≡ allowed_if (holds_term is_seven call)
+verdict call = every_call call ∙ ap allowed_if (same_said call)
+
+-- the values of the lines, as they are read
+abbrev read_by : List Read → Record → List (Option ℕ)
+read_by [] call = []
+read_by (it ∷ others) call = (if met_terms it.terms call then it.value ∷ [] else []) ++ read_by others call
+
+told_read : (lines : List Line) (call : Record) → told_by lines call ≡ read_by (map read lines) call
+told_read [] call = refl
+told_read (line ∷ lines) call =
+    told_first line lines call (met_terms (terms_of line) call) (line_met line call (terms_of line) refl)
+    ∙ ap (λ r. (if met_terms (terms_of line) call then line.value ∷ [] else []) ++ r) (told_read lines call)
+
+told_row : (told : Told) (lines : List Read) → IsRow lines told → (call : Record) → told_of told call ≡ or_else (read_by lines call) (Some 0x00050001)
+told_row told lines is call =
+    ap (λ values. or_else values told.otherwise) (told_read told.lines.items call ∙ ap (λ r. read_by r call) is.lines)
+    ∙ ap (λ o. or_else (read_by lines call) o) is.otherwise
+
+one_or_else : (b : Bool) (value other : Option ℕ) → or_else ((if (b || false) && true then value ∷ [] else []) ++ []) other ≡ (if b then value else other) ∷ []
+one_or_else true value other = refl
+one_or_else false value other = refl
+
+is_verdict : (answers : Option (List ℕ)) (b : Bool) (v : ℕ) → v ≡ allowed_if b → IsVerdict answers v (if b then Some 0x7fff0000 else Some 0x00050001)
+is_verdict answers true v e = sym e
+is_verdict answers false v e = sym e
+
+one_line : (told : Told) → IsRow (where_seven 0x7fff0000 ∷ []) told → IsTold (compares_again ∷ []) told
+one_line told is call within =
+    let b = holds_term is_seven call in (
+      (if b then Some 0x7fff0000 else Some 0x00050001),
+      told_row told (where_seven 0x7fff0000 ∷ []) is call ∙ one_or_else b (Some 0x7fff0000) (Some 0x00050001),
+      is_verdict (answers_of told.row.answers) b (verdict_of (compares_again ∷ []) call) (verdict call),
+    )
+
+-- what is told alone is the verdict
+told_verdict : (told : Told) → IsTold (compares_again ∷ []) told → (call : Record) → IsCallOf told.row.first told.row.last call
+    → (v : ℕ) → told_of told call ≡ Some v ∷ [] → v ≡ verdict_of (compares_again ∷ []) call
+told_verdict told is call within v e =
+    let it = is call within in
+    let same : it.0 ≡ Some v = cc (it.1, e) in
+    subst (IsVerdict (answers_of told.row.answers) (verdict_of (compares_again ∷ []) call)) same it.2
+
+abbrev with_seven : Record
+with_seven = call_of 39 0 7
+
+of_the_row : (told : Told) (lines : List Read) → IsRow lines told → IsCallOf told.row.first told.row.last with_seven
+of_the_row told lines is = let first = is.first in let last = is.last in (omega (arith, first), omega (arith, last))
+
+wrong_value : (told : Told) (lines : List Read) (v : ℕ) → IsRow lines told → or_else (read_by lines with_seven) (Some 0x00050001) ≡ Some v ∷ []
+    → IsTold (compares_again ∷ []) told → v ≡ 0x7fff0000
+wrong_value told lines v is e wrong =
+    told_verdict told wrong with_seven (of_the_row told lines is) v (told_row told lines is with_seven ∙ e) ∙ verdict with_seven
+
+twice : (told : Told) → IsRow (where_seven 0x7fff0000 ∷ where_seven 0x7fff0000 ∷ []) told → IsTold (compares_again ∷ []) told → ⊥
+twice told is wrong =
+    let it = wrong with_seven (of_the_row told _ is) in
+    let both : told_of told with_seven ≡ Some 0x7fff0000 ∷ Some 0x7fff0000 ∷ [] = told_row told _ is with_seven in
+    let alone = it.1 in
+    cc (both, alone)
+
+-- ---- the text
+
+one_choice : (choices : List Choice) (terms : List Term) → map (λ choice. choice.terms.items) choices ≡ terms ∷ [] → choices_text choices ≡ terms_text terms
+one_choice [] terms e = cc
+one_choice (choice ∷ []) terms e = let same : choice.terms.items ≡ terms = cc in ap terms_text same
+one_choice (choice ∷ other ∷ choices) terms e = cc
+
+line_read : (line : Line) → read line ≡ where_seven 0x7fff0000 → (answers : Option (List ℕ))
+    → line_text answers line ≡ codes "  allow where (args[0] & 0xffffffff) == 0x7\n"
+unfolding digits action_of operation_of verdict_text error_named line_text
+line_read line e answers =
+    let value : line.value ≡ Some 0x7fff0000 = ap (λ r. r.value) e in
+    let condition : condition_text line ≡ terms_text (is_seven ∷ []) = one_choice line.choices.items (is_seven ∷ []) (ap (λ r. r.terms) e) in
+    ap (λ v. codes "  " ++ (value_text answers v ++ (codes " where " ++ (condition_text line ++ codes "\n")))) value
+    ∙ ap (λ t. codes "  " ++ (codes "allow" ++ (codes " where " ++ (t ++ codes "\n")))) condition
+
+lines_read : (lines : List Line) → map read lines ≡ where_seven 0x7fff0000 ∷ [] → (answers : Option (List ℕ))
+    → ends_text answers (Some 0x00050001) lines ≡ codes "\n  allow where (args[0] & 0xffffffff) == 0x7\n  errno/1 EPERM else\n"
+unfolding digits action_of operation_of verdict_text error_named
+lines_read [] e answers = cc
+lines_read (line ∷ []) e answers =
+    let same : read line ≡ where_seven 0x7fff0000 = cc in
+    ap (λ t. codes "\n" ++ ((t ++ []) ++ codes "  errno/1 EPERM else\n")) (line_read line same answers)
+lines_read (line ∷ other ∷ lines) e answers = cc
+
+abbrev head_of : ℕ → ℕ → Told → List ℕ
+head_of first last told =
+    numbers_text first last ++ (codes " " ++ (name_text first last ++ ends_text (answers_of told.row.answers) told.otherwise told.lines.items))
+
+text : (told : Told) → IsRow (where_seven 0x7fff0000 ∷ []) told
+    → row_text told ≡ codes "39 getpid\n  allow where (args[0] & 0xffffffff) == 0x7\n  errno/1 EPERM else\n"
+unfolding digits row_text name_of
+text told is =
+    ap (λ first. head_of first told.row.last told) is.first
+    ∙ ap (λ last. head_of 39 last told) is.last
+    ∙ ap (λ o. codes "39 getpid" ++ ends_text (answers_of told.row.answers) o told.lines.items) is.otherwise
+    ∙ ap (λ t. codes "39 getpid" ++ t) (lines_read told.lines.items is.lines (answers_of told.row.answers))
+
+pub rows_work : RowsWork
+rows_work = record {
+  one_line = one_line;
+  text = text;
+  twice = twice;
+  no_line = λ told is wrong. let e = wrong_value told [] 0x00050001 is refl wrong in omega (arith, e);
+  killed = λ told is wrong. let e = wrong_value told (where_seven 0x00000000 ∷ []) 0x00000000 is refl wrong in omega (arith, e);
+  none_killed = λ told is call within e. paths_work.killed call (sym (told_verdict told is call within 0x00000000 e));
+}
