@@ -2,3 +2,6 @@ pub mod Reading
 pub mod Following
 pub mod Gathering
 pub mod Examples
+pub mod Bounded
+pub mod Asked
+pub mod Good

@@ -9,4 +9,5 @@ pub mod Contexts
 pub mod ContextViews
 pub mod Wholes
 pub mod WholeViews
+pub mod Parts
 pub mod WorkedProfiles

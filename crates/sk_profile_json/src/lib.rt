@@ -9,9 +9,11 @@ mod entry;
 mod fault;
 mod fields;
 pub mod laws;
+mod parts;
 mod rules;
 mod whole;
 
 pub use context::{Context, Kernel, kernel_of};
 pub use fault::{Fault, Field, Place, ReadFault, Wrong};
-pub use whole::{profile_in, read};
+pub use parts::{counted_names, entries_of, names_others};
+pub use whole::{profile_in, read, value_of};
