@@ -1,7 +1,7 @@
 pub mod Ranges
 pub mod Forms
 pub mod Filters
-pub mod Origins
+pub mod Clashes
 pub mod Texts
 pub mod Notes
 pub mod Made

@@ -13,7 +13,7 @@ use Rattle.sk_profile_file.specs.declared.answer.Refusal.{Refusal}
 use Rattle.sk_profile_file.specs.declared.answer.Refusal.TheVariants.{NotText, NotJson, KeyTwice, Wrong, Clashes, TooLong}
 use Rattle.sk_profile_file.specs.Filters.{IsFilterOf}
 use Rattle.sk_profile_file.specs.Notes.{notes_of}
-use Rattle.sk_profile_file.specs.Origins.{IsClash}
+use Rattle.sk_profile_file.specs.Clashes.{IsClash}
 
 -- why a profile that a value says has no filter
 abbrev pub IsUnbuilt : Context → Json → Profile → Refusal → Type 0

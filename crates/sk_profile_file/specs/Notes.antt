@@ -29,8 +29,11 @@ unknown_note entry name = if is_unknown name then Some (unknown_text entry name)
 abbrev pub name_note : ℕ → Json → Option (List ℕ)
 name_note entry name = option_and_then (unknown_note entry) (as_str name)
 
+abbrev pub names_notes : ℕ → List Json → List (List ℕ)
+names_notes entry names = filter_map (name_note entry) names
+
 abbrev pub entry_notes : Context → ℕ → Json → List (List ℕ)
-entry_notes context entry j = filter_map (name_note entry) (counted_names context j)
+entry_notes context entry j = names_notes entry (counted_names context j)
 
 -- of the entries that count, the first of which has this number
 abbrev pub notes_from : Context → ℕ → List Json → List (List ℕ)

@@ -1,8 +1,8 @@
 -- What is said of a profile that is refused, behind its file's name: where, what is wrong, and what was expected. Entries and
 -- the rest are counted from 1 on.
-use Rattle.std.specs.Prelude.{ℕ, ◌+◌, ◌++◌, List, [], codes}
+use Rattle.std.specs.Prelude.{ℕ, ◌+◌, ◌++◌, List, [], codes, Option, Some, None}
 use Rattle.std.specs.Fmt.{decimal}
-use Rattle.sk_profile.specs.declared.fault.Clash.{Clash}
+use Rattle.sk_call_names.specs.Names.{name_of}
 use Rattle.sk_profile_json.specs.declared.fault.Fault.{Fault}
 use Rattle.sk_profile_json.specs.declared.fault.Field.{Field}
 use Rattle.sk_profile_json.specs.declared.fault.Field.TheVariants as field
@@ -11,6 +11,7 @@ use Rattle.sk_profile_json.specs.declared.fault.Place.TheVariants as place
 use Rattle.sk_profile_json.specs.declared.fault.Wrong.{Wrong}
 use Rattle.sk_profile_json.specs.declared.fault.Wrong.TheVariants as wrong
 use Rattle.sk_profile_json.specs.Keys.{key_of}
+use Rattle.sk_profile_file.specs.declared.answer.Clash.{Clash}
 use Rattle.sk_profile_file.specs.declared.answer.Refusal.{Refusal}
 use Rattle.sk_profile_file.specs.declared.answer.Refusal.TheVariants.{NotText, NotJson, KeyTwice, Wrong as IsWrong, Clashes, TooLong}
 
@@ -88,10 +89,18 @@ wrong_text spot (wrong.Contradicts field) = key_of field ++ codes ": " ++ contra
 abbrev pub fault_text : Fault → List ℕ
 fault_text fault = place_text fault.place ++ wrong_text fault.place fault.wrong
 
+-- a call by its name; one that has none by its number
+abbrev pub call_text : ℕ → Option (List ℕ) → List ℕ
+call_text nr None = decimal nr
+call_text nr (Some name) = name
+
+abbrev pub both_text : ℕ → ℕ → List ℕ
+both_text first second = codes "entries " ++ decimal (first + 1) ++ codes " and " ++ decimal (second + 1) ++ codes " of syscalls"
+
 abbrev pub clash_text : Clash → List ℕ
 clash_text it =
-    codes "rules " ++ decimal (it.first + 1) ++ codes " and " ++ decimal (it.second + 1) ++ codes " for call "
-    ++ decimal it.number ++ codes " clash: some call fits both, and they say different things"
+    both_text it.first it.second ++ codes " clash on " ++ call_text it.number (name_of it.number)
+    ++ codes ": some call fits both, and they say different things"
 
 abbrev pub refusal_text : Refusal → List ℕ
 refusal_text NotText = codes "is no text in UTF-8: expected the JSON of a profile"

@@ -5,9 +5,10 @@ mod answer;
 mod form;
 mod image;
 mod making;
+mod note;
 mod text;
 
-pub use answer::{Made, Refusal};
+pub use answer::{Clash, Made, Refusal};
 pub use form::is_profile;
 pub use making::made;
 pub use text::refusal_text;

@@ -1,10 +1,11 @@
 //! What is said of a profile that is refused.
 ghost use Rattle.std.specs.Prelude.{◌≡◌, ◌+◌, ◌++◌, IfOk, OnOk, codes, string_bytes};
 ghost use Rattle.std.specs.Fmt.{decimal};
-ghost use Rattle.sk_profile_file.specs.Texts.{refusal_text, clash_text, fault_text, place_text, wrong_text, entry_text, keys_text, expected_text, contradiction_text};
+ghost use Rattle.sk_call_names.specs.Names.{name_of};
+ghost use Rattle.sk_profile_file.specs.Texts.{refusal_text, clash_text, both_text, call_text, fault_text, place_text, wrong_text, entry_text, keys_text, expected_text, contradiction_text};
 
-use crate::answer::Refusal;
-use sk_profile::Clash;
+use crate::answer::{Clash, Refusal};
+use sk_call_names::name;
 use sk_profile_json::{Fault, Field, Place, Wrong};
 use std::alloc::{AllocError, Global};
 use std::fmt::Write;
@@ -34,17 +35,29 @@ pub fn refusal_text(alloc: Global, refusal: Refusal) -> Result<String, AllocErro
 fn push_clash(text: &mut String, it: Clash) -> Result<(), AllocError>
     ensures text { OnOk result (string_bytes text.new ≡ string_bytes text.old ++ clash_text it) }
 {
-    let Clash {
-        number,
-        first,
-        second,
-    } = it;
-    text.push_str("rules ")?;
+    push_both(text, it.first, it.second)?;
+    text.push_str(" clash on ")?;
+    push_call(text, it.number)?;
+    text.push_str(": some call fits both, and they say different things")
+}
+
+fn push_both(text: &mut String, first: usize, second: usize) -> Result<(), AllocError>
+    ensures text { OnOk result (string_bytes text.new ≡ string_bytes text.old ++ both_text first second) }
+{
+    text.push_str("entries ")?;
     push_count(text, first)?;
     text.push_str(" and ")?;
     push_count(text, second)?;
-    write!(text, " for call {number}")?;
-    text.push_str(" clash: some call fits both, and they say different things")
+    text.push_str(" of syscalls")
+}
+
+fn push_call(text: &mut String, number: u32) -> Result<(), AllocError>
+    ensures text { OnOk result (string_bytes text.new ≡ string_bytes text.old ++ call_text number (name_of number)) }
+{
+    match name(number) {
+        Some(name) => text.push_str(name),
+        None => write!(text, "{number}"),
+    }
 }
 
 // The number, from 1 on, of what has this number from 0 on.
@@ -77,7 +90,8 @@ fn push_place(text: &mut String, place: Place) -> Result<(), AllocError>
     }
 }
 
-fn push_entry(text: &mut String, entry: usize) -> Result<(), AllocError>
+/// `entry N of syscalls: `
+pub(crate) fn push_entry(text: &mut String, entry: usize) -> Result<(), AllocError>
     ensures text { OnOk result (string_bytes text.new ≡ string_bytes text.old ++ entry_text entry) }
 {
     text.push_str("entry ")?;

@@ -5,3 +5,4 @@ pub mod Examples
 pub mod Bounded
 pub mod Asked
 pub mod Good
+pub mod Originating

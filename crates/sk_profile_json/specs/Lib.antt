@@ -10,4 +10,5 @@ pub mod ContextViews
 pub mod Wholes
 pub mod WholeViews
 pub mod Parts
+pub mod Origins
 pub mod WorkedProfiles
