@@ -1,5 +1,5 @@
-# Completion for `ask` in bash: its words, their options, files, and the names of calls. To use it: `source docs/ask.bash`.
-# tools/call_names writes the names.
+# Completion for `ask` in bash: its words, their options, files, and the names of calls and of capabilities. To use it:
+# `source docs/ask.bash`. tools/call_names writes the names of calls.
 _ask_calls='
 read
 write
@@ -378,6 +378,53 @@ lsm_list_modules
 mseal
 '
 
+# Those of linux/capability.h, and the two words that stand for several.
+_ask_capabilities='
+docker
+all
+CAP_CHOWN
+CAP_DAC_OVERRIDE
+CAP_DAC_READ_SEARCH
+CAP_FOWNER
+CAP_FSETID
+CAP_KILL
+CAP_SETGID
+CAP_SETUID
+CAP_SETPCAP
+CAP_LINUX_IMMUTABLE
+CAP_NET_BIND_SERVICE
+CAP_NET_BROADCAST
+CAP_NET_ADMIN
+CAP_NET_RAW
+CAP_IPC_LOCK
+CAP_IPC_OWNER
+CAP_SYS_MODULE
+CAP_SYS_RAWIO
+CAP_SYS_CHROOT
+CAP_SYS_PTRACE
+CAP_SYS_PACCT
+CAP_SYS_ADMIN
+CAP_SYS_BOOT
+CAP_SYS_NICE
+CAP_SYS_RESOURCE
+CAP_SYS_TIME
+CAP_SYS_TTY_CONFIG
+CAP_MKNOD
+CAP_LEASE
+CAP_AUDIT_WRITE
+CAP_AUDIT_CONTROL
+CAP_SETFCAP
+CAP_MAC_OVERRIDE
+CAP_MAC_ADMIN
+CAP_SYSLOG
+CAP_WAKE_ALARM
+CAP_BLOCK_SUSPEND
+CAP_AUDIT_READ
+CAP_PERFMON
+CAP_BPF
+CAP_CHECKPOINT_RESTORE
+'
+
 _ask() {
     local word=${COMP_WORDS[COMP_CWORD]} before=${COMP_WORDS[COMP_CWORD - 1]} asked=${COMP_WORDS[1]}
     COMPREPLY=()
@@ -385,13 +432,17 @@ _ask() {
         mapfile -t COMPREPLY < <(compgen -W 'calls when diff replay why show filter --help' -- "$word")
     elif [ "$before" = --call ] || { [ "$asked" = why ] && [ "$COMP_CWORD" -eq 2 ] && [[ $word != -* ]]; }; then
         mapfile -t COMPREPLY < <(compgen -W "$_ask_calls" -- "$word")
+    elif [ "$before" = --cap ]; then
+        mapfile -t COMPREPLY < <(compgen -W "$_ask_capabilities" -- "$word")
+    elif [ "$before" = --kernel ]; then
+        mapfile -t COMPREPLY < <(compgen -W '5.4 5.10 5.15 6.1 6.6 6.12' -- "$word")
     elif [[ $word == -* ]]; then
         case $asked in
-        calls) mapfile -t COMPREPLY < <(compgen -W '--call --examples --help' -- "$word") ;;
-        when) mapfile -t COMPREPLY < <(compgen -W '--call --dot --help' -- "$word") ;;
-        diff) mapfile -t COMPREPLY < <(compgen -W '--stricter --help' -- "$word") ;;
-        filter) mapfile -t COMPREPLY < <(compgen -W '--raw --help' -- "$word") ;;
-        *) mapfile -t COMPREPLY < <(compgen -W '--help' -- "$word") ;;
+        calls) mapfile -t COMPREPLY < <(compgen -W '--call --examples --cap --kernel --help' -- "$word") ;;
+        when) mapfile -t COMPREPLY < <(compgen -W '--call --dot --cap --kernel --help' -- "$word") ;;
+        diff) mapfile -t COMPREPLY < <(compgen -W '--stricter --cap --kernel --help' -- "$word") ;;
+        filter) mapfile -t COMPREPLY < <(compgen -W '--raw --cap --kernel --help' -- "$word") ;;
+        *) mapfile -t COMPREPLY < <(compgen -W '--cap --kernel --help' -- "$word") ;;
         esac
     else
         compopt -o filenames 2>/dev/null

@@ -7,6 +7,7 @@ and the whole of standard output that it has to end with. `ask` in a command is 
 Prints each row that comes out otherwise, and at last 'N passed, M failed'. A row that needs a privilege to be given up where
 that can't be done is told, and not counted."""
 import errno
+import json
 import os
 import shutil
 import struct
@@ -30,6 +31,23 @@ ALLOW = RETURN_ALLOW
 GETPID = LOAD_NUMBER + insn(0x15, 0, 1, 39) + insn(0x06, k=0x00050001) + ALLOW
 # 4000 instructions: nine times they are past the limit of a chain.
 LONG = LOAD_NUMBER * 3999 + ALLOW
+
+
+def entry(name, action="SCMP_ACT_ALLOW", **more):
+    return {"names": [name], "action": action, **more}
+
+
+def argument(index, value, op="SCMP_CMP_EQ", **more):
+    return {"index": index, "value": value, "op": op, **more}
+
+
+def profile(*entries, default="SCMP_ACT_ALLOW", **more):
+    return json.dumps({"defaultAction": default, **more, "syscalls": entries}).encode()
+
+
+# getpid has errno 1, as by GETPID; read is allowed where CAP_SYS_ADMIN is held, and ptrace from Linux 4.8 on.
+PROFILE = profile(entry("getpid", "SCMP_ACT_ERRNO"), entry("read", "SCMP_ACT_LOG", excludes={"caps": ["CAP_SYS_ADMIN"]}),
+                  entry("ptrace", "SCMP_ACT_KILL", excludes={"minKernel": "4.8"}))
 
 
 def line(image):
@@ -87,6 +105,26 @@ FILES = {
     "log_crlf": b"7 getpid() = 0x7\r\n",
     "log_ends": b"7 +++ exited with 0 +++\n",
     "log_decoded": b'7 read(3, "ab", 64) = 2\n7 close(3) = 0\n',
+    "profile": PROFILE,
+    "profile_blank": b" \t\r\n" + PROFILE.replace(b",", b",\r\n"),
+    "profile_marked": b"\xef\xbb\xbf" + PROFILE,
+    "profile_nul": PROFILE + b"\0",
+    "profile_object": b"{}",
+    "profile_open": PROFILE[:-1],
+    "profile_two": PROFILE + PROFILE,
+    "profile_latin": PROFILE.replace(b"getpid", b"getp\xefd"),
+    "profile_keys": PROFILE[:-1] + b', "defaultAction": "SCMP_ACT_ALLOW"}',
+    "profile_list": b"[" + PROFILE + b"]",
+    "profile_unknown": PROFILE[:-1] + b', "syscals": []}',
+    "profile_action": profile(entry("read"), entry("write", "SCMP_ACT_DENY")),
+    "profile_errno": profile(entry("read", "SCMP_ACT_ERRNO", errnoRet=4095)),
+    "profile_index": profile(entry("read"), entry("read", "SCMP_ACT_LOG", args=[argument(0, 1), argument(6, 1)])),
+    "profile_mask": profile(entry("read", "SCMP_ACT_LOG", args=[argument(0, 1, "SCMP_CMP_MASKED_EQ", valueTwo=3)])),
+    "profile_write": profile(entry("write", "SCMP_ACT_NOTIFY")),
+    "profile_clash": profile(entry("read", "SCMP_ACT_LOG"), entry("write", "SCMP_ACT_LOG", args=[argument(0, 1)]),
+                             entry("write", "SCMP_ACT_KILL", args=[argument(1, 2)])),
+    "profile_long": profile(*[entry("read", "SCMP_ACT_LOG", args=[argument(0, it)]) for it in range(1000)]),
+    "profile_noted": profile(entry("getpid", "SCMP_ACT_ERRNO"), entry("opennat", "SCMP_ACT_LOG")),
 }
 
 
@@ -157,6 +195,31 @@ def wrong(number):
     return f"why: argument {number} of CALL(ARG, ..) is no number of 64 bits"
 
 
+NOTE = "ask: profile_noted: entry 2 of syscalls: no call is named opennat: passed over\n"
+PROFILES = [
+    *[good(f"ask calls --call getpid {name}", GOT) for name in ("profile", "profile_blank", "- < profile", "/dev/stdin < profile", "<(cat profile)")],
+    good("cat profile | ask calls --call getpid -", GOT), good("cat profile | ask calls --call getpid /dev/stdin", GOT),
+    good("mkfifo fifo; cat profile > fifo & timeout 20 ask calls --call getpid fifo", GOT),
+    good("ask calls --call read profile", "0 read log\n"), good("ask calls --call ptrace profile", "101 ptrace allow\n"),
+    *[good(f"ask calls --call read --cap {caps} profile", "0 read allow\n") for caps in (
+        "all", "CAP_SYS_ADMIN", "SYS_ADMIN", "sys_admin", "cap_sys_admin", "kill --cap sys_admin", "docker --cap sys_admin", "sys_admin --cap sys_admin")],
+    *[good(f"ask calls --call read --cap {caps} profile", "0 read log\n") for caps in ("docker", "CAP_SYS_NICE", "net_raw --cap kill")],
+    *[good(f"ask calls --call ptrace --kernel {kernel} profile", f"101 ptrace {verdict}\n") for kernel, verdict in (
+        ("4.8", "allow"), ("4.7", "kill_thread"), ("5.0", "allow"), ("6.12", "allow"), ("3.19", "kill_thread"))],
+    *[good(f"ask diff {pair}", "the same on every call\n") for pair in ("profile profile", "profile_blank profile", "profile - < profile")],
+    good("ask diff --cap all <(ask filter --cap all profile) profile", "the same on every call\n"),
+    good("ask filter --raw profile | ask diff profile -", "the same on every call\n"), good("ask show profile | head -n 1", "; 0 arch\n"),
+    Row("ask diff profile raw | head -n 1", 1, "", "0 read: log -> allow\n"), good("ask filter profile raw profile | grep -c '^filter '", "3\n"),
+    good("ask calls --call getpid profile all", GOT), good("ask calls --call getpid all profile", GOT),
+    good("ask why getpid profile | tail -n 1 | cut -d' ' -f 1,2", "errno/1 EPERM\n"), good("ask when --call getpid profile", GOT),
+    Row("ask replay log profile | head -n 1", 1, "", "1 getpid() errno/1 EPERM\n"), good("ask when --dot --call getpid profile", GETPID_DRAWN),
+    good("ask calls --cap all --kernel 6.1 --call getpid raw", GOT), good("ask why --cap docker --kernel 6.1 getpid raw", GETPID_PATH),
+    *[Row(f"ask {asking} profile_noted", 0, NOTE, answer) for asking, answer in (("calls --call getpid", GOT), ("when --call getpid", GOT))],
+    Row("ask calls --call getpid profile_noted profile_noted", 0, NOTE * 2, GOT), Row("ask diff profile_noted raw | head -n 1", 1, NOTE, "1073741824-4294967294 -: kill_thread -> allow\n"),
+    good("ask calls --call getpid profile_noted 2>&-", GOT), good("ask calls --call getpid profile_noted 2> /dev/full", GOT),
+    trouble("ask calls --call getpid profile_noted nofile", "nofile: no such file"),
+    Row("ask calls --call getpid profile_noted > /dev/full", 2, NOTE + "ask: writing failed\n", ""),
+]
 GOOD = [
     *[good(f"ask calls --call getpid {name}", GOT) for name in ("raw", "digits", "upper", "spread", "crlf", "lines", "lines_crlf")],
     good("ask calls --call 39 raw", GOT), good("ask calls --call 0x27 raw", GOT), good("ask calls --call 0x0027 raw", GOT),
@@ -254,11 +317,20 @@ WORDS = [
     *[trouble(f"ask calls --call '{word}' raw", f"no call is named {word}") for word in (
         "mseal2", "", "010", "00", "-1", "0x", "1e3", "getpid ", "GETPID", "4294967296", "0x100000000", "18446744073709551616")],
     trouble("ask calls --call \"$(printf 'a\\nb')\" raw", "no call is named a?b"),
+    *[trouble(f"ask {word} raw --cap", f"{word}: expected a name behind --cap") for word in ("calls", "filter", "when", "diff", "replay", "why", "show")],
+    *[trouble(f"ask {word} raw --kernel", f"{word}: expected a version as 6.1 behind --kernel") for word in ("calls", "diff", "replay", "why", "show")],
+    *[trouble(f"ask calls --cap '{name}' raw", f"calls: no capability is named {name}") for name in (
+        "CAP_FOO", "", "CAP_", "CAP", "DOCKER", "All", "none", "sys admin", "CAP_CAP_KILL", "kill ", "--kernel", "0", "raw")],
+    *[trouble(f"ask calls --kernel '{version}' raw", "calls: expected a version as 6.1 behind --kernel") for version in (
+        "x", "", "6", "6.", ".1", "6.1.0", "v6.1", "6,1", " 6.1", "-1.0", "6.1-rc1", "99999999999.1")],
+    trouble("ask calls --kernel 6.1 --kernel 6.1 raw", "calls: given twice: --kernel"), trouble("ask filter --cap nil --help", "filter: no capability is named nil"),
+    trouble("ask --cap docker calls raw", "no word is named --cap"), trouble("ask calls --cap=docker raw", "calls: no option is named --cap=docker"),
 ]
 # What is said of one FILE, whatever is asked of it.
 NO_LINE, ODD = "expected filter HEX", "has an odd number of hexadecimal digits: expected two for each byte"
 NO_DIGITS = "expected hexadecimal digits behind filter, two for each byte"
 NO_CODE = "the code is none of the 41 that seccomp(2) permits"
+NO_JSON, TOO_LONG = "is no JSON: expected the JSON of a profile, no more than 128 deep", "its filter would have more than 4096 instructions"
 NO_WORD = "no word of struct seccomp_data begins at k: expected a multiple of 4 below 64"
 ONE = [
     ("nofile", "nofile: no such file"), ("''", ": no such file"), ("folder", "folder: is a folder"), (".", ".: is a folder"),
@@ -280,6 +352,19 @@ ONE = [
     ("jump", "jump: instruction 0: a jump past the last instruction"),
     ("unstored", "unstored: instruction 0: loads scratch word 3, which some path there does not store"),
     ("long", "long: there are more than 4096 instructions"),
+    ("profile_marked", f"profile_marked: line 1: {NO_LINE}"), ("profile_list", f"profile_list: line 1: {NO_LINE}"),
+    ("profile_nul", "profile_nul: the length is no multiple of 8 bytes: expected instructions as struct sock_filter has them"),
+    *[(f"profile_{name}", f"profile_{name}: {says}") for name, says in (
+        ("object", "defaultAction: missing: expected an action as SCMP_ACT_ERRNO, and not SCMP_ACT_NOTIFY"),
+        ("open", NO_JSON), ("two", NO_JSON), ("latin", "is no text in UTF-8: expected the JSON of a profile"), ("keys", "a key comes twice in one object"),
+        ("unknown", "key 3 is not known: expected defaultAction, defaultErrnoRet, defaultErrno, architectures, archMap, flags, listenerPath, listenerMetadata or syscalls"),
+        ("action", "entry 2 of syscalls: action: expected an action as SCMP_ACT_ALLOW"), ("errno", "entry 1 of syscalls: errnoRet: expected a number up to 4094"),
+        ("index", "entry 2 of syscalls: item 2 of args: index: expected the number of an argument, from 0 to 5"),
+        ("mask", "entry 1 of syscalls: item 1 of args: valueTwo: expected 0, or beside SCMP_CMP_MASKED_EQ no bit outside of value"),
+        ("write", "entry 1 of syscalls: action: who is notified of write is told so by write: expected another action"),
+        ("clash", "entries 2 and 3 of syscalls clash on write: some call fits both, and they say different things"),
+    )],
+    ("profile_long", f"profile_long: {TOO_LONG}"), ("- < profile_keys", "-: a key comes twice in one object"),
     ("chain", "chain: line 9: the filters are too long together: expected at most 32768 instructions, with 4 more for each filter before this one"),
 ]
 # And of several that are one chain.
@@ -288,6 +373,8 @@ SEVERAL = [
     ("all empty", f"empty: {NO_FILTER}"), ("- - < raw", f"-: {NO_FILTER}"), ("raw digits odd", f"odd: {ODD}"), ("code word", f"word: line 2: {NO_LINE}"),
     ("thirty_two raw", "raw: one filter too many: expected at most 32 in all files"),
     ("sixteen sixteen two", "two: line 1: one filter too many: expected at most 32 in all files"),
+    ("word profile_keys profile_open", "profile_keys: a key comes twice in one object"), ("profile_keys nofile", "nofile: no such file"),
+    ("profile profile odd", f"odd: {ODD}"), ("thirty_two profile", "profile: one filter too many: expected at most 32 in all files"),
     ("all code", f"code: line 2: instruction 2: {NO_CODE}"), ("big_endian no_return", f"big_endian: instruction 0: {NO_CODE}"),
 ]
 # And of one that is made for it.
@@ -310,7 +397,7 @@ LOGS = [
     ("\"$(printf 'a\\nb')\" all", "a?b: no such file"), ("- all <&-", "-: reading failed"), ("- all < folder", "-: reading failed"),
     ("- - < log", f"-: {NO_FILTER}"), ("- all < empty", f"-: {NO_CALL}"), ("<(cat empty) all", f"/dev/fd/63: {NO_CALL}"),
     ("/dev/zero all", "/dev/zero: has more than 268435456 bytes"), ("all log", f"log: line 1: {NO_LINE}"), ("empty empty", f"empty: {NO_FILTER}"),
-    *[(f"{name} all", f"{name}: {NO_CALL}") for name in ("empty", "/dev/null", "log_ends", "log_decoded", "raw", "lines", "mib_and_one", "chain")],
+    *[(f"{name} all", f"{name}: {NO_CALL}") for name in ("profile", "empty", "/dev/null", "log_ends", "log_decoded", "raw", "lines", "mib_and_one", "chain")],
 ]
 REFUSED = [
     *[trouble(f"ask replay {names}", says) for names, says in LOGS],
@@ -380,7 +467,7 @@ def judged_error(number, name, command, program):
 def main(words):
     program = os.path.abspath(words[0]) if words else os.path.join(ROOT, "crates/ask/out/ask")
     passed = failed = 0
-    rows = [(row.command, lambda row=row: judged(row, program)) for row in GOOD + WORDS + UNREAD + REFUSED + STREAMS]
+    rows = [(row.command, lambda row=row: judged(row, program)) for row in GOOD + PROFILES + WORDS + UNREAD + REFUSED + STREAMS]
     rows += [(f"errno {it[0]}", lambda it=it: judged_error(*it, program)) for it in error_rows()]
     for name, judge in rows:
         try:

@@ -2,9 +2,10 @@
 #![tactic(auto)]
 
 ghost use Rattle.std.specs.Prelude.{None, ℕ};
-ghost use Rattle.sk_ask.specs.Shelves.{CountsWhy};
+ghost use Rattle.sk_ask_filters.specs.Shelves.{CountsWhy};
 
-use sk_ask::{Shelf, Unread, command, misused};
+use sk_ask::{command, misused};
+use sk_ask_filters::{Shelf, Unread};
 use sk_ends::{Counted, Source, take_up_to};
 use std::alloc::Global;
 use std::env::Env;

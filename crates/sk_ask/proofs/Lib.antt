@@ -1,3 +1,1 @@
-pub mod Wholes
-pub mod Among
 pub mod Refusing

@@ -7,15 +7,17 @@ use Rattle.sk_ask_files.specs.Filters.{Filters}
 use Rattle.sk_survey_lines.specs.declared.line.Line.{Line}
 use Rattle.sk_survey_lines.specs.declared.options.Options.{Options}
 use Rattle.sk_survey_lines.specs.Lines.{AreLinesOf}
+use Rattle.sk_profile_json.specs.declared.context.Context.{Context}
+use Rattle.sk_ask_filters.specs.Complaints.{of_word}
+use Rattle.sk_ask_filters.specs.Filters.{ReadsFilters, IsRefusedOf}
 use Rattle.sk_ask.specs.declared.words.Word.{Word}
 use Rattle.sk_ask.specs.declared.words.Word.TheVariants as word
 use Rattle.sk_ask.specs.Asking.{Question, asked_of, nothing_asked, word_named}
 use Rattle.sk_ask.specs.Calls.{IsAskedCall, IsNoCall}
 use Rattle.sk_ask.specs.CallsText.{calls_text}
-use Rattle.sk_ask.specs.Complaints.{of_word}
+use Rattle.sk_ask.specs.Contexts.{IsContextOf}
 use Rattle.sk_ask.specs.Endings.{Ending, answered, refused, ComesTo}
 use Rattle.sk_ask.specs.Diffs.{AnswersDiff}
-use Rattle.sk_ask.specs.Filters.{ReadsFilters, IsRefusedOf}
 use Rattle.sk_ask.specs.FilterText.{filter_lines}
 use Rattle.sk_ask.specs.Helping.{help_text, word_help_text}
 use Rattle.sk_ask.specs.Replays.{AnswersReplay}
@@ -27,52 +29,59 @@ use Rattle.sk_ask.specs.Whys.{AnswersWhy}
 -- ---- calls
 
 -- a text tells the lines of a survey of the chain
-abbrev pub TellsSurvey : Options → List (List Insn) → Ending → Type 0
-TellsSurvey options chain ending =
-    (lines : List Line) × AreLinesOf options chain lines × (ending ≡ answered (calls_text lines) false)
+abbrev pub TellsSurvey : Options → List (List Insn) → List ℕ → Ending → Type 0
+TellsSurvey options chain notes ending =
+    (lines : List Line) × AreLinesOf options chain lines × (ending ≡ answered notes (calls_text lines) false)
 
 -- those of all calls, or that of the one that is asked for
-abbrev pub IsSurvey : Question → List (List Insn) → Ending → Type 0
-IsSurvey asked chain ending =
+abbrev pub IsSurvey : Question → List (List Insn) → List ℕ → Ending → Type 0
+IsSurvey asked chain notes ending =
     (call : Option ℕ) × IsAskedCall asked.call call
-    × TellsSurvey (record { call = call; examples = asked.examples }) chain ending
+    × TellsSurvey (record { call = call; examples = asked.examples }) chain notes ending
 
 -- a survey of the chain that the files make; or no call has the name, or a file is refused or not read
-abbrev pub AnswersCalls : (List ℕ → Option (List ℕ)) → Question → Ending → Type 0
-AnswersCalls held asked ending =
-    ((found : Filters) × (chain : List (List Insn)) × ReadsFilters held asked.names found chain × IsSurvey asked chain ending)
-    ⊎ (IsTrouble ending (λ why. IsNoCall why asked.call) ⊎ IsTrouble ending (IsRefusedOf held asked.names))
+abbrev pub AnswersCalls : (List ℕ → Option (List ℕ)) → Context → Question → Ending → Type 0
+AnswersCalls held context asked ending =
+    ((found : Filters) × (chain : List (List Insn)) × (notes : List ℕ)
+    × ReadsFilters held context asked.names found chain notes × IsSurvey asked chain notes ending)
+    ⊎ (IsTrouble ending (λ why. IsNoCall why asked.call) ⊎ IsTrouble ending (IsRefusedOf held context asked.names))
 
 -- ---- filter
 
 -- the filters as lines, or the bytes of the only one
-abbrev pub Gives : Bool → List (List ℕ) → Ending → Type 0
-Gives false images ending = ComesTo (answered (filter_lines images) false) ending
-Gives true (image ∷ []) ending = ComesTo (answered image false) ending
-Gives true images ending =
+abbrev pub Gives : Bool → List (List ℕ) → List ℕ → Ending → Type 0
+Gives false images notes ending = ComesTo (answered notes (filter_lines images) false) ending
+Gives true (image ∷ []) notes ending = ComesTo (answered notes image false) ending
+Gives true images notes ending =
     ComesTo (refused (of_word (codes "filter: the FILEs hold several filters: expected one with ") (codes "--raw"))) ending
 
-abbrev pub AnswersFilter : (List ℕ → Option (List ℕ)) → Question → Ending → Type 0
-AnswersFilter held asked ending =
-    ((found : Filters) × (chain : List (List Insn)) × ReadsFilters held asked.names found chain × Gives asked.raw found.images ending)
-    ⊎ IsTrouble ending (IsRefusedOf held asked.names)
+abbrev pub AnswersFilter : (List ℕ → Option (List ℕ)) → Context → Question → Ending → Type 0
+AnswersFilter held context asked ending =
+    ((found : Filters) × (chain : List (List Insn)) × (notes : List ℕ)
+    × ReadsFilters held context asked.names found chain notes × Gives asked.raw found.images notes ending)
+    ⊎ IsTrouble ending (IsRefusedOf held context asked.names)
 
 -- ---- all words
 
-abbrev pub AnswersQuestion : (List ℕ → Option (List ℕ)) → Word → Question → Ending → Type 0
-AnswersQuestion held word.Calls asked ending = AnswersCalls held asked ending
-AnswersQuestion held word.Filter asked ending = AnswersFilter held asked ending
-AnswersQuestion held word.When asked ending = AnswersWhen held asked ending
-AnswersQuestion held word.Diff asked ending = AnswersDiff held asked ending
-AnswersQuestion held word.Replay asked ending = AnswersReplay held asked ending
-AnswersQuestion held word.Why asked ending = AnswersWhy held asked ending
-AnswersQuestion held word.Show asked ending = AnswersShow held asked ending
+abbrev pub AnswersQuestion : (List ℕ → Option (List ℕ)) → Context → Word → Question → Ending → Type 0
+AnswersQuestion held context word.Calls asked ending = AnswersCalls held context asked ending
+AnswersQuestion held context word.Filter asked ending = AnswersFilter held context asked ending
+AnswersQuestion held context word.When asked ending = AnswersWhen held context asked ending
+AnswersQuestion held context word.Diff asked ending = AnswersDiff held context asked ending
+AnswersQuestion held context word.Replay asked ending = AnswersReplay held context asked ending
+AnswersQuestion held context word.Why asked ending = AnswersWhy held context asked ending
+AnswersQuestion held context word.Show asked ending = AnswersShow held context asked ending
+
+-- where the profiles among the files are to hold, the words say
+abbrev pub AnswersThere : (List ℕ → Option (List ℕ)) → Word → Question → Ending → Type 0
+AnswersThere held word asked ending =
+    (context : Context) × IsContextOf asked context × AnswersQuestion held context word asked ending
 
 -- with `--help` among them the words ask how they are used
 abbrev pub AnswersAsked : (List ℕ → Option (List ℕ)) → Word → Result Question (List ℕ) → Ending → Type 0
 AnswersAsked held word (Err line) ending = ComesTo (refused line) ending
 AnswersAsked held word (Ok asked) ending =
-    MatchBool asked.help (ComesTo (answered (word_help_text word) false) ending) (AnswersQuestion held word asked ending)
+    MatchBool asked.help (ComesTo (answered [] (word_help_text word) false) ending) (AnswersThere held word asked ending)
 
 abbrev pub AnswersWord : (List ℕ → Option (List ℕ)) → List ℕ → Option Word → List (List ℕ) → Ending → Type 0
 AnswersWord held first None words ending =
@@ -82,5 +91,5 @@ AnswersWord held first (Some word) words ending = AnswersAsked held word (asked_
 abbrev pub AnswersWords : (List ℕ → Option (List ℕ)) → List (List ℕ) → Ending → Type 0
 AnswersWords held [] ending = ComesTo (refused (codes "ask: no word is given; see ask --help\n")) ending
 AnswersWords held (first ∷ words) ending =
-    MatchBool (bytes_eq first (codes "--help")) (ComesTo (answered help_text false) ending)
+    MatchBool (bytes_eq first (codes "--help")) (ComesTo (answered [] help_text false) ending)
     (AnswersWord held first (word_named first) words ending)

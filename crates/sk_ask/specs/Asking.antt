@@ -2,18 +2,25 @@
 use Rattle.std.specs.Prelude.{ℕ, ◌≡◌, ◌≤◌, ◌==◌, ◌&&◌, ◌++◌, nat_lt, is_some, IsSome, not, Bool, true, false, if◌then◌else◌, List, [], ◌∷◌, length, slice_get, codes, map, string_bytes, slice_index, Option, Some, None, Result, Ok, Err, ⊤}
 use Rattle.std.specs.Str.{bytes_eq}
 use Rattle.std.specs.Option.{option_map}
-use Rattle.sk_ask.specs.declared.trouble.Trouble.{Trouble}
-use Rattle.sk_ask.specs.declared.trouble.Trouble.TheVariants.{Refused, Reading, Memory}
+use Rattle.sk_profile_json.specs.declared.context.Kernel.{Kernel as Version}
+use Rattle.sk_profile_json.specs.Contexts.{kernel_of}
+use Rattle.sk_ask_filters.specs.declared.trouble.Trouble.{Trouble}
+use Rattle.sk_ask_filters.specs.declared.trouble.Trouble.TheVariants.{Refused, Reading, Memory}
+use Rattle.sk_ask_filters.specs.Complaints.{of_word}
+use Rattle.sk_ask.specs.Capabilities.{capability}
 use Rattle.sk_ask.specs.declared.words.Asked.{Asked}
+use Rattle.sk_ask.specs.declared.words.Valued.{Valued}
+use Rattle.sk_ask.specs.declared.words.Valued.TheVariants.{Call, Cap, Kernel}
 use Rattle.sk_ask.specs.declared.words.Word.{Word}
 use Rattle.sk_ask.specs.declared.words.Word.TheVariants.{Calls, Filter, When, Diff, Replay, Why, Show}
-use Rattle.sk_ask.specs.Complaints.{of_word}
 
--- the word behind `--call`, and whether it is awaited; whether there was `--examples`, `--dot`, `--raw`, `--stricter` or `--help`;
--- and the names of the files
+-- the word behind `--call`, the capabilities behind each `--cap`, and the version behind `--kernel`; the option whose word is
+-- awaited; whether there was `--examples`, `--dot`, `--raw`, `--stricter` or `--help`; and the names of the files
 pub record Question : Type 0 where
   pub call : Option (List ℕ)
-  pub awaits : Bool
+  pub caps : List (List ℕ)
+  pub kernel : Option Version
+  pub awaits : Option Valued
   pub examples : Bool
   pub dot : Bool
   pub raw : Bool
@@ -24,7 +31,9 @@ pub record Question : Type 0 where
 abbrev pub nothing_asked : Question
 nothing_asked = record {
   call = None;
-  awaits = false;
+  caps = [];
+  kernel = None;
+  awaits = None;
   examples = false;
   dot = false;
   raw = false;
@@ -53,7 +62,7 @@ word_named name =
     else if bytes_eq name (codes "show") then Some Show
     else None
 
--- ---- one word more
+-- ---- names
 
 -- a word that begins with `-` (45) is an option; that alone is the name of standard input
 abbrev pub is_option : List ℕ → Bool
@@ -65,33 +74,92 @@ with_name word asked text =
     if is_option text then Err (of_word (word_name word ++ codes ": no option is named ") text)
     else Ok (record asked { names = asked.names ++ text ∷ [] })
 
--- `--call` is there once, with a word behind it
-abbrev pub with_call : Word → Question → Result Question (List ℕ)
-with_call word asked =
-    if is_some asked.call then Err (of_word (word_name word ++ codes ": given twice: ") (codes "--call"))
-    else Ok (record asked { awaits = true })
+-- ---- options with a word behind them
 
--- an option of this word
-abbrev pub with_option : Word → Question → List ℕ → Result Question (List ℕ)
-with_option Calls asked text =
-    if bytes_eq text (codes "--call") then with_call Calls asked
-    else if bytes_eq text (codes "--examples") then Ok (record asked { examples = true })
-    else with_name Calls asked text
-with_option Filter asked text =
+abbrev pub valued_name : Valued → List ℕ
+valued_name Call = codes "--call"
+valued_name Cap = codes "--cap"
+valued_name Kernel = codes "--kernel"
+
+-- what is expected behind one
+abbrev pub value_kind : Valued → List ℕ
+value_kind Call = codes "a name or a number"
+value_kind Cap = codes "a name"
+value_kind Kernel = codes "a version as 6.1"
+
+-- each call is told of by these
+abbrev pub tells_calls : Word → Bool
+tells_calls Calls = true
+tells_calls When = true
+tells_calls word = false
+
+-- the one that is named, of a word: where there may be a profile, it may be said where that is to hold
+abbrev pub valued_named : Word → List ℕ → Option Valued
+valued_named word text =
+    if tells_calls word && bytes_eq text (codes "--call") then Some Call
+    else if bytes_eq text (codes "--cap") then Some Cap
+    else if bytes_eq text (codes "--kernel") then Some Kernel
+    else None
+
+-- there may be several capabilities
+abbrev pub is_given : Valued → Question → Bool
+is_given Call asked = is_some asked.call
+is_given Cap asked = false
+is_given Kernel asked = is_some asked.kernel
+
+abbrev pub with_valued : Word → Valued → Question → Result Question (List ℕ)
+with_valued word option asked =
+    if is_given option asked then Err (of_word (word_name word ++ codes ": given twice: ") (valued_name option))
+    else Ok (record asked { awaits = Some option })
+
+-- what is said where the word behind it is not there, or is none of these
+abbrev pub expected_line : Word → Valued → List ℕ
+expected_line word option =
+    of_word (word_name word ++ (codes ": expected " ++ (value_kind option ++ codes " behind "))) (valued_name option)
+
+abbrev pub with_caps : Word → Question → List ℕ → Option (List (List ℕ)) → Result Question (List ℕ)
+with_caps word asked text None = Err (of_word (word_name word ++ codes ": no capability is named ") text)
+with_caps word asked text (Some names) = Ok (record asked { caps = asked.caps ++ names; awaits = None })
+
+abbrev pub with_kernel : Word → Question → Option Version → Result Question (List ℕ)
+with_kernel word asked None = Err (expected_line word Kernel)
+with_kernel word asked (Some version) = Ok (record asked { kernel = Some version; awaits = None })
+
+-- the word behind it
+abbrev pub with_value : Word → Valued → Question → List ℕ → Result Question (List ℕ)
+with_value word Call asked text = Ok (record asked { call = Some text; awaits = None })
+with_value word Cap asked text = with_caps word asked text (capability text)
+with_value word Kernel asked text = with_kernel word asked (kernel_of text)
+
+-- ---- one word more
+
+-- an option of this word that stands alone
+abbrev pub with_flag : Word → Question → List ℕ → Result Question (List ℕ)
+with_flag Calls asked text =
+    if bytes_eq text (codes "--examples") then Ok (record asked { examples = true }) else with_name Calls asked text
+with_flag Filter asked text =
     if bytes_eq text (codes "--raw") then Ok (record asked { raw = true }) else with_name Filter asked text
-with_option When asked text =
-    if bytes_eq text (codes "--call") then with_call When asked
-    else if bytes_eq text (codes "--dot") then Ok (record asked { dot = true })
-    else with_name When asked text
-with_option Diff asked text =
+with_flag When asked text =
+    if bytes_eq text (codes "--dot") then Ok (record asked { dot = true }) else with_name When asked text
+with_flag Diff asked text =
     if bytes_eq text (codes "--stricter") then Ok (record asked { stricter = true }) else with_name Diff asked text
-with_option word asked text = with_name word asked text
+with_flag word asked text = with_name word asked text
+
+abbrev pub with_option : Word → Question → List ℕ → Option Valued → Result Question (List ℕ)
+with_option word asked text (Some option) = with_valued word option asked
+with_option word asked text None = with_flag word asked text
+
+abbrev pub with_free : Word → Question → List ℕ → Result Question (List ℕ)
+with_free word asked text =
+    if bytes_eq text (codes "--help") then Ok (record asked { help = true })
+    else with_option word asked text (valued_named word text)
+
+abbrev pub with_awaited : Word → Question → List ℕ → Option Valued → Result Question (List ℕ)
+with_awaited word asked text (Some option) = with_value word option asked text
+with_awaited word asked text None = with_free word asked text
 
 abbrev pub with_word : Word → Question → List ℕ → Result Question (List ℕ)
-with_word word asked text =
-    if asked.awaits then Ok (record asked { call = Some text; awaits = false })
-    else if bytes_eq text (codes "--help") then Ok (record asked { help = true })
-    else with_option word asked text
+with_word word asked text = with_awaited word asked text asked.awaits
 
 -- ---- all of them
 
@@ -127,14 +195,21 @@ drawn word asked =
     then Err (of_word (word_name word ++ codes ": expected --call CALL beside ") (codes "--dot"))
     else Ok asked
 
-abbrev pub ended : Word → Question → Result Question (List ℕ)
-ended word asked =
-    if asked.awaits then Err (of_word (word_name word ++ codes ": expected a name or a number behind ") (codes "--call"))
-    else if asked.help then Ok asked
+abbrev pub complete : Word → Question → Result Question (List ℕ)
+complete word asked =
+    if asked.help then Ok asked
     else elim (named word asked) [
       | Err line ↦ Err line
       | Ok asked ↦ drawn word asked
     ]
+
+abbrev pub ended_at : Word → Question → Option Valued → Result Question (List ℕ)
+ended_at word asked (Some option) = Err (expected_line word option)
+ended_at word asked None = complete word asked
+
+-- no option's word is awaited any more
+abbrev pub ended : Word → Question → Result Question (List ℕ)
+ended word asked = ended_at word asked asked.awaits
 
 -- what is asked with the words that are left
 abbrev pub asked_of : Word → Question → List (List ℕ) → Result Question (List ℕ)
@@ -149,6 +224,8 @@ asked_of word asked (text ∷ words) = elim (with_word word asked text) [
 abbrev pub question_of : Asked → Question
 question_of asked = record {
   call = option_map (λ call. call.now) asked.call;
+  caps = map (λ name. name.now) asked.caps.items;
+  kernel = asked.kernel;
   awaits = asked.awaits;
   examples = asked.examples;
   dot = asked.dot;

@@ -1,9 +1,9 @@
 -- The call that is asked for.
 use Rattle.std.specs.Prelude.{ℕ, ◌≡◌, List, codes, Option, Some, None, ⊤}
 use Rattle.sk_call_text.specs.Calls.{IsCall, NoCall}
-use Rattle.sk_ask.specs.declared.trouble.Trouble.{Trouble}
-use Rattle.sk_ask.specs.declared.trouble.Trouble.TheVariants.{Refused, Reading, Memory}
-use Rattle.sk_ask.specs.Complaints.{of_word}
+use Rattle.sk_ask_filters.specs.declared.trouble.Trouble.{Trouble}
+use Rattle.sk_ask_filters.specs.declared.trouble.Trouble.TheVariants.{Refused, Reading, Memory}
+use Rattle.sk_ask_filters.specs.Complaints.{of_word}
 
 -- the call that is asked for, if one is
 abbrev pub IsAskedCall : Option (List ℕ) → Option ℕ → Type 0

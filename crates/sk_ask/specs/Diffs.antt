@@ -7,9 +7,10 @@ use Rattle.sk_diff.specs.declared.comparison.Standing.{Standing}
 use Rattle.sk_diff.specs.declared.comparison.Standing.TheVariants.{Everywhere, Apart, Undecided}
 use Rattle.sk_diff.specs.Diffs.{IsComparison}
 use Rattle.sk_ask_files.specs.Filters.{Filters}
+use Rattle.sk_profile_json.specs.declared.context.Context.{Context}
+use Rattle.sk_ask_filters.specs.Filters.{ReadsFilters, IsRefusedOf}
 use Rattle.sk_ask.specs.Asking.{Question}
 use Rattle.sk_ask.specs.Endings.{Ending, answered, refused, no_memory, ComesTo}
-use Rattle.sk_ask.specs.Filters.{ReadsFilters, IsRefusedOf}
 use Rattle.sk_ask.specs.Troubles.{IsTrouble}
 
 abbrev pub relation_asked : Bool → Relation
@@ -21,24 +22,26 @@ abbrev pub undecided_text : List ℕ → List ℕ
 undecided_text lines = codes "ask: diff: the filters could not be compared on all calls:\n" ++ lines
 
 -- yes where they stand so on every call, no where there is a call on which they do not; and else there is no answer
-abbrev pub EndsAs : Standing → List ℕ → Ending → Type 0
-EndsAs Everywhere text ending = ending ≡ answered text false
-EndsAs Apart text ending = ending ≡ answered text true
-EndsAs Undecided text ending = ComesTo (refused (undecided_text text)) ending
+abbrev pub EndsAs : Standing → List ℕ → List ℕ → Ending → Type 0
+EndsAs Everywhere notes text ending = ending ≡ answered notes text false
+EndsAs Apart notes text ending = ending ≡ answered notes text true
+EndsAs Undecided notes text ending = ComesTo (refused (undecided_text text)) ending
 
 -- two chains were compared, or memory was refused
-abbrev pub IsDiff : Bool → List (List Insn) → List (List Insn) → Ending → Type 0
-IsDiff stricter old new ending =
-    ((standing : Standing) × (text : List ℕ) × IsComparison (relation_asked stricter) old new standing text × EndsAs standing text ending)
+abbrev pub IsDiff : Bool → List (List Insn) → List (List Insn) → List ℕ → Ending → Type 0
+IsDiff stricter old new notes ending =
+    ((standing : Standing) × (text : List ℕ) × IsComparison (relation_asked stricter) old new standing text
+    × EndsAs standing notes text ending)
     ⊎ (ending ≡ no_memory)
 
 -- the chains of files with these names, and of files with those, are compared; or one of them is refused or not read
-abbrev pub AnswersSides : (List ℕ → Option (List ℕ)) → Bool → List (List ℕ) → List (List ℕ) → Ending → Type 0
-AnswersSides held stricter names others ending =
-    ((found other : Filters) × (old new : List (List Insn))
-    × ReadsFilters held names found old × ReadsFilters held others other new × IsDiff stricter old new ending)
-    ⊎ (IsTrouble ending (IsRefusedOf held names) ⊎ IsTrouble ending (IsRefusedOf held others))
+abbrev pub AnswersSides : (List ℕ → Option (List ℕ)) → Context → Bool → List (List ℕ) → List (List ℕ) → Ending → Type 0
+AnswersSides held context stricter names others ending =
+    ((found other : Filters) × (old new : List (List Insn)) × (notes more : List ℕ)
+    × ReadsFilters held context names found old notes × ReadsFilters held context others other new more
+    × IsDiff stricter old new (notes ++ more) ending)
+    ⊎ (IsTrouble ending (IsRefusedOf held context names) ⊎ IsTrouble ending (IsRefusedOf held context others))
 
 -- the first file has the old chain
-abbrev pub AnswersDiff : (List ℕ → Option (List ℕ)) → Question → Ending → Type 0
-AnswersDiff held asked ending = AnswersSides held asked.stricter (take 1 asked.names) (drop 1 asked.names) ending
+abbrev pub AnswersDiff : (List ℕ → Option (List ℕ)) → Context → Question → Ending → Type 0
+AnswersDiff held context asked ending = AnswersSides held context asked.stricter (take 1 asked.names) (drop 1 asked.names) ending

@@ -1,21 +1,22 @@
 -- What the program comes to, and what it leaves behind: answers go to standard output, and all else to standard error.
-use Rattle.std.specs.Prelude.{ℕ, ◌≡◌, ◌⊎◌, Bool, true, false, Option, Result, Ok, Err, List, codes, ⊤}
+use Rattle.std.specs.Prelude.{ℕ, ◌≡◌, ◌⊎◌, Bool, true, false, Option, Result, Ok, Err, List, [], codes, ⊤}
 use Rattle.std.specs.Io.KnownBytes.{Appends}
 use Rattle.sk_ends.specs.Failures.{one_more}
 use Rattle.sk_ends.specs.Writing.{AppendsBeginning}
-use Rattle.sk_ask.specs.declared.trouble.Answer.{Answer}
-use Rattle.sk_ask.specs.declared.trouble.Trouble.{Trouble}
-use Rattle.sk_ask.specs.declared.trouble.Trouble.TheVariants.{Refused, Reading, Memory}
+use Rattle.sk_ask_filters.specs.declared.trouble.Trouble.{Trouble}
+use Rattle.sk_ask_filters.specs.declared.trouble.Trouble.TheVariants.{Refused, Reading, Memory}
+use Rattle.sk_ask.specs.declared.answer.Answer.{Answer}
 
--- an answer, and whether it says no; or words or files that are refused, a read that failed, or refused memory
+-- the lines of what is told beside an answer, the answer, and whether it says no; or words or files that are refused, a read
+-- that failed, or refused memory
 pub data Ending : Type 0 where
-  answered : List ℕ → Bool → Ending
+  answered : List ℕ → List ℕ → Bool → Ending
   refused : List ℕ → Ending
   unread : List ℕ → Ending
   no_memory : Ending
 
 abbrev pub ending_of : Result Answer Trouble → Ending
-ending_of (Ok answer) = answered answer.text.items answer.denies
+ending_of (Ok answer) = answered answer.notes.items answer.text.items answer.denies
 ending_of (Err (Refused line)) = refused line.items
 ending_of (Err (Reading line)) = unread line.items
 ending_of (Err Memory) = no_memory
@@ -28,14 +29,6 @@ ComesTo wanted ending = ending ≡ wanted
 -- ---- the reads
 
 -- the count of failed reads is one more where a read is told to have failed, and else it stays
-abbrev pub CountsTrouble : Trouble → ℕ → ℕ → Type 0
-CountsTrouble (Reading line) old new = new ≡ one_more old
-CountsTrouble why old new = new ≡ old
-
-abbrev pub CountsReads : {T : Type 0} → Result T Trouble → ℕ → ℕ → Type 0
-CountsReads (Ok value) old new = new ≡ old
-CountsReads (Err why) old new = CountsTrouble why old new
-
 abbrev pub CountsFailedReads : Ending → ℕ → ℕ → Type 0
 CountsFailedReads (unread line) old new = new ≡ one_more old
 CountsFailedReads ending old new = new ≡ old
@@ -71,11 +64,18 @@ abbrev pub status_of : Bool → ℕ
 status_of false = 0
 status_of true = 1
 
--- the text of an answer is out, with its status, and nothing else; or a write failed, and that is told
-abbrev pub Answers : List ℕ → Bool → ℕ → Written → Written → Written → Written → Type 0
-Answers text denies status out out_new err err_new =
-    ((status ≡ status_of denies) × Puts text out out_new × IsUnwritten err err_new)
-    ⊎ (Loses text out out_new × Complains (codes "ask: writing failed\n") status err err_new)
+-- the lines of what is told were written, as far as that went; without any, nothing was
+abbrev pub Notes : List ℕ → Written → Written → Type 0
+Notes [] old new = IsUnwritten old new
+Notes notes old new = Puts notes old new ⊎ Loses notes old new
+
+-- what is told beside an answer is written, and then the text of the answer is out, with its status, and nothing else; or a
+-- write of that failed, which is told
+abbrev pub Answers : List ℕ → List ℕ → Bool → ℕ → Written → Written → Written → Written → Type 0
+Answers notes text denies status out out_new err err_new =
+    (told : Written) × Notes notes err told
+    × (((status ≡ status_of denies) × Puts text out out_new × IsUnwritten told err_new)
+    ⊎ (Loses text out out_new × Complains (codes "ask: writing failed\n") status told err_new))
 
 -- why the words of the program are not there
 abbrev pub wordless_line : Bool → List ℕ
@@ -84,7 +84,7 @@ wordless_line false = codes "ask: a word is not UTF-8\n"
 
 -- trouble leaves no answer
 abbrev pub Leaves : Ending → ℕ → Written → Written → Written → Written → Type 0
-Leaves (answered text denies) status out out_new err err_new = Answers text denies status out out_new err err_new
+Leaves (answered notes text denies) status out out_new err err_new = Answers notes text denies status out out_new err err_new
 Leaves (refused line) status out out_new err err_new = IsUnwritten out out_new × Complains line status err err_new
 Leaves (unread line) status out out_new err err_new = IsUnwritten out out_new × Complains line status err err_new
 Leaves no_memory status out out_new err err_new =

@@ -2,14 +2,13 @@ pub mod Answering
 pub mod Asking
 pub mod Calls
 pub mod CallsText
-pub mod Complaints
+pub mod Capabilities
+pub mod Contexts
 pub mod Diffs
 pub mod Endings
-pub mod Filters
 pub mod FilterText
 pub mod Helping
 pub mod Replays
-pub mod Shelves
 pub mod Shows
 pub mod Telling
 pub mod Troubles

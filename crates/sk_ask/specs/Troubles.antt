@@ -1,6 +1,6 @@
 -- Endings without an answer, by their reasons.
 use Rattle.std.specs.Prelude.{ℕ, ◌≡◌, List, [], ◌∷◌, Err}
-use Rattle.sk_ask.specs.declared.trouble.Trouble.{Trouble}
+use Rattle.sk_ask_filters.specs.declared.trouble.Trouble.{Trouble}
 use Rattle.sk_ask.specs.Endings.{Ending, ending_of, no_memory}
 
 -- no answer came of it, for this reason

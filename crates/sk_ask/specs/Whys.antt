@@ -8,12 +8,13 @@ use Rattle.sk_call_text.specs.CallWords.{call_of, name_part}
 use Rattle.sk_call_text.specs.Faults.{fault_text}
 use Rattle.sk_why.specs.PathText.{TellsWhy}
 use Rattle.sk_ask_files.specs.Filters.{Filters}
-use Rattle.sk_ask.specs.declared.trouble.Trouble.{Trouble}
-use Rattle.sk_ask.specs.declared.trouble.Trouble.TheVariants.{Refused, Reading, Memory}
+use Rattle.sk_profile_json.specs.declared.context.Context.{Context}
+use Rattle.sk_ask_filters.specs.declared.trouble.Trouble.{Trouble}
+use Rattle.sk_ask_filters.specs.declared.trouble.Trouble.TheVariants.{Refused, Reading, Memory}
+use Rattle.sk_ask_filters.specs.Complaints.{of_word}
+use Rattle.sk_ask_filters.specs.Filters.{ReadsFilters, IsRefusedOf}
 use Rattle.sk_ask.specs.Asking.{Question}
-use Rattle.sk_ask.specs.Complaints.{of_word}
 use Rattle.sk_ask.specs.Endings.{Ending, answered}
-use Rattle.sk_ask.specs.Filters.{ReadsFilters, IsRefusedOf}
 use Rattle.sk_ask.specs.Troubles.{IsTrouble, OfFirst}
 
 -- the line that refuses a word which stands for no call
@@ -28,17 +29,17 @@ IsFaultOf word (Reading line) = ⊥
 IsFaultOf word Memory = ⊤
 
 -- a text tells the path of the call through the chain
-abbrev pub TellsWhyOf : Record → List (List Insn) → Ending → Type 0
-TellsWhyOf call chain ending = (text : List ℕ) × TellsWhy chain call text × (ending ≡ answered text false)
+abbrev pub TellsWhyOf : Record → List (List Insn) → List ℕ → Ending → Type 0
+TellsWhyOf call chain notes ending = (text : List ℕ) × TellsWhy chain call text × (ending ≡ answered notes text false)
 
 -- the path of the call that the word stands for, through the chain that the files make; or it stands for none, or a file is
 -- refused or not read
-abbrev pub AnswersCall : (List ℕ → Option (List ℕ)) → List ℕ → List (List ℕ) → Ending → Type 0
-AnswersCall held word names ending =
-    ((call : Record) × (found : Filters) × (chain : List (List Insn)) × (call_of word ≡ Ok call)
-    × ReadsFilters held names found chain × TellsWhyOf call chain ending)
-    ⊎ (IsTrouble ending (IsFaultOf word) ⊎ IsTrouble ending (IsRefusedOf held names))
+abbrev pub AnswersCall : (List ℕ → Option (List ℕ)) → Context → List ℕ → List (List ℕ) → Ending → Type 0
+AnswersCall held context word names ending =
+    ((call : Record) × (found : Filters) × (chain : List (List Insn)) × (notes : List ℕ) × (call_of word ≡ Ok call)
+    × ReadsFilters held context names found chain notes × TellsWhyOf call chain notes ending)
+    ⊎ (IsTrouble ending (IsFaultOf word) ⊎ IsTrouble ending (IsRefusedOf held context names))
 
 -- the first name is the call
-abbrev pub AnswersWhy : (List ℕ → Option (List ℕ)) → Question → Ending → Type 0
-AnswersWhy held asked ending = OfFirst asked.names ending (λ word names. AnswersCall held word names ending)
+abbrev pub AnswersWhy : (List ℕ → Option (List ℕ)) → Context → Question → Ending → Type 0
+AnswersWhy held context asked ending = OfFirst asked.names ending (λ word names. AnswersCall held context word names ending)

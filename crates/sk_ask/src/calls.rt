@@ -1,20 +1,20 @@
 //! `ask calls`: what filters can answer to each call.
-ghost use Rattle.std.specs.Prelude.{◌≡◌, IfOk, IfErr};
+ghost use Rattle.std.specs.Prelude.{◌≡◌, IfOk, IfErr, Ok};
 ghost use Rattle.std.specs.Option.{option_map};
-ghost use Rattle.sk_ask.specs.Endings.{CountsReads, answered, ending_of};
+ghost use Rattle.sk_ask_filters.specs.Counts.{CountsReads};
+ghost use Rattle.sk_ask.specs.Endings.{ending_of};
 ghost use Rattle.sk_ask.specs.Asking.{question_of};
 ghost use Rattle.sk_ask.specs.Answering.{AnswersCalls, TellsSurvey};
 ghost use Rattle.sk_ask.specs.CallsText.{calls_text};
 ghost use Rattle.sk_ask.specs.Calls.{IsAskedCall, IsNoCall};
 
+use crate::answer::Answer;
 use crate::calls_text::calls_text;
-use crate::complaint::of_word;
 use crate::filters::asked_filters;
-use crate::shelf::Shelf;
-use crate::trouble::{Answer, Trouble};
 use crate::words::Asked;
+use sk_ask_filters::{Filters, Shelf, Trouble, of_word};
 use sk_call_text::call_named;
-use sk_chain::Chain;
+use sk_profile_json::Context;
 use sk_survey_lines::{Line, Options, lines_of};
 use std::alloc::{AllocError, Global};
 
@@ -23,26 +23,28 @@ pub fn calls<S: Shelf>(
     alloc: Global,
     asked: &Asked<'_>,
     shelf: &S,
+    context: &Context<'_>,
     reads: &mut u64,
 ) -> Result<Answer, Trouble>
-    ensures told { AnswersCalls (S.held shelf.now) (question_of asked.now) (ending_of result) }
+    ensures told { AnswersCalls (S.held shelf.now) context.now (question_of asked.now) (ending_of result) }
     ensures counted { CountsReads result reads.old reads.new }
 {
     let call = asked_call(alloc, asked.call)?;
-    let filters = asked_filters(alloc, asked, shelf, reads)?;
+    let filters = asked_filters(alloc, asked, shelf, context, reads)?;
     let options = Options {
         call,
         examples: asked.examples,
     };
-    Ok(survey(alloc, options, &filters.chain)?)
+    Ok(survey(alloc, options, filters)?)
 }
 
-fn survey(alloc: Global, options: Options, chain: &Chain) -> Result<Answer, AllocError>
-    ensures survey { IfOk result (λ answer. TellsSurvey options chain.now (answered answer.text.items answer.denies)) }
+fn survey(alloc: Global, options: Options, filters: Filters) -> Result<Answer, AllocError>
+    ensures survey { IfOk result (λ answer. TellsSurvey options filters.chain filters.notes.items (ending_of (Ok answer))) }
 {
-    let lines = lines_of(alloc, options, chain)?;
+    let lines = lines_of(alloc, options, &filters.chain)?;
     Ok(Answer {
         text: text_of(alloc, &lines)?,
+        notes: filters.notes,
         denies: false,
     })
 }

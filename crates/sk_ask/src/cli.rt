@@ -1,24 +1,26 @@
 //! The program over any files and writers.
-ghost use Rattle.std.specs.Prelude.{◌≡◌, ◌≤◌, true, false, IfOk, IsSome, length, map, string_bytes};
-ghost use Rattle.sk_ask.specs.Answering.{AnswersWords, AnswersAsked, AnswersQuestion};
+ghost use Rattle.std.specs.Prelude.{◌≡◌, ◌≤◌, true, false, [], IfOk, IsSome, Ok, length, map, string_bytes};
+ghost use Rattle.sk_ask_filters.specs.Counts.{CountsReads};
+ghost use Rattle.sk_ask.specs.Answering.{AnswersWords, AnswersAsked, AnswersThere, AnswersQuestion};
 ghost use Rattle.sk_ask.specs.Asking.{question_of, asked_of, nothing_asked, wanted};
-ghost use Rattle.sk_ask.specs.Endings.{CountsReads, Complains, ending_of, wordless_line, written};
+ghost use Rattle.sk_ask.specs.Endings.{Complains, answered, ending_of, wordless_line, written};
 ghost use Rattle.sk_ask.specs.Telling.{Told};
 
+use crate::answer::Answer;
 use crate::calls::calls;
-use crate::complaint::of_word;
 use crate::diff::diff;
 use crate::filter::filter;
+use crate::filters::context_of;
 use crate::help::{HELP, word_help};
 use crate::output::{complain, put};
 use crate::replay::replay;
-use crate::shelf::Shelf;
 use crate::show::show;
-use crate::trouble::{Answer, Trouble};
 use crate::when::when;
 use crate::why::why;
 use crate::words::{Asked, Word, asked_in};
+use sk_ask_filters::{Shelf, Trouble, of_word};
 use sk_ends::Sink;
+use sk_profile_json::Context;
 use sk_text::is_word;
 use std::alloc::{AllocError, Global};
 
@@ -88,10 +90,11 @@ fn word_answer<S: Shelf>(
     if asked.help {
         return Ok(said(alloc, word_help(word))?);
     }
-    question_answer(alloc, word, &asked, shelf, reads)
+    there_answer(alloc, word, &asked, shelf, reads)
 }
 
-fn question_answer<S: Shelf>(
+// Where the profiles among the files are to hold, the words say.
+fn there_answer<S: Shelf>(
     alloc: Global,
     word: Word,
     asked: &Asked<'_>,
@@ -100,25 +103,43 @@ fn question_answer<S: Shelf>(
 ) -> Result<Answer, Trouble>
     requires named { length (wanted word) ≤ length asked.now.names.items }
     requires called { asked.now.dot ≡ true → IsSome asked.now.call }
-    ensures told { AnswersQuestion (S.held shelf.now) word (question_of asked.now) (ending_of result) }
+    ensures told { AnswersThere (S.held shelf.now) word (question_of asked.now) (ending_of result) }
+    ensures counted { CountsReads result reads.old reads.new }
+{
+    let context = context_of(asked);
+    question_answer(alloc, word, asked, shelf, &context, reads)
+}
+
+fn question_answer<S: Shelf>(
+    alloc: Global,
+    word: Word,
+    asked: &Asked<'_>,
+    shelf: &S,
+    context: &Context<'_>,
+    reads: &mut u64,
+) -> Result<Answer, Trouble>
+    requires named { length (wanted word) ≤ length asked.now.names.items }
+    requires called { asked.now.dot ≡ true → IsSome asked.now.call }
+    ensures told { AnswersQuestion (S.held shelf.now) context.now word (question_of asked.now) (ending_of result) }
     ensures counted { CountsReads result reads.old reads.new }
 {
     match word {
-        Word::Calls => calls(alloc, asked, shelf, reads),
-        Word::Filter => filter(alloc, asked, shelf, reads),
-        Word::When => when(alloc, asked, shelf, reads),
-        Word::Diff => diff(alloc, asked, shelf, reads),
-        Word::Replay => replay(alloc, asked, shelf, reads),
-        Word::Why => why(alloc, asked, shelf, reads),
-        Word::Show => show(alloc, asked, shelf, reads),
+        Word::Calls => calls(alloc, asked, shelf, context, reads),
+        Word::Filter => filter(alloc, asked, shelf, context, reads),
+        Word::When => when(alloc, asked, shelf, context, reads),
+        Word::Diff => diff(alloc, asked, shelf, context, reads),
+        Word::Replay => replay(alloc, asked, shelf, context, reads),
+        Word::Why => why(alloc, asked, shelf, context, reads),
+        Word::Show => show(alloc, asked, shelf, context, reads),
     }
 }
 
 fn said(alloc: Global, text: &str) -> Result<Answer, AllocError>
-    ensures answer { IfOk result (λ answer. (answer.text.items ≡ text.now) × (answer.denies ≡ false)) }
+    ensures answer { IfOk result (λ answer. ending_of (Ok answer) ≡ answered [] text.now false) }
 {
     Ok(Answer {
         text: bytes_of(alloc, text)?,
+        notes: Vec::new(alloc),
         denies: false,
     })
 }

@@ -1,17 +1,17 @@
 //! `ask filter`: the filters as lines, or one filter as raw bytes.
 ghost use Rattle.std.specs.Prelude.{◌≡◌, ◌++◌, true, IfOk, OnOk, map};
 ghost use Rattle.sk_ask_files.specs.Finding.{filters_of};
-ghost use Rattle.sk_ask.specs.Endings.{CountsReads, ending_of};
+ghost use Rattle.sk_ask_filters.specs.Counts.{CountsReads};
+ghost use Rattle.sk_ask.specs.Endings.{ending_of};
 ghost use Rattle.sk_ask.specs.Asking.{question_of};
 ghost use Rattle.sk_ask.specs.Answering.{AnswersFilter, Gives};
 ghost use Rattle.sk_ask.specs.FilterText.{filter_line, filter_lines};
 
-use crate::complaint::of_word;
+use crate::answer::Answer;
 use crate::filters::asked_filters;
-use crate::shelf::Shelf;
-use crate::trouble::{Answer, Trouble};
 use crate::words::Asked;
-use sk_ask_files::Found;
+use sk_ask_filters::{Filters, Shelf, Trouble, of_word};
+use sk_profile_json::Context;
 use std::alloc::{AllocError, Global};
 
 /// Answers `ask filter`.
@@ -19,33 +19,37 @@ pub fn filter<S: Shelf>(
     alloc: Global,
     asked: &Asked<'_>,
     shelf: &S,
+    context: &Context<'_>,
     reads: &mut u64,
 ) -> Result<Answer, Trouble>
-    ensures told { AnswersFilter (S.held shelf.now) (question_of asked.now) (ending_of result) }
+    ensures told { AnswersFilter (S.held shelf.now) context.now (question_of asked.now) (ending_of result) }
     ensures counted { CountsReads result reads.old reads.new }
 {
-    let filters = asked_filters(alloc, asked, shelf, reads)?;
-    given(alloc, asked.raw, &filters.found)
+    let filters = asked_filters(alloc, asked, shelf, context, reads)?;
+    given(alloc, asked.raw, filters)
 }
 
-fn given(alloc: Global, raw: bool, found: &Found) -> Result<Answer, Trouble>
-    ensures told { Gives raw (filters_of found.now).images (ending_of result) }
+fn given(alloc: Global, raw: bool, filters: Filters) -> Result<Answer, Trouble>
+    ensures told { Gives raw (filters_of filters.found).images filters.notes.items (ending_of result) }
 {
+    let notes = filters.notes;
     if raw {
-        return only(alloc, &found.images);
+        return only(alloc, &filters.found.images, notes);
     }
     Ok(Answer {
-        text: filter_lines(alloc, &found.images)?,
+        text: filter_lines(alloc, &filters.found.images)?,
+        notes,
         denies: false,
     })
 }
 
-fn only(alloc: Global, images: &[Vec<u8>]) -> Result<Answer, Trouble>
-    ensures told { Gives true (map (λ image. image.items) images.now) (ending_of result) }
+fn only(alloc: Global, images: &[Vec<u8>], notes: Vec<u8>) -> Result<Answer, Trouble>
+    ensures told { Gives true (map (λ image. image.items) images.now) notes.items (ending_of result) }
 {
     match images {
         [image] => Ok(Answer {
             text: image.to_vec(alloc)?,
+            notes,
             denies: false,
         }),
         _ => Err(Trouble::Refused(of_word(

@@ -2,22 +2,20 @@
 //! complaints. What is wrong comes to no answer: it is one line for the second writer, and status 2.
 #![tactic(auto)]
 
+mod answer;
 mod calls;
 mod calls_text;
+mod capabilities;
 mod cli;
-mod complaint;
 mod diff;
 mod filter;
 mod filters;
 mod help;
 mod output;
 mod replay;
-mod shelf;
 mod show;
-mod trouble;
 mod when;
 mod why;
 mod words;
 
 pub use cli::{command, misused};
-pub use shelf::{Shelf, Unread};

@@ -1,15 +1,14 @@
 //! `ask replay`: the verdicts on the calls of a log.
 ghost use Rattle.std.specs.Prelude.{◌≡◌, ◌≤◌, length, map, string_bytes};
-ghost use Rattle.sk_ask.specs.Endings.{ComesTo, CountsReads, ending_of};
+ghost use Rattle.sk_ask_filters.specs.Counts.{CountsReads};
+ghost use Rattle.sk_ask.specs.Endings.{ComesTo, ending_of};
 ghost use Rattle.sk_ask.specs.Asking.{question_of, wanted};
 ghost use Rattle.sk_ask.specs.Replays.{AnswersReplay, AnswersLog, replayed};
 
-use crate::complaint::about;
-use crate::filters::filters_in;
-use crate::shelf::{MOST_LOG_BYTES, Shelf, content};
-use crate::trouble::{Answer, Trouble};
+use crate::answer::Answer;
 use crate::words::{Asked, Word};
-use sk_chain::Chain;
+use sk_ask_filters::{Filters, MOST_LOG_BYTES, Shelf, Trouble, about, content, filters_in};
+use sk_profile_json::Context;
 use std::alloc::Global;
 
 /// What is said of a log without a call.
@@ -20,40 +19,43 @@ pub fn replay<S: Shelf>(
     alloc: Global,
     asked: &Asked<'_>,
     shelf: &S,
+    context: &Context<'_>,
     reads: &mut u64,
 ) -> Result<Answer, Trouble>
     requires named { length (wanted Word.Replay) ≤ length asked.now.names.items }
-    ensures told { AnswersReplay (S.held shelf.now) (question_of asked.now) (ending_of result) }
+    ensures told { AnswersReplay (S.held shelf.now) context.now (question_of asked.now) (ending_of result) }
     ensures counted { CountsReads result reads.old reads.new }
 {
     let (log, files) = asked.first_name();
-    log_answer(alloc, shelf, reads, log, files)
+    log_answer(alloc, shelf, context, reads, log, files)
 }
 
 fn log_answer<S: Shelf>(
     alloc: Global,
     shelf: &S,
+    context: &Context<'_>,
     reads: &mut u64,
     name: &str,
     files: &[String],
 ) -> Result<Answer, Trouble>
-    ensures told { AnswersLog (S.held shelf.now) name.now (map string_bytes files.now) (ending_of result) }
+    ensures told { AnswersLog (S.held shelf.now) context.now name.now (map string_bytes files.now) (ending_of result) }
     ensures counted { CountsReads result reads.old reads.new }
 {
     let log = content(alloc, shelf, reads, name, MOST_LOG_BYTES)?;
-    let filters = filters_in(alloc, shelf, reads, files)?;
-    replayed(alloc, name, &log, &filters.chain)
+    let filters = filters_in(alloc, shelf, context, reads, files)?;
+    replayed(alloc, name, &log, filters)
 }
 
-fn replayed(alloc: Global, name: &str, log: &[u8], chain: &Chain) -> Result<Answer, Trouble>
-    ensures told { ComesTo (replayed name.now log.now chain.now) (ending_of result) }
+fn replayed(alloc: Global, name: &str, log: &[u8], filters: Filters) -> Result<Answer, Trouble>
+    ensures told { ComesTo (replayed name.now log.now filters.chain filters.notes.items) (ending_of result) }
 {
-    let replay = sk_replay::replay(alloc, log, chain)?;
+    let replay = sk_replay::replay(alloc, log, &filters.chain)?;
     if replay.calls == 0 {
         return Err(Trouble::Refused(about(alloc, name, NO_CALL)?));
     }
     Ok(Answer {
         text: replay.text.into_bytes(),
+        notes: filters.notes,
         denies: replay.denies,
     })
 }

@@ -1,14 +1,14 @@
 //! `ask show`: the listing of one filter for people.
-ghost use Rattle.sk_ask.specs.Endings.{CountsReads, ending_of};
+ghost use Rattle.sk_ask_filters.specs.Counts.{CountsReads};
+ghost use Rattle.sk_ask.specs.Endings.{ending_of};
 ghost use Rattle.sk_ask.specs.Asking.{question_of};
 ghost use Rattle.sk_ask.specs.Shows.{AnswersShow, Shows};
 
-use crate::complaint::of_word;
+use crate::answer::Answer;
 use crate::filters::asked_filters;
-use crate::shelf::Shelf;
-use crate::trouble::{Answer, Trouble};
 use crate::words::Asked;
-use sk_chain::Chain;
+use sk_ask_filters::{Filters, Shelf, Trouble, of_word};
+use sk_profile_json::Context;
 use std::alloc::Global;
 
 /// Answers `ask show`.
@@ -16,22 +16,24 @@ pub fn show<S: Shelf>(
     alloc: Global,
     asked: &Asked<'_>,
     shelf: &S,
+    context: &Context<'_>,
     reads: &mut u64,
 ) -> Result<Answer, Trouble>
-    ensures told { AnswersShow (S.held shelf.now) (question_of asked.now) (ending_of result) }
+    ensures told { AnswersShow (S.held shelf.now) context.now (question_of asked.now) (ending_of result) }
     ensures counted { CountsReads result reads.old reads.new }
 {
-    let filters = asked_filters(alloc, asked, shelf, reads)?;
-    shown(alloc, &filters.chain)
+    let filters = asked_filters(alloc, asked, shelf, context, reads)?;
+    shown(alloc, filters)
 }
 
-fn shown(alloc: Global, chain: &Chain) -> Result<Answer, Trouble>
-    ensures told { Shows chain.now (ending_of result) }
+fn shown(alloc: Global, filters: Filters) -> Result<Answer, Trouble>
+    ensures told { Shows filters.chain filters.notes.items (ending_of result) }
 {
-    let mut programs = chain.programs();
+    let mut programs = filters.chain.programs();
     match (programs.next(), programs.next()) {
         (Some(program), None) => Ok(Answer {
             text: sk_show::show(alloc, program)?.into_bytes(),
+            notes: filters.notes,
             denies: false,
         }),
         _ => {

@@ -1,15 +1,17 @@
 //! `ask when`: under which conditions on a call each verdict comes, and with `--dot` the picture of a call's tree.
 ghost use Rattle.std.specs.Prelude.{◌≡◌, true, IfOk, IsSome, string_bytes};
-ghost use Rattle.sk_ask.specs.Endings.{CountsReads, ending_of};
+ghost use Rattle.sk_ask_filters.specs.Counts.{CountsReads};
+ghost use Rattle.sk_ask.specs.Endings.{ending_of};
 ghost use Rattle.sk_ask.specs.Asking.{question_of};
 ghost use Rattle.sk_ask.specs.Whens.{AnswersWhen, IsWhenText, TellsWhenOf};
 
+use crate::answer::Answer;
 use crate::calls::asked_call;
 use crate::filters::asked_filters;
-use crate::shelf::Shelf;
-use crate::trouble::{Answer, Trouble};
 use crate::words::Asked;
+use sk_ask_filters::{Filters, Shelf, Trouble};
 use sk_chain::Chain;
+use sk_profile_json::Context;
 use std::alloc::{AllocError, Global};
 
 /// Answers `ask when`.
@@ -17,23 +19,25 @@ pub fn when<S: Shelf>(
     alloc: Global,
     asked: &Asked<'_>,
     shelf: &S,
+    context: &Context<'_>,
     reads: &mut u64,
 ) -> Result<Answer, Trouble>
     requires called { asked.now.dot ≡ true → IsSome asked.now.call }
-    ensures told { AnswersWhen (S.held shelf.now) (question_of asked.now) (ending_of result) }
+    ensures told { AnswersWhen (S.held shelf.now) context.now (question_of asked.now) (ending_of result) }
     ensures counted { CountsReads result reads.old reads.new }
 {
     let call = asked_call(alloc, asked.call)?;
-    let filters = asked_filters(alloc, asked, shelf, reads)?;
-    Ok(told(alloc, asked.dot, call, &filters.chain)?)
+    let filters = asked_filters(alloc, asked, shelf, context, reads)?;
+    Ok(told(alloc, asked.dot, call, filters)?)
 }
 
-fn told(alloc: Global, dot: bool, call: Option<u32>, chain: &Chain) -> Result<Answer, AllocError>
+fn told(alloc: Global, dot: bool, call: Option<u32>, filters: Filters) -> Result<Answer, AllocError>
     requires called { dot ≡ true → IsSome call }
-    ensures told { IfOk result (λ answer. TellsWhenOf dot call chain.now (ending_of (Ok answer))) }
+    ensures told { IfOk result (λ answer. TellsWhenOf dot call filters.chain filters.notes.items (ending_of (Ok answer))) }
 {
     Ok(Answer {
-        text: text_of(alloc, dot, call, chain)?.into_bytes(),
+        text: text_of(alloc, dot, call, &filters.chain)?.into_bytes(),
+        notes: filters.notes,
         denies: false,
     })
 }

@@ -1,18 +1,17 @@
 //! `ask why`: the path of a call through the filters.
 ghost use Rattle.std.specs.Prelude.{◌≡◌, ◌≤◌, IfOk, IfErr, length, map, string_bytes};
 ghost use Rattle.sk_call_text.specs.CallWords.{call_of};
-ghost use Rattle.sk_ask.specs.Endings.{CountsReads, ending_of};
+ghost use Rattle.sk_ask_filters.specs.Counts.{CountsReads};
+ghost use Rattle.sk_ask.specs.Endings.{ending_of};
 ghost use Rattle.sk_ask.specs.Asking.{question_of, wanted};
 ghost use Rattle.sk_ask.specs.Whys.{AnswersCall, AnswersWhy, IsFaultOf, TellsWhyOf, fault_line};
 
-use crate::complaint::of_word;
-use crate::filters::filters_in;
-use crate::shelf::Shelf;
-use crate::trouble::{Answer, Trouble};
+use crate::answer::Answer;
 use crate::words::{Asked, Word};
+use sk_ask_filters::{Filters, Shelf, Trouble, filters_in, of_word};
 use sk_call_text::{CallFault, call_in, name_part};
-use sk_chain::Chain;
 use sk_insn::Record;
+use sk_profile_json::Context;
 use std::alloc::{AllocError, Global};
 
 /// Answers `ask why`.
@@ -20,29 +19,31 @@ pub fn why<S: Shelf>(
     alloc: Global,
     asked: &Asked<'_>,
     shelf: &S,
+    context: &Context<'_>,
     reads: &mut u64,
 ) -> Result<Answer, Trouble>
     requires named { length (wanted Word.Why) ≤ length asked.now.names.items }
-    ensures told { AnswersWhy (S.held shelf.now) (question_of asked.now) (ending_of result) }
+    ensures told { AnswersWhy (S.held shelf.now) context.now (question_of asked.now) (ending_of result) }
     ensures counted { CountsReads result reads.old reads.new }
 {
     let (word, files) = asked.first_name();
-    call_answer(alloc, shelf, reads, word, files)
+    call_answer(alloc, shelf, context, reads, word, files)
 }
 
 fn call_answer<S: Shelf>(
     alloc: Global,
     shelf: &S,
+    context: &Context<'_>,
     reads: &mut u64,
     word: &str,
     files: &[String],
 ) -> Result<Answer, Trouble>
-    ensures told { AnswersCall (S.held shelf.now) word.now (map string_bytes files.now) (ending_of result) }
+    ensures told { AnswersCall (S.held shelf.now) context.now word.now (map string_bytes files.now) (ending_of result) }
     ensures counted { CountsReads result reads.old reads.new }
 {
     let call = meant(alloc, word)?;
-    let filters = filters_in(alloc, shelf, reads, files)?;
-    Ok(path(alloc, &filters.chain, &call)?)
+    let filters = filters_in(alloc, shelf, context, reads, files)?;
+    Ok(path(alloc, filters, &call)?)
 }
 
 // The call that a word stands for.
@@ -68,11 +69,12 @@ fn fault_line(alloc: Global, word: &str, fault: CallFault) -> Result<Vec<u8>, Al
     }
 }
 
-fn path(alloc: Global, chain: &Chain, call: &Record) -> Result<Answer, AllocError>
-    ensures told { IfOk result (λ answer. TellsWhyOf call.now chain.now (ending_of (Ok answer))) }
+fn path(alloc: Global, filters: Filters, call: &Record) -> Result<Answer, AllocError>
+    ensures told { IfOk result (λ answer. TellsWhyOf call.now filters.chain filters.notes.items (ending_of (Ok answer))) }
 {
     Ok(Answer {
-        text: sk_why::why(alloc, chain, call)?.into_bytes(),
+        text: sk_why::why(alloc, &filters.chain, call)?.into_bytes(),
+        notes: filters.notes,
         denies: false,
     })
 }

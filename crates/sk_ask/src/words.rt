@@ -1,12 +1,15 @@
 //! The words behind `ask WORD`.
 ghost use Rattle.std.specs.Prelude.{◌≡◌, ◌≤◌, ◌∷◌, IfOk, length, string_bytes, map, slice_get};
 ghost use Rattle.std.specs.Option.{option_map};
-ghost use Rattle.sk_ask.specs.Asking.{asked_of, nothing_asked, with_word, with_option, with_call, with_name, ended, named, none_missing, two_named, missing, wanted, is_option, question_of, word_named, word_name, Asks, HasCall, HasNames};
+ghost use Rattle.sk_profile_json.specs.Contexts.{kernel_of};
+ghost use Rattle.sk_ask.specs.Capabilities.{capability};
+ghost use Rattle.sk_ask.specs.Asking.{asked_of, nothing_asked, with_word, with_free, with_option, with_valued, with_value, with_caps, with_kernel, with_flag, with_name, valued_name, valued_named, value_kind, tells_calls, is_given, expected_line, ended, complete, named, none_missing, two_named, missing, wanted, is_option, question_of, word_named, word_name, Asks, HasCall, HasNames};
 
-use crate::complaint::of_word;
-use crate::trouble::Trouble;
+use crate::capabilities::capability;
+use sk_ask_filters::{Trouble, of_word};
+use sk_profile_json::{Kernel, kernel_of};
 use sk_text::is_word;
-use std::alloc::Global;
+use std::alloc::{AllocError, Global};
 
 /// What is asked for.
 #[derive(Clone, Copy, Debug, PartialEq, Eq)]
@@ -67,13 +70,72 @@ impl Word {
     }
 }
 
+/// An option that a word stands behind.
+#[derive(Clone, Copy, Debug, PartialEq, Eq)]
+pub enum Valued {
+    /// The only call that is asked of.
+    Call,
+    /// A capability that is held where profiles are to hold.
+    Cap,
+    /// The version of the kernel there.
+    Kernel,
+}
+
+impl Valued {
+    fn name(self) -> &'static str
+        ensures name { result.now ≡ valued_name self }
+    {
+        match self {
+            Valued::Call => "--call",
+            Valued::Cap => "--cap",
+            Valued::Kernel => "--kernel",
+        }
+    }
+
+    // What is expected behind it.
+    fn value_kind(self) -> &'static str
+        ensures kind { result.now ≡ value_kind self }
+    {
+        match self {
+            Valued::Call => "a name or a number",
+            Valued::Cap => "a name",
+            Valued::Kernel => "a version as 6.1",
+        }
+    }
+
+    // The one of this word that is named so.
+    fn named(word: Word, name: &[u8]) -> Option<Valued>
+        ensures option { result ≡ valued_named word name.now }
+    {
+        if tells_calls(word) && is_word(name, b"--call") {
+            Some(Valued::Call)
+        } else if is_word(name, b"--cap") {
+            Some(Valued::Cap)
+        } else if is_word(name, b"--kernel") {
+            Some(Valued::Kernel)
+        } else {
+            None
+        }
+    }
+}
+
+fn tells_calls(word: Word) -> bool
+    ensures tells { result ≡ tells_calls word }
+{
+    matches!(word, Word::Calls | Word::When)
+}
+
 /// What the words behind it ask.
 #[derive(Drop)]
 pub struct Asked<'a> {
     /// The word behind `--call`.
     pub call: Option<&'a str>,
-    /// `--call` was the last word.
-    pub awaits: bool,
+    /// The names of the capabilities behind each `--cap`.
+    pub caps: Vec<&'static str>,
+    /// The version behind `--kernel`.
+    pub kernel: Option<Kernel>,
+    /// The last word was this option.
+    pub awaits: Option<Valued>,
     pub examples: bool,
     pub dot: bool,
     pub raw: bool,
@@ -101,7 +163,9 @@ pub fn asked_in<'a>(alloc: Global, word: Word, words: &'a [String]) -> Result<As
 {
     let mut asked = Asked {
         call: None,
-        awaits: false,
+        caps: Vec::new(alloc),
+        kernel: None,
+        awaits: None,
         examples: false,
         dot: false,
         raw: false,
@@ -125,34 +189,132 @@ fn with_word<'a>(
 ) -> Result<Asked<'a>, Trouble>
     ensures exact { Asks result (with_word word (question_of asked.entry) (string_bytes text.now)) }
 {
-    let bytes = text.as_bytes();
-    if asked.awaits {
-        Ok(Asked {
-            call: Some(text.as_str()),
-            awaits: false,
-            ..asked
-        })
-    } else if is_word(bytes, b"--help") {
-        Ok(Asked {
-            help: true,
-            ..asked
-        })
-    } else {
-        with_option(alloc, word, asked, text)
+    match asked.awaits {
+        Some(option) => with_value(alloc, word, option, asked, text),
+        None => with_free(alloc, word, asked, text),
     }
 }
 
-fn with_option<'a>(
+// The word behind an option.
+fn with_value<'a>(
+    alloc: Global,
+    word: Word,
+    option: Valued,
+    asked: Asked<'a>,
+    text: &'a String,
+) -> Result<Asked<'a>, Trouble>
+    ensures exact { Asks result (with_value word option (question_of asked.entry) (string_bytes text.now)) }
+{
+    match option {
+        Valued::Call => Ok(Asked {
+            call: Some(text.as_str()),
+            awaits: None,
+            ..asked
+        }),
+        Valued::Cap => with_caps(alloc, word, asked, text.as_bytes()),
+        Valued::Kernel => with_kernel(alloc, word, asked, kernel_of(text.as_bytes())),
+    }
+}
+
+fn with_caps<'a>(
+    alloc: Global,
+    word: Word,
+    asked: Asked<'a>,
+    text: &[u8],
+) -> Result<Asked<'a>, Trouble>
+    ensures exact { Asks result (with_caps word (question_of asked.entry) text.now (capability text.now)) }
+{
+    let Some(names) = capability(text) else {
+        let what = format!(in alloc; "{}: no capability is named ", word.name())?;
+        return Err(Trouble::Refused(of_word(alloc, &what, text)?));
+    };
+    let mut asked = Asked {
+        awaits: None,
+        ..asked
+    };
+    asked.caps.extend_from_slice(names)?;
+    Ok(asked)
+}
+
+fn with_kernel<'a>(
+    alloc: Global,
+    word: Word,
+    asked: Asked<'a>,
+    kernel: Option<Kernel>,
+) -> Result<Asked<'a>, Trouble>
+    ensures exact { Asks result (with_kernel word (question_of asked.entry) kernel) }
+{
+    if kernel.is_none() {
+        return Err(Trouble::Refused(expected_line(alloc, word, Valued::Kernel)?));
+    }
+    Ok(Asked {
+        kernel,
+        awaits: None,
+        ..asked
+    })
+}
+
+// A word that no option awaits.
+fn with_free<'a>(
     alloc: Global,
     word: Word,
     asked: Asked<'a>,
     text: &String,
 ) -> Result<Asked<'a>, Trouble>
-    ensures exact { Asks result (with_option word (question_of asked.entry) (string_bytes text.now)) }
+    ensures exact { Asks result (with_free word (question_of asked.entry) (string_bytes text.now)) }
+{
+    let bytes = text.as_bytes();
+    if is_word(bytes, b"--help") {
+        return Ok(Asked {
+            help: true,
+            ..asked
+        });
+    }
+    match Valued::named(word, bytes) {
+        Some(option) => with_valued(alloc, word, option, asked),
+        None => with_flag(alloc, word, asked, text),
+    }
+}
+
+fn with_valued<'a>(
+    alloc: Global,
+    word: Word,
+    option: Valued,
+    asked: Asked<'a>,
+) -> Result<Asked<'a>, Trouble>
+    ensures exact { Asks result (with_valued word option (question_of asked.entry)) }
+{
+    if is_given(option, &asked) {
+        let what = format!(in alloc; "{}: given twice: ", word.name())?;
+        return Err(Trouble::Refused(of_word(alloc, &what, option.name().as_bytes())?));
+    }
+    Ok(Asked {
+        awaits: Some(option),
+        ..asked
+    })
+}
+
+// Whether it is there, and may not come again.
+fn is_given(option: Valued, asked: &Asked<'_>) -> bool
+    ensures given { result ≡ is_given option (question_of asked.now) }
+{
+    match option {
+        Valued::Call => asked.call.is_some(),
+        Valued::Cap => false,
+        Valued::Kernel => asked.kernel.is_some(),
+    }
+}
+
+fn with_flag<'a>(
+    alloc: Global,
+    word: Word,
+    asked: Asked<'a>,
+    text: &String,
+) -> Result<Asked<'a>, Trouble>
+    ensures exact { Asks result (with_flag word (question_of asked.entry) (string_bytes text.now)) }
 {
     let bytes = text.as_bytes();
     match word {
-        Word::Calls | Word::When if is_word(bytes, b"--call") => with_call(alloc, word, asked),
         Word::Calls if is_word(bytes, b"--examples") => Ok(Asked {
             examples: true,
             ..asked
@@ -165,19 +327,6 @@ fn with_option<'a>(
         }),
         _ => with_name(alloc, word, asked, text),
     }
-}
-
-fn with_call<'a>(alloc: Global, word: Word, asked: Asked<'a>) -> Result<Asked<'a>, Trouble>
-    ensures exact { Asks result (with_call word (question_of asked.entry)) }
-{
-    if asked.call.is_some() {
-        let what = format!(in alloc; "{}: given twice: ", word.name())?;
-        return Err(Trouble::Refused(of_word(alloc, &what, b"--call")?));
-    }
-    Ok(Asked {
-        awaits: true,
-        ..asked
-    })
 }
 
 fn with_name<'a>(
@@ -204,15 +353,31 @@ fn is_option(word: &[u8]) -> bool
     word.first() == Some(&b'-') && word.len() > 1
 }
 
+// The line that says what is expected behind an option.
+fn expected_line(alloc: Global, word: Word, option: Valued) -> Result<Vec<u8>, AllocError>
+    ensures line { IfOk result (λ line. line.items ≡ expected_line word option) }
+{
+    let what = format!(in alloc; "{}: expected {} behind ", word.name(), option.value_kind())?;
+    of_word(alloc, &what, option.name().as_bytes())
+}
+
 fn ended<'a>(alloc: Global, word: Word, asked: Asked<'a>) -> Result<Asked<'a>, Trouble>
     ensures exact { Asks result (ended word (question_of asked.entry)) }
     ensures named { IfOk result (HasNames word) }
     ensures called { IfOk result HasCall }
 {
-    if asked.awaits {
-        let what = format!(in alloc; "{}: expected a name or a number behind ", word.name())?;
-        return Err(Trouble::Refused(of_word(alloc, &what, b"--call")?));
+    match asked.awaits {
+        Some(option) => Err(Trouble::Refused(expected_line(alloc, word, option)?)),
+        None => complete(alloc, word, asked),
     }
+}
+
+// Whether all is there that is wanted.
+fn complete<'a>(alloc: Global, word: Word, asked: Asked<'a>) -> Result<Asked<'a>, Trouble>
+    ensures exact { Asks result (complete word (question_of asked.entry)) }
+    ensures named { IfOk result (HasNames word) }
+    ensures called { IfOk result HasCall }
+{
     if asked.help {
         return Ok(asked);
     }

@@ -58,6 +58,66 @@ const ANSWERS: &[(&[&str], &[u8])] = &[
         b"; 0 nr\n    ldabs 0\n; 1 getpid\n    jeq 39 +0 at3\n; 2 errno/1 EPERM\n    ret 0x00050001\nat3:\n; 3 allow\n    ret 0x7fff0000\n",
     ),
     (&["show", "all"], b"; 0 allow\n    ret 0x7fff0000\n"),
+    (
+        &["calls", "--call", "getpid", "profile"],
+        b"39 getpid allow\n",
+    ),
+    (
+        &["calls", "--call", "read", "profile"],
+        b"0 read errno/38 ENOSYS\n",
+    ),
+    (
+        &["calls", "--call", "read", "--cap", "docker", "profile"],
+        b"0 read errno/38 ENOSYS\n",
+    ),
+    (
+        &["calls", "--call", "read", "--cap", "all", "profile"],
+        b"0 read allow\n",
+    ),
+    (
+        &[
+            "calls",
+            "profile",
+            "--cap",
+            "sys_admin",
+            "--cap",
+            "CAP_KILL",
+            "--call",
+            "0",
+        ],
+        b"0 read allow\n",
+    ),
+    (
+        &["when", "--call", "ptrace", "profile"],
+        b"101 ptrace allow\n",
+    ),
+    (
+        &["when", "--kernel", "4.4", "--call", "ptrace", "profile"],
+        b"101 ptrace errno/38 ENOSYS\n",
+    ),
+    (
+        &["calls", "--call", "mseal", "profile"],
+        b"462 mseal allow\n",
+    ),
+    (
+        &["calls", "--call", "getpid", "profile", "getpid"],
+        b"39 getpid errno/1 EPERM\n",
+    ),
+    (&["diff", "profile", "profile"], b"the same on every call\n"),
+    (
+        &["diff", "--stricter", "all", "allowing"],
+        b"as strict on every call\n",
+    ),
+    (
+        &[
+            "calls", "--cap", "all", "--kernel", "6.1", "--call", "0", "all",
+        ],
+        b"0 read allow\n",
+    ),
+    (
+        &["replay", "--cap", "all", "log", "profile"],
+        b"2 read(0x3, 0x7ffd, 0x40) allow\n1 getpid() allow\n1 line is no call\n",
+    ),
 ];
 
 /// Words whose answer says no, and the whole answer.
@@ -87,6 +147,32 @@ fn a_no_is_an_answer(rt: HostRuntime) -> Result<(), Fail> {
         assert_eq!(rt;
             (ran.status, ran.out.as_slice(), ran.complaints.len()),
             (1, answer, 0),
+            "at {words:?}"
+        );
+    }
+    Ok(())
+}
+
+/// What is passed over in a profile is told beside the answer, and where it can't be written the answer is the same.
+#[test]
+fn notes_stand_beside_an_answer(rt: HostRuntime) -> Result<(), Fail> {
+    let rows: [(&[&str], &[u8], &[u8]); 2] = [
+        (
+            &["calls", "--call", "read", "noted"],
+            b"0 read allow\n",
+            b"ask: noted: entry 1 of syscalls: no call is named opennat: passed over\n",
+        ),
+        (
+            &["diff", "noted", "noted"],
+            b"the same on every call\n",
+            b"ask: noted: entry 1 of syscalls: no call is named opennat: passed over\nask: noted: entry 1 of syscalls: no call is named opennat: passed over\n",
+        ),
+    ];
+    for (words, answer, notes) in rows {
+        let ran = run(rt.alloc(), words, 0)?;
+        assert_eq!(rt;
+            (ran.status, ran.out.as_slice(), ran.complaints.as_slice()),
+            (0, answer, notes),
             "at {words:?}"
         );
     }

@@ -1,7 +1,8 @@
 //! Files and writers in memory.
 ghost use Rattle.std.specs.Prelude.{None};
 
-use sk_ask::{Shelf, Unread, command};
+use sk_ask::command;
+use sk_ask_filters::{Shelf, Unread};
 use sk_ends::Counted;
 use std::alloc::{AllocError, Global};
 use std::io;
@@ -34,6 +35,37 @@ const FILES: &[(&str, &[u8])] = &[
     ("empty", b""),
     ("words", b"; one\nhello\n"),
     ("code", b"# two\nfilter 2100000000000000060000000000ff7f"),
+    (
+        "profile",
+        b" {\"defaultAction\": \"SCMP_ACT_ERRNO\", \"defaultErrnoRet\": 38, \"syscalls\": [
+            {\"names\": [\"getpid\"], \"action\": \"SCMP_ACT_ALLOW\"},
+            {\"names\": [\"read\"], \"action\": \"SCMP_ACT_ALLOW\", \"includes\": {\"caps\": [\"CAP_SYS_ADMIN\", \"CAP_KILL\"]}},
+            {\"names\": [\"ptrace\"], \"action\": \"SCMP_ACT_ALLOW\", \"includes\": {\"minKernel\": \"4.8\"}},
+            {\"names\": [\"mseal\"], \"action\": \"SCMP_ACT_ALLOW\", \"excludes\": {\"minKernel\": \"6.13\"}}]}",
+    ),
+    ("allowing", b"{\"defaultAction\": \"SCMP_ACT_ALLOW\"}"),
+    (
+        "noted",
+        b"{\"defaultAction\": \"SCMP_ACT_ALLOW\", \"syscalls\": [{\"names\": [\"opennat\"], \"action\": \"SCMP_ACT_LOG\"}]}",
+    ),
+    ("object", b"{}"),
+    ("open", b"\r\n\t{"),
+    (
+        "keys",
+        b"{\"defaultAction\": \"SCMP_ACT_ALLOW\", \"defaultAction\": \"SCMP_ACT_ALLOW\"}",
+    ),
+    ("bytes", b"{\"defaultAction\": \"\xff\"}"),
+    (
+        "marked",
+        b"\xef\xbb\xbf{\"defaultAction\": \"SCMP_ACT_ALLOW\"}",
+    ),
+    (
+        "clash",
+        b"{\"defaultAction\": \"SCMP_ACT_ALLOW\", \"syscalls\": [
+            {\"names\": [\"read\"], \"action\": \"SCMP_ACT_LOG\"},
+            {\"names\": [\"write\"], \"action\": \"SCMP_ACT_LOG\", \"args\": [{\"index\": 0, \"value\": 1, \"op\": \"SCMP_CMP_EQ\"}]},
+            {\"names\": [\"write\"], \"action\": \"SCMP_ACT_KILL\", \"args\": [{\"index\": 1, \"value\": 2, \"op\": \"SCMP_CMP_EQ\"}]}]}",
+    ),
 ];
 
 /// A shelf with these files.

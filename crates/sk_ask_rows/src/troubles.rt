@@ -134,6 +134,62 @@ const TROUBLES: &[(&[&str], &[u8])] = &[
         b"ask: code: line 2: instruction 0: the code is none of the 41 that seccomp(2) permits\n",
     ),
     (
+        &["calls", "all", "--cap"],
+        b"ask: calls: expected a name behind --cap\n",
+    ),
+    (
+        &["calls", "--cap", "FOO", "all"],
+        b"ask: calls: no capability is named FOO\n",
+    ),
+    (
+        &["filter", "--cap", "CAP_", "--help"],
+        b"ask: filter: no capability is named CAP_\n",
+    ),
+    (
+        &["why", "getpid", "all", "--kernel"],
+        b"ask: why: expected a version as 6.1 behind --kernel\n",
+    ),
+    (
+        &["show", "--kernel", "x", "all"],
+        b"ask: show: expected a version as 6.1 behind --kernel\n",
+    ),
+    (
+        &["diff", "--kernel", "6.1", "--kernel", "6.1", "all", "all"],
+        b"ask: diff: given twice: --kernel\n",
+    ),
+    (
+        &["replay", "profile", "profile"],
+        b"ask: profile: holds no call: expected lines as strace -f -X raw -e raw=all writes them\n",
+    ),
+    (
+        &["calls", "object"],
+        b"ask: object: defaultAction: missing: expected an action as SCMP_ACT_ERRNO, and not SCMP_ACT_NOTIFY\n",
+    ),
+    (
+        &["filter", "words", "noted", "open", "object"],
+        b"ask: open: is no JSON: expected the JSON of a profile, no more than 128 deep\n",
+    ),
+    (
+        &["when", "keys"],
+        b"ask: keys: a key comes twice in one object\n",
+    ),
+    (
+        &["show", "bytes"],
+        b"ask: bytes: is no text in UTF-8: expected the JSON of a profile\n",
+    ),
+    (
+        &["show", "marked"],
+        b"ask: marked: line 1: expected filter HEX\n",
+    ),
+    (
+        &["diff", "all", "clash"],
+        b"ask: clash: entries 2 and 3 of syscalls clash on write: some call fits both, and they say different things\n",
+    ),
+    (
+        &["show", "profile", "profile"],
+        b"ask: show: the FILEs hold several filters: expected one\n",
+    ),
+    (
         &["filter", "--raw", "two"],
         b"ask: filter: the FILEs hold several filters: expected one with --raw\n",
     ),

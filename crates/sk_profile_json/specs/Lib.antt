@@ -9,4 +9,6 @@ pub mod Contexts
 pub mod ContextViews
 pub mod Wholes
 pub mod WholeViews
+pub mod Parts
+pub mod Origins
 pub mod WorkedProfiles

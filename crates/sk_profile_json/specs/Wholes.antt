@@ -1,13 +1,14 @@
 -- A whole profile: the object `seccomp` of config-linux.md of the OCI runtime specification, with what docker's and podman's
 -- profiles have beside it. `flags`, `listenerPath` and `listenerMetadata` say how a filter is attached, and nothing of what
 -- it answers.
-use Rattle.std.specs.Prelude.{ℕ, ◌≡◌, ◌+◌, ◌&&◌, ◌||◌, not, Bool, true, false, if◌then◌else◌, List, [], ◌∷◌, ◌++◌, codes, is_some, Option, Some, None, Result, Ok, Err, ⊤}
+use Rattle.std.specs.Prelude.{ℕ, ◌≡◌, ◌+◌, ◌&&◌, ◌||◌, not, Bool, true, false, if◌then◌else◌, List, [], ◌∷◌, ◌++◌, codes, is_some, Option, Some, None, Result, Ok, Err, ⊤, All}
 use Rattle.std.specs.List.{list_any, list_all}
 use Rattle.std.specs.Option.{IsSomeAnd}
 use Rattle.json.specs.Json.{Json, document}
 use Rattle.json.specs.Strict.{HasUniqueKeys}
 use Rattle.sk_insn.specs.declared.action.Action.{Action}
 use Rattle.sk_profile_code.specs.declared.condition.Condition.{Condition}
+use Rattle.sk_profile.specs.Faults.{is_good}
 use Rattle.sk_profile.specs.Profiles.{Rule, Profile}
 use Rattle.sk_profile_json.specs.declared.conditions.WrongArgument.{WrongArgument}
 use Rattle.sk_profile_json.specs.declared.context.Context.{Context}
@@ -156,6 +157,10 @@ profile_if context (Err wrong) = Err (fault_at place.Profile wrong)
 abbrev pub profile_in : Context → Json → Result Profile Fault
 profile_in context j = profile_if context (head_of j)
 
+-- each of its rules is one that a filter can be made of
+abbrev pub RulesAreGood : Type 0
+RulesAreGood = (context : Context) (j : Json) (profile : Profile) → profile_in context j ≡ Ok profile → All (λ rule. is_good rule ≡ true) profile.rules
+
 -- ---- reading
 
 -- so something is wrong, or memory was refused
@@ -172,8 +177,12 @@ IsText text j = (document text ≡ Some j) × HasUniqueKeys j
 abbrev pub Says : Context → List ℕ → Profile → Type 0
 Says context text profile = (j : Json) × IsText text j × (profile_in context j ≡ Ok profile)
 
+abbrev pub IsTextFault : List ℕ → ReadFault → Type 0
+IsTextFault text (read.Profile fault) = ⊥
+IsTextFault text read.Memory = ⊤
+IsTextFault text read.NotJson = document text ≡ None
+IsTextFault text read.KeyTwice = IsSomeAnd (document text) (λ j. ¬ HasUniqueKeys j)
+
 abbrev pub IsReadFault : Context → List ℕ → ReadFault → Type 0
 IsReadFault context text (read.Profile fault) = (j : Json) × IsText text j × (profile_in context j ≡ Err fault)
-IsReadFault context text read.Memory = ⊤
-IsReadFault context text read.NotJson = document text ≡ None
-IsReadFault context text read.KeyTwice = IsSomeAnd (document text) (λ j. ¬ HasUniqueKeys j)
+IsReadFault context text fault = IsTextFault text fault

@@ -50,7 +50,8 @@ pub(crate) fn entry_of<'v, 'a>(entry: &'v Value<'a>) -> Result<Entry<'v, 'a>, Wr
     })
 }
 
-fn names<'v, 'a>(entry: &'v Value<'a>) -> Result<&'v [Value<'a>], Wrong>
+/// The names that an entry is for.
+pub(crate) fn names<'v, 'a>(entry: &'v Value<'a>) -> Result<&'v [Value<'a>], Wrong>
     ensures names { result_map_both (λ names. map value_view names.now) (λ e. e) result ≡ names_in (value_view entry.now) }
 {
     let items = list(entry, Field::Names)?;

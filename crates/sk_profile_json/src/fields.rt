@@ -63,7 +63,8 @@ pub(crate) fn list<'v, 'a>(object: &'v Value<'a>, field: Field) -> Result<&'v [V
     }
 }
 
-fn no_items<'v, 'a>() -> &'v [Value<'a>]
+/// No items.
+pub(crate) fn no_items<'v, 'a>() -> &'v [Value<'a>]
     ensures none { result.now ≡ [] }
 {
     &[]

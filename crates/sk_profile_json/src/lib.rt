@@ -9,9 +9,13 @@ mod entry;
 mod fault;
 mod fields;
 pub mod laws;
+mod origins;
+mod parts;
 mod rules;
 mod whole;
 
 pub use context::{Context, Kernel, kernel_of};
 pub use fault::{Fault, Field, Place, ReadFault, Wrong};
-pub use whole::{profile_in, read};
+pub use origins::origins_of;
+pub use parts::{counted_names, entries_of, names_others};
+pub use whole::{profile_in, read, value_of};

@@ -111,8 +111,8 @@ fn push_rule(
     Ok(())
 }
 
-// The number of the call with this name.
-fn number_of(name: &Value<'_>) -> Option<u32>
+/// The number of the call with this name.
+pub(crate) fn number_of(name: &Value<'_>) -> Option<u32>
     ensures number { result ≡ option_and_then number_named (as_str (value_view name.now)) }
 {
     number(name.as_str()?.as_bytes())

@@ -7,7 +7,7 @@ ghost use Rattle.json.specs.Value.{value_view};
 ghost use Rattle.sk_profile.specs.Views.{profile_of};
 ghost use Rattle.sk_profile_json.specs.Contexts.{is_empty};
 ghost use Rattle.sk_profile_json.specs.WholeViews.{head_view};
-ghost use Rattle.sk_profile_json.specs.Wholes.{is_architecture, is_x86_64, are_architectures, is_map, maps_x86_64, is_some_and, are_maps, are_all, wrong_lists, default_in, default_with, head_of, head_with, head_unless, profile_in, Says, IsFault, IsReadFault};
+ghost use Rattle.sk_profile_json.specs.Wholes.{is_architecture, is_x86_64, are_architectures, is_map, maps_x86_64, is_some_and, are_maps, are_all, wrong_lists, default_in, default_with, head_of, head_with, head_unless, profile_in, Says, IsText, IsTextFault, IsFault, IsReadFault};
 ghost use Rattle.sk_profile_json.specs.Fields.{list_in, given, is_the};
 ghost use Rattle.sk_profile_json.specs.declared.fault.Field.TheVariants as field;
 
@@ -72,17 +72,32 @@ pub(crate) struct Head<'v, 'a> {
     pub entries: &'v [Value<'a>],
 }
 
+/// The value that a text is, in which no object has a key twice. What its texts need beside the text is kept in `scratch`.
+pub fn value_of<'a>(
+    alloc: Global,
+    text: &'a str,
+    scratch: &'a mut Scratch,
+) -> Result<Value<'a>, ReadFault>
+    ensures value { IfOk result (λ value. IsText text.now (value_view value)) }
+    ensures fault { IfErr result (IsTextFault text.now) }
+{
+    match Value::parse_strict(alloc, text, scratch) {
+        Err(Error::Invalid) | Err(Error::TooLong) => Err(ReadFault::NotJson),
+        Err(Error::DuplicateKey) => Err(ReadFault::KeyTwice),
+        Err(Error::OutOfMemory) => Err(ReadFault::Memory),
+        Ok(value) => Ok(value),
+    }
+}
+
 /// The profile that a text says, where it is to hold.
 pub fn read(alloc: Global, context: &Context<'_>, text: &str) -> Result<Profile, ReadFault>
     ensures says { IfOk result (λ profile. Says context.now text.now (profile_of profile)) }
     ensures fault { IfErr result (IsReadFault context.now text.now) }
 {
     let mut scratch = Scratch::new(alloc);
-    match Value::parse_strict(alloc, text, &mut scratch) {
-        Err(Error::Invalid) | Err(Error::TooLong) => Err(ReadFault::NotJson),
-        Err(Error::DuplicateKey) => Err(ReadFault::KeyTwice),
-        Err(Error::OutOfMemory) => Err(ReadFault::Memory),
+    match value_of(alloc, text, &mut scratch) {
         Ok(value) => profile_in(alloc, context, &value),
+        Err(fault) => Err(fault),
     }
 }
 
@@ -246,7 +261,7 @@ fn has_sub_architectures(value: &Value<'_>) -> bool
     }
 }
 
-fn maps_x86_64(value: &Value<'_>) -> bool
+pub(crate) fn maps_x86_64(value: &Value<'_>) -> bool
     ensures maps { result ≡ maps_x86_64 (value_view value.now) }
 {
     match given(value, Field::Architecture) {

@@ -6,12 +6,13 @@ use Rattle.sk_ask.proofs.diff.diff.Goals as goal
 pub returns-clause-told : goal.returns-clause-told
 returns-clause-told g c =
     let held = g.S.Shelf.held c.args.shelf.now in
+    let context = c.args.context.now in
     let stricter = c.args.asked.now.stricter in
     let end = ending_of c.diff_of.result in
     let names = map string_bytes c.deref.result.now in
     let behind = map string_bytes c.sides.result.1.now in
     let first =
-    subst (λ (old : List (List ℕ)). AnswersSides held stricter old behind end) c.sides.ensures.old c.diff_of.ensures.told in
+    subst (λ (old : List (List ℕ)). AnswersSides held context stricter old behind end) c.sides.ensures.old c.diff_of.ensures.told in
     let both =
-    subst (λ (new : List (List ℕ)). AnswersSides held stricter (take 1 names) new end) c.sides.ensures.new first in
-    subst (λ (all : List (List ℕ)). AnswersSides held stricter (take 1 all) (drop 1 all) end) (ap (map string_bytes) c.deref.ensures.value) both
+    subst (λ (new : List (List ℕ)). AnswersSides held context stricter (take 1 names) new end) c.sides.ensures.new first in
+    subst (λ (all : List (List ℕ)). AnswersSides held context stricter (take 1 all) (drop 1 all) end) (ap (map string_bytes) c.deref.ensures.value) both

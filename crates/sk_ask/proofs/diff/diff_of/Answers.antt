@@ -9,6 +9,8 @@ returns-clause-told g c =
       filters_of c.in_ok-new.new.found,
       c.in_ok-old.old.chain,
       c.in_ok-new.new.chain,
+      c.in_ok-old.old.notes.items,
+      c.in_ok-new.new.notes.items,
       c.in_ok-old.ensures.read,
       c.in_ok-new.ensures.read,
       c.compared.ensures.told,

@@ -7,6 +7,7 @@ use Rattle.sk_ask.proofs.replay.replay.Goals as goal
 pub returns-clause-told : goal.returns-clause-told
 returns-clause-told g c =
     let held = g.S.Shelf.held c.args.shelf.now in
+    let context = c.args.context.now in
     let end = ending_of c.log_answer.result in
-    subst (λ (names : List (List ℕ)). OfFirst names end (λ log others. AnswersLog held log others end)) (sym c.first_name.ensures.names)
+    subst (λ (names : List (List ℕ)). OfFirst names end (λ log others. AnswersLog held context log others end)) (sym c.first_name.ensures.names)
     c.log_answer.ensures.told

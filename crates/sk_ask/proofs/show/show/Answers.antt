@@ -4,4 +4,4 @@ use Rattle.sk_ask.proofs.show.show.Goals as goal
 
 pub returns-clause-told : goal.returns-clause-told
 returns-clause-told g c =
-    inl (filters_of c.in_ok-filters.filters.found, c.in_ok-filters.filters.chain, c.in_ok-filters.ensures.read, c.shown.ensures.told)
+    inl (filters_of c.in_ok-filters.filters.found, c.in_ok-filters.filters.chain, c.in_ok-filters.filters.notes.items, c.in_ok-filters.ensures.read, c.shown.ensures.told)

@@ -7,6 +7,7 @@ returns-clause-told g c =
     inl (
       filters_of c.in_ok-filters.filters.found,
       c.in_ok-filters.filters.chain,
+      c.in_ok-filters.filters.notes.items,
       c.in_ok-filters.ensures.read,
       c.in_ok-call.call,
       c.in_ok-call.ensures.call,

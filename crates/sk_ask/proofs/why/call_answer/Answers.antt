@@ -8,6 +8,7 @@ returns-clause-told g c =
       c.in_ok-call.call,
       filters_of c.in_ok-filters.filters.found,
       c.in_ok-filters.filters.chain,
+      c.in_ok-filters.filters.notes.items,
       c.in_ok-call.ensures.call,
       c.in_ok-filters.ensures.read,
       c.in_ok-path.ensures.told,

@@ -1,0 +1,5 @@
+pub mod Complaints
+pub mod Counts
+pub mod Shelves
+pub mod Expanding
+pub mod Filters

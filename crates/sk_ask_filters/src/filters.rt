@@ -1,0 +1,80 @@
+//! The filters of files that are known by their names.
+ghost use Rattle.std.specs.Prelude.{◌≡◌, ◌<◌, IfOk, IfErr, length, map, string_bytes};
+ghost use Rattle.sk_ask_files.specs.Finding.{filters_of};
+ghost use Rattle.sk_ask_filters.specs.Counts.{CountsReads};
+ghost use Rattle.sk_ask_filters.specs.Filters.{ReadsFilters, IsRefusal, IsRefusedOf, IsReadAs, Judges, judged};
+
+use crate::complaint::about;
+use crate::expansion::{Expansion, expanded};
+use crate::shelf::{Shelf, contents};
+use crate::trouble::Trouble;
+use sk_ask_files::{Found, Refused, attach, fault_text, find};
+use sk_chain::Chain;
+use sk_profile_json::Context;
+use std::alloc::{AllocError, Global};
+
+/// Filters as they were found, the oldest first, their chain, and the lines of what is told of the profiles among them.
+#[derive(Drop)]
+pub struct Filters {
+    pub found: Found,
+    pub chain: Chain,
+    pub notes: Vec<u8>,
+}
+
+/// The filters in the files with these names, the oldest first. A profile stands there for its filter, as it is to hold.
+pub fn filters_in<S: Shelf>(
+    alloc: Global,
+    shelf: &S,
+    context: &Context<'_>,
+    reads: &mut u64,
+    names: &[String],
+) -> Result<Filters, Trouble>
+    ensures read { IfOk result (λ filters. ReadsFilters (S.held shelf.now) context.now (map string_bytes names.now) (filters_of filters.found) filters.chain filters.notes.items) }
+    ensures refused { IfErr result (IsRefusedOf (S.held shelf.now) context.now (map string_bytes names.now)) }
+    ensures counted { CountsReads result reads.old reads.new }
+{
+    let files = contents(alloc, shelf, reads, names)?;
+    let expansion = expanded(alloc, context, names, &files)?;
+    read(alloc, names, expansion)
+}
+
+fn read(alloc: Global, names: &[String], expansion: Expansion) -> Result<Filters, Trouble>
+    requires each { length expansion.images.items ≡ length names.now }
+    ensures exact { IsReadAs (map string_bytes names.now) result (judged (map (λ image. image.items) expansion.images.items)) }
+    ensures noted { IfOk result (λ filters. filters.notes.items ≡ expansion.notes.items) }
+{
+    match judged(alloc, &expansion.images)? {
+        Ok(filters) => Ok(Filters {
+            notes: expansion.notes,
+            ..filters
+        }),
+        Err(refused) => Err(Trouble::Refused(refusal_line(alloc, names, refused)?)),
+    }
+}
+
+// The filters that the images are, of which nothing is told yet.
+fn judged(alloc: Global, images: &[Vec<u8>]) -> Result<Result<Filters, Refused>, AllocError>
+    ensures exact { IfOk result (λ said. Judges said (judged (map (λ image. image.items) images.now))) }
+    ensures given { IfOk result (λ said. IfErr said (λ refused. refused.file < length images.now)) }
+{
+    let found = match find(alloc, images)? {
+        Ok(found) => found,
+        Err(refused) => return Ok(Err(refused)),
+    };
+    match attach(alloc, &found)? {
+        Ok(chain) => Ok(Ok(Filters {
+            found,
+            chain,
+            notes: Vec::new(alloc),
+        })),
+        Err(refused) => Ok(Err(refused)),
+    }
+}
+
+fn refusal_line(alloc: Global, names: &[String], refused: Refused) -> Result<Vec<u8>, AllocError>
+    requires given { refused.file < length names.now }
+    ensures line { IfOk result (λ line. IsRefusal (map string_bytes names.now) refused line.items) }
+{
+    let what = fault_text(alloc, refused.why)?;
+    about(alloc, &names[refused.file], &what)
+}

@@ -1,0 +1,14 @@
+//! The file of a container runtime's seccomp profile becomes the image of a filter.
+#![tactic(auto)]
+
+mod answer;
+mod form;
+mod image;
+mod making;
+mod note;
+mod text;
+
+pub use answer::{Clash, Made, Refusal};
+pub use form::is_profile;
+pub use making::made;
+pub use text::refusal_text;

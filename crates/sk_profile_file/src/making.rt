@@ -1,0 +1,120 @@
+//! From the bytes of a profile's file to the image of its filter.
+ghost use Rattle.std.specs.Prelude.{◌≡◌, ◌<◌, length, slice_get, Some, Ok, IfOk};
+ghost use Rattle.json.specs.Value.{value_view};
+ghost use Rattle.sk_profile.specs.Views.{profile_of};
+ghost use Rattle.sk_profile_json.specs.Wholes.{profile_in};
+ghost use Rattle.sk_profile_file.specs.Made.{IsMade, IsMadeOfText, IsMadeOf, Builds};
+
+use crate::answer::{Clash, Made, Refusal};
+use crate::image::image_of;
+use crate::note::notes_of;
+use json::{Scratch, Value};
+use sk_check::check;
+use sk_profile::{Profile, ProfileFault, profile_filter};
+use sk_profile_json::{Context, ReadFault, origins_of, profile_in, value_of};
+use std::alloc::{AllocError, Global};
+
+/// The image of the filter that means a profile, where it is to hold, or why it has none.
+pub fn made(
+    alloc: Global,
+    context: &Context<'_>,
+    bytes: &[u8],
+) -> Result<Result<Made, Refusal>, AllocError>
+    ensures made { IfOk result (IsMade context.now bytes.now) }
+{
+    match str::from_utf8(bytes) {
+        Ok(text) => made_of_text(alloc, context, text),
+        Err(_) => Ok(Err(Refusal::NotText)),
+    }
+}
+
+fn made_of_text(
+    alloc: Global,
+    context: &Context<'_>,
+    text: &str,
+) -> Result<Result<Made, Refusal>, AllocError>
+    ensures made { IfOk result (IsMadeOfText context.now text.now) }
+{
+    let mut scratch = Scratch::new(alloc);
+    match value_of(alloc, text, &mut scratch) {
+        Ok(value) => made_of_value(alloc, context, &value),
+        Err(ReadFault::NotJson) => Ok(Err(Refusal::NotJson)),
+        Err(ReadFault::KeyTwice) => Ok(Err(Refusal::KeyTwice)),
+        Err(ReadFault::Profile(_)) => unreachable!(),
+        Err(ReadFault::Memory) => Err(AllocError),
+    }
+}
+
+fn made_of_value(
+    alloc: Global,
+    context: &Context<'_>,
+    value: &Value<'_>,
+) -> Result<Result<Made, Refusal>, AllocError>
+    ensures made { IfOk result (IsMadeOf context.now (value_view value.now)) }
+{
+    match profile_in(alloc, context, value) {
+        Ok(profile) => made_of_profile(alloc, context, value, &profile),
+        Err(ReadFault::Profile(fault)) => Ok(Err(Refusal::Wrong(fault))),
+        Err(ReadFault::Memory) => Err(AllocError),
+        Err(ReadFault::NotJson) | Err(ReadFault::KeyTwice) => unreachable!(),
+    }
+}
+
+fn made_of_profile(
+    alloc: Global,
+    context: &Context<'_>,
+    value: &Value<'_>,
+    profile: &Profile,
+) -> Result<Result<Made, Refusal>, AllocError>
+    requires said { profile_in context.now (value_view value.now) ≡ Ok (profile_of profile.now) }
+    ensures made { IfOk result (IsMadeOf context.now (value_view value.now)) }
+{
+    match built(alloc, context, value, profile)? {
+        Ok(image) => {
+            let notes = notes_of(alloc, context, value)?;
+            Ok(Ok(Made { image, notes }))
+        }
+        Err(refusal) => Ok(Err(refusal)),
+    }
+}
+
+fn built(
+    alloc: Global,
+    context: &Context<'_>,
+    value: &Value<'_>,
+    profile: &Profile,
+) -> Result<Result<Vec<u8>, Refusal>, AllocError>
+    requires said { profile_in context.now (value_view value.now) ≡ Ok (profile_of profile.now) }
+    ensures builds { IfOk result (Builds context.now (value_view value.now) (profile_of profile.now)) }
+{
+    let insns = match profile_filter(alloc, profile) {
+        Ok(insns) => insns,
+        Err(ProfileFault::Rule(_)) => unreachable!(),
+        Err(ProfileFault::Clashes(it)) => {
+            let origins = origins_of(alloc, context, it.number, value)?;
+            return Ok(Err(Refusal::Clashes(clash_of(&origins, it))));
+        }
+        Err(ProfileFault::TooLong) => return Ok(Err(Refusal::TooLong)),
+        Err(ProfileFault::Memory) => return Err(AllocError),
+    };
+    match check(insns) {
+        Ok(checked) => Ok(Ok(image_of(alloc, checked.insns())?)),
+        // Never so, since the filter is valid whenever it is short enough.
+        Err(_) => Ok(Err(Refusal::TooLong)),
+    }
+}
+
+// The entries that two rules come from.
+fn clash_of(origins: &[usize], it: sk_profile::Clash) -> Clash
+    requires first { it.first < length origins.now }
+    requires second { it.second < length origins.now }
+    ensures number { result.number ≡ it.number }
+    ensures first { slice_get origins.now it.first ≡ Some result.first }
+    ensures second { slice_get origins.now it.second ≡ Some result.second }
+{
+    Clash {
+        number: it.number,
+        first: origins[it.first],
+        second: origins[it.second],
+    }
+}
