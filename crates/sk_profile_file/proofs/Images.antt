@@ -40,7 +40,7 @@ instructions_in-image (insn ∷ insns) h =
 read-count : (n : ℕ) (image : List ℕ) (insns : List Insn) → length image ≡ 8 * n → 1 ≤ n → n ≤ 4096 → instructions_in n image ≡ insns
     → image_instructions image ≡ Ok insns
 read-count n image insns long some few read =
-    let whole : ltb 0 (8 * n % 8) ≡ false = le-ltb (8 * n % 8) 0 (omega arith) in
+    let whole : ltb 0 (8 * n % 8) ≡ false = le-ltb 0 (8 * n % 8) (omega arith) in
     let full : eqb (8 * n) 0 ≡ false = ⊎_elim (λ same. absurd (omega (arith, same.1))) (λ other. other.0) (eqb_tells (8 * n) 0) in
     let count : 8 * n / 8 ≡ n = omega arith in
     let short : ltb 4096 n ≡ false = le-ltb 4096 n few in
@@ -57,4 +57,4 @@ image_is_read insns i image done written ranges valid =
     let all = take_all i insns done in
     let some : 1 ≤ length insns = ⊎_elim (λ none. absurd (valid Empty (omega (arith, none)))) (λ some. some) (cases_lt (length insns) 1) in
     let few : length insns ≤ 4096 = ⊎_elim (λ more. absurd (valid TooLong more)) (λ few. few) (cases_lt 4096 (length insns)) in
-    written ∙ ap image_of all ∙ read_image insns (subst (All IsInRange) all ranges) some few
+    ap image_instructions (written ∙ ap image_of all) ∙ read_image insns (subst (All IsInRange) all ranges) some few

@@ -1,3 +1,3 @@
 pub mod Images
 pub mod Noting
-pub mod Making
+pub mod Built

@@ -5,3 +5,4 @@ pub mod Clashes
 pub mod Texts
 pub mod Notes
 pub mod Made
+pub mod Capabilities

@@ -2,6 +2,7 @@
 #![tactic(auto)]
 
 mod answer;
+mod capabilities;
 mod form;
 mod image;
 mod making;
@@ -9,6 +10,7 @@ mod note;
 mod text;
 
 pub use answer::{Clash, Made, Refusal};
+pub use capabilities::capability;
 pub use form::is_profile;
 pub use making::made;
 pub use text::refusal_text;

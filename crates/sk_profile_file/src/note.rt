@@ -33,7 +33,7 @@ fn push_others(
     ensures pushed { OnOk result (map string_bytes notes.new.items ≡ map string_bytes notes.old.items ++ others_note (value_view profile.now)) }
 {
     if names_others(profile) {
-        let note = String::from(
+        let note = String::from_str(
             alloc,
             "x86-64's part alone: its other architectures have no filter here",
         )?;
