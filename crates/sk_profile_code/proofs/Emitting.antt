@@ -1,11 +1,14 @@
 -- Rows that are cut in two, and the code of the parts.
-use Rattle.std.proofs.Common.{◌≡◌, Bool, true, false, if◌then◌else◌, ℕ, zero, suc, ◌+◌, ◌<◌, ◌≤◌, List, [], ◌∷◌, ◌++◌, ◌-◌, length, get_or, take, drop, map, flat_map, refl, ap, sym, ◌∙◌, subst, arith, append_assoc, append-nil}
-use Rattle.std.specs.Prelude.{All, IsTrue, Result, Ok, Err, OnOk}
+use Rattle.std.proofs.Common.{◌≡◌, Bool, true, false, if◌then◌else◌, ℕ, zero, suc, ◌+◌, ◌<◌, ◌≤◌, List, [], ◌∷◌, ◌++◌, ◌-◌, length, get_or, take, drop, map, flat_map, refl, ap, sym, ◌∙◌, subst, arith, append_assoc, append-nil, length-append}
+use Rattle.std.specs.Prelude.{All, IsTrue, Result, Ok, Err, OnOk, IfErr, IsErrAnd, ◌==◌, nat_le}
+use Rattle.std.specs.List.{list_all}
+use Rattle.std.proofs.lemmas.Bool.{eq-eqb, eqb-true, both_ways}
+use Rattle.std.proofs.lemmas.List.Sums.{AllPass-from_list_all}
 use Rattle.std.proofs.lemmas.List.{length-drop, take_all, take_more, take-append-drop, map-append, flat_map_more}
 use Rattle.std.proofs.lemmas.List.Elements.{All-nil, All-cons, All-head, All-tail, All-get_or, All-take, All-drop, All-map, All-append, All-weaker}
 use Rattle.sk_insn.specs.declared.insn.Insn.{Insn}
 use Rattle.sk_insn.specs.declared.record.Record.{Record}
-use Rattle.sk_insn.specs.declared.operation.Comparison.TheVariants.{Equal}
+use Rattle.sk_insn.specs.declared.operation.Comparison.TheVariants.{Equal, GreaterOrEqual}
 use Rattle.sk_insn.specs.Actions.{allow}
 use Rattle.sk_interp.specs.Meaning.{meaning_of}
 use Rattle.sk_interp.specs.Walk.{walks}
@@ -15,10 +18,10 @@ use Rattle.sk_profile_code.specs.declared.saying.Arm.{Arm as ArmOfCode}
 use Rattle.sk_profile_code.specs.declared.saying.Saying.{Saying as SayingOfCode}
 use Rattle.sk_profile_code.specs.declared.saying.Row.{Row as RowOfCode}
 use Rattle.sk_profile_code.specs.Sayings.{Arm, asks, all_hold, first_held, Choice, Piece, Single, Joined, arms_of, Tree, Leaf, Fork, said}
-use Rattle.sk_profile_code.specs.Rows.{Row, saying_in}
-use Rattle.sk_profile_code.specs.Code.{load, branch, answer, high, high_place, low_place, lows_code, choice_code, piece_code, fork_code, tree_code, filter_code}
-use Rattle.sk_profile_code.specs.Means.{IsCall, IsPiece, Gives, MeansRows, KnowsRows}
-use Rattle.sk_profile_code.specs.Views.{arm_of, saying_of, row_of, asked_for, Asks, IsArmOfCode, IsRowOfCode, AreRising, AreRows, Emits, PutsPiece, PutsPieces, PutsSaying}
+use Rattle.sk_profile_code.specs.Rows.{Row, saying_in, Cuts}
+use Rattle.sk_profile_code.specs.Code.{load, branch, jump, answer, high, high_place, low_place, lows_code, choice_code, piece_code, fork_code, tree_code, filter_code}
+use Rattle.sk_profile_code.specs.Means.{IsPiece, IsTree, Gives, MeansRows, KnowsRows}
+use Rattle.sk_profile_code.specs.Views.{arm_of, saying_of, row_of, asked_for, Asks, IsArmOfCode, IsSayingOfCode, IsRowOfCode, AreRising, AreRows, Emits, IsOverlong, PutsPiece, PutsPieces, PutsSaying}
 use Rattle.sk_profile_code.proofs.Trees.{code_means_tree}
 use Rattle.sk_profile_code.proofs.Rows.{cuts_say_the_same, asks_nothing}
 use Rattle.sk_profile_code.proofs.Knowing.{known_tree}
@@ -66,6 +69,21 @@ none_left old new before [] none puts = record {
 }
 none_left old new before (row ∷ rows) none puts = absurd (omega (arith, none))
 
+-- a tree of both parts
+both_cut : (before : SayingOfCode) (rows : List RowOfCode) (n : ℕ) (d : RowOfCode) (left right : Tree) → AreRows before rows → n < length rows
+    → Cuts left (saying_of before) (map row_of (take n rows)) → Cuts right (saying_of (get_or rows n d).saying) (map row_of (drop (n + 1) rows))
+    → Cuts (Fork (get_or rows n d).start left right) (saying_of before) (map row_of rows)
+both_cut before rows n d left right are inside one other = (
+  map row_of (take n rows),
+  row_of (get_or rows n d),
+  map row_of (drop (n + 1) rows),
+  split n rows d inside,
+  refl,
+  All-map (λ (row : Row). row.start ≤ (get_or rows n d).start) row_of (take n rows) (below_it n rows d inside are.rising),
+  one,
+  other,
+)
+
 pub joined : (old head below new with_below : List Insn) (before : SayingOfCode) (rows : List RowOfCode) (n : ℕ) (d : RowOfCode) → AreRows before rows → n < length rows
     → Emits [] below before (take n rows)
     → ((front back : List Insn) → length front ≡ length below → head ++ (front ++ back) ≡ old ++ fork_code (get_or rows n d).start front back)
@@ -74,21 +92,12 @@ joined old head below new with_below before rows n d are inside left forks e rig
   tree = Fork (get_or rows n d).start left.tree right.tree;
   code = right.code ∙ ap (λ front. front ++ tree_code right.tree) (e ∙ ap (λ b. head ++ b) left.code) ∙ append_assoc head (tree_code left.tree) (tree_code right.tree)
       ∙ forks (tree_code left.tree) (tree_code right.tree) (ap length (sym left.code));
-  cuts = (
-    map row_of (take n rows),
-    row_of (get_or rows n d),
-    map row_of (drop (n + 1) rows),
-    split n rows d inside,
-    refl,
-    All-map (λ (row : Row). row.start ≤ (get_or rows n d).start) row_of (take n rows) (below_it n rows d inside are.rising),
-    left.cuts,
-    right.cuts,
-  );
+  cuts = both_cut before rows n d left.tree right.tree are inside left.cuts right.cuts;
   good = (left.good, right.good);
 }
 
 pub whole : (code : List Insn) (bad : ℕ) (before : SayingOfCode) (rows : List RowOfCode) (tree : Tree) → code ≡ filter_code bad tree
-    → Rattle.sk_profile_code.specs.Rows.Cuts tree (saying_of before) (map row_of rows) → Rattle.sk_profile_code.specs.Means.IsTree tree → MeansRows code (saying_of before) (map row_of rows)
+    → Cuts tree (saying_of before) (map row_of rows) → IsTree tree → MeansRows code (saying_of before) (map row_of rows)
 whole code bad before rows tree e cuts good call ok =
     let found = code_means_tree bad tree good call ok in
     let same = cuts_say_the_same tree (saying_of before) (map row_of rows) cuts call.nr call in
@@ -96,7 +105,7 @@ whole code bad before rows tree e cuts good call ok =
     (subst (λ value. Gives value (meaning_of (filter_code bad tree) call)) same found)
 
 pub known : (code : List Insn) (bad : ℕ) (before : SayingOfCode) (rows : List RowOfCode) (tree : Tree) → code ≡ filter_code bad tree
-    → Rattle.sk_profile_code.specs.Rows.Cuts tree (saying_of before) (map row_of rows) → KnowsRows code (saying_of before) (map row_of rows)
+    → Cuts tree (saying_of before) (map row_of rows) → KnowsRows code (saying_of before) (map row_of rows)
 known code bad before rows tree e cuts nr always =
     subst (λ insns. IsTrue (walks insns nr)) (sym e) (known_tree bad tree nr (asks_nothing tree (saying_of before) (map row_of rows) cuts nr allow always))
 
@@ -228,3 +237,107 @@ saying_put old code new saying n rest none puts is =
       };
       good = puts.good;
     }
+
+-- ---- rows whose tree is too long
+
+-- there is a tree, whatever the rows are
+record SomeTree (before : SayingOfCode) (rows : List RowOfCode) : Type 0 where
+  tree : Tree
+  cuts : Cuts tree (saying_of before) (map row_of rows)
+  good : IsTree tree
+
+arm_by_itself : (arms : List ArmOfCode) → flat_map arms_of (map (λ arm. Single (arm_of arm)) arms) ≡ map arm_of arms
+arm_by_itself [] = refl
+arm_by_itself (arm ∷ arms) = ap (λ arms. arm_of arm ∷ arms) (arm_by_itself arms)
+
+each_answers : (value : ℕ) (arms : List ArmOfCode) → All (λ (arm : ArmOfCode). arm.value ≡ value) arms → list_all (λ (arm : ArmOfCode). arm.value == value) arms ≡ true
+each_answers value [] all = refl
+each_answers value (arm ∷ arms) all =
+    rw (eq-eqb arm.value value (All-head (λ (arm : ArmOfCode). arm.value ≡ value) arm arms all)) (each_answers value arms (All-tail (λ (arm : ArmOfCode). arm.value ≡ value) arm arms all))
+
+leaf_of : (saying : SayingOfCode) → IsSayingOfCode saying → (b : Bool) → list_all (λ (arm : ArmOfCode). arm.value == saying.otherwise) saying.arms.items ≡ b → SomeTree saying []
+leaf_of saying good true e =
+    let arms = saying.arms.items in
+    let pass = AllPass-from_list_all (λ (arm : ArmOfCode). arm.value == saying.otherwise) arms e in
+    let each : All (λ (arm : ArmOfCode). arm.value ≡ saying.otherwise) arms = λ k d less. eqb-true _ saying.otherwise (pass k d less) in record {
+      tree = Leaf [] saying.otherwise;
+      cuts = (
+        refl,
+        record {
+          same = λ call. sym (none_matters (map arm_of arms) saying.otherwise call (All-map (Answers saying.otherwise) arm_of arms each));
+          left = refl;
+          none = λ all. refl;
+        },
+      );
+      good = All-nil IsPiece;
+    }
+leaf_of saying good false e =
+    let arms = saying.arms.items in record {
+      tree = Leaf (map (λ arm. Single (arm_of arm)) arms) saying.otherwise;
+      cuts = (
+        refl,
+        record {
+          same = λ call. ap (λ arms. first_held arms saying.otherwise call) (arm_by_itself arms);
+          left = refl;
+          none = λ all. absurd (both_ways _ e (each_answers saying.otherwise arms (of_code saying.otherwise arms all)));
+        },
+      );
+      good = All-map IsPiece (λ arm. Single (arm_of arm)) arms (All-weaker IsArmOfCode (λ arm. IsPiece (Single (arm_of arm))) (λ arm is. is.0) arms good);
+    }
+
+some_tree : (before : SayingOfCode) (rows : List RowOfCode) → AreRows before rows → SomeTree before rows
+some_tree before [] are = leaf_of before are.below _ refl
+some_tree before (row ∷ rows) are =
+    let leaf = leaf_of before are.below _ refl in
+    let behind : AreRows row.saying rows = record { below = All-head IsRowOfCode row rows are.each; each = All-tail IsRowOfCode row rows are.each; rising = are.rising.1 } in
+    let right = some_tree row.saying rows behind in record {
+      tree = Fork row.start leaf.tree right.tree;
+      cuts = ([], row_of row, map row_of rows, refl, refl, All-nil (λ (other : Row). other.start ≤ row.start), leaf.cuts, right.cuts);
+      good = (leaf.good, right.good);
+    }
+
+no_shorter : (number : ℕ) (below above : List Insn) → length below + length above ≤ length (fork_code number below above)
+no_shorter number below above = by (nat_le (length below) 255) where
+  by : (near : Bool) → length below + length above ≤ length (if near then branch GreaterOrEqual number (length below) 0 ∷ (below ++ above) else branch GreaterOrEqual number 0 1 ∷ jump (length below) ∷ (below ++ above))
+  by true = omega (arith, length-append below above)
+  by false = omega (arith, length-append below above)
+
+pub overlong_left : (before : SayingOfCode) (rows : List RowOfCode) (n : ℕ) (d : RowOfCode) → AreRows before rows → n < length rows
+    → IsOverlong tree_code before (take n rows) → IsOverlong tree_code before rows
+overlong_left before rows n d are inside left =
+    let right = some_tree (get_or rows n d).saying (drop (n + 1) rows) (right_part before rows n d inside are) in record {
+      tree = Fork (get_or rows n d).start left.tree right.tree;
+      cuts = both_cut before rows n d left.tree right.tree are inside left.cuts right.cuts;
+      good = (left.good, right.good);
+      long = omega (arith, left.long, no_shorter (get_or rows n d).start (tree_code left.tree) (tree_code right.tree));
+    }
+
+pub overlong_head : (before : SayingOfCode) (rows : List RowOfCode) (n : ℕ) (d : RowOfCode) (below : List Insn) → AreRows before rows → n < length rows
+    → Emits [] below before (take n rows) → 4096 < length below → IsOverlong tree_code before rows
+overlong_head before rows n d below are inside left more =
+    overlong_left before rows n d are inside (record { tree = left.tree; cuts = left.cuts; good = left.good; long = omega (arith, more, ap length left.code) })
+
+pub overlong_right : (before : SayingOfCode) (rows : List RowOfCode) (n : ℕ) (d : RowOfCode) (below : List Insn) → AreRows before rows → n < length rows
+    → Emits [] below before (take n rows) → IsOverlong tree_code (get_or rows n d).saying (drop (n + 1) rows) → IsOverlong tree_code before rows
+overlong_right before rows n d below are inside left right = record {
+  tree = Fork (get_or rows n d).start left.tree right.tree;
+  cuts = both_cut before rows n d left.tree right.tree are inside left.cuts right.cuts;
+  good = (left.good, right.good);
+  long = omega (arith, right.long, no_shorter (get_or rows n d).start (tree_code left.tree) (tree_code right.tree));
+}
+
+pub overlong_filter : (bad : ℕ) (before : SayingOfCode) (rows : List RowOfCode) → IsOverlong tree_code before rows → IsOverlong (filter_code bad) before rows
+overlong_filter bad before rows over = record { tree = over.tree; cuts = over.cuts; good = over.good; long = omega (arith, over.long) }
+
+pub overlong_code : (code : List Insn) (bad : ℕ) (before : SayingOfCode) (rows : List RowOfCode) (tree : Tree) → code ≡ filter_code bad tree → Cuts tree (saying_of before) (map row_of rows) → IsTree tree
+    → 4096 < length code → IsOverlong (filter_code bad) before rows
+overlong_code code bad before rows tree e cuts good more = record { tree = tree; cuts = cuts; good = good; long = subst (λ insns. 4096 < length insns) e more }
+
+pub on_err : {X E : Type 0} {P Q : E → Type 0} (r : Result X E) → ((fault : E) → P fault → Q fault) → IfErr r P → IfErr r Q
+on_err (Ok x) f p = p
+on_err (Err e) f p = f e p
+
+-- a fault that is handed on
+pub handed_on : {X E : Type 0} {Q : Type 0} (r : Result X E) (fault wanted : E) → IsErrAnd r (λ e. e ≡ fault) → (fault ≡ wanted → Q) → IfErr r (λ e. e ≡ wanted → Q)
+handed_on (Ok x) fault wanted is f = absurd is
+handed_on (Err e) fault wanted is f = λ same. f (sym is ∙ same)

@@ -1,11 +1,12 @@
 //! The filter of rows.
-ghost use Rattle.std.specs.Prelude.{ℕ, ◌≡◌, ◌<◌, ◌++◌, length, List, map, OnOk, IfOk};
+ghost use Rattle.std.specs.Prelude.{ℕ, ◌≡◌, ◌<◌, ◌++◌, length, List, map, OnOk, IfOk, IfErr};
 ghost use Rattle.sk_insn.specs.declared.insn.Insn.{Insn};
 ghost use Rattle.sk_check.specs.Valid.{IsValid};
+ghost use Rattle.sk_profile_code.specs.declared.build.CodeFault.TheVariants.{TooLong};
 ghost use Rattle.sk_profile_code.specs.Sayings.{Tree};
-ghost use Rattle.sk_profile_code.specs.Code.{fork_code, filter_code};
+ghost use Rattle.sk_profile_code.specs.Code.{fork_code, tree_code, filter_code};
 ghost use Rattle.sk_profile_code.specs.Means.{MeansRows, KnowsRows};
-ghost use Rattle.sk_profile_code.specs.Views.{saying_of, row_of, AreRows, Emits};
+ghost use Rattle.sk_profile_code.specs.Views.{saying_of, row_of, AreRows, Emits, IsOverlong};
 
 use crate::instructions::{answer, branch, jump, load};
 use crate::pieces::push_saying;
@@ -24,12 +25,22 @@ pub enum CodeFault {
 }
 
 impl From<AllocError> for CodeFault {
+    ghost use Rattle.std.specs.Prelude.{◌≡◌};
+    ghost use Rattle.sk_profile_code.specs.declared.build.CodeFault.TheVariants.{Memory};
+
+    ghost from_gives = { λ _ fault. fault ≡ Memory };
+
     fn from(_refused: AllocError) -> CodeFault {
         CodeFault::Memory
     }
 }
 
 impl<T: Drop> From<AllocFailed<T>> for CodeFault {
+    ghost use Rattle.std.specs.Prelude.{◌≡◌};
+    ghost use Rattle.sk_profile_code.specs.declared.build.CodeFault.TheVariants.{Memory};
+
+    ghost from_gives = { λ _ fault. fault ≡ Memory };
+
     fn from(_refused: AllocFailed<T>) -> CodeFault {
         CodeFault::Memory
     }
@@ -39,6 +50,7 @@ impl<T: Drop> From<AllocFailed<T>> for CodeFault {
 fn push_head(code: &mut Vec<Insn>, number: u32, below: usize) -> Result<(), CodeFault>
     ensures code { OnOk result ((front back : List Insn) → length front ≡ below →
         code.new.items ++ (front ++ back) ≡ code.old.items ++ fork_code number front back) }
+    ensures long { IfErr result (λ fault. fault ≡ TooLong → 4096 < below) }
 {
     if below <= 255 {
         code.push(branch(Comparison::GreaterOrEqual, number, below as u8, 0))?;
@@ -81,6 +93,7 @@ fn push_rows(
 ) -> Result<(), CodeFault>
     requires rows { AreRows before.now rows.now }
     ensures emits { OnOk result (Emits code.old.items code.new.items before.now rows.now) }
+    ensures long { IfErr result (λ fault. fault ≡ TooLong → IsOverlong tree_code before.now rows.now) }
 {
     if rows.is_empty() {
         push_saying(code, before)?;
@@ -107,6 +120,7 @@ pub fn filter(
     ensures means { IfOk result (λ code. MeansRows code.items (saying_of before.now) (map row_of rows.now)) }
     ensures guard { IfOk result (λ code. (tree : Tree) × (code.items ≡ filter_code bad tree)) }
     ensures valid { IfOk result (λ code. IsValid code.items) }
+    ensures long { IfErr result (λ fault. fault ≡ TooLong → IsOverlong (filter_code bad) before.now rows.now) }
     ensures known { IfOk result (λ code. KnowsRows code.items (saying_of before.now) (map row_of rows.now)) }
 {
     let mut code = Vec::new(alloc);
