@@ -9,7 +9,9 @@ ghost use Rattle.sk_profile_code.specs.Code.{filter_code};
 ghost use Rattle.sk_profile_code.specs.Means.{IsCall, Gives};
 ghost use Rattle.sk_profile_code.specs.Sayings.{Tree, AlwaysSays};
 ghost use Rattle.sk_profile.specs.Clashes.{IsClear};
+ghost use Rattle.sk_profile.specs.declared.fault.ProfileFault.TheVariants.{TooLong};
 ghost use Rattle.sk_profile.specs.Faults.{IsFaultOf};
+ghost use Rattle.sk_profile.specs.Rows.{HasLongTree};
 ghost use Rattle.sk_profile.specs.Profiles.{said_by, saying_for};
 ghost use Rattle.sk_profile.specs.Views.{profile_of};
 
@@ -28,6 +30,7 @@ pub fn profile_filter(alloc: Global, profile: &Profile) -> Result<Vec<Insn>, Pro
     ensures valid { IfOk result (λ code. IsValid code.items) }
     ensures known { IfOk result (λ code. (nr : ℕ) → nr < 2 ^ 32 → AlwaysSays allow (saying_for (profile_of profile.now) nr) → IsTrue (walks code.items nr)) }
     ensures clear { IfOk result (λ _. IsClear (profile_of profile.now)) }
+    ensures long { IfErr result (λ fault. fault ≡ TooLong → HasLongTree (profile_of profile.now)) }
     ensures fault { IfErr result (IsFaultOf (profile_of profile.now)) }
 {
     if let Some(place) = wrong_rule(&profile.rules) {

@@ -1,9 +1,10 @@
 //! The numbers of calls in rows of which the same is said.
-ghost use Rattle.std.specs.Prelude.{ℕ, ◌≡◌, ◌≤◌, ◌<◌, ◌+◌, ◌^◌, nat_le, if◌then◌else◌, map, All, IfOk, IfErr, OnOk, IsTrue};
+ghost use Rattle.std.specs.Prelude.{ℕ, ◌≡◌, ◌≤◌, ◌<◌, ◌+◌, ◌^◌, nat_le, if◌then◌else◌, map, All, length, ◌≢◌, IfOk, IfErr, OnOk, IsTrue};
 ghost use Rattle.sk_profile_code.specs.declared.saying.Row.{Row};
 ghost use Rattle.sk_profile_code.specs.Rows.{saying_in};
 ghost use Rattle.sk_profile_code.specs.Views.{saying_of, row_of, AreRows, IsSayingOfCode};
 ghost use Rattle.sk_profile.specs.Clashes.{AreClear, IsClear};
+ghost use Rattle.sk_profile.specs.declared.fault.ProfileFault.TheVariants.{TooLong};
 ghost use Rattle.sk_profile.specs.Faults.{IsFaultOf};
 ghost use Rattle.sk_profile.specs.Profiles.{saying_for, saying_of_rules};
 ghost use Rattle.sk_profile.specs.Views.{profile_of};
@@ -39,6 +40,8 @@ pub fn rows_of(alloc: Global, profile: &Profile) -> Result<Rows, ProfileFault>
     ensures fault { IfErr result (IsFaultOf (profile_of profile.now)) }
     ensures says { IfOk result (λ rows. (nr : ℕ) → nr < 2 ^ 32 → said_at rows nr ≡ saying_for (profile_of profile.now) nr) }
     ensures rows { IfOk result (λ rows. AreRows rows.before rows.rows.items) }
+    ensures few { IfOk result (λ rows. length rows.rows.items ≤ 1026) }
+    ensures short { IfErr result (λ fault. fault ≢ TooLong) }
 {
     let mut rows = Rows {
         before: clear_saying(alloc, profile, 0)?,
@@ -63,6 +66,7 @@ fn clear_saying(alloc: Global, profile: &Profile, nr: u32) -> Result<Saying, Pro
     ensures good { IfOk result IsSayingOfCode }
     ensures clear { IfOk result (λ saying. AreClear (saying_of saying).arms) }
     ensures fault { IfErr result (IsFaultOf (profile_of profile.now)) }
+    ensures short { IfErr result (λ fault. fault ≢ TooLong) }
 {
     let said = saying(alloc, profile, nr)?;
     match clash(&said.arms) {
@@ -81,6 +85,7 @@ fn say_from(rows: &mut Rows, start: u32, saying: Saying) -> Result<(), AllocErro
     requires good { IsSayingOfCode saying }
     ensures says { OnOk result ((nr : ℕ) → said_at rows.new nr ≡ if nat_le start nr then saying_of saying else said_at rows.old nr) }
     ensures start { OnOk result (StartBelow (start + 1) rows.new.rows.items) }
+    ensures few { OnOk result (length rows.new.rows.items ≤ length rows.old.rows.items + 1) }
     ensures rows { OnOk result (AreRows rows.old.before rows.old.rows.items → AreRows rows.new.before rows.new.rows.items) }
 {
     if is_same(last(rows), &saying) {

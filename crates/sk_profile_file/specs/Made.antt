@@ -6,6 +6,7 @@ use Rattle.std.specs.Str.{IsUtf8}
 use Rattle.json.specs.Json.{Json, document}
 use Rattle.json.specs.Strict.{HasUniqueKeys}
 use Rattle.sk_profile.specs.Profiles.{Profile}
+use Rattle.sk_profile.specs.Rows.{HasLongTree}
 use Rattle.sk_profile_json.specs.declared.context.Context.{Context}
 use Rattle.sk_profile_json.specs.Wholes.{IsText, profile_in}
 use Rattle.sk_profile_file.specs.declared.answer.Made.{Made}
@@ -18,7 +19,7 @@ use Rattle.sk_profile_file.specs.Clashes.{IsClash}
 -- why a profile that a value says has no filter
 abbrev pub IsUnbuilt : Context → Json → Profile → Refusal → Type 0
 IsUnbuilt context j profile (Clashes it) = IsClash context j profile it
-IsUnbuilt context j profile TooLong = ⊤
+IsUnbuilt context j profile TooLong = HasLongTree profile
 IsUnbuilt context j profile refusal = ⊥
 
 -- a filter that means the profile

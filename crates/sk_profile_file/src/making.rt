@@ -99,8 +99,7 @@ fn built(
     };
     match check(insns) {
         Ok(checked) => Ok(Ok(image_of(alloc, checked.insns())?)),
-        // Never so, since the filter is valid whenever it is short enough.
-        Err(_) => Ok(Err(Refusal::TooLong)),
+        Err(_) => unreachable!(),
     }
 }
 

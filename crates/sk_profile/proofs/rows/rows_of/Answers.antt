@@ -30,6 +30,7 @@ loop-nr-preserved c =
       start = c.in_ok-say_from.ensures.start;
       says = says_more (said_at c.say_from.new.rows) (said_at c.loop-nr.rows) right c.loop-nr.nr (saying_of c.in_ok-said.said) c.in_ok-say_from.ensures.says c.in_ok-said.ensures.saying c.loop-nr.invariant.says;
       clear = holds_more (λ nr. AreClear (right nr).arms) c.loop-nr.nr clear c.loop-nr.invariant.clear;
+      few = omega (arith, c.loop-nr.invariant.few, c.in_ok-say_from.ensures.few);
       good = c.in_ok-say_from.ensures.rows c.loop-nr.invariant.good;
     }
 

@@ -1,4 +1,4 @@
-use Rattle.std.proofs.Common.{ℕ, ◌≡◌, ◌<◌}
+use Rattle.std.proofs.Common.{ℕ, ◌≡◌, ◌+◌, ◌<◌, ◌≤◌, length}
 use Rattle.sk_profile_code.specs.Views.{AreRows}
 use Rattle.sk_profile.specs.Clashes.{AreClear}
 use Rattle.sk_profile.specs.Profiles.{saying_of_rules}
@@ -11,5 +11,6 @@ invariant-loop-nr l = record {
   start : StartBelow l.nr l.rows.rows.items;
   says : (nr : ℕ) → nr < l.nr → said_at l.rows nr ≡ saying_of_rules (profile_of l.profile) nr;
   clear : (nr : ℕ) → nr < l.nr → AreClear (saying_of_rules (profile_of l.profile) nr).arms;
+  few : length l.rows.rows.items + 1 ≤ l.nr;
   good : AreRows l.rows.before l.rows.rows.items;
 }
