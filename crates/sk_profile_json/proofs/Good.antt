@@ -1,9 +1,8 @@
 -- The rules of a profile that is read are for calls of x86-64, with conditions on their six arguments.
-use Rattle.std.proofs.Common.{◌≡◌, ℕ, ◌+◌, ◌<◌, ◌≤◌, ◌&&◌, ◌++◌, nat_lt, nat_le, Bool, true, false, cond, List, [], ◌∷◌, length, map, position, IfSome, Option, Some, None, Result, Ok, Err, refl, subst, ap, ◌∙◌, rules as steps, arith}
-use Rattle.std.proofs.Math.Logic.{⊎_elim}
+use Rattle.std.proofs.Common.{◌≡◌, ℕ, ◌+◌, ◌<◌, ◌≤◌, ◌&&◌, ◌++◌, nat_lt, Bool, true, false, List, [], ◌∷◌, length, map, IfSome, Option, Some, None, Result, Ok, Err, refl, subst, ap, ◌∙◌, rules as steps, arith}
 use Rattle.std.proofs.lemmas.Bool.{lt-ltb, le-leb}
 use Rattle.std.proofs.lemmas.List.Elements.{All-cons, All-nil, All-append, All-tail}
-use Rattle.std.specs.List.{All, list_all, filter_map, cons_option}
+use Rattle.std.specs.List.{All, list_all, cons_option}
 use Rattle.std.specs.Option.{option_or, option_map, option_and_then}
 use Rattle.json.specs.Find.{as_str}
 use Rattle.json.specs.Json.{Json}
@@ -19,7 +18,7 @@ use Rattle.sk_profile_json.specs.declared.fault.Fault.{Fault}
 use Rattle.sk_profile_json.specs.declared.fault.Wrong.{Wrong}
 use Rattle.sk_profile_json.specs.Conditions.{conditions_of, are_apart, wrong_argument}
 use Rattle.sk_profile_json.specs.Contexts.{counts}
-use Rattle.sk_profile_json.specs.Entries.{Entry, entry_of, rule_for, rules_for}
+use Rattle.sk_profile_json.specs.Entries.{Entry, entry_of, rules_for}
 use Rattle.sk_profile_json.specs.Fields.{result_then}
 use Rattle.sk_profile_json.specs.Wholes.{Head, before, rules_if, rules_with, rules_unless, rules_of_entry, entry_rules, rules_from, head_of, profile_with, profile_if, profile_in}
 use Rattle.sk_profile_json.proofs.Asked.{IsAsked, conditions_of-asked, apart-few}
