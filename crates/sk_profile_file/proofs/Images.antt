@@ -1,5 +1,5 @@
 -- The bytes of instructions are read as these instructions.
-use Rattle.std.proofs.Common.{◌≡◌, ℕ, suc, ◌*◌, ◌+◌, ◌≤◌, ◌<◌, ◌/◌, ◌%◌, ltb, eqb, ◌^◌, false, List, [], ◌∷◌, ◌++◌, length, drop, take, Ok, subst, ap, ◌∙◌, refl, sym, arith, append-nil}
+use Rattle.std.proofs.Common.{◌≡◌, ℕ, ◌*◌, ◌≤◌, ◌/◌, ◌%◌, ltb, eqb, false, List, [], ◌∷◌, ◌++◌, length, take, Ok, subst, ap, ◌∙◌, refl, arith}
 use Rattle.std.specs.List.{All}
 use Rattle.std.proofs.lemmas.List.{take_all}
 use Rattle.std.proofs.lemmas.List.Elements.{All-tail}

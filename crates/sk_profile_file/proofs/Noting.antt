@@ -1,5 +1,5 @@
 -- Notes that a loop has gathered up to a place.
-use Rattle.std.proofs.Common.{◌≡◌, ℕ, ◌+◌, ◌<◌, ◌≤◌, suc, List, [], ◌++◌, length, map, drop, get_or, ap, sym, ◌∙◌, add-one, append_assoc, append-nil}
+use Rattle.std.proofs.Common.{◌≡◌, ℕ, ◌+◌, ◌<◌, ◌≤◌, suc, List, ◌++◌, length, map, drop, get_or, ap, sym, ◌∙◌, add-one, append_assoc, append-nil}
 use Rattle.json.specs.Value.{value_view}
 use Rattle.json.specs.declared.value.Value.{Value}
 use Rattle.sk_profile_json.specs.declared.context.Context.{Context}

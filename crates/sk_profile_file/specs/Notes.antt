@@ -2,7 +2,6 @@
 use Rattle.std.specs.Prelude.{ℕ, ◌+◌, ◌++◌, ◌&&◌, not, nat_le, Bool, if◌then◌else◌, List, [], ◌∷◌, map, codes, is_some, Option, Some, None}
 use Rattle.std.specs.List.{filter_map}
 use Rattle.std.specs.Option.{option_and_then}
-use Rattle.std.specs.Fmt.{decimal}
 use Rattle.json.specs.Find.{as_str}
 use Rattle.json.specs.Json.{Json}
 use Rattle.sk_call_names.specs.Names.{number_named}

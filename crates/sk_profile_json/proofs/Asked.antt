@@ -1,8 +1,8 @@
 -- The conditions of an entry are on the six arguments, each on another one.
-use Rattle.std.proofs.Common.{◌≡◌, ℕ, suc, ◌<◌, ◌≤◌, ◌==◌, ◌&&◌, ◌||◌, eqb, not, Bool, true, false, cond, List, [], ◌∷◌, length, map, Option, Some, None, Result, Ok, Err, refl, sym, rules, arith}
+use Rattle.std.proofs.Common.{◌≡◌, ℕ, ◌<◌, ◌≤◌, ◌&&◌, ◌||◌, eqb, not, Bool, true, false, cond, List, [], ◌∷◌, length, map, Option, Some, None, Result, Ok, Err, refl, sym, rules, arith}
 use Rattle.std.specs.Option.{unwrap_or}
 use Rattle.std.specs.Result.{result_ok}
-use Rattle.std.specs.List.{All, list_all, list_any, filter_map, cons_option, AllByRecursion, IsDistinct}
+use Rattle.std.specs.List.{All, list_any, cons_option, AllByRecursion, IsDistinct}
 use Rattle.std.proofs.lemmas.List.{length-map}
 use Rattle.std.proofs.lemmas.List.Elements.{All-cons, All-nil, All-tail}
 use Rattle.std.proofs.lemmas.Bool.{eqb-true, eq-eqb}
@@ -124,7 +124,7 @@ below-six : (conditions : List Condition) → All IsAsked conditions → (index 
 below-six [] asked index h = absurd (search (rules, h))
 below-six (c ∷ conditions) asked index h =
     below-any index c.index (eqb index c.index) (list_any (eqb index) (indices conditions)) refl (asked 0 c (omega arith))
-      (below-six conditions (All-tail IsAsked c conditions asked) index) h
+    (below-six conditions (All-tail IsAsked c conditions asked) index) h
 
 pub apart-few : (conditions : List Condition) → are_apart conditions ≡ true → All IsAsked conditions → length conditions ≤ 6
 apart-few conditions h asked =

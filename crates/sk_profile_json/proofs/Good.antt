@@ -1,9 +1,8 @@
 -- The rules of a profile that is read are for calls of x86-64, with conditions on their six arguments.
-use Rattle.std.proofs.Common.{◌≡◌, ℕ, ◌+◌, ◌<◌, ◌≤◌, ◌&&◌, ◌++◌, nat_lt, nat_le, Bool, true, false, cond, List, [], ◌∷◌, length, map, position, IfSome, Option, Some, None, Result, Ok, Err, refl, subst, ap, ◌∙◌, rules as steps, arith}
-use Rattle.std.proofs.Math.Logic.{⊎_elim}
+use Rattle.std.proofs.Common.{◌≡◌, ℕ, ◌+◌, ◌<◌, ◌≤◌, ◌&&◌, ◌++◌, nat_lt, Bool, true, false, List, [], ◌∷◌, length, map, IfSome, Option, Some, None, Result, Ok, Err, refl, subst, ap, ◌∙◌, rules as steps, arith}
 use Rattle.std.proofs.lemmas.Bool.{lt-ltb, le-leb}
 use Rattle.std.proofs.lemmas.List.Elements.{All-cons, All-nil, All-append, All-tail}
-use Rattle.std.specs.List.{All, list_all, filter_map, cons_option}
+use Rattle.std.specs.List.{All, list_all, cons_option}
 use Rattle.std.specs.Option.{option_or, option_map, option_and_then}
 use Rattle.json.specs.Find.{as_str}
 use Rattle.json.specs.Json.{Json}
@@ -19,7 +18,7 @@ use Rattle.sk_profile_json.specs.declared.fault.Fault.{Fault}
 use Rattle.sk_profile_json.specs.declared.fault.Wrong.{Wrong}
 use Rattle.sk_profile_json.specs.Conditions.{conditions_of, are_apart, wrong_argument}
 use Rattle.sk_profile_json.specs.Contexts.{counts}
-use Rattle.sk_profile_json.specs.Entries.{Entry, entry_of, rule_for, rules_for}
+use Rattle.sk_profile_json.specs.Entries.{Entry, entry_of, rules_for}
 use Rattle.sk_profile_json.specs.Fields.{result_then}
 use Rattle.sk_profile_json.specs.Wholes.{Head, before, rules_if, rules_with, rules_unless, rules_of_entry, entry_rules, rules_from, head_of, profile_with, profile_if, profile_in}
 use Rattle.sk_profile_json.proofs.Asked.{IsAsked, conditions_of-asked, apart-few}
@@ -85,7 +84,7 @@ rules_for-good : (conditions : List Condition) (value : ℕ) (names : List Json)
 rules_for-good conditions value [] few asked = All-nil IsGood
 rules_for-good conditions value (j ∷ names) few asked =
     found-good conditions value (option_and_then number_named (as_str j)) (rules_for conditions value names)
-      (named-small (as_str j)) few asked (rules_for-good conditions value names few asked)
+    (named-small (as_str j)) few asked (rules_for-good conditions value names few asked)
 
 -- what was told is rules that are good, if it is rules
 abbrev AreGood : Result (List Rule) Fault → Type 0
@@ -100,7 +99,7 @@ with-good : (context : Context) (at : ℕ) (j : Json) (entry : Entry) (condition
     → All IsAsked conditions → AreGood (rules_with context at j entry conditions)
 with-good context at j entry conditions true e asked =
     rw e (if-good at (rules_for conditions entry.value entry.names) (counts context j)
-      (rules_for-good conditions entry.value entry.names (apart-few conditions e asked) asked))
+    (rules_for-good conditions entry.value entry.names (apart-few conditions e asked) asked))
 with-good context at j entry conditions false e asked = rw e (λ more h. absurd (search (steps, h)))
 
 unless-good : (context : Context) (at : ℕ) (j : Json) (entry : Entry) (o : Option WrongArgument) → AreGood (rules_unless context at j entry o)

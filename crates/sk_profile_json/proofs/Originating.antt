@@ -10,7 +10,7 @@ use Rattle.json.specs.Value.{value_view}
 use Rattle.json.specs.declared.value.Value.{Value}
 use Rattle.sk_call_names.specs.Names.{number_named}
 use Rattle.sk_profile_code.specs.declared.condition.Condition.{Condition}
-use Rattle.sk_profile.specs.Profiles.{Rule, Profile, is_for, is_x32, arm_of_rule, arms_for, plain_rule, settled, saying_for, saying_of_rules}
+use Rattle.sk_profile.specs.Profiles.{Rule, Profile, is_for, is_x32, arm_of_rule, arms_for, plain_rule, settled, saying_for}
 use Rattle.sk_profile_json.specs.declared.conditions.WrongArgument.{WrongArgument}
 use Rattle.sk_profile_json.specs.declared.context.Context.{Context}
 use Rattle.sk_profile_json.specs.declared.fault.Fault.{Fault}
@@ -20,9 +20,9 @@ use Rattle.sk_profile_json.specs.Conditions.{conditions_of, are_apart, wrong_arg
 use Rattle.sk_profile_json.specs.Contexts.{counts}
 use Rattle.sk_profile_json.specs.Entries.{Entry, entry_of, entry_if, entry_with, entry_value, entry_fields, names_in, rules_for}
 use Rattle.sk_profile_json.specs.Fields.{result_then, list_in, wrong_keys}
-use Rattle.sk_profile_json.specs.Origins.{is_number, number_of, origin_of, origins_from, origins_of, HasOrigins}
-use Rattle.sk_profile_json.specs.Parts.{items_or_none, is_yes, counted_names, entries_of}
-use Rattle.sk_profile_json.specs.Wholes.{Head, before, rules_if, rules_with, rules_unless, rules_of_entry, entry_rules, rules_from, head_of, head_if, head_with, head_unless, default_in, wrong_lists, profile_fields, profile_with, profile_if, profile_in}
+use Rattle.sk_profile_json.specs.Origins.{is_number, origin_of, origins_from, origins_of, HasOrigins}
+use Rattle.sk_profile_json.specs.Parts.{is_yes, counted_names, entries_of}
+use Rattle.sk_profile_json.specs.Wholes.{Head, before, rules_if, rules_with, rules_unless, rules_of_entry, entry_rules, rules_from, head_of, head_if, head_unless, default_in, wrong_lists, profile_fields, profile_with, profile_if}
 use Rattle.sk_profile_json.proofs.Following.{item_next, items_end, option_between}
 
 -- ---- what a loop has gathered
@@ -76,7 +76,7 @@ names-many : (conditions : List Condition) (value nr entry : ℕ) (names : List 
 names-many conditions value nr entry [] = refl
 names-many conditions value nr entry (j ∷ names) =
     name-many conditions value nr entry (option_and_then number_named (as_str j)) (rules_for conditions value names)
-      (filter_map (origin_of nr entry) names) (names-many conditions value nr entry names)
+    (filter_map (origin_of nr entry) names) (names-many conditions value nr entry names)
 
 -- ---- the names of an entry
 
@@ -158,7 +158,7 @@ from-many : (context : Context) (nr at : ℕ) (js : List Json) → HasAll nr (ru
 from-many context nr at [] = λ all e. let same : [] ≡ all = search (steps, e) in subst (λ all. AreAsMany nr all []) same refl
 from-many context nr at (j ∷ js) =
     then-many nr (entry_rules context at j) (rules_from context (at + 1) js) (filter_map (origin_of nr at) (counted_names context j))
-      (origins_from context nr (at + 1) js) (of-entry-many context nr at j (entry_of j) refl) (from-many context nr (at + 1) js)
+    (origins_from context nr (at + 1) js) (of-entry-many context nr at j (entry_of j) refl) (from-many context nr (at + 1) js)
 
 -- ---- the entries of a profile
 
@@ -217,7 +217,7 @@ of-head : (context : Context) (nr : ℕ) (j : Json) (told : Result Head Wrong) (
 of-head context nr j (Ok head) profile h e =
     let entries = if-entries (wrong_keys profile_fields j) j head h in
     rw entries (with-few nr head.default (rules_from context 0 head.entries) (origins_from context nr 0 head.entries) profile
-      (from-many context nr 0 head.entries) e)
+    (from-many context nr 0 head.entries) e)
 of-head context nr j (Err wrong) profile h e = absurd (search (steps, e))
 
 pub has_origins : (context : Context) (nr : ℕ) (j : Json) → HasOrigins context j nr (origins_of context nr j)

@@ -1,4 +1,4 @@
-use Rattle.std.proofs.Common.{◌≡◌, length, ◌<◌, sym, subst, ap, arith}
+use Rattle.std.proofs.Common.{◌≡◌, length, ◌<◌, ap, arith}
 use Rattle.json.specs.Value.{value_view}
 use Rattle.sk_profile.specs.Views.{profile_of}
 use Rattle.sk_profile_file.proofs.Built.{no_wrong_rule, clash_has_origins}
