@@ -1,3 +1,4 @@
 pub mod Images
 pub mod Noting
 pub mod Built
+pub mod Named

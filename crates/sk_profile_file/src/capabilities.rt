@@ -1,7 +1,7 @@
 //! Capabilities by their names.
-ghost use Rattle.std.specs.Prelude.{◌≡◌, ◌<◌, drop, length, position, IfSome};
+ghost use Rattle.std.specs.Prelude.{◌≡◌, ◌<◌, take, drop, length, position, IfSome};
 ghost use Rattle.std.specs.Option.{option_map};
-ghost use Rattle.sk_profile_file.specs.Capabilities.{capability, names_of, all_names, one_of, is_named, is_same};
+ghost use Rattle.sk_profile_file.specs.Capabilities.{capability, names_of, all_names, docker_names, one_of, is_named, is_same};
 
 /// The capabilities of Linux, in the order of their numbers: linux/capability.h.
 pub const ALL: [&str; 41] = [
@@ -73,18 +73,40 @@ pub const DOCKER: [&str; 14] = [
 pub fn capability(word: &[u8]) -> Option<&'static [&'static str]>
     ensures names { option_map (λ names. names_of names.now) result ≡ capability word.now }
 {
-    match word {
-        b"docker" => Some(&DOCKER),
-        b"all" => Some(&ALL),
-        _ => one(word),
+    if word == b"docker".as_slice() {
+        Some(docker())
+    } else if word == b"all".as_slice() {
+        Some(all())
+    } else {
+        one(word)
     }
+}
+
+fn docker() -> &'static [&'static str]
+    ensures names { names_of result.now ≡ docker_names }
+{
+    &DOCKER
+}
+
+fn all() -> &'static [&'static str]
+    ensures names { names_of result.now ≡ all_names }
+{
+    &ALL
 }
 
 fn one(word: &[u8]) -> Option<&'static [&'static str]>
     ensures one { option_map (λ names. names_of names.now) result ≡ one_of (position (is_named word.now) all_names) }
 {
-    let place = place_of(&ALL, word)?;
-    Some(&ALL[place..place + 1])
+    let names = all();
+    let place = place_of(names, word)?;
+    Some(names_at(names, place))
+}
+
+fn names_at(names: &'static [&'static str], place: usize) -> &'static [&'static str]
+    requires within { place < length names.now }
+    ensures one { names_of result.now ≡ take 1 (drop place (names_of names.now)) }
+{
+    &names[place..place + 1]
 }
 
 fn place_of(names: &[&'static str], word: &[u8]) -> Option<usize>
@@ -98,7 +120,9 @@ fn place_in(names: &[&'static str], word: &[u8]) -> Option<usize>
     ensures place { result ≡ position (λ name. is_named word.now name.now) names.now }
     ensures within { IfSome result (λ place. place < length names.now) }
 {
-    names.iter().position(|name| is_named(word, name.as_bytes()))
+    names
+        .iter()
+        .position(|name| is_named(word, name.as_bytes()))
 }
 
 fn is_named(word: &[u8], name: &[u8]) -> bool

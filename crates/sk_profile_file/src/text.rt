@@ -148,8 +148,10 @@ fn expected_text(field: Field) -> &'static str
         Field::DefaultAction => "an action as SCMP_ACT_ERRNO, and not SCMP_ACT_NOTIFY",
         Field::DefaultErrnoRet | Field::ErrnoRet => "a number up to 4094",
         Field::DefaultErrno | Field::Errno => "the name of an error",
-        Field::Architectures => "a list of names as SCMP_ARCH_X86, with SCMP_ARCH_X86_64 among them",
-        Field::ArchMap => "a list of objects with architecture and subArchitectures, one of them for SCMP_ARCH_X86_64",
+        Field::Architectures =>
+            "a list of names as SCMP_ARCH_X86, with SCMP_ARCH_X86_64 among them",
+        Field::ArchMap =>
+            "a list of objects with architecture and subArchitectures, one of them for SCMP_ARCH_X86_64",
         Field::Architecture => "a name as SCMP_ARCH_X86_64",
         Field::SubArchitectures => "a list of names as SCMP_ARCH_X86",
         Field::Flags => "a list of flags",
@@ -160,7 +162,8 @@ fn expected_text(field: Field) -> &'static str
         Field::Name => "the name of a call",
         Field::Action => "an action as SCMP_ACT_ALLOW",
         Field::Args => "a list of comparisons",
-        Field::Includes | Field::Excludes => "an object with lists of names arches and caps, and a version minKernel as 4.8",
+        Field::Includes | Field::Excludes =>
+            "an object with lists of names arches and caps, and a version minKernel as 4.8",
         Field::Arches | Field::Caps => "a list of names",
         Field::MinKernel => "a version as 4.8",
         Field::Index => "the number of an argument, from 0 to 5",
@@ -174,7 +177,8 @@ fn contradiction_text(field: Field) -> &'static str
 {
     match field {
         Field::ArchMap => "beside architectures: expected one of the two",
-        Field::DefaultErrnoRet | Field::ErrnoRet => "expected only beside SCMP_ACT_ERRNO or SCMP_ACT_TRACE",
+        Field::DefaultErrnoRet | Field::ErrnoRet =>
+            "expected only beside SCMP_ACT_ERRNO or SCMP_ACT_TRACE",
         Field::DefaultErrno => "expected the name of the error in defaultErrnoRet, beside it",
         Field::Name => "beside names: expected one of the two",
         Field::Action => "who is notified of write is told so by write: expected another action",

@@ -124,7 +124,7 @@ below-six : (conditions : List Condition) → All IsAsked conditions → (index 
 below-six [] asked index h = absurd (search (rules, h))
 below-six (c ∷ conditions) asked index h =
     below-any index c.index (eqb index c.index) (list_any (eqb index) (indices conditions)) refl (asked 0 c (omega arith))
-      (below-six conditions (All-tail IsAsked c conditions asked) index) h
+    (below-six conditions (All-tail IsAsked c conditions asked) index) h
 
 pub apart-few : (conditions : List Condition) → are_apart conditions ≡ true → All IsAsked conditions → length conditions ≤ 6
 apart-few conditions h asked =

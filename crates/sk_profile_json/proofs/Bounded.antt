@@ -16,9 +16,9 @@ use Rattle.sk_profile_json.specs.Fields.{read_as, number_in, number_up_to, given
 up_to-some : (most m n : ℕ) → up_to most (Some m) ≡ Some n → n ≤ most
 up_to-some most m n h =
     ⊎_elim
-      (λ large. let none = up_to-large most m large in absurd (search (rules, h, none)))
-      (λ small. let same = up_to-within most m small in let e : m ≡ n = search (rules, h, same) in omega arith)
-      (cases_lt most m)
+    (λ large. let none = up_to-large most m large in absurd (search (rules, h, none)))
+    (λ small. let same = up_to-within most m small in let e : m ≡ n = search (rules, h, same) in omega arith)
+    (cases_lt most m)
 
 up_to-most : (most : ℕ) (o : Option ℕ) (n : ℕ) → up_to most o ≡ Some n → n ≤ most
 up_to-most most None n h = absurd (search (rules, h))

@@ -85,7 +85,7 @@ rules_for-good : (conditions : List Condition) (value : ℕ) (names : List Json)
 rules_for-good conditions value [] few asked = All-nil IsGood
 rules_for-good conditions value (j ∷ names) few asked =
     found-good conditions value (option_and_then number_named (as_str j)) (rules_for conditions value names)
-      (named-small (as_str j)) few asked (rules_for-good conditions value names few asked)
+    (named-small (as_str j)) few asked (rules_for-good conditions value names few asked)
 
 -- what was told is rules that are good, if it is rules
 abbrev AreGood : Result (List Rule) Fault → Type 0
@@ -100,7 +100,7 @@ with-good : (context : Context) (at : ℕ) (j : Json) (entry : Entry) (condition
     → All IsAsked conditions → AreGood (rules_with context at j entry conditions)
 with-good context at j entry conditions true e asked =
     rw e (if-good at (rules_for conditions entry.value entry.names) (counts context j)
-      (rules_for-good conditions entry.value entry.names (apart-few conditions e asked) asked))
+    (rules_for-good conditions entry.value entry.names (apart-few conditions e asked) asked))
 with-good context at j entry conditions false e asked = rw e (λ more h. absurd (search (steps, h)))
 
 unless-good : (context : Context) (at : ℕ) (j : Json) (entry : Entry) (o : Option WrongArgument) → AreGood (rules_unless context at j entry o)

@@ -76,7 +76,7 @@ names-many : (conditions : List Condition) (value nr entry : ℕ) (names : List 
 names-many conditions value nr entry [] = refl
 names-many conditions value nr entry (j ∷ names) =
     name-many conditions value nr entry (option_and_then number_named (as_str j)) (rules_for conditions value names)
-      (filter_map (origin_of nr entry) names) (names-many conditions value nr entry names)
+    (filter_map (origin_of nr entry) names) (names-many conditions value nr entry names)
 
 -- ---- the names of an entry
 
@@ -158,7 +158,7 @@ from-many : (context : Context) (nr at : ℕ) (js : List Json) → HasAll nr (ru
 from-many context nr at [] = λ all e. let same : [] ≡ all = search (steps, e) in subst (λ all. AreAsMany nr all []) same refl
 from-many context nr at (j ∷ js) =
     then-many nr (entry_rules context at j) (rules_from context (at + 1) js) (filter_map (origin_of nr at) (counted_names context j))
-      (origins_from context nr (at + 1) js) (of-entry-many context nr at j (entry_of j) refl) (from-many context nr (at + 1) js)
+    (origins_from context nr (at + 1) js) (of-entry-many context nr at j (entry_of j) refl) (from-many context nr (at + 1) js)
 
 -- ---- the entries of a profile
 
@@ -217,7 +217,7 @@ of-head : (context : Context) (nr : ℕ) (j : Json) (told : Result Head Wrong) (
 of-head context nr j (Ok head) profile h e =
     let entries = if-entries (wrong_keys profile_fields j) j head h in
     rw entries (with-few nr head.default (rules_from context 0 head.entries) (origins_from context nr 0 head.entries) profile
-      (from-many context nr 0 head.entries) e)
+    (from-many context nr 0 head.entries) e)
 of-head context nr j (Err wrong) profile h e = absurd (search (steps, e))
 
 pub has_origins : (context : Context) (nr : ℕ) (j : Json) → HasOrigins context j nr (origins_of context nr j)

@@ -7,15 +7,15 @@ use Rattle.sk_profile_file.proofs.making.built.Goals as goal
 pub unreachable-requires : goal.unreachable-requires
 unreachable-requires c =
     no_wrong_rule c.args.context.now (value_view c.args.value.now) (profile_of c.args.profile.now) c.in-Err-Rule.field-0 c.in-Err-Rule.field-0-0
-      c.requires.said c.in-Err-Rule.field-0-is c.in-Err-Rule.ensures.fault
+    c.requires.said c.in-Err-Rule.field-0-is c.in-Err-Rule.ensures.fault
 
 within : (c : goal.After-deref)
     → (c.in-Err-Clashes.it.first < length c.deref.result.now) × (c.in-Err-Clashes.it.second < length c.deref.result.now)
 within c =
     let both =
-        clash_has_origins c.args.context.now (value_view c.args.value.now) (profile_of c.args.profile.now) c.in-Err-Clashes.field-0 c.in-Err-Clashes.it
-          c.in_ok-origins-in-Err-Clashes.origins.items c.requires.said c.in-Err-Clashes.field-0-is c.in-Err-Clashes.ensures.fault
-          c.in_ok-origins-in-Err-Clashes.ensures.enough in
+    clash_has_origins c.args.context.now (value_view c.args.value.now) (profile_of c.args.profile.now) c.in-Err-Clashes.field-0 c.in-Err-Clashes.it
+    c.in_ok-origins-in-Err-Clashes.origins.items c.requires.said c.in-Err-Clashes.field-0-is c.in-Err-Clashes.ensures.fault
+    c.in_ok-origins-in-Err-Clashes.ensures.enough in
     let same : length c.deref.result.now ≡ length c.in_ok-origins-in-Err-Clashes.origins.items = ap length c.deref.ensures.value in
     (omega (arith, both.0, same), omega (arith, both.1, same))
 

@@ -7,7 +7,7 @@ use Rattle.sk_profile_json.proofs.origins.origins_from.Goals as goal
 pub loop-place-preserved : goal.loop-place-preserved
 loop-place-preserved c =
     let pushed =
-        c.in_ok-push_origins.ensures.pushed
-        ∙ ap (λ names. c.loop-place.origins.items ++ filter_map (origin_of c.args.number c.loop-place.place) names) c.counted_names.ensures.names in
+    c.in_ok-push_origins.ensures.pushed
+    ∙ ap (λ names. c.loop-place.origins.items ++ filter_map (origin_of c.args.number c.loop-place.place) names) c.counted_names.ensures.names in
     more_origins c.args.context.now c.args.number _ _ c.index-entries-place.result _ _ c.loop-place-test.true c.index-entries-place.is pushed
     ∙ c.loop-place.invariant
