@@ -4,10 +4,10 @@ use Rattle.std.specs.Str.{bytes_eq}
 use Rattle.std.specs.Option.{option_map}
 use Rattle.sk_profile_json.specs.declared.context.Kernel.{Kernel as Version}
 use Rattle.sk_profile_json.specs.Contexts.{kernel_of}
+use Rattle.sk_profile_file.specs.Capabilities.{capability}
 use Rattle.sk_ask_filters.specs.declared.trouble.Trouble.{Trouble}
 use Rattle.sk_ask_filters.specs.declared.trouble.Trouble.TheVariants.{Refused, Reading, Memory}
 use Rattle.sk_ask_filters.specs.Complaints.{of_word}
-use Rattle.sk_ask.specs.Capabilities.{capability}
 use Rattle.sk_ask.specs.declared.words.Asked.{Asked}
 use Rattle.sk_ask.specs.declared.words.Valued.{Valued}
 use Rattle.sk_ask.specs.declared.words.Valued.TheVariants.{Call, Cap, Kernel}

@@ -2,7 +2,6 @@ pub mod Answering
 pub mod Asking
 pub mod Calls
 pub mod CallsText
-pub mod Capabilities
 pub mod Contexts
 pub mod Diffs
 pub mod Endings

@@ -5,7 +5,6 @@
 mod answer;
 mod calls;
 mod calls_text;
-mod capabilities;
 mod cli;
 mod diff;
 mod filter;

@@ -2,11 +2,11 @@
 ghost use Rattle.std.specs.Prelude.{◌≡◌, ◌≤◌, ◌∷◌, IfOk, length, string_bytes, map, slice_get};
 ghost use Rattle.std.specs.Option.{option_map};
 ghost use Rattle.sk_profile_json.specs.Contexts.{kernel_of};
-ghost use Rattle.sk_ask.specs.Capabilities.{capability};
+ghost use Rattle.sk_profile_file.specs.Capabilities.{capability};
 ghost use Rattle.sk_ask.specs.Asking.{asked_of, nothing_asked, with_word, with_free, with_option, with_valued, with_value, with_caps, with_kernel, with_flag, with_name, valued_name, valued_named, value_kind, tells_calls, is_given, expected_line, ended, complete, named, none_missing, two_named, missing, wanted, is_option, question_of, word_named, word_name, Asks, HasCall, HasNames};
 
-use crate::capabilities::capability;
 use sk_ask_filters::{Trouble, of_word};
+use sk_profile_file::capability;
 use sk_profile_json::{Kernel, kernel_of};
 use sk_text::is_word;
 use std::alloc::{AllocError, Global};

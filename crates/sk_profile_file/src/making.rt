@@ -9,7 +9,6 @@ use crate::answer::{Clash, Made, Refusal};
 use crate::image::image_of;
 use crate::note::notes_of;
 use json::{Scratch, Value};
-use sk_check::check;
 use sk_profile::{Profile, ProfileFault, profile_filter};
 use sk_profile_json::{Context, ReadFault, origins_of, profile_in, value_of};
 use std::alloc::{AllocError, Global};
@@ -87,19 +86,15 @@ fn built(
     requires said { profile_in context.now (value_view value.now) ≡ Ok (profile_of profile.now) }
     ensures builds { IfOk result (Builds context.now (value_view value.now) (profile_of profile.now)) }
 {
-    let insns = match profile_filter(alloc, profile) {
-        Ok(insns) => insns,
+    match profile_filter(alloc, profile) {
+        Ok(insns) => Ok(Ok(image_of(alloc, &insns)?)),
         Err(ProfileFault::Rule(_)) => unreachable!(),
         Err(ProfileFault::Clashes(it)) => {
             let origins = origins_of(alloc, context, it.number, value)?;
-            return Ok(Err(Refusal::Clashes(clash_of(&origins, it))));
+            Ok(Err(Refusal::Clashes(clash_of(&origins, it))))
         }
-        Err(ProfileFault::TooLong) => return Ok(Err(Refusal::TooLong)),
-        Err(ProfileFault::Memory) => return Err(AllocError),
-    };
-    match check(insns) {
-        Ok(checked) => Ok(Ok(image_of(alloc, checked.insns())?)),
-        Err(_) => unreachable!(),
+        Err(ProfileFault::TooLong) => Ok(Err(Refusal::TooLong)),
+        Err(ProfileFault::Memory) => Err(AllocError),
     }
 }
 
