@@ -9,14 +9,14 @@ unreachable-requires c =
     no_wrong_rule c.args.context.now (value_view c.args.value.now) (profile_of c.args.profile.now) c.in-Err-Rule.field-0 c.in-Err-Rule.field-0-0
     c.requires.said c.in-Err-Rule.field-0-is c.in-Err-Rule.ensures.fault
 
-within : (c : goal.After-deref)
-    → (c.in-Err-Clashes.it.first < length c.deref.result.now) × (c.in-Err-Clashes.it.second < length c.deref.result.now)
+within : (c : goal.After-deref-in-Err-Clashes)
+    → (c.in-Err-Clashes.it.first < length c.deref-in-Err-Clashes.result.now) × (c.in-Err-Clashes.it.second < length c.deref-in-Err-Clashes.result.now)
 within c =
     let both =
     clash_has_origins c.args.context.now (value_view c.args.value.now) (profile_of c.args.profile.now) c.in-Err-Clashes.field-0 c.in-Err-Clashes.it
     c.in_ok-origins-in-Err-Clashes.origins.items c.requires.said c.in-Err-Clashes.field-0-is c.in-Err-Clashes.ensures.fault
     c.in_ok-origins-in-Err-Clashes.ensures.enough in
-    let same : length c.deref.result.now ≡ length c.in_ok-origins-in-Err-Clashes.origins.items = ap length c.deref.ensures.value in
+    let same : length c.deref-in-Err-Clashes.result.now ≡ length c.in_ok-origins-in-Err-Clashes.origins.items = ap length c.deref-in-Err-Clashes.ensures.value in
     (omega (arith, both.0, same), omega (arith, both.1, same))
 
 pub clash_of-requires-clause-first : goal.clash_of-requires-clause-first
@@ -24,3 +24,6 @@ clash_of-requires-clause-first c = (within c).0
 
 pub clash_of-requires-clause-second : goal.clash_of-requires-clause-second
 clash_of-requires-clause-second c = (within c).1
+
+pub returns-in-Err-TooLong : goal.returns-in-Err-TooLong
+returns-in-Err-TooLong c = record { builds = c.in-Err-TooLong.ensures.long c.in-Err-TooLong.field-0-is }
