@@ -123,7 +123,7 @@ FILES = {
     "profile_write": profile(entry("write", "SCMP_ACT_NOTIFY")),
     "profile_clash": profile(entry("read", "SCMP_ACT_LOG"), entry("write", "SCMP_ACT_LOG", args=[argument(0, 1)]),
                              entry("write", "SCMP_ACT_KILL", args=[argument(1, 2)])),
-    "profile_long": profile(*[entry("read", "SCMP_ACT_LOG", args=[argument(0, it)]) for it in range(1000)]),
+    "profile_long": profile(*[entry("read", "SCMP_ACT_LOG", args=[argument(0, it << 32)]) for it in range(1000)]),
     "profile_noted": profile(entry("getpid", "SCMP_ACT_ERRNO"), entry("opennat", "SCMP_ACT_LOG")),
 }
 
