@@ -39,30 +39,26 @@ use Rattle.sk_world.proofs.KeptEnd.{kept_ended, alive_is_there}
 use Rattle.sk_world.proofs.KeptTold.{kept_told}
 use Rattle.sk_world.specs.Ending.{ended}
 use Rattle.sk_session.specs.Orphans.{is_living_member, is_orphaned, is_left_orphaned, groups, sent_to_group, hung_up, each_hung_up, ended_and_hung_up}
-use Rattle.sk_session.specs.Sessions.{group_of, after_setpgid, after_setsid, group_asked, session_asked}
+use Rattle.sk_session.specs.Sessions.{group_of}
 use Rattle.sk_session.proofs.KeptLinks.{kept_setpgid, kept_setsid}
 use Rattle.sk_machine.specs.declared.event.Event.{Event}
 use Rattle.sk_machine.specs.declared.event.Event.TheVariants.{Call, Deliver, Resume, Fault}
-use Rattle.sk_machine.specs.declared.operation.PrctlOption.{PrctlOption}
-use Rattle.sk_machine.specs.declared.operation.PrctlOption.TheVariants as option
-use Rattle.sk_machine.specs.declared.operation.SeccompOperation.{SeccompOperation}
-use Rattle.sk_machine.specs.declared.operation.SeccompOperation.TheVariants as operation
 use Rattle.sk_calls.specs.declared.syscall.Syscall.{Syscall}
-use Rattle.sk_calls.specs.declared.syscall.Syscall.TheVariants as syscall
 use Rattle.sk_machine.specs.Events.{pid_of}
 use Rattle.sk_machine.specs.Given.{GivenImages}
 use Rattle.sk_calls.specs.Syscalls.{syscall_of}
-use Rattle.sk_machine.specs.Arguments.{register, low, signed, prctl_option_of, seccomp_operation_of}
-use Rattle.sk_machine.specs.Authority.{Authority, with_authority, authority_of, after_prctl, after_seccomp}
+use Rattle.sk_machine.specs.Arguments.{register, low, signed}
+use Rattle.sk_machine.specs.Authority.{Authority, with_authority}
 use Rattle.sk_machine.specs.Performed.{Performed, returns, fails, asked, changes, authorises, waiting_in, waits}
-use Rattle.sk_machine.specs.SignalCalls.{with_signals, resignals, after_sigaction, after_sigprocmask, after_sigreturn}
+use Rattle.sk_machine.specs.SignalCalls.{with_signals, resignals}
 use Rattle.sk_machine.specs.Killing.{targets, permitted, killed, after_kill}
 use Rattle.sk_machine.specs.WaitCalls.{are_wait_options, request_of, polled, wait4, polled_again}
-use Rattle.sk_machine.specs.Performing.{executing, execve, forks, exit_status, authorised, no_new_privs_asked, subreaper_set, subreaper_asked, where_subreapers, with_subreaper, prctl, action_available, seccomp, row}
+use Rattle.sk_machine.specs.Performing.{executing, execve, forks, subreaper_set, subreaper_asked, where_subreapers, with_subreaper, row}
 use Rattle.sk_machine.specs.Delivering.{Delivered, signal_for, terminated_by, in_handler, enters_handler, stopping, stopped_by, ignored, acts_by_default, acts_by_disposition, taking, acted_on}
 use Rattle.sk_machine.specs.Machine.{judged, happened, step_of}
 use Rattle.sk_machine_laws.specs.MachineLaws.{CallKeepsRules, DeliveryKeepsRules, ResumptionKeepsRules, EventKeepsRules, RunKeepsRules, ReachedHasRules}
 use Rattle.sk_machine_laws.proofs.Happened.{at_step, at_delivery}
+use Rattle.sk_machine_laws.proofs.EachCall.{each_call}
 use Rattle.sk_creds.specs.declared.creds.Creds.{Creds}
 
 -- a change that leaves a process running, stopped or ended as it is
@@ -143,54 +139,26 @@ kept_subreapers : (there : Bool) (w : World) (p : Performed) → IsWorld w → I
 kept_subreapers true w p rules kept = kept
 kept_subreapers false w p rules kept = rules
 
-kept_prctl : (images : GivenImages) (w : World) (pid : ℕ) (body : Body) (which : Option PrctlOption) (call : Record) → IsWorld w
-    → IsWorld (prctl images w pid body which call).world
-kept_prctl images w pid body (Some option.GetSeccomp) call rules = rules
-kept_prctl images w pid body (Some option.GetNoNewPrivs) call rules = kept_asked w (no_new_privs_asked call body.creds.no_new_privs) rules
-kept_prctl images w pid body (Some option.SetChildSubreaper) call rules =
-    kept_subreapers images.subreapers w (subreaper_set w pid call) rules (kept_body w pid (with_subreaper (not (register call 1 == 0))) rules (λ body. refl))
-kept_prctl images w pid body (Some option.GetChildSubreaper) call rules = kept_subreapers images.subreapers w (subreaper_asked w body.subreaper) rules rules
-kept_prctl images w pid body None call rules = rules
-kept_prctl images w pid body setting call rules = kept_authorises w pid (after_prctl images setting call (authority_of body)) rules
-
-kept_seccomp : (images : GivenImages) (w : World) (pid : ℕ) (body : Body) (which : Option SeccompOperation) (call : Record) → IsWorld w
-    → IsWorld (seccomp images w pid body which call).world
-kept_seccomp images w pid body (Some operation.GetActionAvail) call rules = kept_asked w (action_available (low call 1) (low call 2)) rules
-kept_seccomp images w pid body None call rules = rules
-kept_seccomp images w pid body setting call rules = kept_authorises w pid (after_seccomp images setting call (authority_of body)) rules
-
 kept_row : (images : GivenImages) (w : World) (pid : ℕ) (body : Body) (which : Option Syscall) (call : Record) → IsWorld w
     → IsTrue (is_alive (at w pid)) → IsWorld (row images w pid body which call).world
-kept_row images w pid body (Some syscall.RtSigaction) call rules alive = kept_resignals w pid (after_sigaction pid call body.signals) rules
-kept_row images w pid body (Some syscall.RtSigprocmask) call rules alive = kept_resignals w pid (after_sigprocmask call body.signals) rules
-kept_row images w pid body (Some syscall.RtSigreturn) call rules alive =
-    kept_resignals w pid (after_sigreturn body.signals.frames body.signals) rules
-kept_row images w pid body (Some syscall.RtSigpending) call rules alive = rules
-kept_row images w pid body (Some syscall.SchedYield) call rules alive = rules
-kept_row images w pid body (Some syscall.Pause) call rules alive = kept_body w pid (waiting_in waiting.Pause) rules (λ body. refl)
-kept_row images w pid body (Some syscall.Getpid) call rules alive = rules
-kept_row images w pid body (Some syscall.Getppid) call rules alive = rules
-kept_row images w pid body (Some syscall.Fork) call rules alive = kept_forks w pid (fork_answer w) rules alive
-kept_row images w pid body (Some syscall.Execve) call rules alive = kept_execve w pid (authorised images body syscall.Execve call) rules
-kept_row images w pid body (Some syscall.Exit) call rules alive = kept_end w pid (exit_status (low call 0)) rules alive
-kept_row images w pid body (Some syscall.ExitGroup) call rules alive = kept_end w pid (exit_status (low call 0)) rules alive
-kept_row images w pid body (Some syscall.Wait4) call rules alive = kept_wait4 w pid call rules alive
-kept_row images w pid body (Some syscall.Kill) call rules alive =
-    kept_changes w 0 (after_kill w pid body.creds (signed call 0) (low call 1)) rules (kept_kill w pid body.creds (signed call 0) (low call 1) rules)
-kept_row images w pid body (Some syscall.Getuid) call rules alive = rules
-kept_row images w pid body (Some syscall.Geteuid) call rules alive = rules
-kept_row images w pid body (Some syscall.Setuid) call rules alive = kept_authorises w pid (authorised images body syscall.Setuid call) rules
-kept_row images w pid body (Some syscall.Setresuid) call rules alive = kept_authorises w pid (authorised images body syscall.Setresuid call) rules
-kept_row images w pid body (Some syscall.Getresuid) call rules alive = rules
-kept_row images w pid body (Some syscall.Setpgid) call rules alive =
-    kept_changes w 0 (after_setpgid w pid (signed call 0) (signed call 1)) rules (kept_setpgid w pid (signed call 0) (signed call 1) rules (alive_is_there (at w pid) alive))
-kept_row images w pid body (Some syscall.Getpgrp) call rules alive = rules
-kept_row images w pid body (Some syscall.Setsid) call rules alive = kept_changes w pid (after_setsid w pid) rules (kept_setsid w pid rules (alive_is_there (at w pid) alive))
-kept_row images w pid body (Some syscall.Getpgid) call rules alive = kept_asked w (group_asked w pid (signed call 0)) rules
-kept_row images w pid body (Some syscall.Getsid) call rules alive = kept_asked w (session_asked w pid (signed call 0)) rules
-kept_row images w pid body (Some syscall.Prctl) call rules alive = kept_prctl images w pid body (prctl_option_of (low call 0)) call rules
-kept_row images w pid body (Some syscall.Seccomp) call rules alive = kept_seccomp images w pid body (seccomp_operation_of (low call 0)) call rules
-kept_row images w pid body None call rules alive = rules
+kept_row images w pid body which call rules alive =
+    each_call images w pid body call (λ p. IsWorld p.world) (record {
+      answers = λ r. kept_asked w r rules;
+      tells_signals = λ _. rules;
+      tells_ids = rules;
+      resignals = λ r. kept_resignals w pid r rules;
+      authorises = λ r. kept_authorises w pid r rules;
+      executes = λ r. kept_execve w pid r rules;
+      marks = kept_subreapers images.subreapers w (subreaper_set w pid call) rules (kept_body w pid (with_subreaper (not (register call 1 == 0))) rules (λ body. refl));
+      asks_mark = kept_subreapers images.subreapers w (subreaper_asked w body.subreaper) rules rules;
+      pauses = kept_body w pid (waiting_in waiting.Pause) rules (λ body. refl);
+      waits_for = kept_wait4 w pid call rules alive;
+      forks_one = kept_forks w pid (fork_answer w) rules alive;
+      ends = λ status. kept_end w pid status rules alive;
+      kills = kept_changes w 0 _ rules (kept_kill w pid body.creds (signed call 0) (low call 1) rules);
+      regroups = kept_changes w 0 _ rules (kept_setpgid w pid (signed call 0) (signed call 1) rules (alive_is_there (at w pid) alive));
+      leads = kept_changes w pid _ rules (kept_setsid w pid rules (alive_is_there (at w pid) alive));
+    }) which
 
 pub kept_performed : CallKeepsRules
 kept_performed images w pid body call rules alive = kept_row images w pid body (syscall_of call.nr) call rules alive

@@ -1,3 +1,4 @@
+mod EachCall
 pub mod Happened
 pub mod Unchanged
 pub mod KeptEvents

@@ -12,7 +12,6 @@ use Rattle.sk_creds.specs.declared.errno.Errno.{Errno}
 use Rattle.sk_signal.specs.declared.number.TheConstants.{SIGSEGV, SIGCHLD, SIGSYS}
 use Rattle.sk_signal.specs.Generation.{forced as sigsys_forced}
 use Rattle.sk_calls.specs.declared.syscall.Syscall.{Syscall}
-use Rattle.sk_calls.specs.declared.syscall.Syscall.TheVariants as syscall
 use Rattle.sk_calls.specs.Syscalls.{syscall_of}
 use Rattle.sk_world.specs.declared.process.TheConstants.{INIT}
 use Rattle.sk_world.specs.declared.process.Life.TheVariants.{Zombie}
@@ -34,25 +33,19 @@ use Rattle.sk_world.proofs.Maps.{get_store}
 use Rattle.sk_world.proofs.Stored.{everywhere}
 use Rattle.sk_world.proofs.KeptEnd.{handed_cases, handed_at, alive_is_there}
 use Rattle.sk_world_laws.proofs.Locality.{sent_leaves}
-use Rattle.sk_session.specs.Sessions.{after_setpgid, after_setsid, group_asked, session_asked}
 use Rattle.sk_machine.specs.declared.event.Event.{Event}
 use Rattle.sk_machine.specs.declared.event.Event.TheVariants.{Call, Deliver, Resume, Fault}
-use Rattle.sk_machine.specs.declared.operation.PrctlOption.{PrctlOption}
-use Rattle.sk_machine.specs.declared.operation.PrctlOption.TheVariants as option
-use Rattle.sk_machine.specs.declared.operation.SeccompOperation.{SeccompOperation}
-use Rattle.sk_machine.specs.declared.operation.SeccompOperation.TheVariants as operation
-use Rattle.sk_machine.specs.Arguments.{low, signed, prctl_option_of, seccomp_operation_of}
+use Rattle.sk_machine.specs.Arguments.{low, signed}
 use Rattle.sk_machine.specs.Events.{pid_of}
 use Rattle.sk_machine.specs.Given.{GivenImages}
-use Rattle.sk_machine.specs.Authority.{Authority, with_authority, authority_of, after_prctl, after_seccomp}
+use Rattle.sk_machine.specs.Authority.{Authority, with_authority}
 use Rattle.sk_machine.specs.Performed.{Performed, authorises}
-use Rattle.sk_machine.specs.SignalCalls.{after_sigaction, after_sigprocmask, after_sigreturn}
-use Rattle.sk_machine.specs.Killing.{after_kill}
-use Rattle.sk_machine.specs.Performing.{executing, execve, forks, exit_status, authorised, no_new_privs_asked, subreaper_set, subreaper_asked, where_subreapers, prctl, action_available, seccomp, row}
+use Rattle.sk_machine.specs.Performing.{executing, execve, forks, subreaper_set, subreaper_asked, where_subreapers, row}
 use Rattle.sk_machine.specs.Delivering.{signal_for}
 use Rattle.sk_machine.specs.Machine.{judged, happened, step_of, world_after}
 use Rattle.sk_machine_laws.specs.MachineLaws.{HasNoSubreapers, EventMarksNobody, RunMarksNobody, NobodyIsMarked, InitTakesOrphans, OrphansGoToInit}
 use Rattle.sk_machine_laws.proofs.Carrying.{Carries, over_asked, over_changes, over_resignals, over_waits, over_kill, over_setpgid, over_setsid, over_wait4, over_end, over_delivered, over_resumed}
+use Rattle.sk_machine_laws.proofs.EachCall.{each_call}
 use Rattle.sk_machine_laws.proofs.Happened.{at_step, at_delivery}
 
 -- no subreaper comes
@@ -149,53 +142,26 @@ marks_where : (there : Bool) (w : World) (p : Performed) → there ≡ false →
 marks_where true w p is = absurd (false≢true (sym is))
 marks_where false w p is = λ none. none
 
-marks_prctl : (images : GivenImages) (w : World) (pid : ℕ) (body : Body) (which : Option PrctlOption) (call : Record) → images.subreapers ≡ false
-    → MarksNobody w (prctl images w pid body which call).world
-marks_prctl images w pid body (Some option.GetSeccomp) call is = λ none. none
-marks_prctl images w pid body (Some option.GetNoNewPrivs) call is = over_asked MarksNobody marks w (no_new_privs_asked call body.creds.no_new_privs)
-marks_prctl images w pid body (Some option.SetChildSubreaper) call is = marks_where images.subreapers w (subreaper_set w pid call) is
-marks_prctl images w pid body (Some option.GetChildSubreaper) call is = marks_where images.subreapers w (subreaper_asked w body.subreaper) is
-marks_prctl images w pid body None call is = λ none. none
-marks_prctl images w pid body setting call is = marks_authorises w pid (after_prctl images setting call (authority_of body))
-
-marks_seccomp : (images : GivenImages) (w : World) (pid : ℕ) (body : Body) (which : Option SeccompOperation) (call : Record)
-    → MarksNobody w (seccomp images w pid body which call).world
-marks_seccomp images w pid body (Some operation.GetActionAvail) call = over_asked MarksNobody marks w (action_available (low call 1) (low call 2))
-marks_seccomp images w pid body None call = λ none. none
-marks_seccomp images w pid body setting call = marks_authorises w pid (after_seccomp images setting call (authority_of body))
-
 marks_row : (images : GivenImages) (w : World) (pid : ℕ) (body : Body) (which : Option Syscall) (call : Record) → images.subreapers ≡ false
     → IsTrue (is_some (at w pid)) → MarksNobody w (row images w pid body which call).world
-marks_row images w pid body (Some syscall.RtSigaction) call is there = over_resignals MarksNobody marks w pid (after_sigaction pid call body.signals)
-marks_row images w pid body (Some syscall.RtSigprocmask) call is there = over_resignals MarksNobody marks w pid (after_sigprocmask call body.signals)
-marks_row images w pid body (Some syscall.RtSigreturn) call is there =
-    over_resignals MarksNobody marks w pid (after_sigreturn body.signals.frames body.signals)
-marks_row images w pid body (Some syscall.RtSigpending) call is there = λ none. none
-marks_row images w pid body (Some syscall.SchedYield) call is there = λ none. none
-marks_row images w pid body (Some syscall.Pause) call is there = over_waits MarksNobody marks w pid waiting.Pause
-marks_row images w pid body (Some syscall.Getpid) call is there = λ none. none
-marks_row images w pid body (Some syscall.Getppid) call is there = λ none. none
-marks_row images w pid body (Some syscall.Fork) call is there = marks_forks w pid (fork_answer w)
-marks_row images w pid body (Some syscall.Execve) call is there = marks_execve w pid (authorised images body syscall.Execve call)
-marks_row images w pid body (Some syscall.Exit) call is there = over_end MarksNobody marks w pid (exit_status (low call 0)) there
-marks_row images w pid body (Some syscall.ExitGroup) call is there = over_end MarksNobody marks w pid (exit_status (low call 0)) there
-marks_row images w pid body (Some syscall.Wait4) call is there = over_wait4 MarksNobody marks w pid call
-marks_row images w pid body (Some syscall.Kill) call is there =
-    over_changes MarksNobody marks w 0 (after_kill w pid body.creds (signed call 0) (low call 1)) (over_kill MarksNobody marks w pid body.creds (signed call 0) (low call 1))
-marks_row images w pid body (Some syscall.Getuid) call is there = λ none. none
-marks_row images w pid body (Some syscall.Geteuid) call is there = λ none. none
-marks_row images w pid body (Some syscall.Setuid) call is there = marks_authorises w pid (authorised images body syscall.Setuid call)
-marks_row images w pid body (Some syscall.Setresuid) call is there = marks_authorises w pid (authorised images body syscall.Setresuid call)
-marks_row images w pid body (Some syscall.Getresuid) call is there = λ none. none
-marks_row images w pid body (Some syscall.Setpgid) call is there =
-    over_changes MarksNobody marks w 0 (after_setpgid w pid (signed call 0) (signed call 1)) (over_setpgid MarksNobody marks w pid (signed call 0) (signed call 1))
-marks_row images w pid body (Some syscall.Getpgrp) call is there = λ none. none
-marks_row images w pid body (Some syscall.Setsid) call is there = over_changes MarksNobody marks w pid (after_setsid w pid) (over_setsid MarksNobody marks w pid)
-marks_row images w pid body (Some syscall.Getpgid) call is there = over_asked MarksNobody marks w (group_asked w pid (signed call 0))
-marks_row images w pid body (Some syscall.Getsid) call is there = over_asked MarksNobody marks w (session_asked w pid (signed call 0))
-marks_row images w pid body (Some syscall.Prctl) call is there = marks_prctl images w pid body (prctl_option_of (low call 0)) call is
-marks_row images w pid body (Some syscall.Seccomp) call is there = marks_seccomp images w pid body (seccomp_operation_of (low call 0)) call
-marks_row images w pid body None call is there = λ none. none
+marks_row images w pid body which call is there =
+    each_call images w pid body call (λ p. MarksNobody w p.world) (record {
+      answers = over_asked MarksNobody marks w;
+      tells_signals = λ _ none. none;
+      tells_ids = λ none. none;
+      resignals = over_resignals MarksNobody marks w pid;
+      authorises = marks_authorises w pid;
+      executes = marks_execve w pid;
+      marks = marks_where images.subreapers w (subreaper_set w pid call) is;
+      asks_mark = marks_where images.subreapers w (subreaper_asked w body.subreaper) is;
+      pauses = over_waits MarksNobody marks w pid waiting.Pause;
+      waits_for = over_wait4 MarksNobody marks w pid call;
+      forks_one = marks_forks w pid (fork_answer w);
+      ends = λ status. over_end MarksNobody marks w pid status there;
+      kills = over_changes MarksNobody marks w 0 _ (over_kill MarksNobody marks w pid body.creds (signed call 0) (low call 1));
+      regroups = over_changes MarksNobody marks w 0 _ (over_setpgid MarksNobody marks w pid (signed call 0) (signed call 1));
+      leads = over_changes MarksNobody marks w pid _ (over_setsid MarksNobody marks w pid);
+    }) which
 
 -- ---- events
 marks_judged : (images : GivenImages) (w : World) (pid : ℕ) (body : Body) (call : Record) (verdict : ℕ) (a : Action) → images.subreapers ≡ false

@@ -31,30 +31,26 @@ use Rattle.sk_world.proofs.Tidings.{by_first, ready_first}
 use Rattle.sk_world.proofs.Stored.{everywhere, at_here}
 use Rattle.sk_world.proofs.KeptTold.{match_parent}
 use Rattle.sk_world.proofs.Telling.{ready_lowest}
-use Rattle.sk_session.specs.Sessions.{after_setpgid, after_setsid, group_asked, session_asked}
+use Rattle.sk_session.specs.Sessions.{after_setpgid, after_setsid}
 use Rattle.sk_machine.specs.declared.event.Event.{Event}
 use Rattle.sk_machine.specs.declared.event.Event.TheVariants.{Call, Deliver, Resume, Fault}
-use Rattle.sk_machine.specs.declared.operation.PrctlOption.{PrctlOption}
-use Rattle.sk_machine.specs.declared.operation.PrctlOption.TheVariants as option
-use Rattle.sk_machine.specs.declared.operation.SeccompOperation.{SeccompOperation}
-use Rattle.sk_machine.specs.declared.operation.SeccompOperation.TheVariants as operation
 use Rattle.sk_calls.specs.declared.syscall.Syscall.{Syscall}
-use Rattle.sk_calls.specs.declared.syscall.Syscall.TheVariants as syscall
 use Rattle.sk_machine.specs.Events.{pid_of}
 use Rattle.sk_machine.specs.Given.{GivenImages}
 use Rattle.sk_calls.specs.Syscalls.{syscall_of}
-use Rattle.sk_machine.specs.Arguments.{low, signed, prctl_option_of, seccomp_operation_of}
-use Rattle.sk_machine.specs.Authority.{Authority, authority_of, after_prctl, after_seccomp}
+use Rattle.sk_machine.specs.Arguments.{low, signed}
+use Rattle.sk_machine.specs.Authority.{Authority}
 use Rattle.sk_machine.specs.Performed.{Performed, returns, fails, asked, changes, authorises, waiting_in, waits}
-use Rattle.sk_machine.specs.SignalCalls.{resignals, after_sigaction, after_sigprocmask, after_sigreturn}
+use Rattle.sk_machine.specs.SignalCalls.{resignals}
 use Rattle.sk_machine.specs.Killing.{after_kill}
 use Rattle.sk_machine.specs.WaitCalls.{are_wait_options, request_of, polled, wait4, polled_again, resumed}
-use Rattle.sk_machine.specs.Performing.{execve, forks, authorised, no_new_privs_asked, subreaper_set, subreaper_asked, where_subreapers, prctl, action_available, seccomp, row}
+use Rattle.sk_machine.specs.Performing.{execve, forks, subreaper_set, subreaper_asked, where_subreapers, row}
 use Rattle.sk_machine.specs.Machine.{judged, step_of, world_after, Stepped, happened}
 use Rattle.sk_machine.specs.Lines.{Happening, is_fork_of, line_before, history_after}
 use Rattle.sk_machine_laws.specs.LineLaws.{happening}
 use Rattle.sk_machine_laws.specs.TellingLaws.{told_in, told_by, IsEnd, HasEndedUnder, EndIsToldToParent, EndIsToldOnce}
 use Rattle.sk_machine_laws.proofs.LineSteps.{event_changes_authority}
+use Rattle.sk_machine_laws.proofs.EachCall.{each_call}
 use Rattle.sk_machine_laws.proofs.Happened.{at_step, at_delivery}
 use Rattle.sk_machine.specs.Delivering.{signal_for}
 
@@ -183,50 +179,26 @@ tells_subreapers : (there : Bool) (w : World) (pid : ℕ) (p : Performed) → Te
 tells_subreapers true w pid p right = right
 tells_subreapers false w pid p right = λ child status is. nothing_told w w pid child status is
 
-tells_prctl : (images : GivenImages) (w : World) (pid : ℕ) (body : Body) (which : Option PrctlOption) (call : Record)
-    → TellsRight w pid (prctl images w pid body which call)
-tells_prctl images w pid body (Some option.GetSeccomp) call = λ child status is. nothing_told w _ pid child status is
-tells_prctl images w pid body (Some option.GetNoNewPrivs) call = tells_asked w pid (no_new_privs_asked call body.creds.no_new_privs)
-tells_prctl images w pid body (Some option.SetChildSubreaper) call = tells_subreapers images.subreapers w pid (subreaper_set w pid call) (λ child status is. nothing_told w _ pid child status is)
-tells_prctl images w pid body (Some option.GetChildSubreaper) call = tells_subreapers images.subreapers w pid (subreaper_asked w body.subreaper) (λ child status is. nothing_told w _ pid child status is)
-tells_prctl images w pid body None call = λ child status is. nothing_told w _ pid child status is
-tells_prctl images w pid body setting call = tells_authorises w pid (after_prctl images setting call (authority_of body))
-
-tells_seccomp : (images : GivenImages) (w : World) (pid : ℕ) (body : Body) (which : Option SeccompOperation) (call : Record)
-    → TellsRight w pid (seccomp images w pid body which call)
-tells_seccomp images w pid body (Some operation.GetActionAvail) call = tells_asked w pid (action_available (low call 1) (low call 2))
-tells_seccomp images w pid body None call = λ child status is. nothing_told w _ pid child status is
-tells_seccomp images w pid body setting call = tells_authorises w pid (after_seccomp images setting call (authority_of body))
-
 tells_row : (images : GivenImages) (w : World) (pid : ℕ) (body : Body) (which : Option Syscall) (call : Record) → TellsRight w pid (row images w pid body which call)
-tells_row images w pid body (Some syscall.RtSigaction) call = tells_resignals w pid (after_sigaction pid call body.signals)
-tells_row images w pid body (Some syscall.RtSigprocmask) call = tells_resignals w pid (after_sigprocmask call body.signals)
-tells_row images w pid body (Some syscall.RtSigreturn) call =
-    tells_resignals w pid (after_sigreturn body.signals.frames body.signals)
-tells_row images w pid body (Some syscall.RtSigpending) call = λ child status is. nothing_told w _ pid child status is
-tells_row images w pid body (Some syscall.SchedYield) call = λ child status is. nothing_told w _ pid child status is
-tells_row images w pid body (Some syscall.Pause) call = λ child status is. nothing_told w _ pid child status is
-tells_row images w pid body (Some syscall.Getpid) call = λ child status is. nothing_told w _ pid child status is
-tells_row images w pid body (Some syscall.Getppid) call = λ child status is. nothing_told w _ pid child status is
-tells_row images w pid body (Some syscall.Fork) call = tells_forks w pid (fork_answer w)
-tells_row images w pid body (Some syscall.Execve) call = tells_execve w pid (authorised images body syscall.Execve call)
-tells_row images w pid body (Some syscall.Exit) call = λ child status is. nothing_told w _ pid child status is
-tells_row images w pid body (Some syscall.ExitGroup) call = λ child status is. nothing_told w _ pid child status is
-tells_row images w pid body (Some syscall.Wait4) call = tells_wait4 w pid call
-tells_row images w pid body (Some syscall.Kill) call = tells_changes w pid 0 (after_kill w pid body.creds (signed call 0) (low call 1))
-tells_row images w pid body (Some syscall.Getuid) call = λ child status is. nothing_told w _ pid child status is
-tells_row images w pid body (Some syscall.Geteuid) call = λ child status is. nothing_told w _ pid child status is
-tells_row images w pid body (Some syscall.Setuid) call = tells_authorises w pid (authorised images body syscall.Setuid call)
-tells_row images w pid body (Some syscall.Setresuid) call = tells_authorises w pid (authorised images body syscall.Setresuid call)
-tells_row images w pid body (Some syscall.Getresuid) call = λ child status is. nothing_told w _ pid child status is
-tells_row images w pid body (Some syscall.Setpgid) call = tells_changes w pid 0 (after_setpgid w pid (signed call 0) (signed call 1))
-tells_row images w pid body (Some syscall.Getpgrp) call = λ child status is. nothing_told w _ pid child status is
-tells_row images w pid body (Some syscall.Setsid) call = tells_changes w pid pid (after_setsid w pid)
-tells_row images w pid body (Some syscall.Getpgid) call = tells_asked w pid (group_asked w pid (signed call 0))
-tells_row images w pid body (Some syscall.Getsid) call = tells_asked w pid (session_asked w pid (signed call 0))
-tells_row images w pid body (Some syscall.Prctl) call = tells_prctl images w pid body (prctl_option_of (low call 0)) call
-tells_row images w pid body (Some syscall.Seccomp) call = tells_seccomp images w pid body (seccomp_operation_of (low call 0)) call
-tells_row images w pid body None call = λ child status is. nothing_told w _ pid child status is
+tells_row images w pid body which call =
+    let none = λ (after : World) (child status : ℕ) (is : ◌≡◌ {A = Option (ℕ × ℕ)} None (Some (child, status))). nothing_told w after pid child status is in
+    each_call images w pid body call (TellsRight w pid) (record {
+      answers = tells_asked w pid;
+      tells_signals = λ _. none w;
+      tells_ids = none w;
+      resignals = tells_resignals w pid;
+      authorises = tells_authorises w pid;
+      executes = tells_execve w pid;
+      marks = tells_subreapers images.subreapers w pid (subreaper_set w pid call) (λ child status is. nothing_told w _ pid child status is);
+      asks_mark = tells_subreapers images.subreapers w pid (subreaper_asked w body.subreaper) (λ child status is. nothing_told w _ pid child status is);
+      pauses = λ child status is. nothing_told w _ pid child status is;
+      waits_for = tells_wait4 w pid call;
+      forks_one = tells_forks w pid (fork_answer w);
+      ends = λ code child status is. nothing_told w _ pid child status is;
+      kills = tells_changes w pid 0 (after_kill w pid body.creds (signed call 0) (low call 1));
+      regroups = tells_changes w pid 0 (after_setpgid w pid (signed call 0) (signed call 1));
+      leads = tells_changes w pid pid (after_setsid w pid);
+    }) which
 
 tells_judged : (images : GivenImages) (w : World) (pid : ℕ) (body : Body) (call : Record) (verdict : ℕ) (a : Action)
     → TellsRight w pid (judged images w pid body call verdict a)

@@ -24,32 +24,28 @@ use Rattle.sk_world.specs.Sending.{forced}
 use Rattle.sk_session.specs.Orphans.{ended_and_hung_up}
 use Rattle.sk_world.specs.Forking.{fork_answer}
 use Rattle.sk_world.specs.Waits.{is_no_hang, ready_of}
-use Rattle.sk_session.specs.Sessions.{after_setpgid, after_setsid, group_asked, session_asked}
+use Rattle.sk_session.specs.Sessions.{after_setpgid, after_setsid}
 use Rattle.sk_machine.specs.declared.event.Event.{Event}
 use Rattle.sk_machine.specs.declared.event.Event.TheVariants.{Call, Deliver, Resume, Fault}
 use Rattle.sk_machine.specs.declared.answer.Answer.TheVariants as answer
 use Rattle.sk_machine.specs.declared.answer.Outcome.{Outcome}
 use Rattle.sk_machine.specs.declared.answer.Outcome.TheVariants.{Returned, Trapped, Ended}
 use Rattle.sk_machine.specs.declared.answer.Reason.{Reason}
-use Rattle.sk_machine.specs.declared.operation.PrctlOption.{PrctlOption}
-use Rattle.sk_machine.specs.declared.operation.PrctlOption.TheVariants as option
-use Rattle.sk_machine.specs.declared.operation.SeccompOperation.{SeccompOperation}
-use Rattle.sk_machine.specs.declared.operation.SeccompOperation.TheVariants as operation
 use Rattle.sk_calls.specs.declared.syscall.Syscall.{Syscall}
-use Rattle.sk_calls.specs.declared.syscall.Syscall.TheVariants as syscall
 use Rattle.sk_machine.specs.Events.{pid_of}
 use Rattle.sk_machine.specs.Given.{GivenImages}
 use Rattle.sk_calls.specs.Syscalls.{syscall_of}
-use Rattle.sk_machine.specs.Arguments.{low, signed, prctl_option_of, seccomp_operation_of}
-use Rattle.sk_machine.specs.Authority.{Authority, authority_of, after_prctl, after_seccomp}
+use Rattle.sk_machine.specs.Arguments.{low, signed}
+use Rattle.sk_machine.specs.Authority.{Authority}
 use Rattle.sk_machine.specs.Performed.{Performed, returns, fails, asked, changes, authorises, waits}
-use Rattle.sk_machine.specs.SignalCalls.{resignals, after_sigaction, after_sigprocmask, after_sigreturn}
+use Rattle.sk_machine.specs.SignalCalls.{resignals}
 use Rattle.sk_machine.specs.Killing.{after_kill}
 use Rattle.sk_machine.specs.WaitCalls.{are_wait_options, request_of, polled, wait4}
-use Rattle.sk_machine.specs.Performing.{end_of_caller, execve, forks, authorised, seccomp_mode, no_new_privs_asked, subreaper_set, subreaper_asked, where_subreapers, prctl, action_available, seccomp, row}
+use Rattle.sk_machine.specs.Performing.{end_of_caller, execve, forks, subreaper_set, subreaper_asked, where_subreapers, row}
 use Rattle.sk_machine.specs.Machine.{Stepped, judged, call_answered, called_with, happened, stepped, step_of, end_status, delivery, reason_of}
 use Rattle.sk_machine_laws.specs.MachineLaws.{ImpossibleChangesNothing, PossibleHappens, only_refuses, RefusedChangesNothing, TrapForcesSigsys, ends_caller, KillEndsCaller, FailedChangesNothing, HaltHasStatus}
 use Rattle.sk_machine_laws.proofs.Happened.{at_step, at_delivery}
+use Rattle.sk_machine_laws.proofs.EachCall.{each_call}
 use Rattle.sk_world.specs.declared.process.Body.{Body}
 use Rattle.sk_machine.specs.declared.answer.Reason.TheVariants as reason
 use Rattle.sk_machine.specs.declared.answer.Reason.TheVariants.{NoProcess, NothingWaits, Halted}
@@ -199,49 +195,25 @@ clean_subreapers : (there : Bool) (w : World) (p : Performed) → FailsClean w p
 clean_subreapers true w p clean = clean
 clean_subreapers false w p clean = λ n is. refl
 
-clean_prctl : (images : GivenImages) (w : World) (pid : ℕ) (body : Body) (which : Option PrctlOption) (call : Record) → FailsClean w (prctl images w pid body which call)
-clean_prctl images w pid body (Some option.GetSeccomp) call = clean_returns w w (seccomp_mode body.chain)
-clean_prctl images w pid body (Some option.GetNoNewPrivs) call = clean_asked w (no_new_privs_asked call body.creds.no_new_privs)
-clean_prctl images w pid body (Some option.SetChildSubreaper) call = clean_subreapers images.subreapers w (subreaper_set w pid call) (λ n is. cc)
-clean_prctl images w pid body (Some option.GetChildSubreaper) call = clean_subreapers images.subreapers w (subreaper_asked w body.subreaper) (λ n is. refl)
-clean_prctl images w pid body None call = λ n is. refl
-clean_prctl images w pid body setting call = clean_authorises w pid (after_prctl images setting call (authority_of body))
-
-clean_seccomp : (images : GivenImages) (w : World) (pid : ℕ) (body : Body) (which : Option SeccompOperation) (call : Record)
-    → FailsClean w (seccomp images w pid body which call)
-clean_seccomp images w pid body (Some operation.GetActionAvail) call = clean_asked w (action_available (low call 1) (low call 2))
-clean_seccomp images w pid body None call = λ n is. refl
-clean_seccomp images w pid body setting call = clean_authorises w pid (after_seccomp images setting call (authority_of body))
-
 clean_row : (images : GivenImages) (w : World) (pid : ℕ) (body : Body) (which : Option Syscall) (call : Record) → FailsClean w (row images w pid body which call)
-clean_row images w pid body (Some syscall.RtSigaction) call = clean_resignals w pid (after_sigaction pid call body.signals)
-clean_row images w pid body (Some syscall.RtSigprocmask) call = clean_resignals w pid (after_sigprocmask call body.signals)
-clean_row images w pid body (Some syscall.RtSigreturn) call =
-    clean_resignals w pid (after_sigreturn body.signals.frames body.signals)
-clean_row images w pid body (Some syscall.RtSigpending) call = λ n is. refl
-clean_row images w pid body (Some syscall.SchedYield) call = λ n is. refl
-clean_row images w pid body (Some syscall.Pause) call = λ n is. cc
-clean_row images w pid body (Some syscall.Getpid) call = λ n is. refl
-clean_row images w pid body (Some syscall.Getppid) call = λ n is. refl
-clean_row images w pid body (Some syscall.Fork) call = clean_forks w pid (fork_answer w)
-clean_row images w pid body (Some syscall.Execve) call = clean_execve w pid (authorised images body syscall.Execve call)
-clean_row images w pid body (Some syscall.Exit) call = λ n is. cc
-clean_row images w pid body (Some syscall.ExitGroup) call = λ n is. cc
-clean_row images w pid body (Some syscall.Wait4) call = clean_wait4 w pid call
-clean_row images w pid body (Some syscall.Kill) call = clean_changes w 0 (after_kill w pid body.creds (signed call 0) (low call 1))
-clean_row images w pid body (Some syscall.Getuid) call = λ n is. refl
-clean_row images w pid body (Some syscall.Geteuid) call = λ n is. refl
-clean_row images w pid body (Some syscall.Setuid) call = clean_authorises w pid (authorised images body syscall.Setuid call)
-clean_row images w pid body (Some syscall.Setresuid) call = clean_authorises w pid (authorised images body syscall.Setresuid call)
-clean_row images w pid body (Some syscall.Getresuid) call = λ n is. refl
-clean_row images w pid body (Some syscall.Setpgid) call = clean_changes w 0 (after_setpgid w pid (signed call 0) (signed call 1))
-clean_row images w pid body (Some syscall.Getpgrp) call = λ n is. refl
-clean_row images w pid body (Some syscall.Setsid) call = clean_changes w pid (after_setsid w pid)
-clean_row images w pid body (Some syscall.Getpgid) call = clean_asked w (group_asked w pid (signed call 0))
-clean_row images w pid body (Some syscall.Getsid) call = clean_asked w (session_asked w pid (signed call 0))
-clean_row images w pid body (Some syscall.Prctl) call = clean_prctl images w pid body (prctl_option_of (low call 0)) call
-clean_row images w pid body (Some syscall.Seccomp) call = clean_seccomp images w pid body (seccomp_operation_of (low call 0)) call
-clean_row images w pid body None call = λ n is. refl
+clean_row images w pid body which call =
+    each_call images w pid body call (FailsClean w) (record {
+      answers = clean_asked w;
+      tells_signals = λ _ n is. refl;
+      tells_ids = λ n is. refl;
+      resignals = clean_resignals w pid;
+      authorises = clean_authorises w pid;
+      executes = clean_execve w pid;
+      marks = clean_subreapers images.subreapers w (subreaper_set w pid call) (λ n is. cc);
+      asks_mark = clean_subreapers images.subreapers w (subreaper_asked w body.subreaper) (λ n is. refl);
+      pauses = λ n is. cc;
+      waits_for = clean_wait4 w pid call;
+      forks_one = clean_forks w pid (fork_answer w);
+      ends = λ status n is. cc;
+      kills = clean_changes w 0 (after_kill w pid body.creds (signed call 0) (low call 1));
+      regroups = clean_changes w 0 (after_setpgid w pid (signed call 0) (signed call 1));
+      leads = clean_changes w pid (after_setsid w pid);
+    }) which
 
 clean_judged : (images : GivenImages) (w : World) (pid : ℕ) (body : Body) (call : Record) (verdict : ℕ) (a : Action)
     → FailsClean w (judged images w pid body call verdict a)

@@ -1,13 +1,7 @@
 -- Each worked run of groups and sessions is what the definitions compute.
 use Rattle.std.proofs.Common.{refl, ◌≡◌, ◌∙◌, ℕ, ap, List, [], ◌∷◌, None, Some}
+use Rattle.sk_machine_runs.proofs.Computing.{worked_runs}
 use Rattle.sk_insn.specs.Actions.{action_of}
-use Rattle.sk_insn.specs.Operations.{operation_of}
-use Rattle.sk_check.specs.FirstFault.{first_fault}
-use Rattle.sk_signal.specs.Sets.{empty, contains, insert, retain, remove, difference, union, from_list}
-use Rattle.sk_signal.specs.SignalSet.{lowest, signals_to, signals_of}
-use Rattle.sk_signal.specs.Signalling.{opening as no_signal}
-use Rattle.sk_world.specs.Numbers.{fresh_of}
-use Rattle.sk_world.specs.Subreapers.{ancestors, new_parent}
 use Rattle.sk_machine.specs.Machine.{step_of, reason_of, world_after}
 use Rattle.sk_machine_runs.specs.WorkedGroups.{KillsByIds, ContinuesWithinSession, RegroupsChild, RefusesToRegroup, FoundsSession, KillsNobody, KillsGroups, FindsZombie, LeavesZombie, LeavesSender, ConfinesKill, ChangesNothingConfined, EndsConfined, WorkedGroups, no_kill, confinement, confined_kills}
 use Rattle.sk_world.specs.World.{World, at, opening}
@@ -16,47 +10,47 @@ use Rattle.sk_machine_runs.specs.Scripts.{kill, after, events_of, minus}
 use Rattle.sk_machine_runs.proofs.Stepping.{verdict_by, by_verdict}
 
 kills_by_ids : KillsByIds
-unfolding step_of fresh_of new_parent ancestors action_of operation_of first_fault empty contains insert retain remove difference union from_list lowest signals_to signals_of no_signal
+unfolding worked_runs
 kills_by_ids = refl
 
 continues_within_session : ContinuesWithinSession
-unfolding step_of fresh_of new_parent ancestors action_of operation_of first_fault empty contains insert retain remove difference union from_list lowest signals_to signals_of no_signal
+unfolding worked_runs
 continues_within_session = refl
 
 regroups_child : RegroupsChild
-unfolding step_of fresh_of new_parent ancestors action_of operation_of first_fault empty contains insert retain remove difference union from_list lowest signals_to signals_of no_signal
+unfolding worked_runs
 regroups_child = refl
 
 refuses_to_regroup : RefusesToRegroup
-unfolding step_of fresh_of new_parent ancestors action_of operation_of first_fault empty contains insert retain remove difference union from_list lowest signals_to signals_of no_signal
+unfolding worked_runs
 refuses_to_regroup = refl
 
 founds_session : FoundsSession
-unfolding step_of fresh_of new_parent ancestors action_of operation_of first_fault empty contains insert retain remove difference union from_list lowest signals_to signals_of no_signal
+unfolding worked_runs
 founds_session = refl
 
 kills_nobody : KillsNobody
-unfolding step_of fresh_of new_parent ancestors action_of operation_of first_fault empty contains insert retain remove difference union from_list lowest signals_to signals_of no_signal
+unfolding worked_runs
 kills_nobody = refl
 
 kills_groups : KillsGroups
-unfolding step_of fresh_of new_parent ancestors action_of operation_of first_fault empty contains insert retain remove difference union from_list lowest signals_to signals_of no_signal
+unfolding worked_runs
 kills_groups = refl
 
 finds_zombie : FindsZombie
-unfolding step_of fresh_of new_parent ancestors action_of operation_of first_fault empty contains insert retain remove difference union from_list lowest signals_to signals_of no_signal
+unfolding worked_runs
 finds_zombie = refl
 
 leaves_zombie : LeavesZombie
-unfolding step_of fresh_of new_parent ancestors action_of operation_of first_fault empty contains insert retain remove difference union from_list lowest signals_to signals_of no_signal
+unfolding worked_runs
 leaves_zombie = refl
 
 leaves_sender : LeavesSender
-unfolding step_of fresh_of new_parent ancestors action_of operation_of first_fault empty contains insert retain remove difference union from_list lowest signals_to signals_of no_signal
+unfolding worked_runs
 leaves_sender = refl
 
 confines_kill : ConfinesKill
-unfolding step_of fresh_of new_parent ancestors action_of operation_of first_fault empty contains insert retain remove difference union from_list lowest signals_to signals_of no_signal
+unfolding worked_runs
 confines_kill = refl
 
 -- a kill(2) that the filters answer with EPERM changes nothing
@@ -75,7 +69,7 @@ stays w [] each = refl
 stays w (event ∷ events) each = ap (λ v. world_after no_kill v events) each.0 ∙ stays w events each.1
 
 changes_nothing_confined : ChangesNothingConfined
-unfolding step_of fresh_of new_parent ancestors action_of operation_of first_fault empty contains insert retain remove difference union from_list lowest signals_to signals_of no_signal
+unfolding worked_runs
 changes_nothing_confined =
     let w : World = after no_kill opening confinement in
     stays w (events_of confined_kills) (
@@ -84,7 +78,7 @@ changes_nothing_confined =
     )
 
 ends_confined : EndsConfined
-unfolding step_of fresh_of new_parent ancestors action_of operation_of first_fault empty contains insert retain remove difference union from_list lowest signals_to signals_of no_signal
+unfolding worked_runs
 ends_confined = refl
 
 pub worked_groups : WorkedGroups

@@ -1,3 +1,4 @@
+pub mod Computing
 pub mod Stepping
 mod CallRows
 mod SignalRows

@@ -1,62 +1,54 @@
 -- Each worked run of groups, permissions, filters, lines and turns is what the definitions compute.
 use Rattle.std.proofs.Common.{refl}
-use Rattle.sk_insn.specs.Actions.{action_of}
-use Rattle.sk_insn.specs.Operations.{operation_of}
-use Rattle.sk_check.specs.FirstFault.{first_fault}
-use Rattle.sk_signal.specs.Sets.{empty, contains, insert, retain, remove, difference, union, from_list}
-use Rattle.sk_signal.specs.SignalSet.{lowest, signals_to, signals_of}
-use Rattle.sk_signal.specs.Signalling.{opening as no_signal}
-use Rattle.sk_world.specs.Numbers.{fresh_of}
-use Rattle.sk_world.specs.Subreapers.{ancestors, new_parent}
-use Rattle.sk_machine.specs.Machine.{step_of}
+use Rattle.sk_machine_runs.proofs.Computing.{worked_runs}
 use Rattle.sk_machine_runs.specs.WorkedOrders.{RegroupsZombies, FoundsSessionAlone, StaysInSession, EveryoneMayNotContinue, ExecKeepsIgnored, OrdersRefusalsOfAttach, LogsAndEndsByPrecedence, LineAfterRefusedFork, LineOfPidGivenTwice, LineThroughForks, AsksWhenChildEnds, AsksWhenChildIsGone, WorkedOrders}
 
 regroups_zombies : RegroupsZombies
-unfolding step_of fresh_of new_parent ancestors action_of operation_of first_fault empty contains insert retain remove difference union from_list lowest signals_to signals_of no_signal
+unfolding worked_runs
 regroups_zombies = refl
 
 founds_session_alone : FoundsSessionAlone
-unfolding step_of fresh_of new_parent ancestors action_of operation_of first_fault empty contains insert retain remove difference union from_list lowest signals_to signals_of no_signal
+unfolding worked_runs
 founds_session_alone = refl
 
 stays_in_session : StaysInSession
-unfolding step_of fresh_of new_parent ancestors action_of operation_of first_fault empty contains insert retain remove difference union from_list lowest signals_to signals_of no_signal
+unfolding worked_runs
 stays_in_session = refl
 
 everyone_may_not_continue : EveryoneMayNotContinue
-unfolding step_of fresh_of new_parent ancestors action_of operation_of first_fault empty contains insert retain remove difference union from_list lowest signals_to signals_of no_signal
+unfolding worked_runs
 everyone_may_not_continue = refl
 
 exec_keeps_ignored : ExecKeepsIgnored
-unfolding step_of fresh_of new_parent ancestors action_of operation_of first_fault empty contains insert retain remove difference union from_list lowest signals_to signals_of no_signal
+unfolding worked_runs
 exec_keeps_ignored = refl
 
 orders_refusals_of_attach : OrdersRefusalsOfAttach
-unfolding step_of fresh_of new_parent ancestors action_of operation_of first_fault empty contains insert retain remove difference union from_list lowest signals_to signals_of no_signal
+unfolding worked_runs
 orders_refusals_of_attach = refl
 
 logs_and_ends_by_precedence : LogsAndEndsByPrecedence
-unfolding step_of fresh_of new_parent ancestors action_of operation_of first_fault empty contains insert retain remove difference union from_list lowest signals_to signals_of no_signal
+unfolding worked_runs
 logs_and_ends_by_precedence = refl
 
 line_after_refused_fork : LineAfterRefusedFork
-unfolding step_of fresh_of new_parent ancestors action_of operation_of first_fault empty contains insert retain remove difference union from_list lowest signals_to signals_of no_signal
+unfolding worked_runs
 line_after_refused_fork = refl
 
 line_of_pid_given_twice : LineOfPidGivenTwice
-unfolding step_of fresh_of new_parent ancestors action_of operation_of first_fault empty contains insert retain remove difference union from_list lowest signals_to signals_of no_signal
+unfolding worked_runs
 line_of_pid_given_twice = refl
 
 line_through_forks : LineThroughForks
-unfolding step_of fresh_of new_parent ancestors action_of operation_of first_fault empty contains insert retain remove difference union from_list lowest signals_to signals_of no_signal
+unfolding worked_runs
 line_through_forks = refl
 
 asks_when_child_ends : AsksWhenChildEnds
-unfolding step_of fresh_of new_parent ancestors action_of operation_of first_fault empty contains insert retain remove difference union from_list lowest signals_to signals_of no_signal
+unfolding worked_runs
 asks_when_child_ends = refl
 
 asks_when_child_is_gone : AsksWhenChildIsGone
-unfolding step_of fresh_of new_parent ancestors action_of operation_of first_fault empty contains insert retain remove difference union from_list lowest signals_to signals_of no_signal
+unfolding worked_runs
 asks_when_child_is_gone = refl
 
 pub worked_orders : WorkedOrders

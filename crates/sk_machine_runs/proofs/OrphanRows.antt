@@ -1,13 +1,7 @@
 -- Each worked run of orphaned groups is what the definitions compute.
 use Rattle.std.proofs.Common.{refl, ◌≡◌, ◌≢◌, ℕ, None, Some, [], ◌∷◌}
+use Rattle.sk_machine_runs.proofs.Computing.{worked_runs}
 use Rattle.sk_insn.specs.Actions.{action_of}
-use Rattle.sk_insn.specs.Operations.{operation_of}
-use Rattle.sk_check.specs.FirstFault.{first_fault}
-use Rattle.sk_signal.specs.Sets.{empty, contains, insert, retain, remove, difference, union, from_list}
-use Rattle.sk_signal.specs.SignalSet.{lowest, signals_to, signals_of}
-use Rattle.sk_signal.specs.Signalling.{opening as no_signal}
-use Rattle.sk_world.specs.Numbers.{fresh_of}
-use Rattle.sk_world.specs.Subreapers.{ancestors, new_parent}
 use Rattle.sk_machine.specs.Machine.{step_of, reason_of}
 use Rattle.sk_machine_runs.specs.WorkedOrphans.{HangsUpJob, TurnsOfJob, IgnoresTerminalStop, TurnsOfUnstopped, StopsBySigstopAlone, StopsWhereTied, HangsUpEachGroup, SparesRunningGroups, SparesOrphanedBefore, SparesTiedGroups, CountsNoZombies, ContinuesGroup, HangsUpAfterFilterKill, HangsUpAfterOtherKills, HangsUpAfterCrash, HangsUpAfterSignal, HaltHangsUpNobody, WorkedOrphans, leaderless, HangsUpWithoutRoomForFrame, SparesWhereStoppedOneEnds, AnnouncesToNewParent}
 use Rattle.sk_world.specs.World.{World, at}
@@ -17,79 +11,79 @@ use Rattle.sk_machine_runs.specs.Scripts.{nothing_given, exit}
 use Rattle.sk_machine_runs.proofs.Stepping.{verdict_by, by_verdict}
 
 hangs_up_job : HangsUpJob
-unfolding step_of fresh_of new_parent ancestors action_of operation_of first_fault empty contains insert retain remove difference union from_list lowest signals_to signals_of no_signal
+unfolding worked_runs
 hangs_up_job = refl
 
 turns_of_job : TurnsOfJob
-unfolding step_of fresh_of new_parent ancestors action_of operation_of first_fault empty contains insert retain remove difference union from_list lowest signals_to signals_of no_signal
+unfolding worked_runs
 turns_of_job = refl
 
 ignores_terminal_stop : IgnoresTerminalStop
-unfolding step_of fresh_of new_parent ancestors action_of operation_of first_fault empty contains insert retain remove difference union from_list lowest signals_to signals_of no_signal
+unfolding worked_runs
 ignores_terminal_stop = refl
 
 turns_of_unstopped : TurnsOfUnstopped
-unfolding step_of fresh_of new_parent ancestors action_of operation_of first_fault empty contains insert retain remove difference union from_list lowest signals_to signals_of no_signal
+unfolding worked_runs
 turns_of_unstopped = refl
 
 stops_by_sigstop_alone : StopsBySigstopAlone
-unfolding step_of fresh_of new_parent ancestors action_of operation_of first_fault empty contains insert retain remove difference union from_list lowest signals_to signals_of no_signal
+unfolding worked_runs
 stops_by_sigstop_alone = refl
 
 stops_where_tied : StopsWhereTied
-unfolding step_of fresh_of new_parent ancestors action_of operation_of first_fault empty contains insert retain remove difference union from_list lowest signals_to signals_of no_signal
+unfolding worked_runs
 stops_where_tied = refl
 
 hangs_up_each_group : HangsUpEachGroup
-unfolding step_of fresh_of new_parent ancestors action_of operation_of first_fault empty contains insert retain remove difference union from_list lowest signals_to signals_of no_signal
+unfolding worked_runs
 hangs_up_each_group = refl
 
 spares_running_groups : SparesRunningGroups
-unfolding step_of fresh_of new_parent ancestors action_of operation_of first_fault empty contains insert retain remove difference union from_list lowest signals_to signals_of no_signal
+unfolding worked_runs
 spares_running_groups = refl
 
 spares_where_stopped_one_ends : SparesWhereStoppedOneEnds
-unfolding step_of fresh_of new_parent ancestors action_of operation_of first_fault empty contains insert retain remove difference union from_list lowest signals_to signals_of no_signal
+unfolding worked_runs
 spares_where_stopped_one_ends = refl
 
 spares_orphaned_before : SparesOrphanedBefore
-unfolding step_of fresh_of new_parent ancestors action_of operation_of first_fault empty contains insert retain remove difference union from_list lowest signals_to signals_of no_signal
+unfolding worked_runs
 spares_orphaned_before = refl
 
 spares_tied_groups : SparesTiedGroups
-unfolding step_of fresh_of new_parent ancestors action_of operation_of first_fault empty contains insert retain remove difference union from_list lowest signals_to signals_of no_signal
+unfolding worked_runs
 spares_tied_groups = refl
 
 counts_no_zombies : CountsNoZombies
-unfolding step_of fresh_of new_parent ancestors action_of operation_of first_fault empty contains insert retain remove difference union from_list lowest signals_to signals_of no_signal
+unfolding worked_runs
 counts_no_zombies = refl
 
 continues_group : ContinuesGroup
-unfolding step_of fresh_of new_parent ancestors action_of operation_of first_fault empty contains insert retain remove difference union from_list lowest signals_to signals_of no_signal
+unfolding worked_runs
 continues_group = refl
 
 announces_to_new_parent : AnnouncesToNewParent
-unfolding step_of fresh_of new_parent ancestors action_of operation_of first_fault empty contains insert retain remove difference union from_list lowest signals_to signals_of no_signal
+unfolding worked_runs
 announces_to_new_parent = refl
 
 hangs_up_after_filter_kill : HangsUpAfterFilterKill
-unfolding step_of fresh_of new_parent ancestors action_of operation_of first_fault empty contains insert retain remove difference union from_list lowest signals_to signals_of no_signal
+unfolding worked_runs
 hangs_up_after_filter_kill = refl
 
 hangs_up_after_other_kills : HangsUpAfterOtherKills
-unfolding step_of fresh_of new_parent ancestors action_of operation_of first_fault empty contains insert retain remove difference union from_list lowest signals_to signals_of no_signal
+unfolding worked_runs
 hangs_up_after_other_kills = refl
 
 hangs_up_after_crash : HangsUpAfterCrash
-unfolding step_of fresh_of new_parent ancestors action_of operation_of first_fault empty contains insert retain remove difference union from_list lowest signals_to signals_of no_signal
+unfolding worked_runs
 hangs_up_after_crash = refl
 
 hangs_up_after_signal : HangsUpAfterSignal
-unfolding step_of fresh_of new_parent ancestors action_of operation_of first_fault empty contains insert retain remove difference union from_list lowest signals_to signals_of no_signal
+unfolding worked_runs
 hangs_up_after_signal = refl
 
 hangs_up_without_room_for_frame : HangsUpWithoutRoomForFrame
-unfolding step_of fresh_of new_parent ancestors action_of operation_of first_fault empty contains insert retain remove difference union from_list lowest signals_to signals_of no_signal
+unfolding worked_runs
 hangs_up_without_room_for_frame = refl
 
 -- an exit(2) of process 1 leaves every other one
@@ -100,7 +94,7 @@ exits_alone w code q other possible is =
     by_verdict nothing_given w 1 0 60 (code ∷ 0 ∷ 0 ∷ 0 ∷ 0 ∷ 0 ∷ []) 0x7fff0000 (λ s. at s.world q ≡ at w q) possible is (λ body. at_other w INIT _ q other)
 
 halt_hangs_up_nobody : HaltHangsUpNobody
-unfolding step_of fresh_of new_parent ancestors action_of operation_of first_fault empty contains insert retain remove difference union from_list lowest signals_to signals_of no_signal
+unfolding worked_runs
 halt_hangs_up_nobody = exits_alone leaderless 0 2 (λ e. cc) refl refl
 
 pub worked_orphans : WorkedOrphans

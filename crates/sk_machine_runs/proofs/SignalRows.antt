@@ -1,78 +1,70 @@
 -- Each worked run of signals is what the definitions compute.
 use Rattle.std.proofs.Common.{refl}
-use Rattle.sk_insn.specs.Actions.{action_of}
-use Rattle.sk_insn.specs.Operations.{operation_of}
-use Rattle.sk_check.specs.FirstFault.{first_fault}
-use Rattle.sk_signal.specs.Sets.{empty, contains, insert, retain, remove, difference, union, from_list}
-use Rattle.sk_signal.specs.SignalSet.{lowest, signals_to, signals_of}
-use Rattle.sk_signal.specs.Signalling.{opening as no_signal}
-use Rattle.sk_world.specs.Numbers.{fresh_of}
-use Rattle.sk_world.specs.Subreapers.{ancestors, new_parent}
-use Rattle.sk_machine.specs.Machine.{step_of}
+use Rattle.sk_machine_runs.proofs.Computing.{worked_runs}
 use Rattle.sk_machine_runs.specs.WorkedSignals.{HandlesTrap, ForcesSigsys, ForcesSigsysOnInit, PausesForHandler, SignalsItself, BlocksAllButKill, BlocksAndEnds, DiscardsEachOther, SetsMask, IgnoresSignals, DropsHandlersAtExec, BeginsEightHandlers, BeginsEightMore, EndsWithoutRoomForFrame, HaltsWithoutRoomForFrame, EndsBySegv, WorkedSignals}
 
 handles_trap : HandlesTrap
-unfolding step_of fresh_of new_parent ancestors action_of operation_of first_fault empty contains insert retain remove difference union from_list lowest signals_to signals_of no_signal
+unfolding worked_runs
 handles_trap = refl
 
 forces_sigsys : ForcesSigsys
-unfolding step_of fresh_of new_parent ancestors action_of operation_of first_fault empty contains insert retain remove difference union from_list lowest signals_to signals_of no_signal
+unfolding worked_runs
 forces_sigsys = refl
 
 forces_sigsys_on_init : ForcesSigsysOnInit
-unfolding step_of fresh_of new_parent ancestors action_of operation_of first_fault empty contains insert retain remove difference union from_list lowest signals_to signals_of no_signal
+unfolding worked_runs
 forces_sigsys_on_init = refl
 
 pauses_for_handler : PausesForHandler
-unfolding step_of fresh_of new_parent ancestors action_of operation_of first_fault empty contains insert retain remove difference union from_list lowest signals_to signals_of no_signal
+unfolding worked_runs
 pauses_for_handler = refl
 
 signals_itself : SignalsItself
-unfolding step_of fresh_of new_parent ancestors action_of operation_of first_fault empty contains insert retain remove difference union from_list lowest signals_to signals_of no_signal
+unfolding worked_runs
 signals_itself = refl
 
 blocks_all_but_kill : BlocksAllButKill
-unfolding step_of fresh_of new_parent ancestors action_of operation_of first_fault empty contains insert retain remove difference union from_list lowest signals_to signals_of no_signal
+unfolding worked_runs
 blocks_all_but_kill = refl
 
 blocks_and_ends : BlocksAndEnds
-unfolding step_of fresh_of new_parent ancestors action_of operation_of first_fault empty contains insert retain remove difference union from_list lowest signals_to signals_of no_signal
+unfolding worked_runs
 blocks_and_ends = refl
 
 discards_each_other : DiscardsEachOther
-unfolding step_of fresh_of new_parent ancestors action_of operation_of first_fault empty contains insert retain remove difference union from_list lowest signals_to signals_of no_signal
+unfolding worked_runs
 discards_each_other = refl
 
 sets_mask : SetsMask
-unfolding step_of fresh_of new_parent ancestors action_of operation_of first_fault empty contains insert retain remove difference union from_list lowest signals_to signals_of no_signal
+unfolding worked_runs
 sets_mask = refl
 
 ignores_signals : IgnoresSignals
-unfolding step_of fresh_of new_parent ancestors action_of operation_of first_fault empty contains insert retain remove difference union from_list lowest signals_to signals_of no_signal
+unfolding worked_runs
 ignores_signals = refl
 
 drops_handlers_at_exec : DropsHandlersAtExec
-unfolding step_of fresh_of new_parent ancestors action_of operation_of first_fault empty contains insert retain remove difference union from_list lowest signals_to signals_of no_signal
+unfolding worked_runs
 drops_handlers_at_exec = refl
 
 begins_eight_handlers : BeginsEightHandlers
-unfolding step_of fresh_of new_parent ancestors action_of operation_of first_fault empty contains insert retain remove difference union from_list lowest signals_to signals_of no_signal
+unfolding worked_runs
 begins_eight_handlers = refl
 
 begins_eight_more : BeginsEightMore
-unfolding step_of fresh_of new_parent ancestors action_of operation_of first_fault empty contains insert retain remove difference union from_list lowest signals_to signals_of no_signal
+unfolding worked_runs
 begins_eight_more = refl
 
 ends_without_room_for_frame : EndsWithoutRoomForFrame
-unfolding step_of fresh_of new_parent ancestors action_of operation_of first_fault empty contains insert retain remove difference union from_list lowest signals_to signals_of no_signal
+unfolding worked_runs
 ends_without_room_for_frame = refl
 
 halts_without_room_for_frame : HaltsWithoutRoomForFrame
-unfolding step_of fresh_of new_parent ancestors action_of operation_of first_fault empty contains insert retain remove difference union from_list lowest signals_to signals_of no_signal
+unfolding worked_runs
 halts_without_room_for_frame = refl
 
 ends_by_segv : EndsBySegv
-unfolding step_of fresh_of new_parent ancestors action_of operation_of first_fault empty contains insert retain remove difference union from_list lowest signals_to signals_of no_signal
+unfolding worked_runs
 ends_by_segv = refl
 
 pub worked_signals : WorkedSignals

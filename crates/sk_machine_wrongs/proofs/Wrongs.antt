@@ -6,17 +6,10 @@ use Rattle.std.specs.Ordering.{nat_cmp}
 use Rattle.std.specs.FinMap.Entries.{find}
 use Rattle.std.proofs.lemmas.Int.{ints}
 use Rattle.std.proofs.lemmas.Bool.{false≢true, eqb-true, and_parts}
-use Rattle.sk_insn.specs.Actions.{action_of}
-use Rattle.sk_insn.specs.Operations.{operation_of}
-use Rattle.sk_check.specs.FirstFault.{first_fault}
-use Rattle.sk_signal.specs.Sets.{empty, contains, insert, retain, remove, difference, union, from_list}
-use Rattle.sk_signal.specs.SignalSet.{lowest, signals_to, signals_of}
-use Rattle.sk_signal.specs.Signalling.{opening as no_signal}
+use Rattle.sk_signal.specs.Sets.{contains}
 use Rattle.sk_signal.specs.declared.number.TheConstants.{SIGHUP, SIGCHLD}
 use Rattle.sk_world.specs.declared.process.TheConstants.{INIT}
 use Rattle.sk_world.specs.declared.process.Proc.{Proc}
-use Rattle.sk_world.specs.Numbers.{fresh_of}
-use Rattle.sk_world.specs.Subreapers.{ancestors, new_parent}
 use Rattle.sk_world.specs.World.{World, at, parent_of, body_changed, opening}
 use Rattle.sk_world.specs.Sending.{signalled}
 use Rattle.sk_world.proofs.Maps.{same_number}
@@ -24,12 +17,13 @@ use Rattle.sk_machine.specs.declared.event.Event.{Event}
 use Rattle.sk_machine.specs.declared.event.Event.TheVariants.{Deliver}
 use Rattle.sk_machine.specs.Given.{GivenImages}
 use Rattle.sk_machine.specs.Authority.{Authority}
-use Rattle.sk_machine.specs.Machine.{step_of, world_after}
+use Rattle.sk_machine.specs.Machine.{world_after}
 use Rattle.sk_machine_laws.specs.AnyMachine.{GivesAuthorityByLine, TellsEndsOnce, KeepsToConfined}
 use Rattle.sk_machine_laws.specs.ConfinementLaws.{RefusesKill, IsConfined, after_signals, is_of_stop, is_of_end}
 use Rattle.sk_machine_laws.proofs.LineSteps.{authority_in}
 use Rattle.sk_machine_laws.proofs.KeptEvents.{kept_reached}
 use Rattle.sk_machine_runs.specs.Scripts.{nothing_given, given, plain, always, fork, execve, exit, wait4, kill, setuid, seccomp}
+use Rattle.sk_machine_runs.proofs.Computing.{worked_runs}
 use Rattle.sk_machine_wrongs.specs.WrongMachines.{forks_bare, forks_into_old, executes_bare, orphans_with_first_ids, leaves_zombies, performs_refused, stops_with_hangup, ends_with_hangup, WrongsAreRefused}
 use Rattle.sk_machine.specs.Lines.{authority_at}
 
@@ -38,31 +32,31 @@ allowing : GivenImages
 allowing = given (always 0x7fff0000 ∷ []) (plain ∷ [])
 
 bare_forks : GivesAuthorityByLine forks_bare → ⊥
-unfolding allowing step_of fresh_of new_parent ancestors action_of operation_of first_fault empty contains insert retain remove difference union from_list lowest signals_to signals_of no_signal
+unfolding allowing worked_runs
 bare_forks law =
     let filters : 0 ≡ 1 = ap (λ (o : Option Authority). option_map_or (λ a. length a.programs) o 0) (law allowing opening (seccomp 1 1 0 0 ∷ fork 1 ∷ []) 2 refl) in
     absurd (omega (arith, filters))
 
 forks_old : GivesAuthorityByLine forks_into_old → ⊥
-unfolding allowing step_of fresh_of new_parent ancestors action_of operation_of first_fault empty contains insert retain remove difference union from_list lowest signals_to signals_of no_signal
+unfolding allowing worked_runs
 forks_old law =
     let filters : 1 ≡ 0 = ap (λ (o : Option Authority). option_map_or (λ a. length a.programs) o 0) (law allowing opening (fork 1 ∷ seccomp 1 1 0 0 ∷ fork 2 ∷ []) 3 refl) in
     absurd (omega (arith, filters))
 
 bare_executes : GivesAuthorityByLine executes_bare → ⊥
-unfolding allowing step_of fresh_of new_parent ancestors action_of operation_of first_fault empty contains insert retain remove difference union from_list lowest signals_to signals_of no_signal
+unfolding allowing worked_runs
 bare_executes law =
     let filters : 0 ≡ 1 = ap (λ (o : Option Authority). option_map_or (λ a. length a.programs) o 0) (law allowing opening (seccomp 1 1 0 0 ∷ execve 1 0 ∷ []) 1 refl) in
     absurd (omega (arith, filters))
 
 orphans_first : GivesAuthorityByLine orphans_with_first_ids → ⊥
-unfolding step_of fresh_of new_parent ancestors action_of operation_of first_fault empty contains insert retain remove difference union from_list lowest signals_to signals_of no_signal
+unfolding worked_runs
 orphans_first law =
     let id : 0 ≡ 5 = ap (λ (o : Option Authority). option_map_or (λ a. a.creds.real) o 0) (law nothing_given opening (fork 1 ∷ fork 2 ∷ setuid 3 5 ∷ exit 2 0 ∷ []) 3 refl) in
     absurd (omega (arith, id))
 
 zombies_left : TellsEndsOnce leaves_zombies → ⊥
-unfolding step_of fresh_of new_parent ancestors action_of operation_of first_fault empty contains insert retain remove difference union from_list lowest signals_to signals_of no_signal
+unfolding worked_runs
 zombies_left law =
     false≢true (law nothing_given (world_after nothing_given opening (fork 1 ∷ exit 2 0 ∷ [])) (wait4 1 2 0) [] (wait4 1 2 0) 2 0 0 refl (omega arith) refl)
 
@@ -107,7 +101,7 @@ abbrev two : ℕ → Bool
 two q = q == 2
 
 two_fits : All (Fits (world_after refusing opening beside) two) (world_after refusing opening beside).procs.entries
-unfolding Fits refusing beside step_of fresh_of new_parent ancestors action_of operation_of first_fault empty contains insert retain remove difference union from_list lowest signals_to signals_of no_signal
+unfolding Fits refusing beside worked_runs
 two_fits = (
   (λ h. absurd (false≢true h), λ h. absurd (false≢true h)),
   (
@@ -120,7 +114,7 @@ two_fits = (
 )
 
 refused_performs : KeepsToConfined performs_refused → ⊥
-unfolding refusing beside step_of fresh_of new_parent ancestors action_of operation_of first_fault empty contains insert retain remove difference union from_list lowest signals_to signals_of no_signal
+unfolding refusing beside worked_runs
 refused_performs law =
     let world : World = world_after refusing opening beside in
     let alone = law refusing world (kill 2 3 9) two 3 (kept_reached refusing beside) (confined_by world two refl two_fits) refl refl refl in
@@ -135,7 +129,7 @@ abbrev three : ℕ → Bool
 three q = q == 3
 
 stopping_fits : All (Fits (world_after refusing opening (below 19)) three) (world_after refusing opening (below 19)).procs.entries
-unfolding Fits refusing below step_of fresh_of new_parent ancestors action_of operation_of first_fault empty contains insert retain remove difference union from_list lowest signals_to signals_of no_signal
+unfolding Fits refusing below worked_runs
 stopping_fits = (
   (λ h. absurd (false≢true h), λ h. absurd (false≢true h)),
   (
@@ -148,7 +142,7 @@ stopping_fits = (
 )
 
 killing_fits : All (Fits (world_after refusing opening (below 9)) three) (world_after refusing opening (below 9)).procs.entries
-unfolding Fits refusing below step_of fresh_of new_parent ancestors action_of operation_of first_fault empty contains insert retain remove difference union from_list lowest signals_to signals_of no_signal
+unfolding Fits refusing below worked_runs
 killing_fits = (
   (λ h. absurd (false≢true h), λ h. absurd (false≢true h)),
   (
@@ -208,7 +202,7 @@ only_of_end n is = elim (n == SIGCHLD) as (λ b. (n == SIGCHLD) ≡ b → IsTrue
 ] refl is
 
 stop_hangs_up : KeepsToConfined stops_with_hangup → ⊥
-unfolding refusing below step_of fresh_of new_parent ancestors action_of operation_of first_fault empty contains insert retain remove difference union from_list lowest signals_to signals_of no_signal
+unfolding refusing below worked_runs
 stop_hangs_up law =
     let world : World = world_after refusing opening (below 19) in
     let alone = law refusing world (Deliver 3) three 2 (kept_reached refusing (below 19)) (confined_by world three refl stopping_fits) refl refl refl in
@@ -216,7 +210,7 @@ stop_hangs_up law =
     false≢true (sym (no_hangup (is_of_stop true) (only_of_stop true) (at world 2) _ refl refl refl told.0 told.1 told.2))
 
 end_hangs_up : KeepsToConfined ends_with_hangup → ⊥
-unfolding refusing below step_of fresh_of new_parent ancestors action_of operation_of first_fault empty contains insert retain remove difference union from_list lowest signals_to signals_of no_signal
+unfolding refusing below worked_runs
 end_hangs_up law =
     let world : World = world_after refusing opening (below 9) in
     let alone = law refusing world (Deliver 3) three 2 (kept_reached refusing (below 9)) (confined_by world three refl killing_fits) refl refl refl in

@@ -1,0 +1,87 @@
+-- What a performed call comes to, by what it does, so that a law goes through a dozen cases and not through each call.
+use Rattle.std.specs.Prelude.{ℕ, Option, None, Some, Result, Ok, Err}
+use Rattle.sk_insn.specs.declared.record.Record.{Record}
+use Rattle.sk_creds.specs.declared.errno.Errno.{Errno}
+use Rattle.sk_creds.specs.declared.errno.Errno.TheVariants.{Einval, Enosys}
+use Rattle.sk_signal.specs.SignalSet.{Signals}
+use Rattle.sk_signal.specs.SignalState.{SignalState}
+use Rattle.sk_world.specs.declared.process.Body.{Body}
+use Rattle.sk_world.specs.declared.process.Waiting.TheVariants as waiting
+use Rattle.sk_world.specs.World.{World, at, parent_of}
+use Rattle.sk_world.specs.Forking.{fork_answer}
+use Rattle.sk_session.specs.Sessions.{group_of, after_setpgid, after_setsid, group_asked, session_asked}
+use Rattle.sk_machine.specs.declared.operation.PrctlOption.{PrctlOption}
+use Rattle.sk_machine.specs.declared.operation.PrctlOption.TheVariants as option
+use Rattle.sk_machine.specs.declared.operation.SeccompOperation.{SeccompOperation}
+use Rattle.sk_machine.specs.declared.operation.SeccompOperation.TheVariants as operation
+use Rattle.sk_calls.specs.declared.syscall.Syscall.{Syscall}
+use Rattle.sk_calls.specs.declared.syscall.Syscall.TheVariants as syscall
+use Rattle.sk_machine.specs.Given.{GivenImages}
+use Rattle.sk_machine.specs.Arguments.{low, signed, prctl_option_of, seccomp_operation_of}
+use Rattle.sk_machine.specs.Authority.{Authority, authority_of, after_prctl, after_seccomp}
+use Rattle.sk_machine.specs.Performed.{Performed, asked, changes, authorises, waits}
+use Rattle.sk_machine.specs.SignalCalls.{resignals, after_sigaction, after_sigprocmask, after_sigreturn}
+use Rattle.sk_machine.specs.Killing.{after_kill}
+use Rattle.sk_machine.specs.WaitCalls.{wait4}
+use Rattle.sk_machine.specs.Performing.{execve, forks, exit_status, end_of_caller, ids, pending_signals, authorised, seccomp_mode, no_new_privs_asked, where_subreapers, subreaper_set, subreaper_asked, prctl, action_available, seccomp, row}
+
+-- what is to be shown of a caller's calls, so that it holds of each
+pub record EachCall (images : GivenImages) (w : World) (pid : ℕ) (body : Body) (call : Record) (P : Performed → Type 0) : Type 0 where
+  pub answers : (r : Result ℕ Errno) → P (asked w r)
+  pub tells_signals : (set : Signals) → P (pending_signals w set)
+  pub tells_ids : P (ids w body.creds)
+  pub resignals : (r : Result SignalState Errno) → P (resignals w pid r)
+  pub authorises : (r : Result Authority Errno) → P (authorises w pid r)
+  pub executes : (r : Result Authority Errno) → P (execve w pid r)
+  pub marks : P (where_subreapers images.subreapers w (subreaper_set w pid call))
+  pub asks_mark : P (where_subreapers images.subreapers w (subreaper_asked w body.subreaper))
+  pub pauses : P (waits w pid waiting.Pause)
+  pub waits_for : P (wait4 w pid call)
+  pub forks_one : P (forks w pid (fork_answer w))
+  pub ends : (status : ℕ) → P (end_of_caller w pid status)
+  pub kills : P (changes w 0 (after_kill w pid body.creds (signed call 0) (low call 1)))
+  pub regroups : P (changes w 0 (after_setpgid w pid (signed call 0) (signed call 1)))
+  pub leads : P (changes w pid (after_setsid w pid))
+
+module _ (images : GivenImages) (w : World) (pid : ℕ) (body : Body) (call : Record) (P : Performed → Type 0) (c : EachCall images w pid body call P) where
+  each_prctl : (which : Option PrctlOption) → P (prctl images w pid body which call)
+  each_prctl (Some option.GetSeccomp) = c.answers (Ok (seccomp_mode body.chain))
+  each_prctl (Some option.GetNoNewPrivs) = c.answers (no_new_privs_asked call body.creds.no_new_privs)
+  each_prctl (Some option.SetChildSubreaper) = c.marks
+  each_prctl (Some option.GetChildSubreaper) = c.asks_mark
+  each_prctl None = c.answers (Err Einval)
+  each_prctl setting = c.authorises (after_prctl images setting call (authority_of body))
+
+  each_seccomp : (which : Option SeccompOperation) → P (seccomp images w pid body which call)
+  each_seccomp (Some operation.GetActionAvail) = c.answers (action_available (low call 1) (low call 2))
+  each_seccomp None = c.answers (Err Einval)
+  each_seccomp setting = c.authorises (after_seccomp images setting call (authority_of body))
+
+  pub each_call : (which : Option Syscall) → P (row images w pid body which call)
+  each_call (Some syscall.RtSigaction) = c.resignals (after_sigaction pid call body.signals)
+  each_call (Some syscall.RtSigprocmask) = c.resignals (after_sigprocmask call body.signals)
+  each_call (Some syscall.RtSigreturn) = c.resignals (after_sigreturn body.signals.frames body.signals)
+  each_call (Some syscall.RtSigpending) = c.tells_signals body.signals.pending
+  each_call (Some syscall.SchedYield) = c.answers (Ok 0)
+  each_call (Some syscall.Pause) = c.pauses
+  each_call (Some syscall.Getpid) = c.answers (Ok pid)
+  each_call (Some syscall.Getppid) = c.answers (Ok (parent_of (at w pid)))
+  each_call (Some syscall.Fork) = c.forks_one
+  each_call (Some syscall.Execve) = c.executes (authorised images body syscall.Execve call)
+  each_call (Some syscall.Exit) = c.ends (exit_status (low call 0))
+  each_call (Some syscall.ExitGroup) = c.ends (exit_status (low call 0))
+  each_call (Some syscall.Wait4) = c.waits_for
+  each_call (Some syscall.Kill) = c.kills
+  each_call (Some syscall.Getuid) = c.answers (Ok body.creds.real)
+  each_call (Some syscall.Geteuid) = c.answers (Ok body.creds.effective)
+  each_call (Some syscall.Setuid) = c.authorises (authorised images body syscall.Setuid call)
+  each_call (Some syscall.Setresuid) = c.authorises (authorised images body syscall.Setresuid call)
+  each_call (Some syscall.Getresuid) = c.tells_ids
+  each_call (Some syscall.Setpgid) = c.regroups
+  each_call (Some syscall.Getpgrp) = c.answers (Ok (group_of (at w pid)))
+  each_call (Some syscall.Setsid) = c.leads
+  each_call (Some syscall.Getpgid) = c.answers (group_asked w pid (signed call 0))
+  each_call (Some syscall.Getsid) = c.answers (session_asked w pid (signed call 0))
+  each_call (Some syscall.Prctl) = each_prctl (prctl_option_of (low call 0))
+  each_call (Some syscall.Seccomp) = each_seccomp (seccomp_operation_of (low call 0))
+  each_call None = c.answers (Err Enosys)
