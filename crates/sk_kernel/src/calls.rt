@@ -1,5 +1,5 @@
 ghost use Rattle.std.specs.Prelude.{◌≡◌, ◌&&◌, IsTrue, IfSome, IfOk, OnOk, OnErr, pos, neg_ℤ, min};
-ghost use Rattle.sk_insn.specs.Actions.{action_of, data_part, performs};
+ghost use Rattle.sk_insn.specs.Actions.{performs};
 ghost use Rattle.sk_calls.specs.Syscalls.{syscall_of};
 ghost use Rattle.sk_chain.specs.Verdict.{verdict_of};
 ghost use Rattle.sk_world.specs.World.{at, is_alive};
@@ -14,16 +14,13 @@ ghost use Rattle.sk_signal.specs.declared.number.TheConstants.{SIGSYS};
 
 use sk_chain::Chain;
 use sk_creds::Errno;
-use sk_insn::{Action, Record};
+use sk_insn::{ALLOW, Action, Record};
 use sk_machine::{Answer, Images, Outcome};
 use sk_session::end;
 use sk_signal::number::SIGSYS;
 use sk_syscalls::perform;
 use sk_world::ProcStore;
 use std::alloc::{AllocError, Global};
-
-/// The verdict of no filter, and of filters that allow the call.
-const ALLOW: u32 = 0x7fff_0000;
 
 /// The largest number that a filter's errno returns: seccomp(2), SECCOMP_RET_ERRNO.
 const MAX_ERRNO: u32 = 4095;
@@ -44,7 +41,8 @@ pub(crate) fn call<S: ProcStore>(
     ensures kept { OnErr result (S.contents store.new ≡ S.contents store.old) }
 {
     let verdict = verdict(store, pid, call);
-    let outcome = judge(store, images, alloc, pid, call, verdict)?;
+    let action = Action::of(verdict);
+    let outcome = judge(store, images, alloc, pid, call, verdict, action)?;
     Ok(Answer::Call { verdict, outcome })
 }
 
@@ -69,7 +67,7 @@ fn verdict_by(chain: &Chain, call: &Record) -> u32
     }
 }
 
-/// What becomes of a call by its verdict.
+/// What becomes of a call by its verdict, which asks for this action.
 fn judge<S: ProcStore>(
     store: &mut S,
     images: &Images,
@@ -77,27 +75,24 @@ fn judge<S: ProcStore>(
     pid: u32,
     call: &Record,
     verdict: u32,
+    action: Action,
 ) -> Result<Outcome, AllocError>
     requires rules { IsWorld (S.contents store.old) }
     requires alive { IsTrue (is_alive (at (S.contents store.old) pid)) }
-    ensures answer { IfOk result (λ outcome. IfSome (at (S.contents store.old) pid) (λ p. outcome ≡ (judged images.now (S.contents store.old) pid p.body call.now verdict (action_of verdict)).outcome)) }
-    ensures world { OnOk result (IfSome (at (S.contents store.old) pid) (λ p. S.contents store.new ≡ (judged images.now (S.contents store.old) pid p.body call.now verdict (action_of verdict)).world)) }
-    ensures memory { OnErr result (IsTrue (performs (action_of verdict) && may_grow images.now (S.contents store.old) pid (syscall_of call.now.nr) call.now)) }
+    ensures answer { IfOk result (λ outcome. IfSome (at (S.contents store.old) pid) (λ p. outcome ≡ (judged images.now (S.contents store.old) pid p.body call.now verdict action).outcome)) }
+    ensures world { OnOk result (IfSome (at (S.contents store.old) pid) (λ p. S.contents store.new ≡ (judged images.now (S.contents store.old) pid p.body call.now verdict action).world)) }
+    ensures memory { OnErr result (IsTrue (performs action && may_grow images.now (S.contents store.old) pid (syscall_of call.now.nr) call.now)) }
     ensures kept { OnErr result (S.contents store.new ≡ S.contents store.old) }
 {
-    match Action::of(verdict) {
-        Action::Allow => perform(store, images, alloc, pid, call),
-        Action::Log => perform(store, images, alloc, pid, call),
+    match action {
+        Action::Allow | Action::Log => perform(store, images, alloc, pid, call),
         Action::Trap => {
             force(store, pid);
             Ok(Outcome::Trapped)
         }
         Action::Errno => Ok(refused(verdict % 0x1_0000)),
-        Action::UserNotif => Ok(failed(Errno::Enosys)),
-        Action::Trace => Ok(failed(Errno::Enosys)),
-        Action::KillProcess => Ok(kill(store, pid)),
-        Action::KillThread => Ok(kill(store, pid)),
-        Action::Unknown => Ok(kill(store, pid)),
+        Action::UserNotif | Action::Trace => Ok(failed(Errno::Enosys)),
+        Action::KillProcess | Action::KillThread | Action::Unknown => Ok(kill(store, pid)),
     }
 }
 
