@@ -1,13 +1,16 @@
 -- Words of which some bits are known.
-use Rattle.std.proofs.Common.{◌≡◌, ◌≢◌, ℕ, ◌-◌, ◌*◌, ◌%◌, ◌^◌, ◌<◌, ◌≤◌, ◌⊎◌, inl, inr, bit_and, sym, ap, ◌∙◌, subst, arith}
+use Rattle.std.proofs.Common.{◌≡◌, ◌≢◌, ℕ, nat_lt, ◌-◌, ◌*◌, ◌/◌, ◌%◌, ◌^◌, ◌<◌, ◌≤◌, ◌⊎◌, inl, inr, bit_and, Some, sym, ap, ◌∙◌, subst, arith}
 use Rattle.std.specs.Prelude.{min, max, bit_or}
 use Rattle.std.specs.Int.{bit_at, bit_not, w32}
-use Rattle.std.proofs.Math.Nat.{min-eq_left}
+use Rattle.std.proofs.Math.Nat.{min-eq_left, div-eq_of_lt-le}
 use Rattle.std.proofs.lemmas.Bool.{cases_lt, cases_eq}
-use Rattle.std.proofs.lemmas.Nat.{and_le_l, and_le_r}
-use Rattle.std.proofs.lemmas.Nat.Bits.{bit_at_and, bit_at_or, bit_at_not, bit_at-lt, bit_at_above, bit_at_ones, same_from_bits, same_from_bits_below, bit_at_set_same, bit_at_set_other, bit_at_clear_same, bit_at_clear_other}
+use Rattle.std.proofs.lemmas.Nat.{and_le_l, and_le_r, le_or_l, le_or_r}
+use Rattle.std.proofs.lemmas.Nat.Bits.{bit_at-zero, bit_at_and, bit_at_or, bit_at_not, bit_at-lt, bit_at_above, bit_at_ones, same_from_bits, same_from_bits_below, bit_at_set_same, bit_at_set_other, bit_at_clear_same, bit_at_clear_other}
 use Rattle.sk_conditions.specs.declared.some_words.SomeWords.{SomeWords}
-use Rattle.sk_conditions.specs.Solving.{IsAmong}
+use Rattle.sk_insn.specs.declared.operation.Comparison.{Comparison}
+use Rattle.sk_insn.specs.declared.operation.Comparison.TheVariants.{Equal, Greater, GreaterOrEqual, CommonBits}
+use Rattle.sk_interp.specs.Meaning.{holds}
+use Rattle.sk_conditions.specs.Solving.{IsAmong, looked_at}
 
 -- a number whose bits another one has is not above it
 below_by_bits : (a b : ℕ) → ((i : ℕ) → bit_at a i ≤ bit_at b i) → a ≤ b
@@ -147,3 +150,82 @@ parted_words words word k inside among = elim (cases_lt 0 (bit_at word k)) [
     ],
   )
 ]
+
+-- where no bit is free there is one word
+only_word : (words : SomeWords) (word : ℕ) → words.bits < 2 ^ 32 → words.free ≡ 0 → IsAmong words word → word ≡ words.bits
+only_word words word fits closed among =
+    same_from_bits_below 32 word words.bits among.0 fits (λ i inside. among.1 i inside (ap (λ n. bit_at n i) closed ∙ bit_at-zero i))
+
+-- where a comparison looks at no free bit all words come out as one of them
+pub one_outcome : (words : SomeWords) (comparison : Comparison) (k word : ℕ) → words.bits < 2 ^ 32 → looked_at words comparison k ≡ 0
+    → IsAmong words word → holds comparison word k ≡ holds comparison words.bits k
+one_outcome words Equal k word fits closed among = ap (λ n. holds Equal n k) (only_word words word fits closed among)
+one_outcome words Greater k word fits closed among = ap (λ n. holds Greater n k) (only_word words word fits closed among)
+one_outcome words GreaterOrEqual k word fits closed among = ap (λ n. holds GreaterOrEqual n k) (only_word words word fits closed among)
+one_outcome words CommonBits k word fits closed among =
+    ap (nat_lt 0) (only_word (record { bits = bit_and words.bits k; free = bit_and words.free k }) (bit_and word k)
+    (let less = and_le_l words.bits k in omega (arith, less, fits)) closed (under_mask words word k among))
+
+-- some of the bits of a number
+pub part_under : (free mask : ℕ) → bit_and (bit_and free mask) free ≡ bit_and free mask
+part_under free mask = same_from_bits _ _ (λ i.
+    bit_at_and (bit_and free mask) free i ∙ ap (λ n. min n (bit_at free i)) (bit_at_and free mask i)
+    ∙ twice (bit_at free i) (bit_at mask i) ∙ sym (bit_at_and free mask i)) where
+      twice : (f m : ℕ) → min (min f m) f ≡ min f m
+      twice f m = omega arith
+
+part_under_both : (free mask k : ℕ) → bit_and (bit_and (bit_and free mask) k) free ≡ bit_and (bit_and free mask) k
+part_under_both free mask k = same_from_bits _ _ (λ i.
+    bit_at_and (bit_and (bit_and free mask) k) free i ∙ ap (λ n. min n (bit_at free i)) (in_three i)
+    ∙ twice (bit_at free i) (bit_at mask i) (bit_at k i) ∙ sym (in_three i)) where
+      in_three : (i : ℕ) → bit_at (bit_and (bit_and free mask) k) i ≡ min (min (bit_at free i) (bit_at mask i)) (bit_at k i)
+      in_three i = bit_at_and (bit_and free mask) k i ∙ ap (λ n. min n (bit_at k i)) (bit_at_and free mask i)
+
+      twice : (f m k : ℕ) → min (min (min f m) k) f ≡ min (min f m) k
+      twice f m k = omega arith
+
+not_nothing : (a b : ℕ) → a ≡ 0 → a ≡ b → b ≡ 1 → ⊥
+not_nothing a b zero same one = omega arith
+
+-- without a bit that is set a number is less
+pub one_less : (free k : ℕ) → k < 32 → bit_at free k ≡ 1 → bit_and free (bit_not w32 (1 * 2 ^ k % 2 ^ 32)) < free
+one_less free k inside set =
+    let rest = bit_and free (bit_not w32 (1 * 2 ^ k % 2 ^ 32)) in
+    let less = and_le_l free (bit_not w32 (1 * 2 ^ k % 2 ^ 32)) in
+    elim (cases_eq rest free) [
+      | inl same ↦ absurd (not_nothing _ _ (bit_at_clear_same w32 free k inside) (ap (λ n. bit_at n k) same) set)
+      | inr other ↦ omega (arith, less, other)
+    ]
+
+-- the highest bit of a number is set
+pub highest_set : (bits k : ℕ) → 2 ^ k ≤ bits → bits < 2 * 2 ^ k → bit_at bits k ≡ 1
+highest_set bits k above below =
+    let once : bits / 2 ^ k ≡ 1 = div-eq_of_lt-le (2 ^ k) (omega (arith, above)) (omega (arith, below)) in
+    ap (λ n. n % 2) once
+
+pub both_parts : (a b free : ℕ) → bit_and a free ≡ a → bit_and b free ≡ b → bit_and (bit_or a b) free ≡ bit_or a b
+both_parts a b free one other = same_from_bits _ _ (λ i.
+    bit_at_and (bit_or a b) free i ∙ ap (λ n. min n (bit_at free i)) (bit_at_or a b i)
+    ∙ either_part (bit_at a i) (bit_at b i) (bit_at free i) (sym (bit_at_and a free i) ∙ ap (λ n. bit_at n i) one) (sym (bit_at_and b free i) ∙ ap (λ n. bit_at n i) other)
+    ∙ sym (bit_at_or a b i)) where
+      either_part : (a b f : ℕ) → min a f ≡ a → min b f ≡ b → min (max a b) f ≡ max a b
+      either_part a b f one other = omega arith
+
+pub neither : (a b : ℕ) → bit_or a b ≡ 0 → (a ≡ 0) × (b ≡ 0)
+neither a b none = let left = le_or_l a b in let right = le_or_r a b in (omega (arith, left, none), omega (arith, right, none))
+
+-- what a comparison looks at is open
+pub looked_at_open : (words : SomeWords) (free mask k : ℕ) (comparison : Comparison) → words.free ≡ bit_and free mask
+    → bit_and (looked_at words comparison k) free ≡ looked_at words comparison k
+looked_at_open words free mask k Equal is = rw is (part_under free mask)
+looked_at_open words free mask k Greater is = rw is (part_under free mask)
+looked_at_open words free mask k GreaterOrEqual is = rw is (part_under free mask)
+looked_at_open words free mask k CommonBits is = rw is (part_under_both free mask k)
+
+pub open_here : (bits free i : ℕ) → bit_and bits free ≡ bits → bit_at bits i ≡ 1 → bit_at free i ≡ 1
+open_here bits free i part set = in_both (bit_at bits i) (bit_at free i) (bit_at-lt free i) (sym (bit_at_and bits free i) ∙ ap (λ n. bit_at n i) part) set where
+  in_both : (b f : ℕ) → f < 2 → min b f ≡ b → b ≡ 1 → f ≡ 1
+  in_both b f small part set = omega arith
+
+pub some_zero : (n : ℕ) → Some n ≡ Some 0 → n ≡ 0
+some_zero n is = cc

@@ -30,3 +30,9 @@ StandsAll chains Everywhere =
     (call : Record) → IsCallOf chains.numbers.first chains.numbers.last call → relates_on chains call ≡ true
 StandsAll chains (Apart call) = IsApart chains (Apart call)
 StandsAll chains Undecided = Unit {0}
+
+-- one of the two was found
+abbrev pub IsDecided : Found → Type 0
+IsDecided Everywhere = Unit {0}
+IsDecided (Apart call) = Unit {0}
+IsDecided Undecided = ⊥

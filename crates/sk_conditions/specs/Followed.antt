@@ -17,6 +17,8 @@ use Rattle.sk_conditions.specs.declared.follow.Next.{Next}
 use Rattle.sk_conditions.specs.declared.follow.Next.TheVariants.{Skip, Fork, End, Untold as NotFollowed}
 use Rattle.sk_conditions.specs.declared.pair.Parts.{Parts}
 use Rattle.sk_conditions.specs.declared.pair.Parts.TheVariants as parts
+use Rattle.sk_conditions.specs.declared.path.Path.{Path}
+use Rattle.sk_conditions.specs.declared.path.Path.TheVariants.{Start, Beyond'}
 use Rattle.sk_conditions.specs.declared.tree.Tree.{Tree}
 use Rattle.sk_conditions.specs.declared.tree.Tree.TheVariants.{Is, Untold, Ask'}
 
@@ -52,6 +54,11 @@ PartsTellAll (parts.Test test held failed) =
     IsTrue (is_word test.place)
     × ((TellsAll held.one.now × TellsAll held.other.now) × (TellsAll failed.one.now × TellsAll failed.other.now))
 PartsTellAll (parts.Ends value another) = IsSome value × IsSome another
+
+-- the tests on the way look at words of the record
+abbrev pub AreOfWords : Path → Type 0
+AreOfWords Start = Unit {0}
+AreOfWords (Beyond' p earlier test answer) = IsTrue (is_word test.place) × AreOfWords earlier
 
 -- A holds a constant, or bits of a word of the record
 abbrev pub HoldsWord : Held → Type 0

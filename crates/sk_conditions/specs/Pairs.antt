@@ -1,5 +1,5 @@
 -- What is known while two trees are followed together.
-use Rattle.std.specs.Prelude.{ℕ, ◌≡◌, ◌+◌, ◌<◌, if◌then◌else◌, true, Some}
+use Rattle.std.specs.Prelude.{ℕ, ◌≡◌, ◌+◌, ◌<◌, if◌then◌else◌, true, false, Some}
 use Rattle.sk_insn.specs.declared.record.Record.{Record}
 use Rattle.sk_conditions.specs.declared.tree.Tree.{Tree}
 use Rattle.sk_conditions.specs.declared.tree.Tree.TheVariants.{Is, Untold, Ask'}
@@ -10,9 +10,10 @@ use Rattle.sk_conditions.specs.declared.standing.Comparing.{Comparing}
 use Rattle.sk_conditions.specs.declared.standing.Found.{Found}
 use Rattle.sk_conditions.specs.declared.standing.Found.TheVariants.{Everywhere, Apart, Undecided}
 use Rattle.sk_conditions.specs.declared.standing.Relation.{Relation}
+use Rattle.sk_chain.specs.Verdict.{verdict_of}
 use Rattle.sk_survey.specs.Answers.{IsCallOf}
-use Rattle.sk_conditions.specs.Comparing.{IsApart, relates}
-use Rattle.sk_conditions.specs.Conditions.{holds_on, told}
+use Rattle.sk_conditions.specs.Comparing.{IsApart, relates, relates_on}
+use Rattle.sk_conditions.specs.Conditions.{Agrees, holds_on, told}
 use Rattle.sk_conditions.specs.Following.{MeetsPath}
 
 -- how many tests and ends a tree has
@@ -46,3 +47,14 @@ StandsOn chains old new path Everywhere =
     (call : Record) → IsCallOf chains.numbers.first chains.numbers.last call → MeetsPath path call → ToldSo chains.relation old new call
 StandsOn chains old new path (Apart call) = IsApart chains (Apart call)
 StandsOn chains old new path Undecided = Unit {0}
+
+-- on no call with the numbers that comes out so in the tests on the way do the verdicts stand so to each other
+abbrev pub StandNowhere : Comparing → Path → Type 0
+StandNowhere chains path =
+    (call : Record) → IsCallOf chains.numbers.first chains.numbers.last call → MeetsPath path call → relates_on chains call ≡ false
+
+-- of every such call the trees tell the verdicts, where they tell values
+abbrev pub TellRightly : Comparing → Tree → Tree → Path → Type 0
+TellRightly chains old new path =
+    (call : Record) → IsCallOf chains.numbers.first chains.numbers.last call → MeetsPath path call
+    → Agrees (told old call) (verdict_of chains.old.now call) × Agrees (told new call) (verdict_of chains.new.now call)

@@ -1,10 +1,9 @@
 //! One instruction, where it is known from which bits of the call A was made.
-ghost use Rattle.std.specs.Prelude.{◌≡◌, ◌≤◌, ◌+◌, ℕ, bit_and, if◌then◌else◌, IfSome, IsTrue, Some};
+ghost use Rattle.std.specs.Prelude.{◌≡◌, ◌≤◌, ℕ, bit_and, if◌then◌else◌, IfSome, IsTrue, Some};
 ghost use Rattle.sk_insn.specs.declared.insn.Insn.{Insn};
 ghost use Rattle.sk_insn.specs.declared.record.Record.{Record};
 ghost use Rattle.sk_insn.specs.Operations.{operation_of};
 ghost use Rattle.sk_check.specs.Fits.{TakesConstant};
-ghost use Rattle.sk_check.specs.Paths.{LeadsTo};
 ghost use Rattle.sk_insn.specs.declared.operation.Operation.{Operation};
 ghost use Rattle.sk_interp.specs.Meaning.{State, effect, holds};
 ghost use Rattle.sk_survey.specs.Answers.{IsCallOf};

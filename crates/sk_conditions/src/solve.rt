@@ -1,6 +1,7 @@
 //! A word of a call that comes out in the tests on the way as they are answered, or that there is none. No test looks at
 //! two words, so each is sought by itself.
-ghost use Rattle.std.specs.Prelude.{ℕ, ◌≡◌, ◌<◌, ◌^◌, bit_and, None, IsTrue};
+ghost use Rattle.std.specs.Prelude.{ℕ, ◌≡◌, ◌≢◌, ◌<◌, ◌≤◌, ◌^◌, ◌↔◌, bit_and, None, Some, IsTrue, IfSome};
+ghost use Rattle.std.specs.Int.{bit_at};
 ghost use Rattle.sk_interp.specs.Meaning.{holds};
 ghost use Rattle.sk_conditions.specs.Solving.{IsAmong, WordMeets, IsSought};
 ghost use Rattle.sk_conditions.specs.declared.some_words.SomeWords.{SomeWords};
@@ -8,7 +9,6 @@ ghost use Rattle.sk_conditions.specs.declared.some_words.SomeWords.{SomeWords};
 use crate::path::Path;
 use crate::some_words::SomeWords;
 use crate::{Budget, Test};
-use sk_insn::Comparison;
 use sk_interp::holds;
 
 /// What is found of the words at a place.
@@ -25,36 +25,46 @@ pub enum Sought {
 /// A word for a place.
 pub fn word_at(path: &Path, place: u8, budget: &mut Budget) -> Sought
     ensures sought { IsSought path.now place (λ word. word < 2 ^ 32) result }
+    ensures found { 0 < budget.new.steps → result ≢ Sought.Unknown }
+    ensures left { budget.new.steps ≤ budget.old.steps }
 {
-    word_among(path, place, SomeWords::all(), LEVELS, budget)
+    word_among(path, place, SomeWords::all(), budget)
 }
 
-/// Each part of the words settles one bit more, and there are 32.
-const LEVELS: u32 = 33;
-
-/// One of some words.
-fn word_among(path: &Path, place: u8, words: SomeWords, levels: u32, budget: &mut Budget) -> Sought
+/// One of some words. Each part of them has one open bit less.
+fn word_among(path: &Path, place: u8, words: SomeWords, budget: &mut Budget) -> Sought
     ensures sought { IsSought path.now place (IsAmong words) result }
+    ensures found { 0 < budget.new.steps → result ≢ Sought.Unknown }
+    ensures left { budget.new.steps ≤ budget.old.steps }
 {
-    if levels == 0 || !budget.take(1) {
+    if !budget.take(1) {
         return Sought::Unknown;
     }
     let Some(asked) = path.bits_asked(place, words, budget) else {
         return Sought::Nothing;
     };
-    let Some(bit) = 31u32.checked_sub(asked.leading_zeros()) else {
+    let Some(bit) = highest(asked) else {
         return this_one(path, place, words.bits);
     };
     let (without, with) = words.parted(bit);
-    match word_among(path, place, without, levels - 1, budget) {
-        Sought::Nothing => word_among(path, place, with, levels - 1, budget),
+    match word_among(path, place, without, budget) {
+        Sought::Nothing => word_among(path, place, with, budget),
         found => found,
     }
+}
+
+/// The place of the highest bit.
+fn highest(bits: u32) -> Option<u32>
+    ensures none { result ≡ None → bits ≡ 0 }
+    ensures highest { IfSome result (λ place. (place < 32) × (bit_at bits place ≡ 1)) }
+{
+    bits.checked_ilog2()
 }
 
 /// A word, if it comes out so.
 fn this_one(path: &Path, place: u8, word: u32) -> Sought
     ensures sought { (words : SomeWords) → IsSought path.now place (IsAmong words) result }
+    ensures found { WordMeets path.now place word → result ≢ Sought.Unknown }
 {
     if path.is_met_by(place, word) {
         Sought::Word(word)
@@ -65,8 +75,8 @@ fn this_one(path: &Path, place: u8, word: u32) -> Sought
 
 impl Path<'_> {
     /// Whether a word at a place comes out so in each test.
-    fn is_met_by(&self, place: u8, word: u32) -> bool
-        ensures met { IsTrue result → WordMeets self.now place word }
+    pub fn is_met_by(&self, place: u8, word: u32) -> bool
+        ensures met { IsTrue result ↔ WordMeets self.now place word }
     {
         match self {
             Path::Start => true,
@@ -81,6 +91,9 @@ impl Path<'_> {
     /// word of them comes out so in each test.
     fn bits_asked(&self, place: u8, words: SomeWords, budget: &mut Budget) -> Option<u32>
         ensures nothing { result ≡ None → (word : ℕ) → IsAmong words word → WordMeets self.now place word → ⊥ }
+        ensures decided { result ≡ Some 0 → 0 < budget.new.steps → (word : ℕ) → IsAmong words word → WordMeets self.now place word }
+        ensures open { IfSome result (λ bits. bit_and bits words.free ≡ bits) }
+        ensures left { budget.new.steps ≤ budget.old.steps }
     {
         match self {
             Path::Start => Some(0),
@@ -103,19 +116,14 @@ impl Path<'_> {
 fn asked_by(test: Test, answer: bool, words: SomeWords) -> Option<u32>
     ensures nothing { result ≡ None → (word : ℕ) → IsAmong words word
         → holds test.comparison (bit_and word test.mask) test.k ≡ answer → ⊥ }
+    ensures decided { result ≡ Some 0 → (word : ℕ) → IsAmong words word
+        → holds test.comparison (bit_and word test.mask) test.k ≡ answer }
+    ensures open { IfSome result (λ bits. bit_and bits words.free ≡ bits) }
 {
     let masked = words.under(test.mask);
-    let may_hold = masked.may_hold(test.comparison, test.k);
-    let may_fail = masked.may_fail(test.comparison, test.k);
-    let may_come_out = if answer { may_hold } else { may_fail };
-    if !may_come_out {
-        return None;
+    match masked.outcome(test.comparison, test.k) {
+        Some(outcome) if outcome == answer => Some(0),
+        Some(_) => None,
+        None => Some(masked.looked_at(test.comparison, test.k)),
     }
-    if !(may_hold && may_fail) {
-        return Some(0);
-    }
-    Some(match test.comparison {
-        Comparison::CommonBits => masked.free & test.k,
-        _ => masked.free,
-    })
 }

@@ -1,9 +1,11 @@
 //! Words of which some bits are known.
-ghost use Rattle.std.specs.Prelude.{ℕ, ◌≡◌, ◌<◌, ◌≤◌, ◌^◌, ◌⊎◌, bit_and, false, true};
+ghost use Rattle.std.specs.Prelude.{ℕ, ◌≡◌, ◌≢◌, ◌<◌, ◌≤◌, ◌^◌, ◌⊎◌, bit_and, false, true, None, IfSome};
+ghost use Rattle.std.specs.Int.{bit_at};
 ghost use Rattle.sk_interp.specs.Meaning.{holds};
-ghost use Rattle.sk_conditions.specs.Solving.{IsAmong};
+ghost use Rattle.sk_conditions.specs.Solving.{IsAmong, looked_at};
 
 use sk_insn::Comparison;
+use sk_interp::holds;
 
 /// The words with these bits, where the bits of `free` may be any.
 #[derive(Clone, Copy, Debug)]
@@ -26,6 +28,7 @@ impl SomeWords {
     /// What a mask leaves of them.
     pub fn under(self, mask: u32) -> SomeWords
         ensures under { (word : ℕ) → IsAmong self word → IsAmong result (bit_and word mask) }
+        ensures free { result.free ≡ bit_and self.free mask }
     {
         SomeWords {
             bits: self.bits & mask,
@@ -58,6 +61,7 @@ impl SomeWords {
     pub fn parted(self, place: u32) -> (SomeWords, SomeWords)
         requires inside { place < 32 }
         ensures either { (word : ℕ) → IsAmong self word → IsAmong result.0 word ⊎ IsAmong result.1 word }
+        ensures fewer { bit_at self.free place ≡ 1 → (result.0.free < self.free) × (result.1.free < self.free) }
     {
         let bit = 1 << place;
         let free = self.free & !bit;
@@ -72,8 +76,35 @@ impl SomeWords {
         (without, with)
     }
 
+    /// The open bits that a comparison with a constant looks at.
+    pub fn looked_at(self, comparison: Comparison, k: u32) -> u32
+        ensures bits { result ≡ looked_at self comparison k }
+    {
+        match comparison {
+            Comparison::CommonBits => self.free & k,
+            _ => self.free,
+        }
+    }
+
+    /// How a comparison of each of them with a constant comes out, where all come out alike.
+    pub fn outcome(self, comparison: Comparison, k: u32) -> Option<bool>
+        ensures alike { IfSome result (λ outcome. (word : ℕ) → IsAmong self word → holds comparison word k ≡ outcome) }
+        ensures open { result ≡ None → looked_at self comparison k ≢ 0 }
+    {
+        if self.looked_at(comparison, k) == 0 {
+            return Some(holds(comparison, self.bits, k));
+        }
+        if !self.may_hold(comparison, k) {
+            return Some(false);
+        }
+        if !self.may_fail(comparison, k) {
+            return Some(true);
+        }
+        None
+    }
+
     /// Whether a comparison holds for some of them.
-    pub fn may_hold(self, comparison: Comparison, k: u32) -> bool
+    fn may_hold(self, comparison: Comparison, k: u32) -> bool
         ensures never { result ≡ false → (word : ℕ) → IsAmong self word → holds comparison word k ≡ false }
     {
         match comparison {
@@ -85,7 +116,7 @@ impl SomeWords {
     }
 
     /// Whether a comparison fails for some of them.
-    pub fn may_fail(self, comparison: Comparison, k: u32) -> bool
+    fn may_fail(self, comparison: Comparison, k: u32) -> bool
         ensures always { result ≡ false → (word : ℕ) → IsAmong self word → holds comparison word k ≡ true }
     {
         match comparison {

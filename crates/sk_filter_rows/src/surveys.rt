@@ -1,9 +1,10 @@
 //! Answers and surveys that are seen by eye.
 use crate::filters::{chain_of, filter, refuses_getppid};
 use crate::insns::{
-    ALLOW, EPERM, branch, divx, ja, jeq, ldabs, ldimm, ldmem, ldximm, ret, reta, st, tax,
+    ALLOW, EPERM, branch, divx, ja, jeq, ldabs, ldimm, ldmem, ldximm, ret, reta, st, tax, with_k,
 };
 use sk_insn::Insn;
+use sk_survey::cuts::cuts;
 use sk_survey::{Answers, Survey};
 use std::alloc::Global;
 use std::test::Fail;
@@ -135,6 +136,47 @@ fn chains(rt: HostRuntime) -> Result<(), Fail> {
     assert!(rt; tells(alloc, &[&logs, &two], &[0x0005_0002, 0x7ffc_0000])?);
     assert!(rt; tells(alloc, &[&[ret(EPERM)], &two], &[EPERM])?);
     assert!(rt; tells(alloc, &[&two, &kills, &logs], &[0x8000_0000])?);
+    Ok(())
+}
+
+/// Whether these are the cuts of the chain of these filters, where 39 stands alone.
+fn cut_at(alloc: Global, programs: &[&[Insn]], expected: &[u32]) -> Result<bool, Fail> {
+    let chain = chain_of(alloc, programs)?;
+    Ok(cuts(alloc, &chain, &[39])?.as_slice() == expected)
+}
+
+#[test]
+fn cuts_of_a_chain(rt: HostRuntime) -> Result<(), Fail> {
+    let alloc = rt.alloc();
+    let argument = [
+        ldabs(0),
+        jeq(110, 2, 0),
+        ldabs(16),
+        jeq(7, 0, 1),
+        ret(EPERM),
+        ret(ALLOW),
+    ];
+    let masked = [
+        ldabs(0),
+        with_k(0x54, 0xff),
+        jeq(5, 0, 1),
+        ret(EPERM),
+        ret(ALLOW),
+    ];
+    let word = [
+        ldabs(0),
+        st(3),
+        ldabs(16),
+        ldmem(3),
+        jeq(9, 0, 1),
+        ret(EPERM),
+        ret(ALLOW),
+    ];
+    let architecture = [ldabs(0), ldabs(4), jeq(7, 0, 1), ret(EPERM), ret(ALLOW)];
+    assert!(rt; cut_at(alloc, &[&argument], &[39, 40, 110, 111])?);
+    assert!(rt; cut_at(alloc, &[&masked, &argument], &[5, 6, 39, 40, 110, 111])?);
+    assert!(rt; cut_at(alloc, &[&word], &[9, 10, 39, 40])?);
+    assert!(rt; cut_at(alloc, &[&architecture], &[39, 40])?);
     Ok(())
 }
 

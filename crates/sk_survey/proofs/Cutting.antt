@@ -1,7 +1,7 @@
 -- Cuts, with more of them, and rows that begin and end at cuts.
-use Rattle.std.proofs.Common.{◌≡◌, ℕ, zero, suc, ◌+◌, ◌^◌, ◌<◌, ◌≤◌, ◌⊎◌, inl, inr, List, [], ◌∷◌, ◌++◌, length, get_or, take, arith, sym, subst}
+use Rattle.std.proofs.Common.{◌≡◌, ℕ, zero, suc, ◌+◌, ◌^◌, ◌<◌, ◌≤◌, ◌⊎◌, inl, inr, List, [], ◌∷◌, ◌++◌, length, get_or, take, arith, subst}
 use Rattle.std.proofs.Math.Logic.{⊎_elim}
-use Rattle.std.specs.List.{All, Contains}
+use Rattle.std.specs.List.{All}
 use Rattle.std.specs.List.Sorted.{IsPermutation, IsNonDecreasing}
 use Rattle.std.proofs.lemmas.Bool.{cases_lt}
 use Rattle.std.proofs.lemmas.List.Elements.{All-weaker, All-more, All-contains, All-from_get_or, Contains-append_left}
@@ -9,10 +9,6 @@ use Rattle.std.proofs.lemmas.List.Sorted.{Contains-permutation}
 use Rattle.sk_survey.specs.declared.rows.Row.{Row}
 use Rattle.sk_survey.specs.Cutting.{IsCutRound, AreKept}
 use Rattle.sk_survey.specs.Surveys.{StandAlone}
-
-pub kept_pushed : (first cuts more : List ℕ) (n : ℕ) → AreKept first cuts → more ≡ cuts ++ n ∷ [] → AreKept first more
-kept_pushed first cuts more n kept is nr has =
-    subst (λ xs. Contains xs nr) (sym is) (Contains-append_left cuts (n ∷ []) nr (kept nr has))
 
 pub round_kept : (cuts more : List ℕ) → AreKept cuts more → (nr : ℕ) → IsCutRound cuts nr → IsCutRound more nr
 round_kept cuts more kept nr round = (kept nr round.0, λ fits. kept (nr + 1) (round.1 fits))
@@ -25,6 +21,10 @@ pub one_more_round : (cuts more numbers : List ℕ) (i : ℕ) → i < length num
     → IsCutRound more (get_or numbers i 0) → All (IsCutRound more) (take (i + 1) numbers)
 one_more_round cuts more numbers i less kept all round =
     All-more (IsCutRound more) numbers i 0 less (all_round_kept cuts more (take i numbers) kept all) round
+
+pub all_round_added : (cuts others numbers : List ℕ) → All (IsCutRound cuts) numbers → All (IsCutRound (cuts ++ others)) numbers
+all_round_added cuts others numbers all =
+    all_round_kept cuts (cuts ++ others) numbers (λ nr has. Contains-append_left cuts others nr has) all
 
 pub all_round_sorted : (cuts more numbers : List ℕ) → IsPermutation cuts more → All (IsCutRound cuts) numbers → All (IsCutRound more) numbers
 all_round_sorted cuts more numbers same all =

@@ -1,10 +1,12 @@
 //! Where the numbers of calls are cut into ranges. It decides which numbers stand alone and how sharp the answers are,
 //! and never whether they are right.
-ghost use Rattle.std.specs.Prelude.{IfOk, OnOk};
+ghost use Rattle.std.specs.Prelude.{◌≤◌, ◌+◌, ◌*◌, length, IfOk, OnOk};
 ghost use Rattle.std.specs.List.{All};
 ghost use Rattle.std.specs.List.Sorted.{IsNonDecreasing};
-ghost use Rattle.sk_survey.specs.Cutting.{IsCutRound, AreKept};
+ghost use Rattle.sk_chain.specs.Chains.{cost_of};
+ghost use Rattle.sk_survey.specs.Cutting.{IsCutRound, AreFew, AreKept};
 
+use crate::numbered::numbered_at;
 use sk_chain::Chain;
 use sk_insn::{Comparison, Insn, Operand, Operation, decode};
 use std::alloc::{AllocError, Global};
@@ -12,24 +14,53 @@ use std::alloc::{AllocError, Global};
 /// The most ranges that one `jset` cuts the numbers into.
 const MOST_PARTS: u32 = 64;
 
-/// The numbers at which ranges begin, in rising order: the numbers that stand alone and the constants of the filters'
-/// conditional jumps, and what follows each.
+/// The most instructions that are followed on the ranges of a chain, but those round numbers that stand alone: more than
+/// any real chain has by far, and no more than a second or two takes.
+const MOST_FOLLOWED: u32 = 1 << 25;
+
+/// The numbers at which ranges begin, in rising order: the numbers that stand alone, the constants with which the filters
+/// compare what comes from the number, and what follows each. Of too many constants the least are taken.
 pub fn cuts(alloc: Global, chain: &Chain, alone: &[u32]) -> Result<Vec<u32>, AllocError>
     ensures alone { IfOk result (λ cuts. All (IsCutRound cuts.items) alone.now) }
     ensures rising { IfOk result (λ cuts. IsNonDecreasing cuts.items) }
+    ensures few { IfOk result (λ cuts. AreFew cuts.items alone.now chain.now) }
 {
+    let compared = compared(alloc, chain)?;
     let mut cuts = Vec::new(alloc);
     cut_round_each(&mut cuts, alone)?;
-    for program in chain.programs() {
-        cut_in(&mut cuts, program.insns())?;
-    }
+    cuts.extend_from_slice(&compared)?;
     cuts.sort_unstable();
     Ok(cuts)
+}
+
+/// Those of the filters alone.
+fn compared(alloc: Global, chain: &Chain) -> Result<Vec<u32>, AllocError>
+    ensures few { IfOk result (λ cuts. length cuts.items * cost_of chain.now ≤ 33554432) }
+{
+    let mut cuts = Vec::new(alloc);
+    for program in chain.programs() {
+        cut_in(alloc, &mut cuts, program.insns())?;
+    }
+    cuts.sort_unstable();
+    cuts.dedup();
+    cuts.truncate(most_cuts(chain.cost()));
+    Ok(cuts)
+}
+
+/// How many ranges a chain of this cost can be followed on.
+fn most_cuts(cost: u32) -> usize
+    ensures few { result * cost ≤ 33554432 }
+{
+    match MOST_FOLLOWED.checked_div(cost) {
+        Some(most) => most as usize,
+        None => 0,
+    }
 }
 
 /// Cuts before each of the numbers and behind it.
 fn cut_round_each(cuts: &mut Vec<u32>, numbers: &[u32]) -> Result<(), AllocError>
     ensures round { OnOk result (All (IsCutRound cuts.new.items) numbers.now) }
+    ensures few { OnOk result (length cuts.new.items ≤ length cuts.old.items + 2 * length numbers.now) }
 {
     for number in numbers {
         cut_round(cuts, *number)?;
@@ -41,6 +72,7 @@ fn cut_round_each(cuts: &mut Vec<u32>, numbers: &[u32]) -> Result<(), AllocError
 fn cut_round(cuts: &mut Vec<u32>, number: u32) -> Result<(), AllocError>
     ensures round { OnOk result (IsCutRound cuts.new.items number) }
     ensures kept { OnOk result (AreKept cuts.old.items cuts.new.items) }
+    ensures few { OnOk result (length cuts.new.items ≤ length cuts.old.items + 2) }
 {
     cuts.push(number)?;
     if number < u32::MAX {
@@ -49,20 +81,19 @@ fn cut_round(cuts: &mut Vec<u32>, number: u32) -> Result<(), AllocError>
     Ok(())
 }
 
-/// Cuts where the tests of a program can change their answers.
-fn cut_in(cuts: &mut Vec<u32>, insns: &[Insn]) -> Result<(), AllocError>
-    ensures kept { OnOk result (AreKept cuts.old.items cuts.new.items) }
-{
-    for insn in insns {
-        cut_at(cuts, insn)?;
+/// Cuts where the tests of a program can change their answers with the number.
+fn cut_in(alloc: Global, cuts: &mut Vec<u32>, insns: &[Insn]) -> Result<(), AllocError> {
+    let places = numbered_at(alloc, insns)?;
+    for (here, insn) in places.iter().zip(insns) {
+        if here.a {
+            cut_at(cuts, insn)?;
+        }
     }
     Ok(())
 }
 
 /// Cuts where the instruction's test can change its answer.
-fn cut_at(cuts: &mut Vec<u32>, insn: &Insn) -> Result<(), AllocError>
-    ensures kept { OnOk result (AreKept cuts.old.items cuts.new.items) }
-{
+fn cut_at(cuts: &mut Vec<u32>, insn: &Insn) -> Result<(), AllocError> {
     if let Some(Operation::Branch(comparison, Operand::Constant)) = decode(insn.code) {
         cut_round(cuts, insn.k)?;
         if comparison == Comparison::CommonBits {
@@ -73,9 +104,7 @@ fn cut_at(cuts: &mut Vec<u32>, insn: &Insn) -> Result<(), AllocError>
 }
 
 /// Cuts at the multiples of a constant's lowest bit, where there are few.
-fn cut_parts(cuts: &mut Vec<u32>, k: u32) -> Result<(), AllocError>
-    ensures kept { OnOk result (AreKept cuts.old.items cuts.new.items) }
-{
+fn cut_parts(cuts: &mut Vec<u32>, k: u32) -> Result<(), AllocError> {
     let low = k.trailing_zeros();
     if (26..32).contains(&low) {
         for part in 0..MOST_PARTS {

@@ -47,14 +47,13 @@ impl Knowledge {
     }
 
     /// What is known where paths meet.
-    pub fn join(mut self, other: &Knowledge) -> Knowledge
-        ensures one { (call : Record) (s : State) → DescribesState self call s → DescribesState result call s }
-        ensures other { (call : Record) (s : State) → DescribesState other.now call s → DescribesState result call s }
+    pub fn join(&mut self, other: &Knowledge)
+        ensures one { (call : Record) (s : State) → DescribesState self.old call s → DescribesState self.new call s }
+        ensures other { (call : Record) (s : State) → DescribesState other.now call s → DescribesState self.new call s }
     {
         self.a = self.a.join(other.a);
         self.x = self.x.join(other.x);
         join_words(&mut self.words, &other.words);
-        self
     }
 }
 

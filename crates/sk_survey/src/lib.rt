@@ -8,6 +8,7 @@ mod follow;
 mod known;
 pub mod laws;
 mod merge;
+mod numbered;
 mod pass;
 mod rows;
 mod survey;

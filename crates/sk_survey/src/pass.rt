@@ -119,8 +119,8 @@ fn join_at(slots: &mut [Option<Knowledge>], place: usize, knowledge: &Knowledge)
     ensures others { (q : ℕ) → q ≢ place → slice_get slots.new q ≡ slice_get slots.old q }
     ensures alone { IsUnknown slots.old place → slice_get slots.new place ≡ Some (Some knowledge.now) }
 {
-    slots[place] = Some(match slots[place] {
+    match &mut slots[place] {
         Some(known) => known.join(knowledge),
-        None => *knowledge,
-    });
+        slot => *slot = Some(*knowledge),
+    }
 }

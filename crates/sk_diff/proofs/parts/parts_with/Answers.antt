@@ -5,12 +5,11 @@ use Rattle.sk_diff.specs.Pieces.{HoldParts, IsPairOf}
 use Rattle.sk_diff.proofs.PartsTold.{every_holds}
 use Rattle.sk_diff.proofs.parts.parts_with.Goals as goal
 
-pub returns-in-Some : goal.returns-in-Some
-returns-in-Some c = record {
-  hold = if_ok _ (λ parts. HoldParts c.args.chains parts.items) c.single.result
-      (λ parts same. subst (HoldParts c.args.chains) (sym same)
-      (every_holds c.args.chains c.in_ok-differences.differences c.in_ok-decision.decision c.in-Some.verdicts c.args.call
-      c.in_ok-differences.ensures.tells c.in_ok-decision.ensures.decides
-      (λ call. subst (λ pairs. IsPairOf c.args.chains.relation pairs (decided c.in_ok-decision.decision call) c.in-Some.verdicts) c.deref.ensures.value (c.in-Some.ensures.every call))
-      c.requires.apart)) c.single.ensures.single;
-}
+pub returns-in-Some-clause-hold : goal.returns-in-Some-clause-hold
+returns-in-Some-clause-hold c =
+    if_ok _ (λ parts. HoldParts c.args.chains parts.items) c.single.result
+    (λ parts same. subst (HoldParts c.args.chains) (sym same)
+    (every_holds c.args.chains c.in_ok-differences.differences c.in_ok-decision.decision c.in-Some.verdicts c.args.call
+    c.in_ok-differences.ensures.tells c.in_ok-decision.ensures.decides
+    (λ call. subst (λ pairs. IsPairOf c.args.chains.relation pairs (decided c.in_ok-decision.decision call) c.in-Some.verdicts) c.deref.ensures.value (c.in-Some.ensures.every call))
+    c.requires.apart)) c.single.ensures.single

@@ -1,0 +1,107 @@
+//! Where a program tests what comes from the call's number. It decides how sharp answers are, and never whether they are
+//! right.
+use sk_insn::{Insn, Operand, Operation, Register, decode};
+use std::alloc::{AllocError, Global};
+
+/// Which of A, X and the scratch words may hold what comes from the call's number.
+#[derive(Clone, Copy, Debug)]
+pub(crate) struct Numbered {
+    pub a: bool,
+    x: bool,
+    words: bool,
+}
+
+impl Numbered {
+    /// As a filter starts.
+    fn nothing() -> Numbered {
+        Numbered {
+            a: false,
+            x: false,
+            words: false,
+        }
+    }
+
+    /// Where ways meet: what either of them may.
+    fn or(self, other: Numbered) -> Numbered {
+        Numbered {
+            a: self.a || other.a,
+            x: self.x || other.x,
+            words: self.words || other.words,
+        }
+    }
+
+    fn holds(self, register: Register) -> bool {
+        match register {
+            Register::Accumulator => self.a,
+            Register::Index => self.x,
+        }
+    }
+
+    /// With another value in a register.
+    fn with(self, register: Register, is_numbered: bool) -> Numbered {
+        match register {
+            Register::Accumulator => Numbered {
+                a: is_numbered,
+                ..self
+            },
+            Register::Index => Numbered {
+                x: is_numbered,
+                ..self
+            },
+        }
+    }
+
+    /// After an instruction.
+    fn after(self, insn: &Insn) -> Numbered {
+        match decode(insn.code) {
+            Some(Operation::LoadRecord) => self.with(Register::Accumulator, insn.k == 0),
+            Some(Operation::LoadConstant(register) | Operation::LoadLength(register)) => self.with(
+                register, false,
+            ),
+            Some(Operation::LoadScratch(register)) => self.with(register, self.words),
+            Some(Operation::StoreScratch(register)) => Numbered {
+                words: self.words || self.holds(register),
+                ..self
+            },
+            Some(Operation::Compute(_, Operand::IndexRegister)) => self.with(
+                Register::Accumulator,
+                self.a || self.x,
+            ),
+            Some(Operation::CopyToIndex) => self.with(Register::Index, self.a),
+            Some(Operation::CopyToAccumulator) => self.with(Register::Accumulator, self.x),
+            _ => self,
+        }
+    }
+}
+
+/// What may come from the number before each instruction. Control only goes forwards, so one pass over the places is enough.
+pub(crate) fn numbered_at(alloc: Global, insns: &[Insn]) -> Result<Vec<Numbered>, AllocError> {
+    let mut places = vec![in alloc; Numbered::nothing(); insns.len()]?;
+    for (place, insn) in insns.iter().enumerate() {
+        if let Some(here) = places.get(place) {
+            let after = here.after(insn);
+            spread(&mut places, place, insn, after);
+        }
+    }
+    Ok(places)
+}
+
+/// Hands it on to the places where control can go.
+fn spread(places: &mut [Numbered], place: usize, insn: &Insn, after: Numbered) {
+    match decode(insn.code) {
+        Some(Operation::ReturnConstant | Operation::ReturnAccumulator) => {}
+        Some(Operation::Jump) => join(places, place, insn.k, after),
+        Some(Operation::Branch(_, _)) => {
+            join(places, place, u32::from(insn.jt), after);
+            join(places, place, u32::from(insn.jf), after);
+        }
+        _ => join(places, place, 0, after),
+    }
+}
+
+fn join(places: &mut [Numbered], place: usize, skip: u32, after: Numbered) {
+    let next = place.saturating_add(1).saturating_add(skip as usize);
+    if let Some(there) = places.get_mut(next) {
+        *there = there.or(after);
+    }
+}
