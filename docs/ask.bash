@@ -438,11 +438,11 @@ _ask() {
         mapfile -t COMPREPLY < <(compgen -W '5.4 5.10 5.15 6.1 6.6 6.12' -- "$word")
     elif [[ $word == -* ]]; then
         case $asked in
-        calls) mapfile -t COMPREPLY < <(compgen -W '--call --examples --cap --kernel --help' -- "$word") ;;
-        when) mapfile -t COMPREPLY < <(compgen -W '--call --dot --cap --kernel --help' -- "$word") ;;
-        diff) mapfile -t COMPREPLY < <(compgen -W '--stricter --cap --kernel --help' -- "$word") ;;
-        filter) mapfile -t COMPREPLY < <(compgen -W '--raw --cap --kernel --help' -- "$word") ;;
-        *) mapfile -t COMPREPLY < <(compgen -W '--cap --kernel --help' -- "$word") ;;
+        calls) mapfile -t COMPREPLY < <(compgen -W '--call --examples --cap --kernel --runc --help' -- "$word") ;;
+        when) mapfile -t COMPREPLY < <(compgen -W '--call --dot --cap --kernel --runc --help' -- "$word") ;;
+        diff) mapfile -t COMPREPLY < <(compgen -W '--stricter --cap --kernel --runc --help' -- "$word") ;;
+        filter) mapfile -t COMPREPLY < <(compgen -W '--raw --cap --kernel --runc --help' -- "$word") ;;
+        *) mapfile -t COMPREPLY < <(compgen -W '--cap --kernel --runc --help' -- "$word") ;;
         esac
     else
         compopt -o filenames 2>/dev/null

@@ -124,6 +124,13 @@ FILES = {
     "profile_clash": profile(entry("read", "SCMP_ACT_LOG"), entry("write", "SCMP_ACT_LOG", args=[argument(0, 1)]),
                              entry("write", "SCMP_ACT_KILL", args=[argument(1, 2)])),
     "profile_long": profile(*[entry("read", "SCMP_ACT_LOG", args=[argument(0, it << 32)]) for it in range(1000)]),
+    "profile_runc": profile(entry("getpid"), default="SCMP_ACT_ERRNO", architectures=["SCMP_ARCH_X86_64"]),
+    "profile_x32": profile(entry("getpid"), default="SCMP_ACT_ERRNO", architectures=["SCMP_ARCH_X86_64", "SCMP_ARCH_X32"]),
+    "profile_mapped": profile(entry("getpid"), default="SCMP_ACT_TRAP", archMap=[{"architecture": "SCMP_ARCH_X86_64"}]),
+    **{f"profile_{it}": profile(entry("getpid"), default=f"SCMP_ACT_{it.upper()}", architectures=["SCMP_ARCH_X86_64"]) for it in (
+        "log", "trace")},
+    "profile_unlisted": profile(entry("getpid"), default="SCMP_ACT_ERRNO"),
+    "profile_none": profile(default="SCMP_ACT_ERRNO", architectures=["SCMP_ARCH_X86_64"]),
     "profile_noted": profile(entry("getpid", "SCMP_ACT_ERRNO"), entry("opennat", "SCMP_ACT_LOG")),
 }
 
@@ -142,7 +149,7 @@ class Row(NamedTuple):
 GOT = "39 getpid errno/1 EPERM\n"
 LINE = line(GETPID).decode()
 NO_CALL = "holds no call: expected lines as strace -f -X raw -e raw=all writes them"
-NO_FILTER = "holds no filter: expected bytes of struct sock_filter, hexadecimal digits or lines filter HEX"
+NO_FILTER = "holds no filter: expected bytes of struct sock_filter, hexadecimal digits, lines filter HEX, or a profile in JSON"
 
 
 def record(number, first=0):
@@ -196,6 +203,7 @@ def wrong(number):
 
 
 NOTE = "ask: profile_noted: entry 2 of syscalls: no call is named opennat: passed over\n"
+NO_X32 = "ask: profile_x32: x86-64's part alone: its other architectures have no filter here\n"
 PROFILES = [
     *[good(f"ask calls --call getpid {name}", GOT) for name in ("profile", "profile_blank", "- < profile", "/dev/stdin < profile", "<(cat profile)")],
     good("cat profile | ask calls --call getpid -", GOT), good("cat profile | ask calls --call getpid /dev/stdin", GOT),
@@ -206,6 +214,20 @@ PROFILES = [
     *[good(f"ask calls --call read --cap {caps} profile", "0 read log\n") for caps in ("docker", "CAP_SYS_NICE", "net_raw --cap kill")],
     *[good(f"ask calls --call ptrace --kernel {kernel} profile", f"101 ptrace {verdict}\n") for kernel, verdict in (
         ("4.8", "allow"), ("4.7", "kill_thread"), ("5.0", "allow"), ("6.12", "allow"), ("3.19", "kill_thread"))],
+    *[good(f"ask calls --runc --call {nr} profile_runc", f"{nr} {told}\n") for nr, told in (
+        (38, "setitimer errno/1 EPERM"), (39, "getpid allow"), (40, "sendfile errno/38 ENOSYS"), (1073741823, "- errno/38 ENOSYS"),
+        (1073741824, "- kill_thread"), (2147483647, "- kill_thread"), (2147483648, "- errno/38 ENOSYS"), (3221225471, "- errno/38 ENOSYS"),
+        (3221225472, "- kill_thread"), (4294967294, "- kill_thread"), (4294967295, "- errno/1 EPERM"))],
+    *[Row(f"ask calls --runc --call {nr} profile_x32", 0, NO_X32, f"{nr} {told}\n") for nr, told in (
+        (40, "sendfile errno/38 ENOSYS"), (1073741824, "- kill_thread"), (4294967294, "- kill_thread"), (4294967295, "- errno/38 ENOSYS"))],
+    *[good(f"ask calls {asking}", f"40 sendfile {told}\n") for asking, told in (
+        ("--call 40 profile_runc", "errno/1 EPERM"), ("--runc --call 40 profile_mapped", "errno/38 ENOSYS"),
+        ("--runc --call 40 profile_log", "log"), ("--runc --call 40 profile_trace", "trace/1"), ("--runc --call 40 profile_unlisted", "errno/1 EPERM"),
+        ("--runc --call 40 profile_none", "errno/1 EPERM"), ("--call 40 --cap all --runc --kernel 6.1 profile_runc --runc", "errno/38 ENOSYS"))],
+    *[good(f"ask {asking}", answer) for asking, answer in (
+        ("calls --runc --call getpid raw", GOT), ("filter --runc --raw all | ask diff --runc - all", "the same on every call\n"),
+        ("why --runc getpid raw", GETPID_PATH), ("when --runc --call getpid raw", GOT), ("diff --stricter --runc all all", "as strict on every call\n"),
+        ("replay --runc log all | wc -l", "3\n"), ("show --runc all | head -n 1", "; 0 allow\n"))],
     *[good(f"ask diff {pair}", "the same on every call\n") for pair in ("profile profile", "profile_blank profile", "profile - < profile")],
     good("ask diff --cap all <(ask filter --cap all profile) profile", "the same on every call\n"),
     good("ask filter --raw profile | ask diff profile -", "the same on every call\n"), good("ask show profile | head -n 1", "; 0 arch\n"),
@@ -325,6 +347,8 @@ WORDS = [
         "x", "", "6", "6.", ".1", "6.1.0", "v6.1", "6,1", " 6.1", "-1.0", "6.1-rc1", "99999999999.1")],
     trouble("ask calls --kernel 6.1 --kernel 6.1 raw", "calls: given twice: --kernel"), trouble("ask filter --cap nil --help", "filter: no capability is named nil"),
     trouble("ask --cap docker calls raw", "no word is named --cap"), trouble("ask calls --cap=docker raw", "calls: no option is named --cap=docker"),
+    trouble("ask calls --runc=1.1 raw", "calls: no option is named --runc=1.1"), trouble("ask filter --run raw", "filter: no option is named --run"),
+    trouble("ask --runc", "no word is named --runc"), trouble("ask filter --runc", "filter: no FILE is given"),
 ]
 # What is said of one FILE, whatever is asked of it.
 NO_LINE, ODD = "expected filter HEX", "has an odd number of hexadecimal digits: expected two for each byte"

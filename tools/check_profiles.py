@@ -5,9 +5,10 @@ check_profiles.py [PROFILE..]: of each profile, and else of those of examples/pr
 of examples/profiles/libseccomp with its name, as a list of comparisons and as a binary tree, are the same on every call,
 without a capability, with docker's fourteen, and with all; on the kernel that they were made for. Standard error may have
 nothing but that the profile names other architectures too. Where the filters of two sets of capabilities differ, it has to show a call. And the filter that `ask filter` writes has
-to be the same as the profile, as lines and as raw bytes, and with itself as one chain.
+to be the same as the profile, as lines and as raw bytes, and with itself as one chain. The filters of examples/profiles/runc, with
+its name, have to be the same with --runc, and not without it.
 
-tools/libseccomp_filters made these filters. Prints each problem, and at last 'N passed, M failed'."""
+tools/libseccomp_filters made the first, and `examples/attached runc run` showed the others. Prints each problem, and at last 'N passed, M failed'."""
 import os
 import subprocess
 import sys
@@ -58,6 +59,18 @@ def made(profile, caps, folder):
     return paths
 
 
+def check_runc(profile, name):
+    """Those with the filters that runc attached."""
+    for caps in CAPS:
+        path = os.path.join(PROFILES, "runc", f"{name}-{caps}.hex")
+        if os.path.exists(path):
+            for pair in ((profile, path), (path, profile)):
+                said = diff("--runc", *options_of(caps), *pair)
+                yield f"{name} {caps} runc", None if said == SAME else said
+            said = diff(*options_of(caps), profile, path)
+            yield f"{name} {caps} without --runc", None if said[0] == 1 and " -> errno/38 ENOSYS\n" in said[1] else said
+
+
 def check(profile):
     """Each comparison, by what it is of, with what is wrong with it."""
     name = os.path.basename(profile).removesuffix(".json")
@@ -72,6 +85,7 @@ def check(profile):
             said = diff(*options_of(held), profile, filters[other, "tree"])
             is_well = said == SAME if same == SAME else said[0] == 1 and said[2] == "" and "\n  record " in said[1]
             yield f"{name} {held} beside {other}", None if is_well else said
+    yield from check_runc(profile, name)
     with tempfile.TemporaryDirectory() as folder:
         for caps in CAPS:
             files = made(profile, caps, folder)

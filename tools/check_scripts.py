@@ -93,6 +93,12 @@ ATTACHED = [
     Row("examples/attached nosuchcommand", 127, r"attached: nosuchcommand: .*\n", r"unread\n"),
     Row("examples/attached", 125, r"usage: attached .*\n", r"unread\n"),
 ]
+# What is made of profiles, where Python has libseccomp's module and where it has not.
+MADE = [
+    Row("tools/libseccomp_filters $room $room/none.json", 2, r"libseccomp_filters: .*\n", ""),
+    Row("tools/libseccomp_filters $room gate", 2, r"libseccomp_filters: .*\n", ""),
+    Row("echo [1] > $room/list.json; tools/libseccomp_filters $room $room/list.json", 2, r"libseccomp_filters: .*\n", ""),
+]
 # Each program under the stack that is named, on input that takes as much of its depth as any that is known.
 UNDER_STACK = [
     Row("{ echo record $openat; for turn in $(seq 24); do ./ask filter $tree; done; } > $room/in; narrow skern eval | tail -n 1", 0, "",
@@ -146,7 +152,8 @@ def judged(row, folder):
 def main(words):
     folder = os.path.abspath(words[0]) if words else ROOT
     passed = failed = 0
-    for row in GOOD + ASKED + ATTACHED + UNDER_STACK:
+    made = MADE if os.path.exists(f"{folder}/tools") else []
+    for row in GOOD + ASKED + ATTACHED + made + UNDER_STACK:
         try:
             problems = judged(row, folder)
         except subprocess.TimeoutExpired:

@@ -1,7 +1,8 @@
 """Random profiles as container runtimes have them, what they say of a call, and calls at the borders of what they compare.
 
 The values stand at the borders of 32 and 64 bits on purpose. What a profile says is the OCI runtime specification's
-config-linux.md: a rule without conditions for a call, before the first whose conditions all hold, before the default."""
+config-linux.md: a rule without conditions for a call, before the first whose conditions all hold, before the default. Where
+runc attaches the filter, numbers above the greatest that is named are refused before (its patchbpf/enosys_linux.go)."""
 import json
 import random
 from typing import NamedTuple
@@ -31,6 +32,8 @@ TESTS = {
 }
 # Numbers of the x32 ABI are no calls of x86-64: libseccomp kills the thread.
 FIRST_X32, LAST_X32, KILL_THREAD = 0x40000000, 0xFFFFFFFE, 0
+# What runc answers to a number that it knows no call of, and the defaults at which it does not.
+NO_CALL, PERFORMED = 0x50026, ("SCMP_ACT_ALLOW", "SCMP_ACT_LOG")
 
 
 class Condition(NamedTuple):
@@ -66,17 +69,30 @@ class Rule(NamedTuple):
 class Profile(NamedTuple):
     default: tuple[str, int | None]
     rules: tuple[Rule, ...]
+    x32: bool = False
+    runc: bool = False
 
     def document(self) -> dict:
         action, number = self.default
         made: dict = {"defaultAction": action} if number is None else {"defaultAction": action, "defaultErrnoRet": number}
-        return {**made, "architectures": ["SCMP_ARCH_X86_64"], "syscalls": [it.entry() for it in self.rules]}
+        architectures = ["SCMP_ARCH_X86_64", "SCMP_ARCH_X32"] if self.x32 else ["SCMP_ARCH_X86_64"]
+        return {**made, "architectures": architectures, "syscalls": [it.entry() for it in self.rules]}
 
     def text(self) -> str:
         return json.dumps(self.document())
 
+    def is_unknown(self, number: int) -> bool:
+        """Whether runc has the call fail by itself."""
+        if not self.runc or self.default[0] in PERFORMED:
+            return False
+        if number & FIRST_X32:
+            return self.x32 and number > LAST_X32
+        return 0 < max((NAMES[it.name] for it in self.rules), default=0) < number
+
     def says(self, number: int, args: tuple[int, ...]) -> int:
         """The value that a filter is to return for this call."""
+        if self.is_unknown(number):
+            return NO_CALL
         if FIRST_X32 <= number <= LAST_X32:
             return KILL_THREAD
         rules = [it for it in self.rules if NAMES[it.name] == number]
@@ -114,5 +130,7 @@ def calls(given: Profile, dice: random.Random) -> list[tuple[int, tuple[int, ...
                 if dice.random() < 0.8:
                     args[asked.index] = asked.near(dice)
             found.append((NAMES[it.name], tuple(args)))
-    numbers = [*NAMES.values(), 4, 600, FIRST_X32 - 1, FIRST_X32, LAST_X32, LAST_X32 + 1]
+    named = list(NAMES.values())
+    numbers = [*named, *(it + 1 for it in named), 600, 1023, 1024, FIRST_X32 - 1, FIRST_X32, 2 * FIRST_X32 - 1, 2 * FIRST_X32]
+    numbers += [3 * FIRST_X32 - 1, 3 * FIRST_X32, LAST_X32, LAST_X32 + 1]
     return found + [(it, tuple(dice.choice(VALUES) for _ in range(6))) for it in numbers]

@@ -49,11 +49,11 @@ lent_now (name ∷ names) = ap (λ more. name ∷ more) (lent_now names)
 -- some context is the one that is asked for
 abbrev context_for : Question → Context
 context_for asked =
-    record { capabilities = record { ref_ptr = (0, 0); now = lent asked.caps }; kernel = unwrap_or asked.kernel newest }
+    record { capabilities = record { ref_ptr = (0, 0); now = lent asked.caps }; kernel = unwrap_or asked.kernel newest; runc = asked.runc }
 
 no_answer_there : (held : List ℕ → Option (List ℕ)) (word : Word) (asked : Question) → AnswersThere held word asked no_memory
 no_answer_there held word asked =
-    (context_for asked, (lent_now asked.caps, refl), no_answer held (context_for asked) word asked)
+    (context_for asked, (lent_now asked.caps, refl, refl), no_answer held (context_for asked) word asked)
 
 asked_wrong : (held : List ℕ → Option (List ℕ)) (word : Word) (said : Result Question (List ℕ)) (why : Trouble) → Asks (Err why) said → AnswersAsked held word said (ending_of (Err why))
 asked_wrong held word said (Refused line) h = subst (λ s. AnswersAsked held word s (refused line.items)) (sym h) refl

@@ -15,12 +15,13 @@ use Rattle.sk_ask.specs.declared.words.Word.{Word}
 use Rattle.sk_ask.specs.declared.words.Word.TheVariants.{Calls, Filter, When, Diff, Replay, Why, Show}
 
 -- the word behind `--call`, the capabilities behind each `--cap`, and the version behind `--kernel`; the option whose word is
--- awaited; whether there was `--examples`, `--dot`, `--raw`, `--stricter` or `--help`; and the names of the files
+-- awaited; whether there was `--runc`, `--examples`, `--dot`, `--raw`, `--stricter` or `--help`; and the names of the files
 pub record Question : Type 0 where
   pub call : Option (List ℕ)
   pub caps : List (List ℕ)
   pub kernel : Option Version
   pub awaits : Option Valued
+  pub runc : Bool
   pub examples : Bool
   pub dot : Bool
   pub raw : Bool
@@ -34,6 +35,7 @@ nothing_asked = record {
   caps = [];
   kernel = None;
   awaits = None;
+  runc = false;
   examples = false;
   dot = false;
   raw = false;
@@ -133,17 +135,22 @@ with_value word Kernel asked text = with_kernel word asked (kernel_of text)
 
 -- ---- one word more
 
--- an option of this word that stands alone
-abbrev pub with_flag : Word → Question → List ℕ → Result Question (List ℕ)
-with_flag Calls asked text =
+-- an option that stands alone: one of this word
+abbrev pub with_own_flag : Word → Question → List ℕ → Result Question (List ℕ)
+with_own_flag Calls asked text =
     if bytes_eq text (codes "--examples") then Ok (record asked { examples = true }) else with_name Calls asked text
-with_flag Filter asked text =
+with_own_flag Filter asked text =
     if bytes_eq text (codes "--raw") then Ok (record asked { raw = true }) else with_name Filter asked text
-with_flag When asked text =
+with_own_flag When asked text =
     if bytes_eq text (codes "--dot") then Ok (record asked { dot = true }) else with_name When asked text
-with_flag Diff asked text =
+with_own_flag Diff asked text =
     if bytes_eq text (codes "--stricter") then Ok (record asked { stricter = true }) else with_name Diff asked text
-with_flag word asked text = with_name word asked text
+with_own_flag word asked text = with_name word asked text
+
+-- or that of all words, where there may be a profile
+abbrev pub with_flag : Word → Question → List ℕ → Result Question (List ℕ)
+with_flag word asked text =
+    if bytes_eq text (codes "--runc") then Ok (record asked { runc = true }) else with_own_flag word asked text
 
 abbrev pub with_option : Word → Question → List ℕ → Option Valued → Result Question (List ℕ)
 with_option word asked text (Some option) = with_valued word option asked
@@ -227,6 +234,7 @@ question_of asked = record {
   caps = map (λ name. name.now) asked.caps.items;
   kernel = asked.kernel;
   awaits = asked.awaits;
+  runc = asked.runc;
   examples = asked.examples;
   dot = asked.dot;
   raw = asked.raw;

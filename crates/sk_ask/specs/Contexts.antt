@@ -8,7 +8,9 @@ use Rattle.sk_ask.specs.Asking.{Question}
 abbrev pub newest : Kernel
 newest = record { major = 6; minor = 12 }
 
--- the capabilities that are named are held, and no others; where no kernel is named it is the newest
+-- the capabilities that are named are held, and no others; where no kernel is named it is the newest; and runc attaches the
+-- filter where that is said
 abbrev pub IsContextOf : Question → Context → Type 0
 IsContextOf asked context =
     (map (λ name. name.now) context.capabilities.now ≡ asked.caps) × (context.kernel ≡ unwrap_or asked.kernel newest)
+    × (context.runc ≡ asked.runc)

@@ -2,7 +2,7 @@
 ghost use Rattle.std.specs.Prelude.{◌≡◌, ◌≤◌, true, false, [], IfOk, IsSome, Ok, length, map, string_bytes};
 ghost use Rattle.sk_ask_filters.specs.Counts.{CountsReads};
 ghost use Rattle.sk_ask.specs.Answering.{AnswersWords, AnswersAsked, AnswersThere, AnswersQuestion};
-ghost use Rattle.sk_ask.specs.Asking.{question_of, asked_of, nothing_asked, wanted};
+ghost use Rattle.sk_ask.specs.Asking.{question_of, asked_of, nothing_asked, tells_calls, wanted};
 ghost use Rattle.sk_ask.specs.Endings.{Complains, answered, ending_of, wordless_line, written};
 ghost use Rattle.sk_ask.specs.Telling.{Told};
 
@@ -124,13 +124,56 @@ fn question_answer<S: Shelf>(
     ensures counted { CountsReads result reads.old reads.new }
 {
     match word {
-        Word::Calls => calls(alloc, asked, shelf, context, reads),
+        Word::Calls | Word::When => calls_answer(alloc, word, asked, shelf, context, reads),
         Word::Filter => filter(alloc, asked, shelf, context, reads),
+        Word::Show => show(alloc, asked, shelf, context, reads),
+        Word::Diff | Word::Replay | Word::Why => {
+            two_answer(alloc, word, asked, shelf, context, reads)
+        }
+    }
+}
+
+// Of a word that tells of each call.
+fn calls_answer<S: Shelf>(
+    alloc: Global,
+    word: Word,
+    asked: &Asked<'_>,
+    shelf: &S,
+    context: &Context<'_>,
+    reads: &mut u64,
+) -> Result<Answer, Trouble>
+    requires calls { tells_calls word ≡ true }
+    requires named { length (wanted word) ≤ length asked.now.names.items }
+    requires called { asked.now.dot ≡ true → IsSome asked.now.call }
+    ensures told { AnswersQuestion (S.held shelf.now) context.now word (question_of asked.now) (ending_of result) }
+    ensures counted { CountsReads result reads.old reads.new }
+{
+    match word {
+        Word::Calls => calls(alloc, asked, shelf, context, reads),
         Word::When => when(alloc, asked, shelf, context, reads),
+        _ => unreachable!(),
+    }
+}
+
+// Of a word that wants two names.
+fn two_answer<S: Shelf>(
+    alloc: Global,
+    word: Word,
+    asked: &Asked<'_>,
+    shelf: &S,
+    context: &Context<'_>,
+    reads: &mut u64,
+) -> Result<Answer, Trouble>
+    requires two { length (wanted word) ≡ 2 }
+    requires named { length (wanted word) ≤ length asked.now.names.items }
+    ensures told { AnswersQuestion (S.held shelf.now) context.now word (question_of asked.now) (ending_of result) }
+    ensures counted { CountsReads result reads.old reads.new }
+{
+    match word {
         Word::Diff => diff(alloc, asked, shelf, context, reads),
         Word::Replay => replay(alloc, asked, shelf, context, reads),
         Word::Why => why(alloc, asked, shelf, context, reads),
-        Word::Show => show(alloc, asked, shelf, context, reads),
+        _ => unreachable!(),
     }
 }
 

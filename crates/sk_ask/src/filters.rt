@@ -24,6 +24,7 @@ pub fn context_of<'a>(asked: &'a Asked<'_>) -> Context<'a>
     Context {
         capabilities: &asked.caps,
         kernel: asked.kernel.unwrap_or(NEWEST),
+        runc: asked.runc,
     }
 }
 

@@ -19,6 +19,7 @@ JSON, which stands for its filter; - is standard input. Several FILEs are one ch
 Where a FILE is a profile, each WORD takes
   --cap NAME        a capability that is held there, as CAP_SYS_ADMIN, or docker, or all; as often as there are; else none is
   --kernel VERSION  the kernel there, as 6.1; else it is 6.12
+  --runc            as runc attaches it, which has calls above the greatest number that is named fail with ENOSYS
 Status: 0 yes or answered, 1 answered with no, 2 trouble, which standard error tells.
 ";
 
@@ -27,14 +28,14 @@ pub const CALLS_HELP: &str = "usage: ask calls [--call CALL] [--examples] FILE..
 For each call of x86-64, by its number and its name, the verdicts that the filters in the FILEs can come to.
   --call CALL   only this call: a name or a number, decimal or 0x and hexadecimal
   --examples    below each line a call for each verdict, or ? where none was found
-A FILE may be a profile, and then --cap and --kernel say where it is to hold: ask --help has them.
+A FILE may be a profile, and then --cap, --kernel and --runc say where it is to hold: ask --help has them.
 ";
 
 /// What `ask filter --help` says.
 pub const FILTER_HELP: &str = "usage: ask filter [--raw] FILE..
 The filters in the FILEs as lines filter HEX, the oldest first.
   --raw         one filter as the bytes of struct sock_filter
-A FILE may be a profile, and then --cap and --kernel say where it is to hold: ask --help has them.
+A FILE may be a profile, and then --cap, --kernel and --runc say where it is to hold: ask --help has them.
 ";
 
 /// What `ask when --help` says.
@@ -43,7 +44,7 @@ For each call of x86-64, by its number and its name, the verdicts of the filters
 condition on each as an expression of C over args[0] to args[5], ip, and nr where a line has several numbers.
   --call CALL   only this call: a name or a number, decimal or 0x and hexadecimal
   --dot         a picture of the call's conditions and verdicts, as text for Graphviz
-A FILE may be a profile, and then --cap and --kernel say where it is to hold: ask --help has them.
+A FILE may be a profile, and then --cap, --kernel and --runc say where it is to hold: ask --help has them.
 ";
 
 /// What `ask diff --help` says.
@@ -51,7 +52,7 @@ pub const DIFF_HELP: &str = "usage: ask diff [--stricter] OLD NEW
 Whether the filters of two FILEs answer the same to every call of x86-64, whatever its arguments are; and where not, the numbers
 with the old and the new verdict, and below them a call that shows it, those first where NEW is looser.
   --stricter    whether NEW is at least as strict: no action of OLD takes precedence over that of NEW
-A FILE may be a profile, and then --cap and --kernel say where it is to hold: ask --help has them.
+A FILE may be a profile, and then --cap, --kernel and --runc say where it is to hold: ask --help has them.
 ";
 
 /// What `ask replay --help` says.
@@ -59,7 +60,7 @@ pub const REPLAY_HELP: &str = "usage: ask replay LOG FILE..
 The calls in LOG, which strace -f -X raw -e raw=all -o LOG COMMAND wrote: each once, with how often it was made and the verdict
 of the filters in the FILEs, those first that are not performed; then how many lines are no calls, or are not understood.
 Status 1 where a call is not performed, or a line not understood. LOG has at most 268435456 bytes; - is standard input.
-A FILE may be a profile, and then --cap and --kernel say where it is to hold: ask --help has them.
+A FILE may be a profile, and then --cap, --kernel and --runc say where it is to hold: ask --help has them.
 ";
 
 /// What `ask why --help` says.
@@ -68,7 +69,7 @@ The instructions of each filter that one call of x86-64 comes to, the newest fil
 X hold behind it, what a jump compared and where it went; then the verdict, and the filter and the place that it comes from.
 CALL is a name or a number, decimal or 0x and hexadecimal; an ARG, of at most six, a number of 64 bits, or - and one of at most 2^63.
 Arguments that are not given are 0, and so is the instruction pointer.
-A FILE may be a profile, and then --cap and --kernel say where it is to hold: ask --help has them.
+A FILE may be a profile, and then --cap, --kernel and --runc say where it is to hold: ask --help has them.
 ";
 
 /// What `ask show --help` says.
@@ -76,7 +77,7 @@ pub const SHOW_HELP: &str = "usage: ask show FILE
 The instructions of one filter, with labels where jumps go, and above each as a comment its place and what it is about: the field
 that it loads, the call or the architecture that it compares with, the verdict that it returns. skern asm takes the text, and
 gives the same instructions.
-A FILE may be a profile, and then --cap and --kernel say where it is to hold: ask --help has them.
+A FILE may be a profile, and then --cap, --kernel and --runc say where it is to hold: ask --help has them.
 ";
 
 /// What `ask WORD --help` says.

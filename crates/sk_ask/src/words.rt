@@ -3,7 +3,7 @@ ghost use Rattle.std.specs.Prelude.{◌≡◌, ◌≤◌, ◌∷◌, IfOk, lengt
 ghost use Rattle.std.specs.Option.{option_map};
 ghost use Rattle.sk_profile_json.specs.Contexts.{kernel_of};
 ghost use Rattle.sk_profile_file.specs.Capabilities.{capability};
-ghost use Rattle.sk_ask.specs.Asking.{asked_of, nothing_asked, with_word, with_free, with_option, with_valued, with_value, with_caps, with_kernel, with_flag, with_name, valued_name, valued_named, value_kind, tells_calls, is_given, expected_line, ended, complete, named, none_missing, two_named, missing, wanted, is_option, question_of, word_named, word_name, Asks, HasCall, HasNames};
+ghost use Rattle.sk_ask.specs.Asking.{asked_of, nothing_asked, with_word, with_free, with_option, with_valued, with_value, with_caps, with_kernel, with_flag, with_own_flag, with_name, valued_name, valued_named, value_kind, tells_calls, is_given, expected_line, ended, complete, named, none_missing, two_named, missing, wanted, is_option, question_of, word_named, word_name, Asks, HasCall, HasNames};
 
 use sk_ask_filters::{Trouble, of_word};
 use sk_profile_file::capability;
@@ -136,6 +136,8 @@ pub struct Asked<'a> {
     pub kernel: Option<Kernel>,
     /// The last word was this option.
     pub awaits: Option<Valued>,
+    /// runc attaches the filter.
+    pub runc: bool,
     pub examples: bool,
     pub dot: bool,
     pub raw: bool,
@@ -166,6 +168,7 @@ pub fn asked_in<'a>(alloc: Global, word: Word, words: &'a [String]) -> Result<As
         caps: Vec::new(alloc),
         kernel: None,
         awaits: None,
+        runc: false,
         examples: false,
         dot: false,
         raw: false,
@@ -312,6 +315,23 @@ fn with_flag<'a>(
     text: &String,
 ) -> Result<Asked<'a>, Trouble>
     ensures exact { Asks result (with_flag word (question_of asked.entry) (string_bytes text.now)) }
+{
+    if is_word(text.as_bytes(), b"--runc") {
+        return Ok(Asked {
+            runc: true,
+            ..asked
+        });
+    }
+    with_own_flag(alloc, word, asked, text)
+}
+
+fn with_own_flag<'a>(
+    alloc: Global,
+    word: Word,
+    asked: Asked<'a>,
+    text: &String,
+) -> Result<Asked<'a>, Trouble>
+    ensures exact { Asks result (with_own_flag word (question_of asked.entry) (string_bytes text.now)) }
 {
     let bytes = text.as_bytes();
     match word {

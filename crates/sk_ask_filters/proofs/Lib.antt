@@ -1,3 +1,4 @@
 pub mod Wholes
 pub mod Among
 pub mod Standing
+pub mod Images

@@ -3,3 +3,4 @@ pub mod Counts
 pub mod Shelves
 pub mod Expanding
 pub mod Filters
+pub mod Images

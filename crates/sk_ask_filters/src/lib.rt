@@ -5,6 +5,7 @@
 mod complaint;
 mod expansion;
 mod filters;
+pub mod laws;
 mod shelf;
 mod trouble;
 

@@ -119,11 +119,11 @@ const TROUBLES: &[(&[&str], &[u8])] = &[
     ),
     (
         &["diff", "empty", "all"],
-        b"ask: empty: holds no filter: expected bytes of struct sock_filter, hexadecimal digits or lines filter HEX\n",
+        b"ask: empty: holds no filter: expected bytes of struct sock_filter, hexadecimal digits, lines filter HEX, or a profile in JSON\n",
     ),
     (
         &["filter", "all", "empty"],
-        b"ask: empty: holds no filter: expected bytes of struct sock_filter, hexadecimal digits or lines filter HEX\n",
+        b"ask: empty: holds no filter: expected bytes of struct sock_filter, hexadecimal digits, lines filter HEX, or a profile in JSON\n",
     ),
     (
         &["filter", "words", "all"],

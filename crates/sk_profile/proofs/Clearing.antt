@@ -17,10 +17,10 @@ use Rattle.sk_profile.specs.declared.fault.ProfileFault.TheVariants.{Clashes}
 use Rattle.sk_profile.specs.declared.profile.Profile.{Profile as ProfileOfCode}
 use Rattle.sk_profile.specs.Clashes.{range_of, ranges_apart, not_met, masks_apart, excludes, told_apart, may_clash, never_clash, AreClear, IsClear, MayClash}
 use Rattle.sk_profile.specs.Faults.{IsFaultOf}
-use Rattle.sk_profile.specs.Profiles.{Profile, is_x32, saying_of_rules, saying_for}
+use Rattle.sk_profile.specs.Profiles.{Profile, is_unknown, is_x32, saying_of_rules, saying_for}
 use Rattle.sk_profile.specs.Rows.{AreGood}
 use Rattle.sk_profile.specs.Views.{profile_of}
-use Rattle.sk_profile.proofs.Starts.{default_above}
+use Rattle.sk_profile.proofs.Starts.{default_above, said_below}
 
 -- an argument has 64 bits
 fits : (call : Record) → IsCall call → (i : ℕ) → slice_index_or call.args i 0 < 2 ^ 64
@@ -153,18 +153,23 @@ never_clash_is_clear (arm ∷ arms) e call one other is (suc k, d, here) (suc j,
     never_clash_is_clear arms (and_parts _ _ e).1 call one other is (k, omega (arith, d), here) (j, omega (arith, f), there) holds too
 
 -- two rules for a number of x86-64 that may clash are a fault of the profile
-pub clash_of : (profile : Profile) (saying : Saying) (it : Clash) → it.number < 1024 → saying ≡ saying_of_rules profile it.number → MayClash saying.arms it.first it.second → IsFaultOf profile (Clashes it)
-clash_of profile saying it low is clash =
-    rw (lt-leb 0x40000000 it.number (omega (arith, low))) (subst (λ (said : Saying). MayClash said.arms it.first it.second) is clash)
+pub clash_of : (profile : Profile) (saying : Saying) (it : Clash) → it.number < 1024 → is_unknown profile it.number ≡ false → saying ≡ saying_of_rules profile it.number
+    → MayClash saying.arms it.first it.second → IsFaultOf profile (Clashes it)
+clash_of profile saying it low known is clash =
+    subst (λ (said : Saying). MayClash said.arms it.first it.second) (is ∙ sym (said_below profile it.number low known)) clash
 
 -- where no two may clash for these, none may for any number
-pub all_clear : (profile : ProfileOfCode) → AreGood profile → ((nr : ℕ) → nr < 1024 → AreClear (saying_of_rules (profile_of profile) nr).arms) → IsClear (profile_of profile)
+pub all_clear : (profile : ProfileOfCode) → AreGood profile → ((nr : ℕ) → nr < 1024 → AreClear (saying_for (profile_of profile) nr).arms) → IsClear (profile_of profile)
 unfolding never_clash
 all_clear profile good low nr small =
     elim (cases_lt nr 1024) [
-      | inl below ↦ rw (lt-leb 0x40000000 nr (omega (arith, below))) (low nr below)
-      | inr up ↦ by (is_x32 nr) refl up
+      | inl below ↦ low nr below
+      | inr up ↦ by (is_unknown (profile_of profile) nr) refl up
     ] where
-      by : (x32 : Bool) → is_x32 nr ≡ x32 → 1024 ≤ nr → AreClear (saying_for (profile_of profile) nr).arms
+      of_known : (x32 : Bool) → is_unknown (profile_of profile) nr ≡ false → is_x32 nr ≡ x32 → 1024 ≤ nr → AreClear (saying_for (profile_of profile) nr).arms
+      of_known true known e up = rw known (rw e (never_clash_is_clear [] refl))
+      of_known false known e up = rw known (rw e (rw (default_above profile nr good up) (never_clash_is_clear [] refl)))
+
+      by : (unknown : Bool) → is_unknown (profile_of profile) nr ≡ unknown → 1024 ≤ nr → AreClear (saying_for (profile_of profile) nr).arms
       by true e up = rw e (never_clash_is_clear [] refl)
-      by false e up = rw e (rw (default_above profile nr good up) (never_clash_is_clear [] refl))
+      by false e up = of_known (is_x32 nr) e refl up

@@ -2,3 +2,4 @@ pub mod Starts
 pub mod Places
 pub mod Clearing
 pub mod Judging
+pub mod Worked

@@ -1,5 +1,5 @@
 -- What rows say from one more start on, and behind the last.
-use Rattle.std.proofs.Common.{◌≡◌, ℕ, ◌+◌, ◌-◌, ◌<◌, ◌≤◌, nat_le, ◌^◌, inl, inr, Bool, true, false, if◌then◌else◌, List, [], ◌∷◌, ◌++◌, map, length, Some, None, slice_get, refl, sym, ap, ◌∙◌, subst, arith, append_assoc}
+use Rattle.std.proofs.Common.{◌≡◌, ◌≢◌, ◌==◌, ◌&&◌, ℕ, ◌+◌, ◌*◌, ◌/◌, ◌%◌, ◌-◌, ◌<◌, ◌≤◌, nat_le, ◌^◌, inl, inr, Bool, true, false, if◌then◌else◌, List, [], ◌∷◌, ◌++◌, map, length, Some, None, slice_get, refl, sym, ap, ◌∙◌, subst, arith, append_assoc}
 use Rattle.std.specs.Prelude.{All}
 use Rattle.std.proofs.lemmas.Bool.{cases_lt, leb-true, leb-false, le-leb, lt-leb, lt-ltb, le-ltb, eq-eqb, ne_eqb}
 use Rattle.std.proofs.lemmas.List.{map-append}
@@ -11,7 +11,7 @@ use Rattle.sk_profile_code.specs.declared.saying.Saying.{Saying as SayingOfCode}
 use Rattle.sk_profile_code.specs.Views.{saying_of, row_of, IsSayingOfCode, IsRowOfCode, AreRising, AreRows}
 use Rattle.sk_profile.specs.declared.profile.Rule.{Rule as RuleOfCode}
 use Rattle.sk_profile.specs.declared.profile.Profile.{Profile as ProfileOfCode}
-use Rattle.sk_profile.specs.Profiles.{plain_rule, arms_for, arm_of_rule, saying_of_rules, saying_for}
+use Rattle.sk_profile.specs.Profiles.{Profile, plain_rule, arms_for, arm_of_rule, saying_of_rules, saying_for, always, is_x32, no_call, greater, greatest, has_x32_bit, is_unknown}
 use Rattle.sk_profile.specs.Views.{rule_of, profile_of}
 use Rattle.sk_profile.specs.Rows.{StartBelow, IsGood, AreGood}
 
@@ -99,27 +99,148 @@ pub default_above : (profile : ProfileOfCode) (nr : ℕ) → AreGood profile →
 default_above profile nr good up =
     rw (no_plain profile.rules.items nr good up) (rw (no_arms profile.rules.items nr good up) refl)
 
--- all four parts of the numbers
-pub all_said : (profile : ProfileOfCode) (said : ℕ → Saying) (nr : ℕ) → AreGood profile → (nr < 1024 → said nr ≡ saying_of_rules (profile_of profile) nr) → nr < 2 ^ 32
-    → (if nat_le 0xffffffff nr then record { arms = []; otherwise = profile.default }
-    else if nat_le 0x40000000 nr then record { arms = []; otherwise = profile.bad }
-    else if nat_le 1024 nr then record { arms = []; otherwise = profile.default } else said nr) ≡ saying_for (profile_of profile) nr
-all_said profile said nr good low fits =
-    elim (cases_lt nr 1024) [
-      | inl below ↦
-          rw (lt-leb 0xffffffff nr (omega (arith, below)), lt-leb 0x40000000 nr (omega (arith, below)), lt-leb 1024 nr below) (low below)
-      | inr up ↦
-          elim (cases_lt nr 0x40000000) [
-            | inl below ↦
-                rw (lt-leb 0xffffffff nr (omega (arith, below)), lt-leb 0x40000000 nr below, le-leb 1024 nr up) (sym (default_above profile nr good up))
-            | inr x32 ↦
-                elim (cases_lt nr 0xffffffff) [
-                  | inl below ↦ rw (lt-leb 0xffffffff nr below, le-leb 0x40000000 nr x32, lt-ltb nr 0xffffffff below) refl
-                  | inr past ↦
-                      rw (le-leb 0xffffffff nr past, le-leb 0x40000000 nr x32, le-ltb nr 0xffffffff past) (sym (default_above profile nr good up))
-                ]
+-- ---- what runc says
+
+pub greater-assoc : (a b c : ℕ) → greater a (greater b c) ≡ greater (greater a b) c
+greater-assoc a b c =
+    elim (cases_lt a b) [
+      | inl ab ↦
+          elim (cases_lt b c) [
+            | inl bc ↦ rw (lt-ltb b c bc, lt-ltb a b ab, lt-ltb a c (omega (arith, ab, bc)), lt-ltb b c bc) refl
+            | inr bc ↦ rw (le-ltb b c bc, lt-ltb a b ab, le-ltb b c bc) refl
+          ]
+      | inr ab ↦
+          elim (cases_lt b c) [
+            | inl bc ↦ rw (lt-ltb b c bc, le-ltb a b ab) refl
+            | inr bc ↦ rw (le-ltb b c bc, le-ltb a b ab, le-ltb a c (omega (arith, ab, bc))) refl
           ]
     ]
+
+-- one rule less that is left
+pub greatest_more : (best next : ℕ) (left rest whole : List RuleOfCode) (rule : RuleOfCode) → left ≡ rule ∷ rest → next ≡ greater best rule.number
+    → greater best (greatest (map rule_of left)) ≡ greatest (map rule_of whole) → greater next (greatest (map rule_of rest)) ≡ greatest (map rule_of whole)
+greatest_more best next left rest whole rule steps is so_far =
+    ap (λ n. greater n (greatest (map rule_of rest))) is
+    ∙ sym (greater-assoc best rule.number (greatest (map rule_of rest)))
+    ∙ ap (λ (rules : List RuleOfCode). greater best (greatest (map rule_of rules))) (sym steps)
+    ∙ so_far
+
+pub greatest_below : (rules : List RuleOfCode) → All IsGood rules → greatest (map rule_of rules) < 1024
+greatest_below [] good = omega arith
+greatest_below (rule ∷ rules) good =
+    let number = (All-head IsGood rule rules good).number in
+    let more = greatest_below rules (All-tail IsGood rule rules good) in
+    elim (cases_lt rule.number (greatest (map rule_of rules))) [ inl less ↦ rw (lt-ltb rule.number _ less) more | inr up ↦ rw (le-ltb rule.number _ up) number ]
+
+-- what is said of a number that runc knows and that is none of x32
+pub said_below : (profile : Profile) (nr : ℕ) → nr < 1024 → is_unknown profile nr ≡ false → saying_for profile nr ≡ saying_of_rules profile nr
+said_below profile nr low known = rw known (rw (lt-leb 0x40000000 nr (omega (arith, low))) refl)
+
+pub said_unknown : (profile : Profile) (nr : ℕ) → is_unknown profile nr ≡ true → saying_for profile nr ≡ always no_call
+said_unknown profile nr e = rw e refl
+
+-- above all rules the same is said of all numbers with the same bit 30, but for -1
+unknown_alike : (profile : Profile) (one other : ℕ) (bit : Bool) → has_x32_bit one ≡ bit → has_x32_bit other ≡ bit → greatest profile.rules < one → greatest profile.rules < other
+    → one ≢ 0xffffffff → other ≢ 0xffffffff → is_unknown profile one ≡ is_unknown profile other
+unknown_alike profile one other true first second low too unlike nor = rw first (rw second (rw (ne_eqb one 0xffffffff unlike) (rw (ne_eqb other 0xffffffff nor) refl)))
+unknown_alike profile one other false first second low too unlike nor = rw first (rw second (rw (lt-ltb _ one low) (rw (lt-ltb _ other too) refl)))
+
+-- by the quotient
+bit_of : (nr k : ℕ) (bit : Bool) → nr / 2 ^ 30 ≡ k → (k % 2 == 1) ≡ bit → has_x32_bit nr ≡ bit
+bit_of nr k bit e is = ap (λ n. n % 2 == 1) e ∙ is
+
+quotient : (nr k : ℕ) → k * 2 ^ 30 ≤ nr → nr < (k + 1) * 2 ^ 30 → nr / 2 ^ 30 ≡ k
+quotient nr k low high = omega (arith, low, high)
+
+-- numbers of x32 but for -1 are not runc's
+known_x32 : (profile : Profile) (nr : ℕ) → has_x32_bit nr ≡ true → nr ≢ 0xffffffff → is_unknown profile nr ≡ false
+known_x32 profile nr bit unlike = rw bit (rw (ne_eqb nr 0xffffffff unlike) (by profile.stub profile.x32)) where
+  by : (stub x32 : Bool) → (stub && (x32 && false)) ≡ false
+  by true true = refl
+  by true false = refl
+  by false x32 = refl
+
+-- a part of the numbers of which the same is said but for runc
+part : (profile : Profile) (start nr value : ℕ) → is_unknown profile start ≡ is_unknown profile nr → (is_unknown profile nr ≡ false → saying_for profile nr ≡ always value)
+    → always (if is_unknown profile start then no_call else value) ≡ saying_for profile nr
+part profile start nr value alike known = rw alike (by (is_unknown profile nr) refl) where
+  by : (unknown : Bool) → is_unknown profile nr ≡ unknown → always (if unknown then no_call else value) ≡ saying_for profile nr
+  by true e = sym (said_unknown profile nr e)
+  by false e = sym (known e)
+
+said_x32 : (profile : Profile) (nr : ℕ) → is_unknown profile nr ≡ false → 0x40000000 ≤ nr → nr < 0xffffffff → saying_for profile nr ≡ always profile.bad
+said_x32 profile nr known low high = rw known (rw (le-leb 0x40000000 nr low) (rw (lt-ltb nr 0xffffffff high) refl))
+
+said_default : (profile : ProfileOfCode) (nr : ℕ) → AreGood profile → is_unknown (profile_of profile) nr ≡ false → is_x32 nr ≡ false → 1024 ≤ nr
+    → saying_for (profile_of profile) nr ≡ always profile.default
+said_default profile nr good known other up = rw known (rw other (default_above profile nr good up))
+
+-- by which part of the numbers it is of
+choose : (nr : ℕ) (last fourth third second first low said : Saying) → (nr < 1024 → low ≡ said) → (1024 ≤ nr → nr < 0x40000000 → first ≡ said)
+    → (0x40000000 ≤ nr → nr < 0x80000000 → second ≡ said) → (0x80000000 ≤ nr → nr < 0xc0000000 → third ≡ said) → (0xc0000000 ≤ nr → nr < 0xffffffff → fourth ≡ said)
+    → (0xffffffff ≤ nr → last ≡ said)
+    → (if nat_le 0xffffffff nr then last
+    else if nat_le 0xc0000000 nr then fourth
+    else if nat_le 0x80000000 nr then third
+    else if nat_le 0x40000000 nr then second
+    else if nat_le 1024 nr then first
+    else low) ≡ said
+choose nr last fourth third second first low said is_low is_first is_second is_third is_fourth is_last =
+    elim (cases_lt nr 0xffffffff) [
+      | inr e ↦ rw (le-leb 0xffffffff nr e) (is_last e)
+      | inl below ↦
+          rw (lt-leb 0xffffffff nr below)
+          (elim (cases_lt nr 0xc0000000) [
+            | inr e ↦ rw (le-leb 0xc0000000 nr e) (is_fourth e below)
+            | inl below ↦
+                rw (lt-leb 0xc0000000 nr below)
+                (elim (cases_lt nr 0x80000000) [
+                  | inr e ↦ rw (le-leb 0x80000000 nr e) (is_third e below)
+                  | inl below ↦
+                      rw (lt-leb 0x80000000 nr below)
+                      (elim (cases_lt nr 0x40000000) [
+                        | inr e ↦ rw (le-leb 0x40000000 nr e) (is_second e below)
+                        | inl below ↦
+                            rw (lt-leb 0x40000000 nr below)
+                            (elim (cases_lt nr 1024) [
+                              | inr e ↦ rw (le-leb 1024 nr e) (is_first e below)
+                              | inl below ↦ rw (lt-leb 1024 nr below) (is_low below)
+                            ])
+                      ])
+                ])
+          ])
+    ]
+
+-- all parts of the numbers
+pub all_said : (profile : ProfileOfCode) (said : ℕ → Saying) (nr : ℕ) → AreGood profile → (nr < 1024 → said nr ≡ saying_for (profile_of profile) nr) → nr < 2 ^ 32
+    → (if nat_le 0xffffffff nr then always (if is_unknown (profile_of profile) 0xffffffff then no_call else profile.default)
+    else if nat_le 0xc0000000 nr then always profile.bad
+    else if nat_le 0x80000000 nr then always (if is_unknown (profile_of profile) 0x80000000 then no_call else profile.bad)
+    else if nat_le 0x40000000 nr then always profile.bad
+    else if nat_le 1024 nr then always (if is_unknown (profile_of profile) 1024 then no_call else profile.default)
+    else said nr) ≡ saying_for (profile_of profile) nr
+all_said profile said nr good low fits =
+    let p = profile_of profile in
+    let top = greatest_below profile.rules.items good in
+    choose nr _ _ _ _ _ _ _ low
+    (λ from below.
+    part p 1024 nr profile.default
+    (unknown_alike p 1024 nr false refl (bit_of nr 0 false (quotient nr 0 (omega arith) (omega (arith, below))) refl) (omega (arith, top)) (omega (arith, top, from)) (λ e. absurd (omega (arith, e))) (λ e. absurd (omega (arith, e, below))))
+    (λ known. said_default profile nr good known (rw (lt-leb 0x40000000 nr below) refl) from))
+    (λ from below.
+    let bit = bit_of nr 1 true (quotient nr 1 (omega (arith, from)) (omega (arith, below))) refl in
+    sym (said_x32 p nr (known_x32 p nr bit (λ e. absurd (omega (arith, e, below)))) from (omega (arith, below))))
+    (λ from below.
+    part p 0x80000000 nr profile.bad
+    (unknown_alike p 0x80000000 nr false refl (bit_of nr 2 false (quotient nr 2 (omega (arith, from)) (omega (arith, below))) refl) (omega (arith, top)) (omega (arith, top, from)) (λ e. absurd (omega (arith, e))) (λ e. absurd (omega (arith, e, below))))
+    (λ known. said_x32 p nr known (omega (arith, from)) (omega (arith, below))))
+    (λ from below.
+    let bit = bit_of nr 3 true (quotient nr 3 (omega (arith, from)) (omega (arith, below))) refl in
+    sym (said_x32 p nr (known_x32 p nr bit (λ e. absurd (omega (arith, e, below)))) (omega (arith, from)) below))
+    (λ from.
+    let last : 0xffffffff ≡ nr = omega (arith, from, fits) in
+    part p 0xffffffff nr profile.default (ap (is_unknown p) last)
+    (λ known. said_default profile nr good known (rw (le-leb 0x40000000 nr (omega (arith, from)), le-ltb nr 0xffffffff from) refl) (omega (arith, from))))
 
 -- one rule more among the arms, where it is for the number
 pub with_rule : (old new : List Arm) (left rest whole : List RuleOfCode) (rule : RuleOfCode) (nr : ℕ) → new ≡ old ++ arm_of_rule (rule_of rule) ∷ [] → left ≡ rule ∷ rest → rule.number ≡ nr

@@ -3,3 +3,4 @@ pub mod Views
 pub mod Rows
 pub mod Clashes
 pub mod Faults
+pub mod WorkedNumbers

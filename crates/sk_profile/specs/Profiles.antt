@@ -2,7 +2,7 @@
 -- names are numbers. The specification leaves open what happens where two rules fit one call; this is
 -- seccomp_rule_add(3) where that is definite: a rule without conditions goes before those with them, and of several
 -- without the first counts.
-use Rattle.std.specs.Prelude.{ℕ, ◌&&◌, ◌==◌, nat_le, nat_lt, Bool, true, false, if◌then◌else◌, List, [], ◌∷◌, filter, find, map, Option, Some, None}
+use Rattle.std.specs.Prelude.{ℕ, ◌/◌, ◌%◌, ◌^◌, ◌&&◌, ◌==◌, nat_le, nat_lt, Bool, true, false, if◌then◌else◌, List, [], ◌∷◌, filter, find, map, Option, Some, None}
 use Rattle.sk_insn.specs.declared.record.Record.{Record}
 use Rattle.sk_profile_code.specs.declared.condition.Condition.{Condition}
 use Rattle.sk_profile_code.specs.Sayings.{Arm, Saying, said}
@@ -13,11 +13,14 @@ pub record Rule : Type 0 where
   pub conditions : List Condition
   pub value : ℕ
 
--- `syscalls` in their order, `defaultAction` with `defaultErrnoRet`, and the value for what is no call of x86-64
+-- `syscalls` in their order, `defaultAction` with `defaultErrnoRet`, and the value for what is no call of x86-64; whether runc
+-- has instructions of its own stand before the filter, and whether x32 is among the architectures
 pub record Profile : Type 0 where
   pub rules : List Rule
   pub default : ℕ
   pub bad : ℕ
+  pub stub : Bool
+  pub x32 : Bool
 
 -- the numbers of the x32 ABI; -1, by which a tracer passes over a call, is none
 abbrev pub is_x32 : ℕ → Bool
@@ -49,9 +52,42 @@ settled None arms default = record { arms = arms; otherwise = default }
 abbrev pub saying_of_rules : Profile → ℕ → Saying
 saying_of_rules profile nr = settled (plain_rule profile.rules nr) (arms_for profile.rules nr) profile.default
 
+-- ---- runc's stub: libcontainer/seccomp/patchbpf/enosys_linux.go
+
+-- ERRNO with ENOSYS, 38: there is no such call (errno(3))
+abbrev pub no_call : ℕ
+no_call = 0x50026
+
+abbrev pub greater : ℕ → ℕ → ℕ
+greater one other = if nat_lt one other then other else one
+
+-- the greatest number that is named
+abbrev pub greatest : List Rule → ℕ
+greatest [] = 0
+greatest (rule ∷ rules) = greater rule.number (greatest rules)
+
+-- it tells numbers of x32 by bit 30
+abbrev pub has_x32_bit : ℕ → Bool
+has_x32_bit nr = nr / 2 ^ 30 % 2 == 1
+
+-- it knows no number of x86-64 above the greatest that is named, if there is one above 0; of x32, if that is there, -1 is
+-- above all
+abbrev pub is_unknown : Profile → ℕ → Bool
+is_unknown profile nr =
+    profile.stub
+    && (if has_x32_bit nr then profile.x32 && nr == 0xffffffff
+    else nat_lt 0 (greatest profile.rules) && nat_lt (greatest profile.rules) nr)
+
+-- ---- all numbers
+
+abbrev pub always : ℕ → Saying
+always value = record { arms = []; otherwise = value }
+
 abbrev pub saying_for : Profile → ℕ → Saying
 saying_for profile nr =
-    if is_x32 nr then record { arms = []; otherwise = profile.bad } else saying_of_rules profile nr
+    if is_unknown profile nr then always no_call
+    else if is_x32 nr then always profile.bad
+    else saying_of_rules profile nr
 
 -- what the profile says of a call
 abbrev pub said_by : Profile → Record → ℕ

@@ -19,12 +19,12 @@ said_at rows nr = saying_in (map row_of rows.rows.items) (saying_of rows.before)
 abbrev pub StartBelow : ℕ → List Row → Type 0
 StartBelow number rows = All (λ (row : Row). row.start < number) rows
 
--- rows that say what a profile says, no more of them than there are numbers of calls and two more, and a tree of them
+-- rows that say what a profile says, no more of them than there are numbers of calls and four more, and a tree of them
 -- that has more instructions than a filter may have
 pub record HasLongTree (profile : Profile) : Type 0 where
   pub rows : Rows
   pub says : (nr : ℕ) → nr < 2 ^ 32 → said_at rows nr ≡ saying_for profile nr
-  pub few : length rows.rows.items ≤ 1026
+  pub few : length rows.rows.items ≤ 1028
   pub long : IsOverlong (filter_code profile.bad) rows.before rows.rows.items
 
 -- a rule for a call of x86-64, with conditions on its six arguments, at most six

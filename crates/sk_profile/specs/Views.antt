@@ -8,4 +8,4 @@ abbrev pub rule_of : RuleOfCode → Rule
 rule_of rule = record { number = rule.number; conditions = rule.conditions.items; value = rule.value }
 
 abbrev pub profile_of : ProfileOfCode → Profile
-profile_of profile = record { rules = map rule_of profile.rules.items; default = profile.default; bad = profile.bad }
+profile_of profile = record { rules = map rule_of profile.rules.items; default = profile.default; bad = profile.bad; stub = profile.stub; x32 = profile.x32 }

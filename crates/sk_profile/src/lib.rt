@@ -9,6 +9,7 @@ pub mod laws;
 mod profile;
 mod rows;
 mod saying;
+mod stub;
 
 pub use fault::{Clash, ProfileFault};
 pub use filter::profile_filter;

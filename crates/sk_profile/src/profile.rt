@@ -9,10 +9,17 @@ pub struct Rule {
     pub value: u32,
 }
 
-/// The rules in their order, the value of calls that none of them fits, and that of what is no call of x86-64.
+/// A profile, once its names are numbers.
 #[derive(Debug, Drop)]
 pub struct Profile {
+    /// The rules in their order.
     pub rules: Vec<Rule>,
+    /// The value of calls that none of them fits.
     pub default: u32,
+    /// The value of what is no call of x86-64.
     pub bad: u32,
+    /// Whether runc has instructions of its own stand before the filter.
+    pub stub: bool,
+    /// Whether x32 is among the architectures.
+    pub x32: bool,
 }

@@ -6,7 +6,7 @@ ghost use Rattle.sk_profile_code.specs.Views.{saying_of, row_of, AreRows, IsSayi
 ghost use Rattle.sk_profile.specs.Clashes.{AreClear, IsClear};
 ghost use Rattle.sk_profile.specs.declared.fault.ProfileFault.TheVariants.{TooLong};
 ghost use Rattle.sk_profile.specs.Faults.{IsFaultOf};
-ghost use Rattle.sk_profile.specs.Profiles.{saying_for, saying_of_rules};
+ghost use Rattle.sk_profile.specs.Profiles.{always, greatest, is_unknown, no_call, saying_for};
 ghost use Rattle.sk_profile.specs.Views.{profile_of};
 ghost use Rattle.sk_profile.specs.Rows.{said_at, StartBelow, AreGood};
 
@@ -14,6 +14,7 @@ use crate::clash::clash;
 use crate::fault::{Clash, ProfileFault};
 use crate::profile::Profile;
 use crate::saying::{plain, saying};
+use crate::stub::{NO_CALL, greatest, is_unknown};
 use sk_profile_code::{Row, Saying};
 use std::alloc::{AllocError, Global};
 
@@ -22,6 +23,11 @@ pub const NUMBERS: u32 = 1024;
 
 /// The first number of the x32 ABI.
 const X32: u32 = 0x4000_0000;
+
+/// Numbers from here on do not have bit 30, by which runc tells those of x32, and from `X32_BIT_AGAIN` on they have it again.
+const NO_X32_BIT: u32 = 0x8000_0000;
+
+const X32_BIT_AGAIN: u32 = 0xc000_0000;
 
 /// Behind the last of them; a tracer passes over a call by this number.
 const PAST_X32: u32 = 0xffff_ffff;
@@ -40,34 +46,67 @@ pub fn rows_of(alloc: Global, profile: &Profile) -> Result<Rows, ProfileFault>
     ensures fault { IfErr result (IsFaultOf (profile_of profile.now)) }
     ensures says { IfOk result (λ rows. (nr : ℕ) → nr < 2 ^ 32 → said_at rows nr ≡ saying_for (profile_of profile.now) nr) }
     ensures rows { IfOk result (λ rows. AreRows rows.before rows.rows.items) }
-    ensures few { IfOk result (λ rows. length rows.rows.items ≤ 1026) }
+    ensures few { IfOk result (λ rows. length rows.rows.items ≤ 1028) }
     ensures short { IfErr result (λ fault. fault ≢ TooLong) }
 {
+    let top = greatest(&profile.rules);
     let mut rows = Rows {
-        before: clear_saying(alloc, profile, 0)?,
+        before: clear_saying(alloc, profile, top, 0)?,
         rows: Vec::new(alloc),
     };
     for nr in 1..NUMBERS {
-        let said = clear_saying(alloc, profile, nr)?;
+        let said = clear_saying(alloc, profile, top, nr)?;
         say_from(&mut rows, nr, said)?;
     }
-    say_from(&mut rows, NUMBERS, plain(alloc, profile.default))?;
-    say_from(&mut rows, X32, plain(alloc, profile.bad))?;
-    say_from(&mut rows, PAST_X32, plain(alloc, profile.default))?;
+    let (default, bad) = (profile.default, profile.bad);
+    say_from(
+        &mut rows,
+        NUMBERS,
+        without_rules(alloc, profile, top, NUMBERS, default),
+    )?;
+    say_from(&mut rows, X32, plain(alloc, bad))?;
+    say_from(
+        &mut rows,
+        NO_X32_BIT,
+        without_rules(alloc, profile, top, NO_X32_BIT, bad),
+    )?;
+    say_from(&mut rows, X32_BIT_AGAIN, plain(alloc, bad))?;
+    say_from(
+        &mut rows,
+        PAST_X32,
+        without_rules(alloc, profile, top, PAST_X32, default),
+    )?;
     Ok(rows)
+}
+
+// What is said of a number that no rule is for, where this is its value without runc.
+fn without_rules(alloc: Global, profile: &Profile, top: u32, nr: u32, value: u32) -> Saying
+    requires top { top ≡ greatest (profile_of profile.now).rules }
+    ensures saying { saying_of result ≡ always (if is_unknown (profile_of profile.now) nr then no_call else value) }
+    ensures good { IsSayingOfCode result }
+{
+    if is_unknown(profile, top, nr) {
+        plain(alloc, NO_CALL)
+    } else {
+        plain(alloc, value)
+    }
 }
 
 // What is said of the calls with a number, if no two rules may clash there.
 #[tactic(auto, using(crate::proofs::Clearing::never_clash_is_clear, crate::proofs::Clearing::clash_of))]
-fn clear_saying(alloc: Global, profile: &Profile, nr: u32) -> Result<Saying, ProfileFault>
+fn clear_saying(alloc: Global, profile: &Profile, top: u32, nr: u32) -> Result<Saying, ProfileFault>
     requires good { AreGood profile.now }
+    requires top { top ≡ greatest (profile_of profile.now).rules }
     requires number { nr < 1024 }
-    ensures saying { IfOk result (λ saying. saying_of saying ≡ saying_of_rules (profile_of profile.now) nr) }
+    ensures saying { IfOk result (λ saying. saying_of saying ≡ saying_for (profile_of profile.now) nr) }
     ensures good { IfOk result IsSayingOfCode }
     ensures clear { IfOk result (λ saying. AreClear (saying_of saying).arms) }
     ensures fault { IfErr result (IsFaultOf (profile_of profile.now)) }
     ensures short { IfErr result (λ fault. fault ≢ TooLong) }
 {
+    if is_unknown(profile, top, nr) {
+        return Ok(plain(alloc, NO_CALL));
+    }
     let said = saying(alloc, profile, nr)?;
     match clash(&said.arms) {
         None => Ok(said),

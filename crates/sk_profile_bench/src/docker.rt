@@ -67,6 +67,8 @@ pub fn profile(alloc: Global) -> Result<Profile, AllocError> {
         rules,
         default: EPERM,
         bad: KILL_THREAD,
+        stub: false,
+        x32: false,
     })
 }
 

@@ -1,4 +1,4 @@
-//! How many instructions the filter of docker's default profile has, and how many of them calls take, beside the tree that
+//! Whether the filter of docker's default profile is as short as wanted, and what calls take in it beside the tree that
 //! libseccomp makes of the same profile. Standard input has that tree in digits.
 #![tactic(auto)]
 

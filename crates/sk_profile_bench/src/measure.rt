@@ -1,4 +1,4 @@
-//! What calls take in two filters.
+//! What calls take in two filters, and what they are answered.
 use crate::docker::call;
 use sk_check::Checked;
 use sk_insn::Record;
@@ -12,22 +12,19 @@ const X32: u32 = 0x4000_0000;
 /// Linux knows for lower numbers whether a filter allows them whatever the arguments are.
 const KNOWN: u32 = 512;
 
-/// A filter: how many instructions it has, and how many its calls take.
-#[derive(Clone, Copy)]
-pub struct Size {
-    pub length: usize,
-    /// For a hundred calls of `OFTEN`.
-    pub steps: u64,
-    pub most: u16,
-    /// Of how many numbers each call is allowed, which is seen from the number and the architecture.
-    pub known: u32,
-}
+/// So many instructions the first filter is to have at most, and so many steps a hundred calls of `OFTEN` are to take in it.
+const MOST_INSTRUCTIONS: usize = 150;
+
+const MOST_STEPS: u64 = 650;
 
 /// Two filters.
 #[derive(Clone, Copy)]
 pub struct Compared {
-    pub filter: Size,
-    pub tree: Size,
+    /// How many instructions the first has past `MOST_INSTRUCTIONS`, and how many steps past `MOST_STEPS`.
+    pub longer: usize,
+    pub dearer: u64,
+    /// Of how many numbers each call is seen to be allowed in the first, and in the second.
+    pub known: (u32, u32),
     pub calls: usize,
     /// How many calls take more steps in the first, of those that are calls of x86-64.
     pub slower: u32,
@@ -37,34 +34,34 @@ pub struct Compared {
     pub unknown: u32,
 }
 
-impl fmt::Display for Size {
-    fn fmt<W: fmt::Write>(&self, f: &mut fmt::Formatter<W>) -> fmt::Result {
-        let whole = self.steps / 100;
-        let tenths = self.steps / 10 % 10;
-        let hundredths = self.steps % 10;
-        write!(
-            f,
-            "{} instructions, {whole}.{tenths}{hundredths} steps a call, at most {}, {} numbers always allowed",
-            self.length, self.most, self.known
-        )
-    }
-}
-
 impl fmt::Display for Compared {
     fn fmt<W: fmt::Write>(&self, f: &mut fmt::Formatter<W>) -> fmt::Result {
-        writeln!(f, "the filter of docker's default profile: {}", self.filter)?;
-        writeln!(f, "the tree that libseccomp makes of it: {}", self.tree)?;
         writeln!(
             f,
-            "calls that take more steps in the filter: {} of {}",
+            "instructions past {MOST_INSTRUCTIONS}: {}",
+            self.longer
+        )?;
+        writeln!(
+            f,
+            "steps of a hundred calls past {MOST_STEPS}: {}",
+            self.dearer
+        )?;
+        writeln!(
+            f,
+            "calls that take more steps than in the tree: {} of {}",
             self.slower, self.calls
         )?;
-        writeln!(f, "calls that get another answer: {}", self.otherwise)?;
-        write!(
+        writeln!(
             f,
-            "numbers that only the tree is seen to allow always: {}",
-            self.unknown
-        )
+            "calls that get another answer than in the tree: {}",
+            self.otherwise
+        )?;
+        writeln!(
+            f,
+            "numbers that are always allowed: {}, and {} in the tree",
+            self.known.0, self.known.1
+        )?;
+        write!(f, "numbers of these in the tree alone: {}", self.unknown)
     }
 }
 
@@ -84,25 +81,13 @@ pub fn compare(filter: &Checked, tree: &Checked, calls: &[Record]) -> Compared {
         }
     }
     Compared {
-        filter: size_of(filter, calls),
-        tree: size_of(tree, calls),
+        longer: filter.insns().len().saturating_sub(MOST_INSTRUCTIONS),
+        dearer: steps_of_hundred(filter).saturating_sub(MOST_STEPS),
+        known: (known(filter), known(tree)),
         calls: calls.len(),
         slower,
         otherwise,
         unknown: unknown(filter, tree),
-    }
-}
-
-fn size_of(filter: &Checked, calls: &[Record]) -> Size {
-    let mut most = 0;
-    for call in calls {
-        most = run(filter, call).steps.max(most);
-    }
-    Size {
-        length: filter.insns().len(),
-        steps: steps_of_hundred(filter),
-        most,
-        known: known(filter),
     }
 }
 

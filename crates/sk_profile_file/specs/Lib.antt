@@ -6,3 +6,4 @@ pub mod Texts
 pub mod Notes
 pub mod Made
 pub mod Capabilities
+pub mod WorkedFiles

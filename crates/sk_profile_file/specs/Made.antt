@@ -1,5 +1,5 @@
 -- What a profile's file is made into.
-use Rattle.std.specs.Prelude.{ℕ, ◌≡◌, List, map, string_bytes, Vec, None, Result, Ok, Err, ⊤}
+use Rattle.std.specs.Prelude.{ℕ, ◌≡◌, List, map, string_bytes, Vec, None, Result, Ok, Err}
 use Rattle.std.specs.Global.{Global}
 use Rattle.std.specs.Option.{IsSomeAnd}
 use Rattle.std.specs.Str.{IsUtf8}

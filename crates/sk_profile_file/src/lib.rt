@@ -5,6 +5,7 @@ mod answer;
 mod capabilities;
 mod form;
 mod image;
+pub mod laws;
 mod making;
 mod note;
 mod text;

@@ -127,14 +127,14 @@ from-good context at [] = λ more e. let same : [] ≡ more = search (steps, e) 
 from-good context at (j ∷ js) =
     then-good (entry_rules context at j) (rules_from context (at + 1) js) (entry-good context at j (entry_of j)) (from-good context (at + 1) js)
 
-with-rules : (default : ℕ) (told : Result (List Rule) Fault) (profile : Profile) → AreGood told → profile_with default told ≡ Ok profile
+with-rules : (context : Context) (j : Json) (default : ℕ) (told : Result (List Rule) Fault) (profile : Profile) → AreGood told → profile_with context j default told ≡ Ok profile
     → All IsGood profile.rules
-with-rules default (Ok all) profile g e = let same : all ≡ profile.rules = search (steps, e) in subst (All IsGood) same (g all refl)
-with-rules default (Err fault) profile g e = absurd (search (steps, e))
+with-rules context j default (Ok all) profile g e = let same : all ≡ profile.rules = search (steps, e) in subst (All IsGood) same (g all refl)
+with-rules context j default (Err fault) profile g e = absurd (search (steps, e))
 
-if-rules : (context : Context) (head : Result Head Wrong) (profile : Profile) → profile_if context head ≡ Ok profile → All IsGood profile.rules
-if-rules context (Ok head) profile e = with-rules head.default (rules_from context 0 head.entries) profile (from-good context 0 head.entries) e
-if-rules context (Err wrong) profile e = absurd (search (steps, e))
+if-rules : (context : Context) (j : Json) (head : Result Head Wrong) (profile : Profile) → profile_if context j head ≡ Ok profile → All IsGood profile.rules
+if-rules context j (Ok head) profile e = with-rules context j head.default (rules_from context 0 head.entries) profile (from-good context 0 head.entries) e
+if-rules context j (Err wrong) profile e = absurd (search (steps, e))
 
 pub rules_good : (context : Context) (j : Json) (profile : Profile) → profile_in context j ≡ Ok profile → All IsGood profile.rules
-rules_good context j profile e = if-rules context (head_of j) profile e
+rules_good context j profile e = if-rules context j (head_of j) profile e

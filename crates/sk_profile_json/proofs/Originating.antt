@@ -10,7 +10,7 @@ use Rattle.json.specs.Value.{value_view}
 use Rattle.json.specs.declared.value.Value.{Value}
 use Rattle.sk_call_names.specs.Names.{number_named}
 use Rattle.sk_profile_code.specs.declared.condition.Condition.{Condition}
-use Rattle.sk_profile.specs.Profiles.{Rule, Profile, is_for, is_x32, arm_of_rule, arms_for, plain_rule, settled, saying_for}
+use Rattle.sk_profile.specs.Profiles.{Rule, Profile, is_for, is_unknown, is_x32, arm_of_rule, arms_for, plain_rule, settled, saying_for}
 use Rattle.sk_profile_json.specs.declared.conditions.WrongArgument.{WrongArgument}
 use Rattle.sk_profile_json.specs.declared.context.Context.{Context}
 use Rattle.sk_profile_json.specs.declared.fault.Fault.{Fault}
@@ -22,7 +22,8 @@ use Rattle.sk_profile_json.specs.Entries.{Entry, entry_of, entry_if, entry_with,
 use Rattle.sk_profile_json.specs.Fields.{result_then, list_in, wrong_keys}
 use Rattle.sk_profile_json.specs.Origins.{is_number, origin_of, origins_from, origins_of, HasOrigins}
 use Rattle.sk_profile_json.specs.Parts.{is_yes, counted_names, entries_of}
-use Rattle.sk_profile_json.specs.Wholes.{Head, before, rules_if, rules_with, rules_unless, rules_of_entry, entry_rules, rules_from, head_of, head_if, head_unless, default_in, wrong_lists, profile_fields, profile_with, profile_if}
+use Rattle.sk_profile_json.specs.Architectures.{wrong_lists}
+use Rattle.sk_profile_json.specs.Wholes.{Head, before, rules_if, rules_with, rules_unless, rules_of_entry, entry_rules, rules_from, head_of, head_if, head_unless, default_in, profile_fields, profile_with, profile_if}
 use Rattle.sk_profile_json.proofs.Following.{item_next, items_end, option_between}
 
 -- ---- what a loop has gathered
@@ -199,24 +200,26 @@ settled-few : (o : Option Rule) (profile : Profile) (nr : ℕ)
 settled-few (Some rule) profile nr = omega arith
 settled-few None profile nr = let same = length-map (filter (is_for nr) profile.rules) arm_of_rule in omega (arith, same)
 
-x32-few : (b : Bool) (profile : Profile) (nr : ℕ) → is_x32 nr ≡ b → length (saying_for profile nr).arms ≤ length (filter (is_for nr) profile.rules)
-x32-few true profile nr e = rw e (omega arith)
-x32-few false profile nr e = rw e (settled-few (plain_rule profile.rules nr) profile nr)
+few : (unknown x32 : Bool) (profile : Profile) (nr : ℕ) → is_unknown profile nr ≡ unknown → is_x32 nr ≡ x32
+    → length (saying_for profile nr).arms ≤ length (filter (is_for nr) profile.rules)
+few true x32 profile nr u e = rw u (omega arith)
+few false true profile nr u e = rw u (rw e (omega arith))
+few false false profile nr u e = rw u (rw e (settled-few (plain_rule profile.rules nr) profile nr))
 
-with-few : (nr default : ℕ) (told : Result (List Rule) Fault) (origins : List ℕ) (profile : Profile) → HasAll nr told origins
-    → profile_with default told ≡ Ok profile → length (saying_for profile nr).arms ≤ length origins
-with-few nr default (Ok all) origins profile h e =
+with-few : (context : Context) (j : Json) (nr default : ℕ) (told : Result (List Rule) Fault) (origins : List ℕ) (profile : Profile) → HasAll nr told origins
+    → profile_with context j default told ≡ Ok profile → length (saying_for profile nr).arms ≤ length origins
+with-few context j nr default (Ok all) origins profile h e =
     let same : all ≡ profile.rules = search (steps, e) in
     let many = subst (λ all. AreAsMany nr all origins) same (h all refl) in
-    let few = x32-few (is_x32 nr) profile nr refl in
-    omega (arith, many, few)
-with-few nr default (Err fault) origins profile h e = absurd (search (steps, e))
+    let less = few (is_unknown profile nr) (is_x32 nr) profile nr refl refl in
+    omega (arith, many, less)
+with-few context j nr default (Err fault) origins profile h e = absurd (search (steps, e))
 
 of-head : (context : Context) (nr : ℕ) (j : Json) (told : Result Head Wrong) (profile : Profile) → head_of j ≡ told
-    → profile_if context told ≡ Ok profile → length (saying_for profile nr).arms ≤ length (origins_of context nr j)
+    → profile_if context j told ≡ Ok profile → length (saying_for profile nr).arms ≤ length (origins_of context nr j)
 of-head context nr j (Ok head) profile h e =
     let entries = if-entries (wrong_keys profile_fields j) j head h in
-    rw entries (with-few nr head.default (rules_from context 0 head.entries) (origins_from context nr 0 head.entries) profile
+    rw entries (with-few context j nr head.default (rules_from context 0 head.entries) (origins_from context nr 0 head.entries) profile
     (from-many context nr 0 head.entries) e)
 of-head context nr j (Err wrong) profile h e = absurd (search (steps, e))
 

@@ -65,6 +65,11 @@ items_of_kind field (Some j) = elim (as_array j) [ None ↦ Err (NotTaken field)
 abbrev pub list_in : Field → Json → Result (List Json) Wrong
 list_in field j = items_of_kind field (given field j)
 
+-- a list that was read
+abbrev pub items_or_none : Result (List Json) Wrong → List Json
+items_or_none (Ok items) = items
+items_or_none (Err wrong) = []
+
 -- whether it is a text, and which
 abbrev pub is_text : Json → Bool
 is_text j = is_some (as_str j)

@@ -5,7 +5,9 @@ pub mod Arguments
 pub mod Conditions
 pub mod Entries
 pub mod EntryViews
+pub mod Architectures
 pub mod Contexts
+pub mod Runc
 pub mod ContextViews
 pub mod Wholes
 pub mod WholeViews

@@ -6,15 +6,10 @@ use Rattle.json.specs.Json.{Json}
 use Rattle.sk_profile_json.specs.declared.context.Context.{Context}
 use Rattle.sk_profile_json.specs.declared.fault.Field.TheVariants as field
 use Rattle.sk_profile_json.specs.declared.fault.Wrong.{Wrong}
+use Rattle.sk_profile_json.specs.Architectures.{is_x86_64, maps_x86_64}
 use Rattle.sk_profile_json.specs.Contexts.{counts}
 use Rattle.sk_profile_json.specs.Entries.{names_in}
-use Rattle.sk_profile_json.specs.Fields.{list_in}
-use Rattle.sk_profile_json.specs.Wholes.{is_x86_64, maps_x86_64}
-
--- a list that was read
-abbrev pub items_or_none : Result (List Json) Wrong → List Json
-items_or_none (Ok items) = items
-items_or_none (Err wrong) = []
+use Rattle.sk_profile_json.specs.Fields.{items_or_none, list_in}
 
 abbrev pub entries_of : Json → List Json
 entries_of j = items_or_none (list_in field.Syscalls j)

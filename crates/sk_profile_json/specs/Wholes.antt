@@ -1,8 +1,7 @@
 -- A whole profile: the object `seccomp` of config-linux.md of the OCI runtime specification, with what docker's and podman's
 -- profiles have beside it. `flags`, `listenerPath` and `listenerMetadata` say how a filter is attached, and nothing of what
 -- it answers.
-use Rattle.std.specs.Prelude.{ℕ, ◌≡◌, ◌+◌, ◌&&◌, ◌||◌, not, Bool, true, false, if◌then◌else◌, List, [], ◌∷◌, ◌++◌, codes, is_some, Option, Some, None, Result, Ok, Err, ⊤, All}
-use Rattle.std.specs.List.{list_any, list_all}
+use Rattle.std.specs.Prelude.{ℕ, ◌≡◌, ◌+◌, Bool, true, false, if◌then◌else◌, List, [], ◌∷◌, ◌++◌, Option, Some, None, Result, Ok, Err, ⊤, All}
 use Rattle.std.specs.Option.{IsSomeAnd}
 use Rattle.json.specs.Json.{Json, document}
 use Rattle.json.specs.Strict.{HasUniqueKeys}
@@ -21,12 +20,13 @@ use Rattle.sk_profile_json.specs.declared.fault.ReadFault.{ReadFault}
 use Rattle.sk_profile_json.specs.declared.fault.ReadFault.TheVariants as read
 use Rattle.sk_profile_json.specs.declared.fault.Wrong.{Wrong}
 use Rattle.sk_profile_json.specs.declared.fault.Wrong.TheVariants.{NotTaken, Contradicts}
-use Rattle.sk_profile_json.specs.declared.whole.TheConstants.{ARCHITECTURES}
 use Rattle.sk_profile_json.specs.Actions.{action_in, value_in}
+use Rattle.sk_profile_json.specs.Architectures.{wrong_lists}
 use Rattle.sk_profile_json.specs.Conditions.{wrong_argument, conditions_of, are_apart}
-use Rattle.sk_profile_json.specs.Contexts.{counts, is_empty}
+use Rattle.sk_profile_json.specs.Contexts.{counts}
 use Rattle.sk_profile_json.specs.Entries.{Entry, entry_of, rules_for, is_told}
-use Rattle.sk_profile_json.specs.Fields.{result_then, given, list_in, wrong_keys, is_the}
+use Rattle.sk_profile_json.specs.Fields.{result_then, list_in, wrong_keys}
+use Rattle.sk_profile_json.specs.Runc.{has_stub, names_x32}
 
 -- ---- its entries
 
@@ -67,47 +67,6 @@ rules_from context at [] = Ok []
 rules_from context at (j ∷ js) =
     result_then (λ rules. before rules (rules_from context (at + 1) js)) (entry_rules context at j)
 
--- ---- its architectures: x86-64 is among them, where any are named
-
-abbrev pub is_architecture : Json → Bool
-is_architecture j = list_any (λ name. is_the name.now j) ARCHITECTURES
-
-abbrev pub is_x86_64 : Json → Bool
-is_x86_64 j = is_the (codes "SCMP_ARCH_X86_64") j
-
-abbrev pub are_architectures : List Json → Bool
-are_architectures items = list_all is_architecture items && (is_empty items || list_any is_x86_64 items)
-
-abbrev pub map_fields : List Field
-map_fields = field.Architecture ∷ field.SubArchitectures ∷ []
-
-abbrev pub is_some_and : (Json → Bool) → Option Json → Bool
-is_some_and test None = false
-is_some_and test (Some j) = test j
-
-abbrev pub are_all : Result (List Json) Wrong → Bool
-are_all (Ok items) = list_all is_architecture items
-are_all (Err wrong) = false
-
-abbrev pub is_map : Json → Bool
-is_map j =
-    not (is_some (wrong_keys map_fields j))
-    && (is_some_and is_architecture (given field.Architecture j) && are_all (list_in field.SubArchitectures j))
-
-abbrev pub maps_x86_64 : Json → Bool
-maps_x86_64 j = is_some_and is_x86_64 (given field.Architecture j)
-
-abbrev pub are_maps : List Json → Bool
-are_maps items = list_all is_map items && (is_empty items || list_any maps_x86_64 items)
-
--- only one of the two names any
-abbrev pub wrong_lists : List Json → List Json → Option Wrong
-wrong_lists architectures maps =
-    if not (is_empty architectures) && not (is_empty maps) then Some (Contradicts field.ArchMap)
-    else if not (are_architectures architectures) then Some (NotTaken field.Architectures)
-    else if not (are_maps maps) then Some (NotTaken field.ArchMap)
-    else None
-
 -- ---- the rest
 
 -- a default of NOTIFY would stop whoever is to listen
@@ -145,17 +104,18 @@ abbrev pub head_of : Json → Result Head Wrong
 head_of j = head_if (wrong_keys profile_fields j) j
 
 -- what is no call of x86-64 is killed, as libseccomp has it where nothing else is said: SECCOMP_RET_KILL_THREAD
-abbrev pub profile_with : ℕ → Result (List Rule) Fault → Result Profile Fault
-profile_with default (Ok rules) = Ok (record { rules = rules; default = default; bad = 0 })
-profile_with default (Err fault) = Err fault
+abbrev pub profile_with : Context → Json → ℕ → Result (List Rule) Fault → Result Profile Fault
+profile_with context j default (Ok rules) =
+    Ok (record { rules = rules; default = default; bad = 0; stub = has_stub context j; x32 = names_x32 j })
+profile_with context j default (Err fault) = Err fault
 
-abbrev pub profile_if : Context → Result Head Wrong → Result Profile Fault
-profile_if context (Ok head) = profile_with head.default (rules_from context 0 head.entries)
-profile_if context (Err wrong) = Err (fault_at place.Profile wrong)
+abbrev pub profile_if : Context → Json → Result Head Wrong → Result Profile Fault
+profile_if context j (Ok head) = profile_with context j head.default (rules_from context 0 head.entries)
+profile_if context j (Err wrong) = Err (fault_at place.Profile wrong)
 
 -- the profile that a value says, where it counts, or the first thing that is wrong with it
 abbrev pub profile_in : Context → Json → Result Profile Fault
-profile_in context j = profile_if context (head_of j)
+profile_in context j = profile_if context j (head_of j)
 
 -- each of its rules is one that a filter can be made of
 abbrev pub RulesAreGood : Type 0

@@ -1,5 +1,5 @@
 -- Profiles that are worked out by hand.
-use Rattle.std.specs.Prelude.{ℕ, ◌≡◌, List, [], ◌∷◌, codes, Some, None, Result, Ok, Err}
+use Rattle.std.specs.Prelude.{ℕ, ◌≡◌, Bool, true, false, List, [], ◌∷◌, codes, Some, None, Result, Ok, Err}
 use Rattle.std.specs.Borrow.{Bor}
 use Rattle.std.specs.Option.{option_map}
 use Rattle.json.specs.Json.{Json, document, null, string, number, array, object, Items, no_items, item, Members, no_members, member}
@@ -26,12 +26,15 @@ of x = record { ref_ptr = (0, 0); now = x }
 abbrev pub kernel : ℕ → ℕ → Kernel
 kernel major minor = record { major = major; minor = minor }
 
--- kernel 5.4, without capabilities, and with one
+-- kernel 5.4, without capabilities, and with one; and where runc attaches the filter
 abbrev pub plain : Context
-plain = record { capabilities = of []; kernel = kernel 5 4 }
+plain = record { capabilities = of []; kernel = kernel 5 4; runc = false }
 
 abbrev pub admin : Context
-admin = record { capabilities = of (of (codes "CAP_SYS_ADMIN") ∷ []); kernel = kernel 5 4 }
+admin = record { capabilities = of (of (codes "CAP_SYS_ADMIN") ∷ []); kernel = kernel 5 4; runc = false }
+
+abbrev pub by_runc : Context
+by_runc = record { capabilities = of []; kernel = kernel 5 4; runc = true }
 
 abbrev pub items_from : List Json → Items
 items_from [] = no_items
@@ -73,7 +76,11 @@ abbrev pub condition : ℕ → Test → ℕ → Condition
 condition index test value = record { index = index; test = test; value = value }
 
 abbrev pub says : List Rule → ℕ → Result Profile Fault
-says rules default = Ok (record { rules = rules; default = default; bad = 0 })
+says rules default = Ok (record { rules = rules; default = default; bad = 0; stub = false; x32 = false })
+
+-- what it says of architectures too: whether runc's instructions stand before the filter, and whether x32 is there
+abbrev pub says_there : Bool → Bool → ℕ → Result Profile Fault
+says_there stub x32 default = Ok (record { rules = []; default = default; bad = 0; stub = stub; x32 = x32 })
 
 abbrev pub wrong : Place → Wrong → Result Profile Fault
 wrong spot it = Err (record { place = spot; wrong = it })
@@ -159,7 +166,17 @@ pub record WorkedProfiles : Type 0 where
   pub both_lists : profile_in plain (profile (codes "SCMP_ACT_LOG") ((codes "architectures", architectures x86_64) ∷ (codes "archMap", maps x86_64) ∷ []))
       ≡ wrong place.Profile (Contradicts field.ArchMap)
   pub named : profile_in plain (profile (codes "SCMP_ACT_LOG") ((codes "architectures", architectures x86_64) ∷ [])) ≡ says [] 0x7ffc0000
-  pub mapped : profile_in plain (profile (codes "SCMP_ACT_LOG") ((codes "archMap", maps x86_64) ∷ [])) ≡ says [] 0x7ffc0000
+  pub mapped : profile_in plain (profile (codes "SCMP_ACT_LOG") ((codes "archMap", maps x86_64) ∷ [])) ≡ says_there false true 0x7ffc0000
+  -- runc's instructions stand where architectures are named and the default performs nothing
+  pub stub : profile_in by_runc (profile (codes "SCMP_ACT_ERRNO") ((codes "architectures", architectures x86_64) ∷ [])) ≡ says_there true false 0x50001
+  pub stub_with_x32 : profile_in by_runc (profile (codes "SCMP_ACT_TRAP") ((codes "archMap", maps x86_64) ∷ [])) ≡ says_there true true 0x30000
+  pub stub_at_kill : profile_in by_runc (profile (codes "SCMP_ACT_KILL") ((codes "architectures", listed (string (codes "SCMP_ARCH_X32") ∷ string x86_64 ∷ [])) ∷ []))
+      ≡ says_there true true 0
+  pub stub_not_asked_for : profile_in plain (profile (codes "SCMP_ACT_ERRNO") ((codes "architectures", architectures x86_64) ∷ [])) ≡ says_there false false 0x50001
+  pub no_architectures : profile_in by_runc (refusing []) ≡ says_there false false 0x50001
+  pub performed : profile_in by_runc (profile (codes "SCMP_ACT_ALLOW") ((codes "architectures", architectures x86_64) ∷ [])) ≡ says_there false false 0x7fff0000
+  pub logged : profile_in by_runc (profile (codes "SCMP_ACT_LOG") ((codes "architectures", architectures x86_64) ∷ [])) ≡ says_there false false 0x7ffc0000
+  pub traced : profile_in by_runc (profile (codes "SCMP_ACT_TRACE") ((codes "architectures", architectures x86_64) ∷ [])) ≡ says_there false false 0x7ff00001
   pub not_named : profile_in plain (profile (codes "SCMP_ACT_LOG") ((codes "architectures", architectures (codes "SCMP_ARCH_ARM")) ∷ []))
       ≡ wrong place.Profile (NotTaken field.Architectures)
   pub unknown_architecture : profile_in plain (profile (codes "SCMP_ACT_LOG") ((codes "architectures", listed (string x86_64 ∷ string (codes "SCMP_ARCH_VAX") ∷ [])) ∷ []))

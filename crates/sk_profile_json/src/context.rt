@@ -20,11 +20,12 @@ pub struct Kernel {
     pub minor: u32,
 }
 
-/// Where a profile is to hold: the capabilities that are held, by name, and the kernel.
+/// Where a profile is to hold: the capabilities that are held, by name, the kernel, and whether runc attaches the filter.
 #[derive(Clone, Copy, Debug, Drop)]
 pub struct Context<'a> {
     pub capabilities: &'a [&'a str],
     pub kernel: Kernel,
+    pub runc: bool,
 }
 
 /// What an entry includes, or excludes.

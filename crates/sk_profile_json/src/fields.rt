@@ -6,7 +6,7 @@ ghost use Rattle.std.specs.Result.{result_map_both};
 ghost use Rattle.json.specs.Value.{value_view, members_view};
 ghost use Rattle.json.specs.Find.{as_array};
 ghost use Rattle.json.specs.Strict.{keys};
-ghost use Rattle.sk_profile_json.specs.Fields.{given, is_text, is_the, text_in, number_in, list_in, texts_in, list_of, number_up_to, wrong_keys, wrong_members, is_known};
+ghost use Rattle.sk_profile_json.specs.Fields.{given, is_text, is_the, text_in, number_in, list_in, texts_in, list_of, items_or_none, number_up_to, wrong_keys, wrong_members, is_known};
 
 use crate::fault::{Field, Wrong};
 use json::Value;
@@ -68,6 +68,16 @@ pub(crate) fn no_items<'v, 'a>() -> &'v [Value<'a>]
     ensures none { result.now ≡ [] }
 {
     &[]
+}
+
+/// A list that was read.
+pub(crate) fn items_or_none<'v, 'a>(items: Result<&'v [Value<'a>], Wrong>) -> &'v [Value<'a>]
+    ensures items { map value_view result.now ≡ items_or_none (result_map_both (λ items. map value_view items.now) (λ e. e) items.entry) }
+{
+    match items {
+        Ok(items) => items,
+        Err(_) => no_items(),
+    }
 }
 
 #[tactic(auto, using(crate::proofs::Reading::items_of_array))]

@@ -12,6 +12,7 @@ pub mod laws;
 mod origins;
 mod parts;
 mod rules;
+mod runc;
 mod whole;
 
 pub use context::{Context, Kernel, kernel_of};

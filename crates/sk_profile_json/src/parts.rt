@@ -1,18 +1,17 @@
 //! Parts of a profile that is read which say nothing of its filter.
 ghost use Rattle.std.specs.Prelude.{◌≡◌, ◌||◌, map, not, []};
 ghost use Rattle.std.specs.List.{list_any};
-ghost use Rattle.std.specs.Result.{result_map_both};
 ghost use Rattle.json.specs.Value.{value_view};
 ghost use Rattle.sk_profile_json.specs.Fields.{is_the};
-ghost use Rattle.sk_profile_json.specs.Parts.{entries_of, counted_names, is_yes, names_others, maps_others, is_other, items_or_none};
+ghost use Rattle.sk_profile_json.specs.Parts.{entries_of, counted_names, is_yes, names_others, maps_others, is_other};
 ghost use Rattle.sk_profile_json.specs.Contexts.{counts};
 ghost use Rattle.sk_profile_json.specs.Fields.{list_in};
 ghost use Rattle.sk_profile_json.specs.declared.fault.Field.TheVariants as field;
 
 use crate::context::{Context, counts};
 use crate::entry::names;
-use crate::fault::{Field, Wrong};
-use crate::fields::{is_the, list, no_items};
+use crate::fault::Field;
+use crate::fields::{is_the, items_or_none, list, no_items};
 use crate::whole::maps_x86_64;
 use json::Value;
 
@@ -21,15 +20,6 @@ pub fn entries_of<'v, 'a>(profile: &'v Value<'a>) -> &'v [Value<'a>]
     ensures entries { map value_view result.now ≡ entries_of (value_view profile.now) }
 {
     items_or_none(list(profile, Field::Syscalls))
-}
-
-fn items_or_none<'v, 'a>(items: Result<&'v [Value<'a>], Wrong>) -> &'v [Value<'a>]
-    ensures items { map value_view result.now ≡ items_or_none (result_map_both (λ items. map value_view items.now) (λ e. e) items.entry) }
-{
-    match items {
-        Ok(items) => items,
-        Err(_) => no_items(),
-    }
 }
 
 /// The names of an entry, each a text, where it counts, and else none.

@@ -7,7 +7,8 @@ ghost use Rattle.json.specs.Value.{value_view};
 ghost use Rattle.sk_profile.specs.Views.{profile_of};
 ghost use Rattle.sk_profile_json.specs.Contexts.{is_empty};
 ghost use Rattle.sk_profile_json.specs.WholeViews.{head_view};
-ghost use Rattle.sk_profile_json.specs.Wholes.{is_architecture, is_x86_64, are_architectures, is_map, maps_x86_64, is_some_and, are_maps, are_all, wrong_lists, default_in, default_with, head_of, head_with, head_unless, profile_in, Says, IsText, IsTextFault, IsFault, IsReadFault};
+ghost use Rattle.sk_profile_json.specs.Architectures.{is_architecture, is_x86_64, are_architectures, is_map, maps_x86_64, is_some_and, are_maps, are_all, wrong_lists};
+ghost use Rattle.sk_profile_json.specs.Wholes.{default_in, default_with, head_of, head_with, head_unless, profile_in, Says, IsText, IsTextFault, IsFault, IsReadFault};
 ghost use Rattle.sk_profile_json.specs.Fields.{list_in, given, is_the};
 ghost use Rattle.sk_profile_json.specs.declared.fault.Field.TheVariants as field;
 
@@ -17,6 +18,7 @@ use crate::entry::is_told;
 use crate::fault::{Fault, Field, Place, ReadFault, Wrong};
 use crate::fields::{given, has_text, is_the, list, wrong_keys};
 use crate::rules::rules_of;
+use crate::runc::{has_stub, names_x32};
 use json::{Error, Scratch, Value};
 use sk_insn::Action;
 use sk_profile::Profile;
@@ -122,6 +124,8 @@ pub fn profile_in(
         rules,
         default,
         bad: 0,
+        stub: has_stub(context, value),
+        x32: names_x32(value),
     })
 }
 

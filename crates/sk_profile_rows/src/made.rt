@@ -65,6 +65,7 @@ fn told(alloc: Global, file: &[u8]) -> Result<String, AllocError> {
             major: 6,
             minor: 12,
         },
+        runc: false,
     };
     let mut told = String::new(alloc);
     match made(alloc, &context, file)? {

@@ -11,6 +11,7 @@ const CONTEXT: Context<'_> = Context {
         major: 6,
         minor: 12,
     },
+    runc: false,
 };
 
 /// The file of a profile, and why it is refused.

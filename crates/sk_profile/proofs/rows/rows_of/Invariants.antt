@@ -1,7 +1,7 @@
 use Rattle.std.proofs.Common.{ℕ, ◌≡◌, ◌+◌, ◌<◌, ◌≤◌, length}
 use Rattle.sk_profile_code.specs.Views.{AreRows}
 use Rattle.sk_profile.specs.Clashes.{AreClear}
-use Rattle.sk_profile.specs.Profiles.{saying_of_rules}
+use Rattle.sk_profile.specs.Profiles.{saying_for}
 use Rattle.sk_profile.specs.Views.{profile_of}
 use Rattle.sk_profile.specs.Rows.{said_at, StartBelow}
 use Rattle.sk_profile.proofs.rows.rows_of.Given as goal
@@ -9,8 +9,8 @@ use Rattle.sk_profile.proofs.rows.rows_of.Given as goal
 abbrev pub invariant-loop-nr : goal.invariant-loop-nr
 invariant-loop-nr l = record {
   start : StartBelow l.nr l.rows.rows.items;
-  says : (nr : ℕ) → nr < l.nr → said_at l.rows nr ≡ saying_of_rules (profile_of l.profile) nr;
-  clear : (nr : ℕ) → nr < l.nr → AreClear (saying_of_rules (profile_of l.profile) nr).arms;
+  says : (nr : ℕ) → nr < l.nr → said_at l.rows nr ≡ saying_for (profile_of l.profile) nr;
+  clear : (nr : ℕ) → nr < l.nr → AreClear (saying_for (profile_of l.profile) nr).arms;
   few : length l.rows.rows.items + 1 ≤ l.nr;
   good : AreRows l.rows.before l.rows.rows.items;
 }
