@@ -8,10 +8,14 @@ use bitflags::Flags;
 use sk_turns::signal_due;
 use sk_world::{Body, Life, Note, Proc, ProcStore, Request, WaitOptions, Waiting, Who};
 
-/// The parent to whom the process has something to tell.
+/// The parent to whom the process has something to tell. The pid 0, which is nobody's, stands for no process.
 pub(crate) fn hearer<S: ProcStore>(store: &S, pid: u32) -> Option<u32>
+    requires nobody { at (S.contents store.now) 0 ≡ None }
     ensures { (q : ℕ) → IsTrue (is_news q (at (S.contents store.now) pid)) → result ≡ Some q }
 {
+    if pid == 0 {
+        return None;
+    }
     let Some(process) = store.get(pid) else {
         return None;
     };

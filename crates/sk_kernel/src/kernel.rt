@@ -1,7 +1,7 @@
 ghost use Rattle.std.specs.Prelude.{◌≡◌, [], ◌∷◌, ◌++◌, ◌<◌, length, IsTrue, IfSome, IfNone, IfOk, IfErr, OnOk, OnErr, None, Some};
 ghost use Rattle.sk_world.specs.World.{at, opening};
 ghost use Rattle.sk_machine.specs.Memory.{TakesMemory};
-ghost use Rattle.sk_machine.specs.Machine.{step_of, answers_of, world_after, halted_of};
+ghost use Rattle.sk_machine.specs.Machine.{reason_of, step_of, answers_of, world_after, halted_of};
 ghost use Rattle.sk_machine.specs.Turns.{is_runnable, need_of, next_of};
 ghost use Rattle.sk_machine_laws.specs.RunLaws.{RunIsLawful};
 ghost use Rattle.sk_kernel.specs.State.{done_of};
@@ -63,6 +63,20 @@ impl<S: ProcStore> Kernel<S> {
         ensures images { self.new.images ≡ self.old.images }
     {
         let answer = stepping::step(&mut self.store, &self.images, self.alloc, &event);
+        self.store.settle();
+        answer
+    }
+
+    /// One event that is possible: what `step` does with it, without a look whether it is.
+    pub fn happen(&mut self, event: &Event) -> Result<Answer, AllocError>
+        requires possible { reason_of self.old.world event.now ≡ None }
+        ensures answer { IfOk result (λ answer. answer ≡ (step_of self.old.images self.old.world event.now).answer) }
+        ensures world { OnOk result (self.new.world ≡ (step_of self.old.images self.old.world event.now).world) }
+        ensures memory { OnErr result (TakesMemory self.old.images self.old.world event.now) }
+        ensures kept { OnErr result (self.new.world ≡ self.old.world) }
+        ensures images { self.new.images ≡ self.old.images }
+    {
+        let answer = stepping::step_possible(&mut self.store, &self.images, self.alloc, event);
         self.store.settle();
         answer
     }

@@ -33,11 +33,28 @@ pub(crate) fn step<S: ProcStore>(
 {
     match reason(store, event) {
         Some(reason) => Ok(Answer::NotNow(reason)),
-        None => happen(store, images, alloc, event),
+        None => step_possible(store, images, alloc, event),
     }
 }
 
-/// An event that is possible.
+/// The same of an event that is possible.
+pub(crate) fn step_possible<S: ProcStore>(
+    store: &mut S,
+    images: &Images,
+    alloc: Global,
+    event: &Event,
+) -> Result<Answer, AllocError>
+    requires rules { IsWorld (S.contents store.old) }
+    requires possible { reason_of (S.contents store.old) event.now ≡ None }
+    ensures answer { IfOk result (λ answer. answer ≡ (step_of images.now (S.contents store.old) event.now).answer) }
+    ensures world { OnOk result (S.contents store.new ≡ (step_of images.now (S.contents store.old) event.now).world) }
+    ensures memory { OnErr result (IsTrue (takes_memory images.now (S.contents store.old) event.now)) }
+    ensures kept { OnErr result (S.contents store.new ≡ S.contents store.old) }
+{
+    happen(store, images, alloc, event)
+}
+
+/// An event that is possible, by what it is.
 fn happen<S: ProcStore>(
     store: &mut S,
     images: &Images,

@@ -12,6 +12,9 @@ use sk_calls::Syscall;
 use sk_insn::Action;
 use sk_machine::{Answer, Effect, Event, Outcome};
 
+/// The verdict of no filter, and of filters that allow a call.
+const ALLOW: u32 = 0x7fff_0000;
+
 /// A line of text in place.
 pub type Line = ArrayString<128>;
 
@@ -20,9 +23,17 @@ pub fn turn_line(turn: &Turn) -> Line
     ensures text { result.bytes ≡ line turn.now }
 {
     let mut text = Line::new();
-    push_turn(&mut text, turn);
-    text.push_str("\n");
+    write_line(&mut text, turn);
     text
+}
+
+/// The same, in the place of what was written there.
+pub fn write_line(text: &mut Line, turn: &Turn)
+    ensures text { text.new.bytes ≡ line turn.now }
+{
+    text.clear();
+    push_turn(text, turn);
+    text.push_str("\n");
 }
 
 #[tactic(auto, unfolding(crate::specs::Text::turn_text))]
@@ -76,9 +87,7 @@ fn push_happening(text: &mut Line, event: &Event, answer: &Answer)
         Answer::Call { verdict, outcome } => {
             text.push_str("call ");
             push_name(text, number(event));
-            text.push_str(" ");
-            push_verdict(text, verdict);
-            text.push_str(" ");
+            push_judgement(text, verdict);
             push_outcome(text, outcome);
         }
         Answer::Signal { signal, effect } => {
@@ -115,6 +124,22 @@ fn push_name(text: &mut Line, nr: u32)
     match Syscall::of(nr) {
         Some(call) => push_word(text, call.name()),
         None => push_number(text, nr),
+    }
+}
+
+// The verdict between two spaces. Most calls have no filter, or one that allows them.
+#[tactic(auto, unfolding(crate::specs::Text::verdict_text))]
+fn push_judgement(text: &mut Line, verdict: u32)
+    requires room { array_string_len text.old + 27 ≤ 128 }
+    ensures text { text.new.bytes ≡ text.old.bytes ++ (codes " " ++ (verdict_text verdict ++ codes " ")) }
+    ensures growth { array_string_len text.new ≤ array_string_len text.old + 27 }
+{
+    if verdict == ALLOW {
+        text.push_str(" allow/0 ");
+    } else {
+        text.push_str(" ");
+        push_verdict(text, verdict);
+        text.push_str(" ");
     }
 }
 
@@ -233,7 +258,20 @@ fn push_digit(text: &mut Line, digit: u8)
     text.push(char::from(code));
 }
 
+#[tactic(auto, using(std::proofs::lemmas::Fmt::decimal_digit))]
 fn push_number(text: &mut Line, number: u32)
+    requires room { array_string_len text.old + 10 ≤ 128 }
+    ensures text { text.new.bytes ≡ text.old.bytes ++ decimal number }
+    ensures growth { array_string_len text.new ≤ array_string_len text.old + 10 }
+{
+    if number < 10 {
+        push_digit(text, number as u8);
+    } else {
+        push_digits(text, number);
+    }
+}
+
+fn push_digits(text: &mut Line, number: u32)
     requires room { array_string_len text.old + 10 ≤ 128 }
     ensures text { text.new.bytes ≡ text.old.bytes ++ decimal number }
     ensures growth { array_string_len text.new ≤ array_string_len text.old + 10 }

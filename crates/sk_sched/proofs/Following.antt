@@ -1,10 +1,10 @@
 -- What a turn leads to, by what was asked and answered on the way.
-use Rattle.std.proofs.Common.{◌≡◌, ℕ, ◌+◌, nat_eq, map, List, Option, Result, Ok, Err, OnErr, refl, ap}
+use Rattle.std.proofs.Common.{◌≡◌, ℕ, ◌+◌, nat_eq, map, List, Option, Result, Ok, Err, Some, OnErr, refl, ap, rules}
 use Rattle.std.specs.Option.{option_map_or}
 use Rattle.std.specs.Map.{lookup}
 use Rattle.std.specs.declared.hash.FoldHasher.{FoldHasher}
 use Rattle.std.specs.declared.hash.BuildHasherDefault.{BuildHasherDefault}
-use Rattle.indexmap.specs.IndexMap.{IndexMap}
+use Rattle.indexmap.specs.IndexMap.{IndexMap, get}
 use Rattle.sk_setting.specs.declared.call.ScriptCall.{ScriptCall}
 use Rattle.sk_setting.specs.Scenario.{Script, Setting}
 use Rattle.sk_world.specs.World.{World}
@@ -13,7 +13,8 @@ use Rattle.sk_machine.specs.declared.answer.Answer.{Answer}
 use Rattle.sk_machine.specs.Given.{GivenImages}
 use Rattle.sk_machine.specs.Machine.{step_of}
 use Rattle.sk_machine.specs.Turns.{need_of}
-use Rattle.sk_report.specs.Levels.{Stack, Stacks, first_call, alone, stacks_after}
+use Rattle.std.proofs.Math.Bool.{cond}
+use Rattle.sk_report.specs.Levels.{Stack, Stacks, first_call, alone, stacked, stacks_after}
 use Rattle.sk_report.specs.Scheduling.{Scheduled, mark_of_script, images_of, line_due, event_by, after_turn_by}
 use Rattle.sk_sched.specs.declared.levels.Levels.{Levels}
 use Rattle.sk_sched.specs.views.Stacks.{stack_of, stacks_of}
@@ -44,3 +45,8 @@ pub follows : (setting : Setting) (s : Scheduled) (pid : ℕ) (images : GivenIma
     → event ≡ event_by setting.programs pid stack (need_of s.world pid) → answer ≡ (step_of images s.world event).answer → world ≡ (step_of images s.world event).world
     → stacks ≡ stacks_after line event answer reserved → scheduled world stacks pid (s.used + 1) ≡ after_turn_by setting s pid
 follows setting s pid images reserved stack line event answer world stacks i r k l e a w t = rw (w, t, a, e, l, k, r, i) refl
+
+-- the levels of one process were written in place
+pub written : (m n : IndexMap ℕ Levels (BuildHasherDefault FoldHasher)) (pid : ℕ) (w : Levels) → ((q : ℕ) → get nat_eq n q ≡ cond (nat_eq pid q) (Some w) (get nat_eq m q))
+    → stacks_of n ≡ stacked pid (stack_of w) (stacks_of m)
+written m n pid w h = search rules

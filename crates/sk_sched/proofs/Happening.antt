@@ -1,6 +1,12 @@
 -- The event that is due to whoever has the turn is possible, and so it happens.
-use Rattle.std.proofs.Common.{◌≡◌, ◌∙◌, ℕ, zero, suc, ap, refl, sym, subst, IsTrue, List, [], slice_get, Option, None, Some, Result, Ok, Err}
-use Rattle.std.proofs.lemmas.Bool.{cond_both}
+use Rattle.std.proofs.Common.{◌≡◌, ◌∙◌, ℕ, zero, suc, ap, refl, sym, subst, false, not, ◌&&◌, IsTrue, List, [], slice_get, Option, None, Some, Result, Ok, Err}
+use Rattle.std.specs.Option.{option_and_then}
+use Rattle.std.proofs.lemmas.Bool.{false≢true, and_parts, cond_both, not-true}
+use Rattle.sk_world.specs.declared.process.TheConstants.{INIT}
+use Rattle.sk_world.specs.declared.process.Life.{Life}
+use Rattle.sk_world.specs.declared.process.Life.TheVariants as life
+use Rattle.sk_world.specs.declared.process.Proc.{Proc}
+use Rattle.sk_world.specs.World.{World, at, has_ended, is_alive, is_halted, is_zombie}
 use Rattle.sk_setting.specs.declared.call.ScriptCall.{ScriptCall}
 use Rattle.sk_setting.specs.Scenario.{Script, Setting}
 use Rattle.sk_machine.specs.declared.event.Event.{Event}
@@ -9,7 +15,7 @@ use Rattle.sk_machine.specs.declared.event.Need.TheVariants as need
 use Rattle.sk_machine.specs.declared.answer.Answer.TheVariants as answer
 use Rattle.sk_machine.specs.declared.answer.Reason.{Reason}
 use Rattle.sk_machine.specs.Events.{pid_of}
-use Rattle.sk_machine.specs.Machine.{halted_of}
+use Rattle.sk_machine.specs.Machine.{end_status, halted_of, reason_of}
 use Rattle.sk_machine.specs.Turns.{is_runnable, need_of, need_met_by, next_of}
 use Rattle.sk_machine_laws.proofs.Turns.{next_is_turn, runnable_has_event}
 use Rattle.sk_machine_laws.proofs.Unchanged.{possible_happens}
@@ -40,6 +46,30 @@ due_is_possible setting s pid runs =
     let meets = due_meets setting.programs pid (s.stacks pid) (need_of s.world pid) in
     (runnable_has_event s.world (event_of setting s pid) (subst (λ q. IsTrue (is_runnable s.world q)) (sym meets.of_it) runs)).1
     (meets.met ∙ ap (need_of s.world) (sym meets.of_it))
+
+-- who is next can run, and so has the turn
+is_alive_not_halted : (o : Option Proc) → is_zombie o ≡ false → option_and_then (λ p. end_status p.body.life) o ≡ None
+is_alive_not_halted None going = refl
+is_alive_not_halted (Some p) going = no_status p.body.life going
+  where
+    no_status : (l : Life) → has_ended l ≡ false → end_status l ≡ None
+    no_status (life.Zombie status) going = absurd (false≢true (sym going))
+    no_status life.Stopped going = refl
+    no_status life.Running going = refl
+
+pub next_runs : (w : World) (last pid : ℕ) → next_of w last ≡ Some pid → IsTrue (is_runnable w pid)
+next_runs w last pid is = (next_is_turn w last pid is).runs
+
+pub next_has_the_turn : (w : World) (last pid : ℕ) → next_of w last ≡ Some pid → Ok pid ≡ runner_by (halted_of w) (next_of w last)
+next_has_the_turn w last pid is =
+    let runs = and_parts (not (is_halted w) && is_alive (at w pid)) _ (next_runs w last pid is) in
+    let going : is_halted w ≡ false = not-true (is_halted w) (and_parts (not (is_halted w)) (is_alive (at w pid)) runs.0).0 in
+    sym ((λ i. runner_by (is_alive_not_halted (at w INIT) going i) (is i)))
+
+-- the event that is due, by the levels alone
+pub due_now : (setting : Setting) (w : World) (pid : ℕ) (s : Stack) (event : Event) → event ≡ event_by setting.programs pid s (need_of w pid) → IsTrue (is_runnable w pid) → reason_of w event ≡ None
+due_now setting w pid s event is runs =
+    ap (reason_of w) is ∙ due_is_possible setting (record { world = w; stacks = λ other. s; last = 0; used = 0 }) pid runs
 
 -- whoever has the turn can run
 has_the_turn : (halted next : Option ℕ) (pid : ℕ) → runner_by halted next ≡ Ok pid → next ≡ Some pid

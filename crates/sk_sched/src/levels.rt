@@ -1,10 +1,10 @@
 //! The levels of one process.
 ghost use Rattle.std.specs.Prelude.{◌≡◌, ◌<◌, ◌+◌, ◌^◌, IfOk, IfSome};
+ghost use Rattle.std.specs.Option.{option_copied};
 ghost use Rattle.sk_report.specs.Levels.{first_call, alone, handling, returned, next_call, marked, begun, made, performing, called};
 ghost use Rattle.sk_sched.specs.views.Stacks.{stack_of};
 
 use sk_calls::Syscall;
-use sk_insn::Record;
 use sk_machine::Outcome;
 use sk_report::Level;
 use sk_setting::ScriptCall;
@@ -83,69 +83,63 @@ impl Levels {
     }
 
     /// The top level is off, where there are any below it.
-    fn returned(self) -> Levels
-        ensures stack { stack_of result ≡ returned (stack_of self) }
+    fn return_from_handler(&mut self)
+        ensures stack { stack_of self.new ≡ returned (stack_of self.old) }
     {
-        let Levels { top, mut below } = self;
-        match below.pop() {
-            Some(level) => Levels { top: level, below },
-            None => Levels { top, below },
+        if let Some(level) = self.below.pop() {
+            self.top = level;
         }
     }
 
     /// A call was made: this line of the script, or the call that ends it.
-    pub(crate) fn made(self, line: Option<ScriptCall>, performed: bool) -> Levels
-        requires room { IfSome line (λ _. self.top.position < 2 ^ 63) }
-        ensures stack { stack_of result ≡ made line performed (stack_of self) }
+    pub(crate) fn make(&mut self, line: Option<&ScriptCall>, performed: bool)
+        requires room { IfSome line (λ _. self.old.top.position < 2 ^ 63) }
+        ensures stack { stack_of self.new ≡ made (option_copied line.entry) performed (stack_of self.old) }
     {
-        let Levels { top, below } = self;
-        let top = match line {
-            Some(_) => Level {
-                position: top.position + 1,
-                ..top
-            },
-            None => Level {
-                refused: top.refused || !performed,
-                ..top
-            },
-        };
-        Levels { top, below }
+        match line {
+            Some(_) => self.top.position += 1,
+            None => {
+                if !performed {
+                    self.top.refused = true;
+                }
+            }
+        }
     }
 
     /// What a performed call does to the levels of its caller.
-    fn performing(self, alloc: Global, call: &Record, outcome: Outcome) -> Levels
-        ensures stack { stack_of result ≡ performing call.now outcome (stack_of self) }
+    fn perform(&mut self, ip: u64, nr: u32, args: &[u64; 6], outcome: Outcome)
+        ensures stack { stack_of self.new ≡ performing (record { nr = nr; ip = ip; args = args.now }) outcome (stack_of self.old) }
     {
         match outcome {
-            Outcome::Executed => at_program(alloc, call.args[0]),
+            Outcome::Executed => {
+                self.top = first_call(args[0]);
+                self.below.clear();
+            }
             Outcome::Returned(value) => {
-                if call.nr == Syscall::RtSigreturn.number() && value == 0 {
-                    self.returned()
-                } else {
-                    self
+                if nr == Syscall::RtSigreturn.number() && value == 0 {
+                    self.return_from_handler();
                 }
             }
-            _ => self,
+            _ => {}
         }
     }
 
     /// The levels of the caller after a call.
-    pub(crate) fn called(
-        self,
-        alloc: Global,
-        line: Option<ScriptCall>,
-        call: &Record,
+    pub(crate) fn call(
+        &mut self,
+        line: Option<&ScriptCall>,
+        ip: u64,
+        nr: u32,
+        args: &[u64; 6],
         performed: bool,
         outcome: Outcome,
-    ) -> Levels
-        requires room { IfSome line (λ _. self.top.position < 2 ^ 63) }
-        ensures stack { stack_of result ≡ called line call.now performed outcome (stack_of self) }
+    )
+        requires room { IfSome line (λ _. self.old.top.position < 2 ^ 63) }
+        ensures stack { stack_of self.new ≡ called (option_copied line.entry) (record { nr = nr; ip = ip; args = args.now }) performed outcome (stack_of self.old) }
     {
-        let made = self.made(line, performed);
+        self.make(line, performed);
         if performed {
-            made.performing(alloc, call, outcome)
-        } else {
-            made
+            self.perform(ip, nr, args, outcome);
         }
     }
 }

@@ -1,8 +1,11 @@
 //! The machine that makes the turns of a scenario.
-ghost use Rattle.std.specs.Prelude.{◌≡◌, ◌<◌, IfOk, OnOk, OnErr, map};
+ghost use Rattle.sk_machine.specs.Turns.{is_runnable, next_of};
+ghost use Rattle.std.specs.Prelude.{◌≡◌, ◌<◌, IfOk, IsTrue, OnOk, OnErr, Err, None, map};
+ghost use Rattle.sk_report.specs.Levels.{alone, first_call};
+ghost use Rattle.sk_sched.specs.views.Stacks.{stack_of};
 ghost use Rattle.sk_report.specs.Scheduling.{opened, runner_of, turn_of, after_turn, turn_by, after_turn_by, mark_of_script};
 
-use crate::levels::Levels;
+use crate::levels::{Levels, at_program};
 use crate::making::{event_by, line_due, make};
 use crate::stacks::{Stacks, levels_at};
 use indexmap::IndexMap;
@@ -18,11 +21,14 @@ pub struct Machine<S: ProcStore> {
     kernel: Kernel<S>,
     programs: Vec<Program>,
     stacks: Stacks,
+    // The levels that process 1 opens with.
+    first: Levels,
     turns: u32,
     last: u32,
     used: u32,
     alloc: Global,
     ghost declared: { kernel.images.programs ≡ map mark_of_script programs.items },
+    ghost opens: { stack_of first ≡ alone (first_call 0) },
 }
 
 impl<S: ProcStore> Machine<S> {
@@ -49,6 +55,7 @@ impl<S: ProcStore> Machine<S> {
             kernel: Kernel::new(alloc, images)?,
             programs,
             stacks: IndexMap::new(alloc),
+            first: at_program(alloc, 0),
             turns,
             last: 0,
             used: 0,
@@ -80,33 +87,46 @@ impl<S: ProcStore> Machine<S> {
     /// Whose turn it is, or why nobody's is.
     fn runner(&self) -> Result<u32, End>
         ensures runner { result ≡ runner_of (now_of self.now) }
+        ensures runs { IfOk result (λ pid. IsTrue (is_runnable self.now.kernel.world pid)) }
+    {
+        match self.kernel.next_runnable(self.last) {
+            Some(pid) => Ok(pid),
+            None => Err(self.end()),
+        }
+    }
+
+    /// Why nobody has the turn.
+    fn end(&self) -> End
+        requires nobody { next_of self.now.kernel.world self.now.last ≡ None }
+        ensures end { Err result ≡ runner_of (now_of self.now) }
     {
         match self.kernel.halted() {
-            Some(status) => Err(End::Halt(status)),
-            None => self.kernel.next_runnable(self.last).ok_or(End::Idle),
+            Some(status) => End::Halt(status),
+            None => End::Idle,
         }
     }
 
     /// The turn of this process.
     fn turn_by(&mut self, pid: u32) -> Result<Turn, AllocError>
         requires room { (now_of self.old).used < (setting_of self.old).turns }
+        requires runs { IsTrue (is_runnable self.old.kernel.world pid) }
         ensures turn { IfOk result (λ turn. turn ≡ turn_by (setting_of self.old) (now_of self.old) pid) }
         ensures after { OnOk result ((now_of self.new) ≡ after_turn_by (setting_of self.old) (now_of self.old) pid) }
         ensures kept { OnErr result ((now_of self.new) ≡ (now_of self.old)) }
         ensures setting { (setting_of self.new) ≡ (setting_of self.old) }
     {
         self.stacks.reserve(2)?;
-        let levels = levels_at(&self.stacks, self.alloc, u64::from(pid))?;
+        let levels = levels_at(&self.stacks, &self.first, u64::from(pid));
         let programs = self.programs.as_slice();
-        let line = line_due(programs, &levels);
-        let event = event_by(programs, pid, &levels, self.kernel.need(pid), line);
+        let line = line_due(programs, levels);
+        let event = event_by(programs, pid, levels, self.kernel.need(pid), line);
         let answer = make(
             &mut self.kernel,
             &mut self.stacks,
+            &self.first,
             self.alloc,
-            levels,
             line,
-            event,
+            &event,
         )?;
         self.last = pid;
         self.used += 1;

@@ -1,20 +1,21 @@
 //! Which event is due, and what its answer leads to.
-ghost use Rattle.std.specs.Prelude.{◌≡◌, ◌≢◌, ◌<◌, ◌≤◌, ◌+◌, ◌^◌, IfOk, OnOk, OnErr, IfSome, None, true};
+ghost use Rattle.std.specs.Prelude.{◌≡◌, ◌≢◌, ◌<◌, ◌≤◌, ◌+◌, ◌^◌, IfOk, OnOk, OnErr, IfSome, IsTrue, None, true};
+ghost use Rattle.std.specs.Option.{option_copied};
 ghost use Rattle.indexmap.specs.IndexMap.{spare};
 ghost use Rattle.sk_calls.specs.Syscalls.{number_of};
 ghost use Rattle.sk_calls.specs.declared.syscall.Syscall.TheVariants as syscall;
 ghost use Rattle.sk_insn.specs.Actions.{action_of, performs};
-ghost use Rattle.sk_machine.specs.Machine.{step_of};
+ghost use Rattle.sk_machine.specs.Machine.{reason_of, step_of};
 ghost use Rattle.sk_machine.specs.Events.{pid_of};
 ghost use Rattle.sk_machine.specs.declared.event.Event.TheVariants as event;
-ghost use Rattle.sk_report.specs.Levels.{begun, made, delivered, handling, stacked, stacks_after, with_child, script_of_child, pid_in};
+ghost use Rattle.sk_report.specs.Levels.{alone, begun, first_call, made, delivered, handling, stacked, stacks_after, with_child, script_of_child, pid_in};
 ghost use Rattle.sk_report.specs.Scheduling.{line_due, own_event, event_by, address_of, closing, script_of};
-ghost use Rattle.sk_sched.specs.views.Stacks.{stack_of, stacks_of};
+ghost use Rattle.sk_sched.specs.views.Stacks.{is_fork, is_other_call, stack_of, stacks_of};
 
 use crate::levels::Levels;
-use crate::stacks::{Stacks, put};
+use crate::stacks::{Stacks, follow, levels_at, put};
 use sk_calls::Syscall;
-use sk_insn::{Action, Record};
+use sk_insn::Action;
 use sk_kernel::Kernel;
 use sk_machine::{Answer, Effect, Event, Need, Outcome};
 use sk_report::Level;
@@ -34,13 +35,11 @@ fn script_of(programs: &[Program], program: u64) -> &[ScriptCall]
 }
 
 /// The call of the script that is next, if one is left.
-pub(crate) fn line_due(programs: &[Program], levels: &Levels) -> Option<ScriptCall>
-    ensures line { result ≡ line_due programs.now (stack_of levels.now) }
+pub(crate) fn line_due<'a>(programs: &'a [Program], levels: &Levels) -> Option<&'a ScriptCall>
+    ensures line { option_copied result ≡ line_due programs.now (stack_of levels.now) }
     ensures room { IfSome result (λ _. levels.now.top.position < 2 ^ 63) }
 {
-    script_of(programs, levels.top.program)
-        .get(levels.top.position)
-        .copied()
+    script_of(programs, levels.top.program).get(levels.top.position)
 }
 
 /// The event of a process by what it needs.
@@ -49,9 +48,9 @@ pub(crate) fn event_by(
     pid: u32,
     levels: &Levels,
     need: Need,
-    line: Option<ScriptCall>,
+    line: Option<&ScriptCall>,
 ) -> Event
-    requires line { line ≡ line_due programs.now (stack_of levels.now) }
+    requires line { option_copied line ≡ line_due programs.now (stack_of levels.now) }
     requires room { IfSome line (λ _. levels.now.top.position < 2 ^ 63) }
     ensures event { result ≡ event_by programs.now pid (stack_of levels.now) need }
 {
@@ -63,19 +62,18 @@ pub(crate) fn event_by(
 }
 
 /// The event of a process that makes a call of its own.
-fn own_event(programs: &[Program], pid: u32, levels: &Levels, line: Option<ScriptCall>) -> Event
+fn own_event(programs: &[Program], pid: u32, levels: &Levels, line: Option<&ScriptCall>) -> Event
     requires room { IfSome line (λ _. levels.now.top.position < 2 ^ 63) }
-    ensures event { result ≡ own_event programs.now pid (stack_of levels.now) line }
+    ensures event { result ≡ own_event programs.now pid (stack_of levels.now) (option_copied line.entry) }
 {
     let Levels { top, below } = levels;
     match line {
         Some(line) => {
-            let args = line.args;
             Event::Call {
                 pid,
                 ip: address_of(top.program, top.position),
                 nr: line.nr,
-                args,
+                args: line.args,
             }
         }
         None if top.refused => Event::Fault { pid },
@@ -111,33 +109,33 @@ fn closing(below: &[Level]) -> u32
 pub(crate) fn make<S: ProcStore>(
     kernel: &mut Kernel<S>,
     stacks: &mut Stacks,
+    first: &Levels,
     alloc: Global,
-    levels: Levels,
-    line: Option<ScriptCall>,
-    event: Event,
+    line: Option<&ScriptCall>,
+    event: &Event,
 ) -> Result<Answer, AllocError>
+    requires possible { reason_of kernel.old.world event.now ≡ None }
     requires spare { 2 ≤ spare stacks.old }
-    requires levels { stack_of levels ≡ stacks_of stacks.old (pid_of event) }
-    requires room { IfSome line (λ _. levels.top.position < 2 ^ 63) }
-    ensures answer { IfOk result (λ answer. answer ≡ (step_of kernel.old.images kernel.old.world event).answer) }
-    ensures world { OnOk result (kernel.new.world ≡ (step_of kernel.old.images kernel.old.world event).world) }
-    ensures stacks { IfOk result (λ answer. stacks_of stacks.new ≡ stacks_after line event answer (stacks_of stacks.old)) }
+    requires first { stack_of first.now ≡ alone (first_call 0) }
+    requires room { IfSome line (λ _. (stacks_of stacks.old (pid_of event.now)).top.position < 2 ^ 63) }
+    ensures answer { IfOk result (λ answer. answer ≡ (step_of kernel.old.images kernel.old.world event.now).answer) }
+    ensures world { OnOk result (kernel.new.world ≡ (step_of kernel.old.images kernel.old.world event.now).world) }
+    ensures stacks { IfOk result (λ answer. stacks_of stacks.new ≡ stacks_after (option_copied line.entry) event.now answer (stacks_of stacks.old)) }
     ensures kept { OnErr result (kernel.new.world ≡ kernel.old.world) }
     ensures kept_stacks { OnErr result (stacks_of stacks.new ≡ stacks_of stacks.old) }
     ensures images { kernel.new.images ≡ kernel.old.images }
 {
     match event {
-        Event::Call { pid, ip, nr, args } => {
-            let call = Record { nr, ip, args };
-            if nr == Syscall::Fork.number() {
-                fork(kernel, stacks, alloc, levels, line, pid, call)
+        Event::Call { nr, .. } => {
+            if *nr == Syscall::Fork.number() {
+                fork(kernel, stacks, first, alloc, line, event)
             } else {
-                make_call(kernel, stacks, alloc, levels, line, pid, call)
+                make_call(kernel, stacks, alloc, line, event)
             }
         }
-        Event::Deliver { pid } => deliver(kernel, stacks, levels, pid),
-        Event::Resume { .. } => kernel.step(event),
-        Event::Fault { .. } => kernel.step(event),
+        Event::Deliver { pid } => deliver(kernel, stacks, first, alloc, *pid),
+        Event::Resume { .. } => kernel.happen(event),
+        Event::Fault { .. } => kernel.happen(event),
     }
 }
 
@@ -145,11 +143,13 @@ pub(crate) fn make<S: ProcStore>(
 fn deliver<S: ProcStore>(
     kernel: &mut Kernel<S>,
     stacks: &mut Stacks,
-    levels: Levels,
+    first: &Levels,
+    alloc: Global,
     pid: u32,
 ) -> Result<Answer, AllocError>
+    requires possible { reason_of kernel.old.world (event.Deliver pid) ≡ None }
     requires spare { 2 ≤ spare stacks.old }
-    requires levels { stack_of levels ≡ stacks_of stacks.old pid }
+    requires first { stack_of first.now ≡ alone (first_call 0) }
     ensures answer { IfOk result (λ answer. answer ≡ (step_of kernel.old.images kernel.old.world (event.Deliver pid)).answer) }
     ensures world { OnOk result (kernel.new.world ≡ (step_of kernel.old.images kernel.old.world (event.Deliver pid)).world) }
     ensures stacks { IfOk result (λ answer. stacks_of stacks.new ≡ stacks_after None (event.Deliver pid) answer (stacks_of stacks.old)) }
@@ -157,8 +157,9 @@ fn deliver<S: ProcStore>(
     ensures kept_stacks { OnErr result (stacks_of stacks.new ≡ stacks_of stacks.old) }
     ensures images { kernel.new.images ≡ kernel.old.images }
 {
+    let levels = levels_at(stacks, first, u64::from(pid)).copy(alloc)?;
     let deeper = levels.deeper()?;
-    let answer = kernel.step(Event::Deliver { pid })?;
+    let answer = kernel.happen(&Event::Deliver { pid })?;
     if let Answer::Signal { effect, .. } = answer {
         follow_delivery(stacks, pid, deeper, effect);
     }
@@ -181,24 +182,22 @@ fn make_call<S: ProcStore>(
     kernel: &mut Kernel<S>,
     stacks: &mut Stacks,
     alloc: Global,
-    levels: Levels,
-    line: Option<ScriptCall>,
-    pid: u32,
-    call: Record,
+    line: Option<&ScriptCall>,
+    event: &Event,
 ) -> Result<Answer, AllocError>
-    requires spare { 2 ≤ spare stacks.old }
-    requires levels { stack_of levels ≡ stacks_of stacks.old pid }
-    requires room { IfSome line (λ _. levels.top.position < 2 ^ 63) }
-    requires other { call.nr ≢ number_of syscall.Fork }
-    ensures answer { IfOk result (λ answer. answer ≡ (step_of kernel.old.images kernel.old.world (event.Call pid call.ip call.nr call.args)).answer) }
-    ensures world { OnOk result (kernel.new.world ≡ (step_of kernel.old.images kernel.old.world (event.Call pid call.ip call.nr call.args)).world) }
-    ensures stacks { IfOk result (λ answer. stacks_of stacks.new ≡ stacks_after line (event.Call pid call.ip call.nr call.args) answer (stacks_of stacks.old)) }
+    requires possible { reason_of kernel.old.world event.now ≡ None }
+    requires spare { 0 < spare stacks.old }
+    requires room { IfSome line (λ _. (stacks_of stacks.old (pid_of event.now)).top.position < 2 ^ 63) }
+    requires other { IsTrue (is_other_call event.now) }
+    ensures answer { IfOk result (λ answer. answer ≡ (step_of kernel.old.images kernel.old.world event.now).answer) }
+    ensures world { OnOk result (kernel.new.world ≡ (step_of kernel.old.images kernel.old.world event.now).world) }
+    ensures stacks { IfOk result (λ answer. stacks_of stacks.new ≡ stacks_after (option_copied line.entry) event.now answer (stacks_of stacks.old)) }
     ensures kept { OnErr result (kernel.new.world ≡ kernel.old.world) }
     ensures kept_stacks { OnErr result (stacks_of stacks.new ≡ stacks_of stacks.old) }
     ensures images { kernel.new.images ≡ kernel.old.images }
 {
-    let answer = kernel.step(event_of(pid, &call))?;
-    follow_call(stacks, alloc, levels, line, pid, &call, &answer);
+    let answer = kernel.happen(event)?;
+    follow_call(stacks, alloc, line, event, &answer);
     Ok(answer)
 }
 
@@ -206,33 +205,30 @@ fn make_call<S: ProcStore>(
 fn follow_call(
     stacks: &mut Stacks,
     alloc: Global,
-    levels: Levels,
-    line: Option<ScriptCall>,
-    pid: u32,
-    call: &Record,
+    line: Option<&ScriptCall>,
+    event: &Event,
     answer: &Answer,
 )
-    requires levels { stack_of levels ≡ stacks_of stacks.old pid }
-    requires room { IfSome line (λ _. levels.top.position < 2 ^ 63) }
+    requires room { IfSome line (λ _. (stacks_of stacks.old (pid_of event.now)).top.position < 2 ^ 63) }
     requires spare { 0 < spare stacks.old }
-    requires other { call.now.nr ≢ number_of syscall.Fork }
-    ensures stacks { stacks_of stacks.new ≡ stacks_after line (event.Call pid call.now.ip call.now.nr call.now.args) answer.now (stacks_of stacks.old) }
+    requires other { IsTrue (is_other_call event.now) }
+    ensures stacks { stacks_of stacks.new ≡ stacks_after (option_copied line.entry) event.now answer.now (stacks_of stacks.old) }
 {
-    if let Answer::Call { verdict, outcome } = *answer {
-        let performed = Action::of(verdict).performs();
-        let after = levels.called(alloc, line, call, performed, outcome);
-        put(stacks, u64::from(pid), after);
-    }
-}
-
-fn event_of(pid: u32, call: &Record) -> Event
-    ensures event { result ≡ event.Call pid call.now.ip call.now.nr call.now.args }
-{
-    Event::Call {
-        pid,
-        ip: call.ip,
-        nr: call.nr,
-        args: call.args,
+    if let Event::Call { pid, ip, nr, args } = event {
+        if let Answer::Call { verdict, outcome } = *answer {
+            let performed = Action::of(verdict).performs();
+            follow(
+                stacks,
+                alloc,
+                line,
+                u64::from(*pid),
+                *ip,
+                *nr,
+                args,
+                performed,
+                outcome,
+            );
+        }
     }
 }
 
@@ -240,26 +236,26 @@ fn event_of(pid: u32, call: &Record) -> Event
 fn fork<S: ProcStore>(
     kernel: &mut Kernel<S>,
     stacks: &mut Stacks,
+    first: &Levels,
     alloc: Global,
-    levels: Levels,
-    line: Option<ScriptCall>,
-    pid: u32,
-    call: Record,
+    line: Option<&ScriptCall>,
+    event: &Event,
 ) -> Result<Answer, AllocError>
+    requires possible { reason_of kernel.old.world event.now ≡ None }
     requires spare { 2 ≤ spare stacks.old }
-    requires levels { stack_of levels ≡ stacks_of stacks.old pid }
-    requires room { IfSome line (λ _. levels.top.position < 2 ^ 63) }
-    requires fork { call.nr ≡ number_of syscall.Fork }
-    ensures answer { IfOk result (λ answer. answer ≡ (step_of kernel.old.images kernel.old.world (event.Call pid call.ip call.nr call.args)).answer) }
-    ensures world { OnOk result (kernel.new.world ≡ (step_of kernel.old.images kernel.old.world (event.Call pid call.ip call.nr call.args)).world) }
-    ensures stacks { IfOk result (λ answer. stacks_of stacks.new ≡ stacks_after line (event.Call pid call.ip call.nr call.args) answer (stacks_of stacks.old)) }
+    requires first { stack_of first.now ≡ alone (first_call 0) }
+    requires room { IfSome line (λ _. (stacks_of stacks.old (pid_of event.now)).top.position < 2 ^ 63) }
+    requires fork { IsTrue (is_fork event.now) }
+    ensures answer { IfOk result (λ answer. answer ≡ (step_of kernel.old.images kernel.old.world event.now).answer) }
+    ensures world { OnOk result (kernel.new.world ≡ (step_of kernel.old.images kernel.old.world event.now).world) }
+    ensures stacks { IfOk result (λ answer. stacks_of stacks.new ≡ stacks_after (option_copied line.entry) event.now answer (stacks_of stacks.old)) }
     ensures kept { OnErr result (kernel.new.world ≡ kernel.old.world) }
     ensures kept_stacks { OnErr result (stacks_of stacks.new ≡ stacks_of stacks.old) }
     ensures images { kernel.new.images ≡ kernel.old.images }
 {
-    let copy = levels.copy(alloc)?;
-    let answer = kernel.step(event_of(pid, &call))?;
-    follow_fork(stacks, alloc, levels, copy, line, pid, &call, &answer);
+    let copy = levels_at(stacks, first, u64::from(event.pid())).copy(alloc)?;
+    let answer = kernel.happen(event)?;
+    follow_fork(stacks, alloc, copy, line, event, &answer);
     Ok(answer)
 }
 
@@ -267,27 +263,34 @@ fn fork<S: ProcStore>(
 fn follow_fork(
     stacks: &mut Stacks,
     alloc: Global,
-    levels: Levels,
     copy: Levels,
-    line: Option<ScriptCall>,
-    pid: u32,
-    call: &Record,
+    line: Option<&ScriptCall>,
+    event: &Event,
     answer: &Answer,
 )
-    requires levels { stack_of levels ≡ stacks_of stacks.old pid }
-    requires copy { stack_of copy ≡ stack_of levels }
-    requires room { IfSome line (λ _. levels.top.position < 2 ^ 63) }
+    requires copy { stack_of copy ≡ stacks_of stacks.old (pid_of event.now) }
+    requires room { IfSome line (λ _. copy.top.position < 2 ^ 63) }
     requires spare { 2 ≤ spare stacks.old }
-    requires fork { call.now.nr ≡ number_of syscall.Fork }
-    ensures stacks { stacks_of stacks.new ≡ stacks_after line (event.Call pid call.now.ip call.now.nr call.now.args) answer.now (stacks_of stacks.old) }
+    requires fork { IsTrue (is_fork event.now) }
+    ensures stacks { stacks_of stacks.new ≡ stacks_after (option_copied line.entry) event.now answer.now (stacks_of stacks.old) }
 {
-    if let Answer::Call { verdict, outcome } = *answer {
-        let performed = Action::of(verdict).performs();
-        let child = pid_in(&outcome);
-        let after = levels.called(alloc, line, call, performed, outcome);
-        put(stacks, u64::from(pid), after);
-        if performed {
-            follow_child(stacks, copy, line, child);
+    if let Event::Call { pid, ip, nr, args } = event {
+        if let Answer::Call { verdict, outcome } = *answer {
+            let performed = Action::of(verdict).performs();
+            follow(
+                stacks,
+                alloc,
+                line,
+                u64::from(*pid),
+                *ip,
+                *nr,
+                args,
+                performed,
+                outcome,
+            );
+            if performed {
+                follow_child(stacks, copy, line, pid_in(&outcome));
+            }
         }
     }
 }
@@ -303,21 +306,22 @@ fn pid_in(outcome: &Outcome) -> Option<u64>
 }
 
 /// The levels of a child, which a performed fork(2) has made.
-fn follow_child(stacks: &mut Stacks, copy: Levels, line: Option<ScriptCall>, child: Option<u64>)
+fn follow_child(stacks: &mut Stacks, copy: Levels, line: Option<&ScriptCall>, child: Option<u64>)
     requires room { IfSome line (λ _. copy.top.position < 2 ^ 63) }
     requires spare { 0 < spare stacks.old }
-    ensures stacks { stacks_of stacks.new ≡ with_child child (begun (script_of_child line) (made line true (stack_of copy))) (stacks_of stacks.old) }
+    ensures stacks { stacks_of stacks.new ≡ with_child child (begun (script_of_child (option_copied line.entry)) (made (option_copied line.entry) true (stack_of copy))) (stacks_of stacks.old) }
 {
     if let Some(child) = child {
-        let levels = copy.made(line, true);
+        let mut levels = copy;
+        levels.make(line, true);
         let program = script_of_child(line);
         put(stacks, child, levels.begun(program));
     }
 }
 
 /// The program that a child begins with, where the line names one.
-fn script_of_child(line: Option<ScriptCall>) -> Option<u32>
-    ensures program { result ≡ script_of_child line }
+fn script_of_child(line: Option<&ScriptCall>) -> Option<u32>
+    ensures program { result ≡ script_of_child (option_copied line.entry) }
 {
     line.and_then(|line| line.script)
 }

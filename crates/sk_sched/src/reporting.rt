@@ -9,7 +9,7 @@ ghost use Rattle.sk_sched.specs.Engine.{Delivers, Writes, CountsReads, CountsWri
 use crate::fault::EngineFault;
 use crate::machine::Machine;
 use sk_ends::{Sink, Source, WriteFault, send, take_up_to};
-use sk_report::{End, Turn, turn_line};
+use sk_report::{End, Line, Turn, write_line};
 use sk_scenario::read;
 use sk_table::SlotStore;
 use sk_world::ProcStore;
@@ -56,13 +56,14 @@ fn report<S: ProcStore, W: Sink>(machine: Machine<S>, writer: &mut W) -> Result<
     ensures writes { CountsWrites result (W.failed writer.old) (W.failed writer.new) }
 {
     let mut machine = machine;
+    let mut line = Line::new();
     let mut done = 0;
     loop {
         let turn = match machine.turn() {
             Ok(turn) => turn,
             Err(AllocError) => return Err(EngineFault::Memory { turns: done }),
         };
-        let line = turn_line(&turn);
+        write_line(&mut line, &turn);
         let Ok(()) = send(writer, line.as_bytes()) else {
             return Err(EngineFault::Write);
         };

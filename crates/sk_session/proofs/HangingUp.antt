@@ -1,7 +1,7 @@
 -- What it leaves of the world that groups are hung up.
-use Rattle.std.proofs.Common.{◌≡◌, ◌∙◌, ◌==◌, ℕ, ap, sym, refl, Bool, true, false, cond, not, ◌&&◌, List, [], ◌∷◌, filter, IsTrue, Option, None, Some}
+use Rattle.std.proofs.Common.{◌≡◌, ◌∙◌, ◌==◌, ℕ, ap, sym, refl, Bool, cond, not, ◌&&◌, List, [], ◌∷◌, filter, Option, None, Some}
 use Rattle.std.specs.Option.{option_map}
-use Rattle.std.proofs.lemmas.Bool.{cond_both, cond-true}
+use Rattle.std.proofs.lemmas.Bool.{cond_both}
 use Rattle.sk_signal.specs.declared.number.TheConstants.{SIGHUP, SIGCHLD, SIGCONT}
 use Rattle.sk_signal.specs.Generation.{generated}
 use Rattle.sk_world.specs.declared.process.TheConstants.{INIT}
@@ -10,15 +10,14 @@ use Rattle.sk_world.specs.declared.process.Note.TheVariants.{Continued}
 use Rattle.sk_world.specs.declared.process.Body.{Body}
 use Rattle.sk_world.specs.declared.process.Proc.{Proc}
 use Rattle.sk_world.specs.Processes.{pids}
-use Rattle.sk_world.specs.World.{World, at, has_ended, has_stopped, is_stopped, is_zombie, is_alive, is_member_of, parent_of, body_changed}
+use Rattle.sk_world.specs.World.{World, at, has_ended, has_stopped, is_stopped, is_alive, parent_of, body_changed}
 use Rattle.sk_world.specs.Rules.{IsWorld}
 use Rattle.sk_world.specs.Sending.{continued, signalled, generated_at, sent, sent_to_each}
 use Rattle.sk_world.specs.Ending.{ended}
 use Rattle.sk_world.proofs.Stored.{everywhere}
 use Rattle.sk_world.proofs.Kept.{kept_sent}
 use Rattle.sk_world.proofs.KeptEnd.{kept_ended}
-use Rattle.sk_world.proofs.Walks.{none_any, none_left}
-use Rattle.sk_session.specs.Orphans.{is_living_member, is_orphaned, is_left_orphaned, groups, sent_to_group, hung_up, each_hung_up, ended_and_hung_up}
+use Rattle.sk_session.specs.Orphans.{is_living_member, is_left_orphaned, groups, sent_to_group, hung_up, each_hung_up, ended_and_hung_up}
 use Rattle.sk_session.specs.laws.SessionLaws.{EndKeepsRules}
 
 -- ---- what every signal leaves the many signals of a hanging up leave

@@ -1,5 +1,5 @@
 -- Which groups an end leaves orphaned: those that the process that ends, or a child of it, tied.
-use Rattle.std.proofs.Common.{◌≡◌, ◌≢◌, ◌∙◌, ◌==◌, ℕ, ap, sym, refl, Bool, true, false, cond, not, ◌&&◌, ◌||◌, IsTrue, IsFalse, List, filter, Option, None, Some}
+use Rattle.std.proofs.Common.{◌≡◌, ◌≢◌, ◌∙◌, ◌==◌, ℕ, ap, sym, refl, Bool, true, false, cond, not, ◌&&◌, ◌||◌, IsTrue, IsFalse, List, [], ◌∷◌, filter, Option, None, Some}
 use Rattle.std.specs.Option.{is_some, option_map, option_and_then}
 use Rattle.std.specs.List.{list_any}
 use Rattle.std.proofs.lemmas.Bool.{false≢true, eq-eqb, eqb-true, eqb-false, ne_eqb, and_parts, cond_both, not-false, not-true, or_parts}
@@ -20,11 +20,11 @@ use Rattle.sk_world.proofs.Telling.{some_passes}
 use Rattle.sk_world.proofs.Walks.{any_here}
 use Rattle.sk_session.specs.Sessions.{session_of, is_group}
 use Rattle.sk_session.specs.Orphans.{is_living_member, is_outside, is_tie, is_orphaned, has_stopped_member, is_left_orphaned, groups, each_hung_up, ended_and_hung_up}
-use Rattle.sk_session.specs.views.Ties.{is_engaged}
+use Rattle.sk_session.specs.views.Ties.{is_engaged, TiesNone}
 use Rattle.sk_session.proofs.Walking.{member_is_there, nobody_at_0}
 use Rattle.sk_session.proofs.HangingUp.{sent_life}
 use Rattle.sk_session.proofs.Hanging.{sent_view, sent_member}
-use Rattle.sk_session.proofs.Ties.{AreTied}
+use Rattle.sk_session.proofs.Ties.{AreTied, empty_tied}
 
 -- ---- the others, seen in a part of them that no signal changes
 
@@ -178,3 +178,19 @@ pub left_hung_up : (w : World) (pid status : ℕ) (kept : List ℕ) → pid ≢ 
 left_hung_up w pid status kept other is =
     (λ i. each_hung_up (ended w pid status) (filter (λ group. is group i) (groups (ended w pid status))))
     ∙ sym (ap (λ b. cond b (ended w pid status) (each_hung_up (ended w pid status) (filter (is_left_orphaned w (ended w pid status)) (groups (ended w pid status))))) (ne_eqb pid INIT other))
+
+-- where nobody who is engaged ties a group, no group is hung up
+pub nobody_hung_up : (w : World) (pid status : ℕ) → IsWorld w → pid ≢ INIT → ((q : ℕ) → IsTrue (is_engaged w pid q) → TiesNone w q) → ended w pid status ≡ ended_and_hung_up w pid status
+unfolding contains
+nobody_hung_up w pid status rules other none =
+    sym (ap (each_hung_up (ended w pid status)) (none_pass (contains []) (groups (ended w pid status)) empty))
+    ∙ left_hung_up w pid status [] other
+    (kept_are_left w pid status [] [] rules other (empty_tied w [] refl) (λ group q tie engaged. absurd (false≢true (sym (none q engaged group) ∙ tie)))
+    (λ group. empty group ∙ sym (ap (λ b. b && (is_orphaned (ended w pid status) group && has_stopped_member (ended w pid status) group)) (empty group))))
+  where
+    empty : (n : ℕ) → contains [] n ≡ false
+    empty n = refl
+
+    none_pass : (p : ℕ → Bool) (ns : List ℕ) → ((n : ℕ) → p n ≡ false) → filter p ns ≡ []
+    none_pass p [] fails = refl
+    none_pass p (n ∷ ns) fails = ap (λ b. cond b (n ∷ filter p ns) (filter p ns)) (fails n) ∙ none_pass p ns fails

@@ -3,9 +3,11 @@ use Rattle.std.proofs.Common.{◌≡◌, ◌≢◌, ◌∙◌, ◌<◌, ◌≤�
 use Rattle.std.proofs.lemmas.Bool.{false≢true, eqb-true, eqb-false, ne_eqb, and_parts, cases_lt}
 use Rattle.sk_numbers.specs.Numbers.{contains, IsLeast, IsLeastAbove}
 use Rattle.sk_world.specs.declared.process.Proc.{Proc}
-use Rattle.sk_world.specs.World.{World, at, is_alive, is_member_of}
+use Rattle.sk_world.specs.World.{World, at, is_alive, is_member_of, is_child_of}
 use Rattle.sk_session.specs.Orphans.{is_living_member, is_tie, is_orphaned}
-use Rattle.sk_session.proofs.Walking.{no_member_ties, tied}
+use Rattle.sk_world.specs.Rules.{IsWorld}
+use Rattle.sk_session.specs.views.Ties.{TiesNone}
+use Rattle.sk_session.proofs.Walking.{no_member_ties, nobody_at_0, tied}
 
 pub either : (a b : Bool) → IsTrue (a || b) → (a ≡ true) ⊎ (b ≡ true)
 either true b h = inl refl
@@ -50,6 +52,17 @@ no_tie_added w pid p is none group old =
     and_none true = refl
     and_none false = refl
 
+-- a process that does not tie its own group ties none
+pub ties_none : (w : World) (pid : ℕ) (p : Proc) → at w pid ≡ Some p → is_tie w p.links.group pid ≡ false → TiesNone w pid
+ties_none w pid p is none group = sym (no_tie_added w pid p is none group false ∙ or_false (is_tie w group pid))
+  where
+    or_false : (b : Bool) → (b || false) ≡ b
+    or_false true = refl
+    or_false false = refl
+
+pub nobody_ties_any : (w : World) (pid : ℕ) → at w pid ≡ None → TiesNone w pid
+nobody_ties_any w pid is group = no_member_ties w group pid (ap (is_member_of group) is)
+
 pub nobody_ties : (w : World) (pid : ℕ) → at w pid ≡ None → (group : ℕ) (old : Bool) → old ≡ (is_tie w group pid || old)
 nobody_ties w pid is group old = ap (λ b. b || old) (sym (no_member_ties w group pid (ap (is_member_of group) is)))
 
@@ -86,6 +99,30 @@ pub all_ties : (w : World) (goes : ℕ → Bool) (after : ℕ) (set : List ℕ) 
     → (group q : ℕ) → IsTrue (is_tie w group q) → IsTrue (goes q) → IsTrue (contains set group)
 all_ties w goes after set has none group q tie going =
     ⊎_elim (λ above. absurd (false≢true (sym (none q above) ∙ going))) (λ ge. has group q ge going tie) (cases_lt after q)
+
+-- those of the walk tie no group, up to a pid
+abbrev pub NoneTies : World → (ℕ → Bool) → ℕ → Type 0
+NoneTies w goes after = (q : ℕ) → q ≤ after → IsTrue (goes q) → TiesNone w q
+
+pub none_before : (w : World) (goes : ℕ → Bool) (after next : ℕ) → NoneTies w goes after → ((q : ℕ) → after < q → q < next → goes q ≡ false) → TiesNone w next → NoneTies w goes next
+none_before w goes after next none between here q le going = ⊎_elim
+    (λ lt. ⊎_elim (λ above. absurd (false≢true (sym (between q above lt) ∙ going))) (λ ge. none q ge going) (cases_lt after q))
+    (λ ge. subst (TiesNone w) (same ge) here)
+    (cases_lt q next)
+  where
+    same : next ≤ q → next ≡ q
+    same ge = omega arith
+
+pub none_tie : (w : World) (goes : ℕ → Bool) (after : ℕ) → NoneTies w goes after → ((q : ℕ) → after < q → goes q ≡ false) → (q : ℕ) → IsTrue (goes q) → TiesNone w q
+none_tie w goes after none beyond q going =
+    ⊎_elim (λ above. absurd (false≢true (sym (beyond q above) ∙ going))) (λ ge. none q ge going) (cases_lt after q)
+
+-- nobody is there before the first
+pub nobody_before : (w : World) → IsWorld w → (parent : ℕ) → NoneTies w (λ q. is_child_of parent (at w q)) 0
+nobody_before w rules parent q le going = nobody_ties_any w q (ap (at w) (none le) ∙ nobody_at_0 w rules)
+  where
+    none : q ≤ 0 → q ≡ 0
+    none le = omega arith
 
 -- ---- those that are kept
 

@@ -1,4 +1,4 @@
-ghost use Rattle.std.specs.Prelude.{◌≡◌, ◌≢◌, ℕ, ◌&&◌, ◌||◌, false, filter, IsTrue, None, Some};
+ghost use Rattle.std.specs.Prelude.{[], ◌≡◌, ◌≢◌, ℕ, ◌&&◌, ◌||◌, false, filter, IsTrue, IsFalse, None, Some};
 ghost use Rattle.sk_numbers.specs.Numbers.{contains};
 ghost use Rattle.sk_signal.specs.SignalSet.{IsSignal};
 ghost use Rattle.sk_world.specs.declared.process.TheConstants.{INIT};
@@ -6,7 +6,7 @@ ghost use Rattle.sk_world.specs.World.{at, is_alive, is_stopped, is_halted, is_c
 ghost use Rattle.sk_world.specs.Rules.{IsWorld};
 ghost use Rattle.sk_session.specs.Sessions.{is_group};
 ghost use Rattle.sk_session.specs.Orphans.{is_tie, is_orphaned, has_stopped_member, groups as groups_of, sent_to_group, hung_up, each_hung_up, ended_and_hung_up};
-ghost use Rattle.sk_session.specs.views.Ties.{is_engaged};
+ghost use Rattle.sk_session.specs.views.Ties.{is_engaged, TiesNone};
 
 use crate::orphans::{is_tie, orphaned};
 use sk_numbers::NumberSet;
@@ -36,7 +36,57 @@ fn end_and_hang_up<S: ProcStore>(store: &mut S, pid: u32, status: u32)
     ensures world { S.contents store.new ≡ ended_and_hung_up (S.contents store.old) pid status }
     ensures rules { IsWorld (S.contents store.new) }
 {
-    let mut groups = groups_tied_by(store, pid);
+    if may_untie(store, pid) {
+        end_and_look(store, pid, status);
+    } else {
+        sk_world::end(store, pid, status);
+    }
+}
+
+/// Whether the end of the process may take a tie from a group: whether it, or a child of it, ties one to its session.
+/// Where the system has halted, a parent may be a zombie and go, so that any tie may be taken.
+fn may_untie<S: ProcStore>(store: &S, pid: u32) -> bool
+    requires rules { IsWorld (S.contents store.now) }
+    ensures { IsFalse result → (q : ℕ) → IsTrue (is_engaged (S.contents store.now) pid q) → TiesNone (S.contents store.now) q }
+{
+    is_halted(store) || ties_a_group(store, pid) || has_child_that_ties(store, pid)
+}
+
+/// Whether the process ties its group to its session.
+fn ties_a_group<S: ProcStore>(store: &S, pid: u32) -> bool
+    ensures { IsFalse result → TiesNone (S.contents store.now) pid }
+{
+    match store.get(pid) {
+        Some(process) => is_tie(store, process.links.group, pid),
+        None => false,
+    }
+}
+
+/// Whether a child of the process ties its group to its session.
+fn has_child_that_ties<S: ProcStore>(store: &S, parent: u32) -> bool
+    requires rules { IsWorld (S.contents store.now) }
+    ensures { IsFalse result → (q : ℕ) → IsTrue (is_child_of parent (at (S.contents store.now) q)) → TiesNone (S.contents store.now) q }
+{
+    let mut after = 0;
+    while let Some(child) = store.next_child(parent, after) {
+        if ties_a_group(store, child) {
+            return true;
+        }
+        after = child;
+    }
+    false
+}
+
+/// Ends a process, and hangs up the groups that this leaves orphaned with a stopped process in them.
+fn end_and_look<S: ProcStore>(store: &mut S, pid: u32, status: u32)
+    requires rules { IsWorld (S.contents store.old) }
+    requires alive { IsTrue (is_alive (at (S.contents store.old) pid)) }
+    requires other { pid ≢ INIT }
+    ensures world { S.contents store.new ≡ ended_and_hung_up (S.contents store.old) pid status }
+    ensures rules { IsWorld (S.contents store.new) }
+{
+    let mut groups = NumberSet::empty();
+    add_groups_tied_by(store, pid, &mut groups);
     sk_world::end(store, pid, status);
     keep_orphaned(store, &mut groups);
     hang_up_each(store, &groups);
@@ -44,19 +94,18 @@ fn end_and_hang_up<S: ProcStore>(store: &mut S, pid: u32, status: u32)
 
 /// Groups that are not orphaned, among them each that the process or a child of it ties to its session: those that its
 /// end may leave orphaned. Where the system has halted, a parent may be a zombie and go, so any tie may.
-fn groups_tied_by<S: ProcStore>(store: &S, pid: u32) -> NumberSet
+fn add_groups_tied_by<S: ProcStore>(store: &S, pid: u32, groups: &mut NumberSet)
     requires rules { IsWorld (S.contents store.now) }
-    ensures tied { (group : ℕ) → IsTrue (contains result group) → is_orphaned (S.contents store.now) group ≡ false }
-    ensures whole { (group q : ℕ) → IsTrue (is_tie (S.contents store.now) group q) → IsTrue (is_engaged (S.contents store.now) pid q) → IsTrue (contains result group) }
+    requires empty { groups.old ≡ [] }
+    ensures tied { (group : ℕ) → IsTrue (contains groups.new group) → is_orphaned (S.contents store.now) group ≡ false }
+    ensures whole { (group q : ℕ) → IsTrue (is_tie (S.contents store.now) group q) → IsTrue (is_engaged (S.contents store.now) pid q) → IsTrue (contains groups.new group) }
 {
-    let mut groups = NumberSet::empty();
     if is_halted(store) {
-        add_ties(store, &mut groups);
+        add_ties(store, groups);
     } else {
-        add_tie(store, pid, &mut groups);
-        add_ties_of_children(store, pid, &mut groups);
+        add_tie(store, pid, groups);
+        add_ties_of_children(store, pid, groups);
     }
-    groups
 }
 
 fn is_halted<S: ProcStore>(store: &S) -> bool

@@ -1,4 +1,4 @@
-use Rattle.std.proofs.Common.{◌≡◌, ◌∙◌, ap, sym, subst, IfOk, OnOk}
+use Rattle.std.proofs.Common.{◌∙◌, ap, sym}
 use Rattle.sk_machine.specs.Machine.{stepped, step_of}
 use Rattle.sk_kernel.proofs.stepping.step.Goals as goal
 
@@ -11,15 +11,3 @@ pub returns-in-Some-clause-world : goal.returns-in-Some-clause-world
 unfolding step_of
 returns-in-Some-clause-world g c =
     ap (λ r. (stepped c.args.images.now (g.S.ProcStore.contents c.args.store.now) c.args.event.now r).world) (sym c.in-Some.is ∙ c.reason.ensures)
-
-pub returns-in-None-clause-answer : goal.returns-in-None-clause-answer
-unfolding step_of
-returns-in-None-clause-answer g c =
-    subst (λ r. IfOk c.happen.result (λ answer. answer ≡ (stepped c.args.images.now (g.S.ProcStore.contents c.args.store.now) c.args.event.now r).answer))
-    (sym c.in-None.is ∙ c.reason.ensures) c.happen.ensures.answer
-
-pub returns-in-None-clause-world : goal.returns-in-None-clause-world
-unfolding step_of
-returns-in-None-clause-world g c =
-    subst (λ r. OnOk c.happen.result (g.S.ProcStore.contents c.happen.new.store ≡ (stepped c.args.images.now (g.S.ProcStore.contents c.args.store.now) c.args.event.now r).world))
-    (sym c.in-None.is ∙ c.reason.ensures) c.happen.ensures.world

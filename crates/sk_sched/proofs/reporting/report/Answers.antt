@@ -15,7 +15,7 @@ loop-turn-init g c = record {
 pub returns-in_default-clause-report : goal.returns-in_default-clause-report
 returns-in_default-clause-report g c =
     begins_text (report_of (setting_of c.args.machine)) (setting_of c.loop-turn.machine) (now_of c.loop-turn.machine) _ _ _ c.in-Ok.turn c.as_bytes.result.now
-    c.loop-turn.invariant.underway c.in-Ok.ensures.turn (c.as_bytes.ensures.value ∙ c.deref.ensures.0 ∙ c.turn_line-line.ensures.text) c.send.ensures.front
+    c.loop-turn.invariant.underway c.in-Ok.ensures.turn (c.as_bytes.ensures.value ∙ c.deref.ensures.0 ∙ c.write_line.ensures.text) c.send.ensures.front
 
 pub loop-turn-smaller : goal.loop-turn-smaller
 loop-turn-smaller g c =
@@ -28,7 +28,7 @@ loop-turn-preserved g c = record {
       goes_text (report_of (setting_of c.args.machine)) (setting_of c.loop-turn.machine) (setting_of c.turn.new.self) (now_of c.loop-turn.machine) (now_of c.turn.new.self) _ _ _
       c.in-Ok.turn c.in-Line.turn c.in-Line.event c.in-Line.answer c.as_bytes.result.now
       c.loop-turn.invariant.underway c.in-Ok.ensures.turn c.in-Line.is c.in-Ok.ensures.after c.turn.ensures.setting
-      (c.as_bytes.ensures.value ∙ c.deref.ensures.0 ∙ c.turn_line-line.ensures.text) c.in-Ok-send.ensures.whole;
+      (c.as_bytes.ensures.value ∙ c.deref.ensures.0 ∙ c.write_line.ensures.text) c.in-Ok-send.ensures.whole;
   same = c.turn.ensures.setting ∙ c.loop-turn.invariant.same;
   done =
       (fewer (setting_of c.loop-turn.machine) (setting_of c.turn.new.self) (now_of c.loop-turn.machine) (now_of c.turn.new.self) c.in-Ok.turn c.in-Line.turn c.in-Line.event c.in-Line.answer
@@ -39,4 +39,4 @@ loop-turn-preserved g c = record {
 pub returns-in-End-clause-report : goal.returns-in-End-clause-report
 returns-in-End-clause-report g c =
     ends_text (report_of (setting_of c.args.machine)) (setting_of c.loop-turn.machine) (now_of c.loop-turn.machine) _ _ _ c.in-Ok.turn c.in-End.end c.as_bytes.result.now
-    c.loop-turn.invariant.underway c.in-Ok.ensures.turn c.in-End.is (c.as_bytes.ensures.value ∙ c.deref.ensures.0 ∙ c.turn_line-line.ensures.text) c.in-Ok-send.ensures.whole
+    c.loop-turn.invariant.underway c.in-Ok.ensures.turn c.in-End.is (c.as_bytes.ensures.value ∙ c.deref.ensures.0 ∙ c.write_line.ensures.text) c.in-Ok-send.ensures.whole
