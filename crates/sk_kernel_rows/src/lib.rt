@@ -21,6 +21,8 @@ mod picture;
 #[cfg(test)]
 mod play;
 #[cfg(test)]
+mod possible_rows;
+#[cfg(test)]
 mod reaper_rows;
 #[cfg(test)]
 mod reuse_rows;
