@@ -88,6 +88,14 @@ const ANSWERS: &[(&[&str], &[u8])] = &[
         b"0 read allow\n",
     ),
     (
+        &["calls", "--runc", "--call", "4294967295", "listed"],
+        b"4294967295 - errno/1 EPERM\n",
+    ),
+    (
+        &["calls", "--call", "40", "--runc", "listed"],
+        b"40 sendfile errno/38 ENOSYS\n",
+    ),
+    (
         &["when", "--call", "ptrace", "profile"],
         b"101 ptrace allow\n",
     ),

@@ -45,6 +45,10 @@ const FILES: &[(&str, &[u8])] = &[
     ),
     ("allowing", b"{\"defaultAction\": \"SCMP_ACT_ALLOW\"}"),
     (
+        "listed",
+        b"{\"defaultAction\": \"SCMP_ACT_ERRNO\", \"architectures\": [\"SCMP_ARCH_X86_64\"], \"syscalls\": [{\"names\": [\"getpid\"], \"action\": \"SCMP_ACT_ALLOW\"}]}",
+    ),
+    (
         "noted",
         b"{\"defaultAction\": \"SCMP_ACT_ALLOW\", \"syscalls\": [{\"names\": [\"opennat\"], \"action\": \"SCMP_ACT_LOG\"}]}",
     ),

@@ -36,11 +36,7 @@ pub struct Compared {
 
 impl fmt::Display for Compared {
     fn fmt<W: fmt::Write>(&self, f: &mut fmt::Formatter<W>) -> fmt::Result {
-        writeln!(
-            f,
-            "instructions past {MOST_INSTRUCTIONS}: {}",
-            self.longer
-        )?;
+        writeln!(f, "instructions past {MOST_INSTRUCTIONS}: {}", self.longer)?;
         writeln!(
             f,
             "steps of a hundred calls past {MOST_STEPS}: {}",
