@@ -1,4 +1,4 @@
-ghost use Rattle.std.specs.Prelude.{◌≡◌, [], ◌∷◌, ◌++◌, ◌<◌, length, IsTrue, IfSome, IfNone, IfOk, IfErr, OnOk, OnErr, None, Some};
+ghost use Rattle.std.specs.Prelude.{◌≡◌, [], ◌∷◌, ◌++◌, ◌<◌, length, IfSome, IfNone, IfOk, IfErr, OnOk, OnErr, None, Some};
 ghost use Rattle.sk_world.specs.World.{at, opening};
 ghost use Rattle.sk_machine.specs.Memory.{TakesMemory};
 ghost use Rattle.sk_machine.specs.Machine.{reason_of, step_of, answers_of, world_after, halted_of};

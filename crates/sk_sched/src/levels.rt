@@ -1,7 +1,7 @@
 //! The levels of one process.
 ghost use Rattle.std.specs.Prelude.{◌≡◌, ◌<◌, ◌+◌, ◌^◌, IfOk, IfSome};
 ghost use Rattle.std.specs.Option.{option_copied};
-ghost use Rattle.sk_report.specs.Levels.{first_call, alone, handling, returned, next_call, marked, begun, made, performing, called};
+ghost use Rattle.sk_report.specs.Levels.{first_call, alone, handling, returned, begun, made, performing, called};
 ghost use Rattle.sk_sched.specs.views.Stacks.{stack_of};
 
 use sk_calls::Syscall;

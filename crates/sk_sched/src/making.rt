@@ -1,10 +1,8 @@
 //! Which event is due, and what its answer leads to.
-ghost use Rattle.std.specs.Prelude.{◌≡◌, ◌≢◌, ◌<◌, ◌≤◌, ◌+◌, ◌^◌, IfOk, OnOk, OnErr, IfSome, IsTrue, None, true};
+ghost use Rattle.std.specs.Prelude.{◌≡◌, ◌<◌, ◌≤◌, ◌+◌, ◌^◌, IfOk, OnOk, OnErr, IfSome, IsTrue, None, true};
 ghost use Rattle.std.specs.Option.{option_copied};
 ghost use Rattle.indexmap.specs.IndexMap.{spare};
-ghost use Rattle.sk_calls.specs.Syscalls.{number_of};
-ghost use Rattle.sk_calls.specs.declared.syscall.Syscall.TheVariants as syscall;
-ghost use Rattle.sk_insn.specs.Actions.{action_of, performs};
+ghost use Rattle.sk_insn.specs.Actions.{performs};
 ghost use Rattle.sk_machine.specs.Machine.{reason_of, step_of};
 ghost use Rattle.sk_machine.specs.Events.{pid_of};
 ghost use Rattle.sk_machine.specs.declared.event.Event.TheVariants as event;
