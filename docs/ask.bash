@@ -429,7 +429,7 @@ _ask() {
     local word=${COMP_WORDS[COMP_CWORD]} before=${COMP_WORDS[COMP_CWORD - 1]} asked=${COMP_WORDS[1]}
     COMPREPLY=()
     if [ "$COMP_CWORD" -eq 1 ]; then
-        mapfile -t COMPREPLY < <(compgen -W 'calls when diff replay why show filter --help' -- "$word")
+        mapfile -t COMPREPLY < <(compgen -W 'calls when diff replay why show arches filter --help' -- "$word")
     elif [ "$before" = --call ] || { [ "$asked" = why ] && [ "$COMP_CWORD" -eq 2 ] && [[ $word != -* ]]; }; then
         mapfile -t COMPREPLY < <(compgen -W "$_ask_calls" -- "$word")
     elif [ "$before" = --cap ]; then

@@ -182,6 +182,15 @@ def good(command, answer):
     return Row(command, 0, "", answer)
 
 
+def warned(command, answer):
+    return Row(command, 1, "", answer)
+
+
+def arches(native, x32, others):
+    """The lines of ask arches, with what is answered to x86-64, to x32 and to each of the others."""
+    return f"x86-64 {native}\nx32 {x32}\n" + "".join(f"{it} {others}\n" for it in OTHER_ARCHITECTURES)
+
+
 def leaf(number, text, colour):
     """The line of an end of a picture."""
     return f'  n{number} [label="{text}", style=filled, fillcolor={colour}];\n'
@@ -193,6 +202,14 @@ FLAG_DRAWN = "digraph {\n  n0 [label=\"(args[0] & 0x1) != 0\"];\n  n0 -> n1 [lab
 GETPID_STEPS = step(0, "ldabs 0", 39) + step(1, "jeq 39 +0 +1", 39, "  39 == 39 getpid: to 2") + step(2, "ret 0x00050001", 39) + "  errno/1 EPERM\n"
 GETPID_PATH = "filter 0\n" + GETPID_STEPS + "errno/1 EPERM by filter 0 at 2\n"
 GETPID_SHOWN = "; 0 nr\n    ldabs 0\n; 1 getpid\n    jeq 39 +0 at3\n; 2 errno/1 EPERM\n    ret 0x00050001\nat3:\n; 3 allow\n    ret 0x7fff0000\n"
+OTHER_ARCHITECTURES = ("i386", "aarch64", "arm", "riscv64", "ppc64le", "s390x", "loongarch64")
+BY_CALL = "judged call by call"
+JUDGED_I386 = "warning: i386 calls are judged by x86-64's numbers: 26 is ptrace there\n"
+# 521 with bit 30, by asm/unistd_x32.h
+JUDGED_X32 = "warning: x32 calls are judged by x86-64's numbers: 1073742345 is ptrace there\n"
+# Another architecture is killed, and each number looked at without its bit 30.
+GUARDED = insn(0x20, k=4) + insn(0x15, 1, 0, 0xC000003E) + insn(0x06, k=0x80000000) + GETPID
+MASKED = LOAD_NUMBER + insn(0x54, k=0xBFFFFFFF) + GETPID[8:]
 UNCLOSED = "why: CALL(ARG, ..) does not end with its parenthesis"
 TOO_MANY = "why: CALL(ARG, ..) has more than six arguments"
 
@@ -294,6 +311,11 @@ GOOD = [
     *[good(f"ask show {name}", GETPID_SHOWN) for name in ("raw", "digits", "upper", "spread", "crlf", "lines", "lines_crlf", "- < raw", "/dev/stdin < lines", "<(cat raw)")],
     good("ask show all", "; 0 allow\n    ret 0x7fff0000\n"), good("mkfifo fifo; cat all > fifo & timeout 20 ask show fifo", "; 0 allow\n    ret 0x7fff0000\n"),
     good("ask show flag", "; 0 args[0] low\n    ldabs 16\n; 1\n    jset 1 +0 at3\n; 2 errno/38 ENOSYS\n    ret 0x00050026\nat3:\n; 3 allow\n    ret 0x7fff0000\n"),
+    good("ask arches all", arches("allow", "allow", "allow")),
+    warned("ask arches raw", arches(BY_CALL, "allow", BY_CALL) + JUDGED_I386),
+    good(f"echo {GUARDED.hex()} | ask arches -", arches(BY_CALL, "allow", "kill_process")),
+    warned(f"echo {MASKED.hex()} | ask arches -", arches(BY_CALL, BY_CALL, BY_CALL) + JUDGED_I386 + JUDGED_X32),
+    good("ask arches --help | head -n 1", "usage: ask arches FILE..\n"),
     good("ask show --help | head -n 1", "usage: ask show FILE\n"), good("ask show two --help | head -n 1", "usage: ask show FILE\n"),
     good("ask why --help | head -n 1", "usage: ask why 'CALL(ARG, ..)' FILE..\n"),
     good("ask replay --help | head -n 1", "usage: ask replay LOG FILE..\n"),
@@ -310,12 +332,13 @@ WORDS = [
     *[trouble(f"ask when {words}", "when: expected --call CALL beside --dot") for words in ("--dot raw", "raw --dot", "--dot nofile")],
     trouble("ask when --dot", "when: no FILE is given"), trouble("ask when --dot raw --call", "when: expected a name or a number behind --call"),
     trouble("ask when --call mseal2 --dot raw", "no call is named mseal2"), trouble("ask when --call --dot raw", "no call is named --dot"),
-    *[trouble(f"ask {word} --dot raw", f"{word}: no option is named --dot") for word in ("calls", "filter", "diff", "show")],
+    *[trouble(f"ask {word} --dot raw", f"{word}: no option is named --dot") for word in ("calls", "filter", "diff", "show", "arches")],
     *[trouble(f"ask diff {files}", "diff: expected two FILEs, OLD and NEW") for files in ("", "raw", "raw raw raw", "--stricter all")],
     trouble("ask diff --call read raw all", "diff: no option is named --call"), trouble("ask diff - - < raw", f"-: {NO_FILTER}"),
     trouble("ask replay", "replay: no LOG is given"), trouble("ask replay log", "replay: no FILE is given"),
     trouble("ask replay -", "replay: no FILE is given"), trouble("ask replay --call read log all", "replay: no option is named --call"),
     trouble("ask replay -- log all", "replay: no option is named --"),
+    trouble("ask arches", "arches: no FILE is given"), trouble("ask arches --call read raw", "arches: no option is named --call"),
     trouble("ask show", "show: no FILE is given"), trouble("ask show --raw raw", "show: no option is named --raw"),
     trouble("ask show --call read raw", "show: no option is named --call"), trouble("ask show raw -x", "show: no option is named -x"),
     trouble("ask why", "why: no CALL is given"), trouble("ask why getpid", "why: no FILE is given"), trouble("ask why raw", "why: no FILE is given"),
@@ -339,7 +362,7 @@ WORDS = [
     *[trouble(f"ask calls --call '{word}' raw", f"no call is named {word}") for word in (
         "mseal2", "", "010", "00", "-1", "0x", "1e3", "getpid ", "GETPID", "4294967296", "0x100000000", "18446744073709551616")],
     trouble("ask calls --call \"$(printf 'a\\nb')\" raw", "no call is named a?b"),
-    *[trouble(f"ask {word} raw --cap", f"{word}: expected a name behind --cap") for word in ("calls", "filter", "when", "diff", "replay", "why", "show")],
+    *[trouble(f"ask {word} raw --cap", f"{word}: expected a name behind --cap") for word in ("calls", "filter", "when", "diff", "replay", "why", "show", "arches")],
     *[trouble(f"ask {word} raw --kernel", f"{word}: expected a version as 6.1 behind --kernel") for word in ("calls", "diff", "replay", "why", "show")],
     *[trouble(f"ask calls --cap '{name}' raw", f"calls: no capability is named {name}") for name in (
         "CAP_FOO", "", "CAP_", "CAP", "DOCKER", "All", "none", "sys admin", "CAP_CAP_KILL", "kill ", "--kernel", "0", "raw")],
@@ -408,7 +431,7 @@ MADE = [
     ("mkdir -p deep/er; {ask} deep/er", "deep/er: is a folder"), ("ln -s nowhere link; {ask} link", "link: no such file"),
 ]
 # All that asks something of a chain of FILEs, and of each of two.
-ASKING = ("calls", "calls --examples --call read", "when --call read", "when --dot --call read", "filter", "replay log", "why 'getpid(1)'", "show")
+ASKING = ("calls", "calls --examples --call read", "when --call read", "when --dot --call read", "filter", "replay log", "why 'getpid(1)'", "show", "arches")
 UNREAD = [
     *[trouble(f"ask {asking} {files}", says) for asking in ASKING for files, says in ONE + SEVERAL],
     *[trouble(command.format(ask=f"ask {asking}"), says) for asking in (*ASKING, "diff all") for command, says in MADE],

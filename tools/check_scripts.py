@@ -99,6 +99,18 @@ MADE = [
     Row("tools/libseccomp_filters $room gate", 2, r"libseccomp_filters: .*\n", ""),
     Row("echo [1] > $room/list.json; tools/libseccomp_filters $room $room/list.json", 2, r"libseccomp_filters: .*\n", ""),
 ]
+# What compares tables with headers: where there are none, and where these say something else.
+COMPARED = [
+    Row("tools/call_names --arch vax --check $room", 2, r"call_names: .*\n", ""),
+    Row("tools/call_names --arch i386 --check $room", 2, r"call_names: \S+: asm/unistd.h can't be read: [\s\S]*", ""),
+    Row("mkdir $room/asm; echo '#define __NR_read 3' > $room/asm/unistd.h; tools/call_names --arch i386 --check $room", 2,
+        r"call_names: \S+ has no headers of calls of i386\n", ""),
+    Row("mkdir $room/asm; { printf '#define __NR_%s\\n' 'read 3' 'write 4' 'execve 12'; for it in $(seq 1000 1300); do echo \"#define __NR_call$it $it\"; "
+        "done; } > $room/asm/unistd.h; tools/call_names --arch i386 --check $room | grep '^1[12]:'", 1, "",
+        r"11: no call in the headers, execve in the table of i386\n12: execve in the headers, chdir in the table of i386\n"),
+    Row("tools/call_names --audit $room", 2, r"call_names: \S+: linux/audit.h can't be read: [\s\S]*", ""),
+    Row("tools/other_architectures.py $room/none", 2, r"other_architectures.py: .*\n", ""),
+]
 # Each program under the stack that is named, on input that takes as much of its depth as any that is known.
 UNDER_STACK = [
     Row("{ echo record $openat; for turn in $(seq 24); do ./ask filter $tree; done; } > $room/in; narrow skern eval | tail -n 1", 0, "",
@@ -152,7 +164,7 @@ def judged(row, folder):
 def main(words):
     folder = os.path.abspath(words[0]) if words else ROOT
     passed = failed = 0
-    made = MADE if os.path.exists(f"{folder}/tools") else []
+    made = MADE + COMPARED if os.path.exists(f"{folder}/tools") else []
     for row in GOOD + ASKED + ATTACHED + made + UNDER_STACK:
         try:
             problems = judged(row, folder)

@@ -8,7 +8,7 @@ use Rattle.sk_ask_filters.specs.declared.trouble.Trouble.{Trouble}
 use Rattle.sk_ask_filters.specs.declared.trouble.Trouble.TheVariants.{Refused, Reading, Memory}
 use Rattle.sk_ask.specs.declared.answer.Answer.{Answer}
 use Rattle.sk_ask.specs.declared.words.Word.{Word}
-use Rattle.sk_ask.specs.declared.words.Word.TheVariants.{Calls, Filter, When, Diff, Replay, Why, Show}
+use Rattle.sk_ask.specs.declared.words.Word.TheVariants.{Calls, Filter, When, Diff, Replay, Why, Show, Arches}
 use Rattle.sk_ask.specs.Asking.{Question, Asks}
 use Rattle.sk_ask.specs.Answering.{AnswersAsked, AnswersThere, AnswersQuestion}
 use Rattle.sk_ask.specs.Contexts.{newest}
@@ -37,6 +37,7 @@ no_answer held context Diff asked = inr (inl (Memory, inr (inr refl), refl))
 no_answer held context Replay asked = no_log held context asked.names
 no_answer held context Why asked = no_call held context asked.names
 no_answer held context Show asked = inr (Memory, inr (inr refl), refl)
+no_answer held context Arches asked = inr (Memory, inr (inr refl), refl)
 
 abbrev lent : List (List ℕ) → List (Bor (List ℕ))
 lent [] = []

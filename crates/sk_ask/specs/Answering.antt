@@ -13,6 +13,7 @@ use Rattle.sk_ask_filters.specs.Filters.{ReadsFilters, IsRefusedOf}
 use Rattle.sk_ask.specs.declared.words.Word.{Word}
 use Rattle.sk_ask.specs.declared.words.Word.TheVariants as word
 use Rattle.sk_ask.specs.Asking.{Question, asked_of, nothing_asked, word_named}
+use Rattle.sk_ask.specs.Arches.{AnswersArches}
 use Rattle.sk_ask.specs.Calls.{IsAskedCall, IsNoCall}
 use Rattle.sk_ask.specs.CallsText.{calls_text}
 use Rattle.sk_ask.specs.Contexts.{IsContextOf}
@@ -71,6 +72,7 @@ AnswersQuestion held context word.Diff asked ending = AnswersDiff held context a
 AnswersQuestion held context word.Replay asked ending = AnswersReplay held context asked ending
 AnswersQuestion held context word.Why asked ending = AnswersWhy held context asked ending
 AnswersQuestion held context word.Show asked ending = AnswersShow held context asked ending
+AnswersQuestion held context word.Arches asked ending = AnswersArches held context asked ending
 
 -- where the profiles among the files are to hold, the words say
 abbrev pub AnswersThere : (List ℕ → Option (List ℕ)) → Word → Question → Ending → Type 0

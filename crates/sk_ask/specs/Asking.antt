@@ -12,7 +12,7 @@ use Rattle.sk_ask.specs.declared.words.Asked.{Asked}
 use Rattle.sk_ask.specs.declared.words.Valued.{Valued}
 use Rattle.sk_ask.specs.declared.words.Valued.TheVariants.{Call, Cap, Kernel}
 use Rattle.sk_ask.specs.declared.words.Word.{Word}
-use Rattle.sk_ask.specs.declared.words.Word.TheVariants.{Calls, Filter, When, Diff, Replay, Why, Show}
+use Rattle.sk_ask.specs.declared.words.Word.TheVariants.{Calls, Filter, When, Diff, Replay, Why, Show, Arches}
 
 -- the word behind `--call`, the capabilities behind each `--cap`, and the version behind `--kernel`; the option whose word is
 -- awaited; whether there was `--runc`, `--examples`, `--dot`, `--raw`, `--stricter` or `--help`; and the names of the files
@@ -52,6 +52,7 @@ word_name Diff = codes "diff"
 word_name Replay = codes "replay"
 word_name Why = codes "why"
 word_name Show = codes "show"
+word_name Arches = codes "arches"
 
 abbrev pub word_named : List ℕ → Option Word
 word_named name =
@@ -62,6 +63,7 @@ word_named name =
     else if bytes_eq name (codes "replay") then Some Replay
     else if bytes_eq name (codes "why") then Some Why
     else if bytes_eq name (codes "show") then Some Show
+    else if bytes_eq name (codes "arches") then Some Arches
     else None
 
 -- ---- names

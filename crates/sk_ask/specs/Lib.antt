@@ -1,4 +1,5 @@
 pub mod Answering
+pub mod Arches
 pub mod Asking
 pub mod Calls
 pub mod CallsText

@@ -7,6 +7,7 @@ ghost use Rattle.sk_ask.specs.Endings.{Complains, answered, ending_of, wordless_
 ghost use Rattle.sk_ask.specs.Telling.{Told};
 
 use crate::answer::Answer;
+use crate::arches::arches;
 use crate::calls::calls;
 use crate::diff::diff;
 use crate::filter::filter;
@@ -127,6 +128,7 @@ fn question_answer<S: Shelf>(
         Word::Calls | Word::When => calls_answer(alloc, word, asked, shelf, context, reads),
         Word::Filter => filter(alloc, asked, shelf, context, reads),
         Word::Show => show(alloc, asked, shelf, context, reads),
+        Word::Arches => arches(alloc, asked, shelf, context, reads),
         Word::Diff | Word::Replay | Word::Why => {
             two_answer(alloc, word, asked, shelf, context, reads)
         }

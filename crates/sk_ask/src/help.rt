@@ -13,6 +13,7 @@ pub const HELP: &str = "usage: ask WORD ..
   ask replay LOG FILE..                         the verdicts on the calls that strace -f -X raw -e raw=all wrote to LOG
   ask why 'CALL(ARG, ..)' FILE..                the path of one call through the filters, instruction by instruction
   ask show FILE                                 one filter for people, as a text that skern asm takes
+  ask arches FILE..                             what the filters answer to calls of each architecture
   ask WORD --help                               more on a word
 FILE holds raw struct sock_filter, hexadecimal digits, lines filter HEX, or a seccomp profile of docker's or podman's kind in
 JSON, which stands for its filter; - is standard input. Several FILEs are one chain, the oldest filter first.
@@ -80,6 +81,15 @@ gives the same instructions.
 A FILE may be a profile, and then --cap, --kernel and --runc say where it is to hold: ask --help has them.
 ";
 
+/// What `ask arches --help` says.
+pub const ARCHES_HELP: &str = "usage: ask arches FILE..
+For each architecture the verdict of the filters in the FILEs on all its calls, or that they are judged call by call. The calls of
+x86-64 are those with numbers below 0x40000000, and those of x32 have the numbers behind, to 0x7fffffff.
+Status 1 and a line that begins with warning where calls of i386 or x32, which a Linux of x86-64 takes too, are judged by the
+numbers of x86-64.
+A FILE may be a profile, and then --cap, --kernel and --runc say where it is to hold: ask --help has them.
+";
+
 /// What `ask WORD --help` says.
 pub fn word_help(word: Word) -> &'static str
     ensures text { result.now ≡ word_help_text word }
@@ -92,5 +102,6 @@ pub fn word_help(word: Word) -> &'static str
         Word::Replay => REPLAY_HELP,
         Word::Why => WHY_HELP,
         Word::Show => SHOW_HELP,
+        Word::Arches => ARCHES_HELP,
     }
 }

@@ -3,6 +3,7 @@
 #![tactic(auto)]
 
 mod answer;
+mod arches;
 mod calls;
 mod calls_text;
 mod cli;

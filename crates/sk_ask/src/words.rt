@@ -28,6 +28,8 @@ pub enum Word {
     Why,
     /// The listing of one filter.
     Show,
+    /// What the filters answer to each architecture.
+    Arches,
 }
 
 impl Word {
@@ -49,6 +51,8 @@ impl Word {
             Some(Word::Why)
         } else if is_word(name, b"show") {
             Some(Word::Show)
+        } else if is_word(name, b"arches") {
+            Some(Word::Arches)
         } else {
             None
         }
@@ -66,6 +70,7 @@ impl Word {
             Word::Replay => "replay",
             Word::Why => "why",
             Word::Show => "show",
+            Word::Arches => "arches",
         }
     }
 }
@@ -416,8 +421,13 @@ fn named<'a>(alloc: Global, word: Word, asked: Asked<'a>) -> Result<Asked<'a>, T
 {
     match word {
         Word::Diff => two_named(alloc, asked),
-        Word::Calls | Word::Filter | Word::When | Word::Replay | Word::Why | Word::Show =>
-            none_missing(alloc, word, asked),
+        Word::Calls
+        | Word::Filter
+        | Word::When
+        | Word::Replay
+        | Word::Why
+        | Word::Show
+        | Word::Arches => none_missing(alloc, word, asked),
     }
 }
 

@@ -2,3 +2,4 @@ pub mod Wholes
 pub mod Among
 pub mod Standing
 pub mod Images
+pub mod Limits

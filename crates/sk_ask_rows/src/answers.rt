@@ -59,6 +59,10 @@ const ANSWERS: &[(&[&str], &[u8])] = &[
     ),
     (&["show", "all"], b"; 0 allow\n    ret 0x7fff0000\n"),
     (
+        &["arches", "all"],
+        b"x86-64 allow\nx32 allow\ni386 allow\naarch64 allow\narm allow\nriscv64 allow\nppc64le allow\ns390x allow\nloongarch64 allow\n",
+    ),
+    (
         &["calls", "--call", "getpid", "profile"],
         b"39 getpid allow\n",
     ),
@@ -130,6 +134,10 @@ const ANSWERS: &[(&[&str], &[u8])] = &[
 
 /// Words whose answer says no, and the whole answer.
 const DENIALS: &[(&[&str], &[u8])] = &[
+    (
+        &["arches", "getpid"],
+        b"x86-64 judged call by call\nx32 allow\ni386 judged call by call\naarch64 judged call by call\narm judged call by call\nriscv64 judged call by call\nppc64le judged call by call\ns390x judged call by call\nloongarch64 judged call by call\nwarning: i386 calls are judged by x86-64's numbers: 26 is ptrace there\n",
+    ),
     (
         &["replay", "log", "all", "getpid"],
         b"1 getpid() errno/1 EPERM\n2 read(0x3, 0x7ffd, 0x40) allow\n1 line is no call\n",
@@ -232,7 +240,7 @@ fn all_calls(rt: HostRuntime) -> Result<(), Fail> {
 
 #[test]
 fn help_is_an_answer(rt: HostRuntime) -> Result<(), Fail> {
-    let rows: [(&[&str], &[u8]); 8] = [
+    let rows: [(&[&str], &[u8]); 9] = [
         (&["--help"], b"usage: ask WORD ..\n"),
         (&["calls", "--help"], b"usage: ask calls "),
         (&["filter", "all", "--help"], b"usage: ask filter "),
@@ -241,6 +249,7 @@ fn help_is_an_answer(rt: HostRuntime) -> Result<(), Fail> {
         (&["replay", "--help"], b"usage: ask replay "),
         (&["why", "mseal2", "--help"], b"usage: ask why "),
         (&["show", "--help", "two"], b"usage: ask show "),
+        (&["arches", "--help"], b"usage: ask arches "),
     ];
     for (words, first) in rows {
         let ran = run(rt.alloc(), words, 0)?;

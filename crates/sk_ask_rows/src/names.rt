@@ -1,4 +1,5 @@
-//! Some calls by their numbers and names.
+//! Some calls by their numbers and names, on x86-64 and on others.
+use sk_architectures::Architecture;
 use sk_call_names::{name, number, numbers};
 use std::test::Fail;
 
@@ -33,4 +34,48 @@ fn all_named_calls(rt: HostRuntime) -> Result<(), Fail> {
     assert_eq!(rt; all.len(), 375);
     assert!(rt; all.contains(&334) && all.contains(&424) && !all.contains(&423));
     Ok(())
+}
+
+/// An architecture, the name and the number that it has, and a call on it: linux/audit.h, and asm/unistd.h of each.
+const ELSEWHERE: &[(Architecture, &str, u32, u32, &str)] = &[
+    (Architecture::X86_64, "x86-64", 0xC000_003E, 59, "execve"),
+    (Architecture::X32, "x32", 0xC000_003E, 0x4000_0208, "execve"),
+    (Architecture::I386, "i386", 0x4000_0003, 26, "ptrace"),
+    (Architecture::Aarch64, "aarch64", 0xC000_00B7, 221, "execve"),
+    (Architecture::Arm, "arm", 0x4000_0028, 11, "execve"),
+    (Architecture::Riscv64, "riscv64", 0xC000_00F3, 221, "execve"),
+    (Architecture::Ppc64le, "ppc64le", 0xC000_0015, 11, "execve"),
+    (Architecture::S390x, "s390x", 0x8000_0016, 11, "execve"),
+    (
+        Architecture::Loongarch64,
+        "loongarch64",
+        0xC000_0102,
+        221,
+        "execve",
+    ),
+];
+
+#[test]
+fn architectures(rt: HostRuntime) {
+    for &(it, text, audit, nr, call) in ELSEWHERE {
+        assert_eq!(rt;
+            (Architecture::named(text.as_bytes()), it.text(), it.audit()),
+            (Some(it), text, audit)
+        );
+        assert_eq!(rt;
+            (
+                sk_architectures::name(it, nr),
+                sk_architectures::number(it, call.as_bytes())
+            ),
+            (Some(call), Some(nr))
+        );
+    }
+    assert_eq!(rt;
+        (
+            Architecture::named(b"vax"),
+            Architecture::S390x.is_big_endian(),
+            Architecture::Arm.is_big_endian()
+        ),
+        (None, true, false)
+    );
 }

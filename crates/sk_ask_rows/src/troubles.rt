@@ -105,6 +105,7 @@ const TROUBLES: &[(&[&str], &[u8])] = &[
         b"ask: nofile: no such file\n",
     ),
     (&["show"], b"ask: show: no FILE is given\n"),
+    (&["arches"], b"ask: arches: no FILE is given\n"),
     (
         &["show", "--raw", "all"],
         b"ask: show: no option is named --raw\n",

@@ -6,6 +6,7 @@ use Rattle.std.specs.List.{before_first, filter_map, slice_split, starts_with}
 use Rattle.sk_text.specs.Lines.{words_of}
 use Rattle.sk_text.specs.Words.{none_of, one_of}
 use Rattle.sk_insn.specs.declared.record.Record.{Record}
+use Rattle.sk_insn.specs.Record.{native}
 use Rattle.sk_call_text.specs.declared.fault.CallFault.{CallFault}
 use Rattle.sk_call_text.specs.declared.fault.CallFault.TheVariants.{NoCall, Unclosed, Argument, TooMany}
 use Rattle.sk_call_text.specs.Calls.{nr_of, plain_number}
@@ -112,4 +113,4 @@ call_of word =
     or_fault NoCall (named_by word)
     &> λ nr. or_fault Unclosed (inside_of word)
     &> λ inside. arguments_of (given_in inside)
-    &> λ args. Ok (record { nr = nr; ip = 0; args = args })
+    &> λ args. Ok (native nr 0 args)

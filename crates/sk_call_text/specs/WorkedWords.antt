@@ -1,6 +1,7 @@
 -- Words that are worked out by hand.
 use Rattle.std.specs.Prelude.{ℕ, ◌≡◌, List, [], ◌∷◌, codes, Ok, Err, Some, None}
 use Rattle.sk_insn.specs.declared.record.Record.{Record}
+use Rattle.sk_insn.specs.Record.{native}
 use Rattle.sk_call_text.specs.declared.fault.CallFault.TheVariants.{NoCall, Unclosed, Argument, TooMany}
 use Rattle.sk_call_text.specs.Calls.{nr_of}
 use Rattle.sk_call_text.specs.CallWords.{argument_number, call_of}
@@ -8,7 +9,7 @@ use Rattle.sk_call_text.specs.Faults.{fault_text}
 
 -- the call with this number and these six arguments
 abbrev pub calls : ℕ → List ℕ → Record
-calls nr args = record { nr = nr; ip = 0; args = args }
+calls nr args = native nr 0 args
 
 abbrev pub no_arguments : List ℕ
 no_arguments = 0 ∷ 0 ∷ 0 ∷ 0 ∷ 0 ∷ 0 ∷ []

@@ -18,7 +18,7 @@ pub fn call_in(word: &[u8]) -> Result<Record, CallFault>
     let nr = named_by(word).ok_or(CallFault::NoCall)?;
     let inside = inside_of(word).ok_or(CallFault::Unclosed)?;
     let args = arguments(inside)?;
-    Ok(Record { nr, ip: 0, args })
+    Ok(Record::native(nr, 0, args))
 }
 
 /// What a word has before its parentheses.

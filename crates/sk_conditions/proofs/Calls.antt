@@ -6,7 +6,7 @@ use Rattle.std.proofs.lemmas.Bool.Decides.{nat_tests}
 use Rattle.sk_insn.specs.declared.operation.Comparison.{Comparison}
 use Rattle.sk_insn.specs.declared.operation.Comparison.TheVariants.{Greater, GreaterOrEqual}
 use Rattle.sk_insn.specs.declared.record.Record.{Record}
-use Rattle.sk_insn.specs.Record.{word_of, architecture}
+use Rattle.sk_insn.specs.Record.{word_of, architecture, IsNative}
 use Rattle.sk_interp.specs.Meaning.{holds}
 use Rattle.sk_survey.specs.Answers.{IsCallOf}
 use Rattle.sk_conditions.specs.declared.path.Path.{Path}
@@ -58,11 +58,11 @@ pub meets_numbers : (path : Path) (first last : ℕ) (least most : Test) (call :
     → IsCallOf first last call → MeetsPath path call
     → (holds_on most call ≡ false) × ((holds_on least call ≡ true) × MeetsPath path call)
 meets_numbers path first last least most call fits is_least is_most within meets =
-    let below = within.1 in
+    let below = within.1.1 in
     let fits_too : call.nr < 2 ^ 32 = omega (arith, below, fits) in (
-      ap (λ t. holds_on t call) is_most ∙ number_holds call Greater last fits_too ∙ to_last last call.nr within.1,
+      ap (λ t. holds_on t call) is_most ∙ number_holds call Greater last fits_too ∙ to_last last call.nr within.1.1,
       (
-        ap (λ t. holds_on t call) is_least ∙ number_holds call GreaterOrEqual first fits_too ∙ from_first first call.nr within.0,
+        ap (λ t. holds_on t call) is_least ∙ number_holds call GreaterOrEqual first fits_too ∙ from_first first call.nr within.1.0,
         meets,
       ),
     )
@@ -104,17 +104,20 @@ both_meet path least most call words of_least of_most of_words met there = (
   ),
 )
 
--- no call meets a path that the architecture does not
-pub other_architecture : (path : Path) → (WordMeets path 4 architecture → ⊥) → (call : Record) → MeetsPath path call → ⊥
-other_architecture path none call meets = none (word_meets path call 4 architecture meets (word_architecture call 4 refl))
+-- no call of x86-64 meets a path that its architecture does not
+pub other_architecture : (path : Path) → (WordMeets path 4 architecture → ⊥) → (call : Record) → IsNative call → MeetsPath path call → ⊥
+other_architecture path none call native meets = none (word_meets path call 4 architecture meets (word_architecture call 4 native refl))
 
 -- the numbers of a call that comes out so in the tests of its number
-pub within_numbers : (first last : ℕ) (least most : Test) (call : Record) → call.nr < 2 ^ 32
+pub within_numbers : (first last : ℕ) (least most : Test) (call : Record) → IsNative call → call.nr < 2 ^ 32
     → least ≡ on_number GreaterOrEqual first → most ≡ on_number Greater last
     → holds_on most call ≡ false → holds_on least call ≡ true → IsCallOf first last call
-within_numbers first last least most call fits is_least is_most below above = (
-  leb-true first call.nr (sym (number_holds call GreaterOrEqual first fits) ∙ sym (ap (λ t. holds_on t call) is_least) ∙ above),
-  ltb-false last call.nr (sym (number_holds call Greater last fits) ∙ sym (ap (λ t. holds_on t call) is_most) ∙ below),
+within_numbers first last least most call native fits is_least is_most below above = (
+  native,
+  (
+    leb-true first call.nr (sym (number_holds call GreaterOrEqual first fits) ∙ sym (ap (λ t. holds_on t call) is_least) ∙ above),
+    ltb-false last call.nr (sym (number_holds call Greater last fits) ∙ sym (ap (λ t. holds_on t call) is_most) ∙ below),
+  ),
 )
 
 -- nothing was found, so no word comes out so

@@ -5,12 +5,12 @@ use Rattle.std.proofs.lemmas.Nat.{and_mask}
 use Rattle.std.proofs.lemmas.Bool.{le-leb}
 use Rattle.std.proofs.Math.Nat.{mod-lt}
 use Rattle.std.specs.Int.{byte_at, bytes_low_first}
-use Rattle.byteorder.specs.Numbers.{little_number-reads_back}
 use Rattle.byteorder.specs.Endian.{little_bytes, little_number}
 use Rattle.sk_insn.specs.declared.record.Record.{Record}
 use Rattle.sk_insn.specs.declared.operation.Register.TheVariants.{Accumulator}
-use Rattle.sk_insn.specs.Record.{word_of, record_bytes, architecture, x86_64}
+use Rattle.sk_insn.specs.Record.{word_of, record_bytes, architecture, IsNative}
 use Rattle.sk_insn.proofs.LittleEndian.{IsBytes}
+use Rattle.sk_insn.proofs.RecordWords.{native_there, number_there}
 use Rattle.sk_interp.specs.Meaning.{State, GoesOn, loaded}
 
 -- a load of a word that is there
@@ -19,11 +19,10 @@ pub loads : (call : Record) (s : State) (k word : ℕ) → word_of call k ≡ So
 loads call s k word there = ap (loaded Accumulator s) there
 
 pub word_nr : (call : Record) (k nr : ℕ) → nr < 2 ^ 32 → call.nr ≡ nr → k ≡ 0 → word_of call k ≡ Some nr
-word_nr call k nr fits same e =
-    ap (word_of call) e ∙ ap Some (little_number-reads_back 4 call.nr (x86_64 ++ (little_bytes 8 call.ip ++ flat_map (little_bytes 8) call.args)) (omega arith)) ∙ ap Some same
+word_nr call k nr fits same e = ap (word_of call) e ∙ number_there call (omega (arith, fits, same)) ∙ ap Some same
 
-pub word_architecture : (call : Record) (k : ℕ) → k ≡ 4 → word_of call k ≡ Some architecture
-word_architecture call k e = ap (word_of call) e
+pub word_architecture : (call : Record) (k : ℕ) → IsNative call → k ≡ 4 → word_of call k ≡ Some architecture
+word_architecture call k native e = ap (word_of call) e ∙ native_there call native
 
 -- each number of a list of bytes is below 256
 byte_fits : (i x : ℕ) → byte_at i x < 256
@@ -59,8 +58,8 @@ number_fits xs fit =
 
 record_fits : (call : Record) → IsBytes (record_bytes call)
 record_fits call =
-    both_fit (little_bytes 4 call.nr) (x86_64 ++ (little_bytes 8 call.ip ++ flat_map (little_bytes 8) call.args)) (low_bytes_fit 0 4 call.nr)
-    (both_fit x86_64 (little_bytes 8 call.ip ++ flat_map (little_bytes 8) call.args) (low_bytes_fit 0 4 architecture)
+    both_fit (little_bytes 4 call.nr) (little_bytes 4 call.arch ++ (little_bytes 8 call.ip ++ flat_map (little_bytes 8) call.args)) (low_bytes_fit 0 4 call.nr)
+    (both_fit (little_bytes 4 call.arch) (little_bytes 8 call.ip ++ flat_map (little_bytes 8) call.args) (low_bytes_fit 0 4 call.arch)
     (both_fit (little_bytes 8 call.ip) (flat_map (little_bytes 8) call.args) (low_bytes_fit 0 8 call.ip) (all_fit call.args)))
 
 -- all bits of a word

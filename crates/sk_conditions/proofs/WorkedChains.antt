@@ -106,7 +106,7 @@ every_clone : (call : Record) → IsCallOf 56 56 call → verdict_of one_for_eac
 every_clone call within =
     let there = word_there call 16 (omega arith) in
     let word : ℕ = there.0 in
-    let is_clone : call.nr ≡ 56 = omega (arith, within.0, within.1) in
+    let is_clone : call.nr ≡ 56 = omega (arith, within.1.0, within.1.1) in
     let nr : word_of call 0 ≡ Some 56 = word_nr call 0 56 (omega arith) is_clone refl in
     three_values _ _ _ _ _ _
     (all_value call 0x20000000 word nr there.1)
@@ -129,8 +129,8 @@ chains_work = record {
   flag_above = refl;
   another_call = refl;
   newest_alone = refl;
-  not_allowed = λ tells. let same : 0x7fff0000 ≡ 0x00050001 = tells (clone 0x00020011) (lit≤ tt, lit≤ tt) in omega (arith, same);
-  not_refused = λ tells. let same : 0x00050001 ≡ 0x7fff0000 = tells (clone 0x11) (lit≤ tt, lit≤ tt) in omega (arith, same);
+  not_allowed = λ tells. let same : 0x7fff0000 ≡ 0x00050001 = tells (clone 0x00020011) (refl, (lit≤ tt, lit≤ tt)) in omega (arith, same);
+  not_refused = λ tells. let same : 0x00050001 ≡ 0x7fff0000 = tells (clone 0x11) (refl, (lit≤ tt, lit≤ tt)) in omega (arith, same);
 }
 
 pub words_work : WordsWork
@@ -139,8 +139,8 @@ words_work = record {
   allows = refl;
   kills = refl;
   no_value = λ value tells.
-      let zero : value ≡ 0 = tells (call_of 39 0 0) (lit≤ tt, lit≤ tt) in
-      let five : value ≡ 5 = tells (call_of 39 0 5) (lit≤ tt, lit≤ tt) in
+      let zero : value ≡ 0 = tells (call_of 39 0 0) (refl, (lit≤ tt, lit≤ tt)) in
+      let five : value ≡ 5 = tells (call_of 39 0 5) (refl, (lit≤ tt, lit≤ tt)) in
       omega (arith, zero, five);
   untold = λ call within. tt;
 }

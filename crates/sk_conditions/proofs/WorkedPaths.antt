@@ -100,7 +100,7 @@ paths_work = record {
   seven_above = refl;
   once = λ p call within. tells_one (holds_on is_seven call) (verdict_of (compares_again ∷ []) call) (every_call call);
   again = λ p call within. tells_all (holds_on is_seven call) (holds_on is_eight call) (verdict_of (compares_again ∷ []) call) (not_both call) (every_call call);
-  not_killed = λ p tells. let same : 0x00000000 ≡ 0x7fff0000 = tells (call_of 39 0 7) (lit≤ tt, lit≤ tt) in omega (arith, same);
+  not_killed = λ p tells. let same : 0x00000000 ≡ 0x7fff0000 = tells (call_of 39 0 7) (refl, (lit≤ tt, lit≤ tt)) in omega (arith, same);
   five = λ p. refl;
   two = λ p call. two_met p call (holds_on is_seven call) (holds_on is_eight call) refl refl (not_both call);
 }

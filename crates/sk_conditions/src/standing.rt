@@ -156,8 +156,7 @@ fn shown(chains: Comparing<'_>, call: Record, budget: &mut Budget) -> Found
 {
     if !budget.take(u64::from(chains.old.cost()))
         || !budget.take(u64::from(chains.new.cost()))
-        || call.nr < chains.numbers.first
-        || chains.numbers.last < call.nr
+        || !chains.numbers.has(&call)
         || stands(
             chains.relation,
             chains.old.verdict(&call),

@@ -1,7 +1,7 @@
 //! A call that comes out in the tests on the way as they are answered, one word after the other, or that there is none.
 ghost use Rattle.std.specs.Prelude.{ℕ, ◌≡◌, ◌≢◌, ◌≤◌, ◌<◌, ◌+◌, ◌*◌, ◌^◌, Err, Some, IfOk, IfErr, slice_index_or};
 ghost use Rattle.sk_insn.specs.declared.record.Record.{Record};
-ghost use Rattle.sk_insn.specs.Record.{architecture, word_of};
+ghost use Rattle.sk_insn.specs.Record.{architecture, word_of, IsNative};
 ghost use Rattle.sk_survey.specs.Answers.{IsCallOf};
 ghost use Rattle.sk_conditions.specs.Followed.{AreOfWords};
 ghost use Rattle.sk_conditions.specs.Following.{MeetsPath};
@@ -21,7 +21,7 @@ pub enum Missing {
     Unknown,
 }
 
-/// A call with one of the numbers, on the way of these tests.
+/// A call of x86-64 with one of the numbers, on the way of these tests.
 pub fn call_on(path: &Path, numbers: Numbers, budget: &mut Budget) -> Result<Record, Missing>
     ensures nowhere { IfErr result (λ missing. missing ≡ Missing.Nowhere
         → (call : Record) → IsCallOf numbers.first numbers.last call → MeetsPath path.now call → ⊥) }
@@ -53,9 +53,9 @@ fn on_number(comparison: Comparison, k: u32) -> Test
     }
 }
 
-/// The words of a record, that of the architecture among them.
+/// The words of a record of x86-64.
 fn words_on(path: &Path, budget: &mut Budget) -> Result<[u32; 16], Missing>
-    ensures nowhere { IfErr result (λ missing. missing ≡ Missing.Nowhere → (call : Record) → MeetsPath path.now call → ⊥) }
+    ensures nowhere { IfErr result (λ missing. missing ≡ Missing.Nowhere → (call : Record) → IsNative call → MeetsPath path.now call → ⊥) }
     ensures met { IfOk result (λ words. (index : ℕ) → index < 16 → WordMeets path.now (4 * index) (slice_index_or words index 0)) }
     ensures architecture { IfOk result (λ words. slice_index_or words 1 0 ≡ architecture) }
     ensures found { 0 < budget.new.steps → result ≢ Err Missing.Unknown }
@@ -72,10 +72,10 @@ fn words_on(path: &Path, budget: &mut Budget) -> Result<[u32; 16], Missing>
     Ok(words)
 }
 
-/// The word of a record with an index. That of the architecture is the same in each.
+/// The word of a record of x86-64 with an index. That of the architecture is the same in each.
 fn word_on(path: &Path, index: u8, budget: &mut Budget) -> Sought
     requires inside { index < 16 }
-    ensures nothing { result ≡ Sought.Nothing → (call : Record) → MeetsPath path.now call → ⊥ }
+    ensures nothing { result ≡ Sought.Nothing → (call : Record) → IsNative call → MeetsPath path.now call → ⊥ }
     ensures met { (word : ℕ) → result ≡ Sought.Word word → WordMeets path.now (4 * index) word }
     ensures architecture { (word : ℕ) → result ≡ Sought.Word word → index ≡ 1 → word ≡ architecture }
     ensures found { 0 < budget.new.steps → result ≢ Sought.Unknown }
@@ -93,11 +93,12 @@ fn word_on(path: &Path, index: u8, budget: &mut Budget) -> Sought
 
 /// The record of these words.
 fn record_of(words: &[u32; 16]) -> Record
-    requires architecture { slice_index_or words.now 1 0 ≡ architecture }
     ensures words { (index : ℕ) → index < 16 → word_of result (4 * index) ≡ Some (slice_index_or words.now index 0) }
+    ensures architecture { result.arch ≡ slice_index_or words.now 1 0 }
 {
     Record {
         nr: words[0],
+        arch: words[1],
         ip: joined(words[2], words[3]),
         args: [
             joined(words[4], words[5]),

@@ -28,7 +28,7 @@ shown_wider : (relation : Relation) (old new : List (List Insn)) (one other : Nu
     → one.last ≤ other.last → IsShown relation old new one calls verdicts shown → IsShown relation old new (both_numbers one other) calls verdicts shown
 shown_wider relation old new one other calls verdicts None wider is = tt
 shown_wider relation old new one other calls verdicts (Some call) wider is =
-    ((is.0.0, let below = is.0.1 in omega (arith, below, wider)), is.1, is.2, is.3)
+    ((is.0.0, (is.0.1.0, let below = is.0.1.1 in omega (arith, below, wider))), is.1, is.2, is.3)
 
 holds_both : (relation : Relation) (old new : List (List Insn)) (one other : Numbers) (parts others : List Part) → ArePartsOfOne parts others
     → one.last + 1 ≡ other.first → other.first ≤ other.last
@@ -38,8 +38,8 @@ holds_both : (relation : Relation) (old new : List (List Insn)) (one other : Num
 holds_both relation old new one other [] [] are meet rises (hold, cover) (holds, covers) = (
   All-nil (HoldsOf relation old new (both_numbers one other)),
   λ call within differs. elim (cases_lt one.last call.nr) [
-    | inl behind ↦ covers call (omega (arith, behind, meet), within.1) differs
-    | inr here ↦ cover call (within.0, here) differs
+    | inl behind ↦ covers call (within.0, (omega (arith, behind, meet), within.1.1)) differs
+    | inr here ↦ cover call (within.0, (within.1.0, here)) differs
   ],
 )
 holds_both relation old new one other (part ∷ []) (another ∷ []) are meet rises (hold, cover) (holds, covers) = (
@@ -47,8 +47,8 @@ holds_both relation old new one other (part ∷ []) (another ∷ []) are meet ri
     λ call within met. elim (cases_lt one.last call.nr) [
       | inl behind ↦
           subst (λ v. AreVerdicts old new v call) (sym are.2)
-          ((All-head (HoldsOf relation old new other) another [] holds).0 call (omega (arith, behind, meet), within.1) (ap (λ c. meets_calls c call) are.1))
-      | inr here ↦ (All-head (HoldsOf relation old new one) part [] hold).0 call (within.0, here) met
+          ((All-head (HoldsOf relation old new other) another [] holds).0 call (within.0, (omega (arith, behind, meet), within.1.1)) (ap (λ c. meets_calls c call) are.1))
+      | inr here ↦ (All-head (HoldsOf relation old new one) part [] hold).0 call (within.0, (within.1.0, here)) met
     ],
     (All-head (HoldsOf relation old new one) part [] hold).1,
     shown_wider relation old new one other part.calls part.verdicts part.shown (omega (arith, meet, rises))

@@ -51,7 +51,7 @@ pub decided_says : (chains : Comparing) (it : Differences) (decision : Decision)
     → SaysOf chains.relation it.pairs.items (verdict_of chains.old.now call) (verdict_of chains.new.now call) (decided decision call)
 decided_says chains it decision tells decides call within =
     says_of chains.relation it.pairs.items (verdict_of chains.old.now call) (verdict_of chains.new.now call) (told it.tree call) (decided decision call)
-    (decides call) (tells call within)
+    (decides call within.0) (tells call within)
 
 -- one pair of verdicts on every call
 pub every_holds : (chains : Comparing) (it : Differences) (decision : Decision) (pair : Verdicts) (call : Record) → TellsDifferences chains it

@@ -1,7 +1,8 @@
--- What a comparison of two chains is, and what it says of every call.
+-- What a comparison of two chains is, and what it says of every call of x86-64.
 use Rattle.std.specs.Prelude.{ℕ, ◌≡◌, ◌^◌, ◌<◌, true, false, List}
 use Rattle.sk_insn.specs.declared.insn.Insn.{Insn}
 use Rattle.sk_insn.specs.declared.record.Record.{Record}
+use Rattle.sk_insn.specs.Record.{IsNative}
 use Rattle.sk_conditions.specs.declared.standing.Relation.{Relation}
 use Rattle.sk_diff.specs.declared.comparison.Standing.{Standing}
 use Rattle.sk_diff.specs.declared.comparison.Standing.TheVariants.{Everywhere, Apart, Undecided}
@@ -21,16 +22,16 @@ pub record IsComparison (relation : Relation) (old new : List (List Insn)) (stan
   pub stands : standing ≡ standing_of pieces
   pub says : text ≡ text_of relation standing pieces
 
--- what is said to hold on every call does
+-- what is said to hold on every call does on every call of x86-64
 abbrev pub EverywhereIsEveryCall : Type 0
 EverywhereIsEveryCall =
     (relation : Relation) (old new : List (List Insn)) (text : List ℕ)
     → IsComparison relation old new Everywhere text
-    → (call : Record) → call.nr < 2 ^ 32 → stands_on relation old new call ≡ true
+    → (call : Record) → IsNative call → call.nr < 2 ^ 32 → stands_on relation old new call ≡ true
 
--- what is said not to does not on some call
+-- what is said not to does not on some call of x86-64
 abbrev pub ApartIsACall : Type 0
 ApartIsACall =
     (relation : Relation) (old new : List (List Insn)) (text : List ℕ)
     → IsComparison relation old new Apart text
-    → (call : Record) × (call.nr < 2 ^ 32) × (stands_on relation old new call ≡ false)
+    → (call : Record) × IsNative call × (call.nr < 2 ^ 32) × (stands_on relation old new call ≡ false)

@@ -1,6 +1,7 @@
 -- Worked examples of comparisons: calls as C writes them, and differences with verdicts by seccomp(2).
 use Rattle.std.specs.Prelude.{◌≡◌, [], ◌∷◌, codes, true, false, Some, None}
 use Rattle.sk_insn.specs.declared.record.Record.{Record}
+use Rattle.sk_insn.specs.Record.{native}
 use Rattle.sk_conditions.specs.declared.differences.Verdicts.{Verdicts}
 use Rattle.sk_diff.specs.declared.piece.Calls.TheVariants.{Every, This}
 use Rattle.sk_diff.specs.declared.piece.Part.{Part}
@@ -9,10 +10,10 @@ use Rattle.sk_diff.specs.DiffText.{call_text, outcome_text, calls_text, head_tex
 use Rattle.sk_diff.specs.Pieces.{is_shown, has_parts, meets_calls}
 
 abbrev pub clone : Record
-clone = record { nr = 56; ip = 0; args = 0x10000011 ∷ 0 ∷ 0 ∷ 0xffffffffffffffff ∷ 0 ∷ 1 ∷ [] }
+clone = native 56 0 (0x10000011 ∷ 0 ∷ 0 ∷ 0xffffffffffffffff ∷ 0 ∷ 1 ∷ [])
 
 abbrev pub unnamed : Record
-unnamed = record { nr = 4000; ip = 0x401000; args = 0 ∷ 0 ∷ 0 ∷ 0 ∷ 0 ∷ 0 ∷ [] }
+unnamed = native 4000 0x401000 (0 ∷ 0 ∷ 0 ∷ 0 ∷ 0 ∷ 0 ∷ [])
 
 -- a call with a name, and one without, which stands at an address
 pub record CallsWork : Type 0 where

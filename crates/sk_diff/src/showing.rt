@@ -36,18 +36,11 @@ pub fn shown_among(
         if !budget.take(LOOK) {
             return None;
         }
-        if is_of(chains.numbers, call) && meets(line, call) && runs_so(chains, pair, call) {
+        if chains.numbers.has(call) && meets(line, call) && runs_so(chains, pair, call) {
             return Some(*call);
         }
     }
     None
-}
-
-/// Whether the call's number is one of these.
-fn is_of(numbers: Numbers, call: &Record) -> bool
-    ensures within { IsTrue result → IsCallOf numbers.first numbers.last call.now }
-{
-    numbers.first <= call.nr && call.nr <= numbers.last
 }
 
 /// Whether the chains answer a call so.

@@ -88,11 +88,7 @@ fn a_record_is_its_64_bytes(rt: HostRuntime) {
     bytes[16] = 0x11;
     bytes[20] = 0x22;
     bytes[63] = 0x33;
-    let call = Record {
-        nr: 39,
-        ip: 0,
-        args: [0x22_0000_0011, 0, 0, 0, 0, 0x33 << 56],
-    };
+    let call = Record::native(39, 0, [0x22_0000_0011, 0, 0, 0, 0, 0x33 << 56]);
     assert_eq!(rt; Record::of(&bytes), Some(call));
     assert_eq!(rt; call.bytes().as_slice(), bytes.as_slice());
     assert_eq!(rt;

@@ -8,11 +8,11 @@ use sk_interp::{Ran, calculate, holds, run, walk, walk_together};
 use std::test::Fail;
 
 fn call(nr: u32) -> Record {
-    Record {
+    Record::native(
         nr,
-        ip: 0x1122_3344_5566_7788,
-        args: [0x99aa_bbcc_ddee_ff00, 1, 2, 3, 4, 5],
-    }
+        0x1122_3344_5566_7788,
+        [0x99aa_bbcc_ddee_ff00, 1, 2, 3, 4, 5],
+    )
 }
 
 #[test]

@@ -7,7 +7,7 @@ use Rattle.std.proofs.lemmas.List.{drop-drop}
 use Rattle.byteorder.specs.Endian.{little_number, little_bytes}
 use Rattle.byteorder.specs.Numbers.{little_from-bytes}
 use Rattle.sk_insn.specs.declared.record.Record.{Record}
-use Rattle.sk_insn.specs.Record.{record_bytes, word_of}
+use Rattle.sk_insn.specs.Record.{architecture, record_bytes, word_of, IsNative}
 
 low_half : (x : ℕ) (rest : List ℕ) → little_number 4 (little_bytes 8 x ++ rest) ≡ x % 2 ^ 32
 low_half x rest = little_from-bytes 4 0 x (bytes_low_first 4 4 x ++ rest) ∙ omega arith
@@ -36,6 +36,22 @@ high_of (x ∷ numbers) (suc i) h =
 
 word_at : (call : Record) (k word : ℕ) → k + 4 ≤ 64 → little_number 4 (drop k (record_bytes call)) ≡ word → word_of call k ≡ Some word
 word_at call k word inside e = let t = le-leb (k + 4) 64 inside in rw (t, e) refl
+
+-- the first word is the number, and the second the architecture
+pub word_of_number : (call : Record) → word_of call 0 ≡ Some (call.nr % 2 ^ 32)
+word_of_number call =
+    ap Some (little_from-bytes 4 0 call.nr (little_bytes 4 call.arch ++ (little_bytes 8 call.ip ++ flat_map (little_bytes 8) call.args)) ∙ omega arith)
+
+pub word_of_architecture : (call : Record) → word_of call 4 ≡ Some (call.arch % 2 ^ 32)
+word_of_architecture call =
+    ap Some (little_from-bytes 4 0 call.arch (little_bytes 8 call.ip ++ flat_map (little_bytes 8) call.args) ∙ omega arith)
+
+-- a number that fits in its word, and the architecture of a call of x86-64
+pub number_there : (call : Record) → call.nr < 2 ^ 32 → word_of call 0 ≡ Some call.nr
+number_there call fits = word_of_number call ∙ ap Some (omega (arith, fits))
+
+pub native_there : (call : Record) → IsNative call → word_of call 4 ≡ Some architecture
+native_there call native = word_of_architecture call ∙ ap (λ arch. Some (arch % 2 ^ 32)) native
 
 -- the half of a number at such a word
 abbrev half : ℕ → ℕ → ℕ

@@ -27,20 +27,13 @@ x86_64-number bytes fits long e =
 pub number-x86_64 : (bytes : List ℕ) → take 4 bytes ≡ x86_64 → little_number 4 bytes ≡ 0xC000003E
 number-x86_64 bytes e = sym (little_from-take 0 4 4 bytes (omega arith)) ∙ ap (little_number 4) e
 
--- the architecture's bytes, and the bytes after them
-x86_64-first : (bytes rest : List ℕ) → take 4 (drop 4 bytes) ≡ x86_64 → rest ≡ drop 8 bytes → x86_64 ++ rest ≡ drop 4 bytes
-x86_64-first bytes rest e tail =
-    ap (λ front. front ++ rest) (sym e)
-    ∙ ap (λ back. take 4 (drop 4 bytes) ++ back) (tail ∙ sym (drop-drop 4 4 bytes))
-    ∙ take-append-drop 4 (drop 4 bytes)
-
 -- a record whose numbers stand in the bytes at their places
-pub record_bytes-read : (bytes : List ℕ) (nr ip a b c d e f : ℕ) → IsBytes bytes → length bytes ≡ 64 → take 4 (drop 4 bytes) ≡ x86_64
-    → nr ≡ little_number 4 (drop 0 bytes) → ip ≡ little_number 8 (drop 8 bytes)
+pub record_bytes-read : (bytes : List ℕ) (nr arch ip a b c d e f : ℕ) → IsBytes bytes → length bytes ≡ 64
+    → nr ≡ little_number 4 (drop 0 bytes) → arch ≡ little_number 4 (drop 4 bytes) → ip ≡ little_number 8 (drop 8 bytes)
     → a ≡ little_number 8 (drop 16 bytes) → b ≡ little_number 8 (drop 24 bytes) → c ≡ little_number 8 (drop 32 bytes)
     → d ≡ little_number 8 (drop 40 bytes) → e ≡ little_number 8 (drop 48 bytes) → f ≡ little_number 8 (drop 56 bytes)
-    → record_bytes (record { nr = nr; ip = ip; args = a ∷ b ∷ c ∷ d ∷ e ∷ f ∷ [] }) ≡ bytes
-record_bytes-read bytes nr ip a b c d e f fits long arch nr_is ip_is a_is b_is c_is d_is e_is f_is =
+    → record_bytes (record { nr = nr; arch = arch; ip = ip; args = a ∷ b ∷ c ∷ d ∷ e ∷ f ∷ [] }) ≡ bytes
+record_bytes-read bytes nr arch ip a b c d e f fits long nr_is arch_is ip_is a_is b_is c_is d_is e_is f_is =
     let none = sym (drop_all 64 bytes (omega arith)) in
     let from56 = number_first 8 56 f bytes [] fits (omega arith) f_is none in
     let from48 = number_first 8 48 e bytes _ fits (omega arith) e_is from56 in
@@ -49,5 +42,5 @@ record_bytes-read bytes nr ip a b c d e f fits long arch nr_is ip_is a_is b_is c
     let from24 = number_first 8 24 b bytes _ fits (omega arith) b_is from32 in
     let from16 = number_first 8 16 a bytes _ fits (omega arith) a_is from24 in
     let from8 = number_first 8 8 ip bytes _ fits (omega arith) ip_is from16 in
-    let from4 = x86_64-first bytes _ arch from8 in
+    let from4 = number_first 4 4 arch bytes _ fits (omega arith) arch_is from8 in
     number_first 4 0 nr bytes _ fits (omega arith) nr_is from4

@@ -6,11 +6,13 @@ use byteorder::{ByteOrder, LittleEndian};
 /// The bytes of a record.
 pub const RECORD_LEN: usize = 64;
 
-/// What a filter sees of a call: `struct seccomp_data` of seccomp(2). Its architecture is always x86-64.
+/// What a filter sees of a call: `struct seccomp_data` of seccomp(2).
 #[derive(Clone, Copy, Debug, PartialEq, Eq)]
 pub struct Record {
     /// The call's number.
     pub nr: u32,
+    /// The architecture that the number is of: an `AUDIT_ARCH_*` of linux/audit.h.
+    pub arch: u32,
     /// The instruction pointer.
     pub ip: u64,
     /// The six registers.
@@ -21,7 +23,20 @@ pub struct Record {
 pub const ARCHITECTURE: u32 = 0xC000_003E;
 
 impl Record {
-    ghost use Rattle.sk_insn.specs.Record.{record_bytes, record_in, record_of, word_of, IsRecord};
+    ghost use Rattle.sk_insn.specs.Record.{native, record_bytes, record_in, record_of, word_of, IsRecord, IsNative};
+
+    /// The call of x86-64 with this number, instruction pointer and arguments.
+    #[inline(always)]
+    pub fn native(nr: u32, ip: u64, args: [u64; 6]) -> Record
+        ensures call { result ≡ native nr ip args }
+    {
+        Record {
+            nr,
+            arch: ARCHITECTURE,
+            ip,
+            args,
+        }
+    }
 
     /// Its bytes, as `struct seccomp_data` lies in memory.
     pub fn bytes(&self) -> [u8; 64]
@@ -29,7 +44,7 @@ impl Record {
     {
         let mut bytes = [0u8; 64];
         LittleEndian::write_u32(&mut bytes, self.nr);
-        LittleEndian::write_u32(&mut bytes[4..], ARCHITECTURE);
+        LittleEndian::write_u32(&mut bytes[4..], self.arch);
         LittleEndian::write_u64(&mut bytes[8..], self.ip);
         LittleEndian::write_u64(&mut bytes[16..], self.args[0]);
         LittleEndian::write_u64(&mut bytes[24..], self.args[1]);
@@ -50,7 +65,7 @@ impl Record {
         if k == 0 {
             self.nr
         } else if k == 4 {
-            ARCHITECTURE
+            self.arch
         } else if k < 16 {
             half(self.ip, k)
         } else {
@@ -64,6 +79,7 @@ impl Record {
         ensures exact { result ≡ record_of bytes.now }
         ensures found { IfSome result (λ call. record_bytes call ≡ bytes.now) }
         ensures only { IsSome result ↔ IsRecord bytes.now }
+        ensures native { IfSome result (λ call. IsNative call) }
     {
         if u32_at(bytes, 4) != ARCHITECTURE {
             return None;
@@ -71,14 +87,14 @@ impl Record {
         Some(Record::read(bytes))
     }
 
-    fn read(bytes: &[u8; 64]) -> Record
-        requires { little_number 4 (drop 4 bytes.now) ≡ ARCHITECTURE }
+    /// The record that these bytes are, of whatever architecture.
+    pub fn read(bytes: &[u8; 64]) -> Record
         ensures numbers { result ≡ record_in bytes.now }
         ensures bytes { record_bytes result ≡ bytes.now }
-        ensures architecture { IsRecord bytes.now }
     {
         Record {
             nr: u32_at(bytes, 0),
+            arch: u32_at(bytes, 4),
             ip: u64_at(bytes, 8),
             args: [
                 u64_at(bytes, 16),

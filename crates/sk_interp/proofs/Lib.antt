@@ -6,3 +6,4 @@ pub mod Walks
 pub mod Marks
 pub mod JointWalks
 pub mod ValidMeanings
+pub mod Architectures

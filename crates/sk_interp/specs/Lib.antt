@@ -2,6 +2,7 @@ pub mod Meaning
 pub mod MeaningLaws
 pub mod WorkedMeanings
 pub mod Walk
+pub mod Architectures
 pub mod MachineState
 pub mod Strides
 pub mod JointWalk

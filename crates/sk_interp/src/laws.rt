@@ -1,6 +1,7 @@
 //! Laws on meanings. No program calls these functions: the contract of each is the law.
 
 ghost use Rattle.sk_interp.specs.MeaningLaws.{SkipDrops, StepsWithinLength, ValidReturns};
+ghost use Rattle.sk_interp.specs.Architectures.{ArchitecturesAreConstants};
 ghost use Rattle.sk_interp.specs.WorkedMeanings.{WorkedMeanings};
 
 /// To jump over instructions is to drop them.
@@ -25,4 +26,11 @@ pub fn worked_meanings()
 #[tactic(auto, using(crate::proofs::ValidMeanings::valid_returns))]
 pub fn valid_returns()
     ensures law { ValidReturns }
+{}
+
+/// A valid filter means to a call what the filter that loads its architecture as a constant means to it as a call of
+/// x86-64.
+#[tactic(auto, using(crate::proofs::Architectures::architectures_are_constants))]
+pub fn architectures_are_constants()
+    ensures law { ArchitecturesAreConstants }
 {}

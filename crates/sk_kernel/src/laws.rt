@@ -103,7 +103,7 @@ fn call_of(event: &Event) -> Option<Call>
             ip,
             nr,
             args,
-        } => Some(Call { nr, ip, args }),
+        } => Some(Call::native(nr, ip, args)),
         _ => None,
     }
 }

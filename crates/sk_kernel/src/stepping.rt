@@ -70,8 +70,7 @@ fn happen<S: ProcStore>(
 {
     match *event {
         Event::Call { pid, ip, nr, args } => {
-            let record = Record { nr, ip, args };
-            call(store, images, alloc, pid, &record)
+            call(store, images, alloc, pid, &Record::native(nr, ip, args))
         }
         Event::Deliver { pid } => Ok(deliver_due(store, pid)),
         Event::Resume { pid } => Ok(Answer::Resumed(resume_call(store, pid))),

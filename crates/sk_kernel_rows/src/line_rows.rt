@@ -61,11 +61,7 @@ fn assert_lines<R: Abort + AllocGlobal>(
 fn has_calls(told: &Lineage, calls: &[(Syscall, [i64; 3])]) -> bool {
     let mut same = told.calls.len() == calls.len();
     for (call, (which, registers)) in told.calls.iter().zip(calls) {
-        let record = Record {
-            nr: which.number(),
-            ip: 0,
-            args: args_of(registers),
-        };
+        let record = Record::native(which.number(), 0, args_of(registers));
         same = same && *call == record;
     }
     same

@@ -252,11 +252,7 @@ fn lines_that_refuse(known: &[Known], call: Syscall) -> usize {
 }
 
 fn bare_call(nr: u32) -> Record {
-    Record {
-        nr,
-        ip: 0,
-        args: [0; 6],
-    }
+    Record::native(nr, 0, [0; 6])
 }
 
 impl Orders {

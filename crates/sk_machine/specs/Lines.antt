@@ -5,6 +5,7 @@ use Rattle.std.specs.Option.{option_map, option_map_or, option_to_list}
 use Rattle.std.specs.List.{zip}
 use Rattle.std.specs.Result.{result_unwrap_or}
 use Rattle.sk_insn.specs.declared.record.Record.{Record}
+use Rattle.sk_insn.specs.Record.{native}
 use Rattle.sk_insn.specs.Actions.{action_of, performs}
 use Rattle.sk_calls.specs.declared.syscall.Syscall.TheVariants as syscall
 use Rattle.sk_calls.specs.Syscalls.{number_of}
@@ -31,7 +32,7 @@ Happening = Event × Answer
 
 -- the call that an event is, if it is one
 abbrev pub call_of : Event → Option Record
-call_of (Call pid ip nr args) = Some (record { nr = nr; ip = ip; args = args })
+call_of (Call pid ip nr args) = Some (native nr ip args)
 call_of (Deliver pid) = None
 call_of (Resume pid) = None
 call_of (Fault pid) = None

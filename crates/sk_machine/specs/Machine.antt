@@ -2,6 +2,7 @@
 use Rattle.std.specs.Prelude.{ℕ, Bool, false, not, ◌&&◌, if◌then◌else◌, pos, neg_ℤ, min, List, [], ◌∷◌, Option, None, Some}
 use Rattle.std.specs.Option.{is_some, option_and_then, option_map_or}
 use Rattle.sk_insn.specs.declared.record.Record.{Record}
+use Rattle.sk_insn.specs.Record.{native}
 use Rattle.sk_insn.specs.declared.action.Action.{Action}
 use Rattle.sk_insn.specs.declared.action.Action.TheVariants as action
 use Rattle.sk_insn.specs.Actions.{action_of, data_part}
@@ -88,7 +89,7 @@ delivery w pid body o = option_map_or (λ n. signal_answered n (delivered w pid 
 
 -- an event that is possible, of a process with this body
 abbrev pub happened : GivenImages → World → Body → Event → Stepped
-happened images w body (Call pid ip nr args) = called images w pid body (record { nr = nr; ip = ip; args = args })
+happened images w body (Call pid ip nr args) = called images w pid body (native nr ip args)
 happened images w body (Deliver pid) = delivery w pid body (signal_for body)
 happened images w body (Resume pid) = resume_answered (resumed w pid body.waiting)
 happened images w body (Fault pid) = record { answer = answer.Crashed; world = ended_and_hung_up w pid SIGSEGV }

@@ -3,6 +3,7 @@ use Rattle.std.specs.Prelude.{ℕ, ◌==◌, Bool, false, not, ◌&&◌, if◌th
 use Rattle.std.specs.Option.{is_some, option_map_or}
 use Rattle.std.specs.Result.{is_ok}
 use Rattle.sk_insn.specs.declared.record.Record.{Record}
+use Rattle.sk_insn.specs.Record.{native}
 use Rattle.sk_insn.specs.Actions.{action_of, performs}
 use Rattle.sk_insn.specs.Instructions.{instructions_of}
 use Rattle.sk_chain.specs.Verdict.{verdict_of}
@@ -55,7 +56,7 @@ call_takes_memory images w pid call =
 -- an event may want memory: it is such a call, and possible. No other event ever does
 abbrev pub takes_memory : GivenImages → World → Event → Bool
 takes_memory images w (Call pid ip nr args) =
-    not (is_some (reason_of w (Call pid ip nr args))) && call_takes_memory images w pid (record { nr = nr; ip = ip; args = args })
+    not (is_some (reason_of w (Call pid ip nr args))) && call_takes_memory images w pid (native nr ip args)
 takes_memory images w (Deliver pid) = false
 takes_memory images w (Resume pid) = false
 takes_memory images w (Fault pid) = false

@@ -8,6 +8,7 @@ use Rattle.std.specs.Int.{is_negative}
 use Rattle.std.proofs.lemmas.Int.{ints}
 use Rattle.std.proofs.lemmas.Bool.{false≢true, cond_both, eqb-true, eq-eqb, ne_eqb, not-false, and_parts, and_from, eqb-false, false_from_ne_true}
 use Rattle.sk_insn.specs.declared.record.Record.{Record}
+use Rattle.sk_insn.specs.Record.{native, IsNative}
 use Rattle.sk_insn.specs.declared.action.Action.{Action}
 use Rattle.sk_insn.specs.declared.action.Action.TheVariants as action
 use Rattle.sk_insn.specs.Actions.{action_of, performs}
@@ -532,11 +533,11 @@ spares_resumed w pid q waiting.Nothing apart = spares_world w pid q
 
 -- ---- events
 -- a call that is performed is no kill
-no_kill : (body : Body) (call : Record) → RefusesKill body.chain → IsTrue (performs (action_of (verdict_of body.chain call))) → is_kill_row (syscall_of call.nr) ≡ false
-no_kill body call refuses performed =
+no_kill : (body : Body) (call : Record) → IsNative call → RefusesKill body.chain → IsTrue (performs (action_of (verdict_of body.chain call))) → is_kill_row (syscall_of call.nr) ≡ false
+no_kill body call is_native refuses performed =
     let verdict : ℕ = verdict_of body.chain call in
     kill_number call.nr ∙ ne_eqb call.nr 62 (λ is.
-    let before = refuses call is in
+    let before = refuses call is_native is in
     let later = lets_through verdict performed in
     absurd (omega (arith, ints, before, later)))
 
@@ -546,9 +547,9 @@ SparesStep w pid q s = Alone w pid q (ends s.answer) (stops s.answer) s.world
 spares_happened : (images : GivenImages) (w : World) (body : Body) (event : Event) (q : ℕ) → IsWorld w → IsApart w (pid_of event) q → IsTrue (is_some (at w q))
     → RefusesKill body.chain → SparesStep w (pid_of event) q (happened images w body event)
 spares_happened images w body (Call pid ip nr args) q rules apart there refuses =
-    let call : Record = record { nr = nr; ip = ip; args = args } in
+    let call : Record = native nr ip args in
     let verdict : ℕ = verdict_of body.chain call in
-    spares_judged images w pid q body call verdict (action_of verdict) rules apart there (no_kill body call refuses)
+    spares_judged images w pid q body call verdict (action_of verdict) rules apart there (no_kill body call refl refuses)
 spares_happened images w body (Deliver pid) q rules apart there refuses = at_delivery w pid body (signal_for body) (SparesStep w pid q) (spares_world w pid q) (λ n. spares_delivered w pid body n q apart)
 spares_happened images w body (Resume pid) q rules apart there refuses = spares_resumed w pid q body.waiting apart
 spares_happened images w body (Fault pid) q rules apart there refuses = spares_ends w pid SIGSEGV q apart

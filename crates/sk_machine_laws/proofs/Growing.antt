@@ -7,6 +7,7 @@ use Rattle.std.specs.Int.{cast_signed, w32}
 use Rattle.std.proofs.lemmas.Bool.{false≢true, cond_both, eqb-true}
 use Rattle.sk_insn.specs.declared.insn.Insn.{Insn}
 use Rattle.sk_insn.specs.declared.record.Record.{Record}
+use Rattle.sk_insn.specs.Record.{native}
 use Rattle.sk_insn.specs.declared.action.Action.{Action}
 use Rattle.sk_insn.specs.declared.action.Action.TheVariants as action
 use Rattle.sk_insn.specs.Actions.{action_of, action_part, performs}
@@ -135,9 +136,9 @@ JudgedByFilters w pid call verdict outcome s =
     s.answer ≡ answer.Call verdict outcome → IsTrue (is_some (at w pid)) × (judged_by call (authority_at w pid) ≡ Some verdict)
 
 pub judged_by_filters : (images : GivenImages) (w : World) (pid ip nr : ℕ) (args : List ℕ) (verdict : ℕ) (outcome : Outcome)
-    → JudgedByFilters w pid (record { nr = nr; ip = ip; args = args }) verdict outcome (step_of images w (Call pid ip nr args))
+    → JudgedByFilters w pid (native nr ip args) verdict outcome (step_of images w (Call pid ip nr args))
 judged_by_filters images w pid ip nr args verdict outcome =
-    let call : Record = record { nr = nr; ip = ip; args = args } in
+    let call : Record = native nr ip args in
     at_step images w (Call pid ip nr args) (JudgedByFilters w pid call verdict outcome) (λ _ _ made. cc) (λ p there alive made.
     let same : verdict_of p.body.chain call ≡ verdict = cc in
     (alive_is_there (at w pid) alive, ap (λ o. judged_by call (authority_in o)) there ∙ ap (λ v. Some v) same))
@@ -145,7 +146,7 @@ judged_by_filters images w pid ip nr args verdict outcome =
 pub verdict_is_of_line : VerdictIsOfLine
 verdict_is_of_line images w events pid ip nr args verdict outcome made =
     let judged = judged_by_filters images (world_after images w events) pid ip nr args verdict outcome made in
-    ap (judged_by (record { nr = nr; ip = ip; args = args })) (sym (authority_is_of_line images w events pid judged.0).1) ∙ judged.1
+    ap (judged_by (native nr ip args)) (sym (authority_is_of_line images w events pid judged.0).1) ∙ judged.1
 
 pub equal_lines_may_do_the_same : EqualLinesMayDoTheSame
 equal_lines_may_do_the_same images v w one other p q equal =
@@ -192,7 +193,7 @@ no_refusal (first ∷ rest) place value performed here =
 
 pub performed_meets_no_refusal : PerformedMeetsNoRefusal
 performed_meets_no_refusal images w events pid ip nr args verdict outcome a place value made performed known here =
-    let call : Record = record { nr = nr; ip = ip; args = args } in
+    let call : Record = native nr ip args in
     let same : verdict ≡ verdict_of a.programs call =
     ap (λ o. unwrap_or o verdict) (sym (verdict_is_of_line images w events pid ip nr args verdict outcome made) ∙ ap (judged_by call) known) in
     no_refusal (values_of a.programs call) place value (subst (λ v. IsTrue (performs (action_of v))) same performed) here

@@ -4,6 +4,7 @@ use Rattle.std.specs.Prelude.{filter}
 use Rattle.std.specs.Option.{option_map}
 use Rattle.std.proofs.lemmas.Bool.{cond_both, eqb-true, eqb-false, not-true, not-false}
 use Rattle.sk_insn.specs.declared.record.Record.{Record}
+use Rattle.sk_insn.specs.Record.{native}
 use Rattle.sk_insn.specs.declared.action.Action.{Action}
 use Rattle.sk_insn.specs.declared.action.Action.TheVariants as action
 use Rattle.sk_insn.specs.Actions.{action_of}
@@ -246,7 +247,7 @@ kept_resumed w pid waiting.Nothing rules alive = rules
 pub kept_happened : (images : GivenImages) (w : World) (body : Body) (event : Event) → IsWorld w → IsTrue (is_alive (at w (pid_of event)))
     → IsWorld (happened images w body event).world
 kept_happened images w body (Call pid ip nr args) rules alive =
-    let call : Record = record { nr = nr; ip = ip; args = args } in
+    let call : Record = native nr ip args in
     let verdict : ℕ = verdict_of body.chain call in
     kept_judged images w pid body call verdict (action_of verdict) rules alive
 kept_happened images w body (Deliver pid) rules alive = at_delivery w pid body (signal_for body) (λ s. IsWorld s.world) rules (λ n. kept_delivered w pid body n rules alive)

@@ -4,6 +4,7 @@ use Rattle.std.specs.Option.{is_some, unwrap_or, option_to_list, option_map}
 use Rattle.std.specs.Result.{result_unwrap_or}
 use Rattle.std.proofs.lemmas.Bool.{false≢true, eqb-true, eqb-false, false_from_ne_true}
 use Rattle.sk_insn.specs.declared.record.Record.{Record}
+use Rattle.sk_insn.specs.Record.{native}
 use Rattle.sk_insn.specs.declared.action.Action.{Action}
 use Rattle.sk_insn.specs.declared.action.Action.TheVariants as action
 use Rattle.sk_insn.specs.Actions.{action_of, performs}
@@ -255,7 +256,7 @@ EventStep images w event s q =
 step_happened : (images : GivenImages) (w : World) (event : Event) (p : Proc) (q : ℕ) → at w (pid_of event) ≡ Some p → IsTrue (is_alive (at w (pid_of event)))
     → EventStep images w event (happened images w p.body event) q
 step_happened images w (Call pid ip nr args) p q there alive =
-    let call : Record = record { nr = nr; ip = ip; args = args } in
+    let call : Record = native nr ip args in
     let verdict : ℕ = verdict_of p.body.chain call in
     step_judged images w pid q p.body call verdict (action_of verdict) (own_authority w pid p there) alive
 step_happened images w (Deliver pid) p q there alive =

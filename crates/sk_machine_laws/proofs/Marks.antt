@@ -4,6 +4,7 @@ use Rattle.std.specs.Option.{is_some, option_map, option_map_or, option_and_then
 use Rattle.std.specs.List.{find}
 use Rattle.std.proofs.lemmas.Bool.{false≢true, cond_both}
 use Rattle.sk_insn.specs.declared.record.Record.{Record}
+use Rattle.sk_insn.specs.Record.{native}
 use Rattle.sk_insn.specs.declared.action.Action.{Action}
 use Rattle.sk_insn.specs.declared.action.Action.TheVariants as action
 use Rattle.sk_insn.specs.Actions.{action_of}
@@ -179,7 +180,7 @@ marks_judged images w pid body call verdict action.Unknown is there = over_end M
 marks_happened : (images : GivenImages) (w : World) (body : Body) (event : Event) → images.subreapers ≡ false → IsTrue (is_some (at w (pid_of event)))
     → MarksNobody w (happened images w body event).world
 marks_happened images w body (Call pid ip nr args) is there =
-    let call : Record = record { nr = nr; ip = ip; args = args } in
+    let call : Record = native nr ip args in
     let verdict : ℕ = verdict_of body.chain call in
     marks_judged images w pid body call verdict (action_of verdict) is there
 marks_happened images w body (Deliver pid) is there = at_delivery w pid body (signal_for body) (λ s. MarksNobody w s.world) (λ none. none) (λ n. over_delivered MarksNobody marks w pid body n there)

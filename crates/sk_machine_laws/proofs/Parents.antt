@@ -6,6 +6,7 @@ use Rattle.std.proofs.lemmas.Int.{ints}
 use Rattle.std.proofs.lemmas.Bool.{false≢true, cond_both, cond-true, eqb-true, eqb-false, eq-eqb, ne_eqb, and_parts, ltb-true}
 use Rattle.sk_insn.specs.declared.insn.Insn.{Insn}
 use Rattle.sk_insn.specs.declared.record.Record.{Record}
+use Rattle.sk_insn.specs.Record.{native}
 use Rattle.sk_insn.specs.declared.action.Action.{Action}
 use Rattle.sk_insn.specs.declared.action.Action.TheVariants as action
 use Rattle.sk_insn.specs.Actions.{action_of, performs}
@@ -371,7 +372,7 @@ EventComes w event s q = Comes w s.world (pid_of event) q (is_fork_of q (event, 
 comes_happened : (images : GivenImages) (w : World) (body : Body) (event : Event) (q : ℕ) → IsWorld w → IsTrue (is_some (at w (pid_of event)))
     → EventComes w event (happened images w body event) q
 comes_happened images w body (Call pid ip nr args) q rules there =
-    let call : Record = record { nr = nr; ip = ip; args = args } in
+    let call : Record = native nr ip args in
     let verdict : ℕ = verdict_of body.chain call in
     comes_judged images w pid q body call verdict (action_of verdict) rules there
 comes_happened images w body (Deliver pid) q rules there =
@@ -418,8 +419,8 @@ some_values [] call less is = absurd (omega (arith, ints, less))
 some_values (newest ∷ older) call less is = cc
 
 refuses_more : (newer older : List (List Insn)) → RefusesKill older → RefusesKill (newer ++ older)
-refuses_more newer older refuses call is =
-    let before = refuses call is in
+refuses_more newer older refuses call is_native is =
+    let before = refuses call is_native is in
     let least : precedence_of (verdict_of (newer ++ older) call) ≤ℤ precedence_of (verdict_of older call) =
     subst (λ vs. precedence_of (first_of vs) ≤ℤ precedence_of (first_of (values_of older call))) (sym (values-append newer older call))
     (first_of_more (values_of newer call) (values_of older call) (some_values older call before)) in

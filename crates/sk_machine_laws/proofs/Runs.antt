@@ -6,6 +6,7 @@ use Rattle.std.specs.Option.{is_some, option_map, unwrap_or}
 use Rattle.std.specs.List.{zip}
 use Rattle.std.proofs.lemmas.List.{reverse-append}
 use Rattle.sk_insn.specs.declared.record.Record.{Record}
+use Rattle.sk_insn.specs.Record.{native}
 use Rattle.sk_chain.specs.Verdict.{values_of, verdict_of, IsLeast}
 use Rattle.sk_chain.proofs.Verdicts.{verdict_of_least}
 use Rattle.sk_world.specs.World.{World, at}
@@ -79,7 +80,7 @@ runs_are_lawful images w events rules accepted = record {
   accepted = λ earlier later split. run_keeps_accepted images w earlier accepted;
   returning = λ earlier later pid call split. each_returns call (authority_at (world_after images w earlier) pid) (run_keeps_accepted images w earlier accepted pid);
   least = λ earlier later pid ip nr args verdict outcome split is.
-      least_verdict (record { nr = nr; ip = ip; args = args }) verdict (authority_at (world_after images w earlier) pid)
+      least_verdict (native nr ip args) verdict (authority_at (world_after images w earlier) pid)
       (judged_by_filters images (world_after images w earlier) pid ip nr args verdict outcome is).1;
   history = history_is images w events [] ∙ append_none (reverse (zip events (answers_of images w events)));
   authorities = authority_is_of_line images w events;

@@ -4,6 +4,7 @@ use Rattle.std.specs.Option.{is_some, unwrap_or, option_map, option_map_or}
 use Rattle.std.specs.List.{list_any, find}
 use Rattle.std.proofs.lemmas.Bool.{false≢true, cond_both, or_parts, and_parts}
 use Rattle.sk_insn.specs.declared.record.Record.{Record}
+use Rattle.sk_insn.specs.Record.{native}
 use Rattle.sk_insn.specs.declared.action.Action.{Action}
 use Rattle.sk_insn.specs.declared.action.Action.TheVariants as action
 use Rattle.sk_insn.specs.Actions.{action_of}
@@ -243,7 +244,7 @@ StepTells w pid s = (child status : ℕ) → told_by s.answer ≡ Some (child, s
 
 tells_happened : (images : GivenImages) (w : World) (body : Body) (event : Event) → StepTells w (pid_of event) (happened images w body event)
 tells_happened images w body (Call pid ip nr args) child status is =
-    let call : Record = record { nr = nr; ip = ip; args = args } in
+    let call : Record = native nr ip args in
     let verdict : ℕ = verdict_of body.chain call in
     tells_judged images w pid body call verdict (action_of verdict) child status is
 tells_happened images w body (Deliver pid) child status is =

@@ -3,6 +3,7 @@ use Rattle.std.proofs.Common.{◌≡◌, ◌∙◌, ℕ, negsuc, ◌==◌, ap, s
 use Rattle.std.specs.Option.{is_some, option_and_then}
 use Rattle.std.proofs.lemmas.Bool.{false≢true, cond_both}
 use Rattle.sk_insn.specs.declared.record.Record.{Record}
+use Rattle.sk_insn.specs.Record.{native}
 use Rattle.sk_insn.specs.declared.action.Action.{Action}
 use Rattle.sk_insn.specs.declared.action.Action.TheVariants as action
 use Rattle.sk_insn.specs.Actions.{action_of}
@@ -94,7 +95,7 @@ at_called images w body (Deliver pid) verdict outcome P made is =
 at_called images w body (Resume pid) verdict outcome P made is = cc
 at_called images w body (Fault pid) verdict outcome P made is = cc
 at_called images w body (Call pid ip nr args) verdict outcome P made is =
-    let call : Record = record { nr = nr; ip = ip; args = args } in
+    let call : Record = native nr ip args in
     let told : ℕ = verdict_of body.chain call in
     let same : told ≡ verdict = cc in
     let outcome_is : (judged images w pid body call told (action_of told)).outcome ≡ outcome = cc in

@@ -5,6 +5,7 @@ use Rattle.std.specs.Option.{is_some, option_map}
 use Rattle.std.specs.List.{list_all}
 use Rattle.sk_insn.specs.declared.insn.Insn.{Insn}
 use Rattle.sk_insn.specs.declared.record.Record.{Record}
+use Rattle.sk_insn.specs.Record.{IsNative}
 use Rattle.sk_calls.specs.declared.syscall.Syscall.TheVariants as syscall
 use Rattle.sk_calls.specs.Syscalls.{number_of}
 use Rattle.sk_chain.specs.Precedence.{precedence_of}
@@ -31,9 +32,9 @@ use Rattle.sk_machine.specs.Machine.{step_of, world_after}
 use Rattle.sk_machine.specs.Lines.{line_before, authority_at}
 use Rattle.sk_machine_laws.specs.LineLaws.{happening, line_after}
 
--- the filters answer every kill(2) with an action that has precedence over SECCOMP_RET_LOG
+-- the filters answer every kill(2) of x86-64 with an action that has precedence over SECCOMP_RET_LOG
 abbrev pub RefusesKill : List (List Insn) → Type 0
-RefusesKill programs = (call : Record) → call.nr ≡ number_of syscall.Kill → precedence_of (verdict_of programs call) <ℤ precedence_of 0x7ffc0000
+RefusesKill programs = (call : Record) → IsNative call → call.nr ≡ number_of syscall.Kill → precedence_of (verdict_of programs call) <ℤ precedence_of 0x7ffc0000
 
 -- processes that refuse kill(2), with all their children; process 1 is none of them
 pub record IsConfined (w : World) (inside : ℕ → Bool) : Type 0 where

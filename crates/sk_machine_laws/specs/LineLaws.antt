@@ -3,6 +3,7 @@ use Rattle.std.specs.Prelude.{ℕ, ◌≡◌, ◌≤ℤ◌, ◌++◌, IsTrue, Li
 use Rattle.std.specs.Option.{is_some, option_map}
 use Rattle.sk_insn.specs.declared.insn.Insn.{Insn}
 use Rattle.sk_insn.specs.declared.record.Record.{Record}
+use Rattle.sk_insn.specs.Record.{native}
 use Rattle.sk_insn.specs.Actions.{action_of, performs}
 use Rattle.sk_chain.specs.Precedence.{precedence_of}
 use Rattle.sk_chain.specs.Verdict.{values_of, verdict_of}
@@ -90,7 +91,7 @@ abbrev pub VerdictIsOfLine : Type 0
 VerdictIsOfLine =
     (images : GivenImages) (w : World) (events : List Event) (pid ip nr : ℕ) (args : List ℕ) (verdict : ℕ) (outcome : Outcome)
     → (step_of images (world_after images w events) (Call pid ip nr args)).answer ≡ answer.Call verdict outcome
-    → judged_by (record { nr = nr; ip = ip; args = args }) (authority_of_line images w (line_after images w events pid)) ≡ Some verdict
+    → judged_by (native nr ip args) (authority_of_line images w (line_after images w events pid)) ≡ Some verdict
 
 -- a call that is performed has met no filter of its line whose action has precedence over SECCOMP_RET_LOG
 abbrev pub PerformedMeetsNoRefusal : Type 0
@@ -98,5 +99,5 @@ PerformedMeetsNoRefusal =
     (images : GivenImages) (w : World) (events : List Event) (pid ip nr : ℕ) (args : List ℕ) (verdict : ℕ) (outcome : Outcome) (a : Authority) (place value : ℕ)
     → (step_of images (world_after images w events) (Call pid ip nr args)).answer ≡ answer.Call verdict outcome → IsTrue (performs (action_of verdict))
     → authority_of_line images w (line_after images w events pid) ≡ Some a
-    → slice_get (values_of a.programs (record { nr = nr; ip = ip; args = args })) place ≡ Some value
+    → slice_get (values_of a.programs (native nr ip args)) place ≡ Some value
     → precedence_of 0x7ffc0000 ≤ℤ precedence_of value

@@ -5,6 +5,7 @@ use Rattle.std.specs.Option.{is_some}
 use Rattle.std.specs.List.{list_any}
 use Rattle.sk_insn.specs.declared.insn.Insn.{Insn}
 use Rattle.sk_insn.specs.declared.record.Record.{Record}
+use Rattle.sk_insn.specs.Record.{native}
 use Rattle.sk_insn.specs.Actions.{action_of, performs}
 use Rattle.sk_chain.specs.Precedence.{precedence_of}
 use Rattle.sk_chain.specs.Verdict.{values_of, verdict_of, IsLeast}
@@ -52,7 +53,7 @@ abbrev pub VerdictsAreLeast : GivenImages → World → List Event → Type 0
 VerdictsAreLeast images w events =
     (earlier later : List Event) (pid ip nr : ℕ) (args : List ℕ) (verdict : ℕ) (outcome : Outcome) → events ≡ earlier ++ Call pid ip nr args ∷ later
     → (step_of images (world_after images w earlier) (Call pid ip nr args)).answer ≡ answer.Call verdict outcome
-    → (a : Authority) × (authority_at (world_after images w earlier) pid ≡ Some a) × IsVerdictOf a.programs (record { nr = nr; ip = ip; args = args }) verdict
+    → (a : Authority) × (authority_at (world_after images w earlier) pid ≡ Some a) × IsVerdictOf a.programs (native nr ip args) verdict
 
 -- each process that is there afterwards comes from one that was there before, and its filters, ids and
 -- no_new_privs are those of its line
@@ -83,7 +84,7 @@ abbrev pub VerdictsAreOfLines : GivenImages → World → List Event → Type 0
 VerdictsAreOfLines images w events =
     (earlier later : List Event) (pid ip nr : ℕ) (args : List ℕ) (verdict : ℕ) (outcome : Outcome) → events ≡ earlier ++ Call pid ip nr args ∷ later
     → (step_of images (world_after images w earlier) (Call pid ip nr args)).answer ≡ answer.Call verdict outcome
-    → judged_by (record { nr = nr; ip = ip; args = args }) (authority_of_line images w (line_after images w earlier pid)) ≡ Some verdict
+    → judged_by (native nr ip args) (authority_of_line images w (line_after images w earlier pid)) ≡ Some verdict
 
 -- no call of the run that was performed has met a filter of its line whose action has precedence over
 -- SECCOMP_RET_LOG
@@ -93,7 +94,7 @@ PerformedMeetNoRefusal images w events =
     → events ≡ earlier ++ Call pid ip nr args ∷ later
     → (step_of images (world_after images w earlier) (Call pid ip nr args)).answer ≡ answer.Call verdict outcome → IsTrue (performs (action_of verdict))
     → authority_of_line images w (line_after images w earlier pid) ≡ Some a
-    → slice_get (values_of a.programs (record { nr = nr; ip = ip; args = args })) place ≡ Some value
+    → slice_get (values_of a.programs (native nr ip args)) place ≡ Some value
     → precedence_of 0x7ffc0000 ≤ℤ precedence_of value
 
 -- each end that the run tells is told to the parent of a zombie, with the zombie's status, and then the zombie

@@ -1,6 +1,7 @@
 -- Each worked run of groups and sessions is what the definitions compute.
 use Rattle.std.proofs.Common.{refl, ◌≡◌, ◌∙◌, ℕ, ap, List, [], ◌∷◌, None, Some}
 use Rattle.sk_machine_runs.proofs.Computing.{worked_runs}
+use Rattle.sk_insn.specs.Record.{native}
 use Rattle.sk_insn.specs.Actions.{action_of}
 use Rattle.sk_machine.specs.Machine.{step_of, reason_of, world_after}
 use Rattle.sk_machine_runs.specs.WorkedGroups.{KillsByIds, ContinuesWithinSession, RegroupsChild, RefusesToRegroup, FoundsSession, KillsNobody, KillsGroups, FindsZombie, LeavesZombie, LeavesSender, ConfinesKill, ChangesNothingConfined, EndsConfined, WorkedGroups, no_kill, confinement, confined_kills}
@@ -55,7 +56,7 @@ confines_kill = refl
 
 -- a kill(2) that the filters answer with EPERM changes nothing
 refuses : (w : World) (pid who : ℕ) → reason_of w (kill pid who 9) ≡ None
-    → verdict_by (record { nr = 62; ip = 0; args = who ∷ 9 ∷ 0 ∷ 0 ∷ 0 ∷ 0 ∷ [] }) (at w pid) ≡ Some 0x00050001 → (step_of no_kill w (kill pid who 9)).world ≡ w
+    → verdict_by (native 62 0 (who ∷ 9 ∷ 0 ∷ 0 ∷ 0 ∷ 0 ∷ [])) (at w pid) ≡ Some 0x00050001 → (step_of no_kill w (kill pid who 9)).world ≡ w
 unfolding action_of
 refuses w pid who possible is = by_verdict no_kill w pid 0 62 (who ∷ 9 ∷ 0 ∷ 0 ∷ 0 ∷ 0 ∷ []) 0x00050001 (λ s. s.world ≡ w) possible is (λ body. refl)
 

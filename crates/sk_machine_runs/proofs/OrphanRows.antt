@@ -1,6 +1,7 @@
 -- Each worked run of orphaned groups is what the definitions compute.
 use Rattle.std.proofs.Common.{refl, ◌≡◌, ◌≢◌, ℕ, None, Some, [], ◌∷◌}
 use Rattle.sk_machine_runs.proofs.Computing.{worked_runs}
+use Rattle.sk_insn.specs.Record.{native}
 use Rattle.sk_insn.specs.Actions.{action_of}
 use Rattle.sk_machine.specs.Machine.{step_of, reason_of}
 use Rattle.sk_machine_runs.specs.WorkedOrphans.{HangsUpJob, TurnsOfJob, IgnoresTerminalStop, TurnsOfUnstopped, StopsBySigstopAlone, StopsWhereTied, HangsUpEachGroup, SparesRunningGroups, SparesOrphanedBefore, SparesTiedGroups, CountsNoZombies, ContinuesGroup, HangsUpAfterFilterKill, HangsUpAfterOtherKills, HangsUpAfterCrash, HangsUpAfterSignal, HaltHangsUpNobody, WorkedOrphans, leaderless, HangsUpWithoutRoomForFrame, SparesWhereStoppedOneEnds, AnnouncesToNewParent}
@@ -88,7 +89,7 @@ hangs_up_without_room_for_frame = refl
 
 -- an exit(2) of process 1 leaves every other one
 exits_alone : (w : World) (code q : ℕ) → q ≢ INIT → reason_of w (exit 1 code) ≡ None
-    → verdict_by (record { nr = 60; ip = 0; args = code ∷ 0 ∷ 0 ∷ 0 ∷ 0 ∷ 0 ∷ [] }) (at w 1) ≡ Some 0x7fff0000 → at (step_of nothing_given w (exit 1 code)).world q ≡ at w q
+    → verdict_by (native 60 0 (code ∷ 0 ∷ 0 ∷ 0 ∷ 0 ∷ 0 ∷ [])) (at w 1) ≡ Some 0x7fff0000 → at (step_of nothing_given w (exit 1 code)).world q ≡ at w q
 unfolding action_of
 exits_alone w code q other possible is =
     by_verdict nothing_given w 1 0 60 (code ∷ 0 ∷ 0 ∷ 0 ∷ 0 ∷ 0 ∷ []) 0x7fff0000 (λ s. at s.world q ≡ at w q) possible is (λ body. at_other w INIT _ q other)

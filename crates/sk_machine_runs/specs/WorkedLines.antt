@@ -6,6 +6,7 @@ use Rattle.sk_creds.specs.declared.errno.Errno.TheVariants.{Einval}
 use Rattle.sk_world.specs.World.{opening}
 use Rattle.sk_machine_runs.specs.Scripts.{nothing_given, given, for_number, getpid, fork, setuid, prctl, seccomp, gives, fails, refused, not_now, events_of}
 use Rattle.sk_insn.specs.declared.record.Record.{Record}
+use Rattle.sk_insn.specs.Record.{native}
 use Rattle.sk_machine.specs.declared.event.Event.{Event}
 use Rattle.sk_machine.specs.Lines.{Line, line_of, history_after, authority_of_line}
 
@@ -15,7 +16,7 @@ parting = events_of ((prctl 1 38 1 0, gives 0) ∷ (fork 1, gives 2) ∷ (setuid
 
 -- a call that passes two numbers, and no other
 abbrev pub call_record : ℕ → ℕ → ℕ → Record
-call_record nr a b = record { nr = nr; ip = 0; args = a ∷ b ∷ 0 ∷ 0 ∷ 0 ∷ 0 ∷ [] }
+call_record nr a b = native nr 0 (a ∷ b ∷ 0 ∷ 0 ∷ 0 ∷ 0 ∷ [])
 
 -- the line of a process after it
 abbrev pub line_after_parting : ℕ → Line
@@ -49,7 +50,7 @@ line_refused =
 -- it has the attach and the setuid that failed
 abbrev pub LineWithoutRefusals : Type 0
 LineWithoutRefusals =
-    line_refused ≡ record { root = 1; calls = record { nr = 317; ip = 0; args = 1 ∷ 0 ∷ 0 ∷ 0 ∷ 0 ∷ 0 ∷ [] } ∷ call_record 105 4294967295 0 ∷ [] }
+    line_refused ≡ record { root = 1; calls = native 317 0 (1 ∷ 0 ∷ 0 ∷ 0 ∷ 0 ∷ 0 ∷ []) ∷ call_record 105 4294967295 0 ∷ [] }
 
 -- all of these
 pub record WorkedLines : Type 0 where

@@ -1,6 +1,7 @@
 -- Runs that are worked out by hand: groups, permissions, filters, lines and turns where several rules meet.
 use Rattle.std.specs.Prelude.{ℕ, ◌≡◌, ◌^◌, pos, [], ◌∷◌, List, Some}
 use Rattle.sk_insn.specs.declared.record.Record.{Record}
+use Rattle.sk_insn.specs.Record.{native}
 use Rattle.sk_creds.specs.declared.errno.Errno.TheVariants.{Eperm, Esrch, Eagain, Eacces, Efault, Einval, Eopnotsupp}
 use Rattle.sk_world.specs.World.{opening}
 use Rattle.sk_machine.specs.declared.answer.Answer.TheVariants as answer
@@ -170,7 +171,7 @@ LineAfterRefusedFork =
 
 -- a call that passes one number, and no other
 abbrev pub call_of_one : ℕ → ℕ → Record
-call_of_one nr a = record { nr = nr; ip = 0; args = a ∷ 0 ∷ 0 ∷ 0 ∷ 0 ∷ 0 ∷ [] }
+call_of_one nr a = native nr 0 (a ∷ 0 ∷ 0 ∷ 0 ∷ 0 ∷ 0 ∷ [])
 
 -- a pid that was given twice, with the newest event first
 abbrev pub pid_given_twice : List Happening

@@ -1,11 +1,17 @@
 -- Each wrong machine is refused by a run.
-use Rattle.std.proofs.Common.{◌≡◌, ◌∙◌, ℕ, ◌==◌, ◌||◌, arith, ap, sym, refl, subst, cond, Bool, true, false, length, IsTrue, IfSome, List, [], ◌∷◌, Option, None, Some}
+use Rattle.std.proofs.Common.{◌≡◌, ◌∙◌, ◌<ℤ◌, ℕ, ◌==◌, ◌||◌, arith, ap, sym, refl, subst, cond, Bool, true, false, length, IsTrue, IfSome, List, [], ◌∷◌, Option, None, Some}
 use Rattle.std.specs.Option.{is_some, option_map, option_map_or}
 use Rattle.std.specs.List.{list_all}
 use Rattle.std.specs.Ordering.{nat_cmp}
 use Rattle.std.specs.FinMap.Entries.{find}
 use Rattle.std.proofs.lemmas.Int.{ints}
 use Rattle.std.proofs.lemmas.Bool.{false≢true, eqb-true, and_parts}
+use Rattle.sk_insn.specs.declared.insn.Insn.{Insn}
+use Rattle.sk_insn.specs.declared.record.Record.{Record}
+use Rattle.sk_insn.specs.Record.{architecture}
+use Rattle.sk_insn.specs.Instructions.{image_of}
+use Rattle.sk_chain.specs.Precedence.{precedence_of}
+use Rattle.sk_chain.specs.Verdict.{verdict_of}
 use Rattle.sk_signal.specs.Sets.{contains}
 use Rattle.sk_signal.specs.declared.number.TheConstants.{SIGHUP, SIGCHLD}
 use Rattle.sk_world.specs.declared.process.TheConstants.{INIT}
@@ -74,8 +80,29 @@ of_all P (e ∷ es) all q there =
       | false ↦ λ _ there. of_all P es all.1 q there
     ] refl (ap (λ b. is_some (cond b (Some e.1) (find nat_cmp q es))) (sym (same_number q e.0)) ∙ there)
 
+-- a filter that answers kill(2) of x86-64 with EPERM and allows all else, kill(2) of another architecture too
+abbrev native_kill : List Insn
+native_kill =
+    record { code = 0x20; jt = 0; jf = 0; k = 4 }
+    ∷ record { code = 0x15; jt = 0; jf = 3; k = architecture }
+    ∷ record { code = 0x20; jt = 0; jf = 0; k = 0 }
+    ∷ record { code = 0x15; jt = 0; jf = 1; k = 62 }
+    ∷ record { code = 0x06; jt = 0; jf = 0; k = 0x00050001 }
+    ∷ record { code = 0x06; jt = 0; jf = 0; k = 0x7fff0000 }
+    ∷ []
+
+-- that is enough
+abbrev IsRefused : Record → Type 0
+IsRefused call = precedence_of (verdict_of (native_kill ∷ []) call) <ℤ precedence_of 0x7ffc0000
+
+refuses_kill : RefusesKill (native_kill ∷ [])
+unfolding worked_runs
+refuses_kill call is_native is =
+    subst (λ arch. IsRefused (record call { arch = arch })) (sym is_native)
+    (subst (λ nr. IsRefused (record call { nr = nr; arch = architecture })) (sym is) (omega (arith, ints)))
+
 refusing : GivenImages
-refusing = given (always 0x00050001 ∷ []) []
+refusing = given (image_of native_kill ∷ []) []
 
 -- what confinement asks of one process
 Fits : World → (ℕ → Bool) → ℕ → Type 0
@@ -105,7 +132,7 @@ unfolding Fits refusing beside worked_runs
 two_fits = (
   (λ h. absurd (false≢true h), λ h. absurd (false≢true h)),
   (
-    (λ h. refl, λ _ call is. omega (arith, ints)),
+    (λ h. refl, λ _. refuses_kill),
     (
       (λ h. absurd (false≢true h), λ h. absurd (false≢true h)),
       tt,
@@ -135,7 +162,7 @@ stopping_fits = (
   (
     (λ h. absurd (false≢true h), λ h. absurd (false≢true h)),
     (
-      (λ h. refl, λ _ call is. omega (arith, ints)),
+      (λ h. refl, λ _. refuses_kill),
       tt,
     ),
   ),
@@ -148,7 +175,7 @@ killing_fits = (
   (
     (λ h. absurd (false≢true h), λ h. absurd (false≢true h)),
     (
-      (λ h. refl, λ _ call is. omega (arith, ints)),
+      (λ h. refl, λ _. refuses_kill),
       tt,
     ),
   ),

@@ -25,6 +25,7 @@ use Rattle.sk_machine_laws.specs.ConfinementLaws.{ends, stops}
 use Rattle.sk_machine_laws.specs.AnyMachine.{Machine, GivesAuthorityByLine, TellsEndsOnce, KeepsToConfined}
 use Rattle.sk_machine.specs.Given.{GivenImages}
 use Rattle.sk_insn.specs.declared.record.Record.{Record}
+use Rattle.sk_insn.specs.Record.{native}
 
 -- the number that a call has returned
 abbrev pub number_in : Answer → Option ℕ
@@ -101,7 +102,7 @@ world_performed images w pid call = option_map_or (λ p. (performed images w pid
 abbrev pub performs_refused : Machine
 performs_refused images w (Call pid ip nr args) =
     if is_refused (step_of images w (Call pid ip nr args)).answer
-    then record (step_of images w (Call pid ip nr args)) { world = world_performed images w pid (record { nr = nr; ip = ip; args = args }) }
+    then record (step_of images w (Call pid ip nr args)) { world = world_performed images w pid (native nr ip args) }
     else step_of images w (Call pid ip nr args)
 performs_refused images w event = step_of images w event
 

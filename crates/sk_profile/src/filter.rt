@@ -3,6 +3,7 @@ ghost use Rattle.std.specs.Prelude.{ℕ, ◌≡◌, ◌<◌, ◌^◌, IsTrue, If
 ghost use Rattle.sk_check.specs.Valid.{IsValid};
 ghost use Rattle.sk_insn.specs.declared.record.Record.{Record};
 ghost use Rattle.sk_insn.specs.Actions.{allow};
+ghost use Rattle.sk_insn.specs.Record.{IsNative};
 ghost use Rattle.sk_interp.specs.Meaning.{meaning_of};
 ghost use Rattle.sk_interp.specs.Walk.{walks};
 ghost use Rattle.sk_profile_code.specs.Code.{filter_code};
@@ -25,7 +26,7 @@ use std::alloc::Global;
 
 /// The filter that answers to every call what the profile says, and its value for no call to every other architecture.
 pub fn profile_filter(alloc: Global, profile: &Profile) -> Result<Vec<Insn>, ProfileFault>
-    ensures means { IfOk result (λ code. (call : Record) → IsCall call → Gives (said_by (profile_of profile.now) call) (meaning_of code.items call)) }
+    ensures means { IfOk result (λ code. (call : Record) → IsCall call → IsNative call → Gives (said_by (profile_of profile.now) call) (meaning_of code.items call)) }
     ensures guard { IfOk result (λ code. (tree : Tree) × (code.items ≡ filter_code profile.now.bad tree)) }
     ensures valid { IfOk result (λ code. IsValid code.items) }
     ensures known { IfOk result (λ code. (nr : ℕ) → nr < 2 ^ 32 → AlwaysSays allow (saying_for (profile_of profile.now) nr) → IsTrue (walks code.items nr)) }

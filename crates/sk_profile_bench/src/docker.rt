@@ -1,6 +1,7 @@
 //! docker's default profile, for the capabilities that docker gives a container and kernels from 4.8 on: default.json in
 //! engine/profiles/seccomp of docker.io 20.10.24, Debian 12. A script made the numbers of its names once.
 ghost use Rattle.std.specs.Prelude.{◌≡◌, ◌∷◌, []};
+ghost use Rattle.sk_insn.specs.Record.{native};
 
 use sk_insn::{ALLOW, Record};
 use sk_profile::{Profile, Rule};
@@ -137,11 +138,7 @@ fn push_clones(calls: &mut Vec<Record>) -> Result<(), AllocError> {
 
 /// A call with this number and its first argument.
 pub fn call(number: u32, argument: u64) -> Record
-    ensures call { result ≡ record { nr = number; ip = 0; args = argument ∷ 0 ∷ 0 ∷ 0 ∷ 0 ∷ 0 ∷ [] } }
+    ensures call { result ≡ native number 0 (argument ∷ 0 ∷ 0 ∷ 0 ∷ 0 ∷ 0 ∷ []) }
 {
-    Record {
-        nr: number,
-        ip: 0,
-        args: [argument, 0, 0, 0, 0, 0],
-    }
+    Record::native(number, 0, [argument, 0, 0, 0, 0, 0])
 }

@@ -98,8 +98,8 @@ joined old head below new with_below before rows n d are inside left forks e rig
 
 pub whole : (code : List Insn) (bad : ℕ) (before : SayingOfCode) (rows : List RowOfCode) (tree : Tree) → code ≡ filter_code bad tree
     → Cuts tree (saying_of before) (map row_of rows) → IsTree tree → MeansRows code (saying_of before) (map row_of rows)
-whole code bad before rows tree e cuts good call ok =
-    let found = code_means_tree bad tree good call ok in
+whole code bad before rows tree e cuts good call ok native =
+    let found = code_means_tree bad tree good call ok native in
     let same = cuts_say_the_same tree (saying_of before) (map row_of rows) cuts call.nr call in
     subst (λ insns. Gives (said (saying_in (map row_of rows) (saying_of before) call.nr) call) (meaning_of insns call)) (sym e)
     (subst (λ value. Gives value (meaning_of (filter_code bad tree) call)) same found)

@@ -3,6 +3,7 @@
 use Rattle.std.specs.Prelude.{ℕ, ◌≡◌, List, [], ◌∷◌}
 use Rattle.sk_insn.specs.declared.insn.Insn.{Insn}
 use Rattle.sk_insn.specs.declared.record.Record.{Record}
+use Rattle.sk_insn.specs.Record.{native}
 use Rattle.sk_interp.specs.Meaning.{Returned, meaning_of}
 use Rattle.sk_profile_code.specs.declared.condition.Test.TheVariants.{Below}
 use Rattle.sk_profile_code.specs.Sayings.{Piece, Single, Joined}
@@ -13,7 +14,7 @@ insn code jt jf k = record { code = code; jt = jt; jf = jf; k = k }
 
 -- personality(2) with this argument
 abbrev pub asking : ℕ → Record
-asking persona = record { nr = 135; ip = 0; args = persona ∷ 0 ∷ 0 ∷ 0 ∷ 0 ∷ 0 ∷ [] }
+asking persona = native 135 0 (persona ∷ 0 ∷ 0 ∷ 0 ∷ 0 ∷ 0 ∷ [])
 
 -- 0, 8, 0x20000, 0x20008 and 0xffffffff are allowed
 abbrev pub personas : List Piece

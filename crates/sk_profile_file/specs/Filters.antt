@@ -3,10 +3,11 @@ use Rattle.std.specs.Prelude.{ℕ, ◌≡◌, List, Ok}
 use Rattle.sk_insn.specs.declared.insn.Insn.{Insn}
 use Rattle.sk_insn.specs.declared.record.Record.{Record}
 use Rattle.sk_insn.specs.Instructions.{image_instructions}
+use Rattle.sk_insn.specs.Record.{IsNative}
 use Rattle.sk_check.specs.Valid.{IsValid}
 use Rattle.sk_interp.specs.Meaning.{meaning_of}
 use Rattle.sk_profile_code.specs.Code.{filter_code}
-use Rattle.sk_profile_code.specs.Means.{IsCall, Gives}
+use Rattle.sk_profile_code.specs.Means.{AnswersOthers, IsCall, Gives}
 use Rattle.sk_profile_code.specs.Sayings.{Tree}
 use Rattle.sk_profile.specs.Profiles.{Profile, said_by}
 
@@ -16,5 +17,6 @@ pub record IsFilterOf (profile : Profile) (image : List ℕ) : Type 0 where
   pub insns : List Insn
   pub read : image_instructions image ≡ Ok insns
   pub valid : IsValid insns
-  pub means : (call : Record) → IsCall call → Gives (said_by profile call) (meaning_of insns call)
+  pub means : (call : Record) → IsCall call → IsNative call → Gives (said_by profile call) (meaning_of insns call)
+  pub others : AnswersOthers insns profile.bad
   pub guard : (tree : Tree) × (insns ≡ filter_code profile.bad tree)

@@ -1,6 +1,7 @@
 -- Calls of a log, and what a filter sees of them: `struct seccomp_data` of seccomp(2).
 use Rattle.std.specs.Prelude.{ℕ, List, [], ◌∷◌, length, slice_index}
 use Rattle.sk_insn.specs.declared.record.Record.{Record}
+use Rattle.sk_insn.specs.Record.{native}
 use Rattle.sk_replay.specs.declared.call.Call.{Call}
 
 -- the six registers with these arguments, of which those that are not there are 0
@@ -14,4 +15,4 @@ call_with nr args = record { nr = nr; shown = length args; args = registers args
 
 -- what a filter sees of it: no log has the instruction pointer, which is 0 here
 abbrev pub record_of : Call → Record
-record_of call = record { nr = call.nr; ip = 0; args = call.args }
+record_of call = native call.nr 0 call.args

@@ -47,11 +47,7 @@ impl Call {
     pub(crate) fn record(&self) -> Record
         ensures record { result ≡ record_of self.now }
     {
-        Record {
-            nr: self.nr,
-            ip: 0,
-            args: self.args,
-        }
+        Record::native(self.nr, 0, self.args)
     }
 }
 

@@ -3,6 +3,7 @@ use Rattle.std.specs.Prelude.{ℕ, suc, ◌+◌, ◌==◌, pos, true, false, Boo
 use Rattle.std.specs.Option.{option_and_then}
 use Rattle.sk_insn.specs.Actions.{action_of, performs}
 use Rattle.sk_insn.specs.declared.record.Record.{Record}
+use Rattle.sk_insn.specs.Record.{native}
 use Rattle.sk_calls.specs.declared.syscall.Syscall.TheVariants as syscall
 use Rattle.sk_calls.specs.Syscalls.{number_of}
 use Rattle.sk_setting.specs.declared.call.ScriptCall.{ScriptCall}
@@ -118,6 +119,6 @@ delivered other s = s
 -- all levels after an event with this answer; the line is the next one of its process
 abbrev pub stacks_after : Option ScriptCall → Event → Answer → Stacks → Stacks
 stacks_after line (Call pid ip nr args) (answer.Call verdict outcome) stacks =
-    after_call pid line (record { nr = nr; ip = ip; args = args }) (performs (action_of verdict)) outcome stacks
+    after_call pid line (native nr ip args) (performs (action_of verdict)) outcome stacks
 stacks_after line (Deliver pid) (answer.Signal n effect) stacks = stacked pid (delivered effect (stacks pid)) stacks
 stacks_after line event other stacks = stacks

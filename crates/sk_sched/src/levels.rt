@@ -3,6 +3,7 @@ ghost use Rattle.std.specs.Prelude.{◌≡◌, ◌<◌, ◌+◌, ◌^◌, IfOk, 
 ghost use Rattle.std.specs.Option.{option_copied};
 ghost use Rattle.sk_report.specs.Levels.{first_call, alone, handling, returned, begun, made, performing, called};
 ghost use Rattle.sk_sched.specs.views.Stacks.{stack_of};
+ghost use Rattle.sk_insn.specs.Record.{native};
 
 use sk_calls::Syscall;
 use sk_machine::Outcome;
@@ -108,7 +109,7 @@ impl Levels {
 
     /// What a performed call does to the levels of its caller.
     fn perform(&mut self, ip: u64, nr: u32, args: &[u64; 6], outcome: Outcome)
-        ensures stack { stack_of self.new ≡ performing (record { nr = nr; ip = ip; args = args.now }) outcome (stack_of self.old) }
+        ensures stack { stack_of self.new ≡ performing (native nr ip args.now) outcome (stack_of self.old) }
     {
         match outcome {
             Outcome::Executed => {
@@ -135,7 +136,7 @@ impl Levels {
         outcome: Outcome,
     )
         requires room { IfSome line (λ _. self.old.top.position < 2 ^ 63) }
-        ensures stack { stack_of self.new ≡ called (option_copied line.entry) (record { nr = nr; ip = ip; args = args.now }) performed outcome (stack_of self.old) }
+        ensures stack { stack_of self.new ≡ called (option_copied line.entry) (native nr ip args.now) performed outcome (stack_of self.old) }
     {
         self.make(line, performed);
         if performed {

@@ -4,6 +4,7 @@ ghost use Rattle.std.specs.Option.{option_copied};
 ghost use Rattle.indexmap.specs.IndexMap.{get, spare};
 ghost use Rattle.sk_report.specs.Levels.{alone, called, first_call, stacked};
 ghost use Rattle.sk_sched.specs.views.Stacks.{stack_of, stacks_of};
+ghost use Rattle.sk_insn.specs.Record.{native};
 
 use crate::levels::{Levels, at_program};
 use indexmap::IndexMap;
@@ -39,7 +40,7 @@ pub(crate) fn follow(
 )
     requires room { IfSome line (λ _. (stacks_of stacks.old pid).top.position < 2 ^ 63) }
     requires spare { 0 < spare stacks.old }
-    ensures stacks { stacks_of stacks.new ≡ stacked pid (called (option_copied line.entry) (record { nr = nr; ip = ip; args = args.now }) performed outcome (stacks_of stacks.old pid)) (stacks_of stacks.old) }
+    ensures stacks { stacks_of stacks.new ≡ stacked pid (called (option_copied line.entry) (native nr ip args.now) performed outcome (stacks_of stacks.old pid)) (stacks_of stacks.old) }
     ensures room { spare stacks.old ≤ spare stacks.new + 1 }
 {
     match stacks.get_mut(&pid) {
@@ -74,7 +75,7 @@ fn follow_first(
 )
     requires absent { get nat_eq stacks.old pid ≡ None }
     requires spare { 0 < spare stacks.old }
-    ensures stacks { stacks_of stacks.new ≡ stacked pid (called (option_copied line.entry) (record { nr = nr; ip = ip; args = args.now }) performed outcome (stacks_of stacks.old pid)) (stacks_of stacks.old) }
+    ensures stacks { stacks_of stacks.new ≡ stacked pid (called (option_copied line.entry) (native nr ip args.now) performed outcome (stacks_of stacks.old pid)) (stacks_of stacks.old) }
     ensures room { spare stacks.old ≤ spare stacks.new + 1 }
 {
     let mut levels = at_program(alloc, 0);

@@ -4,10 +4,9 @@ use Rattle.std.proofs.lemmas.Bool.{cases_Bool, eq-eqb, eqb-true}
 use Rattle.std.proofs.lemmas.List.{length-replicate}
 use Rattle.std.proofs.lemmas.Option.{slice_get_within}
 use Rattle.std.specs.Prelude.{flat_map, nat_lt, slice_get}
-use Rattle.byteorder.specs.Endian.{little_bytes}
-use Rattle.byteorder.specs.Numbers.{little_number-reads_back}
 use Rattle.sk_insn.specs.Operations.{operation_of}
-use Rattle.sk_insn.specs.Record.{architecture, word_of, x86_64}
+use Rattle.sk_insn.specs.Record.{word_of}
+use Rattle.sk_insn.proofs.RecordWords.{number_there, word_of_architecture}
 use Rattle.sk_insn.specs.declared.insn.Insn.{Insn}
 use Rattle.sk_insn.specs.declared.record.Record.{Record}
 use Rattle.sk_insn.specs.declared.operation.Register.TheVariants.{Accumulator, Index}
@@ -19,7 +18,7 @@ use Rattle.sk_interp.proofs.ValidSteps.{leads_to}
 use Rattle.sk_show.specs.declared.held.Held.{Held}
 use Rattle.sk_show.specs.declared.held.Held.TheVariants.{Number, Architecture, Other}
 use Rattle.sk_show.specs.Holding.{Jumps, Way, held_before, held_behind, held_word, joined, joined_ways, jump_to, jumps_behind, next_behind, ways_from, ways_to}
-use Rattle.sk_show.specs.NoteLaws.{IsHeld, NotesAreRight}
+use Rattle.sk_show.specs.NoteLaws.{FitWords, IsHeld, NotesAreRight}
 use Rattle.sk_show.proofs.Landing.{jumps-length, kept-jump, landed-jump}
 
 -- ---- one instruction
@@ -27,29 +26,24 @@ use Rattle.sk_show.proofs.Landing.{jumps-length, kept-jump, landed-jump}
 goes_on-same : (m n : ℕ) (s t : State) → GoesOn m s ≡ GoesOn n t → s ≡ t
 goes_on-same m n s t h = cc
 
--- the word at the first place is the number, and the one at the next the architecture
-word_first : (call : Record) → call.nr < 2 ^ 32 → word_of call 0 ≡ Some call.nr
-word_first call h = ap Some (little_number-reads_back 4 call.nr (x86_64 ++ (little_bytes 8 call.ip ++ flat_map (little_bytes 8) call.args)) h)
-
-word_second : (call : Record) → word_of call 4 ≡ Some architecture
-word_second call = refl
-
 loaded-word : (word : ℕ) (found : Option ℕ) (s after : State) (skip : ℕ) → found ≡ Some word → loaded Accumulator s found ≡ GoesOn skip after → after.a ≡ word
 loaded-word word None s after skip e h = cc
 loaded-word word (Some n) s after skip e h =
     let same : n ≡ word = cc in
     ap (λ (st : State). st.a) (sym (goes_on-same 0 skip (record s { a = n }) after h)) ∙ same
 
-loaded-held : (place : ℕ) (call : Record) (s after : State) (skip : ℕ) → call.nr < 2 ^ 32 → loaded Accumulator s (word_of call place) ≡ GoesOn skip after
+loaded-held : (place : ℕ) (call : Record) (s after : State) (skip : ℕ) → FitWords call → loaded Accumulator s (word_of call place) ≡ GoesOn skip after
     → IsHeld (held_word place) call after.a
 loaded-held place call s after skip small h = elim (cases_Bool (place == 0)) [
   | inl t ↦
       let same = eqb-true place 0 t in
-      rw t (loaded-word call.nr (word_of call place) s after skip (ap (word_of call) same ∙ word_first call small) h)
+      rw t (loaded-word call.nr (word_of call place) s after skip (ap (word_of call) same ∙ number_there call small.0) h)
   | inr f ↦ elim (cases_Bool (place == 4)) [
     | inl t ↦
         let same = eqb-true place 4 t in
-        rw (f, t) (loaded-word architecture (word_of call place) s after skip (ap (word_of call) same ∙ word_second call) h)
+        let fits = small.1 in
+        rw (f, t)
+        (loaded-word call.arch (word_of call place) s after skip (ap (word_of call) same ∙ word_of_architecture call ∙ ap Some (omega (arith, fits))) h)
     | inr g ↦ rw (f, g) tt
   ]
 ]
@@ -68,7 +62,7 @@ stored-a : (held : Held) (call : Record) (s t after : State) (skip : ℕ) (test 
 stored-a held call s t after skip true same h held_so = same-a held call s t after 0 skip same h held_so
 stored-a held call s t after skip false same h held_so = cc
 
-behind-held : (operation : Option Operation) (given : Insn) (call : Record) (s after : State) (skip : ℕ) (held : Held) → call.nr < 2 ^ 32
+behind-held : (operation : Option Operation) (given : Insn) (call : Record) (s after : State) (skip : ℕ) (held : Held) → FitWords call
     → effect operation given call s ≡ GoesOn skip after → IsHeld held call s.a → IsHeld (held_behind operation given held) call after.a
 behind-held None given call s after skip held small h held_so = tt
 behind-held (Some LoadRecord) given call s after skip held small h held_so = loaded-held given.k call s after skip small h

@@ -1,6 +1,5 @@
 -- What is noted of A is so in each run, and labels stand where jumps go.
 use Rattle.std.specs.Prelude.{ℕ, ◌≡◌, ◌<◌, ◌+◌, ◌^◌, ◌↔◌, ⊤, IsSome, List, Some, slice_get}
-use Rattle.sk_insn.specs.Record.{architecture}
 use Rattle.sk_insn.specs.declared.insn.Insn.{Insn}
 use Rattle.sk_insn.specs.declared.record.Record.{Record}
 use Rattle.sk_check.specs.Paths.{At, LeadsTo}
@@ -13,13 +12,17 @@ use Rattle.sk_show.specs.Holding.{Way, ways_to}
 -- A holds this on a call
 abbrev pub IsHeld : Held → Record → ℕ → Type 0
 IsHeld Number call a = a ≡ call.nr
-IsHeld Architecture call a = a ≡ architecture
+IsHeld Architecture call a = a ≡ call.arch
 IsHeld Other call a = ⊤
 
--- wherever the run on a call comes to, A holds what it is taken to hold before the instruction there
+-- the number and the architecture each have 32 bits
+abbrev pub FitWords : Record → Type 0
+FitWords call = (call.nr < 2 ^ 32) × (call.arch < 2 ^ 32)
+
+-- wherever the run on a call of whatever architecture comes to, A holds what it is taken to hold before the instruction there
 abbrev pub NotesAreRight : Type 0
 NotesAreRight =
-    (insns : List Insn) (call : Record) (steps place : ℕ) (s : State) (way : Way) → call.nr < 2 ^ 32 → ComesTo insns call steps place s
+    (insns : List Insn) (call : Record) (steps place : ℕ) (s : State) (way : Way) → FitWords call → ComesTo insns call steps place s
     → slice_get (ways_to insns) place ≡ Some way → IsHeld way.held call s.a
 
 -- a jump goes there: some instruction leads to the place, and not as to the next one

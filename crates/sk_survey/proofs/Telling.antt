@@ -57,8 +57,8 @@ among_both : (programs : List (List Insn)) (first middle last : ℕ) (values : O
     → ChainAnswersAmong programs (middle + 1) last values → ChainAnswersAmong programs first last values
 among_both programs first middle last values one other call within =
     elim (cases_lt middle call.nr) [
-      | inl above ↦ other call (omega arith, within.1)
-      | inr below ↦ one call (within.0, below)
+      | inl above ↦ other call (within.0, (omega arith, within.1.1))
+      | inr below ↦ one call (within.0, (within.1.0, below))
     ]
 
 only_both : (programs : List (List Insn)) (first middle last : ℕ) (values : Option (List ℕ)) → first < last
@@ -89,11 +89,11 @@ holds_both programs before row rises next rises' same one other = record {
 -- ---- a row of one number
 
 pub settled_row : SettledRowIsTheVerdict
-settled_row programs row holds one settle call same =
+settled_row programs row holds one settle call native same =
     let told = holds.settled one settle in
     let among : ChainAnswersAmong programs row.first row.last (Some (told.0 ∷ [])) =
     subst (ChainAnswersAmong programs row.first row.last) told.1 holds.among in
-    elim (among call (omega arith, omega arith)) [
+    elim (among call (native, (omega arith, omega arith))) [
       | inl is ↦ told.1 ∙ ap (λ value. Some (value ∷ [])) (sym is)
       | inr none ↦ absurd none
     ]

@@ -25,15 +25,15 @@ ends_with_one value (suc place) come at = absurd (not_come place come)
 pub worked_ends : WorkedEnds
 unfolding operation_of
 worked_ends = record {
-  settles_before_the_argument = (getpid, refl, (3, refl));
+  settles_before_the_argument = (getpid, (refl, refl), (3, refl));
   asks_for_another_number = refl;
-  settles_by_the_architecture = (getpid, refl, (2, refl));
+  settles_by_the_architecture = (getpid, (refl, refl), (2, refl));
   asks_for_the_place = refl;
   comes_to_an_end = (
     (5, (4 ∷ 3 ∷ 1 ∷ 0 ∷ [], ((_, refl, inl refl), ((_, refl, refl), ((_, refl, inr refl), ((_, refl, refl), refl))))), (_, refl, refl)),
     λ one other settles. cc,
   );
-  comes_to_no_other_where_it_settles = λ come. let same : 0x00050001 ≡ 0x7fff0000 = come.1 refl 0x7fff0000 (getpid, refl, (3, refl)) in omega arith;
+  comes_to_no_other_where_it_settles = λ come. let same : 0x00050001 ≡ 0x7fff0000 = come.1 refl 0x7fff0000 (getpid, (refl, refl), (3, refl)) in omega arith;
   ends_by_a_division = (1, (0 ∷ [], ((_, refl, refl), refl)), (_, refl, refl));
   ends_with_any_value_of_a = (0, ([], refl), (_, refl, tt));
   ends_with_no_other_constant = λ ends. let same = ends_with_one 3 ends.0 ends.1 ends.2 in cc;

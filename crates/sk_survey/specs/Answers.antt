@@ -3,14 +3,15 @@ use Rattle.std.specs.Prelude.{ℕ, ◌≡◌, ◌≤◌, ◌<ℤ◌, ◌⊎◌, 
 use Rattle.std.specs.Int.{cast_signed, w32}
 use Rattle.sk_insn.specs.declared.insn.Insn.{Insn}
 use Rattle.sk_insn.specs.declared.record.Record.{Record}
+use Rattle.sk_insn.specs.Record.{IsNative}
 use Rattle.sk_interp.specs.Meaning.{meaning_of}
 use Rattle.sk_chain.specs.Verdict.{meaning_value, verdict_of}
 use Rattle.sk_survey.specs.declared.answers.Answers.{Answers}
 use Rattle.sk_survey.specs.declared.answers.Answers.TheVariants.{Any, Among}
 
--- the call's number is one of these
+-- a call of x86-64, whose number is one of these
 abbrev pub IsCallOf : ℕ → ℕ → Record → Type 0
-IsCallOf first last call = (first ≤ call.nr) × (call.nr ≤ last)
+IsCallOf first last call = IsNative call × ((first ≤ call.nr) × (call.nr ≤ last))
 
 -- the value is one of the list
 abbrev pub IsOneOf : ℕ → List ℕ → Type 0

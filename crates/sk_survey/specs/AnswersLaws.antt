@@ -2,6 +2,7 @@
 use Rattle.std.specs.Prelude.{ℕ, ◌≡◌, List, [], ◌∷◌, Some}
 use Rattle.sk_insn.specs.declared.insn.Insn.{Insn}
 use Rattle.sk_insn.specs.declared.record.Record.{Record}
+use Rattle.sk_insn.specs.Record.{IsNative}
 use Rattle.sk_chain.specs.Verdict.{verdict_of}
 use Rattle.sk_survey.specs.declared.rows.Row.{Row}
 use Rattle.sk_survey.specs.Answers.{IsCallOf, ChainAnswersAmong, answers_of}
@@ -18,4 +19,4 @@ OneValueIsTheVerdict =
 abbrev pub SettledRowIsTheVerdict : Type 0
 SettledRowIsTheVerdict =
     (programs : List (List Insn)) (row : Row) → Holds programs row → row.first ≡ row.last → AllSettle programs row.first
-    → (call : Record) → call.nr ≡ row.first → answers_of row.answers ≡ Some (verdict_of programs call ∷ [])
+    → (call : Record) → IsNative call → call.nr ≡ row.first → answers_of row.answers ≡ Some (verdict_of programs call ∷ [])

@@ -2,6 +2,7 @@
 use Rattle.std.specs.Prelude.{ℕ, ◌≡◌, ◌==◌, ◌||◌, not, Bool, false, if◌then◌else◌, List, [], ◌∷◌, map, Option, Some}
 use Rattle.sk_insn.specs.declared.insn.Insn.{Insn}
 use Rattle.sk_insn.specs.declared.record.Record.{Record}
+use Rattle.sk_insn.specs.Record.{IsNative}
 use Rattle.sk_insn.specs.declared.operation.Operation.{Operation}
 use Rattle.sk_insn.specs.declared.operation.Operation.TheVariants.{LoadRecord}
 use Rattle.sk_insn.specs.Operations.{operation_of}
@@ -22,7 +23,7 @@ without_arguments insns = map without_argument insns
 -- without those loads the filter still comes to the value, on some call of the number
 abbrev pub SettlesOn : List Insn → ℕ → ℕ → Type 0
 SettlesOn insns nr value =
-    (call : Record) × (call.nr ≡ nr) × ((steps : ℕ) × (meaning_of (without_arguments insns) call ≡ Returned value steps))
+    (call : Record) × (IsNative call × (call.nr ≡ nr)) × ((steps : ℕ) × (meaning_of (without_arguments insns) call ≡ Returned value steps))
 
 abbrev pub Settles : List Insn → ℕ → Type 0
 Settles insns nr = (value : ℕ) × SettlesOn insns nr value

@@ -4,7 +4,7 @@ ghost use Rattle.sk_survey_examples.specs.Examples.{ComesFrom, IsExample, IsShow
 
 use crate::tracing::{MOST_CALLS, end_of, push_turns};
 use sk_chain::Chain;
-use sk_insn::Record;
+use sk_insn::{ARCHITECTURE, Record};
 use std::alloc::{AllocError, Global};
 
 /// A call, and where the verdict on it comes from.
@@ -32,11 +32,7 @@ pub fn find(
         → IfOk result (λ found. IsSomeAnd found (λ example. example.call ≡ plain_call first)) }
 {
     let mut calls = Vec::new(alloc);
-    calls.push(Record {
-        nr: first,
-        ip: 0,
-        args: [0; 6],
-    })?;
+    calls.push(Record::native(first, 0, [0; 6]))?;
     for tried in 0..MOST_CALLS {
         let Some(call) = calls.get(tried).copied() else {
             return Ok(None);
@@ -57,7 +53,11 @@ fn shown(chain: &Chain, first: u32, last: u32, value: u32, call: Record) -> Opti
     ensures call { IfSome result (λ example. example.call ≡ call) }
     ensures none { IfNone result (IsShownBy chain.now first last value call → ⊥) }
 {
-    if call.nr < first || call.nr > last || chain.verdict(&call) != value {
+    if call.arch != ARCHITECTURE
+        || call.nr < first
+        || call.nr > last
+        || chain.verdict(&call) != value
+    {
         return None;
     }
     let (filter, place) = answering(chain, &call, value)?;

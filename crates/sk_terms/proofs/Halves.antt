@@ -8,7 +8,8 @@ use Rattle.std.proofs.lemmas.Bool.{cases_Bool, le-leb, eqb-true, eqb-false, ltb-
 use Rattle.byteorder.specs.Endian.{little_number, little_bytes}
 use Rattle.byteorder.specs.Numbers.{little_from-bytes}
 use Rattle.sk_insn.specs.declared.record.Record.{Record}
-use Rattle.sk_insn.specs.Record.{record_bytes, word_of, x86_64}
+use Rattle.sk_insn.specs.Record.{record_bytes, word_of}
+use Rattle.sk_insn.proofs.RecordWords.{word_of_number}
 use Rattle.sk_terms.specs.Terms.{half_of, register_at}
 
 low_half : (x : ℕ) (rest : List ℕ) → little_number 4 (little_bytes 8 x ++ rest) ≡ x % 2 ^ 32
@@ -38,9 +39,6 @@ high_of (x ∷ numbers) (suc i) =
 
 word_at : (call : Record) (k word : ℕ) → k + 4 ≤ 64 → little_number 4 (drop k (record_bytes call)) ≡ word → word_of call k ≡ Some word
 word_at call k word inside e = let t = le-leb (k + 4) 64 inside in rw (t, e) refl
-
-pub word_of_number : (call : Record) → word_of call 0 ≡ Some (call.nr % 2 ^ 32)
-word_of_number call = word_at call 0 (call.nr % 2 ^ 32) (omega arith) (little_from-bytes 4 0 call.nr (x86_64 ++ (little_bytes 8 call.ip ++ flat_map (little_bytes 8) call.args)) ∙ omega arith)
 
 pub pointer_low : (call : Record) → word_of call 8 ≡ Some (call.ip % 2 ^ 32)
 pointer_low call = word_at call 8 (call.ip % 2 ^ 32) (omega arith) (low_half call.ip (flat_map (little_bytes 8) call.args))

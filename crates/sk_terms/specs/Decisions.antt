@@ -1,6 +1,7 @@
 -- Trees of terms, and what they tell of a call.
 use Rattle.std.specs.Prelude.{ℕ, if◌then◌else◌, box_value, Option, Some, None}
 use Rattle.sk_insn.specs.declared.record.Record.{Record}
+use Rattle.sk_insn.specs.Record.{IsNative}
 use Rattle.sk_conditions.specs.declared.tree.Tree.{Tree}
 use Rattle.sk_conditions.specs.Conditions.{Agrees, told}
 use Rattle.sk_terms.specs.declared.decision.Branching.{Branching}
@@ -28,6 +29,6 @@ DecidesAll (Ask' term p held q failed) = DecidesAll held × DecidesAll failed
 abbrev pub BranchesAll : Branching → Type 0
 BranchesAll it = DecidesAll (box_value it.held) × DecidesAll (box_value it.failed)
 
--- what a tree of tests tells rightly, this one does not tell otherwise
+-- what a tree of tests tells rightly of a call of x86-64, this one does not tell otherwise
 abbrev pub DecidesAs : Decision → Tree → Type 0
-DecidesAs decision tree = (call : Record) (value : ℕ) → Agrees (told tree call) value → Agrees (decided decision call) value
+DecidesAs decision tree = (call : Record) → IsNative call → (value : ℕ) → Agrees (told tree call) value → Agrees (decided decision call) value

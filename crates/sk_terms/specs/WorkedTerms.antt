@@ -3,6 +3,7 @@
 use Rattle.std.specs.Prelude.{ℕ, ◌≡◌, Bool, List, ◌∷◌, [], true, false, codes}
 use Rattle.std.specs.List.{list_any}
 use Rattle.sk_insn.specs.declared.record.Record.{Record}
+use Rattle.sk_insn.specs.Record.{native}
 use Rattle.sk_terms.specs.declared.term.Register.TheVariants.{Number, Pointer, Argument}
 use Rattle.sk_terms.specs.declared.term.Term.{Term}
 use Rattle.sk_terms.specs.Terms.{holds_term}
@@ -10,7 +11,7 @@ use Rattle.sk_terms.specs.Text.{choice_text, term_text, terms_text}
 
 -- a call with 0x100000002 in its first argument, from 2 ^ 33 in memory
 abbrev pub worked_call : Record
-worked_call = record { nr = 56; ip = 0x200000000; args = 0x100000002 ∷ 0x10000000 ∷ 0 ∷ 0 ∷ 0 ∷ 0 ∷ [] }
+worked_call = native 56 0x200000000 (0x100000002 ∷ 0x10000000 ∷ 0 ∷ 0 ∷ 0 ∷ 0 ∷ [])
 
 abbrev pub no_namespaces : Term
 no_namespaces = record { register = Argument 0; mask = 0x7e020000; first = 0; last = 0; inside = true }
@@ -36,10 +37,10 @@ abbrev pub at_most : Term
 at_most = record { register = Argument 1; mask = 0xffffffffffffffff; first = 0; last = 0x1400000; inside = true }
 
 abbrev pub sized : ℕ → Record
-sized n = record { nr = 10; ip = 0; args = 0 ∷ n ∷ 0 ∷ 0 ∷ 0 ∷ 0 ∷ [] }
+sized n = native 10 0 (0 ∷ n ∷ 0 ∷ 0 ∷ 0 ∷ 0 ∷ [])
 
 abbrev pub some_holds : List Term → ℕ → Bool
-some_holds terms n = list_any (λ term. holds_term term (record { nr = 135; ip = 0; args = n ∷ 0 ∷ 0 ∷ 0 ∷ 0 ∷ 0 ∷ [] })) terms
+some_holds terms n = list_any (λ term. holds_term term (native 135 0 (n ∷ 0 ∷ 0 ∷ 0 ∷ 0 ∷ 0 ∷ []))) terms
 
 pub record TermsWork : Type 0 where
   pub clone : holds_term no_namespaces worked_call ≡ true

@@ -1,7 +1,7 @@
 //! What a test of a filter means: a term on a register.
 ghost use Rattle.std.specs.Prelude.{◌≡◌, ℕ, ◌==◌, ◌*◌, ◌%◌, ◌/◌, ◌^◌, nat_le, nat_lt, bit_and, IfSome, IsSome, IsTrue, Some};
 ghost use Rattle.sk_insn.specs.declared.record.Record.{Record};
-ghost use Rattle.sk_insn.specs.Record.{word_of};
+ghost use Rattle.sk_insn.specs.Record.{word_of, IsNative};
 ghost use Rattle.sk_interp.specs.Meaning.{holds};
 ghost use Rattle.sk_conditions.specs.Conditions.{holds_on};
 ghost use Rattle.sk_conditions.specs.Followed.{is_word};
@@ -42,9 +42,9 @@ pub enum Meant {
     Term(Term),
 }
 
-/// What a test means, where it looks at half of a register.
+/// What a test means for a call of x86-64, where it looks at half of a register.
 pub fn mean(test: Test) -> Option<Meant>
-    ensures meant { IfSome result (λ meant. (call : Record) → holds_on test call ≡ holds_meant meant call) }
+    ensures meant { IfSome result (λ meant. (call : Record) → IsNative call → holds_on test call ≡ holds_meant meant call) }
     ensures word { IsTrue (is_word test.place) → IsSome result }
 {
     if test.place == 4 {
@@ -59,9 +59,9 @@ pub fn mean(test: Test) -> Option<Meant>
     })
 }
 
-/// The answer of a test of the architecture.
+/// The answer of a test of the architecture, for a call of x86-64.
 fn on_architecture(test: Test) -> bool
-    ensures answer { test.place ≡ 4 → (call : Record) → holds_on test call ≡ result }
+    ensures answer { test.place ≡ 4 → (call : Record) → IsNative call → holds_on test call ≡ result }
 {
     holds(test.comparison, ARCHITECTURE & test.mask, test.k)
 }

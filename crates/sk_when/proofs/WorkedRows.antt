@@ -108,7 +108,7 @@ abbrev with_seven : Record
 with_seven = call_of 39 0 7
 
 of_the_row : (told : Told) (lines : List Read) → IsRow lines told → IsCallOf told.row.first told.row.last with_seven
-of_the_row told lines is = let first = is.first in let last = is.last in (omega (arith, first), omega (arith, last))
+of_the_row told lines is = let first = is.first in let last = is.last in (refl, (omega (arith, first), omega (arith, last)))
 
 wrong_value : (told : Told) (lines : List Read) (v : ℕ) → IsRow lines told → or_else (read_by lines with_seven) (Some 0x00050001) ≡ Some v ∷ []
     → IsTold (compares_again ∷ []) told → v ≡ 0x7fff0000

@@ -39,18 +39,8 @@ pub(crate) fn wait4(
     ensures { IsWorld store.new }
 {
     assert!(rt; store.get(caller).is_some());
-    let call = Record {
-        nr: 61,
-        ip: 0,
-        args: [
-            u64::from(argument.cast_unsigned()),
-            0,
-            u64::from(options),
-            0,
-            0,
-            0,
-        ],
-    };
+    let pid = u64::from(argument.cast_unsigned());
+    let call = Record::native(61, 0, [pid, 0, u64::from(options), 0, 0, 0]);
     sk_delivery::wait4(store, caller, &call)
 }
 

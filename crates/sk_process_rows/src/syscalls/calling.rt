@@ -51,10 +51,6 @@ fn make_call<R: Abort + AllocGlobal>(
     ensures { IsWorld store.new }
 {
     assert_alive(rt, store, pid);
-    let call = Record {
-        nr,
-        ip: 0,
-        args: [args[0], args[1], args[2], 0, 0, 0],
-    };
+    let call = Record::native(nr, 0, [args[0], args[1], args[2], 0, 0, 0]);
     perform(store, images, rt.alloc(), pid, &call)
 }

@@ -1,7 +1,9 @@
-use Rattle.std.proofs.Common.{◌≡◌, List, length, ◌<◌, Ok, ap, subst, arith}
+use Rattle.std.proofs.Common.{◌≡◌, List, length, ◌<◌, Ok, ap, subst, sym, arith}
 use Rattle.json.specs.Value.{value_view}
 use Rattle.sk_insn.specs.declared.insn.Insn.{Insn}
 use Rattle.sk_insn.specs.Instructions.{image_instructions}
+use Rattle.sk_profile_code.specs.Means.{AnswersOthers}
+use Rattle.sk_profile_code.proofs.Trees.{code_answers_others}
 use Rattle.sk_profile.specs.Views.{profile_of}
 use Rattle.sk_profile_file.proofs.Built.{no_wrong_rule, clash_has_origins}
 use Rattle.sk_profile_file.proofs.making.built.Goals as goal
@@ -38,6 +40,9 @@ returns-in_ok-image_of-in-Ok c =
         read = subst (λ (insns : List Insn). image_instructions image ≡ Ok insns) c.deref.ensures.value c.in_ok-image_of-in-Ok.ensures.read;
         valid = c.in-Ok.ensures.valid;
         means = c.in-Ok.ensures.means;
+        others =
+            subst (λ (insns : List Insn). AnswersOthers insns c.args.profile.now.bad) (sym c.in-Ok.ensures.guard.1)
+            (code_answers_others c.args.profile.now.bad c.in-Ok.ensures.guard.0);
         guard = c.in-Ok.ensures.guard;
       };
     }

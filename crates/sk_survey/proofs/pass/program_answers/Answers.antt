@@ -3,7 +3,7 @@ use Rattle.std.proofs.lemmas.Option.{slice_get-get_or}
 use Rattle.sk_insn.specs.declared.insn.Insn.{Insn}
 use Rattle.sk_check.proofs.ValidPrograms.{valid_count, valid_fits, valid_leads}
 use Rattle.std.proofs.lemmas.Bool.{cases_eq, cases_lt}
-use Rattle.sk_survey.specs.Answers.{IsOneOf, IsRising, answers_of}
+use Rattle.sk_survey.specs.Answers.{IsCallOf, IsOneOf, IsRising, answers_of}
 use Rattle.sk_survey.specs.Following.{IsUnknown, led, zeros}
 use Rattle.sk_survey.proofs.Settling.{starts_settling, settled_past, settled_on, one_told, set_here, set_there, still_unknown, unknown_none, led_ahead, come_first, come_on}
 use Rattle.sk_survey.proofs.Reaching.{arrives, starts, unknown_place, known_place, led_inside, described_here, described_other}
@@ -129,7 +129,7 @@ loop-place-preserved c =
                 (still_unknown slots (set slots place None) (place + 1 + skip) (set_there slots place (place + 1 + skip) None (λ e. omega arith)) unknown))
                 (λ other among. w.add_end.ensures.only other among)
                 (λ whole loads. w.follow-next.ensures.settled one whole loads)
-                (λ s is. w.follow-next.ensures.leads call s (let e = one in (omega arith, omega arith)) is)
+                (λ s is. w.follow-next.ensures.leads call s (let e = one in let nr = same.1 in (same.0, (omega arith, omega arith))) is)
                 (c.loop-place.invariant.settled one call value steps same means);
           })
       | in_default w ↦
@@ -161,14 +161,15 @@ returns-clause-settled c =
     let value = settles.0 in
     let on = settles.1 in
     let call = on.0 in
-    let same = on.1 in
+    let native = on.1.0 in
+    let same = on.1.1 in
     let program = c.args.program.now in
     let long = ap length c.insns-insn-items.ensures.insns in
     let test = c.loop-place-test.false in
     let past : length program ≤ c.loop-place.place = omega arith in
-    let within : (c.args.first ≤ call.nr) × (call.nr ≤ c.args.last) = (omega arith, omega arith) in
+    let within : IsCallOf c.args.first c.args.last call = (native, (omega arith, omega arith)) in
     one_told (answers_of c.loop-place.answers) value _
-    (c.loop-place.invariant.settled one call value on.2.0 same on.2.1).0
+    (c.loop-place.invariant.settled one call value on.2.0 on.1 on.2.1).0
     (arrives program c.loop-place.slots _ call c.loop-place.place past (c.loop-place.invariant.followed call within))
     c.loop-place.invariant.rising
 

@@ -1,5 +1,6 @@
 use Rattle.std.proofs.Common.{ℕ, ◌≡◌, ◌<◌, ◌≤◌, ◌⊎◌, length}
 use Rattle.sk_insn.specs.declared.record.Record.{Record}
+use Rattle.sk_insn.specs.Record.{IsNative}
 use Rattle.sk_survey.specs.Answers.{answers_of, IsAmong, AreRising, IsCallOf}
 use Rattle.sk_survey.specs.Ends.{MayEnd}
 use Rattle.sk_interp.specs.Meaning.{Returned, meaning_of}
@@ -17,6 +18,6 @@ invariant-loop-place l = record {
   come : AreCome l.program l.slots;
   empty : (q : ℕ) → (q < l.place) ⊎ (length l.program ≤ q) → IsUnknown l.slots q;
   settled : l.first ≡ l.last
-      → (call : Record) (value steps : ℕ) → call.nr ≡ l.first → meaning_of (without_arguments l.program) call ≡ Returned value steps
+      → (call : Record) (value steps : ℕ) → IsNative call × (call.nr ≡ l.first) → meaning_of (without_arguments l.program) call ≡ Returned value steps
       → IsSettled l.program l.slots (answers_of l.answers) l.place call value;
 }

@@ -13,5 +13,5 @@ returns-clause-told c = λ call within.
       value,
       ap (λ values. or_else values c.in_ok-otherwise.otherwise) (c.in_ok-lines.ensures.told call) ∙ else_tells value c.in_ok-otherwise.otherwise,
       is_verdict (answers_of c.args.row.answers) verdict value
-          (c.in_ok-decision.ensures.decides call verdict (c.in_ok-tree.ensures.tells call within)) (c.requires.among call within),
+          (c.in_ok-decision.ensures.decides call within.0 verdict (c.in_ok-tree.ensures.tells call within)) (c.requires.among call within),
     )

@@ -1,0 +1,4 @@
+pub mod Answers
+pub mod Alike
+pub mod Text
+pub mod Told

@@ -1,0 +1,49 @@
+//! Whether the calls of an architecture are judged by the numbers of x86-64.
+ghost use Rattle.std.specs.Prelude.{IfOk};
+ghost use Rattle.sk_chain.specs.Chains.{IsWithinLimit};
+ghost use Rattle.sk_architectures.specs.Architectures.{audit_of};
+ghost use Rattle.sk_arch_filters.specs.ChainsFor.{chain_for};
+ghost use Rattle.sk_arches.specs.Alike.{AreAlike, IsAlike};
+
+use sk_arch_filters::chain_for;
+use sk_architectures::Architecture;
+use sk_chain::Chain;
+use sk_survey::Survey;
+use std::alloc::{AllocError, Global};
+
+/// Whether a chain answers the same to the calls of x86-64 with these numbers and to those of another architecture with these
+/// bits set in them.
+pub fn are_judged_alike(
+    alloc: Global,
+    survey: &mut Survey,
+    chain: &Chain,
+    architecture: Architecture,
+    bits: u32,
+    numbers: &[u32],
+) -> Result<bool, AllocError>
+    requires limited { IsWithinLimit chain.now }
+    ensures alike { IfOk result (AreAlike chain.now (chain_for (audit_of architecture) chain.now) bits numbers.now) }
+{
+    let own = chain_for(alloc, chain, architecture.audit())?;
+    for nr in numbers {
+        if !is_judged_alike(alloc, survey, chain, &own, *nr, *nr | bits)? {
+            return Ok(false);
+        }
+    }
+    Ok(true)
+}
+
+fn is_judged_alike(
+    alloc: Global,
+    survey: &mut Survey,
+    chain: &Chain,
+    own: &Chain,
+    nr: u32,
+    other: u32,
+) -> Result<bool, AllocError>
+    ensures alike { IfOk result (IsAlike chain.now own.now nr other) }
+{
+    let answers = survey.chain(alloc, chain, nr, nr)?;
+    let others = survey.chain(alloc, own, other, other)?;
+    Ok(answers.same(&others))
+}

@@ -1,0 +1,64 @@
+//! What is told of the architectures.
+ghost use Rattle.std.specs.Prelude.{◌≡◌, IfOk};
+ghost use Rattle.sk_chain.specs.Chains.{IsWithinLimit};
+ghost use Rattle.sk_arches.specs.Told.{judges_calls, warns, IsTold};
+
+use crate::answered::{Answered, X32_BIT, answered_all};
+use crate::numbered::are_judged_alike;
+use crate::text::only_value;
+use sk_architectures::Architecture;
+use sk_call_names::numbers;
+use sk_chain::Chain;
+use sk_survey::Survey;
+use std::alloc::{AllocError, Global};
+
+/// What is told of a chain.
+#[derive(Debug, Drop)]
+pub struct Told {
+    /// What it answers to the calls of each architecture.
+    pub all: Vec<Answered>,
+    /// Whether it answers the same to the calls of i386 as to those of x86-64 with the same numbers.
+    pub i386: bool,
+    /// Whether it answers the same to the calls of x32 as to those of x86-64 with the same numbers, but for their bit.
+    pub x32: bool,
+}
+
+impl Told {
+    /// Whether there is something to warn of: calls of another architecture that x86-64 takes too are judged call by call,
+    /// by the numbers of x86-64.
+    pub fn warns(&self) -> bool
+        ensures warns { result ≡ warns self.now }
+    {
+        judges_calls(&self.all) && (self.i386 || self.x32)
+    }
+}
+
+/// Whether the first of these architectures has no one verdict.
+pub(crate) fn judges_calls(all: &[Answered]) -> bool
+    ensures judges { result ≡ judges_calls all.now }
+{
+    match all.first() {
+        Some(it) => only_value(&it.row.answers).is_none(),
+        None => false,
+    }
+}
+
+/// What is told of a chain.
+pub fn arches(alloc: Global, chain: &Chain) -> Result<Told, AllocError>
+    requires limited { IsWithinLimit chain.now }
+    ensures told { IfOk result (IsTold chain.now) }
+{
+    let all = answered_all(alloc, chain)?;
+    let named = numbers(alloc)?;
+    let mut survey = Survey::new(alloc)?;
+    let i386 = are_judged_alike(alloc, &mut survey, chain, Architecture::I386, 0, &named)?;
+    let x32 = are_judged_alike(
+        alloc,
+        &mut survey,
+        chain,
+        Architecture::X32,
+        X32_BIT,
+        &named,
+    )?;
+    Ok(Told { all, i386, x32 })
+}

@@ -1,0 +1,3 @@
+pub mod Architectures
+pub mod Names
+pub mod Worked
