@@ -1,5 +1,6 @@
 """The crates of the repository: what crates.txt says of them, and which are proved as they stand."""
 import os
+import subprocess
 from collections.abc import Iterator
 
 TOP = os.path.dirname(os.path.dirname(os.path.realpath(__file__)))
@@ -36,6 +37,11 @@ def places(bytes_each: int, most: int = PROCESSORS) -> int:
     return max(1, min(most, free // bytes_each))
 
 
+def toolchain() -> str:
+    """The folder of the toolchain, where the page to read first stands."""
+    return os.path.dirname(subprocess.run(["rt", "doc"], stdout=subprocess.PIPE, text=True, check=True).stdout.strip())
+
+
 class Crates:
     """The rows of crates.txt: each crate, with the libraries right below it, of the repository and of the toolchain."""
 
@@ -70,12 +76,25 @@ class Crates:
     def is_proved(self, name: str) -> bool:
         """Whether the crate was proved after each file of it and of those below was written. Only what is proved is built."""
         out = f"{TOP}/crates/{name}/out"
-        made = f"{out}/{name}" if is_program(name) else f"{out}/rlib/{name}.rlib/format"
-        if not os.path.isfile(made):
+        # The files of a library that an earlier run of rt ci made keep their times: when it was put here its folder tells.
+        made = f"{out}/{name}" if is_program(name) else f"{out}/rlib/{name}.rlib"
+        if not os.path.exists(made if is_program(name) else f"{made}/format"):
             return False
         # rt writes the stamp once it has seen that no file changed meanwhile. What rt ci builds has none.
-        return self.is_older(name, os.path.getmtime(next(it for it in (f"{out}/rlib/stamp", made) if os.path.isfile(it))))
+        return self.is_older(name, os.path.getmtime(next(it for it in (f"{out}/rlib/stamp", made) if os.path.exists(it))))
 
     def is_older(self, name: str, moment: float) -> bool:
         """Whether each file of the crate and of those below was written by then."""
         return all(os.path.getmtime(path) <= moment for it in [*self.below(name), name] for path in files_of(it))
+
+    def prover_words(self, name: str) -> list[str]:
+        """The command that checks the crate in whose copy it is run, over the libraries as they are built. `rt check` would
+        prove libraries again that `rt ci` has built, which have no stamp, and go on from what checks elsewhere have kept."""
+        kit = toolchain()
+        words = [f"{kit}/bin/rattle", "check", "--crate-name", name, "src/main.rt" if is_program(name) else "src/lib.rt"]
+        words += [word for it in self.of_toolchain(name) for word in ("--extern", f"{it}={kit}/rlibs/{it}.rlib")]
+        words += ["-L", f"dependency={kit}/rlibs"]
+        words += [word for it in self.uses(name) for word in ("--extern", f"{it}={TOP}/crates/{it}/out/rlib/{it}.rlib")]
+        words += [word for it in self.below(name) for word in ("-L", f"dependency={TOP}/crates/{it}/out/rlib")]
+        words += ["--antt-project", f"{kit}/rattle/logic/antt-project.json", "--logic-built", f"{kit}/logic_built"]
+        return [*words, "--jobs", "1", "--links", f"{name}="]
