@@ -1,2 +1,4 @@
 pub mod Lookups
-pub mod Numbers
+pub mod Listing
+pub mod Named
+pub mod Naming

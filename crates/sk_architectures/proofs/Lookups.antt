@@ -51,7 +51,7 @@ abbrev pub Coded : Type 0
 Coded = ℕ × Bor (List (Bor (List ℕ)))
 
 -- the runs from one on, as the code has them
-rest_of : (runs : List Coded) (k : ℕ) (d : Coded) → k < length runs → map plain (drop k runs) ≡ plain (get_or runs k d) ∷ map plain (drop (k + 1) runs)
+pub rest_of : (runs : List Coded) (k : ℕ) (d : Coded) → k < length runs → map plain (drop k runs) ≡ plain (get_or runs k d) ∷ map plain (drop (k + 1) runs)
 rest_of runs k d h =
     let e : suc k ≡ k + 1 = omega arith in
     ap (map plain) (drop-cons runs k d h) ∙ ap (λ n. plain (get_or runs k d) ∷ map plain (drop n runs)) e

@@ -1,9 +1,10 @@
 -- The names and numbers of the calls of Linux on each architecture, by its table of runs.
-use Rattle.std.specs.Prelude.{ℕ, ◌+◌, ◌-◌, ◌^◌, ◌&&◌, nat_lt, nat_le, Bool, if◌then◌else◌, List, [], ◌∷◌, length, map, position, Option, None, slice_get}
+use Rattle.std.specs.Prelude.{ℕ, ◌+◌, ◌-◌, ◌^◌, ◌&&◌, nat_lt, nat_le, Bool, if◌then◌else◌, List, [], ◌∷◌, length, map, flat_map, position, Option, None, slice_get}
+use Rattle.std.specs.List.{range_with_len}
 use Rattle.std.specs.Option.{option_map, option_or}
 use Rattle.std.specs.Borrow.{Bor}
 use Rattle.std.specs.Str.{bytes_eq}
-use Rattle.sk_call_names.specs.Names.{name_of, number_named}
+use Rattle.sk_call_names.specs.Names.{name_of, named_from, names_end, number_named}
 use Rattle.sk_architectures.specs.declared.architecture.Architecture.{Architecture}
 use Rattle.sk_architectures.specs.declared.architecture.Architecture.TheVariants as architecture
 use Rattle.sk_architectures.specs.declared.tables.aarch64.TheConstants.{AARCH64}
@@ -46,6 +47,13 @@ unfoldable pub number_in : List Run → List ℕ → Option ℕ
 number_in [] wanted = None
 number_in (run ∷ runs) wanted = option_or (number_at run wanted) (number_in runs wanted)
 
+-- the numbers of a run, each behind a base
+abbrev pub numbers_at : ℕ → Run → List ℕ
+numbers_at base run = range_with_len (base + run.0) (length run.1)
+
+abbrev pub numbers_in : ℕ → List Run → List ℕ
+numbers_in base runs = flat_map (numbers_at base) runs
+
 -- each run begins where the one before it has ended, or later, and the last has ended where bit 30 begins
 abbrev pub are_apart : ℕ → List Run → Bool
 are_apart from [] = nat_le from (2 ^ 30)
@@ -80,3 +88,9 @@ unfoldable pub number_on : Architecture → List ℕ → Option ℕ
 number_on architecture.X86_64 wanted = number_named wanted
 number_on architecture.X32 wanted = option_map (λ nr. 2 ^ 30 + nr) (number_in (runs_of architecture.X32) wanted)
 number_on other wanted = number_in (runs_of other) wanted
+
+-- all numbers that have a name, in rising order
+unfoldable pub numbers_on : Architecture → List ℕ
+numbers_on architecture.X86_64 = named_from names_end 0
+numbers_on architecture.X32 = numbers_in (2 ^ 30) (runs_of architecture.X32)
+numbers_on other = numbers_in 0 (runs_of other)

@@ -8,4 +8,4 @@ mod runs;
 mod tables;
 
 pub use architecture::Architecture;
-pub use names::{name, number};
+pub use names::{name, number, numbers};

@@ -1,11 +1,13 @@
 //! The name of a call's number, and the number of a call's name.
-ghost use Rattle.std.specs.Prelude.{◌≡◌, ◌≢◌, ℕ, IfNone, IfSome};
+ghost use Rattle.std.specs.Prelude.{◌≡◌, ◌≢◌, ℕ, is_some, IfNone, IfOk, IfSome, IsTrue};
+ghost use Rattle.std.specs.List.{Contains};
 ghost use Rattle.std.specs.Option.{option_map};
-ghost use Rattle.sk_architectures.specs.Names.{name_on, number_on};
+ghost use Rattle.sk_architectures.specs.Names.{name_on, number_on, numbers_on};
 
 use crate::architecture::Architecture;
-use crate::runs::{name_in, number_in};
+use crate::runs::{name_in, number_in, numbers_in};
 use crate::tables::table_of;
+use std::alloc::{AllocError, Global};
 
 /// The bit that each number of x32 has.
 const X32_BIT: u32 = 0x4000_0000;
@@ -32,5 +34,17 @@ pub fn number(architecture: Architecture, name: &[u8]) -> Option<u32>
         Architecture::X86_64 => sk_call_names::number(name),
         Architecture::X32 => Some(X32_BIT + number_in(table_of(architecture), name)?),
         _ => number_in(table_of(architecture), name),
+    }
+}
+
+/// The numbers of all calls of an architecture that have a name, in rising order. The numbers of x32 have bit 30.
+pub fn numbers(alloc: Global, architecture: Architecture) -> Result<Vec<u32>, AllocError>
+    ensures all { IfOk result (λ numbers. numbers.items ≡ numbers_on architecture) }
+    ensures each { IfOk result (λ numbers. (nr : ℕ) → IsTrue (is_some (name_on architecture nr)) → Contains numbers.items nr) }
+{
+    match architecture {
+        Architecture::X86_64 => sk_call_names::numbers(alloc),
+        Architecture::X32 => numbers_in(alloc, X32_BIT, table_of(architecture)),
+        _ => numbers_in(alloc, 0, table_of(architecture)),
     }
 }

@@ -1,8 +1,10 @@
 //! Tables of names: runs of numbers that follow each other, with their names.
-ghost use Rattle.std.specs.Prelude.{◌≡◌, ◌≢◌, ℕ, ◌+◌, ◌^◌, ◌<◌, ◌≤◌, length, map, position, slice_get, IfNone, IfSome, IsTrue};
+ghost use Rattle.std.specs.Prelude.{◌≡◌, ◌≢◌, ℕ, ◌+◌, ◌^◌, ◌<◌, ◌≤◌, ◌++◌, length, map, position, slice_get, IfNone, IfOk, IfSome, IsTrue, OnOk};
 ghost use Rattle.std.specs.Option.{option_map};
 ghost use Rattle.std.specs.Str.{bytes_eq};
-ghost use Rattle.sk_architectures.specs.Names.{plain, end_of, name_at, name_in, number_at, number_in, are_apart};
+ghost use Rattle.sk_architectures.specs.Names.{plain, end_of, name_at, name_in, number_at, number_in, numbers_at, numbers_in, are_apart};
+
+use std::alloc::{AllocError, Global};
 
 /// The first of some numbers that follow each other, and the names of all of them.
 pub type Run = (u32, &'static [&'static str]);
@@ -33,6 +35,30 @@ pub fn number_in(runs: &[Run], wanted: &[u8]) -> Option<u32>
         }
     }
     None
+}
+
+/// The numbers of all runs in their order, each behind a base.
+pub fn numbers_in(alloc: Global, base: u32, runs: &[Run]) -> Result<Vec<u32>, AllocError>
+    requires base { base ≤ 2 ^ 30 }
+    requires apart { IsTrue (are_apart 0 (map plain runs.now)) }
+    ensures all { IfOk result (λ numbers. numbers.items ≡ numbers_in base (map plain runs.now)) }
+{
+    let mut numbers = Vec::new(alloc);
+    for run in runs {
+        push_run(&mut numbers, base, run)?;
+    }
+    Ok(numbers)
+}
+
+fn push_run(numbers: &mut Vec<u32>, base: u32, run: &Run) -> Result<(), AllocError>
+    requires within { base + end_of (plain run.now) ≤ 2 ^ 31 }
+    ensures pushed { OnOk result (numbers.new.items ≡ numbers.old.items ++ numbers_at base (plain run.now)) }
+{
+    let first = base + run.0;
+    for number in first..first + run.1.len() as u32 {
+        numbers.push(number)?;
+    }
+    Ok(())
 }
 
 #[tactic(auto, unfolding(crate::specs::Names::name_at))]

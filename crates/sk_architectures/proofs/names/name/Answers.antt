@@ -1,5 +1,5 @@
 use Rattle.std.proofs.Common.{sym, ◌∙◌}
-use Rattle.sk_architectures.proofs.Numbers.{name_of_native, name_below_bit, name_with_bit, name_of_other}
+use Rattle.sk_architectures.proofs.Naming.{name_of_native, name_below_bit, name_with_bit, name_of_other}
 use Rattle.sk_architectures.proofs.names.name.Goals as goal
 
 pub returns-in-X86_64 : goal.returns-in-X86_64

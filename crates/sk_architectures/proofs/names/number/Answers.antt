@@ -1,5 +1,5 @@
 use Rattle.std.proofs.Common.{sym, ◌∙◌}
-use Rattle.sk_architectures.proofs.Numbers.{table_is_apart, found_so, none_so, name_of_native, number_of_native, number_with_bit, no_number_with_bit, named_with_bit, unnamed_with_bit, name_of_other, number_of_other}
+use Rattle.sk_architectures.proofs.Naming.{table_is_apart, found_so, none_so, name_of_native, number_of_native, number_with_bit, no_number_with_bit, named_with_bit, unnamed_with_bit, name_of_other, number_of_other}
 use Rattle.sk_architectures.proofs.names.number.Goals as goal
 
 -- ---- x86-64

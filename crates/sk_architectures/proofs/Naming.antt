@@ -3,10 +3,10 @@ use Rattle.std.proofs.Common.{◌≡◌, ◌≢◌, ℕ, ◌+◌, ◌-◌, ◌^�
 use Rattle.std.specs.Prelude.{IsTrue, IfSome, IfNone}
 use Rattle.std.proofs.Math.Logic.{⊎_elim}
 use Rattle.std.proofs.lemmas.Bool.{cases_lt, lt-ltb, le-ltb}
-use Rattle.sk_call_names.specs.Names.{name_of, number_named}
+use Rattle.sk_call_names.specs.Names.{name_of, named_from, names_end, number_named}
 use Rattle.sk_architectures.specs.declared.architecture.Architecture.{Architecture}
 use Rattle.sk_architectures.specs.declared.architecture.Architecture.TheVariants as architecture
-use Rattle.sk_architectures.specs.Names.{Run, are_apart, name_in, number_in, runs_of, name_on, number_on}
+use Rattle.sk_architectures.specs.Names.{Run, are_apart, name_in, number_in, numbers_in, runs_of, name_on, number_on, numbers_on}
 use Rattle.sk_architectures.proofs.Lookups.{none≢some}
 
 apart_of : (a : Architecture) → IsTrue (are_apart 0 (runs_of a))
@@ -50,7 +50,21 @@ name_of_native a nr e = ap (λ a. name_on a nr) e ∙ native_name nr
 pub number_of_native : (a : Architecture) (wanted : List ℕ) → a ≡ architecture.X86_64 → number_on a wanted ≡ number_named wanted
 number_of_native a wanted e = ap (λ a. number_on a wanted) e ∙ native_number wanted
 
+native_numbers : numbers_on architecture.X86_64 ≡ named_from names_end 0
+unfolding numbers_on
+native_numbers = refl
+
+pub numbers_of_native : (a : Architecture) → a ≡ architecture.X86_64 → numbers_on a ≡ named_from names_end 0
+numbers_of_native a e = ap numbers_on e ∙ native_numbers
+
 -- ---- x32
+
+bit_numbers : numbers_on architecture.X32 ≡ numbers_in (2 ^ 30) (runs_of architecture.X32)
+unfolding numbers_on
+bit_numbers = refl
+
+pub numbers_with_bit : (a : Architecture) (runs : List Run) → a ≡ architecture.X32 → runs ≡ runs_of a → numbers_on a ≡ numbers_in (2 ^ 30) runs
+numbers_with_bit a runs e same = ap numbers_on e ∙ bit_numbers ∙ ap (numbers_in (2 ^ 30)) (sym (same ∙ ap runs_of e))
 
 low_name : (nr : ℕ) → nr < 2 ^ 30 → name_on architecture.X32 nr ≡ None
 unfolding name_on
@@ -124,3 +138,18 @@ name_of_other a runs nr p q same = plain_name a nr p q ∙ ap (λ runs. name_in 
 
 pub number_of_other : (a : Architecture) (runs : List Run) (wanted : List ℕ) → a ≢ architecture.X86_64 → a ≢ architecture.X32 → runs ≡ runs_of a → number_on a wanted ≡ number_in runs wanted
 number_of_other a runs wanted p q same = plain_number a wanted p q ∙ ap (λ runs. number_in runs wanted) (sym same)
+
+plain_numbers : (a : Architecture) → a ≢ architecture.X86_64 → a ≢ architecture.X32 → numbers_on a ≡ numbers_in 0 (runs_of a)
+unfolding numbers_on
+plain_numbers architecture.X86_64 p q = absurd (p refl)
+plain_numbers architecture.X32 p q = absurd (q refl)
+plain_numbers architecture.I386 p q = refl
+plain_numbers architecture.Aarch64 p q = refl
+plain_numbers architecture.Arm p q = refl
+plain_numbers architecture.Riscv64 p q = refl
+plain_numbers architecture.Ppc64le p q = refl
+plain_numbers architecture.S390x p q = refl
+plain_numbers architecture.Loongarch64 p q = refl
+
+pub numbers_of_other : (a : Architecture) (runs : List Run) → a ≢ architecture.X86_64 → a ≢ architecture.X32 → runs ≡ runs_of a → numbers_on a ≡ numbers_in 0 runs
+numbers_of_other a runs p q same = plain_numbers a p q ∙ ap (numbers_in 0) (sym same)
