@@ -53,6 +53,13 @@ pub fn doubled(number: u32) -> u32
 {
     number + number
 }
+
+pub fn taken(rows: &[u32], most: u32) -> u32
+    ensures { result ≡ most }
+{
+    let taken = most;
+    taken
+}
 """
 INVARIANTS = """\
 use Rattle.std.proofs.Common.{◌-◌, ◌≤◌}
@@ -102,6 +109,8 @@ PLANTED = [
     # Nothing is wrong with the function that it names, and the whole crate refuses it all the same.
     Planted("steps_by_six", [("const STEP: u32 = 3", "const STEP: u32 = 6")], "refused: .*it is not proved that .*", "doubled"),
     Planted("steps_by_seven", [("const STEP: u32 = 3", "const STEP: u32 = 7")], "BAD FAULT: it has no function halved .*", "halved"),
+    # No goal fails: the prover does not take what borrows and is not read.
+    Planted("borrows_and_takes", [("let taken = most", "let _unread = (rows, most); let taken = most")], "BAD FAULT: .*borrow checker.*"),
     Planted("doubles_nothing", [("number + number", "number +")], "BAD FAULT: .*"),
     Planted("doubles_a_truth", [("number + number", "true")], "BAD FAULT: .*"),
     Planted("doubles_what_is_not_there", [("number + numbers", "number")], "BAD FAULT: its old: text .*"),
