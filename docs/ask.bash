@@ -434,14 +434,17 @@ _ask() {
         mapfile -t COMPREPLY < <(compgen -W "$_ask_calls" -- "$word")
     elif [ "$before" = --cap ]; then
         mapfile -t COMPREPLY < <(compgen -W "$_ask_capabilities" -- "$word")
+    elif [ "$before" = --arch ]; then
+        mapfile -t COMPREPLY < <(compgen -W 'x86-64 x32 i386 aarch64 arm riscv64 ppc64le s390x loongarch64' -- "$word")
     elif [ "$before" = --kernel ]; then
         mapfile -t COMPREPLY < <(compgen -W '5.4 5.10 5.15 6.1 6.6 6.12' -- "$word")
     elif [[ $word == -* ]]; then
         case $asked in
-        calls) mapfile -t COMPREPLY < <(compgen -W '--call --examples --cap --kernel --runc --help' -- "$word") ;;
-        when) mapfile -t COMPREPLY < <(compgen -W '--call --dot --cap --kernel --runc --help' -- "$word") ;;
-        diff) mapfile -t COMPREPLY < <(compgen -W '--stricter --cap --kernel --runc --help' -- "$word") ;;
+        calls) mapfile -t COMPREPLY < <(compgen -W '--call --examples --arch --cap --kernel --runc --help' -- "$word") ;;
+        when) mapfile -t COMPREPLY < <(compgen -W '--call --dot --arch --cap --kernel --runc --help' -- "$word") ;;
+        diff) mapfile -t COMPREPLY < <(compgen -W '--stricter --arch --cap --kernel --runc --help' -- "$word") ;;
         filter) mapfile -t COMPREPLY < <(compgen -W '--raw --cap --kernel --runc --help' -- "$word") ;;
+        replay | why | show) mapfile -t COMPREPLY < <(compgen -W '--arch --cap --kernel --runc --help' -- "$word") ;;
         *) mapfile -t COMPREPLY < <(compgen -W '--cap --kernel --runc --help' -- "$word") ;;
         esac
     else

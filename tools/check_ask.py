@@ -99,8 +99,11 @@ FILES = {
     "trap": insn(0x06, k=0x00030005).hex().encode(),
     "kill": insn(0x06, k=0x80000000).hex().encode(),
     "argument": insn(0x20, k=16) + insn(0x16),
+    # i386 gets errno 1, every other architecture what is allowed.
+    "i386": insn(0x20, k=4) + insn(0x15, 0, 1, 0x40000003) + insn(0x06, k=0x00050001) + ALLOW,
     "flag": insn(0x20, k=16) + insn(0x45, 0, 1, 1) + insn(0x06, k=0x00050026) + ALLOW,
     "log": b"7 read(0x3, 0x7ffd, 0x40) = 0x40\n7 getpid() = 0x7\n7 read(0x3, 0x7ffd, 0x40) = 0x3\n7 +++ exited with 0 +++\n",
+    "log_i386": b"7 getuid32() = 0\n7 socketcall(0x1, 0x7ffd) = 3\n7 syscall_0x1388(0x1) = -1 ENOSYS (Function not implemented)\n",
     "log_cut": b"7 getpid() = 0x7\n7 read(0x3, 0x7f",
     "log_crlf": b"7 getpid() = 0x7\r\n",
     "log_ends": b"7 +++ exited with 0 +++\n",
@@ -152,9 +155,9 @@ NO_CALL = "holds no call: expected lines as strace -f -X raw -e raw=all writes t
 NO_FILTER = "holds no filter: expected bytes of struct sock_filter, hexadecimal digits, lines filter HEX, or a profile in JSON"
 
 
-def record(number, first=0):
-    """The digits of struct seccomp_data of a call on x86-64 with this first argument."""
-    return struct.pack("<IIQ6Q", number, 0xC000003E, 0, first, *[0] * 5).hex()
+def record(number, first=0, architecture=0xC000003E):
+    """The digits of struct seccomp_data of a call, on x86-64 where nothing else is said, with this first argument."""
+    return struct.pack("<IIQ6Q", number, architecture, 0, first, *[0] * 5).hex()
 
 
 def difference(number, name, old, new, first=0, where=""):
@@ -186,9 +189,11 @@ def warned(command, answer):
     return Row(command, 1, "", answer)
 
 
-def arches(native, x32, others):
-    """The lines of ask arches, with what is answered to x86-64, to x32 and to each of the others."""
-    return f"x86-64 {native}\nx32 {x32}\n" + "".join(f"{it} {others}\n" for it in OTHER_ARCHITECTURES)
+def arches(native, x32, others, any_other=None):
+    """The lines of ask arches, with what is answered to x86-64, to x32, to each of the others that have a name, and to any
+    that has none: the same, if it isn't told."""
+    named = f"x86-64 {native}\nx32 {x32}\n" + "".join(f"{it} {others}\n" for it in OTHER_ARCHITECTURES)
+    return named + f"any other {any_other or others}\n"
 
 
 def leaf(number, text, colour):
@@ -202,6 +207,15 @@ FLAG_DRAWN = "digraph {\n  n0 [label=\"(args[0] & 0x1) != 0\"];\n  n0 -> n1 [lab
 GETPID_STEPS = step(0, "ldabs 0", 39) + step(1, "jeq 39 +0 +1", 39, "  39 == 39 getpid: to 2") + step(2, "ret 0x00050001", 39) + "  errno/1 EPERM\n"
 GETPID_PATH = "filter 0\n" + GETPID_STEPS + "errno/1 EPERM by filter 0 at 2\n"
 GETPID_SHOWN = "; 0 nr\n    ldabs 0\n; 1 getpid\n    jeq 39 +0 at3\n; 2 errno/1 EPERM\n    ret 0x00050001\nat3:\n; 3 allow\n    ret 0x7fff0000\n"
+# ptrace(2) by the headers of each architecture, and what AUDIT_ARCH_* it has.
+PTRACE = [("x86-64", 101, 0xC000003E), ("x32", 1073742345, 0xC000003E), ("i386", 26, 0x40000003), ("aarch64", 117, 0xC00000B7),
+          ("arm", 26, 0x40000028), ("riscv64", 117, 0xC00000F3), ("ppc64le", 26, 0xC0000015), ("s390x", 26, 0x80000016),
+          ("loongarch64", 117, 0xC0000102)]
+I386_PATH = "filter 0\n" + step(0, "ldabs 4", 1073741827) + step(1, "jeq 1073741827 +0 +1", 1073741827, "  1073741827 == 1073741827: to 2") \
+    + step(2, "ret 0x00050001", 1073741827) + "  errno/1 EPERM\nerrno/1 EPERM by filter 0 at 2\n"
+I386_SHOWN = "; 0 arch\n    ldabs 4\n; 1 i386\n    jeq 1073741827 +0 at3\n; 2 errno/1 EPERM\n    ret 0x00050001\nat3:\n; 3 allow\n    ret 0x7fff0000\n"
+UNSEEN = "warning: no filter looks at the architecture: calls of each are judged by their numbers alone\n"
+TURNED = "arguments with their highest byte first are not followed: --arch s390x"
 OTHER_ARCHITECTURES = ("i386", "aarch64", "arm", "riscv64", "ppc64le", "s390x", "loongarch64")
 BY_CALL = "judged call by call"
 JUDGED_I386 = "warning: i386 calls are judged by x86-64's numbers: 26 is ptrace there\n"
@@ -209,6 +223,10 @@ JUDGED_I386 = "warning: i386 calls are judged by x86-64's numbers: 26 is ptrace 
 JUDGED_X32 = "warning: x32 calls are judged by x86-64's numbers: 1073742345 is ptrace there\n"
 # Another architecture is killed, and each number looked at without its bit 30.
 GUARDED = insn(0x20, k=4) + insn(0x15, 1, 0, 0xC000003E) + insn(0x06, k=0x80000000) + GETPID
+# The numbers of architectures end below 0xD0000000, and those behind are killed.
+BEHIND = insn(0x20, k=4) + insn(0x35, 0, 1, 0xD0000000) + insn(0x06, k=0x80000000) + ALLOW
+EACH_WORD = b"".join(insn(0x20, k=place) for place in range(8, 64, 4)) + ALLOW
+NOT_FOLLOWED = "not followed: each word of a call is loaded"
 MASKED = LOAD_NUMBER + insn(0x54, k=0xBFFFFFFF) + GETPID[8:]
 UNCLOSED = "why: CALL(ARG, ..) does not end with its parenthesis"
 TOO_MANY = "why: CALL(ARG, ..) has more than six arguments"
@@ -219,6 +237,48 @@ def wrong(number):
     return f"why: argument {number} of CALL(ARG, ..) is no number of 64 bits"
 
 
+ARCHITECTURES = [
+    *[good(f"ask calls --arch {name} --call ptrace raw", f"{number} ptrace allow\n") for name, number, _ in PTRACE],
+    *[good(f"ask calls --call {number} raw --arch {name}", f"{number} ptrace allow\n") for name, number, _ in PTRACE],
+    *[good(f"ask calls --arch {name} --examples --call ptrace all", f"{number} ptrace allow\n  allow filter 0 at 0 record {record(number, 0, audit)}\n")
+      for name, number, audit in PTRACE if name != "s390x"],
+    good("ask calls --call getpid --arch x86-64 raw", GOT), good("ask calls --arch i386 --call 39 raw", "39 mkdir errno/1 EPERM\n"),
+    good("ask calls --arch i386 --call read i386", "3 read errno/1 EPERM\n"), good("ask calls --call read i386", "0 read allow\n"),
+    good("ask calls --arch x32 --call read i386", "1073741824 read allow\n"), good("ask calls --arch arm --call read i386", "3 read allow\n"),
+    good("ask calls --arch i386 --call read --examples i386", f"3 read errno/1 EPERM\n  errno/1 EPERM filter 0 at 2 record {record(3, 0, 0x40000003)}\n"),
+    good("ask calls --arch i386 i386 | head -n 2", "0 restart_syscall errno/1 EPERM\n1 exit errno/1 EPERM\n"),
+    good("ask calls --arch x32 i386 | sed -n '/^107374182[3-5]/p'", "1073741824 read allow\n1073741825 write allow\n"),
+    good("ask calls --arch x32 i386 | head -n 1", "0-1073741823 - allow\n"),
+    good("ask calls i386 | tail -n 1", "463-4294967295 - allow\n"), good("ask calls raw | tail -n 1", UNSEEN), good("ask calls two raw | tail -n 1", UNSEEN),
+    good("ask calls all i386 | tail -n 1", "463-4294967295 - allow\n"), good("ask calls i386 all | grep -c warning; true", "0\n"),
+    good("ask calls --arch i386 raw | tail -n 1", UNSEEN), good("ask calls --call 4294967295 raw | tail -n 1", "4294967295 - allow\n"),
+    good("ask when --arch i386 --call read i386", "3 read errno/1 EPERM\n"), good("ask when --arch i386 --call read flag", "3 read\n  allow where (args[0] & 0x1) == 0\n  errno/38 ENOSYS else\n"),
+    good("ask when --arch aarch64 --call read i386", "63 read allow\n"), good("ask when --arch i386 --call read --dot i386", "digraph {\n" + leaf(0, "errno/1 EPERM", "khaki") + "}\n"),
+    good("ask diff i386 all", "the same on every call\n"), good("ask diff --arch x32 i386 all", "the same on every call\n"),
+    Row("ask diff --arch i386 i386 all | sed -n 1,3p", 1, "", "0 restart_syscall: errno/1 EPERM -> allow\n"
+        f"  record {record(0, 0, 0x40000003)}\n  syscall(SYS_restart_syscall, 0x0, 0x0, 0x0, 0x0, 0x0, 0x0)\n"),
+    good("ask diff --stricter --arch i386 all i386", "as strict on every call\n"),
+    good("ask why --arch i386 'read(1)' i386", I386_PATH), good("ask why read i386 --arch i386", I386_PATH),
+    good("ask why --arch x32 getpid i386 | tail -n 1", "allow by filter 0 at 3\n"), good("ask why --arch i386 mkdir raw | tail -n 1", "errno/1 EPERM by filter 0 at 2\n"),
+    good("ask why --arch i386 39 raw | sed -n 3p", step(1, "jeq 39 +0 +1", 39, "  39 == 39 mkdir: to 2")),
+    *[good(f"ask show {asked} i386", I386_SHOWN) for asked in ("", "--arch i386", "--arch x86-64", "--arch s390x")],
+    good("ask show --arch i386 raw | sed -n 3p", "; 1 mkdir\n"), good("ask show --arch aarch64 raw | sed -n 3p", "; 1 umount2\n"),
+    Row("ask replay --arch i386 log_i386 i386", 1, "", "1 getuid32() errno/1 EPERM\n1 socketcall(0x1, 0x7ffd) errno/1 EPERM\n1 syscall_0x1388(0x1) errno/1 EPERM\n"),
+    good("ask replay --arch i386 log_i386 all | head -n 1", "1 getuid32() allow\n"),
+    Row("ask replay log_i386 all", 1, "", "1 syscall_0x1388(0x1) allow\n2 lines are not understood\n"),
+    good("ask calls --arch s390x --call read i386", "3 read allow\n"), good("ask calls --arch s390x i386 | head -n 1", "0 - allow\n"),
+    *[trouble(f"ask {words}", f"{words.split()[0]}: {TURNED}") for words in (
+        "when --arch s390x raw", "diff raw --arch s390x raw", "why --arch s390x read raw", "replay --arch s390x log raw",
+        "calls --arch s390x --examples raw", "when --dot --call read raw --arch s390x")],
+    *[trouble(f"ask {word} --arch '{name}' raw raw", f"{word}: no architecture is named {name}") for word in ("calls", "when", "diff", "why", "show", "replay")
+      for name in ("I386", "x86_64", "amd64", "", "mips", "any other", "raw")],
+    *[trouble(f"ask {word} raw raw --arch", f"{word}: expected a name behind --arch") for word in ("calls", "when", "diff", "why", "show", "replay")],
+    *[trouble(f"ask {word} --arch i386 raw", f"{word}: no option is named --arch") for word in ("filter", "arches")],
+    trouble("ask calls --arch i386 --arch i386 raw", "calls: given twice: --arch"), trouble("ask calls --arch=i386 raw", "calls: no option is named --arch=i386"),
+    trouble("ask calls --arch i386 --call getuid32x raw", "no call is named getuid32x"), trouble("ask calls --call getuid32 raw", "no call is named getuid32"),
+    trouble("ask why --arch aarch64 open raw", "no call is named open"), trouble("ask when --arch riscv64 --call fork raw", "no call is named fork"),
+    good("ask calls --arch i386 --call getuid32 raw", "199 getuid32 allow\n"),
+]
 NOTE = "ask: profile_noted: entry 2 of syscalls: no call is named opennat: passed over\n"
 NO_X32 = "ask: profile_x32: x86-64's part alone: its other architectures have no filter here\n"
 PROFILES = [
@@ -277,7 +337,7 @@ GOOD = [
          f"39 getpid errno/38 ENOSYS | allow\n  errno/38 ENOSYS filter 0 at 2 record {record(39, 1)}\n  allow filter 0 at 3 record {record(39)}\n"),
     good("ask calls --examples --call read all raw", f"0 read allow\n  allow filter 1 at 3 record {record(0)}\n"),
     good("ask calls all | head -n 2", "0 read allow\n1 write allow\n"),
-    good("ask calls all | grep -c ' allow$'", "377\n"), good("ask calls all | tail -n 1", "463-4294967295 - allow\n"),
+    good("ask calls all | grep -c ' allow$'", "377\n"), good("ask calls all | tail -n 2", "463-4294967295 - allow\n" + UNSEEN),
     good("ask filter raw", LINE), good("ask filter lines digits", LINE * 2), good("ask filter all raw", line(ALLOW).decode() + LINE),
     good("ask filter raw | ask filter - ", LINE), good("ask filter --raw crlf | cmp - raw", ""), good("ask filter lines --raw | cmp - raw", ""),
     good("ask when --call getpid raw", GOT), good("ask when all | tail -n 1", "463-4294967295 - allow\n"),
@@ -314,14 +374,16 @@ GOOD = [
     good("ask arches all", arches("allow", "allow", "allow")),
     warned("ask arches raw", arches(BY_CALL, "allow", BY_CALL) + JUDGED_I386),
     good(f"echo {GUARDED.hex()} | ask arches -", arches(BY_CALL, "allow", "kill_process")),
+    good(f"echo {BEHIND.hex()} | ask arches -", arches("allow", "allow", "allow", BY_CALL)),
+    good(f"echo {EACH_WORD.hex()} | ask arches -", arches("allow", "allow", "allow", NOT_FOLLOWED)),
     warned(f"echo {MASKED.hex()} | ask arches -", arches(BY_CALL, BY_CALL, BY_CALL) + JUDGED_I386 + JUDGED_X32),
     good("ask arches --help | head -n 1", "usage: ask arches FILE..\n"),
-    good("ask show --help | head -n 1", "usage: ask show FILE\n"), good("ask show two --help | head -n 1", "usage: ask show FILE\n"),
-    good("ask why --help | head -n 1", "usage: ask why 'CALL(ARG, ..)' FILE..\n"),
-    good("ask replay --help | head -n 1", "usage: ask replay LOG FILE..\n"),
-    good("ask when --help | head -n 1", "usage: ask when [--call CALL [--dot]] FILE..\n"),
-    good("ask diff --help | head -n 1", "usage: ask diff [--stricter] OLD NEW\n"),
-    good("ask --help | head -n 1", "usage: ask WORD ..\n"), good("ask calls --help | head -n 1", "usage: ask calls [--call CALL] [--examples] FILE..\n"),
+    good("ask show --help | head -n 1", "usage: ask show [--arch ARCH] FILE\n"), good("ask show two --help | head -n 1", "usage: ask show [--arch ARCH] FILE\n"),
+    good("ask why --help | head -n 1", "usage: ask why [--arch ARCH] 'CALL(ARG, ..)' FILE..\n"),
+    good("ask replay --help | head -n 1", "usage: ask replay [--arch ARCH] LOG FILE..\n"),
+    good("ask when --help | head -n 1", "usage: ask when [--call CALL [--dot]] [--arch ARCH] FILE..\n"),
+    good("ask diff --help | head -n 1", "usage: ask diff [--stricter] [--arch ARCH] OLD NEW\n"),
+    good("ask --help | head -n 1", "usage: ask WORD ..\n"), good("ask calls --help | head -n 1", "usage: ask calls [--call CALL] [--examples] [--arch ARCH] FILE..\n"),
     good("ask filter nofile --help | head -n 1", "usage: ask filter [--raw] FILE..\n"),
 ]
 WORDS = [
@@ -431,7 +493,7 @@ MADE = [
     ("mkdir -p deep/er; {ask} deep/er", "deep/er: is a folder"), ("ln -s nowhere link; {ask} link", "link: no such file"),
 ]
 # All that asks something of a chain of FILEs, and of each of two.
-ASKING = ("calls", "calls --examples --call read", "when --call read", "when --dot --call read", "filter", "replay log", "why 'getpid(1)'", "show", "arches")
+ASKING = ("calls", "calls --examples --call read", "calls --arch i386 --call read", "when --call read", "when --arch aarch64 --call read", "when --dot --call read", "filter", "replay log", "why 'getpid(1)'", "why --arch arm 'getpid(1)'", "show", "arches")
 UNREAD = [
     *[trouble(f"ask {asking} {files}", says) for asking in ASKING for files, says in ONE + SEVERAL],
     *[trouble(command.format(ask=f"ask {asking}"), says) for asking in (*ASKING, "diff all") for command, says in MADE],
@@ -514,7 +576,7 @@ def judged_error(number, name, command, program):
 def main(words):
     program = os.path.abspath(words[0]) if words else os.path.join(ROOT, "crates/ask/out/ask")
     passed = failed = 0
-    rows = [(row.command, lambda row=row: judged(row, program)) for row in GOOD + PROFILES + WORDS + UNREAD + REFUSED + STREAMS]
+    rows = [(row.command, lambda row=row: judged(row, program)) for row in GOOD + ARCHITECTURES + PROFILES + WORDS + UNREAD + REFUSED + STREAMS]
     rows += [(f"errno {it[0]}", lambda it=it: judged_error(*it, program)) for it in error_rows()]
     for name, judge in rows:
         try:

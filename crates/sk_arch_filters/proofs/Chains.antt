@@ -5,19 +5,21 @@ use Rattle.sk_insn.specs.declared.insn.Insn.{Insn}
 use Rattle.sk_insn.specs.declared.record.Record.{Record}
 use Rattle.sk_insn.specs.Record.{IsNative}
 use Rattle.sk_check.specs.Valid.{IsValid}
-use Rattle.sk_interp.specs.Architectures.{as_native, for_architecture, with_architecture}
+use Rattle.sk_interp.specs.Architectures.{as_native, for_architecture}
 use Rattle.sk_interp.specs.Meaning.{meaning_of}
 use Rattle.sk_interp.proofs.Architectures.{architectures_are_constants}
 use Rattle.sk_chain.specs.Chains.{AllValid, IsWithinLimit, cost_of, path_limit}
 use Rattle.sk_chain.specs.Verdict.{first_of, meaning_value, values_of}
+use Rattle.sk_arch_filters.specs.declared.change.Change.{Change}
+use Rattle.sk_arch_filters.specs.Changes.{all_changed, changed}
 use Rattle.sk_arch_filters.specs.ChainsFor.{chain_for, of_architecture, ChainsForArchitectures}
 
--- a chain for an architecture counts as much
-pub cost_for : (arch : ℕ) (programs : List (List Insn)) → cost_of (chain_for arch programs) ≡ cost_of programs
-cost_for arch [] = refl
-cost_for arch (newest ∷ older) =
-    let long = length-map newest (with_architecture arch) in
-    let rest = cost_for arch older in
+-- a chain with other loads counts as much
+pub cost_with : (change : Change) (programs : List (List Insn)) → cost_of (all_changed change programs) ≡ cost_of programs
+cost_with change [] = refl
+cost_with change (newest ∷ older) =
+    let long = length-map newest (changed change) in
+    let rest = cost_with change older in
     omega (arith, long, rest)
 
 -- and its older filters count no more

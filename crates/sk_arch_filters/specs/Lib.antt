@@ -1,1 +1,4 @@
+pub mod ByArchitecture
 pub mod ChainsFor
+pub mod Changes
+pub mod Looks

@@ -1,9 +1,13 @@
-//! A chain for one architecture.
+//! Chains with other loads.
 ghost use Rattle.std.specs.Prelude.{◌≡◌, IfOk};
 ghost use Rattle.sk_chain.specs.Chains.{IsWithinLimit};
+ghost use Rattle.sk_arch_filters.specs.ByArchitecture.{chain_by_architecture};
 ghost use Rattle.sk_arch_filters.specs.ChainsFor.{chain_for};
+ghost use Rattle.sk_arch_filters.specs.Changes.{all_changed, IsMade};
 
-use crate::program::program_for;
+use crate::change::Change;
+use crate::looks::free_place;
+use crate::program::changed_program;
 use sk_chain::{Chain, ChainFault};
 use sk_check::Checked;
 use std::alloc::{AllocError, Global};
@@ -13,17 +17,42 @@ pub fn chain_for(alloc: Global, chain: &Chain, architecture: u32) -> Result<Chai
     requires limited { IsWithinLimit chain.now }
     ensures chain { IfOk result (λ it. it ≡ chain_for architecture chain.now) }
 {
-    let programs = programs_for(alloc, chain, architecture)?;
+    changed_chain(alloc, chain, Change::Constant(architecture))
+}
+
+/// The chain that looks for the architecture where the number is; none where each word of a call is loaded, so that none is
+/// left for the number.
+pub fn chain_by_architecture(alloc: Global, chain: &Chain) -> Result<Option<Chain>, AllocError>
+    requires limited { IsWithinLimit chain.now }
+    ensures chain { IfOk result (λ it. it ≡ chain_by_architecture chain.now) }
+{
+    match free_place(chain) {
+        Some(place) => Ok(Some(changed_chain(alloc, chain, Change::NumberAt(place))?)),
+        None => Ok(None),
+    }
+}
+
+fn changed_chain(alloc: Global, chain: &Chain, change: Change) -> Result<Chain, AllocError>
+    requires limited { IsWithinLimit chain.now }
+    requires made { IsMade change }
+    ensures chain { IfOk result (λ it. it ≡ all_changed change chain.now) }
+{
+    let programs = changed_programs(alloc, chain, change)?;
     attached(alloc, programs)
 }
 
 // The newest first.
-fn programs_for(alloc: Global, chain: &Chain, architecture: u32) -> Result<Vec<Checked>, AllocError>
-    ensures programs { IfOk result (λ programs. programs.items ≡ chain_for architecture chain.now) }
+fn changed_programs(
+    alloc: Global,
+    chain: &Chain,
+    change: Change,
+) -> Result<Vec<Checked>, AllocError>
+    requires made { IsMade change }
+    ensures programs { IfOk result (λ programs. programs.items ≡ all_changed change chain.now) }
 {
     let mut programs = Vec::with_capacity(alloc, chain.len())?;
     for program in chain.programs() {
-        programs.push(program_for(alloc, program, architecture)?)?;
+        programs.push(changed_program(alloc, program, change)?)?;
     }
     Ok(programs)
 }

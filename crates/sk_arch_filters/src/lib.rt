@@ -3,8 +3,11 @@
 #![tactic(auto)]
 
 mod chain;
+mod change;
 pub mod laws;
+mod looks;
 mod program;
 
-pub use chain::chain_for;
+pub use chain::{chain_by_architecture, chain_for};
+pub use looks::looks_at_architecture;
 pub use program::program_for;

@@ -1,14 +1,12 @@
-//! One filter for one architecture.
-ghost use Rattle.std.specs.Prelude.{◌≡◌, IfOk};
-ghost use Rattle.sk_insn.specs.Operations.{operation_of};
-ghost use Rattle.sk_interp.specs.Architectures.{for_architecture, loads_architecture, with_architecture};
+//! One filter with other loads.
+ghost use Rattle.std.specs.Prelude.{◌≡◌, IfOk, map};
+ghost use Rattle.sk_interp.specs.Architectures.{for_architecture};
+ghost use Rattle.sk_arch_filters.specs.Changes.{changed, IsMade};
 
+use crate::change::Change;
 use sk_check::{Checked, check};
-use sk_insn::{Insn, Operation, Register, decode};
+use sk_insn::Insn;
 use std::alloc::{AllocError, Global};
-
-/// Where the record of a call has its architecture.
-const ARCHITECTURE_PLACE: u32 = 4;
 
 /// The filter with this number wherever it loads the architecture.
 pub fn program_for(
@@ -18,41 +16,30 @@ pub fn program_for(
 ) -> Result<Checked, AllocError>
     ensures program { IfOk result (λ it. it ≡ for_architecture architecture program.now) }
 {
-    match check(insns_for(alloc, program.insns(), architecture)?) {
+    changed_program(alloc, program, Change::Constant(architecture))
+}
+
+/// The filter with a change of its loads.
+pub(crate) fn changed_program(
+    alloc: Global,
+    program: &Checked,
+    change: Change,
+) -> Result<Checked, AllocError>
+    requires made { IsMade change }
+    ensures program { IfOk result (λ it. it ≡ map (changed change) program.now) }
+{
+    match check(changed_insns(alloc, program.insns(), change)?) {
         Ok(checked) => Ok(checked),
         Err(_) => unreachable!(),
     }
 }
 
-fn insns_for(alloc: Global, insns: &[Insn], architecture: u32) -> Result<Vec<Insn>, AllocError>
-    ensures insns { IfOk result (λ it. it.items ≡ for_architecture architecture insns.now) }
+fn changed_insns(alloc: Global, insns: &[Insn], change: Change) -> Result<Vec<Insn>, AllocError>
+    ensures insns { IfOk result (λ it. it.items ≡ map (changed change) insns.now) }
 {
-    let mut changed = Vec::with_capacity(alloc, insns.len())?;
+    let mut others = Vec::with_capacity(alloc, insns.len())?;
     for insn in insns {
-        changed.push(insn_for(*insn, architecture))?;
+        others.push(change.changed(*insn))?;
     }
-    Ok(changed)
-}
-
-fn insn_for(insn: Insn, architecture: u32) -> Insn
-    ensures insn { result ≡ with_architecture architecture insn }
-{
-    if loads_architecture(insn) {
-        Insn {
-            code: Operation::LoadConstant(Register::Accumulator).code(),
-            k: architecture,
-            ..insn
-        }
-    } else {
-        insn
-    }
-}
-
-fn loads_architecture(insn: Insn) -> bool
-    ensures loads { result ≡ loads_architecture (operation_of insn.code) insn }
-{
-    match decode(insn.code) {
-        Some(Operation::LoadRecord) => insn.k == ARCHITECTURE_PLACE,
-        _ => false,
-    }
+    Ok(others)
 }

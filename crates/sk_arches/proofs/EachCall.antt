@@ -1,18 +1,15 @@
 -- One verdict that is told of an architecture is that of each of its calls.
 use Rattle.std.proofs.Common.{◌≡◌, ℕ, ◌<◌, ◌≤◌, ◌^◌, ◌⊎◌, inl, inr, List, [], ◌∷◌, Option, Some, None, refl, sym, ap, subst, ◌∙◌, arith}
-use Rattle.sk_insn.specs.declared.insn.Insn.{Insn}
 use Rattle.sk_insn.specs.declared.record.Record.{Record}
 use Rattle.sk_insn.specs.Record.{architecture}
-use Rattle.sk_chain.specs.Chains.{AllValid}
 use Rattle.sk_chain.specs.Verdict.{verdict_of}
-use Rattle.sk_survey.specs.Answers.{ChainAnswersAmong, IsCallOf, answers_of}
+use Rattle.sk_survey.specs.Answers.{ChainAnswersAmong, answers_of}
 use Rattle.sk_architectures.specs.declared.architecture.Architecture.{Architecture}
 use Rattle.sk_architectures.specs.declared.architecture.Architecture.TheVariants as by
 use Rattle.sk_architectures.specs.Architectures.{audit_of}
 use Rattle.sk_arch_filters.specs.ChainsFor.{chain_for, of_architecture}
 use Rattle.sk_arch_filters.proofs.Chains.{chains_for_architectures}
-use Rattle.sk_arches.specs.declared.answered.Answered.{Answered}
-use Rattle.sk_arches.specs.Answers.{IsAnswered, IsCallBy, OneVerdictIsOfEachCall, first_of, last_of, only_value}
+use Rattle.sk_arches.specs.Answers.{OneVerdictIsOfEachCall, only_value}
 
 fits : (a : Architecture) → audit_of a < 2 ^ 32
 fits by.X86_64 = omega arith
@@ -25,13 +22,13 @@ fits by.Ppc64le = omega arith
 fits by.S390x = omega arith
 fits by.Loongarch64 = omega arith
 
-alone : (answers : Option (List ℕ)) (value : ℕ) → only_value answers ≡ Some value → answers ≡ Some (value ∷ [])
+pub alone : (answers : Option (List ℕ)) (value : ℕ) → only_value answers ≡ Some value → answers ≡ Some (value ∷ [])
 alone None value e = cc
 alone (Some []) value e = cc
 alone (Some (one ∷ [])) value e = cc
 alone (Some (one ∷ (other ∷ more))) value e = cc
 
-one_of_one : (v value : ℕ) → (v ≡ value) ⊎ ⊥ → v ≡ value
+pub one_of_one : (v value : ℕ) → (v ≡ value) ⊎ ⊥ → v ≡ value
 one_of_one v value (inl is) = is
 one_of_one v value (inr none) = absurd none
 

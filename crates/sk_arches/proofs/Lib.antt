@@ -1,1 +1,2 @@
 mod EachCall
+mod OtherCalls

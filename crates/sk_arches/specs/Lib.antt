@@ -1,4 +1,5 @@
 pub mod Answers
+pub mod Other
 pub mod Alike
 pub mod Text
 pub mod Told

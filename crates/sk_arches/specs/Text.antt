@@ -8,6 +8,8 @@ use Rattle.sk_architectures.specs.declared.architecture.Architecture.TheVariants
 use Rattle.sk_architectures.specs.Architectures.{text_of}
 use Rattle.sk_architectures.specs.Names.{number_on}
 use Rattle.sk_arches.specs.declared.answered.Answered.{Answered}
+use Rattle.sk_arches.specs.declared.other.Other.{Other}
+use Rattle.sk_arches.specs.declared.other.Other.TheVariants.{Verdict, Several, Unknown}
 use Rattle.sk_arches.specs.declared.told.Told.{Told}
 use Rattle.sk_arches.specs.Answers.{only_value}
 use Rattle.sk_arches.specs.Told.{judges_calls}
@@ -19,6 +21,15 @@ judged_text None = codes "judged call by call"
 
 unfoldable pub answered_text : Answered → List ℕ
 answered_text it = text_of it.architecture ++ (codes " " ++ (judged_text (only_value (answers_of it.row.answers)) ++ codes "\n"))
+
+-- the same of every other architecture
+abbrev pub other_judged : Other → List ℕ
+other_judged (Verdict value) = judged_text (Some value)
+other_judged Several = judged_text None
+other_judged Unknown = codes "not followed: each word of a call is loaded"
+
+abbrev pub other_text : Other → List ℕ
+other_text other = codes "any other " ++ (other_judged other ++ codes "\n")
 
 -- which number is ptrace(2) there
 abbrev pub there_text : Option ℕ → List ℕ
@@ -32,6 +43,6 @@ warning_text by =
 abbrev pub warnings_text : Told → List ℕ
 warnings_text it = (if it.i386 then warning_text architecture.I386 else []) ++ (if it.x32 then warning_text architecture.X32 else [])
 
--- a line for each architecture, and the warnings where the calls of x86-64 are judged call by call
+-- a line for each architecture and one for every other, and the warnings where the calls of x86-64 are judged call by call
 abbrev pub arches_text : Told → List ℕ
-arches_text it = flat_map answered_text it.all.items ++ (if judges_calls it.all.items then warnings_text it else [])
+arches_text it = flat_map answered_text it.all.items ++ (other_text it.other ++ (if judges_calls it.all.items then warnings_text it else []))

@@ -11,6 +11,7 @@ use Rattle.sk_arches.specs.declared.answered.Answered.{Answered}
 use Rattle.sk_arches.specs.declared.told.Told.{Told}
 use Rattle.sk_arches.specs.Alike.{AreAlike}
 use Rattle.sk_arches.specs.Answers.{only_value, AreAnswered}
+use Rattle.sk_arches.specs.Other.{IsOther}
 
 -- the calls of another architecture are answered as those of x86-64 that have a name, with these bits in their numbers; or not
 abbrev pub IsJudgedAlike : List (List Insn) → Architecture → ℕ → Bool → Type 0
@@ -18,6 +19,7 @@ IsJudgedAlike programs by bits is = AreAlike programs (chain_for (audit_of by) p
 
 pub record IsTold (programs : List (List Insn)) (it : Told) : Type 0 where
   pub answered : AreAnswered programs it.all.items
+  pub other : IsOther programs it.other
   pub i386 : IsJudgedAlike programs architecture.I386 0 it.i386
   pub x32 : IsJudgedAlike programs architecture.X32 0x40000000 it.x32
 

@@ -2,9 +2,10 @@
 ghost use Rattle.std.specs.Prelude.{◌≡◌, ◌++◌, flat_map, IfOk, OnOk, string_bytes};
 ghost use Rattle.sk_survey.specs.Answers.{answers_of};
 ghost use Rattle.sk_arches.specs.Answers.{only_value};
-ghost use Rattle.sk_arches.specs.Text.{answered_text, arches_text, judged_text, there_text, warning_text, warnings_text};
+ghost use Rattle.sk_arches.specs.Text.{answered_text, arches_text, judged_text, other_text, there_text, warning_text, warnings_text};
 
 use crate::answered::Answered;
+use crate::other::Other;
 use crate::told::{Told, judges_calls};
 use sk_architectures::{Architecture, number};
 use sk_survey::Answers;
@@ -18,6 +19,7 @@ pub fn arches_text(alloc: Global, told: &Told) -> Result<String, AllocError>
 {
     let mut text = String::new(alloc);
     push_all(&mut text, &told.all)?;
+    push_other(&mut text, told.other)?;
     if judges_calls(&told.all) {
         push_warnings(&mut text, told)?;
     }
@@ -41,6 +43,19 @@ fn push_answered(text: &mut String, it: &Answered) -> Result<(), AllocError>
     text.push_str(it.architecture.text())?;
     text.push(' ')?;
     push_judged(text, only_value(&it.row.answers))?;
+    text.push('\n')
+}
+
+// Appends the line of every other architecture.
+fn push_other(text: &mut String, other: Other) -> Result<(), AllocError>
+    ensures text { OnOk result (string_bytes text.new ≡ string_bytes text.old ++ other_text other) }
+{
+    text.push_str("any other ")?;
+    match other {
+        Other::Verdict(value) => push_judged(text, Some(value))?,
+        Other::Several => push_judged(text, None)?,
+        Other::Unknown => text.push_str("not followed: each word of a call is loaded")?,
+    }
     text.push('\n')
 }
 

@@ -5,6 +5,7 @@ ghost use Rattle.sk_arches.specs.Told.{judges_calls, warns, IsTold};
 
 use crate::answered::{Answered, X32_BIT, answered_all};
 use crate::numbered::are_judged_alike;
+use crate::other::{Other, answered_other};
 use crate::text::only_value;
 use sk_architectures::Architecture;
 use sk_call_names::numbers;
@@ -17,6 +18,8 @@ use std::alloc::{AllocError, Global};
 pub struct Told {
     /// What it answers to the calls of each architecture.
     pub all: Vec<Answered>,
+    /// What it answers to those of every other architecture.
+    pub other: Other,
     /// Whether it answers the same to the calls of i386 as to those of x86-64 with the same numbers.
     pub i386: bool,
     /// Whether it answers the same to the calls of x32 as to those of x86-64 with the same numbers, but for their bit.
@@ -51,6 +54,7 @@ pub fn arches(alloc: Global, chain: &Chain) -> Result<Told, AllocError>
     let all = answered_all(alloc, chain)?;
     let named = numbers(alloc)?;
     let mut survey = Survey::new(alloc)?;
+    let other = answered_other(alloc, &mut survey, chain)?;
     let i386 = are_judged_alike(alloc, &mut survey, chain, Architecture::I386, 0, &named)?;
     let x32 = are_judged_alike(
         alloc,
@@ -60,5 +64,10 @@ pub fn arches(alloc: Global, chain: &Chain) -> Result<Told, AllocError>
         X32_BIT,
         &named,
     )?;
-    Ok(Told { all, i386, x32 })
+    Ok(Told {
+        all,
+        other,
+        i386,
+        x32,
+    })
 }

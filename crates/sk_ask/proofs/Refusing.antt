@@ -3,41 +3,48 @@ use Rattle.std.proofs.Common.{◌≡◌, ℕ, List, [], ◌∷◌, Bool, true, f
 use Rattle.std.specs.Prelude.{unwrap_or}
 use Rattle.std.specs.Bool.{MatchBool}
 use Rattle.std.specs.Result.{IsErrAnd}
+use Rattle.sk_architectures.specs.declared.architecture.Architecture.{Architecture}
 use Rattle.sk_profile_json.specs.declared.context.Context.{Context}
 use Rattle.sk_ask_filters.specs.declared.trouble.Trouble.{Trouble}
 use Rattle.sk_ask_filters.specs.declared.trouble.Trouble.TheVariants.{Refused, Reading, Memory}
 use Rattle.sk_ask.specs.declared.answer.Answer.{Answer}
 use Rattle.sk_ask.specs.declared.words.Word.{Word}
 use Rattle.sk_ask.specs.declared.words.Word.TheVariants.{Calls, Filter, When, Diff, Replay, Why, Show, Arches}
+use Rattle.sk_ask.specs.Arches.{AnswersArches}
+use Rattle.sk_ask.specs.Architectures.{architecture_of}
 use Rattle.sk_ask.specs.Asking.{Question, Asks}
 use Rattle.sk_ask.specs.Answering.{AnswersAsked, AnswersThere, AnswersQuestion}
 use Rattle.sk_ask.specs.Contexts.{newest}
 use Rattle.sk_ask.specs.Replays.{AnswersLog}
 use Rattle.sk_ask.specs.Whys.{AnswersCall}
 use Rattle.sk_ask.specs.Troubles.{OfFirst}
-use Rattle.sk_ask.specs.Endings.{ending_of, refused, no_memory}
+use Rattle.sk_ask.specs.Endings.{Ending, ending_of, refused, no_memory}
 
 either : (b : Bool) (P Q : Type 0) → P → Q → MatchBool b P Q
 either true P Q p q = p
 either false P Q p q = q
 
-no_log : (held : List ℕ → Option (List ℕ)) (context : Context) (names : List (List ℕ)) → OfFirst names no_memory (λ log others. AnswersLog held context log others no_memory)
-no_log held context [] = refl
-no_log held context (log ∷ others) = inr (inl (Memory, tt, refl))
+no_log : (held : List ℕ → Option (List ℕ)) (context : Context) (by : Architecture) (names : List (List ℕ)) → OfFirst names no_memory (λ log others. AnswersLog held context by log others no_memory)
+no_log held context by [] = refl
+no_log held context by (log ∷ others) = inr (inl (Memory, tt, refl))
 
-no_call : (held : List ℕ → Option (List ℕ)) (context : Context) (names : List (List ℕ)) → OfFirst names no_memory (λ word others. AnswersCall held context word others no_memory)
-no_call held context [] = refl
-no_call held context (word ∷ others) = inr (inl (Memory, tt, refl))
+no_call : (held : List ℕ → Option (List ℕ)) (context : Context) (by : Architecture) (names : List (List ℕ)) → OfFirst names no_memory (λ word others. AnswersCall held context by word others no_memory)
+no_call held context by [] = refl
+no_call held context by (word ∷ others) = inr (inl (Memory, tt, refl))
 
 no_answer : (held : List ℕ → Option (List ℕ)) (context : Context) (word : Word) (asked : Question) → AnswersQuestion held context word asked no_memory
 no_answer held context Calls asked = inr (inl (Memory, tt, refl))
 no_answer held context Filter asked = inr (Memory, inr (inr refl), refl)
 no_answer held context When asked = inr (inl (Memory, tt, refl))
 no_answer held context Diff asked = inr (inl (Memory, inr (inr refl), refl))
-no_answer held context Replay asked = no_log held context asked.names
-no_answer held context Why asked = no_call held context asked.names
+no_answer held context Replay asked = no_log held context (architecture_of asked.arch) asked.names
+no_answer held context Why asked = no_call held context (architecture_of asked.arch) asked.names
 no_answer held context Show asked = inr (Memory, inr (inr refl), refl)
 no_answer held context Arches asked = inr (Memory, inr (inr refl), refl)
+
+-- so it is where that ending was come to
+pub no_arches : (held : List ℕ → Option (List ℕ)) (context : Context) (asked : Question) (ending : Ending) → ending ≡ no_memory → AnswersArches held context asked ending
+no_arches held context asked ending e = subst (AnswersArches held context asked) (sym e) (inr (Memory, inr (inr refl), refl))
 
 abbrev lent : List (List ℕ) → List (Bor (List ℕ))
 lent [] = []

@@ -1,8 +1,9 @@
 -- What the program answers to its words.
-use Rattle.std.specs.Prelude.{ℕ, ◌≡◌, ◌⊎◌, Bool, true, false, List, [], ◌∷◌, codes, Option, Some, None, Result, Ok, Err}
+use Rattle.std.specs.Prelude.{ℕ, ◌≡◌, ◌⊎◌, ◌&&◌, is_none, not, Bool, true, false, List, [], ◌∷◌, codes, Option, Some, None, Result, Ok, Err}
 use Rattle.std.specs.Bool.{MatchBool}
 use Rattle.std.specs.Str.{bytes_eq}
 use Rattle.sk_insn.specs.declared.insn.Insn.{Insn}
+use Rattle.sk_arch_filters.specs.Looks.{looks_at_architecture}
 use Rattle.sk_ask_files.specs.Filters.{Filters}
 use Rattle.sk_survey_lines.specs.declared.line.Line.{Line}
 use Rattle.sk_survey_lines.specs.declared.options.Options.{Options}
@@ -14,6 +15,7 @@ use Rattle.sk_ask.specs.declared.words.Word.{Word}
 use Rattle.sk_ask.specs.declared.words.Word.TheVariants as word
 use Rattle.sk_ask.specs.Asking.{Question, asked_of, nothing_asked, word_named}
 use Rattle.sk_ask.specs.Arches.{AnswersArches}
+use Rattle.sk_ask.specs.Architectures.{architecture_of, chain_on}
 use Rattle.sk_ask.specs.Calls.{IsAskedCall, IsNoCall}
 use Rattle.sk_ask.specs.CallsText.{calls_text}
 use Rattle.sk_ask.specs.Contexts.{IsContextOf}
@@ -29,23 +31,28 @@ use Rattle.sk_ask.specs.Whys.{AnswersWhy}
 
 -- ---- calls
 
--- a text tells the lines of a survey of the chain
+-- the calls of all numbers are told, and no filter looks at the architecture
+abbrev pub is_unseen : Options → List (List Insn) → Bool
+is_unseen options chain = is_none options.call && not (looks_at_architecture chain)
+
+-- a text tells the lines of a survey of the chain, as it is for the architecture
 abbrev pub TellsSurvey : Options → List (List Insn) → List ℕ → Ending → Type 0
 TellsSurvey options chain notes ending =
-    (lines : List Line) × AreLinesOf options chain lines × (ending ≡ answered notes (calls_text lines) false)
+    (lines : List Line) × AreLinesOf options (chain_on options.architecture chain) lines
+    × (ending ≡ answered notes (calls_text options.architecture lines (is_unseen options chain)) false)
 
 -- those of all calls, or that of the one that is asked for
 abbrev pub IsSurvey : Question → List (List Insn) → List ℕ → Ending → Type 0
 IsSurvey asked chain notes ending =
-    (call : Option ℕ) × IsAskedCall asked.call call
-    × TellsSurvey (record { call = call; examples = asked.examples }) chain notes ending
+    (call : Option ℕ) × IsAskedCall (architecture_of asked.arch) asked.call call
+    × TellsSurvey (record { architecture = architecture_of asked.arch; call = call; examples = asked.examples }) chain notes ending
 
 -- a survey of the chain that the files make; or no call has the name, or a file is refused or not read
 abbrev pub AnswersCalls : (List ℕ → Option (List ℕ)) → Context → Question → Ending → Type 0
 AnswersCalls held context asked ending =
     ((found : Filters) × (chain : List (List Insn)) × (notes : List ℕ)
     × ReadsFilters held context asked.names found chain notes × IsSurvey asked chain notes ending)
-    ⊎ (IsTrouble ending (λ why. IsNoCall why asked.call) ⊎ IsTrouble ending (IsRefusedOf held context asked.names))
+    ⊎ (IsTrouble ending (λ why. IsNoCall (architecture_of asked.arch) why asked.call) ⊎ IsTrouble ending (IsRefusedOf held context asked.names))
 
 -- ---- filter
 

@@ -2,6 +2,8 @@
 use Rattle.std.specs.Prelude.{ℕ, ◌≡◌, ◌≤◌, ◌==◌, ◌&&◌, ◌++◌, nat_lt, is_some, IsSome, not, Bool, true, false, if◌then◌else◌, List, [], ◌∷◌, length, slice_get, codes, map, string_bytes, slice_index, Option, Some, None, Result, Ok, Err, ⊤}
 use Rattle.std.specs.Str.{bytes_eq}
 use Rattle.std.specs.Option.{option_map}
+use Rattle.sk_architectures.specs.declared.architecture.Architecture.{Architecture}
+use Rattle.sk_architectures.specs.Architectures.{architecture_named, is_big_endian_of}
 use Rattle.sk_profile_json.specs.declared.context.Kernel.{Kernel as Version}
 use Rattle.sk_profile_json.specs.Contexts.{kernel_of}
 use Rattle.sk_profile_file.specs.Capabilities.{capability}
@@ -10,16 +12,17 @@ use Rattle.sk_ask_filters.specs.declared.trouble.Trouble.TheVariants.{Refused, R
 use Rattle.sk_ask_filters.specs.Complaints.{of_word}
 use Rattle.sk_ask.specs.declared.words.Asked.{Asked}
 use Rattle.sk_ask.specs.declared.words.Valued.{Valued}
-use Rattle.sk_ask.specs.declared.words.Valued.TheVariants.{Call, Cap, Kernel}
+use Rattle.sk_ask.specs.declared.words.Valued.TheVariants.{Call, Cap, Kernel, Arch}
 use Rattle.sk_ask.specs.declared.words.Word.{Word}
 use Rattle.sk_ask.specs.declared.words.Word.TheVariants.{Calls, Filter, When, Diff, Replay, Why, Show, Arches}
 
--- the word behind `--call`, the capabilities behind each `--cap`, and the version behind `--kernel`; the option whose word is
--- awaited; whether there was `--runc`, `--examples`, `--dot`, `--raw`, `--stricter` or `--help`; and the names of the files
+-- the word behind `--call`, the capabilities behind each `--cap`, the version behind `--kernel`, and the architecture behind
+-- `--arch`; the option whose word is awaited; whether there was `--runc`, `--examples`, `--dot`, `--raw`, `--stricter` or `--help`; and the names of the files
 pub record Question : Type 0 where
   pub call : Option (List ℕ)
   pub caps : List (List ℕ)
   pub kernel : Option Version
+  pub arch : Option Architecture
   pub awaits : Option Valued
   pub runc : Bool
   pub examples : Bool
@@ -34,6 +37,7 @@ nothing_asked = record {
   call = None;
   caps = [];
   kernel = None;
+  arch = None;
   awaits = None;
   runc = false;
   examples = false;
@@ -84,12 +88,14 @@ abbrev pub valued_name : Valued → List ℕ
 valued_name Call = codes "--call"
 valued_name Cap = codes "--cap"
 valued_name Kernel = codes "--kernel"
+valued_name Arch = codes "--arch"
 
 -- what is expected behind one
 abbrev pub value_kind : Valued → List ℕ
 value_kind Call = codes "a name or a number"
 value_kind Cap = codes "a name"
 value_kind Kernel = codes "a version as 6.1"
+value_kind Arch = codes "a name"
 
 -- each call is told of by these
 abbrev pub tells_calls : Word → Bool
@@ -97,12 +103,19 @@ tells_calls Calls = true
 tells_calls When = true
 tells_calls word = false
 
+-- the calls of one architecture are told of by all words but two: `filter` tells of none, and `arches` of all
+abbrev pub tells_of_one : Word → Bool
+tells_of_one Filter = false
+tells_of_one Arches = false
+tells_of_one word = true
+
 -- the one that is named, of a word: where there may be a profile, it may be said where that is to hold
 abbrev pub valued_named : Word → List ℕ → Option Valued
 valued_named word text =
     if tells_calls word && bytes_eq text (codes "--call") then Some Call
     else if bytes_eq text (codes "--cap") then Some Cap
     else if bytes_eq text (codes "--kernel") then Some Kernel
+    else if tells_of_one word && bytes_eq text (codes "--arch") then Some Arch
     else None
 
 -- there may be several capabilities
@@ -110,6 +123,7 @@ abbrev pub is_given : Valued → Question → Bool
 is_given Call asked = is_some asked.call
 is_given Cap asked = false
 is_given Kernel asked = is_some asked.kernel
+is_given Arch asked = is_some asked.arch
 
 abbrev pub with_valued : Word → Valued → Question → Result Question (List ℕ)
 with_valued word option asked =
@@ -129,11 +143,16 @@ abbrev pub with_kernel : Word → Question → Option Version → Result Questio
 with_kernel word asked None = Err (expected_line word Kernel)
 with_kernel word asked (Some version) = Ok (record asked { kernel = Some version; awaits = None })
 
+abbrev pub with_architecture : Word → Question → List ℕ → Option Architecture → Result Question (List ℕ)
+with_architecture word asked text None = Err (of_word (word_name word ++ codes ": no architecture is named ") text)
+with_architecture word asked text (Some by) = Ok (record asked { arch = Some by; awaits = None })
+
 -- the word behind it
 abbrev pub with_value : Word → Valued → Question → List ℕ → Result Question (List ℕ)
 with_value word Call asked text = Ok (record asked { call = Some text; awaits = None })
 with_value word Cap asked text = with_caps word asked text (capability text)
 with_value word Kernel asked text = with_kernel word asked (kernel_of text)
+with_value word Arch asked text = with_architecture word asked text (architecture_named text)
 
 -- ---- one word more
 
@@ -197,12 +216,29 @@ abbrev pub named : Word → Question → Result Question (List ℕ)
 named Diff asked = two_named asked
 named word asked = none_missing word asked (missing word asked)
 
+-- the halves of arguments stand the other way round where their highest byte comes first, and that is followed nowhere
+abbrev pub is_turned : Option Architecture → Bool
+is_turned None = false
+is_turned (Some by) = is_big_endian_of by
+
+-- arguments are told of by all words but these
+abbrev pub tells_arguments : Word → Bool → Bool
+tells_arguments Calls examples = examples
+tells_arguments Show examples = false
+tells_arguments word examples = true
+
+abbrev pub understood : Word → Question → Result Question (List ℕ)
+understood word asked =
+    if is_turned asked.arch && tells_arguments word asked.examples
+    then Err (of_word (word_name word ++ codes ": arguments with their highest byte first are not followed: ") (codes "--arch s390x"))
+    else Ok asked
+
 -- a picture is that of one call
 abbrev pub drawn : Word → Question → Result Question (List ℕ)
 drawn word asked =
     if asked.dot && not (is_some asked.call)
     then Err (of_word (word_name word ++ codes ": expected --call CALL beside ") (codes "--dot"))
-    else Ok asked
+    else understood word asked
 
 abbrev pub complete : Word → Question → Result Question (List ℕ)
 complete word asked =
@@ -235,6 +271,7 @@ question_of asked = record {
   call = option_map (λ call. call.now) asked.call;
   caps = map (λ name. name.now) asked.caps.items;
   kernel = asked.kernel;
+  arch = asked.arch;
   awaits = asked.awaits;
   runc = asked.runc;
   examples = asked.examples;

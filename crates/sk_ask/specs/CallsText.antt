@@ -1,5 +1,5 @@
 -- The text of `ask calls`: that of a survey, with verdicts as people read them.
-use Rattle.std.specs.Prelude.{ℕ, ◌++◌, List, codes, flat_map, Option, Some, None}
+use Rattle.std.specs.Prelude.{ℕ, ◌++◌, Bool, true, false, List, [], codes, flat_map, Option, Some, None}
 use Rattle.std.specs.Fmt.{decimal}
 use Rattle.hex.specs.Hex.{encode_lower}
 use Rattle.sk_insn.specs.Record.{record_bytes}
@@ -11,26 +11,33 @@ use Rattle.sk_survey_lines.specs.declared.line.Shown.{Shown}
 use Rattle.sk_survey_lines.specs.declared.line.Line.{Line}
 use Rattle.sk_survey_lines.specs.Text.{numbers_text, name_text, answers_text}
 use Rattle.sk_verdict.specs.Verdicts.{verdict_text}
+use Rattle.sk_architectures.specs.declared.architecture.Architecture.{Architecture}
+use Rattle.sk_ask.specs.Architectures.{call_on}
 
 -- one row: its numbers, the name of a single one, and the verdicts
-unfoldable pub row_text : Row → List ℕ
-row_text row =
+unfoldable pub row_text : Architecture → Row → List ℕ
+row_text by row =
     numbers_text row.first row.last
-    ++ (codes " " ++ (name_text row.first row.last ++ (codes " " ++ line (answers_text (answers_of row.answers)))))
+    ++ (codes " " ++ (name_text by row.first row.last ++ (codes " " ++ line (answers_text (answers_of row.answers)))))
 
 -- what was found for a verdict: the filter, the place where it ends, and the call's record
-abbrev pub found_text : Option Example → List ℕ
-found_text None = codes " ?"
-found_text (Some example) =
+abbrev pub found_text : Architecture → Option Example → List ℕ
+found_text by None = codes " ?"
+found_text by (Some example) =
     codes " filter " ++ (decimal example.filter ++ (codes " at " ++ (decimal example.place
-    ++ (codes " record " ++ encode_lower (record_bytes example.call)))))
+    ++ (codes " record " ++ encode_lower (record_bytes (call_on by example.call))))))
 
-unfoldable pub shown_text : Shown → List ℕ
-shown_text shown = codes "  " ++ (verdict_text shown.value ++ line (found_text shown.found))
+unfoldable pub shown_text : Architecture → Shown → List ℕ
+shown_text by shown = codes "  " ++ (verdict_text shown.value ++ line (found_text by shown.found))
 
 -- a line, and those below it
-unfoldable pub line_text : Line → List ℕ
-line_text it = row_text it.row ++ flat_map shown_text it.shown.items
+unfoldable pub line_text : Architecture → Line → List ℕ
+line_text by it = row_text by it.row ++ flat_map (shown_text by) it.shown.items
 
-abbrev pub calls_text : List Line → List ℕ
-calls_text lines = flat_map line_text lines
+-- said where no filter looks at the architecture
+abbrev pub unseen_text : Bool → List ℕ
+unseen_text true = codes "warning: no filter looks at the architecture: calls of each are judged by their numbers alone\n"
+unseen_text false = []
+
+abbrev pub calls_text : Architecture → List Line → Bool → List ℕ
+calls_text by lines unseen = flat_map (line_text by) lines ++ unseen_text unseen

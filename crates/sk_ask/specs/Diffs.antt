@@ -1,6 +1,7 @@
 -- What `ask diff` answers.
 use Rattle.std.specs.Prelude.{ℕ, ◌≡◌, ◌⊎◌, ◌++◌, Bool, true, false, List, codes, take, drop, Option}
 use Rattle.sk_insn.specs.declared.insn.Insn.{Insn}
+use Rattle.sk_architectures.specs.declared.architecture.Architecture.{Architecture}
 use Rattle.sk_conditions.specs.declared.standing.Relation.{Relation}
 use Rattle.sk_conditions.specs.declared.standing.Relation.TheVariants.{Same, AsStrict}
 use Rattle.sk_diff.specs.declared.comparison.Standing.{Standing}
@@ -9,6 +10,7 @@ use Rattle.sk_diff.specs.Diffs.{IsComparison}
 use Rattle.sk_ask_files.specs.Filters.{Filters}
 use Rattle.sk_profile_json.specs.declared.context.Context.{Context}
 use Rattle.sk_ask_filters.specs.Filters.{ReadsFilters, IsRefusedOf}
+use Rattle.sk_ask.specs.Architectures.{architecture_of, chain_on}
 use Rattle.sk_ask.specs.Asking.{Question}
 use Rattle.sk_ask.specs.Endings.{Ending, answered, refused, no_memory, ComesTo}
 use Rattle.sk_ask.specs.Troubles.{IsTrouble}
@@ -27,21 +29,23 @@ EndsAs Everywhere notes text ending = ending ≡ answered notes text false
 EndsAs Apart notes text ending = ending ≡ answered notes text true
 EndsAs Undecided notes text ending = ComesTo (refused (undecided_text text)) ending
 
--- two chains were compared, or memory was refused
-abbrev pub IsDiff : Bool → List (List Insn) → List (List Insn) → List ℕ → Ending → Type 0
-IsDiff stricter old new notes ending =
-    ((standing : Standing) × (text : List ℕ) × IsComparison (relation_asked stricter) old new standing text
+-- two chains were compared as they are for an architecture, or memory was refused
+abbrev pub IsDiff : Architecture → Bool → List (List Insn) → List (List Insn) → List ℕ → Ending → Type 0
+IsDiff by stricter old new notes ending =
+    ((standing : Standing) × (text : List ℕ)
+    × IsComparison by (relation_asked stricter) (chain_on by old) (chain_on by new) standing text
     × EndsAs standing notes text ending)
     ⊎ (ending ≡ no_memory)
 
 -- the chains of files with these names, and of files with those, are compared; or one of them is refused or not read
-abbrev pub AnswersSides : (List ℕ → Option (List ℕ)) → Context → Bool → List (List ℕ) → List (List ℕ) → Ending → Type 0
-AnswersSides held context stricter names others ending =
+abbrev pub AnswersSides : (List ℕ → Option (List ℕ)) → Context → Architecture → Bool → List (List ℕ) → List (List ℕ) → Ending → Type 0
+AnswersSides held context by stricter names others ending =
     ((found other : Filters) × (old new : List (List Insn)) × (notes more : List ℕ)
     × ReadsFilters held context names found old notes × ReadsFilters held context others other new more
-    × IsDiff stricter old new (notes ++ more) ending)
+    × IsDiff by stricter old new (notes ++ more) ending)
     ⊎ (IsTrouble ending (IsRefusedOf held context names) ⊎ IsTrouble ending (IsRefusedOf held context others))
 
 -- the first file has the old chain
 abbrev pub AnswersDiff : (List ℕ → Option (List ℕ)) → Context → Question → Ending → Type 0
-AnswersDiff held context asked ending = AnswersSides held context asked.stricter (take 1 asked.names) (drop 1 asked.names) ending
+AnswersDiff held context asked ending =
+    AnswersSides held context (architecture_of asked.arch) asked.stricter (take 1 asked.names) (drop 1 asked.names) ending

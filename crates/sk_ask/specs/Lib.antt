@@ -1,5 +1,6 @@
 pub mod Answering
 pub mod Arches
+pub mod Architectures
 pub mod Asking
 pub mod Calls
 pub mod CallsText

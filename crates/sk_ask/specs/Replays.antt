@@ -1,12 +1,14 @@
 -- What `ask replay` answers.
 use Rattle.std.specs.Prelude.{ℕ, ◌≡◌, ◌⊎◌, ◌==◌, if◌then◌else◌, List, codes, Option, IfSome}
 use Rattle.sk_insn.specs.declared.insn.Insn.{Insn}
+use Rattle.sk_architectures.specs.declared.architecture.Architecture.{Architecture}
 use Rattle.sk_replay.specs.Replaying.{replay_text, replay_denies, distinct_calls}
 use Rattle.sk_ask_files.specs.Filters.{Filters}
 use Rattle.sk_profile_json.specs.declared.context.Context.{Context}
 use Rattle.sk_ask_filters.specs.Complaints.{about}
 use Rattle.sk_ask_filters.specs.Filters.{ReadsFilters, IsRefusedOf}
 use Rattle.sk_ask_filters.specs.Shelves.{IsUnread}
+use Rattle.sk_ask.specs.Architectures.{architecture_of}
 use Rattle.sk_ask.specs.Asking.{Question}
 use Rattle.sk_ask.specs.Endings.{Ending, answered, refused, ComesTo}
 use Rattle.sk_ask.specs.Troubles.{IsTrouble, OfFirst}
@@ -15,21 +17,22 @@ use Rattle.sk_ask.specs.Troubles.{IsTrouble, OfFirst}
 abbrev pub no_call_text : List ℕ
 no_call_text = codes "holds no call: expected lines as strace -f -X raw -e raw=all writes them"
 
--- the verdicts of the chain on the calls of the log with this name: no where one of them is not performed, or a line is not
+-- the verdicts of the chain on the calls of the log with this name, which are of an architecture: no where one of them is not performed, or a line is not
 -- understood; and no answer where there is no call
-abbrev pub replayed : List ℕ → List ℕ → List (List Insn) → List ℕ → Ending
-replayed name log chain notes =
-    if distinct_calls log == 0 then refused (about name no_call_text)
-    else answered notes (replay_text log chain) (replay_denies log chain)
+abbrev pub replayed : Architecture → List ℕ → List ℕ → List (List Insn) → List ℕ → Ending
+replayed by name log chain notes =
+    if distinct_calls by log == 0 then refused (about name no_call_text)
+    else answered notes (replay_text by log chain) (replay_denies by log chain)
 
 -- the log in the file with this name, of at most 268435456 bytes, is replayed on the chain of the others; or it is not read, or
 -- one of them is refused or not read
-abbrev pub AnswersLog : (List ℕ → Option (List ℕ)) → Context → List ℕ → List (List ℕ) → Ending → Type 0
-AnswersLog held context name names ending =
+abbrev pub AnswersLog : (List ℕ → Option (List ℕ)) → Context → Architecture → List ℕ → List (List ℕ) → Ending → Type 0
+AnswersLog held context by name names ending =
     ((log : List ℕ) × (found : Filters) × (chain : List (List Insn)) × (notes : List ℕ) × IfSome (held name) (λ whole. log ≡ whole)
-    × ReadsFilters held context names found chain notes × ComesTo (replayed name log chain notes) ending)
+    × ReadsFilters held context names found chain notes × ComesTo (replayed by name log chain notes) ending)
     ⊎ (IsTrouble ending (IsUnread 268435456 (held name) name) ⊎ IsTrouble ending (IsRefusedOf held context names))
 
 -- the first name is that of the log
 abbrev pub AnswersReplay : (List ℕ → Option (List ℕ)) → Context → Question → Ending → Type 0
-AnswersReplay held context asked ending = OfFirst asked.names ending (λ log names. AnswersLog held context log names ending)
+AnswersReplay held context asked ending =
+    OfFirst asked.names ending (λ log names. AnswersLog held context (architecture_of asked.arch) log names ending)

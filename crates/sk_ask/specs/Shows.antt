@@ -1,23 +1,25 @@
 -- What `ask show` answers.
 use Rattle.std.specs.Prelude.{ℕ, ◌⊎◌, false, List, [], ◌∷◌, codes, Option}
 use Rattle.sk_insn.specs.declared.insn.Insn.{Insn}
+use Rattle.sk_architectures.specs.declared.architecture.Architecture.{Architecture}
 use Rattle.sk_show.specs.Showing.{show_text}
 use Rattle.sk_ask_files.specs.Filters.{Filters}
 use Rattle.sk_profile_json.specs.declared.context.Context.{Context}
 use Rattle.sk_ask_filters.specs.Complaints.{of_word}
 use Rattle.sk_ask_filters.specs.Filters.{ReadsFilters, IsRefusedOf}
+use Rattle.sk_ask.specs.Architectures.{architecture_of}
 use Rattle.sk_ask.specs.Asking.{Question}
 use Rattle.sk_ask.specs.Endings.{Ending, answered, refused, ComesTo}
 use Rattle.sk_ask.specs.Troubles.{IsTrouble}
 
--- the listing of the only filter
-abbrev pub Shows : List (List Insn) → List ℕ → Ending → Type 0
-Shows (program ∷ []) notes ending = ComesTo (answered notes (show_text program) false) ending
-Shows chain notes ending = ComesTo (refused (of_word (codes "show: the FILEs hold several filters: expected one") [])) ending
+-- the listing of the only filter, with the names that calls have on an architecture
+abbrev pub Shows : Architecture → List (List Insn) → List ℕ → Ending → Type 0
+Shows by (program ∷ []) notes ending = ComesTo (answered notes (show_text by program) false) ending
+Shows by chain notes ending = ComesTo (refused (of_word (codes "show: the FILEs hold several filters: expected one") [])) ending
 
 -- that of the filter in the files; or one of them is refused or not read
 abbrev pub AnswersShow : (List ℕ → Option (List ℕ)) → Context → Question → Ending → Type 0
 AnswersShow held context asked ending =
     ((found : Filters) × (chain : List (List Insn)) × (notes : List ℕ)
-    × ReadsFilters held context asked.names found chain notes × Shows chain notes ending)
+    × ReadsFilters held context asked.names found chain notes × Shows (architecture_of asked.arch) chain notes ending)
     ⊎ IsTrouble ending (IsRefusedOf held context asked.names)

@@ -2,6 +2,7 @@
 use Rattle.std.specs.Prelude.{ℕ, ◌≡◌, ◌⊎◌, ◌++◌, false, List, [], codes, Option, Ok, Err, ⊤}
 use Rattle.sk_insn.specs.declared.insn.Insn.{Insn}
 use Rattle.sk_insn.specs.declared.record.Record.{Record}
+use Rattle.sk_architectures.specs.declared.architecture.Architecture.{Architecture}
 use Rattle.sk_call_text.specs.declared.fault.CallFault.{CallFault}
 use Rattle.sk_call_text.specs.declared.fault.CallFault.TheVariants.{NoCall}
 use Rattle.sk_call_text.specs.CallWords.{call_of, name_part}
@@ -13,6 +14,7 @@ use Rattle.sk_ask_filters.specs.declared.trouble.Trouble.{Trouble}
 use Rattle.sk_ask_filters.specs.declared.trouble.Trouble.TheVariants.{Refused, Reading, Memory}
 use Rattle.sk_ask_filters.specs.Complaints.{of_word}
 use Rattle.sk_ask_filters.specs.Filters.{ReadsFilters, IsRefusedOf}
+use Rattle.sk_ask.specs.Architectures.{architecture_of}
 use Rattle.sk_ask.specs.Asking.{Question}
 use Rattle.sk_ask.specs.Endings.{Ending, answered}
 use Rattle.sk_ask.specs.Troubles.{IsTrouble, OfFirst}
@@ -23,23 +25,24 @@ fault_line word NoCall = of_word (codes "no call is named ") (name_part word)
 fault_line word fault = of_word (codes "why: " ++ fault_text fault) []
 
 -- a word stands for no call, and the line says so
-abbrev pub IsFaultOf : List ℕ → Trouble → Type 0
-IsFaultOf word (Refused line) = (fault : CallFault) × (call_of word ≡ Err fault) × (line.items ≡ fault_line word fault)
-IsFaultOf word (Reading line) = ⊥
-IsFaultOf word Memory = ⊤
+abbrev pub IsFaultOf : Architecture → List ℕ → Trouble → Type 0
+IsFaultOf by word (Refused line) = (fault : CallFault) × (call_of by word ≡ Err fault) × (line.items ≡ fault_line word fault)
+IsFaultOf by word (Reading line) = ⊥
+IsFaultOf by word Memory = ⊤
 
 -- a text tells the path of the call through the chain
-abbrev pub TellsWhyOf : Record → List (List Insn) → List ℕ → Ending → Type 0
-TellsWhyOf call chain notes ending = (text : List ℕ) × TellsWhy chain call text × (ending ≡ answered notes text false)
+abbrev pub TellsWhyOf : Architecture → Record → List (List Insn) → List ℕ → Ending → Type 0
+TellsWhyOf by call chain notes ending = (text : List ℕ) × TellsWhy by chain call text × (ending ≡ answered notes text false)
 
 -- the path of the call that the word stands for, through the chain that the files make; or it stands for none, or a file is
 -- refused or not read
-abbrev pub AnswersCall : (List ℕ → Option (List ℕ)) → Context → List ℕ → List (List ℕ) → Ending → Type 0
-AnswersCall held context word names ending =
-    ((call : Record) × (found : Filters) × (chain : List (List Insn)) × (notes : List ℕ) × (call_of word ≡ Ok call)
-    × ReadsFilters held context names found chain notes × TellsWhyOf call chain notes ending)
-    ⊎ (IsTrouble ending (IsFaultOf word) ⊎ IsTrouble ending (IsRefusedOf held context names))
+abbrev pub AnswersCall : (List ℕ → Option (List ℕ)) → Context → Architecture → List ℕ → List (List ℕ) → Ending → Type 0
+AnswersCall held context by word names ending =
+    ((call : Record) × (found : Filters) × (chain : List (List Insn)) × (notes : List ℕ) × (call_of by word ≡ Ok call)
+    × ReadsFilters held context names found chain notes × TellsWhyOf by call chain notes ending)
+    ⊎ (IsTrouble ending (IsFaultOf by word) ⊎ IsTrouble ending (IsRefusedOf held context names))
 
 -- the first name is the call
 abbrev pub AnswersWhy : (List ℕ → Option (List ℕ)) → Context → Question → Ending → Type 0
-AnswersWhy held context asked ending = OfFirst asked.names ending (λ word names. AnswersCall held context word names ending)
+AnswersWhy held context asked ending =
+    OfFirst asked.names ending (λ word names. AnswersCall held context (architecture_of asked.arch) word names ending)

@@ -1,6 +1,7 @@
 //! `ask calls`: what filters can answer to each call.
 ghost use Rattle.std.specs.Prelude.{◌≡◌, IfOk, IfErr, Ok};
 ghost use Rattle.std.specs.Option.{option_map};
+ghost use Rattle.sk_chain.specs.Chains.{IsWithinLimit};
 ghost use Rattle.sk_ask_filters.specs.Counts.{CountsReads};
 ghost use Rattle.sk_ask.specs.Endings.{ending_of};
 ghost use Rattle.sk_ask.specs.Asking.{question_of};
@@ -11,7 +12,10 @@ ghost use Rattle.sk_ask.specs.Calls.{IsAskedCall, IsNoCall};
 use crate::answer::Answer;
 use crate::calls_text::calls_text;
 use crate::filters::asked_filters;
+use crate::on::{architecture_of, filters_on};
 use crate::words::Asked;
+use sk_arch_filters::looks_at_architecture;
+use sk_architectures::Architecture;
 use sk_ask_filters::{Filters, Shelf, Trouble, of_word};
 use sk_call_text::call_named;
 use sk_profile_json::Context;
@@ -29,9 +33,11 @@ pub fn calls<S: Shelf>(
     ensures told { AnswersCalls (S.held shelf.now) context.now (question_of asked.now) (ending_of result) }
     ensures counted { CountsReads result reads.old reads.new }
 {
-    let call = asked_call(alloc, asked.call)?;
+    let architecture = architecture_of(asked.arch);
+    let call = asked_call(alloc, architecture, asked.call)?;
     let filters = asked_filters(alloc, asked, shelf, context, reads)?;
     let options = Options {
+        architecture,
         call,
         examples: asked.examples,
     };
@@ -39,31 +45,43 @@ pub fn calls<S: Shelf>(
 }
 
 fn survey(alloc: Global, options: Options, filters: Filters) -> Result<Answer, AllocError>
+    requires limited { IsWithinLimit filters.chain }
     ensures survey { IfOk result (λ answer. TellsSurvey options filters.chain filters.notes.items (ending_of (Ok answer))) }
 {
-    let lines = lines_of(alloc, options, &filters.chain)?;
+    let unseen = options.call.is_none() && !looks_at_architecture(&filters.chain);
+    let (chain, notes) = filters_on(alloc, options.architecture, filters)?;
+    let lines = lines_of(alloc, options, &chain)?;
     Ok(Answer {
-        text: text_of(alloc, &lines)?,
-        notes: filters.notes,
+        text: text_of(alloc, options.architecture, &lines, unseen)?,
+        notes,
         denies: false,
     })
 }
 
-fn text_of(alloc: Global, lines: &[Line]) -> Result<Vec<u8>, AllocError>
-    ensures text { IfOk result (λ text. text.items ≡ calls_text lines.now) }
+fn text_of(
+    alloc: Global,
+    architecture: Architecture,
+    lines: &[Line],
+    unseen: bool,
+) -> Result<Vec<u8>, AllocError>
+    ensures text { IfOk result (λ text. text.items ≡ calls_text architecture lines.now unseen) }
 {
-    Ok(calls_text(alloc, lines)?.into_bytes())
+    Ok(calls_text(alloc, architecture, lines, unseen)?.into_bytes())
 }
 
 /// The number of the call that is asked for, if one is.
-pub fn asked_call(alloc: Global, asked: Option<&str>) -> Result<Option<u32>, Trouble>
-    ensures call { IfOk result (IsAskedCall (option_map (λ word. word.now) asked.entry)) }
-    ensures no_call { IfErr result (λ why. IsNoCall why (option_map (λ word. word.now) asked.entry)) }
+pub fn asked_call(
+    alloc: Global,
+    architecture: Architecture,
+    asked: Option<&str>,
+) -> Result<Option<u32>, Trouble>
+    ensures call { IfOk result (IsAskedCall architecture (option_map (λ word. word.now) asked.entry)) }
+    ensures no_call { IfErr result (λ why. IsNoCall architecture why (option_map (λ word. word.now) asked.entry)) }
 {
     let Some(word) = asked else {
         return Ok(None);
     };
-    match call_named(word.as_bytes()) {
+    match call_named(architecture, word.as_bytes()) {
         Some(nr) => Ok(Some(nr)),
         None => Err(Trouble::Refused(of_word(alloc, "no call is named ", word.as_bytes())?)),
     }

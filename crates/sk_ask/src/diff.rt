@@ -1,12 +1,15 @@
 //! `ask diff`: where the filters of two files answer otherwise.
 ghost use Rattle.std.specs.Prelude.{◌≡◌, ◌++◌, take, drop, map, string_bytes, IfOk};
+ghost use Rattle.sk_chain.specs.Chains.{IsWithinLimit};
 ghost use Rattle.sk_ask_filters.specs.Counts.{CountsReads};
 ghost use Rattle.sk_ask.specs.Endings.{ending_of};
 ghost use Rattle.sk_ask.specs.Asking.{question_of};
 ghost use Rattle.sk_ask.specs.Diffs.{AnswersDiff, AnswersSides, IsDiff, relation_asked, undecided_text};
 
 use crate::answer::Answer;
+use crate::on::{architecture_of, filters_on};
 use crate::words::Asked;
+use sk_architectures::Architecture;
 use sk_ask_filters::{Filters, Shelf, Trouble, filters_in};
 use sk_diff::{Comparison, Relation, Standing};
 use sk_profile_json::Context;
@@ -24,11 +27,22 @@ pub fn diff<S: Shelf>(
     ensures counted { CountsReads result reads.old reads.new }
 {
     let (old, new) = sides(&asked.names);
-    diff_of(alloc, asked.stricter, shelf, context, reads, old, new)
+    let architecture = architecture_of(asked.arch);
+    diff_of(
+        alloc,
+        architecture,
+        asked.stricter,
+        shelf,
+        context,
+        reads,
+        old,
+        new,
+    )
 }
 
 fn diff_of<S: Shelf>(
     alloc: Global,
+    architecture: Architecture,
     stricter: bool,
     shelf: &S,
     context: &Context<'_>,
@@ -36,12 +50,12 @@ fn diff_of<S: Shelf>(
     old: &[String],
     new: &[String],
 ) -> Result<Answer, Trouble>
-    ensures told { AnswersSides (S.held shelf.now) context.now stricter (map string_bytes old.now) (map string_bytes new.now) (ending_of result) }
+    ensures told { AnswersSides (S.held shelf.now) context.now architecture stricter (map string_bytes old.now) (map string_bytes new.now) (ending_of result) }
     ensures counted { CountsReads result reads.old reads.new }
 {
     let old = filters_in(alloc, shelf, context, reads, old)?;
     let new = filters_in(alloc, shelf, context, reads, new)?;
-    compared(alloc, stricter, old, new)
+    compared(alloc, architecture, stricter, old, new)
 }
 
 // The first name, and those behind it.
@@ -52,17 +66,27 @@ fn sides(names: &[String]) -> (&[String], &[String])
     names.split_at(names.len().min(1))
 }
 
-fn compared(alloc: Global, stricter: bool, old: Filters, new: Filters) -> Result<Answer, Trouble>
-    ensures told { IsDiff stricter old.chain new.chain (old.notes.items ++ new.notes.items) (ending_of result) }
+fn compared(
+    alloc: Global,
+    architecture: Architecture,
+    stricter: bool,
+    old: Filters,
+    new: Filters,
+) -> Result<Answer, Trouble>
+    requires old { IsWithinLimit old.chain }
+    requires new { IsWithinLimit new.chain }
+    ensures told { IsDiff architecture stricter old.chain new.chain (old.notes.items ++ new.notes.items) (ending_of result) }
 {
+    let (old, mut notes) = filters_on(alloc, architecture, old)?;
+    let (new, more) = filters_on(alloc, architecture, new)?;
     let Comparison { standing, text } = sk_diff::diff(
         alloc,
+        architecture,
         relation_asked(stricter),
-        &old.chain,
-        &new.chain,
+        &old,
+        &new,
     )?;
-    let mut notes = old.notes;
-    notes.extend_from_slice(&new.notes)?;
+    notes.extend_from_slice(&more)?;
     match standing {
         Standing::Everywhere => Ok(Answer {
             text: text.into_bytes(),

@@ -15,6 +15,8 @@ pub const HELP: &str = "usage: ask WORD ..
   ask show FILE                                 one filter for people, as a text that skern asm takes
   ask arches FILE..                             what the filters answer to calls of each architecture
   ask WORD --help                               more on a word
+All but filter and arches are about the calls of x86-64, or, with --arch ARCH, about those of another architecture: x32, i386,
+aarch64, arm, riscv64, ppc64le, s390x or loongarch64. Names and numbers are those that calls have there.
 FILE holds raw struct sock_filter, hexadecimal digits, lines filter HEX, or a seccomp profile of docker's or podman's kind in
 JSON, which stands for its filter; - is standard input. Several FILEs are one chain, the oldest filter first.
 Where a FILE is a profile, each WORD takes
@@ -25,10 +27,12 @@ Status: 0 yes or answered, 1 answered with no, 2 trouble, which standard error t
 ";
 
 /// What `ask calls --help` says.
-pub const CALLS_HELP: &str = "usage: ask calls [--call CALL] [--examples] FILE..
-For each call of x86-64, by its number and its name, the verdicts that the filters in the FILEs can come to.
+pub const CALLS_HELP: &str = "usage: ask calls [--call CALL] [--examples] [--arch ARCH] FILE..
+For each call of x86-64, or of ARCH, by its number and its name, the verdicts that the filters in the FILEs can come to.
   --call CALL   only this call: a name or a number, decimal or 0x and hexadecimal
   --examples    below each line a call for each verdict, or ? where none was found
+  --arch ARCH   the calls of this architecture: ask --help has their names
+The last line begins with warning where all calls are told and no filter looks at the architecture.
 A FILE may be a profile, and then --cap, --kernel and --runc say where it is to hold: ask --help has them.
 ";
 
@@ -40,51 +44,57 @@ A FILE may be a profile, and then --cap, --kernel and --runc say where it is to 
 ";
 
 /// What `ask when --help` says.
-pub const WHEN_HELP: &str = "usage: ask when [--call CALL [--dot]] FILE..
-For each call of x86-64, by its number and its name, the verdicts of the filters in the FILEs, and where arguments decide the
-condition on each as an expression of C over args[0] to args[5], ip, and nr where a line has several numbers.
+pub const WHEN_HELP: &str = "usage: ask when [--call CALL [--dot]] [--arch ARCH] FILE..
+For each call of x86-64, or of ARCH, by its number and its name, the verdicts of the filters in the FILEs, and where arguments
+decide the condition on each as an expression of C over args[0] to args[5], ip, and nr where a line has several numbers.
   --call CALL   only this call: a name or a number, decimal or 0x and hexadecimal
   --dot         a picture of the call's conditions and verdicts, as text for Graphviz
+  --arch ARCH   the calls of this architecture: ask --help has their names; s390x is not followed
 A FILE may be a profile, and then --cap, --kernel and --runc say where it is to hold: ask --help has them.
 ";
 
 /// What `ask diff --help` says.
-pub const DIFF_HELP: &str = "usage: ask diff [--stricter] OLD NEW
-Whether the filters of two FILEs answer the same to every call of x86-64, whatever its arguments are; and where not, the numbers
-with the old and the new verdict, and below them a call that shows it, those first where NEW is looser.
+pub const DIFF_HELP: &str = "usage: ask diff [--stricter] [--arch ARCH] OLD NEW
+Whether the filters of two FILEs answer the same to every call of x86-64, or of ARCH, whatever its arguments are; and where not,
+the numbers with the old and the new verdict, and below them a call that shows it, those first where NEW is looser.
   --stricter    whether NEW is at least as strict: no action of OLD takes precedence over that of NEW
+  --arch ARCH   the calls of this architecture: ask --help has their names; s390x is not followed
 A FILE may be a profile, and then --cap, --kernel and --runc say where it is to hold: ask --help has them.
 ";
 
 /// What `ask replay --help` says.
-pub const REPLAY_HELP: &str = "usage: ask replay LOG FILE..
+pub const REPLAY_HELP: &str = "usage: ask replay [--arch ARCH] LOG FILE..
 The calls in LOG, which strace -f -X raw -e raw=all -o LOG COMMAND wrote: each once, with how often it was made and the verdict
 of the filters in the FILEs, those first that are not performed; then how many lines are no calls, or are not understood.
+  --arch ARCH   the program was one of this architecture: ask --help has their names; s390x is not followed
 Status 1 where a call is not performed, or a line not understood. LOG has at most 268435456 bytes; - is standard input.
 A FILE may be a profile, and then --cap, --kernel and --runc say where it is to hold: ask --help has them.
 ";
 
 /// What `ask why --help` says.
-pub const WHY_HELP: &str = "usage: ask why 'CALL(ARG, ..)' FILE..
-The instructions of each filter that one call of x86-64 comes to, the newest filter first: the place, the instruction, what A and
-X hold behind it, what a jump compared and where it went; then the verdict, and the filter and the place that it comes from.
+pub const WHY_HELP: &str = "usage: ask why [--arch ARCH] 'CALL(ARG, ..)' FILE..
+The instructions of each filter that one call of x86-64, or of ARCH, comes to, the newest filter first: the place, the
+instruction, what A and X hold behind it, what a jump compared and where it went; then the verdict, and the filter and the place
+that it comes from.
 CALL is a name or a number, decimal or 0x and hexadecimal; an ARG, of at most six, a number of 64 bits, or - and one of at most 2^63.
 Arguments that are not given are 0, and so is the instruction pointer.
+  --arch ARCH   a call of this architecture: ask --help has their names; s390x is not followed
 A FILE may be a profile, and then --cap, --kernel and --runc say where it is to hold: ask --help has them.
 ";
 
 /// What `ask show --help` says.
-pub const SHOW_HELP: &str = "usage: ask show FILE
+pub const SHOW_HELP: &str = "usage: ask show [--arch ARCH] FILE
 The instructions of one filter, with labels where jumps go, and above each as a comment its place and what it is about: the field
 that it loads, the call or the architecture that it compares with, the verdict that it returns. skern asm takes the text, and
 gives the same instructions.
+  --arch ARCH   numbers have the names of this architecture: ask --help has their names
 A FILE may be a profile, and then --cap, --kernel and --runc say where it is to hold: ask --help has them.
 ";
 
 /// What `ask arches --help` says.
 pub const ARCHES_HELP: &str = "usage: ask arches FILE..
-For each architecture the verdict of the filters in the FILEs on all its calls, or that they are judged call by call. The calls of
-x86-64 are those with numbers below 0x40000000, and those of x32 have the numbers behind, to 0x7fffffff.
+For each architecture, and for any other, the verdict of the filters in the FILEs on all its calls, or that they are judged call
+by call. The calls of x86-64 are those with numbers below 0x40000000, and those of x32 have the numbers behind, to 0x7fffffff.
 Status 1 and a line that begins with warning where calls of i386 or x32, which a Linux of x86-64 takes too, are judged by the
 numbers of x86-64.
 A FILE may be a profile, and then --cap, --kernel and --runc say where it is to hold: ask --help has them.

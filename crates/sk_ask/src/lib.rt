@@ -11,6 +11,8 @@ mod diff;
 mod filter;
 mod filters;
 mod help;
+pub mod laws;
+mod on;
 mod output;
 mod replay;
 mod show;

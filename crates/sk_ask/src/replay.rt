@@ -6,7 +6,9 @@ ghost use Rattle.sk_ask.specs.Asking.{question_of, wanted};
 ghost use Rattle.sk_ask.specs.Replays.{AnswersReplay, AnswersLog, replayed};
 
 use crate::answer::Answer;
+use crate::on::architecture_of;
 use crate::words::{Asked, Word};
+use sk_architectures::Architecture;
 use sk_ask_filters::{Filters, MOST_LOG_BYTES, Shelf, Trouble, about, content, filters_in};
 use sk_profile_json::Context;
 use std::alloc::Global;
@@ -27,29 +29,37 @@ pub fn replay<S: Shelf>(
     ensures counted { CountsReads result reads.old reads.new }
 {
     let (log, files) = asked.first_name();
-    log_answer(alloc, shelf, context, reads, log, files)
+    let architecture = architecture_of(asked.arch);
+    log_answer(alloc, architecture, shelf, context, reads, log, files)
 }
 
 fn log_answer<S: Shelf>(
     alloc: Global,
+    architecture: Architecture,
     shelf: &S,
     context: &Context<'_>,
     reads: &mut u64,
     name: &str,
     files: &[String],
 ) -> Result<Answer, Trouble>
-    ensures told { AnswersLog (S.held shelf.now) context.now name.now (map string_bytes files.now) (ending_of result) }
+    ensures told { AnswersLog (S.held shelf.now) context.now architecture name.now (map string_bytes files.now) (ending_of result) }
     ensures counted { CountsReads result reads.old reads.new }
 {
     let log = content(alloc, shelf, reads, name, MOST_LOG_BYTES)?;
     let filters = filters_in(alloc, shelf, context, reads, files)?;
-    replayed(alloc, name, &log, filters)
+    replayed(alloc, architecture, name, &log, filters)
 }
 
-fn replayed(alloc: Global, name: &str, log: &[u8], filters: Filters) -> Result<Answer, Trouble>
-    ensures told { ComesTo (replayed name.now log.now filters.chain filters.notes.items) (ending_of result) }
+fn replayed(
+    alloc: Global,
+    architecture: Architecture,
+    name: &str,
+    log: &[u8],
+    filters: Filters,
+) -> Result<Answer, Trouble>
+    ensures told { ComesTo (replayed architecture name.now log.now filters.chain filters.notes.items) (ending_of result) }
 {
-    let replay = sk_replay::replay(alloc, log, &filters.chain)?;
+    let replay = sk_replay::replay(alloc, architecture, log, &filters.chain)?;
     if replay.calls == 0 {
         return Err(Trouble::Refused(about(alloc, name, NO_CALL)?));
     }

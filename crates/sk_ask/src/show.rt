@@ -6,7 +6,9 @@ ghost use Rattle.sk_ask.specs.Shows.{AnswersShow, Shows};
 
 use crate::answer::Answer;
 use crate::filters::asked_filters;
+use crate::on::architecture_of;
 use crate::words::Asked;
+use sk_architectures::Architecture;
 use sk_ask_filters::{Filters, Shelf, Trouble, of_word};
 use sk_profile_json::Context;
 use std::alloc::Global;
@@ -23,16 +25,16 @@ pub fn show<S: Shelf>(
     ensures counted { CountsReads result reads.old reads.new }
 {
     let filters = asked_filters(alloc, asked, shelf, context, reads)?;
-    shown(alloc, filters)
+    shown(alloc, architecture_of(asked.arch), filters)
 }
 
-fn shown(alloc: Global, filters: Filters) -> Result<Answer, Trouble>
-    ensures told { Shows filters.chain filters.notes.items (ending_of result) }
+fn shown(alloc: Global, architecture: Architecture, filters: Filters) -> Result<Answer, Trouble>
+    ensures told { Shows architecture filters.chain filters.notes.items (ending_of result) }
 {
     let mut programs = filters.chain.programs();
     match (programs.next(), programs.next()) {
         (Some(program), None) => Ok(Answer {
-            text: sk_show::show(alloc, program)?.into_bytes(),
+            text: sk_show::show(alloc, architecture, program)?.into_bytes(),
             notes: filters.notes,
             denies: false,
         }),

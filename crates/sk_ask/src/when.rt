@@ -1,5 +1,6 @@
 //! `ask when`: under which conditions on a call each verdict comes, and with `--dot` the picture of a call's tree.
 ghost use Rattle.std.specs.Prelude.{◌≡◌, true, IfOk, IsSome, string_bytes};
+ghost use Rattle.sk_chain.specs.Chains.{IsWithinLimit};
 ghost use Rattle.sk_ask_filters.specs.Counts.{CountsReads};
 ghost use Rattle.sk_ask.specs.Endings.{ending_of};
 ghost use Rattle.sk_ask.specs.Asking.{question_of};
@@ -8,7 +9,9 @@ ghost use Rattle.sk_ask.specs.Whens.{AnswersWhen, IsWhenText, TellsWhenOf};
 use crate::answer::Answer;
 use crate::calls::asked_call;
 use crate::filters::asked_filters;
+use crate::on::{architecture_of, filters_on};
 use crate::words::Asked;
+use sk_architectures::Architecture;
 use sk_ask_filters::{Filters, Shelf, Trouble};
 use sk_chain::Chain;
 use sk_profile_json::Context;
@@ -26,28 +29,43 @@ pub fn when<S: Shelf>(
     ensures told { AnswersWhen (S.held shelf.now) context.now (question_of asked.now) (ending_of result) }
     ensures counted { CountsReads result reads.old reads.new }
 {
-    let call = asked_call(alloc, asked.call)?;
+    let architecture = architecture_of(asked.arch);
+    let call = asked_call(alloc, architecture, asked.call)?;
     let filters = asked_filters(alloc, asked, shelf, context, reads)?;
-    Ok(told(alloc, asked.dot, call, filters)?)
+    Ok(told(alloc, architecture, asked.dot, call, filters)?)
 }
 
-fn told(alloc: Global, dot: bool, call: Option<u32>, filters: Filters) -> Result<Answer, AllocError>
+fn told(
+    alloc: Global,
+    architecture: Architecture,
+    dot: bool,
+    call: Option<u32>,
+    filters: Filters,
+) -> Result<Answer, AllocError>
+    requires limited { IsWithinLimit filters.chain }
     requires called { dot ≡ true → IsSome call }
-    ensures told { IfOk result (λ answer. TellsWhenOf dot call filters.chain filters.notes.items (ending_of (Ok answer))) }
+    ensures told { IfOk result (λ answer. TellsWhenOf architecture dot call filters.chain filters.notes.items (ending_of (Ok answer))) }
 {
+    let (chain, notes) = filters_on(alloc, architecture, filters)?;
     Ok(Answer {
-        text: text_of(alloc, dot, call, &filters.chain)?.into_bytes(),
-        notes: filters.notes,
+        text: text_of(alloc, architecture, dot, call, &chain)?.into_bytes(),
+        notes,
         denies: false,
     })
 }
 
-fn text_of(alloc: Global, dot: bool, call: Option<u32>, chain: &Chain) -> Result<String, AllocError>
+fn text_of(
+    alloc: Global,
+    architecture: Architecture,
+    dot: bool,
+    call: Option<u32>,
+    chain: &Chain,
+) -> Result<String, AllocError>
     requires called { dot ≡ true → IsSome call }
-    ensures text { IfOk result (λ text. IsWhenText dot call chain.now (string_bytes text)) }
+    ensures text { IfOk result (λ text. IsWhenText architecture dot call chain.now (string_bytes text)) }
 {
     match call {
         Some(nr) if dot => sk_when::dot(alloc, chain, nr),
-        _ => sk_when::when(alloc, chain, call),
+        _ => sk_when::when(alloc, architecture, chain, call),
     }
 }

@@ -7,7 +7,9 @@ ghost use Rattle.sk_ask.specs.Asking.{question_of, wanted};
 ghost use Rattle.sk_ask.specs.Whys.{AnswersCall, AnswersWhy, IsFaultOf, TellsWhyOf, fault_line};
 
 use crate::answer::Answer;
+use crate::on::architecture_of;
 use crate::words::{Asked, Word};
+use sk_architectures::Architecture;
 use sk_ask_filters::{Filters, Shelf, Trouble, filters_in, of_word};
 use sk_call_text::{CallFault, call_in, name_part};
 use sk_insn::Record;
@@ -27,31 +29,33 @@ pub fn why<S: Shelf>(
     ensures counted { CountsReads result reads.old reads.new }
 {
     let (word, files) = asked.first_name();
-    call_answer(alloc, shelf, context, reads, word, files)
+    let architecture = architecture_of(asked.arch);
+    call_answer(alloc, architecture, shelf, context, reads, word, files)
 }
 
 fn call_answer<S: Shelf>(
     alloc: Global,
+    architecture: Architecture,
     shelf: &S,
     context: &Context<'_>,
     reads: &mut u64,
     word: &str,
     files: &[String],
 ) -> Result<Answer, Trouble>
-    ensures told { AnswersCall (S.held shelf.now) context.now word.now (map string_bytes files.now) (ending_of result) }
+    ensures told { AnswersCall (S.held shelf.now) context.now architecture word.now (map string_bytes files.now) (ending_of result) }
     ensures counted { CountsReads result reads.old reads.new }
 {
-    let call = meant(alloc, word)?;
+    let call = meant(alloc, architecture, word)?;
     let filters = filters_in(alloc, shelf, context, reads, files)?;
-    Ok(path(alloc, filters, &call)?)
+    Ok(path(alloc, architecture, filters, &call)?)
 }
 
 // The call that a word stands for.
-fn meant(alloc: Global, word: &str) -> Result<Record, Trouble>
-    ensures call { IfOk result (λ call. call_of word.now ≡ Ok call) }
-    ensures fault { IfErr result (IsFaultOf word.now) }
+fn meant(alloc: Global, architecture: Architecture, word: &str) -> Result<Record, Trouble>
+    ensures call { IfOk result (λ call. call_of architecture word.now ≡ Ok call) }
+    ensures fault { IfErr result (IsFaultOf architecture word.now) }
 {
-    match call_in(word.as_bytes()) {
+    match call_in(architecture, word.as_bytes()) {
         Ok(call) => Ok(call),
         Err(fault) => Err(Trouble::Refused(fault_line(alloc, word, fault)?)),
     }
@@ -69,11 +73,16 @@ fn fault_line(alloc: Global, word: &str, fault: CallFault) -> Result<Vec<u8>, Al
     }
 }
 
-fn path(alloc: Global, filters: Filters, call: &Record) -> Result<Answer, AllocError>
-    ensures told { IfOk result (λ answer. TellsWhyOf call.now filters.chain filters.notes.items (ending_of (Ok answer))) }
+fn path(
+    alloc: Global,
+    architecture: Architecture,
+    filters: Filters,
+    call: &Record,
+) -> Result<Answer, AllocError>
+    ensures told { IfOk result (λ answer. TellsWhyOf architecture call.now filters.chain filters.notes.items (ending_of (Ok answer))) }
 {
     Ok(Answer {
-        text: sk_why::why(alloc, &filters.chain, call)?.into_bytes(),
+        text: sk_why::why(alloc, architecture, &filters.chain, call)?.into_bytes(),
         notes: filters.notes,
         denies: false,
     })

@@ -1,10 +1,12 @@
 //! The words behind `ask WORD`.
 ghost use Rattle.std.specs.Prelude.{◌≡◌, ◌≤◌, ◌∷◌, IfOk, length, string_bytes, map, slice_get};
 ghost use Rattle.std.specs.Option.{option_map};
+ghost use Rattle.sk_architectures.specs.Architectures.{architecture_named};
 ghost use Rattle.sk_profile_json.specs.Contexts.{kernel_of};
 ghost use Rattle.sk_profile_file.specs.Capabilities.{capability};
-ghost use Rattle.sk_ask.specs.Asking.{asked_of, nothing_asked, with_word, with_free, with_option, with_valued, with_value, with_caps, with_kernel, with_flag, with_own_flag, with_name, valued_name, valued_named, value_kind, tells_calls, is_given, expected_line, ended, complete, named, none_missing, two_named, missing, wanted, is_option, question_of, word_named, word_name, Asks, HasCall, HasNames};
+ghost use Rattle.sk_ask.specs.Asking.{asked_of, nothing_asked, with_word, with_free, with_option, with_valued, with_value, with_caps, with_kernel, with_architecture, with_flag, with_own_flag, with_name, valued_name, valued_named, value_kind, tells_calls, tells_of_one, tells_arguments, is_turned, is_given, expected_line, ended, complete, understood, named, none_missing, two_named, missing, wanted, is_option, question_of, word_named, word_name, Asks, HasCall, HasNames};
 
+use sk_architectures::Architecture;
 use sk_ask_filters::{Trouble, of_word};
 use sk_profile_file::capability;
 use sk_profile_json::{Kernel, kernel_of};
@@ -84,6 +86,8 @@ pub enum Valued {
     Cap,
     /// The version of the kernel there.
     Kernel,
+    /// The architecture whose calls are asked of.
+    Arch,
 }
 
 impl Valued {
@@ -94,6 +98,7 @@ impl Valued {
             Valued::Call => "--call",
             Valued::Cap => "--cap",
             Valued::Kernel => "--kernel",
+            Valued::Arch => "--arch",
         }
     }
 
@@ -103,7 +108,7 @@ impl Valued {
     {
         match self {
             Valued::Call => "a name or a number",
-            Valued::Cap => "a name",
+            Valued::Cap | Valued::Arch => "a name",
             Valued::Kernel => "a version as 6.1",
         }
     }
@@ -118,6 +123,8 @@ impl Valued {
             Some(Valued::Cap)
         } else if is_word(name, b"--kernel") {
             Some(Valued::Kernel)
+        } else if tells_of_one(word) && is_word(name, b"--arch") {
+            Some(Valued::Arch)
         } else {
             None
         }
@@ -130,6 +137,13 @@ fn tells_calls(word: Word) -> bool
     matches!(word, Word::Calls | Word::When)
 }
 
+// Whether what it tells is of one architecture.
+fn tells_of_one(word: Word) -> bool
+    ensures tells { result ≡ tells_of_one word }
+{
+    !matches!(word, Word::Filter | Word::Arches)
+}
+
 /// What the words behind it ask.
 #[derive(Drop)]
 pub struct Asked<'a> {
@@ -139,6 +153,8 @@ pub struct Asked<'a> {
     pub caps: Vec<&'static str>,
     /// The version behind `--kernel`.
     pub kernel: Option<Kernel>,
+    /// The architecture behind `--arch`.
+    pub arch: Option<Architecture>,
     /// The last word was this option.
     pub awaits: Option<Valued>,
     /// runc attaches the filter.
@@ -172,6 +188,7 @@ pub fn asked_in<'a>(alloc: Global, word: Word, words: &'a [String]) -> Result<As
         call: None,
         caps: Vec::new(alloc),
         kernel: None,
+        arch: None,
         awaits: None,
         runc: false,
         examples: false,
@@ -221,6 +238,7 @@ fn with_value<'a>(
         }),
         Valued::Cap => with_caps(alloc, word, asked, text.as_bytes()),
         Valued::Kernel => with_kernel(alloc, word, asked, kernel_of(text.as_bytes())),
+        Valued::Arch => with_architecture(alloc, word, asked, text.as_bytes()),
     }
 }
 
@@ -257,6 +275,26 @@ fn with_kernel<'a>(
     }
     Ok(Asked {
         kernel,
+        awaits: None,
+        ..asked
+    })
+}
+
+fn with_architecture<'a>(
+    alloc: Global,
+    word: Word,
+    asked: Asked<'a>,
+    text: &[u8],
+) -> Result<Asked<'a>, Trouble>
+    ensures exact { Asks result (with_architecture word (question_of asked.entry) text.now (architecture_named text.now)) }
+{
+    let arch = Architecture::named(text);
+    if arch.is_none() {
+        let what = format!(in alloc; "{}: no architecture is named ", word.name())?;
+        return Err(Trouble::Refused(of_word(alloc, &what, text)?));
+    }
+    Ok(Asked {
+        arch,
         awaits: None,
         ..asked
     })
@@ -310,6 +348,7 @@ fn is_given(option: Valued, asked: &Asked<'_>) -> bool
         Valued::Call => asked.call.is_some(),
         Valued::Cap => false,
         Valued::Kernel => asked.kernel.is_some(),
+        Valued::Arch => asked.arch.is_some(),
     }
 }
 
@@ -411,7 +450,46 @@ fn complete<'a>(alloc: Global, word: Word, asked: Asked<'a>) -> Result<Asked<'a>
         let what = format!(in alloc; "{}: expected --call CALL beside ", word.name())?;
         return Err(Trouble::Refused(of_word(alloc, &what, b"--dot")?));
     }
+    understood(alloc, word, asked)
+}
+
+// Whether what is told of arguments can be told of the architecture.
+fn understood<'a>(alloc: Global, word: Word, asked: Asked<'a>) -> Result<Asked<'a>, Trouble>
+    requires named { HasNames word asked }
+    requires called { HasCall asked }
+    ensures exact { Asks result (understood word (question_of asked.entry)) }
+    ensures named { IfOk result (HasNames word) }
+    ensures called { IfOk result HasCall }
+{
+    if is_turned(asked.arch) && tells_arguments(word, asked.examples) {
+        let what = format!(in alloc;
+            "{}: arguments with their highest byte first are not followed: ",
+            word.name()
+        )?;
+        return Err(Trouble::Refused(of_word(alloc, &what, b"--arch s390x")?));
+    }
     Ok(asked)
+}
+
+// Whether its numbers have their highest byte first, where one is named.
+fn is_turned(arch: Option<Architecture>) -> bool
+    ensures turned { result ≡ is_turned arch }
+{
+    match arch {
+        Some(arch) => arch.is_big_endian(),
+        None => false,
+    }
+}
+
+// Whether arguments of calls are told of.
+fn tells_arguments(word: Word, examples: bool) -> bool
+    ensures tells { result ≡ tells_arguments word examples }
+{
+    match word {
+        Word::Calls => examples,
+        Word::Show => false,
+        _ => true,
+    }
 }
 
 // Whether there are as many names as the word wants.

@@ -60,7 +60,55 @@ const ANSWERS: &[(&[&str], &[u8])] = &[
     (&["show", "all"], b"; 0 allow\n    ret 0x7fff0000\n"),
     (
         &["arches", "all"],
-        b"x86-64 allow\nx32 allow\ni386 allow\naarch64 allow\narm allow\nriscv64 allow\nppc64le allow\ns390x allow\nloongarch64 allow\n",
+        b"x86-64 allow\nx32 allow\ni386 allow\naarch64 allow\narm allow\nriscv64 allow\nppc64le allow\ns390x allow\nloongarch64 allow\nany other allow\n",
+    ),
+    (
+        &["calls", "--arch", "i386", "--call", "getpid", "getpid"],
+        b"20 getpid allow\n",
+    ),
+    (
+        &["calls", "--arch", "i386", "--call", "39", "getpid"],
+        b"39 mkdir errno/1 EPERM\n",
+    ),
+    (
+        &["calls", "--arch", "s390x", "--call", "read", "all"],
+        b"3 read allow\n",
+    ),
+    (
+        &[
+            "calls",
+            "--examples",
+            "--arch",
+            "aarch64",
+            "--call",
+            "read",
+            "all",
+        ],
+        b"63 read allow\n  allow filter 0 at 0 record 3f000000b70000c00000000000000000000000000000000000000000000000000000000000000000000000000000000000000000000000000000000000000000\n",
+    ),
+    (
+        &["when", "flag", "--arch", "i386", "--call", "read"],
+        b"3 read\n  allow where (args[0] & 0x1) == 0\n  errno/38 ENOSYS else\n",
+    ),
+    (
+        &["replay", "--arch", "i386", "log", "getpid"],
+        b"2 read(0x3, 0x7ffd, 0x40) allow\n1 getpid() allow\n1 line is no call\n",
+    ),
+    (
+        &["why", "--arch", "i386", "mkdir", "getpid"],
+        b"filter 0\n   0 ldabs 0                  A=39 X=0\n   1 jeq 39 +0 +1             A=39 X=0  39 == 39 mkdir: to 2\n   2 ret 0x00050001           A=39 X=0\n  errno/1 EPERM\nerrno/1 EPERM by filter 0 at 2\n",
+    ),
+    (
+        &["show", "getpid", "--arch", "i386"],
+        b"; 0 nr\n    ldabs 0\n; 1 mkdir\n    jeq 39 +0 at3\n; 2 errno/1 EPERM\n    ret 0x00050001\nat3:\n; 3 allow\n    ret 0x7fff0000\n",
+    ),
+    (
+        &["arches", "guarded"],
+        b"x86-64 judged call by call\nx32 allow\ni386 kill_process\naarch64 kill_process\narm kill_process\nriscv64 kill_process\nppc64le kill_process\ns390x kill_process\nloongarch64 kill_process\nany other kill_process\n",
+    ),
+    (
+        &["arches", "each"],
+        b"x86-64 allow\nx32 allow\ni386 allow\naarch64 allow\narm allow\nriscv64 allow\nppc64le allow\ns390x allow\nloongarch64 allow\nany other not followed: each word of a call is loaded\n",
     ),
     (
         &["calls", "--call", "getpid", "profile"],
@@ -136,7 +184,7 @@ const ANSWERS: &[(&[&str], &[u8])] = &[
 const DENIALS: &[(&[&str], &[u8])] = &[
     (
         &["arches", "getpid"],
-        b"x86-64 judged call by call\nx32 allow\ni386 judged call by call\naarch64 judged call by call\narm judged call by call\nriscv64 judged call by call\nppc64le judged call by call\ns390x judged call by call\nloongarch64 judged call by call\nwarning: i386 calls are judged by x86-64's numbers: 26 is ptrace there\n",
+        b"x86-64 judged call by call\nx32 allow\ni386 judged call by call\naarch64 judged call by call\narm judged call by call\nriscv64 judged call by call\nppc64le judged call by call\ns390x judged call by call\nloongarch64 judged call by call\nany other judged call by call\nwarning: i386 calls are judged by x86-64's numbers: 26 is ptrace there\n",
     ),
     (
         &["replay", "log", "all", "getpid"],
@@ -149,6 +197,10 @@ const DENIALS: &[(&[&str], &[u8])] = &[
     (
         &["diff", "all", "getpid"],
         b"39 getpid: allow -> errno/1 EPERM\n  record 270000003e0000c00000000000000000000000000000000000000000000000000000000000000000000000000000000000000000000000000000000000000000\n  syscall(SYS_getpid, 0x0, 0x0, 0x0, 0x0, 0x0, 0x0)\n",
+    ),
+    (
+        &["diff", "--arch", "i386", "all", "getpid"],
+        b"39 mkdir: allow -> errno/1 EPERM\n  record 27000000030000400000000000000000000000000000000000000000000000000000000000000000000000000000000000000000000000000000000000000000\n  syscall(SYS_mkdir, 0x0, 0x0, 0x0, 0x0, 0x0, 0x0)\n",
     ),
     (
         &["diff", "--stricter", "getpid", "two"],
@@ -226,15 +278,19 @@ fn answers_go_to_standard_output(rt: HostRuntime) -> Result<(), Fail> {
     Ok(())
 }
 
-/// All lines of a filter that allows everything: one for each call with a name, and one for the numbers between and behind
-/// them.
+/// All lines of a filter that allows everything: one for each call with a name, one for the numbers between and behind them,
+/// and one that says that it does not look at the architecture.
 #[test]
 fn all_calls(rt: HostRuntime) -> Result<(), Fail> {
     let ran = run(rt.alloc(), &["calls", "all"], 0)?;
     let lines = ran.out.iter().filter(|byte| **byte == b'\n').count();
-    assert_eq!(rt; (ran.status, lines), (0, 377));
+    assert_eq!(rt; (ran.status, lines), (0, 378));
     assert!(rt; ran.out.starts_with(b"0 read allow\n1 write allow\n"));
-    assert!(rt; ran.out.ends_with(b"\n463-4294967295 - allow\n"));
+    assert!(rt;
+        ran.out.ends_with(
+            b"\n463-4294967295 - allow\nwarning: no filter looks at the architecture: calls of each are judged by their numbers alone\n",
+        )
+    );
     Ok(())
 }
 

@@ -79,3 +79,28 @@ fn architectures(rt: HostRuntime) {
         (None, true, false)
     );
 }
+
+/// x32 has bit 30 in each number, and arm calls of its own far behind the others.
+#[test]
+fn all_named_calls_elsewhere(rt: HostRuntime) -> Result<(), Fail> {
+    let x32 = sk_architectures::numbers(rt.alloc(), Architecture::X32)?;
+    let arm = sk_architectures::numbers(rt.alloc(), Architecture::Arm)?;
+    let i386 = sk_architectures::numbers(rt.alloc(), Architecture::I386)?;
+    assert_eq!(rt;
+        (
+            x32.first(),
+            x32.last(),
+            arm.last(),
+            i386.first(),
+            i386.last()
+        ),
+        (
+            Some(&0x4000_0000),
+            Some(&0x4000_0223),
+            Some(&0x000f_0006),
+            Some(&0),
+            Some(&462)
+        )
+    );
+    Ok(())
+}

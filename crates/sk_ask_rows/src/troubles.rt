@@ -107,6 +107,38 @@ const TROUBLES: &[(&[&str], &[u8])] = &[
     (&["show"], b"ask: show: no FILE is given\n"),
     (&["arches"], b"ask: arches: no FILE is given\n"),
     (
+        &["calls", "--arch", "vax", "nofile"],
+        b"ask: calls: no architecture is named vax\n",
+    ),
+    (
+        &["show", "nofile", "--arch"],
+        b"ask: show: expected a name behind --arch\n",
+    ),
+    (
+        &["why", "--arch", "arm", "read", "--arch", "arm", "nofile"],
+        b"ask: why: given twice: --arch\n",
+    ),
+    (
+        &["filter", "--arch", "i386", "nofile"],
+        b"ask: filter: no option is named --arch\n",
+    ),
+    (
+        &["arches", "--arch", "i386", "nofile"],
+        b"ask: arches: no option is named --arch\n",
+    ),
+    (
+        &["calls", "--arch", "i386", "--call", "mkdirx", "nofile"],
+        b"ask: no call is named mkdirx\n",
+    ),
+    (
+        &["when", "--arch", "s390x", "nofile"],
+        b"ask: when: arguments with their highest byte first are not followed: --arch s390x\n",
+    ),
+    (
+        &["calls", "--arch", "s390x", "--examples", "nofile"],
+        b"ask: calls: arguments with their highest byte first are not followed: --arch s390x\n",
+    ),
+    (
         &["show", "--raw", "all"],
         b"ask: show: no option is named --raw\n",
     ),

@@ -2,13 +2,14 @@
 use Rattle.std.proofs.Common.{refl}
 use Rattle.std.specs.Fmt.{digits}
 use Rattle.sk_text.specs.Numbers.{number_of}
-use Rattle.sk_call_names.specs.Names.{name_of, number_named}
+use Rattle.sk_call_names.specs.Names.{number_named}
+use Rattle.sk_architectures.specs.Names.{number_at, number_in, number_on, runs_of}
 use Rattle.sk_call_text.specs.Calls.{plain_number}
 use Rattle.sk_call_text.specs.CallWords.{argument_number, argument_of, arguments_of, call_of, given_in, inside_of, named_by}
 use Rattle.sk_call_text.specs.WorkedWords.{WorkedWords}
 
 pub worked_words : WorkedWords
-unfolding digits number_of name_of number_named plain_number argument_number argument_of arguments_of call_of given_in inside_of named_by
+unfolding digits number_of number_named number_at number_in number_on runs_of plain_number argument_number argument_of arguments_of call_of given_in inside_of named_by
 worked_words = record {
   arguments = refl;
   name = refl;
@@ -55,5 +56,12 @@ worked_words = record {
   zeros = refl;
   name_of_zero = refl;
   number_without_a_name = refl;
+  on_i386 = refl;
+  not_on_x86_64 = refl;
+  not_on_aarch64 = refl;
+  on_aarch64 = refl;
+  number_on_arm = refl;
+  on_x32 = refl;
+  number_on_x32 = refl;
   told = refl;
 }

@@ -6,7 +6,8 @@ use Rattle.std.specs.List.{before_first, filter_map, slice_split, starts_with}
 use Rattle.sk_text.specs.Lines.{words_of}
 use Rattle.sk_text.specs.Words.{none_of, one_of}
 use Rattle.sk_insn.specs.declared.record.Record.{Record}
-use Rattle.sk_insn.specs.Record.{native}
+use Rattle.sk_architectures.specs.declared.architecture.Architecture.{Architecture}
+use Rattle.sk_architectures.specs.Architectures.{audit_of}
 use Rattle.sk_call_text.specs.declared.fault.CallFault.{CallFault}
 use Rattle.sk_call_text.specs.declared.fault.CallFault.TheVariants.{NoCall, Unclosed, Argument, TooMany}
 use Rattle.sk_call_text.specs.Calls.{nr_of, plain_number}
@@ -103,14 +104,14 @@ arguments_of given = if nat_lt 6 (length given) then Err TooMany else right_or_f
 -- ---- the whole word
 
 -- the number of the call that is named
-unfoldable pub named_by : List ℕ → Option ℕ
-named_by word = one_of (words_of (name_part word)) >>= λ name. nr_of name
+unfoldable pub named_by : Architecture → List ℕ → Option ℕ
+named_by by word = one_of (words_of (name_part word)) >>= λ name. nr_of by name
 
--- the call, with the instruction pointer 0; or the first of its faults: the name, the parentheses, too many arguments, a
--- wrong one
-unfoldable pub call_of : List ℕ → Result Record CallFault
-call_of word =
-    or_fault NoCall (named_by word)
+-- the call of an architecture, with the instruction pointer 0; or the first of its faults: the name, the parentheses, too
+-- many arguments, a wrong one
+unfoldable pub call_of : Architecture → List ℕ → Result Record CallFault
+call_of by word =
+    or_fault NoCall (named_by by word)
     &> λ nr. or_fault Unclosed (inside_of word)
     &> λ inside. arguments_of (given_in inside)
-    &> λ args. Ok (native nr 0 args)
+    &> λ args. Ok (record { nr = nr; arch = audit_of by; ip = 0; args = args })

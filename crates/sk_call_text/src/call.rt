@@ -7,18 +7,25 @@ use crate::argument::arguments;
 use crate::cuts::cut_at;
 use crate::fault::CallFault;
 use crate::named::call_named;
+use sk_architectures::Architecture;
 use sk_insn::Record;
 use sk_text::{Words, cut, no_word, one_word};
 
-/// The call that a word stands for, as `openat(-100, 0x7f00, 0)`, or the first of its faults. The instruction pointer is 0.
+/// The call of an architecture that a word stands for, as `openat(-100, 0x7f00, 0)`, or the first of its faults. The
+/// instruction pointer is 0. A number is taken as it is written: on x32 `read` has bit 30, and `0` has not.
 #[tactic(auto, unfolding(crate::specs::CallWords::call_of))]
-pub fn call_in(word: &[u8]) -> Result<Record, CallFault>
-    ensures exact { result ≡ call_of word.now }
+pub fn call_in(architecture: Architecture, word: &[u8]) -> Result<Record, CallFault>
+    ensures exact { result ≡ call_of architecture word.now }
 {
-    let nr = named_by(word).ok_or(CallFault::NoCall)?;
+    let nr = named_by(architecture, word).ok_or(CallFault::NoCall)?;
     let inside = inside_of(word).ok_or(CallFault::Unclosed)?;
     let args = arguments(inside)?;
-    Ok(Record::native(nr, 0, args))
+    Ok(Record {
+        nr,
+        arch: architecture.audit(),
+        ip: 0,
+        args,
+    })
 }
 
 /// What a word has before its parentheses.
@@ -30,10 +37,10 @@ pub fn name_part(word: &[u8]) -> &[u8]
 }
 
 #[tactic(auto, unfolding(crate::specs::CallWords::named_by))]
-fn named_by(word: &[u8]) -> Option<u32>
-    ensures number { result ≡ named_by word.now }
+fn named_by(architecture: Architecture, word: &[u8]) -> Option<u32>
+    ensures number { result ≡ named_by architecture word.now }
 {
-    call_named(one_word(Words(name_part(word)))?)
+    call_named(architecture, one_word(Words(name_part(word)))?)
 }
 
 #[tactic(auto, unfolding(crate::specs::CallWords::inside_of))]

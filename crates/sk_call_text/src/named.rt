@@ -3,17 +3,17 @@ ghost use Rattle.std.specs.Prelude.{◌≡◌, ◌≤◌, IfSome, IfNone};
 ghost use Rattle.sk_text.specs.Numbers.{number_of, up_to};
 ghost use Rattle.sk_call_text.specs.Calls.{IsCall, NoCall, begins_with_zero, call_number, nr_of, plain_number};
 
-use sk_call_names::number;
+use sk_architectures::{Architecture, number};
 use sk_text::number_up_to;
 
-/// The number of the call that a word is: a name, or a number in decimal without a 0 before it, or `0x` and hexadecimal
-/// digits.
-pub fn call_named(word: &[u8]) -> Option<u32>
-    ensures exact { result ≡ nr_of word.now }
-    ensures call { IfSome result (IsCall word.now) }
-    ensures none { IfNone result (NoCall word.now) }
+/// The number of the call that a word is on an architecture: a name, or a number in decimal without a 0 before it, or `0x`
+/// and hexadecimal digits. A number is taken as it is written: on x32 `read` has bit 30, and `0` has not.
+pub fn call_named(architecture: Architecture, word: &[u8]) -> Option<u32>
+    ensures exact { result ≡ nr_of architecture word.now }
+    ensures call { IfSome result (IsCall architecture word.now) }
+    ensures none { IfNone result (NoCall architecture word.now) }
 {
-    match number(word) {
+    match number(architecture, word) {
         Some(nr) => Some(nr),
         None => call_number(word),
     }

@@ -89,10 +89,10 @@ first_true false true e = cc
 first_true false false e = cc
 
 pub everywhere_is_every_call : EverywhereIsEveryCall
-everywhere_is_every_call relation old new text it call native below =
+everywhere_is_every_call architecture relation old new text it call native below =
     let none = both_false (list_any is_apart it.pieces) (list_any is_open it.pieces) it.stands in
     covers relation old new it.pieces 0 4294967296 it.compared none.1 call native (omega arith) below
 
 pub apart_is_a_call : ApartIsACall
-apart_is_a_call relation old new text it =
+apart_is_a_call architecture relation old new text it =
     finds relation old new it.pieces 0 4294967296 it.compared (first_true (list_any is_apart it.pieces) (list_any is_open it.pieces) it.stands)

@@ -5,7 +5,9 @@ use Rattle.std.specs.Option.{option_map_or}
 use Rattle.hex.specs.Hex.{encode_lower}
 use Rattle.sk_insn.specs.declared.record.Record.{Record}
 use Rattle.sk_insn.specs.Record.{record_bytes}
-use Rattle.sk_call_names.specs.Names.{name_of}
+use Rattle.sk_architectures.specs.declared.architecture.Architecture.{Architecture}
+use Rattle.sk_architectures.specs.Architectures.{audit_of}
+use Rattle.sk_architectures.specs.Names.{name_on}
 use Rattle.sk_survey_lines.specs.Text.{numbers_text, name_text}
 use Rattle.sk_verdict.specs.Verdicts.{verdict_text}
 use Rattle.sk_conditions.specs.declared.differences.Verdicts.{Verdicts}
@@ -25,9 +27,9 @@ use Rattle.sk_diff.specs.declared.text.Kind.TheVariants.{Looser, Other, Undecide
 abbrev pub hexadecimal : ℕ → List ℕ
 hexadecimal n = codes "0x" ++ digits 16 false n
 
--- the number of a call as sys/syscall.h names it, where it has a name
-abbrev pub call_name_text : ℕ → List ℕ
-call_name_text nr = option_map_or (λ name. codes "SYS_" ++ name) (name_of nr) (decimal nr)
+-- the number of a call as sys/syscall.h of the architecture names it, where it has a name
+abbrev pub call_name_text : Architecture → ℕ → List ℕ
+call_name_text architecture nr = option_map_or (λ name. codes "SYS_" ++ name) (name_on architecture nr) (decimal nr)
 
 unfoldable pub argument_text : ℕ → List ℕ
 argument_text argument = codes ", " ++ hexadecimal argument
@@ -37,8 +39,9 @@ abbrev pub address_text : ℕ → List ℕ
 address_text ip = if ip == 0 then [] else codes " at " ++ hexadecimal ip
 
 -- the call, as syscall(2) makes it
-unfoldable pub call_text : Record → List ℕ
-call_text call = codes "syscall(" ++ (call_name_text call.nr ++ (flat_map argument_text call.args ++ (codes ")" ++ address_text call.ip)))
+unfoldable pub call_text : Architecture → Record → List ℕ
+call_text architecture call =
+    codes "syscall(" ++ (call_name_text architecture call.nr ++ (flat_map argument_text call.args ++ (codes ")" ++ address_text call.ip)))
 
 -- the verdict of the old chain, and that of the new one
 unfoldable pub verdicts_text : Verdicts → List ℕ
@@ -54,23 +57,30 @@ calls_text Every = []
 calls_text (Meeting line) = codes " where " ++ condition_text line
 calls_text This = codes " on this call"
 
--- the call by its record, as `eval` takes it, and as C
-unfoldable pub record_text : Record → List ℕ
-record_text call = codes "  record " ++ (encode_lower (record_bytes call) ++ (codes "\n  " ++ (call_text call ++ codes "\n")))
+-- the same call, of an architecture
+abbrev pub of_architecture : Architecture → Record → Record
+of_architecture architecture call = record call { arch = audit_of architecture }
 
-abbrev pub shown_text : Option Verdicts → Option Record → List ℕ
-shown_text verdicts (Some call) = record_text call
-shown_text (Some it) None = codes "  no call was found\n"
-shown_text None None = []
+-- the same call of the architecture by its record, as `eval` takes those of x86-64, and as C
+unfoldable pub record_text : Architecture → Record → List ℕ
+record_text architecture call =
+    codes "  record " ++ (encode_lower (record_bytes (of_architecture architecture call)) ++ (codes "\n  " ++ (call_text architecture call ++ codes "\n")))
 
--- numbers, with the name of a single one
-unfoldable pub head_text : Numbers → List ℕ
-head_text numbers = numbers_text numbers.first numbers.last ++ (codes " " ++ name_text numbers.first numbers.last)
+abbrev pub shown_text : Architecture → Option Verdicts → Option Record → List ℕ
+shown_text architecture verdicts (Some call) = record_text architecture call
+shown_text architecture (Some it) None = codes "  no call was found\n"
+shown_text architecture None None = []
+
+-- numbers, with the name that a single one has on the architecture
+unfoldable pub head_text : Architecture → Numbers → List ℕ
+head_text architecture numbers =
+    numbers_text numbers.first numbers.last ++ (codes " " ++ name_text architecture numbers.first numbers.last)
 
 -- one difference: the numbers, the verdicts and their condition, and below them a call
-unfoldable pub part_text : Numbers → Part → List ℕ
-part_text numbers part =
-    head_text numbers ++ (codes ": " ++ (outcome_text part.verdicts ++ (calls_text part.calls ++ (codes "\n" ++ shown_text part.verdicts part.shown))))
+unfoldable pub part_text : Architecture → Numbers → Part → List ℕ
+part_text architecture numbers part =
+    head_text architecture numbers
+    ++ (codes ": " ++ (outcome_text part.verdicts ++ (calls_text part.calls ++ (codes "\n" ++ shown_text architecture part.verdicts part.shown))))
 
 -- the new chain does not answer as strictly as the old one, or it does, or it is undecided
 abbrev pub kind_of : Option Verdicts → Kind
@@ -83,16 +93,18 @@ is_kind Other Other = true
 is_kind Undecided Undecided = true
 is_kind one it = false
 
-unfoldable pub kind_text : Kind → Numbers → Part → List ℕ
-kind_text kind numbers part = if is_kind (kind_of part.verdicts) kind then part_text numbers part else []
+unfoldable pub kind_text : Architecture → Kind → Numbers → Part → List ℕ
+kind_text architecture kind numbers part =
+    if is_kind (kind_of part.verdicts) kind then part_text architecture numbers part else []
 
-unfoldable pub piece_text : Kind → Piece → List ℕ
-piece_text kind piece = flat_map (kind_text kind piece.numbers) piece.parts.items
+unfoldable pub piece_text : Architecture → Kind → Piece → List ℕ
+piece_text architecture kind piece = flat_map (kind_text architecture kind piece.numbers) piece.parts.items
 
 -- the differences where the new chain is looser, the others, and what is undecided
-abbrev pub differences_text : List Piece → List ℕ
-differences_text pieces =
-    flat_map (piece_text Looser) pieces ++ (flat_map (piece_text Other) pieces ++ flat_map (piece_text Undecided) pieces)
+abbrev pub differences_text : Architecture → List Piece → List ℕ
+differences_text architecture pieces =
+    flat_map (piece_text architecture Looser) pieces
+    ++ (flat_map (piece_text architecture Other) pieces ++ flat_map (piece_text architecture Undecided) pieces)
 
 -- what is said where they stand so on every call
 abbrev pub everywhere_text : Relation → List ℕ

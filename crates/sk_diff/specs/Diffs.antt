@@ -1,5 +1,7 @@
--- What a comparison of two chains is, and what it says of every call of x86-64.
+-- What a comparison of two chains for an architecture is, and what it says of every call. A call of x86-64 stands there for the
+-- same call of the architecture, by the law `ChainsForArchitectures` of sk_arch_filters.
 use Rattle.std.specs.Prelude.{ℕ, ◌≡◌, ◌^◌, ◌<◌, true, false, List}
+use Rattle.sk_architectures.specs.declared.architecture.Architecture.{Architecture}
 use Rattle.sk_insn.specs.declared.insn.Insn.{Insn}
 use Rattle.sk_insn.specs.declared.record.Record.{Record}
 use Rattle.sk_insn.specs.Record.{IsNative}
@@ -10,28 +12,28 @@ use Rattle.sk_diff.specs.declared.piece.Piece.{Piece}
 use Rattle.sk_diff.specs.DiffText.{differences_text, everywhere_text}
 use Rattle.sk_diff.specs.Pieces.{AreCompared, stands_on, standing_of}
 
-abbrev pub text_of : Relation → Standing → List Piece → List ℕ
-text_of relation Everywhere pieces = everywhere_text relation
-text_of relation Apart pieces = differences_text pieces
-text_of relation Undecided pieces = differences_text pieces
+abbrev pub text_of : Architecture → Relation → Standing → List Piece → List ℕ
+text_of architecture relation Everywhere pieces = everywhere_text relation
+text_of architecture relation Apart pieces = differences_text architecture pieces
+text_of architecture relation Undecided pieces = differences_text architecture pieces
 
 -- pieces of all numbers were compared, and this is what is said of them
-pub record IsComparison (relation : Relation) (old new : List (List Insn)) (standing : Standing) (text : List ℕ) : Type 0 where
+pub record IsComparison (architecture : Architecture) (relation : Relation) (old new : List (List Insn)) (standing : Standing) (text : List ℕ) : Type 0 where
   pub pieces : List Piece
   pub compared : AreCompared relation old new 0 4294967296 pieces
   pub stands : standing ≡ standing_of pieces
-  pub says : text ≡ text_of relation standing pieces
+  pub says : text ≡ text_of architecture relation standing pieces
 
 -- what is said to hold on every call does on every call of x86-64
 abbrev pub EverywhereIsEveryCall : Type 0
 EverywhereIsEveryCall =
-    (relation : Relation) (old new : List (List Insn)) (text : List ℕ)
-    → IsComparison relation old new Everywhere text
+    (architecture : Architecture) (relation : Relation) (old new : List (List Insn)) (text : List ℕ)
+    → IsComparison architecture relation old new Everywhere text
     → (call : Record) → IsNative call → call.nr < 2 ^ 32 → stands_on relation old new call ≡ true
 
 -- what is said not to does not on some call of x86-64
 abbrev pub ApartIsACall : Type 0
 ApartIsACall =
-    (relation : Relation) (old new : List (List Insn)) (text : List ℕ)
-    → IsComparison relation old new Apart text
+    (architecture : Architecture) (relation : Relation) (old new : List (List Insn)) (text : List ℕ)
+    → IsComparison architecture relation old new Apart text
     → (call : Record) × IsNative call × (call.nr < 2 ^ 32) × (stands_on relation old new call ≡ false)

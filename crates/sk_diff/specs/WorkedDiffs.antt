@@ -1,12 +1,13 @@
 -- Worked examples of comparisons: calls as C writes them, and differences with verdicts by seccomp(2).
-use Rattle.std.specs.Prelude.{◌≡◌, [], ◌∷◌, codes, true, false, Some, None}
+use Rattle.std.specs.Prelude.{◌≡◌, ◌++◌, [], ◌∷◌, codes, true, false, Some, None}
 use Rattle.sk_insn.specs.declared.record.Record.{Record}
 use Rattle.sk_insn.specs.Record.{native}
+use Rattle.sk_architectures.specs.declared.architecture.Architecture.TheVariants as architecture
 use Rattle.sk_conditions.specs.declared.differences.Verdicts.{Verdicts}
 use Rattle.sk_diff.specs.declared.piece.Calls.TheVariants.{Every, This}
 use Rattle.sk_diff.specs.declared.piece.Part.{Part}
 use Rattle.sk_diff.specs.declared.text.Kind.TheVariants.{Looser, Other}
-use Rattle.sk_diff.specs.DiffText.{call_text, outcome_text, calls_text, head_text, kind_of, is_kind}
+use Rattle.sk_diff.specs.DiffText.{call_text, record_text, outcome_text, calls_text, head_text, kind_of, is_kind}
 use Rattle.sk_diff.specs.Pieces.{is_shown, has_parts, meets_calls}
 
 abbrev pub clone : Record
@@ -15,10 +16,13 @@ clone = native 56 0 (0x10000011 ∷ 0 ∷ 0 ∷ 0xffffffffffffffff ∷ 0 ∷ 1 �
 abbrev pub unnamed : Record
 unnamed = native 4000 0x401000 (0 ∷ 0 ∷ 0 ∷ 0 ∷ 0 ∷ 0 ∷ [])
 
--- a call with a name, and one without, which stands at an address
+-- a call with a name, and one without, which stands at an address; 56 is openat(2) on aarch64, and its record says aarch64
 pub record CallsWork : Type 0 where
-  pub named : call_text clone ≡ codes "syscall(SYS_clone, 0x10000011, 0x0, 0x0, 0xffffffffffffffff, 0x0, 0x1)"
-  pub numbered : call_text unnamed ≡ codes "syscall(4000, 0x0, 0x0, 0x0, 0x0, 0x0, 0x0) at 0x401000"
+  pub named : call_text architecture.X86_64 clone ≡ codes "syscall(SYS_clone, 0x10000011, 0x0, 0x0, 0xffffffffffffffff, 0x0, 0x1)"
+  pub numbered : call_text architecture.X86_64 unnamed ≡ codes "syscall(4000, 0x0, 0x0, 0x0, 0x0, 0x0, 0x0) at 0x401000"
+  pub elsewhere : record_text architecture.Aarch64 clone ≡
+      codes "  record 38000000b70000c00000000000000000110000100000000000000000000000000000000000000000ffffffffffffffff00000000000000000100000000000000\n"
+      ++ codes "  syscall(SYS_openat, 0x10000011, 0x0, 0x0, 0xffffffffffffffff, 0x0, 0x1)\n"
 
 abbrev pub refused : Verdicts
 refused = record { old = 0x7fff0000; new = 0x00050001 }
@@ -36,8 +40,8 @@ pub record DifferencesWork : Type 0 where
   pub looser : kind_of (Some allowed) ≡ Looser
   pub neither : kind_of (Some (record refused { old = 0x00050026 })) ≡ Other
   pub told_apart : is_kind Looser Other ≡ false
-  pub single : head_text (record { first = 56; last = 56 }) ≡ codes "56 clone"
-  pub several : head_text (record { first = 462; last = 4294967295 }) ≡ codes "462-4294967295 -"
+  pub single : head_text architecture.X86_64 (record { first = 56; last = 56 }) ≡ codes "56 clone"
+  pub several : head_text architecture.X86_64 (record { first = 462; last = 4294967295 }) ≡ codes "462-4294967295 -"
 
 abbrev pub part : Part
 part = record { calls = Every; verdicts = Some refused; shown = None }

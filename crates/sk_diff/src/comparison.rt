@@ -8,6 +8,7 @@ use crate::piece::{Part, Piece};
 use crate::pieces::pieces;
 use crate::showing::any_shown;
 use crate::text::{differences_text, everywhere_text};
+use sk_architectures::Architecture;
 use sk_chain::Chain;
 use sk_conditions::Relation;
 use std::alloc::{AllocError, Global};
@@ -30,28 +31,30 @@ pub struct Comparison {
     pub text: String,
 }
 
-/// Compares a new chain with an old one on every call.
+/// Compares a new chain with an old one on every call. Both are for the architecture, and calls are told as they are there.
 pub fn diff(
     alloc: Global,
+    architecture: Architecture,
     relation: Relation,
     old: &Chain,
     new: &Chain,
 ) -> Result<Comparison, AllocError>
-    ensures compared { IfOk result (λ it. IsComparison relation old.now new.now it.standing (string_bytes it.text)) }
+    ensures compared { IfOk result (λ it. IsComparison architecture relation old.now new.now it.standing (string_bytes it.text)) }
 {
-    let pieces = pieces(alloc, relation, old, new)?;
+    let pieces = pieces(alloc, architecture, relation, old, new)?;
     let standing = standing_of(&pieces);
-    let text = text_of(alloc, relation, standing, &pieces)?;
+    let text = text_of(alloc, architecture, relation, standing, &pieces)?;
     Ok(Comparison { standing, text })
 }
 
 fn text_of(
     alloc: Global,
+    architecture: Architecture,
     relation: Relation,
     standing: Standing,
     pieces: &[Piece],
 ) -> Result<String, AllocError>
-    ensures text { IfOk result (λ text. string_bytes text ≡ text_of relation standing pieces.now) }
+    ensures text { IfOk result (λ text. string_bytes text ≡ text_of architecture relation standing pieces.now) }
 {
     match standing {
         Standing::Everywhere => {
@@ -59,7 +62,7 @@ fn text_of(
             text.push_str(everywhere_text(relation))?;
             Ok(text)
         }
-        Standing::Apart | Standing::Undecided => differences_text(alloc, pieces),
+        Standing::Apart | Standing::Undecided => differences_text(alloc, architecture, pieces),
     }
 }
 

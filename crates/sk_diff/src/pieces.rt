@@ -6,15 +6,16 @@ ghost use Rattle.sk_diff.specs.Pieces.{AreCompared, Holds, ArePartsOfOne};
 
 use crate::parts::piece_of;
 use crate::piece::{Calls, Part, Piece};
-use sk_call_names::{name, numbers};
+use sk_architectures::{Architecture, name, numbers};
 use sk_chain::Chain;
 use sk_conditions::{Budget, Comparing, Numbers, Relation};
 use sk_survey::cuts::cuts;
 use std::alloc::{AllocError, Global};
 
-/// Compares two chains on the calls of all numbers.
+/// Compares two chains on the calls of all numbers. One with a name on the architecture has a piece by itself.
 pub fn pieces(
     alloc: Global,
+    architecture: Architecture,
     relation: Relation,
     old: &Chain,
     new: &Chain,
@@ -24,21 +25,31 @@ pub fn pieces(
     let mut budget = Budget::whole();
     let mut pieces = Vec::new(alloc);
     let mut first = 0;
-    for beginning in &beginnings(alloc, old, new)? {
+    for beginning in &beginnings(alloc, architecture, old, new)? {
         if first < *beginning {
-            let numbers = Numbers {
-                first,
-                last: *beginning - 1,
+            let chains = Comparing {
+                relation,
+                old,
+                new,
+                numbers: Numbers {
+                    first,
+                    last: *beginning - 1,
+                },
             };
-            push_piece(alloc, &mut pieces, relation, old, new, numbers, &mut budget)?;
+            push_piece(alloc, &mut pieces, architecture, chains, &mut budget)?;
             first = *beginning;
         }
     }
-    let numbers = Numbers {
-        first,
-        last: u32::MAX,
+    let chains = Comparing {
+        relation,
+        old,
+        new,
+        numbers: Numbers {
+            first,
+            last: u32::MAX,
+        },
     };
-    push_piece(alloc, &mut pieces, relation, old, new, numbers, &mut budget)?;
+    push_piece(alloc, &mut pieces, architecture, chains, &mut budget)?;
     Ok(pieces)
 }
 
@@ -46,30 +57,23 @@ pub fn pieces(
 fn push_piece(
     alloc: Global,
     pieces: &mut Vec<Piece>,
-    relation: Relation,
-    old: &Chain,
-    new: &Chain,
-    numbers: Numbers,
+    architecture: Architecture,
+    chains: Comparing<'_>,
     budget: &mut Budget,
 ) -> Result<(), AllocError>
-    requires range { numbers.first ≤ numbers.last }
-    ensures compared { OnOk result ((from : ℕ) → AreCompared relation old.now new.now from numbers.first pieces.old.items
-        → AreCompared relation old.now new.now from (numbers.last + 1) pieces.new.items) }
+    requires range { chains.numbers.first ≤ chains.numbers.last }
+    ensures compared { OnOk result ((from : ℕ)
+        → AreCompared chains.entry.relation chains.entry.old.now chains.entry.new.now from chains.entry.numbers.first pieces.old.items
+        → AreCompared chains.entry.relation chains.entry.old.now chains.entry.new.now from (chains.entry.numbers.last + 1) pieces.new.items) }
 {
-    let chains = Comparing {
-        relation,
-        old,
-        new,
-        numbers,
-    };
     let mut row = budget.row();
     let piece = piece_of(alloc, chains, &mut row)?;
     budget.put_back(row);
-    push(pieces, piece)
+    push(pieces, architecture, piece)
 }
 
 /// Adds a piece behind the others, or to the last one where both say one thing.
-fn push(pieces: &mut Vec<Piece>, piece: Piece) -> Result<(), AllocError>
+fn push(pieces: &mut Vec<Piece>, architecture: Architecture, piece: Piece) -> Result<(), AllocError>
     requires range { piece.numbers.first ≤ piece.numbers.last }
     ensures compared { OnOk result ((relation : Relation) (old new : List (List Insn)) (from : ℕ)
         → AreCompared relation old new from piece.numbers.first pieces.old.items → Holds relation old new piece
@@ -79,7 +83,7 @@ fn push(pieces: &mut Vec<Piece>, piece: Piece) -> Result<(), AllocError>
         pieces.push(piece)?;
         return Ok(());
     };
-    if !are_one(&last, &piece) {
+    if !are_one(architecture, &last, &piece) {
         pieces.push(last)?;
         pieces.push(piece)?;
         return Ok(());
@@ -95,14 +99,16 @@ fn push(pieces: &mut Vec<Piece>, piece: Piece) -> Result<(), AllocError>
 }
 
 /// Whether two pieces say one thing of numbers without a name.
-fn are_one(one: &Piece, other: &Piece) -> bool
+fn are_one(architecture: Architecture, one: &Piece, other: &Piece) -> bool
     ensures one { IsTrue result → ArePartsOfOne one.now.parts.items other.now.parts.items }
 {
-    !is_named(one.numbers) && !is_named(other.numbers) && say_the_same(&one.parts, &other.parts)
+    !is_named(architecture, one.numbers)
+        && !is_named(architecture, other.numbers)
+        && say_the_same(&one.parts, &other.parts)
 }
 
-fn is_named(numbers: Numbers) -> bool {
-    numbers.first == numbers.last && name(numbers.first).is_some()
+fn is_named(architecture: Architecture, numbers: Numbers) -> bool {
+    numbers.first == numbers.last && name(architecture, numbers.first).is_some()
 }
 
 /// Whether each is one part of all calls, with the same verdicts, or none.
@@ -126,8 +132,13 @@ fn is_every(calls: &Calls) -> bool
 
 /// The numbers at which the tests of either chain can change their answers, and those round each number with a name, in
 /// rising order. They decide in which pieces the numbers are told, and never what is found of them.
-fn beginnings(alloc: Global, old: &Chain, new: &Chain) -> Result<Vec<u32>, AllocError> {
-    let named = numbers(alloc)?;
+fn beginnings(
+    alloc: Global,
+    architecture: Architecture,
+    old: &Chain,
+    new: &Chain,
+) -> Result<Vec<u32>, AllocError> {
+    let named = numbers(alloc, architecture)?;
     let mut beginnings = cuts(alloc, old, &named)?;
     beginnings.extend_from_slice(&cuts(alloc, new, &[])?)?;
     beginnings.sort_unstable();

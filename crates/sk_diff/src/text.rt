@@ -3,7 +3,7 @@ ghost use Rattle.std.specs.Prelude.{◌≡◌, ◌++◌, IfOk, OnOk, string_byte
 ghost use Rattle.sk_diff.specs.DiffText.{call_name_text, argument_text, address_text, call_text, differences_text, piece_text, kind_text, kind_of, is_kind, part_text, outcome_text, calls_text, head_text, shown_text, record_text, everywhere_text};
 
 use crate::piece::{Calls, Part, Piece};
-use sk_call_names::name;
+use sk_architectures::{Architecture, name};
 use sk_conditions::{Numbers, Relation, Verdicts, stands};
 use sk_insn::Record;
 use sk_survey_lines::{name_of_numbers, push_numbers};
@@ -34,43 +34,59 @@ pub enum Kind {
     Undecided,
 }
 
-/// The differences, those first where the new chain is looser, and behind the others what is undecided.
-pub fn differences_text(alloc: Global, pieces: &[Piece]) -> Result<String, AllocError>
-    ensures text { IfOk result (λ text. string_bytes text ≡ differences_text pieces.now) }
+/// The differences, those first where the new chain is looser, and behind the others what is undecided. Calls have the names
+/// and the records that they have on the architecture.
+pub fn differences_text(
+    alloc: Global,
+    architecture: Architecture,
+    pieces: &[Piece],
+) -> Result<String, AllocError>
+    ensures text { IfOk result (λ text. string_bytes text ≡ differences_text architecture pieces.now) }
 {
     let mut text = String::new(alloc);
-    push_all(&mut text, Kind::Looser, pieces)?;
-    push_all(&mut text, Kind::Other, pieces)?;
-    push_all(&mut text, Kind::Undecided, pieces)?;
+    push_all(&mut text, architecture, Kind::Looser, pieces)?;
+    push_all(&mut text, architecture, Kind::Other, pieces)?;
+    push_all(&mut text, architecture, Kind::Undecided, pieces)?;
     Ok(text)
 }
 
-fn push_all(text: &mut String, kind: Kind, pieces: &[Piece]) -> Result<(), AllocError>
-    ensures text { OnOk result (string_bytes text.new ≡ string_bytes text.old ++ flat_map (piece_text kind) pieces.now) }
+fn push_all(
+    text: &mut String,
+    architecture: Architecture,
+    kind: Kind,
+    pieces: &[Piece],
+) -> Result<(), AllocError>
+    ensures text { OnOk result (string_bytes text.new ≡ string_bytes text.old ++ flat_map (piece_text architecture kind) pieces.now) }
 {
     for piece in pieces {
-        push_piece(text, kind, piece)?;
+        push_piece(text, architecture, kind, piece)?;
     }
     Ok(())
 }
 
 #[tactic(auto, unfolding(crate::specs::DiffText::piece_text))]
-fn push_piece(text: &mut String, kind: Kind, piece: &Piece) -> Result<(), AllocError>
-    ensures text { OnOk result (string_bytes text.new ≡ string_bytes text.old ++ piece_text kind piece.now) }
+fn push_piece(
+    text: &mut String,
+    architecture: Architecture,
+    kind: Kind,
+    piece: &Piece,
+) -> Result<(), AllocError>
+    ensures text { OnOk result (string_bytes text.new ≡ string_bytes text.old ++ piece_text architecture kind piece.now) }
 {
-    push_parts(text, kind, piece.numbers, &piece.parts)
+    push_parts(text, architecture, kind, piece.numbers, &piece.parts)
 }
 
 fn push_parts(
     text: &mut String,
+    architecture: Architecture,
     kind: Kind,
     numbers: Numbers,
     parts: &[Part],
 ) -> Result<(), AllocError>
-    ensures text { OnOk result (string_bytes text.new ≡ string_bytes text.old ++ flat_map (kind_text kind numbers) parts.now) }
+    ensures text { OnOk result (string_bytes text.new ≡ string_bytes text.old ++ flat_map (kind_text architecture kind numbers) parts.now) }
 {
     for part in parts {
-        push_if_of(text, kind, numbers, part)?;
+        push_if_of(text, architecture, kind, numbers, part)?;
     }
     Ok(())
 }
@@ -78,16 +94,17 @@ fn push_parts(
 #[tactic(auto, unfolding(crate::specs::DiffText::kind_text))]
 fn push_if_of(
     text: &mut String,
+    architecture: Architecture,
     kind: Kind,
     numbers: Numbers,
     part: &Part,
 ) -> Result<(), AllocError>
-    ensures text { OnOk result (string_bytes text.new ≡ string_bytes text.old ++ kind_text kind numbers part.now) }
+    ensures text { OnOk result (string_bytes text.new ≡ string_bytes text.old ++ kind_text architecture kind numbers part.now) }
 {
     if !is_kind(kind_of(part.verdicts), kind) {
         return Ok(());
     }
-    push_part(text, numbers, part)
+    push_part(text, architecture, numbers, part)
 }
 
 fn kind_of(verdicts: Option<Verdicts>) -> Kind
@@ -116,15 +133,20 @@ fn is_kind(one: Kind, other: Kind) -> bool
 }
 
 #[tactic(auto, unfolding(crate::specs::DiffText::part_text))]
-fn push_part(text: &mut String, numbers: Numbers, part: &Part) -> Result<(), AllocError>
-    ensures text { OnOk result (string_bytes text.new ≡ string_bytes text.old ++ part_text numbers part.now) }
+fn push_part(
+    text: &mut String,
+    architecture: Architecture,
+    numbers: Numbers,
+    part: &Part,
+) -> Result<(), AllocError>
+    ensures text { OnOk result (string_bytes text.new ≡ string_bytes text.old ++ part_text architecture numbers part.now) }
 {
-    push_head(text, numbers)?;
+    push_head(text, architecture, numbers)?;
     text.push_str(": ")?;
     push_outcome(text, part.verdicts)?;
     push_calls(text, &part.calls)?;
     text.push_str("\n")?;
-    push_shown(text, part.verdicts, part.shown)
+    push_shown(text, architecture, part.verdicts, part.shown)
 }
 
 #[tactic(auto, unfolding(crate::specs::DiffText::verdicts_text))]
@@ -156,13 +178,14 @@ fn push_calls(text: &mut String, calls: &Calls) -> Result<(), AllocError>
 
 fn push_shown(
     text: &mut String,
+    architecture: Architecture,
     verdicts: Option<Verdicts>,
     shown: Option<Record>,
 ) -> Result<(), AllocError>
-    ensures text { OnOk result (string_bytes text.new ≡ string_bytes text.old ++ shown_text verdicts shown) }
+    ensures text { OnOk result (string_bytes text.new ≡ string_bytes text.old ++ shown_text architecture verdicts shown) }
 {
     match shown {
-        Some(call) => push_record(text, call),
+        Some(call) => push_record(text, architecture, call),
         None => match verdicts {
             Some(_) => text.push_str("  no call was found\n"),
             None => Ok(()),
@@ -171,39 +194,55 @@ fn push_shown(
 }
 
 #[tactic(auto, unfolding(crate::specs::DiffText::record_text))]
-fn push_record(text: &mut String, call: Record) -> Result<(), AllocError>
-    ensures text { OnOk result (string_bytes text.new ≡ string_bytes text.old ++ record_text call) }
+fn push_record(
+    text: &mut String,
+    architecture: Architecture,
+    call: Record,
+) -> Result<(), AllocError>
+    ensures text { OnOk result (string_bytes text.new ≡ string_bytes text.old ++ record_text architecture call) }
 {
-    let record = HexDigits::<128>::of(&call.bytes());
+    let there = Record {
+        arch: architecture.audit(),
+        ..call
+    };
+    let record = HexDigits::<128>::of(&there.bytes());
     write!(text, "  record {record}\n  ")?;
-    push_call(text, call)?;
+    push_call(text, architecture, call)?;
     text.push_str("\n")
 }
 
 #[tactic(auto, unfolding(crate::specs::DiffText::head_text))]
-fn push_head(text: &mut String, numbers: Numbers) -> Result<(), AllocError>
-    ensures text { OnOk result (string_bytes text.new ≡ string_bytes text.old ++ head_text numbers) }
+fn push_head(
+    text: &mut String,
+    architecture: Architecture,
+    numbers: Numbers,
+) -> Result<(), AllocError>
+    ensures text { OnOk result (string_bytes text.new ≡ string_bytes text.old ++ head_text architecture numbers) }
 {
     push_numbers(text, numbers.first, numbers.last)?;
     text.push_str(" ")?;
-    text.push_str(name_of_numbers(numbers.first, numbers.last))
+    text.push_str(name_of_numbers(architecture, numbers.first, numbers.last))
 }
 
 #[tactic(auto, unfolding(crate::specs::DiffText::call_text))]
-fn push_call(text: &mut String, call: Record) -> Result<(), AllocError>
-    ensures text { OnOk result (string_bytes text.new ≡ string_bytes text.old ++ call_text call) }
+fn push_call(text: &mut String, architecture: Architecture, call: Record) -> Result<(), AllocError>
+    ensures text { OnOk result (string_bytes text.new ≡ string_bytes text.old ++ call_text architecture call) }
 {
     text.push_str("syscall(")?;
-    push_call_name(text, call.nr)?;
+    push_call_name(text, architecture, call.nr)?;
     push_arguments(text, &call.args)?;
     text.push_str(")")?;
     push_address(text, call.ip)
 }
 
-fn push_call_name(text: &mut String, number: u32) -> Result<(), AllocError>
-    ensures text { OnOk result (string_bytes text.new ≡ string_bytes text.old ++ call_name_text number) }
+fn push_call_name(
+    text: &mut String,
+    architecture: Architecture,
+    number: u32,
+) -> Result<(), AllocError>
+    ensures text { OnOk result (string_bytes text.new ≡ string_bytes text.old ++ call_name_text architecture number) }
 {
-    match name(number) {
+    match name(architecture, number) {
         Some(name) => write!(text, "SYS_{name}"),
         None => write!(text, "{number}"),
     }

@@ -3,6 +3,7 @@ use Rattle.std.proofs.Common.{◌≡◌, ◌<◌, ◌≤◌, ◌+◌, ◌-◌, �
 use Rattle.std.proofs.lemmas.List.Sums.{sum_by-append, count_by-le-length}
 use Rattle.sk_text.specs.Lines.{lines_of}
 use Rattle.sk_asm.proofs.Blocks.{length-lines_in}
+use Rattle.sk_architectures.specs.declared.architecture.Architecture.{Architecture}
 use Rattle.sk_replay.specs.declared.call.Call.{Call}
 use Rattle.sk_replay.specs.declared.line.Line.{Line}
 use Rattle.sk_replay.specs.declared.line.Line.TheVariants.{Made, Event, Unclear}
@@ -15,21 +16,21 @@ onto_append (Made call) xs ys = refl
 onto_append Event xs ys = refl
 onto_append Unclear xs ys = refl
 
-calls_more : (done : List (List ℕ)) (line : List ℕ) → calls_of (done ++ line ∷ []) ≡ calls_of done ++ onto_calls (line_of line) []
-calls_more [] line = refl
-calls_more (first ∷ done) line =
-    ap (onto_calls (line_of first)) (calls_more done line) ∙ onto_append (line_of first) (calls_of done) (onto_calls (line_of line) [])
+calls_more : (by : Architecture) (done : List (List ℕ)) (line : List ℕ) → calls_of by (done ++ line ∷ []) ≡ calls_of by done ++ onto_calls (line_of by line) []
+calls_more by [] line = refl
+calls_more by (first ∷ done) line =
+    ap (onto_calls (line_of by first)) (calls_more by done line) ∙ onto_append (line_of by first) (calls_of by done) (onto_calls (line_of by line) [])
 
 onto_length : (line : Line) (calls : List Call) → length (onto_calls line calls) ≤ 1 + length calls
 onto_length (Made call) calls = omega arith
 onto_length Event calls = omega arith
 onto_length Unclear calls = omega arith
 
-calls_length : (lines : List (List ℕ)) → length (calls_of lines) ≤ length lines
-calls_length [] = omega arith
-calls_length (line ∷ lines) =
-    let rest = calls_length lines in
-    let one = onto_length (line_of line) (calls_of lines) in
+calls_length : (by : Architecture) (lines : List (List ℕ)) → length (calls_of by lines) ≤ length lines
+calls_length by [] = omega arith
+calls_length by (line ∷ lines) =
+    let rest = calls_length by lines in
+    let one = onto_length (line_of by line) (calls_of by lines) in
     omega arith
 
 with_more : (line : Line) (calls : List Call) → with_line line (tallied calls) ≡ tallied (calls ++ onto_calls line [])
@@ -38,18 +39,18 @@ with_more Event calls = ap tallied (sym (append-nil calls))
 with_more Unclear calls = ap tallied (sym (append-nil calls))
 
 -- what was counted is what the lines say that are done
-pub record Counted (entries : List (Call × ℕ)) (events unclear : ℕ) (rest all : List (List ℕ)) : Type 0 where
+pub record Counted (by : Architecture) (entries : List (Call × ℕ)) (events unclear : ℕ) (rest all : List (List ℕ)) : Type 0 where
   pub done : List (List ℕ)
   pub whole : done ++ rest ≡ all
-  pub calls : entries ≡ tallied (calls_of done)
-  pub ended : events ≡ events_in done
-  pub missed : unclear ≡ unclear_in done
+  pub calls : entries ≡ tallied (calls_of by done)
+  pub ended : events ≡ events_in by done
+  pub missed : unclear ≡ unclear_in by done
 
-pub begun : (entries : List (Call × ℕ)) (rest all : List (List ℕ)) → entries ≡ [] → rest ≡ all → Counted entries 0 0 rest all
-begun entries rest all none same = record { done = []; whole = same; calls = none; ended = refl; missed = refl }
+pub begun : (by : Architecture) (entries : List (Call × ℕ)) (rest all : List (List ℕ)) → entries ≡ [] → rest ≡ all → Counted by entries 0 0 rest all
+begun by entries rest all none same = record { done = []; whole = same; calls = none; ended = refl; missed = refl }
 
-module _ (entries : List (Call × ℕ)) (events unclear : ℕ) (log line : List ℕ) (lines rest : List (List ℕ))
-    (fits : length log < 2 ^ 64) (cut : lines ≡ line ∷ rest) (counted : Counted entries events unclear lines (lines_of log)) where
+module _ (by : Architecture) (entries : List (Call × ℕ)) (events unclear : ℕ) (log line : List ℕ) (lines rest : List (List ℕ))
+    (fits : length log < 2 ^ 64) (cut : lines ≡ line ∷ rest) (counted : Counted by entries events unclear lines (lines_of log)) where
   -- there are fewer lines than a number of 64 bits counts
   few : length counted.done < 2 ^ 64 - 1
   few =
@@ -62,60 +63,60 @@ module _ (entries : List (Call × ℕ)) (events unclear : ℕ) (log line : List 
   pub room : (call : Call) → times_of entries call < 2 ^ 64 - 1
   room call =
       let times = ap (λ l. times_of l call) counted.calls in
-      let most = times_within (calls_of counted.done) call in
-      let made = calls_length counted.done in
+      let most = times_within (calls_of by counted.done) call in
+      let made = calls_length by counted.done in
       let fewer = few in
       omega (arith, times, most, made, fewer)
 
   pub few_events : events < 2 ^ 64 - 1
   few_events =
-      let most = count_by-le-length (λ line. is_event (line_of line)) counted.done in
+      let most = count_by-le-length (λ line. is_event (line_of by line)) counted.done in
       let same = counted.ended in
       let fewer = few in
       omega (arith, most, same, fewer)
 
   pub few_unclear : unclear < 2 ^ 64 - 1
   few_unclear =
-      let most = count_by-le-length (λ line. is_unclear (line_of line)) counted.done in
+      let most = count_by-le-length (λ line. is_unclear (line_of by line)) counted.done in
       let same = counted.missed in
       let fewer = few in
       omega (arith, most, same, fewer)
 
-  pub turned : (said : Line) (after : List (Call × ℕ)) (e u : ℕ) → said ≡ line_of line → after ≡ with_line said entries → e ≡ cond (is_event said) 1 0 → u ≡ cond (is_unclear said) 1 0
-      → Counted after (events + e) (unclear + u) rest (lines_of log)
+  pub turned : (said : Line) (after : List (Call × ℕ)) (e u : ℕ) → said ≡ line_of by line → after ≡ with_line said entries → e ≡ cond (is_event said) 1 0 → u ≡ cond (is_unclear said) 1 0
+      → Counted by after (events + e) (unclear + u) rest (lines_of log)
   turned said after e u is counted_call event missing = record {
     done = counted.done ++ line ∷ [];
     whole = append_assoc counted.done (line ∷ []) rest ∙ ap (λ l. counted.done ++ l) (sym cut) ∙ counted.whole;
     calls =
-        counted_call ∙ ap (with_line said) counted.calls ∙ with_more said (calls_of counted.done)
-        ∙ ap (λ l. tallied (calls_of counted.done ++ onto_calls l [])) is ∙ ap tallied (sym (calls_more counted.done line));
+        counted_call ∙ ap (with_line said) counted.calls ∙ with_more said (calls_of by counted.done)
+        ∙ ap (λ l. tallied (calls_of by counted.done ++ onto_calls l [])) is ∙ ap tallied (sym (calls_more by counted.done line));
     ended =
-        let one : e ≡ cond (is_event (line_of line)) 1 0 = event ∙ ap (λ l. cond (is_event l) 1 0) is in
+        let one : e ≡ cond (is_event (line_of by line)) 1 0 = event ∙ ap (λ l. cond (is_event l) 1 0) is in
         let same = counted.ended in
-        let more : events_in (counted.done ++ line ∷ []) ≡ events_in counted.done + (0 + cond (is_event (line_of line)) 1 0) =
-        sum_by-append (λ l. cond (is_event (line_of l)) 1 0) counted.done (line ∷ []) in
+        let more : events_in by (counted.done ++ line ∷ []) ≡ events_in by counted.done + (0 + cond (is_event (line_of by line)) 1 0) =
+        sum_by-append (λ l. cond (is_event (line_of by l)) 1 0) counted.done (line ∷ []) in
         omega (arith, one, same, more);
     missed =
-        let one : u ≡ cond (is_unclear (line_of line)) 1 0 = missing ∙ ap (λ l. cond (is_unclear l) 1 0) is in
+        let one : u ≡ cond (is_unclear (line_of by line)) 1 0 = missing ∙ ap (λ l. cond (is_unclear l) 1 0) is in
         let same = counted.missed in
-        let more : unclear_in (counted.done ++ line ∷ []) ≡ unclear_in counted.done + (0 + cond (is_unclear (line_of line)) 1 0) =
-        sum_by-append (λ l. cond (is_unclear (line_of l)) 1 0) counted.done (line ∷ []) in
+        let more : unclear_in by (counted.done ++ line ∷ []) ≡ unclear_in by counted.done + (0 + cond (is_unclear (line_of by line)) 1 0) =
+        sum_by-append (λ l. cond (is_unclear (line_of by l)) 1 0) counted.done (line ∷ []) in
         omega (arith, one, same, more);
   }
 
-module _ (entries : List (Call × ℕ)) (events unclear : ℕ) (rest all : List (List ℕ))
-    (none : rest ≡ []) (counted : Counted entries events unclear rest all) where
+module _ (by : Architecture) (entries : List (Call × ℕ)) (events unclear : ℕ) (rest all : List (List ℕ))
+    (none : rest ≡ []) (counted : Counted by entries events unclear rest all) where
   all_done : counted.done ≡ all
   all_done = sym (append-nil counted.done) ∙ ap (λ l. counted.done ++ l) (sym none) ∙ counted.whole
 
-  pub all_calls : entries ≡ tallied (calls_of all)
-  all_calls = counted.calls ∙ ap (λ l. tallied (calls_of l)) all_done
+  pub all_calls : entries ≡ tallied (calls_of by all)
+  all_calls = counted.calls ∙ ap (λ l. tallied (calls_of by l)) all_done
 
-  pub all_events : events ≡ events_in all
-  all_events = counted.ended ∙ ap events_in all_done
+  pub all_events : events ≡ events_in by all
+  all_events = counted.ended ∙ ap (events_in by) all_done
 
-  pub all_unclear : unclear ≡ unclear_in all
-  all_unclear = counted.missed ∙ ap unclear_in all_done
+  pub all_unclear : unclear ≡ unclear_in by all
+  all_unclear = counted.missed ∙ ap (unclear_in by) all_done
 
 -- one line more still fits
 pub sum_fits : (count one : ℕ) (test : Bool) → count < 2 ^ 64 - 1 → one ≡ cond test 1 0 → count + one < 2 ^ 64

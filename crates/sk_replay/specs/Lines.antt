@@ -1,5 +1,5 @@
 -- What a line says that strace(1) wrote with `-f -X raw -e raw=all`: `PID CALL(ARG, ..) = RESULT`, in front of which may
--- stand the time, and `[pid PID]` for PID.
+-- stand the time, and `[pid PID]` for PID. It writes the names that calls have on the architecture of the process.
 use Rattle.std.specs.Prelude.{ℕ, ◌==◌, ◌&&◌, ◌||◌, ◌-◌, ◌^◌, nat_eq, nat_le, nat_lt, Bool, false, if◌then◌else◌, List, [], ◌∷◌, ◌++◌, length, take, drop, codes, Option, Some, None}
 use Rattle.std.specs.Option.{option_or}
 use Rattle.std.specs.List.{list_all, list_any, starts_with, ends_with, before_first, after_first}
@@ -7,7 +7,8 @@ use Rattle.std.specs.Str.{bytes_eq}
 use Rattle.sk_text.specs.Lines.{words_of}
 use Rattle.sk_text.specs.Numbers.{number_of, up_to}
 use Rattle.sk_asm.specs.Grammar.{◌>>=◌}
-use Rattle.sk_call_names.specs.Names.{number_named}
+use Rattle.sk_architectures.specs.declared.architecture.Architecture.{Architecture}
+use Rattle.sk_architectures.specs.Names.{number_on}
 use Rattle.sk_replay.specs.declared.call.Call.{Call}
 use Rattle.sk_replay.specs.declared.line.Line.{Line}
 use Rattle.sk_replay.specs.declared.line.Line.TheVariants.{Made, Event, Unclear}
@@ -40,14 +41,14 @@ argument_of word =
 
 -- ---- the number
 
--- strace writes the number of a call that it knows no name of
+-- strace writes the number of a call that it knows no name of; that of x32 has bit 30
 unfoldable pub number_shown : List ℕ → Option ℕ
 number_shown name =
     if starts_with nat_eq name (codes "syscall_0x") then up_to (2 ^ 32 - 1) (number_of (drop 8 name)) else None
 
--- the call with this name on x86-64
-abbrev pub number_in : List ℕ → Option ℕ
-number_in name = option_or (number_named name) (number_shown name)
+-- the call with this name on an architecture
+abbrev pub number_in : Architecture → List ℕ → Option ℕ
+number_in by name = option_or (number_on by name) (number_shown name)
 
 -- ---- the arguments
 
@@ -95,10 +96,10 @@ arguments_of word words = if is_bare word words then Some [] else arguments_behi
 -- ---- the line
 
 -- a call: its name, an opening parenthesis (40), and its arguments
-unfoldable pub call_in : List ℕ → List (List ℕ) → Option Call
-call_in word words =
+unfoldable pub call_in : Architecture → List ℕ → List (List ℕ) → Option Call
+call_in by word words =
     if list_any (λ byte. byte == 40) word then (do
-      nr ← number_in (before_first (λ byte. byte == 40) word)
+      nr ← number_in by (before_first (λ byte. byte == 40) word)
       args ← arguments_of (after_first (λ byte. byte == 40) word) words
       Some (call_with nr args))
     else None
@@ -108,13 +109,13 @@ made_or None = Unclear
 made_or (Some call) = Made call
 
 -- from the first word on that is no mark
-unfoldable pub said_at : List ℕ → List (List ℕ) → Line
-said_at word words = if is_event word then Event else made_or (call_in word words)
+unfoldable pub said_at : Architecture → List ℕ → List (List ℕ) → Line
+said_at by word words = if is_event word then Event else made_or (call_in by word words)
 
-abbrev pub said : List (List ℕ) → Line
-said [] = Unclear
-said (word ∷ words) = if is_mark word then said words else said_at word words
+abbrev pub said : Architecture → List (List ℕ) → Line
+said by [] = Unclear
+said by (word ∷ words) = if is_mark word then said by words else said_at by word words
 
 -- what a line says: a call, an event that is none, or nothing that is understood
-abbrev pub line_of : List ℕ → Line
-line_of line = said (words_of line)
+abbrev pub line_of : Architecture → List ℕ → Line
+line_of by line = said by (words_of line)

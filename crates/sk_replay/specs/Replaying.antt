@@ -1,4 +1,4 @@
--- The text of `ask replay`: the verdicts on the calls of a log.
+-- The text of `ask replay`: the verdicts on the calls of a log, which a process of some architecture made.
 use Rattle.std.specs.Prelude.{ℕ, nat_eq, ◌+◌, ◌==◌, ◌||◌, ◌&&◌, not, Bool, false, true, if◌then◌else◌, List, [], ◌∷◌, ◌++◌, length, map, filter, flat_map, take, codes, Option, Some, None}
 use Rattle.std.specs.Bool.{beq}
 use Rattle.std.specs.Fmt.{decimal, radix_digits}
@@ -12,7 +12,8 @@ use Rattle.sk_insn.specs.declared.insn.Insn.{Insn}
 use Rattle.sk_insn.specs.Actions.{action_of, performs}
 use Rattle.sk_chain.specs.Verdict.{verdict_of}
 use Rattle.sk_verdict.specs.Verdicts.{verdict_text}
-use Rattle.sk_call_names.specs.Names.{name_of}
+use Rattle.sk_architectures.specs.declared.architecture.Architecture.{Architecture}
+use Rattle.sk_architectures.specs.Names.{name_on}
 use Rattle.sk_replay.specs.declared.call.Call.{Call}
 use Rattle.sk_replay.specs.declared.line.Line.{Line}
 use Rattle.sk_replay.specs.declared.line.Line.TheVariants.{Made, Event, Unclear}
@@ -29,9 +30,9 @@ onto_calls Event calls = calls
 onto_calls Unclear calls = calls
 
 -- the calls of the lines, in their order
-abbrev pub calls_of : List (List ℕ) → List Call
-calls_of [] = []
-calls_of (line ∷ lines) = onto_calls (line_of line) (calls_of lines)
+abbrev pub calls_of : Architecture → List (List ℕ) → List Call
+calls_of by [] = []
+calls_of by (line ∷ lines) = onto_calls (line_of by line) (calls_of by lines)
 
 abbrev pub is_event : Line → Bool
 is_event Event = true
@@ -42,12 +43,12 @@ is_unclear Unclear = true
 is_unclear line = false
 
 -- so many lines are no calls
-abbrev pub events_in : List (List ℕ) → ℕ
-events_in lines = count_by (λ line. is_event (line_of line)) lines
+abbrev pub events_in : Architecture → List (List ℕ) → ℕ
+events_in by lines = count_by (λ line. is_event (line_of by line)) lines
 
 -- so many lines are not understood
-abbrev pub unclear_in : List (List ℕ) → ℕ
-unclear_in lines = count_by (λ line. is_unclear (line_of line)) lines
+abbrev pub unclear_in : Architecture → List (List ℕ) → ℕ
+unclear_in by lines = count_by (λ line. is_unclear (line_of by line)) lines
 
 -- ---- each call once
 
@@ -65,8 +66,8 @@ abbrev pub tallied : List Call → List (Call × ℕ)
 tallied calls = map (λ call. (call, count_by (is_same call) calls)) (each_once calls)
 
 -- how many different calls there are among the lines of a log
-abbrev pub distinct_calls : List ℕ → ℕ
-distinct_calls log = length (each_once (calls_of (lines_of log)))
+abbrev pub distinct_calls : Architecture → List ℕ → ℕ
+distinct_calls by log = length (each_once (calls_of by (lines_of log)))
 
 -- how often a call was made, by such a list
 abbrev pub times_of : List (Call × ℕ) → Call → ℕ
@@ -85,11 +86,11 @@ with_line Unclear entries = entries
 -- ---- rows
 
 -- the row of a call: how often it was made, and the value that the filters give it
-abbrev pub row_of : List (List Insn) → Call × ℕ → Row
-row_of chain entry = record { call = entry.0; times = entry.1; value = verdict_of chain (record_of entry.0) }
+abbrev pub row_of : Architecture → List (List Insn) → Call × ℕ → Row
+row_of by chain entry = record { call = entry.0; times = entry.1; value = verdict_of chain (record_of by entry.0) }
 
-abbrev pub rows_of : List (List Insn) → List (List ℕ) → List Row
-rows_of chain lines = map (row_of chain) (tallied (calls_of lines))
+abbrev pub rows_of : Architecture → List (List Insn) → List (List ℕ) → List Row
+rows_of by chain lines = map (row_of by chain) (tallied (calls_of by lines))
 
 -- the call is performed
 abbrev pub is_performed : Row → Bool
@@ -111,22 +112,22 @@ name_text None nr = codes "syscall_0x" ++ radix_digits 16 false nr
 name_text (Some name) nr = name
 
 -- a call as strace writes it
-unfoldable pub call_text : Call → List ℕ
-call_text call =
-    name_text (name_of call.nr) call.nr ++ (codes "(" ++ (arguments_text (take call.shown call.args) ++ codes ")"))
+unfoldable pub call_text : Architecture → Call → List ℕ
+call_text by call =
+    name_text (name_on by call.nr) call.nr ++ (codes "(" ++ (arguments_text (take call.shown call.args) ++ codes ")"))
 
 -- a row: how often, the call, the verdict
-unfoldable pub row_text : Row → List ℕ
-row_text row =
-    decimal row.times ++ (codes " " ++ (call_text row.call ++ (codes " " ++ (verdict_text row.value ++ codes "\n"))))
+unfoldable pub row_text : Architecture → Row → List ℕ
+row_text by row =
+    decimal row.times ++ (codes " " ++ (call_text by row.call ++ (codes " " ++ (verdict_text row.value ++ codes "\n"))))
 
 -- the row, if it is performed, or if it is not
-unfoldable pub one_text : Bool → Row → List ℕ
-one_text performed row = if beq (is_performed row) performed then row_text row else []
+unfoldable pub one_text : Architecture → Bool → Row → List ℕ
+one_text by performed row = if beq (is_performed row) performed then row_text by row else []
 
 -- those of the rows that are performed, or that are not
-abbrev pub part_text : Bool → List Row → List ℕ
-part_text performed rows = flat_map (one_text performed) rows
+abbrev pub part_text : Architecture → Bool → List Row → List ℕ
+part_text by performed rows = flat_map (one_text by performed) rows
 
 -- how many lines there are of a kind, where there are some
 unfoldable pub count_text : ℕ → List ℕ → List ℕ → List ℕ
@@ -136,18 +137,19 @@ count_text count one many =
     else decimal count ++ (codes " " ++ (many ++ codes "\n"))
 
 -- first the calls that are not performed, then the others, then the lines that are none
-abbrev pub tally_text : List Row → ℕ → ℕ → List ℕ
-tally_text rows events unclear =
-    part_text false rows
-    ++ (part_text true rows
+abbrev pub tally_text : Architecture → List Row → ℕ → ℕ → List ℕ
+tally_text by rows events unclear =
+    part_text by false rows
+    ++ (part_text by true rows
     ++ (count_text events (codes "line is no call") (codes "lines are no calls")
     ++ count_text unclear (codes "line is not understood") (codes "lines are not understood")))
 
 -- the text of a log
-abbrev pub replay_text : List ℕ → List (List Insn) → List ℕ
-replay_text log chain = tally_text (rows_of chain (lines_of log)) (events_in (lines_of log)) (unclear_in (lines_of log))
+abbrev pub replay_text : Architecture → List ℕ → List (List Insn) → List ℕ
+replay_text by log chain =
+    tally_text by (rows_of by chain (lines_of log)) (events_in by (lines_of log)) (unclear_in by (lines_of log))
 
 -- some call is not performed, or a line is not understood, which may be one that is not
-abbrev pub replay_denies : List ℕ → List (List Insn) → Bool
-replay_denies log chain =
-    list_any (λ row. not (is_performed row)) (rows_of chain (lines_of log)) || not (unclear_in (lines_of log) == 0)
+abbrev pub replay_denies : Architecture → List ℕ → List (List Insn) → Bool
+replay_denies by log chain =
+    list_any (λ row. not (is_performed row)) (rows_of by chain (lines_of log)) || not (unclear_in by (lines_of log) == 0)

@@ -2,6 +2,7 @@
 ghost use Rattle.std.specs.Prelude.{◌≡◌, slice_index, take};
 ghost use Rattle.sk_replay.specs.Calls.{call_with, record_of};
 
+use sk_architectures::Architecture;
 use sk_insn::Record;
 
 /// A call as a log writes it: its number, how many arguments the log shows, and all six. Those that it does not show
@@ -43,11 +44,16 @@ impl Call {
         }
     }
 
-    /// What a filter sees of it. No log has the instruction pointer, which is 0 here.
-    pub(crate) fn record(&self) -> Record
-        ensures record { result ≡ record_of self.now }
+    /// What a filter sees of it on an architecture. No log has the instruction pointer, which is 0 here.
+    pub(crate) fn record(&self, architecture: Architecture) -> Record
+        ensures record { result ≡ record_of architecture self.now }
     {
-        Record::native(self.nr, 0, self.args)
+        Record {
+            nr: self.nr,
+            arch: architecture.audit(),
+            ip: 0,
+            args: self.args,
+        }
     }
 }
 

@@ -7,7 +7,7 @@ ghost use Rattle.sk_replay.specs.Lines.{is_mark_byte, is_mark, is_event, argumen
 
 use crate::call::Call;
 use arrayvec::ArrayVec;
-use sk_call_names::number;
+use sk_architectures::{Architecture, number};
 use sk_text::{Words, cut, is_word, number_up_to, two_words};
 
 /// What a line says.
@@ -25,15 +25,15 @@ pub enum Line {
 type Arguments = ArrayVec<u64, 6>;
 
 impl Line {
-    /// What this line says.
+    /// What this line says of a process of an architecture.
     #[tactic(auto, using(crate::proofs::Marks::unmarked, crate::proofs::Marks::marked))]
-    pub(crate) fn of(line: &[u8]) -> Line
-        ensures line { result ≡ line_of line.now }
+    pub(crate) fn of(architecture: Architecture, line: &[u8]) -> Line
+        ensures line { result ≡ line_of architecture line.now }
     {
         let mut words = Words(line);
         while let Some(word) = words.next() {
             if !is_mark(word) {
-                return said_at(word, words);
+                return said_at(architecture, word, words);
             }
         }
         Line::Unclear
@@ -42,13 +42,13 @@ impl Line {
 
 // What the words say from the first on that is no mark.
 #[tactic(auto, unfolding(crate::specs::Lines::said_at))]
-fn said_at(word: &[u8], words: Words<'_>) -> Line
-    ensures said { result ≡ said_at word.now (words_of words.entry.0.now) }
+fn said_at(architecture: Architecture, word: &[u8], words: Words<'_>) -> Line
+    ensures said { result ≡ said_at architecture word.now (words_of words.entry.0.now) }
 {
     if is_event(word) {
         return Line::Event;
     }
-    match call_in(word, words) {
+    match call_in(architecture, word, words) {
         Some(call) => Line::Made(call),
         None => Line::Unclear,
     }
@@ -87,22 +87,22 @@ fn is_event(word: &[u8]) -> bool
 }
 
 #[tactic(auto, unfolding(crate::specs::Lines::call_in))]
-fn call_in(word: &[u8], words: Words<'_>) -> Option<Call>
-    ensures call { result ≡ call_in word.now (words_of words.entry.0.now) }
+fn call_in(architecture: Architecture, word: &[u8], words: Words<'_>) -> Option<Call>
+    ensures call { result ≡ call_in architecture word.now (words_of words.entry.0.now) }
 {
     if !word.contains(&b'(') {
         return None;
     }
     let (name, first) = cut(word, b'(');
-    let nr = number_in(name)?;
+    let nr = number_in(architecture, name)?;
     let args = arguments(first, words)?;
     Some(Call::with(nr, args.as_slice()))
 }
 
-fn number_in(name: &[u8]) -> Option<u32>
-    ensures number { result ≡ number_in name.now }
+fn number_in(architecture: Architecture, name: &[u8]) -> Option<u32>
+    ensures number { result ≡ number_in architecture name.now }
 {
-    match number(name) {
+    match number(architecture, name) {
         Some(nr) => Some(nr),
         None => number_shown(name),
     }

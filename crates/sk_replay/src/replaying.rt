@@ -9,18 +9,25 @@ use crate::row::Row;
 use crate::tally::Tally;
 use crate::text::replay_text;
 use indexmap::IndexMap;
+use sk_architectures::Architecture;
 use sk_chain::Chain;
 use std::alloc::{AllocError, Global};
 
-/// The verdicts on the calls of a log. No log has the instruction pointer of a call, which is 0 here.
-pub fn replay(alloc: Global, log: &[u8], chain: &Chain) -> Result<Replay, AllocError>
-    ensures text { IfOk result (λ replay. string_bytes replay.text ≡ replay_text log.now chain.now) }
-    ensures denies { IfOk result (λ replay. replay.denies ≡ replay_denies log.now chain.now) }
-    ensures calls { IfOk result (λ replay. replay.calls ≡ distinct_calls log.now) }
+/// The verdicts on the calls of the log of a process of an architecture. No log has the instruction pointer of a call, which
+/// is 0 here.
+pub fn replay(
+    alloc: Global,
+    architecture: Architecture,
+    log: &[u8],
+    chain: &Chain,
+) -> Result<Replay, AllocError>
+    ensures text { IfOk result (λ replay. string_bytes replay.text ≡ replay_text architecture log.now chain.now) }
+    ensures denies { IfOk result (λ replay. replay.denies ≡ replay_denies architecture log.now chain.now) }
+    ensures calls { IfOk result (λ replay. replay.calls ≡ distinct_calls architecture log.now) }
 {
-    let tally = Tally::of(alloc, log)?;
-    let rows = rows_of(alloc, &tally.calls, chain)?;
-    let text = replay_text(alloc, &rows, tally.events, tally.unclear)?;
+    let tally = Tally::of(alloc, architecture, log)?;
+    let rows = rows_of(alloc, architecture, &tally.calls, chain)?;
+    let text = replay_text(alloc, architecture, &rows, tally.events, tally.unclear)?;
     Ok(Replay {
         text,
         denies: some_denied(&rows) || tally.unclear != 0,
@@ -30,14 +37,15 @@ pub fn replay(alloc: Global, log: &[u8], chain: &Chain) -> Result<Replay, AllocE
 
 fn rows_of(
     alloc: Global,
+    architecture: Architecture,
     calls: &IndexMap<Call, u64>,
     chain: &Chain,
 ) -> Result<Vec<Row>, AllocError>
-    ensures rows { IfOk result (λ rows. rows.items ≡ map (row_of chain.now) calls.now.entries) }
+    ensures rows { IfOk result (λ rows. rows.items ≡ map (row_of architecture chain.now) calls.now.entries) }
 {
     let mut rows = Vec::new(alloc);
     for (call, times) in calls {
-        rows.push(Row::of(chain, *call, *times))?;
+        rows.push(Row::of(architecture, chain, *call, *times))?;
     }
     Ok(rows)
 }

@@ -3,6 +3,7 @@ ghost use Rattle.std.specs.Prelude.{◌≡◌};
 ghost use Rattle.sk_replay.specs.Replaying.{row_of, is_performed};
 
 use crate::call::Call;
+use sk_architectures::Architecture;
 use sk_chain::Chain;
 use sk_insn::Action;
 
@@ -15,13 +16,13 @@ pub struct Row {
 }
 
 impl Row {
-    pub(crate) fn of(chain: &Chain, call: Call, times: u64) -> Row
-        ensures row { result ≡ row_of chain.now (call, times) }
+    pub(crate) fn of(architecture: Architecture, chain: &Chain, call: Call, times: u64) -> Row
+        ensures row { result ≡ row_of architecture chain.now (call, times) }
     {
         Row {
             call,
             times,
-            value: chain.verdict(&call.record()),
+            value: chain.verdict(&call.record(architecture)),
         }
     }
 

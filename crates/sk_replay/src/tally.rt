@@ -8,6 +8,7 @@ ghost use Rattle.sk_replay.specs.Replaying.{calls_of, events_in, unclear_in, tal
 use crate::call::Call;
 use crate::line::Line;
 use indexmap::IndexMap;
+use sk_architectures::Architecture;
 use sk_text::Lines;
 use std::alloc::{AllocError, Global};
 
@@ -21,17 +22,21 @@ pub(crate) struct Tally {
 }
 
 impl Tally {
-    /// The tally of a log.
-    pub(crate) fn of(alloc: Global, log: &[u8]) -> Result<Tally, AllocError>
-        ensures calls { IfOk result (λ tally. tally.calls.entries ≡ tallied (calls_of (lines_of log.now))) }
-        ensures events { IfOk result (λ tally. tally.events ≡ events_in (lines_of log.now)) }
-        ensures unclear { IfOk result (λ tally. tally.unclear ≡ unclear_in (lines_of log.now)) }
+    /// The tally of the log of a process of an architecture.
+    pub(crate) fn of(
+        alloc: Global,
+        architecture: Architecture,
+        log: &[u8],
+    ) -> Result<Tally, AllocError>
+        ensures calls { IfOk result (λ tally. tally.calls.entries ≡ tallied (calls_of architecture (lines_of log.now))) }
+        ensures events { IfOk result (λ tally. tally.events ≡ events_in architecture (lines_of log.now)) }
+        ensures unclear { IfOk result (λ tally. tally.unclear ≡ unclear_in architecture (lines_of log.now)) }
     {
         let mut calls = IndexMap::new(alloc);
         let mut events = 0;
         let mut unclear = 0;
         for line in Lines(log) {
-            let said = Line::of(line);
+            let said = Line::of(architecture, line);
             count(&mut calls, said)?;
             events += event_in(said);
             unclear += unclear_in(said);

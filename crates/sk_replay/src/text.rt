@@ -1,11 +1,11 @@
 //! The text of a replay.
 ghost use Rattle.std.specs.Prelude.{◌≡◌, ◌++◌, IfOk, OnOk, codes, flat_map, string_bytes};
-ghost use Rattle.sk_call_names.specs.Names.{name_of};
+ghost use Rattle.sk_architectures.specs.Names.{name_on};
 ghost use Rattle.sk_replay.specs.Replaying.{argument_text, arguments_text, name_text, call_text, row_text, one_text, part_text, count_text, tally_text};
 
 use crate::call::Call;
 use crate::row::Row;
-use sk_call_names::name;
+use sk_architectures::{Architecture, name};
 use sk_verdict::push_verdict;
 use std::alloc::{AllocError, Global};
 use std::fmt::Write;
@@ -13,15 +13,16 @@ use std::fmt::Write;
 /// The text of these rows, and of so many lines that are no calls, or are not understood.
 pub(crate) fn replay_text(
     alloc: Global,
+    architecture: Architecture,
     rows: &[Row],
     events: u64,
     unclear: u64,
 ) -> Result<String, AllocError>
-    ensures text { IfOk result (λ text. string_bytes text ≡ tally_text rows.now events unclear) }
+    ensures text { IfOk result (λ text. string_bytes text ≡ tally_text architecture rows.now events unclear) }
 {
     let mut text = String::new(alloc);
-    push_part(&mut text, rows, false)?;
-    push_part(&mut text, rows, true)?;
+    push_part(&mut text, architecture, rows, false)?;
+    push_part(&mut text, architecture, rows, true)?;
     push_count(&mut text, events, "line is no call", "lines are no calls")?;
     push_count(
         &mut text,
@@ -33,52 +34,62 @@ pub(crate) fn replay_text(
 }
 
 // Writes the rows that are performed, or those that are not.
-fn push_part(text: &mut String, rows: &[Row], performed: bool) -> Result<(), AllocError>
-    ensures text { OnOk result (string_bytes text.new ≡ string_bytes text.old ++ part_text performed rows.now) }
+fn push_part(
+    text: &mut String,
+    architecture: Architecture,
+    rows: &[Row],
+    performed: bool,
+) -> Result<(), AllocError>
+    ensures text { OnOk result (string_bytes text.new ≡ string_bytes text.old ++ part_text architecture performed rows.now) }
 {
     for row in rows {
-        push_one(text, row, performed)?;
+        push_one(text, architecture, row, performed)?;
     }
     Ok(())
 }
 
 #[tactic(auto, unfolding(crate::specs::Replaying::one_text))]
-fn push_one(text: &mut String, row: &Row, performed: bool) -> Result<(), AllocError>
+fn push_one(
+    text: &mut String,
+    architecture: Architecture,
+    row: &Row,
+    performed: bool,
+) -> Result<(), AllocError>
     ensures text { OnOk result (string_bytes text.new ≡
-        string_bytes text.old ++ one_text performed row.now) }
+        string_bytes text.old ++ one_text architecture performed row.now) }
 {
     if row.is_performed() == performed {
-        push_row(text, row)?;
+        push_row(text, architecture, row)?;
     }
     Ok(())
 }
 
 #[tactic(auto, unfolding(crate::specs::Replaying::row_text))]
-fn push_row(text: &mut String, row: &Row) -> Result<(), AllocError>
-    ensures text { OnOk result (string_bytes text.new ≡ string_bytes text.old ++ row_text row.now) }
+fn push_row(text: &mut String, architecture: Architecture, row: &Row) -> Result<(), AllocError>
+    ensures text { OnOk result (string_bytes text.new ≡ string_bytes text.old ++ row_text architecture row.now) }
 {
     let Row { call, times, value } = *row;
     write!(text, "{times} ")?;
-    push_call(text, call)?;
+    push_call(text, architecture, call)?;
     text.push_str(" ")?;
     push_verdict(text, value)?;
     text.push_str("\n")
 }
 
 #[tactic(auto, unfolding(crate::specs::Replaying::call_text))]
-fn push_call(text: &mut String, call: Call) -> Result<(), AllocError>
-    ensures text { OnOk result (string_bytes text.new ≡ string_bytes text.old ++ call_text call) }
+fn push_call(text: &mut String, architecture: Architecture, call: Call) -> Result<(), AllocError>
+    ensures text { OnOk result (string_bytes text.new ≡ string_bytes text.old ++ call_text architecture call) }
 {
-    push_name(text, call.nr)?;
+    push_name(text, architecture, call.nr)?;
     text.push_str("(")?;
     push_arguments(text, call.shown_args())?;
     text.push_str(")")
 }
 
-fn push_name(text: &mut String, nr: u32) -> Result<(), AllocError>
-    ensures text { OnOk result (string_bytes text.new ≡ string_bytes text.old ++ name_text (name_of nr) nr) }
+fn push_name(text: &mut String, architecture: Architecture, nr: u32) -> Result<(), AllocError>
+    ensures text { OnOk result (string_bytes text.new ≡ string_bytes text.old ++ name_text (name_on architecture nr) nr) }
 {
-    match name(nr) {
+    match name(architecture, nr) {
         Some(name) => text.push_str(name),
         None => write!(text, "syscall_0x{nr:x}"),
     }

@@ -6,6 +6,7 @@ use Rattle.sk_text.specs.Hexadecimal.{hex_half, hex_word}
 use Rattle.sk_insn.specs.Actions.{action_of}
 use Rattle.sk_insn.specs.Operations.{operation_of}
 use Rattle.sk_call_names.specs.Names.{name_of}
+use Rattle.sk_architectures.specs.Names.{name_at, name_in, name_on, runs_of}
 use Rattle.sk_listing.specs.Listing.{words_for}
 use Rattle.sk_verdict.specs.Errors.{error_named}
 use Rattle.sk_verdict.specs.Verdicts.{verdict_text}
@@ -15,13 +16,15 @@ use Rattle.sk_show.specs.Showing.{comment_line, insn_line, lines_from, shown_wor
 use Rattle.sk_show.specs.WorkedTexts.{WorkedTexts}
 
 pub worked_texts : WorkedTexts
-unfolding words_for operation_of hex_word hex_half encode_with digits name_of action_of error_named verdict_text argument_text field_text note_text comment_line insn_line lines_from ways_from ways_to shown_words side_word
+unfolding words_for operation_of hex_word hex_half encode_with digits name_of name_at name_in name_on runs_of action_of error_named verdict_text argument_text field_text note_text comment_line insn_line lines_from ways_from ways_to shown_words side_word
 worked_texts = record {
   no_instruction = refl;
   filter = refl;
   ways = refl;
   kept = refl;
   not_named = refl;
+  on_aarch64 = refl;
+  on_x32 = refl;
   small = refl;
   next = refl;
   last = refl;
@@ -32,4 +35,6 @@ worked_texts = record {
   last_argument = refl;
   no_field = refl;
   no_word = refl;
+  big_endian = refl;
+  no_architecture = refl;
 }

@@ -1,9 +1,9 @@
 -- What A is taken to hold it holds in each run.
-use Rattle.std.proofs.Common.{◌≡◌, ◌<◌, ◌+◌, ◌^◌, ◌==◌, ◌⊎◌, ◌++◌, ◌∙◌, ap, arith, refl, subst, sym, ℕ, zero, suc, List, [], ◌∷◌, Bool, true, false, length, cond, replicate, inl, inr, Option, Some, None}
+use Rattle.std.proofs.Common.{◌≡◌, ◌<◌, ◌+◌, ◌==◌, ◌⊎◌, ◌∙◌, ap, arith, refl, subst, sym, ℕ, zero, suc, List, [], ◌∷◌, Bool, true, false, length, cond, replicate, inl, inr, Option, Some, None}
 use Rattle.std.proofs.lemmas.Bool.{cases_Bool, eq-eqb, eqb-true}
 use Rattle.std.proofs.lemmas.List.{length-replicate}
 use Rattle.std.proofs.lemmas.Option.{slice_get_within}
-use Rattle.std.specs.Prelude.{flat_map, nat_lt, slice_get}
+use Rattle.std.specs.Prelude.{nat_lt, slice_get}
 use Rattle.sk_insn.specs.Operations.{operation_of}
 use Rattle.sk_insn.specs.Record.{word_of}
 use Rattle.sk_insn.proofs.RecordWords.{number_there, word_of_architecture}

@@ -24,6 +24,7 @@ use Rattle.sk_listing.specs.RoundTrip.{IsInRange}
 use Rattle.sk_listing.proofs.Lines.{length-line, line-says}
 use Rattle.sk_listing.proofs.Numerals.{IsWord-decimal, IsWord-distance, far-distance, near-distance, u32_of-decimal}
 use Rattle.sk_listing.proofs.Words.{AreWords, IsWord, joined-printable, length-joined, words_of-joined}
+use Rattle.sk_architectures.specs.declared.architecture.Architecture.{Architecture}
 use Rattle.sk_show.specs.declared.held.Held.{Held}
 use Rattle.sk_show.specs.Notes.{note_text}
 use Rattle.sk_show.specs.Showing.{comment_line, insn_line, label_name, shown_words, side_word}
@@ -46,17 +47,17 @@ label-says place h =
     }
 
 -- `;` begins the first word of a comment
-pub comment-short : (at : ℕ) (held : Held) (given : Insn) → at < 4096 → IsInRange given → IsShort 79 (comment_line at held given)
+pub comment-short : (by : Architecture) (at : ℕ) (held : Held) (given : Insn) → at < 4096 → IsInRange given → IsShort 79 (comment_line by at held given)
 unfolding comment_line is_printable_byte
-comment-short at held given near range =
-    IsShort-append 2 77 (codes "; ") (decimal at ++ note_text held (operation_of given.code) given) (record { short = omega arith; printable = refl })
-    (IsShort-append 11 66 (decimal at) (note_text held (operation_of given.code) given) (IsShort-decimal at (omega arith))
-    (note-short held (operation_of given.code) given range.k))
+comment-short by at held given near range =
+    IsShort-append 2 77 (codes "; ") (decimal at ++ note_text by held (operation_of given.code) given) (record { short = omega arith; printable = refl })
+    (IsShort-append 11 66 (decimal at) (note_text by held (operation_of given.code) given) (IsShort-decimal at (omega arith))
+    (note-short by held (operation_of given.code) given range.k))
 
-pub comment-says : (at : ℕ) (held : Held) (given : Insn) → at < 4096 → IsInRange given → SaysLine (comment_line at held given) Silent
+pub comment-says : (by : Architecture) (at : ℕ) (held : Held) (given : Insn) → at < 4096 → IsInRange given → SaysLine (comment_line by at held given) Silent
 unfolding comment_line statement_of
-comment-says at held given near range =
-    let all = comment-short at held given near range in
+comment-says by at held given near range =
+    let all = comment-short by at held given near range in
     let short = all.short in
     record { short = omega arith; printable = all.printable; understood = refl }
 

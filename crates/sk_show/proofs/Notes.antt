@@ -5,10 +5,9 @@ use Rattle.std.proofs.lemmas.List.Folds.{list_all-append}
 use Rattle.std.specs.Prelude.{nat_le, nat_lt, slice_get}
 use Rattle.std.specs.Fmt.{decimal}
 use Rattle.std.specs.List.{list_all}
-use Rattle.std.specs.Option.{option_and_then}
+use Rattle.std.specs.Option.{option_and_then, option_map, option_or}
 use Rattle.sk_text.specs.Lines.{is_printable_byte}
 use Rattle.sk_insn.specs.Actions.{action_of, action_name, data_part}
-use Rattle.sk_insn.specs.Record.{architecture}
 use Rattle.sk_insn.specs.declared.action.Action.{Action}
 use Rattle.sk_insn.specs.declared.action.Action.TheVariants.{KillProcess, KillThread, Trap, Errno, UserNotif, Trace, Log, Allow, Unknown}
 use Rattle.sk_insn.specs.declared.insn.Insn.{Insn}
@@ -17,6 +16,10 @@ use Rattle.sk_insn.specs.declared.operation.Comparison.{Comparison}
 use Rattle.sk_insn.specs.declared.operation.Comparison.TheVariants.{Equal, Greater, GreaterOrEqual, CommonBits}
 use Rattle.sk_insn.specs.declared.operation.Operation.{Operation}
 use Rattle.sk_insn.specs.declared.operation.Operation.TheVariants.{LoadRecord, LoadConstant, LoadScratch, LoadLength, StoreScratch, Compute, Negate, Jump, Branch, ReturnConstant, ReturnAccumulator, CopyToIndex, CopyToAccumulator}
+use Rattle.sk_architectures.specs.declared.architecture.Architecture.{Architecture as TheArchitecture}
+use Rattle.sk_architectures.specs.declared.architecture.Architecture.TheVariants as architecture
+use Rattle.sk_architectures.specs.Architectures.{text_of}
+use Rattle.sk_architectures.specs.Names.{Run, name_at, name_in, name_on, runs_of}
 use Rattle.sk_call_names.specs.Names.{name_of}
 use Rattle.sk_call_names.specs.declared.names.TheConstants.{EARLY, LATE}
 use Rattle.sk_verdict.specs.Errors.{error_named, if_any}
@@ -26,7 +29,7 @@ use Rattle.sk_listing.proofs.Numerals.{IsWord-decimal}
 use Rattle.sk_listing.proofs.Words.{joined-printable}
 use Rattle.sk_show.specs.declared.held.Held.{Held}
 use Rattle.sk_show.specs.declared.held.Held.TheVariants.{Number, Architecture, Other}
-use Rattle.sk_show.specs.Notes.{argument_text, architecture_text, call_text, compared_text, field_text, half_text, note_text}
+use Rattle.sk_show.specs.Notes.{architecture_of, architecture_text, argument_text, compared_text, field_text, half_text, named_text, note_text}
 
 -- ---- texts of at most so many printable bytes
 
@@ -114,17 +117,69 @@ errors-short : list_all (is_short 40) (map (λ name. name.now) ERRORS) ≡ true
 unfolding is_short is_printable_byte
 errors-short = refl
 
-name-short : (nr : ℕ) (name : List ℕ) → name_of nr ≡ Some name → IsShort 40 name
+native-short : (nr : ℕ) (name : List ℕ) → name_of nr ≡ Some name → IsShort 40 name
 unfolding name_of
-name-short nr name h = elim (cases_Bool (nat_lt nr 424)) [
+native-short nr name h = elim (cases_Bool (nat_lt nr 424)) [
   | inl t ↦ IsShort-from 40 name (among (is_short 40) (map (λ n. n.now) EARLY) nr name early-short (rw t at h))
   | inr f ↦ IsShort-from 40 name (among (is_short 40) (map (λ n. n.now) LATE) (nr - 424) name late-short (rw f at h))
 ]
 
-call-short : (nr : ℕ) (name : Option (List ℕ)) → name_of nr ≡ name → IsShort 41 (call_text name)
+are_short : List Run → Bool
+are_short runs = list_all (λ run. list_all (is_short 40) run.1) runs
+
+runs-short : (by : TheArchitecture) → are_short (runs_of by) ≡ true
+unfolding are_short is_short is_printable_byte runs_of
+runs-short architecture.X86_64 = refl
+runs-short architecture.X32 = refl
+runs-short architecture.I386 = refl
+runs-short architecture.Aarch64 = refl
+runs-short architecture.Arm = refl
+runs-short architecture.Riscv64 = refl
+runs-short architecture.Ppc64le = refl
+runs-short architecture.S390x = refl
+runs-short architecture.Loongarch64 = refl
+
+name_at-short : (run : Run) (nr : ℕ) (name : List ℕ) → list_all (is_short 40) run.1 ≡ true → name_at run nr ≡ Some name → IsShort 40 name
+unfolding name_at
+name_at-short run nr name all h = elim (cases_Bool (nat_lt nr run.0)) [
+  | inl t ↦ let e : None ≡ Some name = rw t at h in cc
+  | inr f ↦ IsShort-from 40 name (among (is_short 40) run.1 (nr - run.0) name all (rw f at h))
+]
+
+first-short : (run : Run) (runs : List Run) (nr : ℕ) (name : List ℕ) (found : Option (List ℕ)) → list_all (is_short 40) run.1 ≡ true
+    → (name_in runs nr ≡ Some name → IsShort 40 name) → name_at run nr ≡ found → option_or found (name_in runs nr) ≡ Some name → IsShort 40 name
+first-short run runs nr name None all later is h = later h
+first-short run runs nr name (Some text) all later is h = name_at-short run nr name all (is ∙ h)
+
+name_in-short : (runs : List Run) (nr : ℕ) (name : List ℕ) → are_short runs ≡ true → name_in runs nr ≡ Some name → IsShort 40 name
+unfolding are_short name_in
+name_in-short [] nr name all h = cc
+name_in-short (run ∷ runs) nr name all h =
+    let parts = and_parts (list_all (is_short 40) run.1) (are_short runs) all in
+    first-short run runs nr name (name_at run nr) parts.0 (name_in-short runs nr name parts.1) refl h
+
+name-short : (by : TheArchitecture) (nr : ℕ) (name : List ℕ) → name_on by nr ≡ Some name → IsShort 40 name
+unfolding name_on
+name-short architecture.X86_64 nr name h = native-short nr name h
+name-short architecture.X32 nr name h = elim (cases_Bool (nat_lt nr (2 ^ 30))) [
+  | inl t ↦ let e : None ≡ Some name = rw t at h in cc
+  | inr f ↦ name_in-short (runs_of architecture.X32) (nr - 2 ^ 30) name (runs-short architecture.X32) (rw f at h)
+]
+name-short architecture.I386 nr name h = name_in-short (runs_of architecture.I386) nr name (runs-short architecture.I386) h
+name-short architecture.Aarch64 nr name h = name_in-short (runs_of architecture.Aarch64) nr name (runs-short architecture.Aarch64) h
+name-short architecture.Arm nr name h = name_in-short (runs_of architecture.Arm) nr name (runs-short architecture.Arm) h
+name-short architecture.Riscv64 nr name h = name_in-short (runs_of architecture.Riscv64) nr name (runs-short architecture.Riscv64) h
+name-short architecture.Ppc64le nr name h = name_in-short (runs_of architecture.Ppc64le) nr name (runs-short architecture.Ppc64le) h
+name-short architecture.S390x nr name h = name_in-short (runs_of architecture.S390x) nr name (runs-short architecture.S390x) h
+name-short architecture.Loongarch64 nr name h = name_in-short (runs_of architecture.Loongarch64) nr name (runs-short architecture.Loongarch64) h
+
+named-short : (name : Option (List ℕ)) → ((text : List ℕ) → name ≡ Some text → IsShort 40 text) → IsShort 41 (named_text name)
 unfolding is_short is_printable_byte
-call-short nr None h = IsShort-nothing 41
-call-short nr (Some name) h = IsShort-append 1 40 (codes " ") name (IsShort-from 1 (codes " ") refl) (name-short nr name h)
+named-short None each = IsShort-nothing 41
+named-short (Some name) each = IsShort-append 1 40 (codes " ") name (IsShort-from 1 (codes " ") refl) (each name refl)
+
+call-short : (by : TheArchitecture) (nr : ℕ) → IsShort 41 (named_text (name_on by nr))
+call-short by nr = named-short (name_on by nr) (name-short by nr)
 
 any_same : (text name : List ℕ) → if_any text ≡ Some name → text ≡ name
 any_same [] name h = cc
@@ -181,38 +236,53 @@ verdict-short value h =
 
 -- ---- all
 
-architecture-short : (number : ℕ) → IsShort 41 (architecture_text number)
+text-short : (by : TheArchitecture) → IsShort 41 (codes " " ++ text_of by)
 unfolding is_short is_printable_byte
-architecture-short number = IsShort-cond 41 (number == architecture) _ _ (IsShort-from 41 (codes " x86-64") refl) (IsShort-nothing 41)
+text-short architecture.X86_64 = IsShort-from 41 (codes " x86-64") refl
+text-short architecture.X32 = IsShort-from 41 (codes " x32") refl
+text-short architecture.I386 = IsShort-from 41 (codes " i386") refl
+text-short architecture.Aarch64 = IsShort-from 41 (codes " aarch64") refl
+text-short architecture.Arm = IsShort-from 41 (codes " arm") refl
+text-short architecture.Riscv64 = IsShort-from 41 (codes " riscv64") refl
+text-short architecture.Ppc64le = IsShort-from 41 (codes " ppc64le") refl
+text-short architecture.S390x = IsShort-from 41 (codes " s390x") refl
+text-short architecture.Loongarch64 = IsShort-from 41 (codes " loongarch64") refl
 
-compared-short : (held : Held) (comparison : Comparison) (number : ℕ) → IsShort 41 (compared_text held comparison number)
-compared-short Number CommonBits number = IsShort-nothing 41
-compared-short Architecture CommonBits number = IsShort-nothing 41
-compared-short Other CommonBits number = IsShort-nothing 41
-compared-short Number Equal number = call-short number (name_of number) refl
-compared-short Number Greater number = call-short number (name_of number) refl
-compared-short Number GreaterOrEqual number = call-short number (name_of number) refl
-compared-short Architecture Equal number = architecture-short number
-compared-short Architecture Greater number = architecture-short number
-compared-short Architecture GreaterOrEqual number = architecture-short number
-compared-short Other Equal number = IsShort-nothing 41
-compared-short Other Greater number = IsShort-nothing 41
-compared-short Other GreaterOrEqual number = IsShort-nothing 41
+found-short : (found : Option TheArchitecture) → IsShort 41 (named_text (option_map text_of found))
+found-short None = IsShort-nothing 41
+found-short (Some by) = text-short by
 
-pub note-short : (held : Held) (operation : Option Operation) (given : Insn) → given.k < 2 ^ 32 → IsShort 66 (note_text held operation given)
+architecture-short : (number : ℕ) → IsShort 41 (architecture_text number)
+architecture-short number = found-short (architecture_of number)
+
+compared-short : (by : TheArchitecture) (held : Held) (comparison : Comparison) (number : ℕ) → IsShort 41 (compared_text by held comparison number)
+compared-short by Number CommonBits number = IsShort-nothing 41
+compared-short by Architecture CommonBits number = IsShort-nothing 41
+compared-short by Other CommonBits number = IsShort-nothing 41
+compared-short by Number Equal number = call-short by number
+compared-short by Number Greater number = call-short by number
+compared-short by Number GreaterOrEqual number = call-short by number
+compared-short by Architecture Equal number = architecture-short number
+compared-short by Architecture Greater number = architecture-short number
+compared-short by Architecture GreaterOrEqual number = architecture-short number
+compared-short by Other Equal number = IsShort-nothing 41
+compared-short by Other Greater number = IsShort-nothing 41
+compared-short by Other GreaterOrEqual number = IsShort-nothing 41
+
+pub note-short : (by : TheArchitecture) (held : Held) (operation : Option Operation) (given : Insn) → given.k < 2 ^ 32 → IsShort 66 (note_text by held operation given)
 unfolding note_text is_short is_printable_byte
-note-short held None given h = IsShort-nothing 66
-note-short held (Some LoadRecord) given h = IsShort-weaker 23 66 _ (omega arith) (field-short given.k h)
-note-short held (Some (Branch comparison Constant)) given h = IsShort-weaker 41 66 _ (omega arith) (compared-short held comparison given.k)
-note-short held (Some (Branch comparison IndexRegister)) given h = IsShort-nothing 66
-note-short held (Some ReturnConstant) given h = IsShort-append 1 65 (codes " ") (verdict_text given.k) (IsShort-from 1 (codes " ") refl) (verdict-short given.k h)
-note-short held (Some (LoadConstant register)) given h = IsShort-nothing 66
-note-short held (Some (LoadScratch register)) given h = IsShort-nothing 66
-note-short held (Some (LoadLength register)) given h = IsShort-nothing 66
-note-short held (Some (StoreScratch register)) given h = IsShort-nothing 66
-note-short held (Some (Compute arithmetic right)) given h = IsShort-nothing 66
-note-short held (Some Negate) given h = IsShort-nothing 66
-note-short held (Some Jump) given h = IsShort-nothing 66
-note-short held (Some ReturnAccumulator) given h = IsShort-nothing 66
-note-short held (Some CopyToIndex) given h = IsShort-nothing 66
-note-short held (Some CopyToAccumulator) given h = IsShort-nothing 66
+note-short by held None given h = IsShort-nothing 66
+note-short by held (Some LoadRecord) given h = IsShort-weaker 23 66 _ (omega arith) (field-short given.k h)
+note-short by held (Some (Branch comparison Constant)) given h = IsShort-weaker 41 66 _ (omega arith) (compared-short by held comparison given.k)
+note-short by held (Some (Branch comparison IndexRegister)) given h = IsShort-nothing 66
+note-short by held (Some ReturnConstant) given h = IsShort-append 1 65 (codes " ") (verdict_text given.k) (IsShort-from 1 (codes " ") refl) (verdict-short given.k h)
+note-short by held (Some (LoadConstant register)) given h = IsShort-nothing 66
+note-short by held (Some (LoadScratch register)) given h = IsShort-nothing 66
+note-short by held (Some (LoadLength register)) given h = IsShort-nothing 66
+note-short by held (Some (StoreScratch register)) given h = IsShort-nothing 66
+note-short by held (Some (Compute arithmetic right)) given h = IsShort-nothing 66
+note-short by held (Some Negate) given h = IsShort-nothing 66
+note-short by held (Some Jump) given h = IsShort-nothing 66
+note-short by held (Some ReturnAccumulator) given h = IsShort-nothing 66
+note-short by held (Some CopyToIndex) given h = IsShort-nothing 66
+note-short by held (Some CopyToAccumulator) given h = IsShort-nothing 66

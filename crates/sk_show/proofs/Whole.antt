@@ -14,6 +14,7 @@ use Rattle.sk_asm.specs.Grammar.{Statement, Silent, Marks, Plain, Jumps as Jumps
 use Rattle.sk_asm.specs.Labels.{Labels, label_place}
 use Rattle.sk_listing.specs.RoundTrip.{IsInRange}
 use Rattle.sk_listing.proofs.Words.{lines_of-line}
+use Rattle.sk_architectures.specs.declared.architecture.Architecture.{Architecture}
 use Rattle.sk_show.specs.declared.held.Held.{Held}
 use Rattle.sk_show.specs.declared.held.Held.TheVariants.{Other}
 use Rattle.sk_show.specs.Holding.{Jumps, held_before, held_behind, jump_to, jumps_behind, next_behind, ways_from, ways_to}
@@ -118,7 +119,7 @@ text-length line lines =
     omega arith
 
 -- the comment and the line of an instruction, in front of those of the others
-module _ (count at : ℕ) (jumps : Jumps) (held behind : Held) (given : Insn) (insns : List Insn) (lines : List (List ℕ))
+module _ (by : Architecture) (count at : ℕ) (jumps : Jumps) (held behind : Held) (given : Insn) (insns : List Insn) (lines : List (List ℕ))
     (few : count ≤ 4096) (len : length jumps ≡ count) (within : at < count) (range : IsInRange given)
     (rest : Shown count (at + 1) (jumps_behind at (onward at (operation_of given.code) given) behind jumps) lines insns) where
   labelled : (labels : Labels)
@@ -133,24 +134,24 @@ module _ (count at : ℕ) (jumps : Jumps) (held behind : Held) (given : Insn) (i
       rest.given place (omega arith) inside (still-jump at place (onward at (operation_of given.code) given) behind jumps (omega arith) has)
 
   front-short : length (insn_line count at given) ≤ 64
-      → length (text_of (comment_line at held given ∷ insn_line count at given ∷ lines)) ≤ 148 + 160 * (length (given ∷ insns) - 1)
+      → length (text_of (comment_line by at held given ∷ insn_line count at given ∷ lines)) ≤ 148 + 160 * (length (given ∷ insns) - 1)
   front-short most =
-      let comment = comment-short at held given (omega arith) range in
+      let comment = comment-short by at held given (omega arith) range in
       let first = comment.short in
       let others = rest.short in
-      let one = text-length (comment_line at held given) (insn_line count at given ∷ lines) in
+      let one = text-length (comment_line by at held given) (insn_line count at given ∷ lines) in
       let two = text-length (insn_line count at given) lines in
       omega arith
 
   front : (statement : Statement) → SaysLine (insn_line count at given) statement
       → ((labels : Labels) → AreLabelled count at given labels → StandFor labels at (statement ∷ []) (given ∷ []))
       → length (insn_line count at given) ≤ 64
-      → Unlabelled count at jumps (comment_line at held given ∷ insn_line count at given ∷ lines) (given ∷ insns)
+      → Unlabelled count at jumps (comment_line by at held given ∷ insn_line count at given ∷ lines) (given ∷ insns)
   front Silent said stand most = absurd (stand (labels_from (at + 1) rest.statements) (labelled (labels_from (at + 1) rest.statements) (λ place inside h. h)))
   front (Marks name) said stand most = absurd (stand (labels_from (at + 1) rest.statements) (labelled (labels_from (at + 1) rest.statements) (λ place inside h. h)))
   front (Plain other) said stand most = record {
     statements = Silent ∷ Plain other ∷ rest.statements;
-    says = (comment-says at held given (omega arith) range, (said, rest.says));
+    says = (comment-says by at held given (omega arith) range, (said, rest.says));
     ordered = rest.ordered;
     given = still-given;
     stand = λ labels up. ((stand labels (labelled labels up)).0, rest.stand labels up);
@@ -158,7 +159,7 @@ module _ (count at : ℕ) (jumps : Jumps) (held behind : Held) (given : Insn) (i
   }
   front (JumpsTo code to) said stand most = record {
     statements = Silent ∷ JumpsTo code to ∷ rest.statements;
-    says = (comment-says at held given (omega arith) range, (said, rest.says));
+    says = (comment-says by at held given (omega arith) range, (said, rest.says));
     ordered = rest.ordered;
     given = still-given;
     stand = λ labels up. ((stand labels (labelled labels up)).0, rest.stand labels up);
@@ -166,7 +167,7 @@ module _ (count at : ℕ) (jumps : Jumps) (held behind : Held) (given : Insn) (i
   }
   front (Branches code k jt jf) said stand most = record {
     statements = Silent ∷ Branches code k jt jf ∷ rest.statements;
-    says = (comment-says at held given (omega arith) range, (said, rest.says));
+    says = (comment-says by at held given (omega arith) range, (said, rest.says));
     ordered = rest.ordered;
     given = still-given;
     stand = λ labels up. ((stand labels (labelled labels up)).0, rest.stand labels up);
@@ -212,10 +213,10 @@ with-label count at jumps (Some held) lines given insns few within some rest = r
       omega arith;
 }
 
-shown-from : (count at : ℕ) (jumps : Jumps) (next : Option Held) (insns : List Insn) → count ≤ 4096 → length jumps ≡ count → at + length insns ≡ count → All IsInRange insns
-    → Shown count at jumps (lines_from count at (ways_from at jumps next insns) insns) insns
+shown-from : (by : Architecture) (count at : ℕ) (jumps : Jumps) (next : Option Held) (insns : List Insn) → count ≤ 4096 → length jumps ≡ count → at + length insns ≡ count → All IsInRange insns
+    → Shown count at jumps (lines_from by count at (ways_from at jumps next insns) insns) insns
 unfolding lines_from ways_from
-shown-from count at jumps next [] few len all ranges = record {
+shown-from by count at jumps next [] few len all ranges = record {
   statements = [];
   says = tt;
   ordered = tt;
@@ -223,30 +224,30 @@ shown-from count at jumps next [] few len all ranges = record {
   stand = λ labels up. tt;
   short = omega arith;
 }
-shown-from count at jumps next (given ∷ insns) few len all ranges =
+shown-from by count at jumps next (given ∷ insns) few len all ranges =
     let range = All-head IsInRange given insns ranges in
     let within : at < count = omega arith in
     let goes = onward at (operation_of given.code) given in
     let held = held_before (jump_to jumps at) next in
     let behind = held_behind (operation_of given.code) given held in
-    let others = lines_from count (at + 1) (ways_from (at + 1) (jumps_behind at goes behind jumps) (next_behind at goes behind) insns) insns in
+    let others = lines_from by count (at + 1) (ways_from (at + 1) (jumps_behind at goes behind jumps) (next_behind at goes behind) insns) insns in
     let rest : Shown count (at + 1) (jumps_behind at goes behind jumps) others insns =
-    shown-from count (at + 1) (jumps_behind at goes behind jumps) (next_behind at goes behind) insns few (jumps-length at goes behind jumps ∙ len) (omega arith)
+    shown-from by count (at + 1) (jumps_behind at goes behind jumps) (next_behind at goes behind) insns few (jumps-length at goes behind jumps ∙ len) (omega arith)
     (All-tail IsInRange given insns ranges)
     in
     let line = said-line count at given few range in
-    let here = front count at jumps held behind given insns others few len within range rest line.statement line.says line.stand line.short in
+    let here = front by count at jumps held behind given insns others few len within range rest line.statement line.says line.stand line.short in
     subst (λ lines. Shown count at jumps lines (given ∷ insns))
-    (sym (append_assoc (label_lines at (jump_to jumps at)) (comment_line at held given ∷ insn_line count at given ∷ []) others))
-    (with-label count at jumps (jump_to jumps at) (comment_line at held given ∷ insn_line count at given ∷ others) given insns few within refl here)
+    (sym (append_assoc (label_lines at (jump_to jumps at)) (comment_line by at held given ∷ insn_line count at given ∷ []) others))
+    (with-label count at jumps (jump_to jumps at) (comment_line by at held given ∷ insn_line count at given ∷ others) given insns few within refl here)
 
 pub shown_assembles : ShownAssembles
 unfolding ways_to
-shown_assembles insns ranges few =
+shown_assembles by insns ranges few =
     let count = length insns in
-    let all = shown-from count 0 (replicate count None) (Some Other) insns few (length-replicate count None) (omega arith) ranges in
+    let all = shown-from by count 0 (replicate count None) (Some Other) insns few (length-replicate count None) (omega arith) ranges in
     let short = all.short in
-    let same = text_lines (lines_from count 0 (ways_from 0 (replicate count None) (Some Other) insns) insns) all.statements all.says in (
+    let same = text_lines (lines_from by count 0 (ways_from 0 (replicate count None) (Some Other) insns) insns) all.statements all.says in (
       omega arith,
       (
         all.statements,
@@ -260,5 +261,5 @@ shown_assembles insns ranges few =
     )
 
 -- the text of a loop that has come to the end of the instructions
-pub text-assembles : (insns : List Insn) (text : List ℕ) → text ≡ show_text insns → All IsInRange insns → length insns ≤ 4096 → AssemblesText text insns
-text-assembles insns text same ranges few = subst (λ t. AssemblesText t insns) (sym same) (shown_assembles insns ranges few)
+pub text-assembles : (by : Architecture) (insns : List Insn) (text : List ℕ) → text ≡ show_text by insns → All IsInRange insns → length insns ≤ 4096 → AssemblesText text insns
+text-assembles by insns text same ranges few = subst (λ t. AssemblesText t insns) (sym same) (shown_assembles by insns ranges few)

@@ -1,16 +1,18 @@
 -- What is said of an instruction beside its place: the field of `struct seccomp_data` of seccomp(2) that a load brings,
 -- what A is compared with where A holds the call's number or the architecture, and what a constant that is returned makes
--- of the call.
-use Rattle.std.specs.Prelude.{ℕ, ◌-◌, ◌/◌, ◌%◌, ◌==◌, ◌&&◌, ◌++◌, nat_le, nat_lt, if◌then◌else◌, List, [], codes, Option, Some, None}
+-- of the call. A number is that of a call of the architecture that is asked about.
+use Rattle.std.specs.Prelude.{ℕ, ◌-◌, ◌/◌, ◌%◌, ◌==◌, ◌&&◌, ◌++◌, nat_le, nat_lt, if◌then◌else◌, List, [], codes, find, Option, Some, None}
 use Rattle.std.specs.Fmt.{decimal}
+use Rattle.std.specs.Option.{option_map}
 use Rattle.sk_insn.specs.declared.insn.Insn.{Insn}
 use Rattle.sk_insn.specs.declared.operation.Operand.TheVariants.{Constant}
 use Rattle.sk_insn.specs.declared.operation.Comparison.{Comparison}
 use Rattle.sk_insn.specs.declared.operation.Comparison.TheVariants.{CommonBits}
 use Rattle.sk_insn.specs.declared.operation.Operation.{Operation}
 use Rattle.sk_insn.specs.declared.operation.Operation.TheVariants.{LoadRecord, Branch, ReturnConstant}
-use Rattle.sk_insn.specs.Record.{architecture}
-use Rattle.sk_call_names.specs.Names.{name_of}
+use Rattle.sk_architectures.specs.declared.architecture.Architecture.{Architecture as TheArchitecture}
+use Rattle.sk_architectures.specs.Architectures.{architectures, audit_of, text_of}
+use Rattle.sk_architectures.specs.Names.{name_on}
 use Rattle.sk_verdict.specs.Verdicts.{verdict_text}
 use Rattle.sk_show.specs.declared.held.Held.{Held}
 use Rattle.sk_show.specs.declared.held.Held.TheVariants.{Number, Architecture, Other}
@@ -37,26 +39,30 @@ field_text place =
 
 -- ---- comparisons
 
--- the name of the call with this number, if there is one
-abbrev pub call_text : Option (List ℕ) → List ℕ
-call_text None = []
-call_text (Some name) = codes " " ++ name
+-- a name, if there is one
+abbrev pub named_text : Option (List ℕ) → List ℕ
+named_text None = []
+named_text (Some name) = codes " " ++ name
+
+-- the first architecture that a filter is shown by this number: x86-64 for the number that x32 has too
+abbrev pub architecture_of : ℕ → Option TheArchitecture
+architecture_of number = find (λ architecture. audit_of architecture == number) architectures
 
 abbrev pub architecture_text : ℕ → List ℕ
-architecture_text number = if number == architecture then codes " x86-64" else []
+architecture_text number = named_text (option_map text_of (architecture_of number))
 
 -- bits of a number are those of no call
-abbrev pub compared_text : Held → Comparison → ℕ → List ℕ
-compared_text held CommonBits number = []
-compared_text Number comparison number = call_text (name_of number)
-compared_text Architecture comparison number = architecture_text number
-compared_text Other comparison number = []
+abbrev pub compared_text : TheArchitecture → Held → Comparison → ℕ → List ℕ
+compared_text by held CommonBits number = []
+compared_text by Number comparison number = named_text (name_on by number)
+compared_text by Architecture comparison number = architecture_text number
+compared_text by Other comparison number = []
 
 -- ---- all
 
 -- of an instruction before which A holds this
-unfoldable pub note_text : Held → Option Operation → Insn → List ℕ
-note_text held (Some LoadRecord) insn = field_text insn.k
-note_text held (Some (Branch comparison Constant)) insn = compared_text held comparison insn.k
-note_text held (Some ReturnConstant) insn = codes " " ++ verdict_text insn.k
-note_text held operation insn = []
+unfoldable pub note_text : TheArchitecture → Held → Option Operation → Insn → List ℕ
+note_text by held (Some LoadRecord) insn = field_text insn.k
+note_text by held (Some (Branch comparison Constant)) insn = compared_text by held comparison insn.k
+note_text by held (Some ReturnConstant) insn = codes " " ++ verdict_text insn.k
+note_text by held operation insn = []

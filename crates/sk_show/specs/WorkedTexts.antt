@@ -2,7 +2,8 @@
 use Rattle.std.specs.Prelude.{◌≡◌, ◌++◌, List, [], ◌∷◌, codes}
 use Rattle.sk_insn.specs.declared.insn.Insn.{Insn}
 use Rattle.sk_asm.specs.Grammar.{insn}
-use Rattle.sk_show.specs.Notes.{field_text}
+use Rattle.sk_architectures.specs.declared.architecture.Architecture.TheVariants as architecture
+use Rattle.sk_show.specs.Notes.{architecture_text, field_text}
 use Rattle.sk_show.specs.Showing.{show_text, side_word}
 
 -- the architecture, then the number, then an argument: clone(2) with no bit of the first argument, and any call but execve(2)
@@ -39,9 +40,9 @@ ways =
     []
 
 pub record WorkedTexts : Type 0 where
-  pub no_instruction : show_text [] ≡ []
+  pub no_instruction : show_text architecture.X86_64 [] ≡ []
   pub filter :
-      show_text filter
+      show_text architecture.X86_64 filter
       ≡ codes "; 0 arch\n    ldabs 4\n"
       ++ (codes "; 1 x86-64\n    jeq 3221225534 at3 +0\n"
       ++ (codes "; 2 kill_process\n    ret 0x80000000\n"
@@ -57,7 +58,7 @@ pub record WorkedTexts : Type 0 where
       ++ (codes "at12:\n; 12 trap/5\n    ret 0x00030005\n"
       ++ codes "at13:\n; 13\n    reta\n"))))))))))))
   pub ways :
-      show_text ways
+      show_text architecture.X86_64 ways
       ≡ codes "; 0 nr\n    ldabs 0\n"
       ++ (codes "; 1 times\n    jge 100 at3 +0\n"
       ++ (codes "; 2\n    jeqx +0 +0\n"
@@ -68,16 +69,23 @@ pub record WorkedTexts : Type 0 where
       ++ (codes "; 7\n    .insn 0x001d 0 1 0x00000001\n"
       ++ codes "; 8\n    jeq 0 +0 +9\n")))))))
   pub kept :
-      show_text
+      show_text architecture.X86_64
       (insn 0x20 0 0 0 ∷ insn 0x07 0 0 0 ∷ insn 0x02 0 0 3 ∷ insn 0x01 0 0 7 ∷ insn 0x15 0 0 39 ∷ insn 0x54 0 0 1 ∷ insn 0x15 0 0 39 ∷ insn 0x06 0 0 0 ∷ [])
       ≡ codes "; 0 nr\n    ldabs 0\n; 1\n    tax\n; 2\n    st 3\n; 3\n    ldximm 7\n; 4 getpid\n    jeq 39 +0 +0\n"
       ++ codes "; 5\n    and 1\n; 6\n    jeq 39 +0 +0\n; 7 kill_thread\n    ret 0x00000000\n"
   pub not_named :
-      show_text (insn 0x20 0 0 0 ∷ insn 0x45 0 0 39 ∷ insn 0x15 0 0 1000 ∷ insn 0x1d 0 0 0 ∷ insn 0x20 0 0 4 ∷ insn 0x15 1 0 0x40000003 ∷ insn 0x00 0 0 0 ∷ [])
+      show_text architecture.X86_64 (insn 0x20 0 0 0 ∷ insn 0x45 0 0 39 ∷ insn 0x15 0 0 1000 ∷ insn 0x1d 0 0 0 ∷ insn 0x20 0 0 4 ∷ insn 0x15 1 0 0xc0000032 ∷ insn 0x00 0 0 0 ∷ [])
       ≡ codes "; 0 nr\n    ldabs 0\n; 1\n    jset 39 +0 +0\n; 2\n    jeq 1000 +0 +0\n; 3\n    jeqx +0 +0\n; 4 arch\n    ldabs 4\n"
-      ++ codes "; 5\n    jeq 1073741827 +1 +0\n; 6\n    ldimm 0\n"
+      ++ codes "; 5\n    jeq 3221225522 +1 +0\n; 6\n    ldimm 0\n"
+  pub on_aarch64 :
+      show_text architecture.Aarch64 (insn 0x20 0 0 4 ∷ insn 0x15 0 1 0xc00000b7 ∷ insn 0x15 0 0 0x40000003 ∷ insn 0x20 0 0 0 ∷ insn 0x15 0 0 59 ∷ insn 0x15 0 0 221 ∷ insn 0x06 0 0 0 ∷ [])
+      ≡ codes "; 0 arch\n    ldabs 4\n; 1 aarch64\n    jeq 3221225655 +0 at3\n; 2 i386\n    jeq 1073741827 +0 +0\nat3:\n; 3 nr\n    ldabs 0\n"
+      ++ codes "; 4 pipe2\n    jeq 59 +0 +0\n; 5 execve\n    jeq 221 +0 +0\n; 6 kill_thread\n    ret 0x00000000\n"
+  pub on_x32 :
+      show_text architecture.X32 (insn 0x20 0 0 4 ∷ insn 0x15 0 0 0xc000003e ∷ insn 0x20 0 0 0 ∷ insn 0x15 0 0 0 ∷ insn 0x15 0 0 0x40000000 ∷ [])
+      ≡ codes "; 0 arch\n    ldabs 4\n; 1 x86-64\n    jeq 3221225534 +0 +0\n; 2 nr\n    ldabs 0\n; 3\n    jeq 0 +0 +0\n; 4 read\n    jeq 1073741824 +0 +0\n"
   pub small :
-      show_text (insn 0x20 0 0 0 ∷ insn 0x15 1 0 59 ∷ insn 0x06 0 0 0x7fff0000 ∷ insn 0x06 0 0 0x00050001 ∷ [])
+      show_text architecture.X86_64 (insn 0x20 0 0 0 ∷ insn 0x15 1 0 59 ∷ insn 0x06 0 0 0x7fff0000 ∷ insn 0x06 0 0 0x00050001 ∷ [])
       ≡ codes "; 0 nr\n    ldabs 0\n; 1 execve\n    jeq 59 at3 +0\n; 2 allow\n    ret 0x7fff0000\nat3:\n; 3 errno/1 EPERM\n    ret 0x00050001\n"
   pub next : side_word 9 3 0 ≡ codes "+0"
   pub last : side_word 9 3 5 ≡ codes "+5"
@@ -88,3 +96,5 @@ pub record WorkedTexts : Type 0 where
   pub last_argument : field_text 60 ≡ codes " args[5] high"
   pub no_field : field_text 64 ≡ []
   pub no_word : field_text 18 ≡ []
+  pub big_endian : architecture_text 0x80000016 ≡ codes " s390x"
+  pub no_architecture : architecture_text 62 ≡ []

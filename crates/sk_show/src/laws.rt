@@ -5,16 +5,21 @@ ghost use Rattle.sk_show.specs.RoundTrip.{ShownAssembles};
 ghost use Rattle.sk_show.specs.WorkedTexts.{WorkedTexts};
 
 use crate::listing::show;
+use sk_architectures::Architecture;
 use sk_asm::{AsmFault, assemble};
 use sk_check::Checked;
 use sk_insn::Insn;
 use std::alloc::Global;
 
 /// What is shown and assembled again is the same; only memory can be refused.
-pub fn assemble_shown(alloc: Global, program: &Checked) -> Result<Vec<Insn>, AsmFault>
+pub fn assemble_shown(
+    alloc: Global,
+    architecture: Architecture,
+    program: &Checked,
+) -> Result<Vec<Insn>, AsmFault>
     ensures same { Finds (λ found. found.items) result program.now }
 {
-    let text = show(alloc, program)?;
+    let text = show(alloc, architecture, program)?;
     assemble(alloc, text.as_bytes())
 }
 

@@ -7,6 +7,7 @@ ghost use Rattle.sk_show.specs.Showing.{comment_line, insn_line, label_lines, la
 
 use crate::held::Held;
 use crate::note::push_note;
+use sk_architectures::Architecture;
 use sk_insn::{Comparison, Insn, Operand, Operation, decode};
 use sk_listing::push_words;
 use std::alloc::AllocError;
@@ -15,6 +16,7 @@ use std::fmt::Write;
 // Appends the lines of the instruction at a place among so many.
 pub(crate) fn push_lines(
     text: &mut String,
+    architecture: Architecture,
     count: usize,
     at: usize,
     jump: Option<Held>,
@@ -22,12 +24,12 @@ pub(crate) fn push_lines(
     insn: Insn,
 ) -> Result<(), AllocError>
     requires near { at < 2 ^ 32 }
-    ensures lines { OnOk result (string_bytes text.new ≡ string_bytes text.old ++ text_of (lines_of_insn count at (record { jump = jump; held = held }) insn)) }
+    ensures lines { OnOk result (string_bytes text.new ≡ string_bytes text.old ++ text_of (lines_of_insn architecture count at (record { jump = jump; held = held }) insn)) }
     // what the type says of its fields
     ensures range { IsInRange insn }
 {
     push_label(text, at, jump)?;
-    push_comment(text, at, held, insn)?;
+    push_comment(text, architecture, at, held, insn)?;
     push_insn(text, count, at, insn)
 }
 
@@ -41,11 +43,17 @@ fn push_label(text: &mut String, at: usize, jump: Option<Held>) -> Result<(), Al
 }
 
 #[tactic(auto, unfolding(crate::specs::Showing::comment_line))]
-fn push_comment(text: &mut String, at: usize, held: Held, insn: Insn) -> Result<(), AllocError>
-    ensures comment { OnOk result (string_bytes text.new ≡ string_bytes text.old ++ text_of (comment_line at held insn ∷ [])) }
+fn push_comment(
+    text: &mut String,
+    architecture: Architecture,
+    at: usize,
+    held: Held,
+    insn: Insn,
+) -> Result<(), AllocError>
+    ensures comment { OnOk result (string_bytes text.new ≡ string_bytes text.old ++ text_of (comment_line architecture at held insn ∷ [])) }
 {
     write!(text, "; {at}")?;
-    push_note(text, held, insn)?;
+    push_note(text, architecture, held, insn)?;
     text.push_str("\n")
 }
 

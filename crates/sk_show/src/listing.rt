@@ -6,21 +6,27 @@ ghost use Rattle.sk_show.specs.Showing.{show_text};
 use crate::held::{Held, held_before, held_behind};
 use crate::line::push_lines;
 use crate::ways::{go_on, jump_to, no_jumps};
+use sk_architectures::Architecture;
 use sk_check::Checked;
 use sk_insn::Insn;
 use std::alloc::{AllocError, Global};
 
-/// The text of a filter for people: the instructions with their places, with labels where jumps go, and with notes.
-pub fn show(alloc: Global, program: &Checked) -> Result<String, AllocError>
-    ensures text { IfOk result (λ text. string_bytes text ≡ show_text program.now) }
+/// The text of a filter for people: the instructions with their places, with labels where jumps go, and with notes. Numbers
+/// of calls are taken for those of this architecture.
+pub fn show(
+    alloc: Global,
+    architecture: Architecture,
+    program: &Checked,
+) -> Result<String, AllocError>
+    ensures text { IfOk result (λ text. string_bytes text ≡ show_text architecture program.now) }
     ensures assembles { IfOk result (λ text. AssemblesText (string_bytes text) program.now) }
 {
-    shown(alloc, program.insns())
+    shown(alloc, architecture, program.insns())
 }
 
-fn shown(alloc: Global, insns: &[Insn]) -> Result<String, AllocError>
+fn shown(alloc: Global, architecture: Architecture, insns: &[Insn]) -> Result<String, AllocError>
     requires few { length insns.now ≤ 4096 }
-    ensures text { IfOk result (λ text. string_bytes text ≡ show_text insns.now) }
+    ensures text { IfOk result (λ text. string_bytes text ≡ show_text architecture insns.now) }
     ensures assembles { IfOk result (λ text. AssemblesText (string_bytes text) insns.now) }
 {
     let mut text = String::new(alloc);
@@ -31,7 +37,7 @@ fn shown(alloc: Global, insns: &[Insn]) -> Result<String, AllocError>
     while let Some((insn, left)) = rest.split_first() {
         let jump = jump_to(&jumps, at);
         let held = held_before(jump, next);
-        push_lines(&mut text, insns.len(), at, jump, held, *insn)?;
+        push_lines(&mut text, architecture, insns.len(), at, jump, held, *insn)?;
         next = go_on(&mut jumps, at, *insn, held_behind(*insn, held));
         at += 1;
         rest = left;

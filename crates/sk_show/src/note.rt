@@ -2,24 +2,29 @@
 ghost use Rattle.std.specs.Prelude.{◌≡◌, ◌++◌, ◌≤◌, ◌<◌, OnOk, string_bytes};
 ghost use Rattle.std.specs.Option.{option_map};
 ghost use Rattle.sk_insn.specs.Operations.{operation_of};
-ghost use Rattle.sk_show.specs.Notes.{argument_text, architecture_text, call_text, compared_text, field_text, half_text, note_text};
+ghost use Rattle.sk_show.specs.Notes.{argument_text, architecture_of, architecture_text, compared_text, field_text, half_text, named_text, note_text};
 
 use crate::held::Held;
-use sk_call_names::name;
-use sk_insn::{ARCHITECTURE, Comparison, Insn, Operand, Operation, decode};
+use sk_architectures::{Architecture, name};
+use sk_insn::{Comparison, Insn, Operand, Operation, decode};
 use sk_verdict::push_verdict;
 use std::alloc::AllocError;
 use std::fmt::Write;
 
 // Appends what is said of an instruction before which A holds this.
 #[tactic(auto, unfolding(crate::specs::Notes::note_text))]
-pub(crate) fn push_note(text: &mut String, held: Held, insn: Insn) -> Result<(), AllocError>
-    ensures note { OnOk result (string_bytes text.new ≡ string_bytes text.old ++ note_text held (operation_of insn.code) insn) }
+pub(crate) fn push_note(
+    text: &mut String,
+    architecture: Architecture,
+    held: Held,
+    insn: Insn,
+) -> Result<(), AllocError>
+    ensures note { OnOk result (string_bytes text.new ≡ string_bytes text.old ++ note_text architecture held (operation_of insn.code) insn) }
 {
     match decode(insn.code) {
         Some(Operation::LoadRecord) => push_field(text, insn.k),
         Some(Operation::Branch(comparison, Operand::Constant)) => {
-            push_compared(text, held, comparison, insn.k)
+            push_compared(text, architecture, held, comparison, insn.k)
         }
         Some(Operation::ReturnConstant) => {
             text.push_str(" ")?;
@@ -61,22 +66,23 @@ fn half(place: u32) -> &'static str
 
 fn push_compared(
     text: &mut String,
+    architecture: Architecture,
     held: Held,
     comparison: Comparison,
     number: u32,
 ) -> Result<(), AllocError>
-    ensures compared { OnOk result (string_bytes text.new ≡ string_bytes text.old ++ compared_text held comparison number) }
+    ensures compared { OnOk result (string_bytes text.new ≡ string_bytes text.old ++ compared_text architecture held comparison number) }
 {
     match (held, comparison) {
         (_, Comparison::CommonBits) => Ok(()),
-        (Held::Number, _) => push_call(text, name(number)),
+        (Held::Number, _) => push_named(text, name(architecture, number)),
         (Held::Architecture, _) => push_architecture(text, number),
         (Held::Other, _) => Ok(()),
     }
 }
 
-fn push_call(text: &mut String, name: Option<&str>) -> Result<(), AllocError>
-    ensures call { OnOk result (string_bytes text.new ≡ string_bytes text.old ++ call_text (option_map (λ name. name.now) name.entry)) }
+fn push_named(text: &mut String, name: Option<&str>) -> Result<(), AllocError>
+    ensures name { OnOk result (string_bytes text.new ≡ string_bytes text.old ++ named_text (option_map (λ name. name.now) name.entry)) }
 {
     match name {
         Some(name) => write!(text, " {name}"),
@@ -87,9 +93,15 @@ fn push_call(text: &mut String, name: Option<&str>) -> Result<(), AllocError>
 fn push_architecture(text: &mut String, number: u32) -> Result<(), AllocError>
     ensures architecture { OnOk result (string_bytes text.new ≡ string_bytes text.old ++ architecture_text number) }
 {
-    if number == ARCHITECTURE {
-        text.push_str(" x86-64")
-    } else {
-        Ok(())
-    }
+    push_named(text, architecture_of(number).map(Architecture::text))
+}
+
+// The first architecture that a filter is shown by this number.
+fn architecture_of(number: u32) -> Option<Architecture>
+    ensures first { result ≡ architecture_of number }
+{
+    Architecture::ALL
+        .iter()
+        .copied()
+        .find(|architecture| architecture.audit() == number)
 }

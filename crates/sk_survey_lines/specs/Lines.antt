@@ -2,7 +2,8 @@
 use Rattle.std.specs.Prelude.{ℕ, ◌≡◌, ◌+◌, ◌^◌, Bool, true, false, is_some, IsTrue, List, [], map, Option, Some, None, IfSome}
 use Rattle.std.specs.List.{All}
 use Rattle.sk_insn.specs.declared.insn.Insn.{Insn}
-use Rattle.sk_call_names.specs.Names.{name_of}
+use Rattle.sk_architectures.specs.declared.architecture.Architecture.{Architecture}
+use Rattle.sk_architectures.specs.Names.{name_on}
 use Rattle.sk_survey.specs.declared.rows.Row.{Row}
 use Rattle.sk_survey.specs.Answers.{answers_of}
 use Rattle.sk_survey.specs.Surveys.{Tell, TellsAlone}
@@ -38,12 +39,12 @@ pub record Shows (programs : List (List Insn)) (examples : Bool) (row : Row) (sh
   pub values : map (λ it. it.value) shown ≡ wanted_values examples (answers_of row.answers)
   pub found : All (IsShown programs row) shown
 
--- a row that tells a number with a name tells no other
-abbrev pub TellsNamedAlone : Row → Type 0
-TellsNamedAlone row = (nr : ℕ) → IsTrue (is_some (name_of nr)) → TellsAlone nr row
+-- a row that tells a number with a name on the architecture tells no other
+abbrev pub TellsNamedAlone : Architecture → Row → Type 0
+TellsNamedAlone architecture row = (nr : ℕ) → IsTrue (is_some (name_on architecture nr)) → TellsAlone nr row
 
 -- the lines of one chain: their rows tell all numbers that are wanted, and those with a name each alone
 pub record AreLinesOf (options : Options) (programs : List (List Insn)) (lines : List Line) : Type 0 where
   pub rows : Tell programs (first_told options.call) (end_told options.call) (map row_of lines)
-  pub alone : All TellsNamedAlone (map row_of lines)
+  pub alone : All (TellsNamedAlone options.architecture) (map row_of lines)
   pub shows : All (λ line. Shows programs options.examples line.row line.shown.items) lines

@@ -2,16 +2,18 @@
 use Rattle.std.specs.Prelude.{ℕ, ◌==◌, ◌++◌, if◌then◌else◌, List, [], ◌∷◌, codes, flat_map, Option, Some, None}
 use Rattle.std.specs.Fmt.{decimal}
 use Rattle.std.specs.Option.{unwrap_or}
-use Rattle.sk_call_names.specs.Names.{name_of}
+use Rattle.sk_architectures.specs.declared.architecture.Architecture.{Architecture}
+use Rattle.sk_architectures.specs.Names.{name_on}
 use Rattle.sk_verdict.specs.Verdicts.{verdict_text}
 
 -- a number, or a range of them
 abbrev pub numbers_text : ℕ → ℕ → List ℕ
 numbers_text first last = if first == last then decimal first else decimal first ++ (codes "-" ++ decimal last)
 
--- the name of a single number that has one
-abbrev pub name_text : ℕ → ℕ → List ℕ
-name_text first last = if first == last then unwrap_or (name_of first) (codes "-") else codes "-"
+-- the name that a single number has on an architecture
+abbrev pub name_text : Architecture → ℕ → ℕ → List ℕ
+name_text architecture first last =
+    if first == last then unwrap_or (name_on architecture first) (codes "-") else codes "-"
 
 -- the values in their order, with a bar between two
 abbrev pub values_text : List ℕ → List ℕ

@@ -7,7 +7,7 @@ ghost use Rattle.sk_survey_lines.specs.Lines.{first_told, end_told, TellsNamedAl
 
 use crate::line::{Line, Shown};
 use crate::options::Options;
-use sk_call_names::numbers;
+use sk_architectures::{Architecture, numbers};
 use sk_chain::Chain;
 use sk_survey::{Answers, Row, Survey};
 use sk_survey_examples::find;
@@ -17,7 +17,7 @@ use std::alloc::{AllocError, Global};
 pub fn lines_of(alloc: Global, options: Options, chain: &Chain) -> Result<Vec<Line>, AllocError>
     ensures lines { IfOk result (λ lines. AreLinesOf options chain.now lines.items) }
 {
-    let rows = rows_of(alloc, options.call, chain)?;
+    let rows = rows_of(alloc, options.architecture, options.call, chain)?;
     let mut lines = Vec::with_capacity(alloc, rows.len())?;
     for row in rows {
         let line = line_of(alloc, options.examples, chain, row)?;
@@ -34,15 +34,20 @@ fn line_of(alloc: Global, examples: bool, chain: &Chain, row: Row) -> Result<Lin
     Ok(Line { row, shown })
 }
 
-/// The rows of the numbers that are wanted. A number with a name has a row by itself.
-pub fn rows_of(alloc: Global, call: Option<u32>, chain: &Chain) -> Result<Vec<Row>, AllocError>
+/// The rows of the numbers that are wanted. A number with a name on the architecture has a row by itself.
+pub fn rows_of(
+    alloc: Global,
+    architecture: Architecture,
+    call: Option<u32>,
+    chain: &Chain,
+) -> Result<Vec<Row>, AllocError>
     ensures rows { IfOk result (λ rows. Tell chain.now (first_told call) (end_told call) rows.items) }
-    ensures alone { IfOk result (λ rows. All TellsNamedAlone rows.items) }
+    ensures alone { IfOk result (λ rows. All (TellsNamedAlone architecture) rows.items) }
 {
     let mut survey = Survey::new(alloc)?;
     match call {
         None => {
-            let named = numbers(alloc)?;
+            let named = numbers(alloc, architecture)?;
             survey.rows(alloc, chain, &named)
         }
         Some(nr) => {

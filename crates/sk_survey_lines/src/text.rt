@@ -4,7 +4,7 @@ ghost use Rattle.sk_survey.specs.Answers.{answers_of};
 ghost use Rattle.sk_verdict.specs.Verdicts.{verdict_text};
 ghost use Rattle.sk_survey_lines.specs.Text.{numbers_text, name_text, values_text, answers_text};
 
-use sk_call_names::name;
+use sk_architectures::{Architecture, name};
 use sk_survey::Answers;
 use sk_verdict::push_verdict;
 use std::alloc::AllocError;
@@ -21,14 +21,14 @@ pub fn push_numbers(text: &mut String, first: u32, last: u32) -> Result<(), Allo
     }
 }
 
-/// The name of a single number that has one, else `-`.
-pub fn name_of_numbers(first: u32, last: u32) -> &'static str
-    ensures text { result.now ≡ name_text first last }
+/// The name that a single number has on an architecture, else `-`.
+pub fn name_of_numbers(architecture: Architecture, first: u32, last: u32) -> &'static str
+    ensures text { result.now ≡ name_text architecture first last }
 {
     if first != last {
         return "-";
     }
-    match name(first) {
+    match name(architecture, first) {
         Some(name) => name,
         None => "-",
     }

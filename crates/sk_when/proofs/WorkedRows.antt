@@ -9,6 +9,9 @@ use Rattle.sk_insn.specs.Actions.{action_of}
 use Rattle.sk_insn.specs.Operations.{operation_of}
 use Rattle.sk_interp.specs.WorkedMeanings.{call_of}
 use Rattle.sk_call_names.specs.Names.{name_of}
+use Rattle.sk_architectures.specs.declared.architecture.Architecture.{Architecture}
+use Rattle.sk_architectures.specs.declared.architecture.Architecture.TheVariants as architecture
+use Rattle.sk_architectures.specs.Names.{name_at, name_in, name_on, runs_of}
 use Rattle.sk_chain.specs.Verdict.{verdict_of}
 use Rattle.sk_verdict.specs.Errors.{error_named}
 use Rattle.sk_verdict.specs.Verdicts.{verdict_text}
@@ -147,23 +150,34 @@ lines_read (line ∷ []) e answers =
     ap (λ t. codes "\n" ++ ((t ++ []) ++ codes "  errno/1 EPERM else\n")) (line_read line same answers)
 lines_read (line ∷ other ∷ lines) e answers = cc
 
-abbrev head_of : ℕ → ℕ → Told → List ℕ
-head_of first last told =
-    numbers_text first last ++ (codes " " ++ (name_text first last ++ ends_text (answers_of told.row.answers) told.otherwise told.lines.items))
+abbrev head_of : Architecture → ℕ → ℕ → Told → List ℕ
+head_of a first last told =
+    numbers_text first last ++ (codes " " ++ (name_text a first last ++ ends_text (answers_of told.row.answers) told.otherwise told.lines.items))
+
+text_on : (a : Architecture) (told : Told) → IsRow (where_seven 0x7fff0000 ∷ []) told
+    → row_text a told ≡ codes "39 " ++ (name_text a 39 39 ++ codes "\n  allow where (args[0] & 0xffffffff) == 0x7\n  errno/1 EPERM else\n")
+unfolding digits row_text
+text_on a told is =
+    ap (λ first. head_of a first told.row.last told) is.first
+    ∙ ap (λ last. head_of a 39 last told) is.last
+    ∙ ap (λ o. codes "39 " ++ (name_text a 39 39 ++ ends_text (answers_of told.row.answers) o told.lines.items)) is.otherwise
+    ∙ ap (λ t. codes "39 " ++ (name_text a 39 39 ++ t)) (lines_read told.lines.items is.lines (answers_of told.row.answers))
 
 text : (told : Told) → IsRow (where_seven 0x7fff0000 ∷ []) told
-    → row_text told ≡ codes "39 getpid\n  allow where (args[0] & 0xffffffff) == 0x7\n  errno/1 EPERM else\n"
-unfolding digits row_text name_of
-text told is =
-    ap (λ first. head_of first told.row.last told) is.first
-    ∙ ap (λ last. head_of 39 last told) is.last
-    ∙ ap (λ o. codes "39 getpid" ++ ends_text (answers_of told.row.answers) o told.lines.items) is.otherwise
-    ∙ ap (λ t. codes "39 getpid" ++ t) (lines_read told.lines.items is.lines (answers_of told.row.answers))
+    → row_text architecture.X86_64 told ≡ codes "39 getpid\n  allow where (args[0] & 0xffffffff) == 0x7\n  errno/1 EPERM else\n"
+unfolding name_of name_on
+text told is = text_on architecture.X86_64 told is
+
+elsewhere : (told : Told) → IsRow (where_seven 0x7fff0000 ∷ []) told
+    → row_text architecture.I386 told ≡ codes "39 mkdir\n  allow where (args[0] & 0xffffffff) == 0x7\n  errno/1 EPERM else\n"
+unfolding name_at name_in name_on runs_of
+elsewhere told is = text_on architecture.I386 told is
 
 pub rows_work : RowsWork
 rows_work = record {
   one_line = one_line;
   text = text;
+  elsewhere = elsewhere;
   twice = twice;
   no_line = λ told is wrong. let e = wrong_value told [] 0x00050001 is refl wrong in omega (arith, e);
   killed = λ told is wrong. let e = wrong_value told (where_seven 0x00000000 ∷ []) 0x00000000 is refl wrong in omega (arith, e);

@@ -1,6 +1,7 @@
 -- What the text of `ask when` says of a chain.
 use Rattle.std.specs.Prelude.{ℕ, ◌≡◌, ◌≤◌, List, map, Option}
 use Rattle.std.specs.List.{All}
+use Rattle.sk_architectures.specs.declared.architecture.Architecture.{Architecture}
 use Rattle.sk_insn.specs.declared.insn.Insn.{Insn}
 use Rattle.sk_survey.specs.declared.rows.Row.{Row}
 use Rattle.sk_survey.specs.Answers.{ChainAnswersAmong, answers_of}
@@ -13,15 +14,17 @@ use Rattle.sk_when.specs.Text.{when_text}
 abbrev pub row_told : Told → Row
 row_told told = told.row
 
--- the rows tell all numbers, or the one that is asked for, those with a name each alone; the lines of each are exact
-pub record AreTold (call : Option ℕ) (programs : List (List Insn)) (all : List Told) : Type 0 where
+-- the rows tell all numbers, or the one that is asked for, those with a name on the architecture each alone; the lines of each
+-- are exact
+pub record AreTold (architecture : Architecture) (call : Option ℕ) (programs : List (List Insn)) (all : List Told) : Type 0 where
   pub rows : Tell programs (first_told call) (end_told call) (map row_told all)
-  pub alone : All TellsNamedAlone (map row_told all)
+  pub alone : All (TellsNamedAlone architecture) (map row_told all)
   pub told : All (IsTold programs) all
 
 -- a text is that of such rows
-abbrev pub TellsWhen : Option ℕ → List (List Insn) → List ℕ → Type 0
-TellsWhen call programs text = (rows : List Told) × AreTold call programs rows × (text ≡ when_text rows)
+abbrev pub TellsWhen : Architecture → Option ℕ → List (List Insn) → List ℕ → Type 0
+TellsWhen architecture call programs text =
+    (rows : List Told) × AreTold architecture call programs rows × (text ≡ when_text architecture rows)
 
 -- a row of a survey has a number, and its verdicts are among those that it tells
 abbrev pub IsToldAmong : List (List Insn) → Row → Type 0

@@ -1,5 +1,6 @@
 -- The text of `ask when`: rows as those of `ask calls`, and under which condition of C each verdict comes.
 use Rattle.std.specs.Prelude.{ℕ, ◌++◌, List, [], ◌∷◌, codes, flat_map, Option, Some, None}
+use Rattle.sk_architectures.specs.declared.architecture.Architecture.{Architecture}
 use Rattle.sk_engines.specs.Output.{line}
 use Rattle.sk_survey.specs.Answers.{answers_of}
 use Rattle.sk_survey_lines.specs.Text.{numbers_text, name_text, answers_text}
@@ -23,11 +24,11 @@ ends_text answers otherwise [] = codes " " ++ line (value_text answers otherwise
 ends_text answers otherwise (first ∷ lines) =
     line [] ++ (flat_map (line_text answers) (first ∷ lines) ++ (codes "  " ++ (value_text answers otherwise ++ line (codes " else"))))
 
--- one row: its numbers, the name of a single one, and the verdicts
-unfoldable pub row_text : Told → List ℕ
-row_text told =
+-- one row: its numbers, the name that a single one has on the architecture, and the verdicts
+unfoldable pub row_text : Architecture → Told → List ℕ
+row_text architecture told =
     numbers_text told.row.first told.row.last
-    ++ (codes " " ++ (name_text told.row.first told.row.last ++ ends_text (answers_of told.row.answers) told.otherwise told.lines.items))
+    ++ (codes " " ++ (name_text architecture told.row.first told.row.last ++ ends_text (answers_of told.row.answers) told.otherwise told.lines.items))
 
-abbrev pub when_text : List Told → List ℕ
-when_text rows = flat_map row_text rows
+abbrev pub when_text : Architecture → List Told → List ℕ
+when_text architecture rows = flat_map (row_text architecture) rows

@@ -1,6 +1,7 @@
 -- A worked example of rows: one word of a call is compared three times, and no call takes one of the paths.
 use Rattle.std.specs.Prelude.{ℕ, ◌≡◌, true, List, [], ◌∷◌, map, codes, Option, Some}
 use Rattle.sk_insn.specs.declared.record.Record.{Record}
+use Rattle.sk_architectures.specs.declared.architecture.Architecture.TheVariants as architecture
 use Rattle.sk_conditions.specs.WorkedPaths.{compares_again}
 use Rattle.sk_survey.specs.Answers.{IsCallOf}
 use Rattle.sk_terms.specs.declared.lines.Line.{Line}
@@ -19,7 +20,7 @@ pub record Read : Type 0 where
 abbrev pub read : Line → Read
 read line = record { value = line.value; terms = terms_of line }
 
--- the row of getpid(2), 39, with these lines; error 1 is what `else` tells
+-- the row of number 39, which is getpid(2) on x86-64 and mkdir(2) on i386, with these lines; error 1 is what `else` tells
 pub record IsRow (reads : List Read) (told : Told) : Type 0 where
   pub first : told.row.first ≡ 39
   pub last : told.row.last ≡ 39
@@ -38,7 +39,9 @@ where_seven value = record { value = Some value; terms = (is_seven ∷ []) ∷ [
 pub record RowsWork : Type 0 where
   pub one_line : (told : Told) → IsRow (where_seven 0x7fff0000 ∷ []) told → IsTold (compares_again ∷ []) told
   pub text : (told : Told) → IsRow (where_seven 0x7fff0000 ∷ []) told
-      → row_text told ≡ codes "39 getpid\n  allow where (args[0] & 0xffffffff) == 0x7\n  errno/1 EPERM else\n"
+      → row_text architecture.X86_64 told ≡ codes "39 getpid\n  allow where (args[0] & 0xffffffff) == 0x7\n  errno/1 EPERM else\n"
+  pub elsewhere : (told : Told) → IsRow (where_seven 0x7fff0000 ∷ []) told
+      → row_text architecture.I386 told ≡ codes "39 mkdir\n  allow where (args[0] & 0xffffffff) == 0x7\n  errno/1 EPERM else\n"
   pub twice : (told : Told) → IsRow (where_seven 0x7fff0000 ∷ where_seven 0x7fff0000 ∷ []) told → IsTold (compares_again ∷ []) told → ⊥
   pub no_line : (told : Told) → IsRow [] told → IsTold (compares_again ∷ []) told → ⊥
   pub killed : (told : Told) → IsRow (where_seven 0x00000000 ∷ []) told → IsTold (compares_again ∷ []) told → ⊥

@@ -7,24 +7,37 @@ ghost use Rattle.sk_when.specs.Lines.{IsTold};
 
 use crate::row::{Told, tell};
 use crate::text::when_text;
+use sk_architectures::Architecture;
 use sk_chain::Chain;
 use sk_conditions::{Budget, MOST_STEPS};
 use sk_survey_lines::{Line, Options, lines_of};
 use std::alloc::{AllocError, Global};
 
-/// Tells under which conditions on a call each verdict of the chain comes, for every call or for the one with a number.
-pub fn when(alloc: Global, chain: &Chain, call: Option<u32>) -> Result<String, AllocError>
-    ensures text { IfOk result (λ text. TellsWhen call chain.now (string_bytes text)) }
+/// Tells under which conditions on a call each verdict of the chain comes, for every call or for the one with a number. Calls
+/// have the names that they have on the architecture.
+pub fn when(
+    alloc: Global,
+    architecture: Architecture,
+    chain: &Chain,
+    call: Option<u32>,
+) -> Result<String, AllocError>
+    ensures text { IfOk result (λ text. TellsWhen architecture call chain.now (string_bytes text)) }
 {
-    let rows = told_rows(alloc, chain, call)?;
-    when_text(alloc, &rows)
+    let rows = told_rows(alloc, architecture, chain, call)?;
+    when_text(alloc, architecture, &rows)
 }
 
 /// The rows of the chain's survey with their lines.
-fn told_rows(alloc: Global, chain: &Chain, call: Option<u32>) -> Result<Vec<Told>, AllocError>
-    ensures told { IfOk result (λ rows. AreTold call chain.now rows.items) }
+fn told_rows(
+    alloc: Global,
+    architecture: Architecture,
+    chain: &Chain,
+    call: Option<u32>,
+) -> Result<Vec<Told>, AllocError>
+    ensures told { IfOk result (λ rows. AreTold architecture call chain.now rows.items) }
 {
     let options = Options {
+        architecture,
         call,
         examples: false,
     };

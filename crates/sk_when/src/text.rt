@@ -4,30 +4,35 @@ ghost use Rattle.sk_survey.specs.Answers.{answers_of};
 ghost use Rattle.sk_when.specs.Text.{value_text, line_text, ends_text, row_text, when_text};
 
 use crate::row::Told;
+use sk_architectures::Architecture;
 use sk_survey::Answers;
 use sk_survey_lines::{name_of_numbers, push_answers, push_numbers};
 use sk_terms::{Line, push_condition};
 use sk_verdict::push_verdict;
 use std::alloc::{AllocError, Global};
 
-/// The text of rows.
-pub fn when_text(alloc: Global, rows: &[Told]) -> Result<String, AllocError>
-    ensures text { IfOk result (λ text. string_bytes text ≡ when_text rows.now) }
+/// The text of rows, with the names of an architecture.
+pub fn when_text(
+    alloc: Global,
+    architecture: Architecture,
+    rows: &[Told],
+) -> Result<String, AllocError>
+    ensures text { IfOk result (λ text. string_bytes text ≡ when_text architecture rows.now) }
 {
     let mut text = String::new(alloc);
     for row in rows {
-        push_row(&mut text, row)?;
+        push_row(&mut text, architecture, row)?;
     }
     Ok(text)
 }
 
 #[tactic(auto, unfolding(crate::specs::Text::row_text))]
-fn push_row(text: &mut String, told: &Told) -> Result<(), AllocError>
-    ensures text { OnOk result (string_bytes text.new ≡ string_bytes text.old ++ row_text told.now) }
+fn push_row(text: &mut String, architecture: Architecture, told: &Told) -> Result<(), AllocError>
+    ensures text { OnOk result (string_bytes text.new ≡ string_bytes text.old ++ row_text architecture told.now) }
 {
     push_numbers(text, told.row.first, told.row.last)?;
     text.push_str(" ")?;
-    text.push_str(name_of_numbers(told.row.first, told.row.last))?;
+    text.push_str(name_of_numbers(architecture, told.row.first, told.row.last))?;
     push_ends(text, &told.row.answers, told.otherwise, &told.lines)
 }
 

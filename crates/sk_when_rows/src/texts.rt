@@ -1,4 +1,5 @@
 //! The text of small filters for one call, worked out by hand from their instructions.
+use sk_architectures::Architecture;
 use sk_chain::Chain;
 use sk_check::{Checked, check};
 use sk_insn::Insn;
@@ -183,7 +184,28 @@ fn small_filters(rt: HostRuntime) -> Result<(), Fail> {
     let alloc = rt.alloc();
     for (program, nr, wanted) in &rows(alloc)? {
         let chain = chain_of(alloc, program)?;
-        let text = when(alloc, &chain, Some(*nr))?;
+        let text = when(alloc, Architecture::X86_64, &chain, Some(*nr))?;
+        assert_eq!(rt; text.as_str(), *wanted, "at {wanted:?}");
+    }
+    Ok(())
+}
+
+/// An architecture, a number, and the text for a filter that allows every call.
+const NAMES: &[(Architecture, u32, &str)] = &[
+    (Architecture::X86_64, 11, "11 munmap allow\n"),
+    (Architecture::I386, 11, "11 execve allow\n"),
+    (Architecture::I386, 223, "223 - allow\n"),
+    (Architecture::X32, 11, "11 - allow\n"),
+    (Architecture::X32, 0x4000_000b, "1073741835 munmap allow\n"),
+    (Architecture::Aarch64, 221, "221 execve allow\n"),
+];
+
+#[test]
+fn names(rt: HostRuntime) -> Result<(), Fail> {
+    let alloc = rt.alloc();
+    let chain = chain_of(alloc, &[ret(ALLOW)])?;
+    for (architecture, nr, wanted) in NAMES {
+        let text = when(alloc, *architecture, &chain, Some(*nr))?;
         assert_eq!(rt; text.as_str(), *wanted, "at {wanted:?}");
     }
     Ok(())

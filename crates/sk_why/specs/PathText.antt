@@ -13,7 +13,8 @@ use Rattle.sk_insn.specs.declared.operation.Operation.{Operation}
 use Rattle.sk_insn.specs.declared.operation.Operation.TheVariants.{LoadRecord, LoadConstant, LoadScratch, LoadLength, StoreScratch, Jump, Branch, CopyToIndex}
 use Rattle.sk_insn.specs.Operations.{operation_of}
 use Rattle.sk_listing.specs.Listing.{words_for}
-use Rattle.sk_call_names.specs.Names.{name_of}
+use Rattle.sk_architectures.specs.declared.architecture.Architecture.{Architecture}
+use Rattle.sk_architectures.specs.Names.{name_on}
 use Rattle.sk_interp.specs.Meaning.{holds, meaning_of}
 use Rattle.sk_chain.specs.Verdict.{meaning_value, values_of, verdict_of}
 use Rattle.sk_survey_examples.specs.Examples.{ComesFrom}
@@ -57,19 +58,19 @@ bits_text CommonBits true = codes " != 0"
 bits_text CommonBits false = codes " == 0"
 bits_text comparison held = []
 
--- the name of the call that A is compared with, where A holds the call's number
+-- the name of the call of an architecture that A is compared with, where A holds the call's number
 abbrev pub call_text : Option (List ℕ) → List ℕ
 call_text None = []
 call_text (Some name) = codes " " ++ name
 
-abbrev pub compared_call : Bool → Comparison → ℕ → List ℕ
-compared_call false comparison b = []
-compared_call true CommonBits b = []
-compared_call true comparison b = call_text (name_of b)
+abbrev pub compared_call : Architecture → Bool → Comparison → ℕ → List ℕ
+compared_call by false comparison b = []
+compared_call by true CommonBits b = []
+compared_call by true comparison b = call_text (name_on by b)
 
-unfoldable pub compared_text : Bool → Comparison → ℕ → ℕ → List ℕ
-compared_text number comparison a b =
-    decimal a ++ (sign comparison (holds comparison a b) ++ (decimal b ++ (compared_call number comparison b
+unfoldable pub compared_text : Architecture → Bool → Comparison → ℕ → ℕ → List ℕ
+compared_text by number comparison a b =
+    decimal a ++ (sign comparison (holds comparison a b) ++ (decimal b ++ (compared_call by number comparison b
     ++ bits_text comparison (holds comparison a b))))
 
 -- the operand of a comparison
@@ -83,11 +84,11 @@ abbrev pub to_text : Option ℕ → List ℕ
 to_text None = []
 to_text (Some place) = codes "to " ++ decimal place
 
-abbrev pub jump_text : Bool → Option Operation → Step → List ℕ
-jump_text number (Some Jump) step = codes "  " ++ to_text step.next
-jump_text number (Some (Branch comparison right)) step =
-    codes "  " ++ (compared_text number comparison step.before.a (right_of right step) ++ (codes ": " ++ to_text step.next))
-jump_text number operation step = []
+abbrev pub jump_text : Architecture → Bool → Option Operation → Step → List ℕ
+jump_text by number (Some Jump) step = codes "  " ++ to_text step.next
+jump_text by number (Some (Branch comparison right)) step =
+    codes "  " ++ (compared_text by number comparison step.before.a (right_of right step) ++ (codes ": " ++ to_text step.next))
+jump_text by number operation step = []
 
 -- ---- one instruction
 
@@ -102,28 +103,28 @@ padded text = text ++ spaces (24 - length text)
 abbrev pub registers_text : Registers → List ℕ
 registers_text registers = codes " A=" ++ (decimal registers.a ++ (codes " X=" ++ decimal registers.x))
 
-unfoldable pub step_text : Bool → Step → List ℕ
-step_text number step =
+unfoldable pub step_text : Architecture → Bool → Step → List ℕ
+step_text by number step =
     spaces (indent step.place) ++ (decimal step.place ++ (codes " " ++ (padded (join_with_byte 32 (words_for step.insn))
-    ++ (registers_text step.behind ++ (jump_text number (operation_of step.insn.code) step ++ codes "\n")))))
+    ++ (registers_text step.behind ++ (jump_text by number (operation_of step.insn.code) step ++ codes "\n")))))
 
 -- ---- one filter
 
 -- the steps, where it is known of the first whether A holds the call's number before it
-abbrev pub steps_text : Bool → List Step → List ℕ
-steps_text number [] = []
-steps_text number (step ∷ steps) =
-    step_text number step ++ steps_text (holds_number (operation_of step.insn.code) step.insn number) steps
+abbrev pub steps_text : Architecture → Bool → List Step → List ℕ
+steps_text by number [] = []
+steps_text by number (step ∷ steps) =
+    step_text by number step ++ steps_text by (holds_number (operation_of step.insn.code) step.insn number) steps
 
 -- the filter's number, where the oldest is 0, its path, and its value
-unfoldable pub filter_text : ℕ → List Insn → Record → List ℕ
-filter_text number insns call =
-    codes "filter " ++ (decimal number ++ (codes "\n" ++ (steps_text false (path_of insns call)
+unfoldable pub filter_text : Architecture → ℕ → List Insn → Record → List ℕ
+filter_text by number insns call =
+    codes "filter " ++ (decimal number ++ (codes "\n" ++ (steps_text by false (path_of insns call)
     ++ (codes "  " ++ (verdict_text (meaning_value (meaning_of insns call)) ++ codes "\n")))))
 
-abbrev pub filters_text : List (List Insn) → Record → List ℕ
-filters_text [] call = []
-filters_text (newest ∷ older) call = filter_text (length older) newest call ++ filters_text older call
+abbrev pub filters_text : Architecture → List (List Insn) → Record → List ℕ
+filters_text by [] call = []
+filters_text by (newest ∷ older) call = filter_text by (length older) newest call ++ filters_text by older call
 
 -- ---- the verdict
 
@@ -140,8 +141,8 @@ abbrev pub IsSource : List (List Insn) → Record → ℕ → Option (ℕ × ℕ
 IsSource programs call value None = (newer : ℕ) → slice_get (values_of programs call) newer ≢ Some value
 IsSource programs call value (Some (filter, place)) = ComesFrom programs call value filter place
 
--- the whole text of a chain and a call
-abbrev pub TellsWhy : List (List Insn) → Record → List ℕ → Type 0
-TellsWhy programs call text =
+-- the whole text of a chain and a call, with the names of calls that an architecture has
+abbrev pub TellsWhy : Architecture → List (List Insn) → Record → List ℕ → Type 0
+TellsWhy by programs call text =
     (source : Option (ℕ × ℕ)) × IsSource programs call (verdict_of programs call) source
-    × (text ≡ filters_text programs call ++ verdict_line (verdict_of programs call) source)
+    × (text ≡ filters_text by programs call ++ verdict_line (verdict_of programs call) source)

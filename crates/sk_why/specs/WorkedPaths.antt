@@ -1,15 +1,16 @@
 -- Paths and texts that are worked out by hand.
-use Rattle.std.specs.Prelude.{ℕ, ◌≡◌, List, [], ◌∷◌, ◌++◌, map, codes, Some, None}
+use Rattle.std.specs.Prelude.{ℕ, ◌≡◌, ◌+◌, ◌^◌, true, List, [], ◌∷◌, ◌++◌, map, codes, Some, None}
 use Rattle.sk_insn.specs.declared.insn.Insn.{Insn}
 use Rattle.sk_insn.specs.declared.operation.Register.TheVariants.{Accumulator}
 use Rattle.sk_insn.specs.declared.operation.Operand.TheVariants.{Constant, IndexRegister}
 use Rattle.sk_insn.specs.declared.operation.Arithmetic.TheVariants.{Divide}
 use Rattle.sk_insn.specs.declared.operation.Comparison.TheVariants.{Equal, Greater, GreaterOrEqual, CommonBits}
 use Rattle.sk_insn.specs.declared.operation.Operation.TheVariants.{LoadRecord, LoadConstant, Compute, Jump, Branch, ReturnConstant, CopyToIndex}
+use Rattle.sk_architectures.specs.declared.architecture.Architecture.TheVariants as architecture
 use Rattle.sk_interp.specs.WorkedMeanings.{call_of, compares, does, getpid, refuses_getppid}
 use Rattle.sk_why.specs.declared.tracing.Step.{Step}
 use Rattle.sk_why.specs.Paths.{path_of}
-use Rattle.sk_why.specs.PathText.{filter_text, filters_text, verdict_line}
+use Rattle.sk_why.specs.PathText.{compared_text, filter_text, filters_text, verdict_line}
 
 -- the places of a path
 abbrev pub places : List Step → List ℕ
@@ -35,21 +36,21 @@ compares_thrice =
 pub record WorkedPaths : Type 0 where
   pub passes_over_the_other_side : places (path_of refuses_getppid getpid) ≡ 0 ∷ 1 ∷ 3 ∷ []
   pub refuses :
-      filter_text 1 refuses_getppid (call_of 110 0 0)
+      filter_text architecture.X86_64 1 refuses_getppid (call_of 110 0 0)
       ≡ codes "filter 1\n"
       ++ (codes "   0 ldabs 0                  A=110 X=0\n"
       ++ (codes "   1 jeq 110 +0 +1            A=110 X=0  110 == 110 getppid: to 2\n"
       ++ (codes "   2 ret 0x00050001           A=110 X=0\n"
       ++ codes "  errno/1 EPERM\n")))
   pub passes_others :
-      filter_text 0 refuses_getppid getpid
+      filter_text architecture.X86_64 0 refuses_getppid getpid
       ≡ codes "filter 0\n"
       ++ (codes "   0 ldabs 0                  A=39 X=0\n"
       ++ (codes "   1 jeq 110 +0 +1            A=39 X=0  39 != 110 getppid: to 3\n"
       ++ (codes "   3 ret 0x7fff0000           A=39 X=0\n"
       ++ codes "  allow\n")))
   pub names_what_the_number_is_compared_with :
-      filter_text 0 compares_thrice (call_of 39 0 39)
+      filter_text architecture.X86_64 0 compares_thrice (call_of 39 0 39)
       ≡ codes "filter 0\n"
       ++ (codes "   0 jeq 1 +0 +0              A=0 X=0  0 != 1: to 1\n"
       ++ (codes "   1 ldabs 0                  A=39 X=0\n"
@@ -62,14 +63,25 @@ pub record WorkedPaths : Type 0 where
       ++ (codes "   9 ja +1                    A=39 X=39  to 11\n"
       ++ (codes "  11 ret 0x7fff0000           A=39 X=39\n"
       ++ codes "  allow\n"))))))))))
+  pub names_calls_of_the_architecture :
+      filter_text architecture.I386 0 refuses_getppid (record { nr = 64; arch = 1073741827; ip = 0; args = [] })
+      ≡ codes "filter 0\n"
+      ++ (codes "   0 ldabs 0                  A=64 X=0\n"
+      ++ (codes "   1 jeq 110 +0 +1            A=64 X=0  64 != 110 iopl: to 3\n"
+      ++ (codes "   3 ret 0x7fff0000           A=64 X=0\n"
+      ++ codes "  allow\n")))
+  pub names_none_without_the_bit_of_x32 :
+      compared_text architecture.X32 true Equal 110 110 ≡ codes "110 == 110"
+  pub names_one_with_it :
+      compared_text architecture.X32 true Equal 110 (2 ^ 30 + 110) ≡ codes "110 != 1073741934 getppid"
   pub ends_at_a_division_by_zero :
-      filter_text 12 (does (LoadConstant Accumulator) 5 ∷ does (Compute Divide IndexRegister) 0 ∷ does ReturnConstant 0x7fff0000 ∷ []) getpid
+      filter_text architecture.X86_64 12 (does (LoadConstant Accumulator) 5 ∷ does (Compute Divide IndexRegister) 0 ∷ does ReturnConstant 0x7fff0000 ∷ []) getpid
       ≡ codes "filter 12\n"
       ++ (codes "   0 ldimm 5                  A=5 X=0\n"
       ++ (codes "   1 divx                     A=5 X=0\n"
       ++ codes "  kill_thread\n"))
   pub newest_first :
-      filters_text ((does ReturnConstant 0x00030005 ∷ []) ∷ (does ReturnConstant 0x7fff0000 ∷ []) ∷ []) getpid
+      filters_text architecture.X86_64 ((does ReturnConstant 0x00030005 ∷ []) ∷ (does ReturnConstant 0x7fff0000 ∷ []) ∷ []) getpid
       ≡ codes "filter 1\n   0 ret 0x00030005           A=0 X=0\n  trap/5\n"
       ++ codes "filter 0\n   0 ret 0x7fff0000           A=0 X=0\n  allow\n"
   pub by_the_newest : verdict_line 0x00030005 (Some (1, 0)) ≡ codes "trap/5 by filter 1 at 0\n"

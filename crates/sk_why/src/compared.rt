@@ -4,7 +4,7 @@ ghost use Rattle.sk_insn.specs.Operations.{operation_of};
 ghost use Rattle.std.specs.Option.{option_map};
 ghost use Rattle.sk_why.specs.PathText.{bits_text, call_text, compared_call, compared_text, holds_number, sign};
 
-use sk_call_names::name;
+use sk_architectures::{Architecture, name};
 use sk_insn::{Comparison, Insn, Operation, Register, decode};
 use sk_interp::holds;
 use std::alloc::AllocError;
@@ -33,17 +33,18 @@ pub fn holds_number(insn: Insn, number: bool) -> bool
 #[tactic(auto, unfolding(crate::specs::PathText::compared_text))]
 pub fn push_compared(
     text: &mut String,
+    architecture: Architecture,
     number: bool,
     comparison: Comparison,
     a: u32,
     b: u32,
 ) -> Result<(), AllocError>
-    ensures text { OnOk result (string_bytes text.new ≡ string_bytes text.old ++ compared_text number comparison a b) }
+    ensures text { OnOk result (string_bytes text.new ≡ string_bytes text.old ++ compared_text architecture number comparison a b) }
 {
     let held = holds(comparison, a, b);
     let between = sign(comparison, held);
     write!(text, "{a}{between}{b}")?;
-    push_call(text, number, comparison, b)?;
+    push_call(text, architecture, number, comparison, b)?;
     text.push_str(bits(comparison, held))
 }
 
@@ -73,15 +74,16 @@ fn bits(comparison: Comparison, held: bool) -> &'static str
 
 fn push_call(
     text: &mut String,
+    architecture: Architecture,
     number: bool,
     comparison: Comparison,
     b: u32,
 ) -> Result<(), AllocError>
-    ensures call { OnOk result (string_bytes text.new ≡ string_bytes text.old ++ compared_call number comparison b) }
+    ensures call { OnOk result (string_bytes text.new ≡ string_bytes text.old ++ compared_call architecture number comparison b) }
 {
     match (number, comparison) {
         (false, _) | (true, Comparison::CommonBits) => Ok(()),
-        (true, _) => push_name(text, name(b)),
+        (true, _) => push_name(text, name(architecture, b)),
     }
 }
 

@@ -7,6 +7,7 @@ ghost use Rattle.sk_why.specs.PathText.{indent, jump_text, padded, registers_tex
 
 use crate::compared::push_compared;
 use crate::tracing::{Registers, Step};
+use sk_architectures::Architecture;
 use sk_insn::{Insn, Operand, Operation, decode};
 use sk_listing::push_words;
 use std::alloc::AllocError;
@@ -17,15 +18,20 @@ const COLUMNS: usize = 24;
 
 /// Appends the line of an instruction, where it is known whether A held the call's number before it.
 #[tactic(auto, unfolding(crate::specs::PathText::step_text))]
-pub fn push_step(text: &mut String, number: bool, step: Step) -> Result<(), AllocError>
-    ensures line { OnOk result (string_bytes text.new ≡ string_bytes text.old ++ step_text number step) }
+pub fn push_step(
+    text: &mut String,
+    architecture: Architecture,
+    number: bool,
+    step: Step,
+) -> Result<(), AllocError>
+    ensures line { OnOk result (string_bytes text.new ≡ string_bytes text.old ++ step_text architecture number step) }
 {
     let place = step.place;
     push_spaces(text, indent(place))?;
     write!(text, "{place} ")?;
     push_insn(text, step.insn)?;
     push_registers(text, step.behind)?;
-    push_jump(text, number, step)?;
+    push_jump(text, architecture, number, step)?;
     text.push_str("\n")
 }
 
@@ -67,8 +73,13 @@ fn push_registers(text: &mut String, registers: Registers) -> Result<(), AllocEr
     write!(text, " A={a} X={x}")
 }
 
-fn push_jump(text: &mut String, number: bool, step: Step) -> Result<(), AllocError>
-    ensures jump { OnOk result (string_bytes text.new ≡ string_bytes text.old ++ jump_text number (operation_of step.insn.code) step) }
+fn push_jump(
+    text: &mut String,
+    architecture: Architecture,
+    number: bool,
+    step: Step,
+) -> Result<(), AllocError>
+    ensures jump { OnOk result (string_bytes text.new ≡ string_bytes text.old ++ jump_text architecture number (operation_of step.insn.code) step) }
 {
     match decode(step.insn.code) {
         Some(Operation::Jump) => {
@@ -79,6 +90,7 @@ fn push_jump(text: &mut String, number: bool, step: Step) -> Result<(), AllocErr
             text.push_str("  ")?;
             push_compared(
                 text,
+                architecture,
                 number,
                 comparison,
                 step.before.a,

@@ -5,6 +5,7 @@ ghost use Rattle.sk_why.specs.PathText.{IsSource, TellsWhy, filter_text, filters
 use crate::compared::holds_number;
 use crate::line::push_step;
 use crate::tracing::{Step, trace};
+use sk_architectures::Architecture;
 use sk_chain::Chain;
 use sk_check::Checked;
 use sk_insn::Record;
@@ -13,12 +14,18 @@ use sk_verdict::push_verdict;
 use std::alloc::{AllocError, Global};
 use std::fmt::Write;
 
-/// Why a call gets its verdict of a chain.
-pub fn why(alloc: Global, chain: &Chain, call: &Record) -> Result<String, AllocError>
-    ensures told { IfOk result (λ text. TellsWhy chain.now call.now (string_bytes text)) }
+/// Why a call gets its verdict of a chain. The names beside the numbers that it is compared with are those of the calls of
+/// this architecture.
+pub fn why(
+    alloc: Global,
+    architecture: Architecture,
+    chain: &Chain,
+    call: &Record,
+) -> Result<String, AllocError>
+    ensures told { IfOk result (λ text. TellsWhy architecture chain.now call.now (string_bytes text)) }
 {
     let mut text = String::new(alloc);
-    push_filters(alloc, &mut text, chain, call)?;
+    push_filters(alloc, architecture, &mut text, chain, call)?;
     let verdict = chain.verdict(call);
     push_end(&mut text, verdict, source(chain, call, verdict))?;
     Ok(text)
@@ -32,16 +39,17 @@ fn source(chain: &Chain, call: &Record, value: u32) -> Option<(usize, usize)>
 
 fn push_filters(
     alloc: Global,
+    architecture: Architecture,
     text: &mut String,
     chain: &Chain,
     call: &Record,
 ) -> Result<(), AllocError>
-    ensures text { OnOk result (string_bytes text.new ≡ string_bytes text.old ++ filters_text chain.now call.now) }
+    ensures text { OnOk result (string_bytes text.new ≡ string_bytes text.old ++ filters_text architecture chain.now call.now) }
 {
     let mut older = chain.len();
     for program in chain.programs() {
         older -= 1;
-        push_filter(alloc, text, older, program, call)?;
+        push_filter(alloc, architecture, text, older, program, call)?;
     }
     Ok(())
 }
@@ -49,28 +57,33 @@ fn push_filters(
 #[tactic(auto, unfolding(crate::specs::PathText::filter_text))]
 fn push_filter(
     alloc: Global,
+    architecture: Architecture,
     text: &mut String,
     number: usize,
     program: &Checked,
     call: &Record,
 ) -> Result<(), AllocError>
-    ensures text { OnOk result (string_bytes text.new ≡ string_bytes text.old ++ filter_text number program.now call.now) }
+    ensures text { OnOk result (string_bytes text.new ≡ string_bytes text.old ++ filter_text architecture number program.now call.now) }
 {
     let path = trace(alloc, program, call)?;
     write!(text, "filter {number}\n")?;
-    push_steps(text, &path.steps)?;
+    push_steps(text, architecture, &path.steps)?;
     text.push_str("  ")?;
     push_verdict(text, path.value)?;
     text.push_str("\n")
 }
 
-fn push_steps(text: &mut String, steps: &[Step]) -> Result<(), AllocError>
-    ensures text { OnOk result (string_bytes text.new ≡ string_bytes text.old ++ steps_text false steps.now) }
+fn push_steps(
+    text: &mut String,
+    architecture: Architecture,
+    steps: &[Step],
+) -> Result<(), AllocError>
+    ensures text { OnOk result (string_bytes text.new ≡ string_bytes text.old ++ steps_text architecture false steps.now) }
 {
     let mut number = false;
     let mut rest = steps;
     while let Some((step, left)) = rest.split_first() {
-        push_step(text, number, *step)?;
+        push_step(text, architecture, number, *step)?;
         number = holds_number(step.insn, number);
         rest = left;
     }

@@ -1,4 +1,4 @@
-use Rattle.std.proofs.Common.{◌++◌, ◌∷◌, [], ap, sym, ◌∙◌, arith}
+use Rattle.std.proofs.Common.{◌++◌, ap, sym, ◌∙◌, arith}
 use Rattle.sk_arch_filters.proofs.Chains.{room}
 use Rattle.sk_arch_filters.proofs.chain.attached.Goals as goal
 

@@ -1,6 +1,13 @@
 use Rattle.std.proofs.Common.{inl}
 use Rattle.sk_ask_files.specs.Finding.{filters_of}
+use Rattle.sk_ask_filters.proofs.Limits.{judged_within}
 use Rattle.sk_ask.proofs.diff.diff_of.Goals as goal
+
+pub compared-requires : goal.compared-requires
+compared-requires g c =
+    let old = c.in_ok-old.ensures.read in
+    let new = c.in_ok-new.ensures.read in
+    record { old = judged_within old.1 _ _ old.4; new = judged_within new.1 _ _ new.4 }
 
 pub returns-clause-told : goal.returns-clause-told
 returns-clause-told g c =

@@ -1,15 +1,24 @@
 use Rattle.std.proofs.Common.{inl}
 use Rattle.sk_ask_files.specs.Finding.{filters_of}
+use Rattle.sk_ask_filters.proofs.Limits.{judged_within}
 use Rattle.sk_ask.proofs.when.when.Goals as goal
+
+pub told-requires-clause-limited : goal.told-requires-clause-limited
+told-requires-clause-limited g c =
+    let read = c.in_ok-filters.ensures.read in
+    judged_within read.1 _ _ read.4
 
 pub returns-clause-told : goal.returns-clause-told
 returns-clause-told g c =
+    let by = c.architecture_of-architecture.ensures.architecture in
+    let call = c.in_ok-call.ensures.call in
+    let told = c.in_ok-told.ensures.told in
     inl (
       filters_of c.in_ok-filters.filters.found,
       c.in_ok-filters.filters.chain,
       c.in_ok-filters.filters.notes.items,
       c.in_ok-filters.ensures.read,
       c.in_ok-call.call,
-      c.in_ok-call.ensures.call,
-      c.in_ok-told.ensures.told,
+      rw by at call,
+      rw by at told,
     )

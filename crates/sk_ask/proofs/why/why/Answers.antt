@@ -1,4 +1,5 @@
 use Rattle.std.proofs.Common.{ℕ, List, sym, subst}
+use Rattle.sk_ask.specs.Architectures.{architecture_of}
 use Rattle.sk_ask.specs.Endings.{ending_of}
 use Rattle.sk_ask.specs.Whys.{AnswersCall}
 use Rattle.sk_ask.specs.Troubles.{OfFirst}
@@ -9,5 +10,7 @@ returns-clause-told g c =
     let held = g.S.Shelf.held c.args.shelf.now in
     let context = c.args.context.now in
     let end = ending_of c.call_answer.result in
-    subst (λ (names : List (List ℕ)). OfFirst names end (λ word others. AnswersCall held context word others end)) (sym c.first_name.ensures.names)
-    c.call_answer.ensures.told
+    let by = c.architecture_of-architecture.ensures.architecture in
+    let told = c.call_answer.ensures.told in
+    subst (λ (names : List (List ℕ)). OfFirst names end (λ word others. AnswersCall held context (architecture_of c.args.asked.now.arch) word others end)) (sym c.first_name.ensures.names)
+    (rw by at told)

@@ -3,4 +3,4 @@ use Rattle.sk_replay.specs.Replaying.{part_text}
 use Rattle.sk_replay.proofs.text.push_part.Given as goal
 
 abbrev pub invariant-loop-row : goal.invariant-loop-row
-invariant-loop-row l = string_bytes l.text ≡ string_bytes l.initial.text ++ part_text l.performed (take l.row-index l.rows)
+invariant-loop-row l = string_bytes l.text ≡ string_bytes l.initial.text ++ part_text l.architecture l.performed (take l.row-index l.rows)

@@ -8,7 +8,7 @@ use Rattle.sk_show.proofs.listing.shown.Given as goal
 -- the lines of the instructions before this one are written, and the fields of these are in range
 abbrev pub invariant-loop-insn : goal.invariant-loop-insn
 invariant-loop-insn l = record {
-  text : string_bytes l.text ++ text_of (lines_from (length l.insns) l.at (ways_from l.at l.jumps.items l.next l.rest) l.rest) ≡ show_text l.insns;
+  text : string_bytes l.text ++ text_of (lines_from l.architecture (length l.insns) l.at (ways_from l.at l.jumps.items l.next l.rest) l.rest) ≡ show_text l.architecture l.insns;
   left : l.at + length l.rest ≡ length l.insns;
   places : vec_len l.jumps ≡ length l.insns;
   ranges : All IsInRange l.rest → All IsInRange l.insns;

@@ -6,5 +6,5 @@ use Rattle.sk_why.proofs.text.push_filters.Given as goal
 abbrev pub invariant-loop-program : goal.invariant-loop-program
 invariant-loop-program l = record {
   older : l.older ≡ length l.program-iterator;
-  text : string_bytes l.text ++ filters_text l.program-iterator l.call ≡ string_bytes l.initial.text ++ filters_text l.chain l.call;
+  text : string_bytes l.text ++ filters_text l.architecture l.program-iterator l.call ≡ string_bytes l.initial.text ++ filters_text l.architecture l.chain l.call;
 }

@@ -5,4 +5,4 @@ use Rattle.sk_replay.proofs.line.Line.of.Given as goal
 
 -- the words that are left say what all of them say
 abbrev pub invariant-loop-word : goal.invariant-loop-word
-invariant-loop-word l = said (words_of l.words.0.now) ≡ said (words_of l.line)
+invariant-loop-word l = said l.architecture (words_of l.words.0.now) ≡ said l.architecture (words_of l.line)

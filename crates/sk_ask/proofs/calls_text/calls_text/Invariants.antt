@@ -1,6 +1,0 @@
-use Rattle.std.proofs.Common.{◌≡◌, take, flat_map, string_bytes}
-use Rattle.sk_ask.specs.CallsText.{line_text}
-use Rattle.sk_ask.proofs.calls_text.calls_text.Given as goal
-
-abbrev pub invariant-loop-line : goal.invariant-loop-line
-invariant-loop-line l = string_bytes l.text ≡ flat_map line_text (take l.line-index l.lines)
