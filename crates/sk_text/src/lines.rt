@@ -1,8 +1,10 @@
 //! Lines and words, cut from a text one after the other.
-ghost use Rattle.std.specs.Prelude.{◌≡◌, ◌==◌, ◌≤◌, length};
+ghost use Rattle.std.specs.Prelude.{◌≡◌, ◌==◌, ◌≤◌, ◌+◌, length, take, drop};
 ghost use Rattle.std.specs.Iterator.{YieldsFirstRef, item_count};
 ghost use Rattle.std.specs.List.{before_first, after_first, list_all, position_or_len};
 ghost use Rattle.sk_text.specs.Lines.{lines_of, words_of, is_printable_byte, begins_comment};
+
+use memchr::memchr;
 
 /// The lines of a text. The last one may lack its end, and an empty rest is no line.
 #[derive(Drop)]
@@ -20,7 +22,7 @@ impl<'a> Iterator for Lines<'a> {
         if self.0.is_empty() {
             return None;
         }
-        let (line, rest) = cut(self.0, b'\n');
+        let (line, rest) = cut_at(self.0, end_of_line(self.0));
         self.0 = rest;
         Some(line)
     }
@@ -56,11 +58,30 @@ pub fn cut(text: &[u8], byte: u8) -> (&[u8], &[u8])
     ensures front { result.0.now ≡ before_first (λ b. b == byte) text.now }
     ensures back { result.1.now ≡ after_first (λ b. b == byte) text.now }
 {
-    let at = place_of(text, byte);
+    cut_at(text, place_of(text, byte))
+}
+
+// What stands before this place, and what stands behind the byte there.
+fn cut_at(text: &[u8], at: usize) -> (&[u8], &[u8])
+    requires within { at ≤ length text.now }
+    ensures front { result.0.now ≡ take at text.now }
+    ensures back { result.1.now ≡ drop (at + 1) text.now }
+{
     if at < text.len() {
         (&text[..at], &text[at + 1..])
     } else {
         (text, &[])
+    }
+}
+
+// The place of the first line feed, or the length where there is none: many bytes at a time.
+fn end_of_line(text: &[u8]) -> usize
+    ensures within { result ≤ length text.now }
+    ensures first { result ≡ position_or_len (λ b. b == 10) text.now }
+{
+    match memchr(b'\n', text) {
+        Some(at) => at,
+        None => text.len(),
     }
 }
 
@@ -82,7 +103,11 @@ fn place_of(text: &[u8], byte: u8) -> usize
 pub fn is_printable(line: &[u8]) -> bool
     ensures every { result ≡ list_all is_printable_byte line.now }
 {
-    line.iter().all(|byte| matches!(*byte, 0x20..=0x7e))
+    let mut every = true;
+    for byte in line {
+        every &= matches!(*byte, 0x20..=0x7e);
+    }
+    every
 }
 
 /// Whether a line says nothing: it has no word, or its first word begins a comment.
