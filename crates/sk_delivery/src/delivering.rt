@@ -12,12 +12,11 @@ ghost use Rattle.sk_session.specs.Orphans.{ended_and_hung_up};
 ghost use Rattle.sk_machine.specs.declared.answer.Effect.TheVariants.{Ended};
 ghost use Rattle.sk_machine.specs.Delivering.{is_waiting, is_in_call, in_handler, enters_handler, stopping, acts_by_default, taking, acted_on, delivered};
 
-use crate::asking::{group_of, parent_of};
 use sk_machine::Effect;
-use sk_session::{end, orphaned};
+use sk_session::{end, group_of, orphaned};
 use sk_signal::number::{SIGCHLD, SIGKILL, SIGSEGV, SIGSYS};
 use sk_signal::{DefaultAction, Disposition, SigSet, default_action, tty_stop};
-use sk_world::{Body, INIT, Life, Note, ProcStore, Waiting, send};
+use sk_world::{Body, INIT, Life, Note, ProcStore, Waiting, parent_of, send};
 
 /// Delivers a signal to a process, whether or not it was pending: signal(7).
 pub fn deliver<S: ProcStore>(store: &mut S, pid: u32, signal: u8) -> Effect

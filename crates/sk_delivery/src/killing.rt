@@ -8,9 +8,9 @@ ghost use Rattle.sk_session.specs.Sessions.{answered};
 ghost use Rattle.sk_machine.specs.Killing.{is_open_to, may_kill, after_kill};
 ghost use Rattle.sk_delivery.specs.Targets.{meant, reached};
 
-use crate::asking::{group_of, session_of, who_meant};
-use crate::targets::next_target;
+use crate::targets::{next_target, who_meant};
 use sk_creds::{Creds, Errno};
+use sk_session::{group_of, session_of};
 use sk_signal::number::SIGCONT;
 use sk_world::{ProcStore, Who, send};
 

@@ -2,7 +2,6 @@
 //! `sk_machine`'s `specs/`.
 #![tactic(auto)]
 
-mod asking;
 mod delivering;
 mod killing;
 mod targets;

@@ -3,6 +3,7 @@ ghost use Rattle.std.specs.Option.{is_some};
 ghost use Rattle.sk_world.specs.declared.process.TheConstants.{INIT};
 ghost use Rattle.sk_world.specs.World.{at, IsNext};
 ghost use Rattle.sk_world.specs.Rules.{IsWorld};
+ghost use Rattle.sk_machine.specs.Arguments.{who_meant};
 ghost use Rattle.sk_delivery.specs.Targets.{is_target};
 
 use sk_world::{INIT, ProcStore, Who};
@@ -43,4 +44,21 @@ fn next_other<S: ProcStore>(store: &S, caller: u32, after: u32) -> Option<u32>
         from = pid;
     }
     None
+}
+
+/// Whom the argument of kill(2) or wait4(2) means, where the caller is in this group.
+pub(crate) fn who_meant(group: u32, argument: i32) -> Who
+    ensures { result ≡ who_meant group argument }
+{
+    match u32::try_from(argument) {
+        Ok(0) => Who::Group(group),
+        Ok(pid) => Who::Child(pid),
+        Err(_) => {
+            if argument == -1 {
+                Who::Any
+            } else {
+                Who::Group(argument.unsigned_abs())
+            }
+        }
+    }
 }

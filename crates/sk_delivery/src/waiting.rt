@@ -9,11 +9,12 @@ ghost use Rattle.sk_machine.specs.Performed.{waiting_in};
 ghost use Rattle.sk_delivery.specs.Requests.{request_or_error};
 ghost use Rattle.sk_machine.specs.WaitCalls.{are_wait_options, polled, polled_again, wait4, resumed};
 
-use crate::asking::{group_of, who_meant};
+use crate::targets::who_meant;
 use bitflags::Flags;
 use sk_creds::Errno;
 use sk_insn::Record;
-use sk_machine::Outcome;
+use sk_machine::{Outcome, low};
+use sk_session::group_of;
 use sk_world::{Poll, ProcStore, Request, WaitOptions, Waiting, wait_poll};
 
 /// Performs a wait4(2) of the caller. Its registers 1 and 3 are not looked at.
@@ -26,7 +27,7 @@ pub fn wait4<S: ProcStore>(store: &mut S, caller: u32, call: &Record) -> Outcome
 {
     match request_of(store, caller, call) {
         Ok(request) => ask(store, caller, request),
-        Err(error) => failed(error),
+        Err(error) => Outcome::failed(error),
     }
 }
 
@@ -49,10 +50,10 @@ pub fn resume<S: ProcStore>(store: &mut S, pid: u32, waiting: Waiting) -> Outcom
 fn request_of<S: ProcStore>(store: &S, caller: u32, call: &Record) -> Result<Request, Errno>
     ensures { result ≡ request_or_error (S.contents store.now) caller call.now }
 {
-    let Some(options) = wait_options(low(call.args[2])) else {
+    let Some(options) = wait_options(low(call, 2)) else {
         return Err(Errno::Einval);
     };
-    let argument = low(call.args[0]);
+    let argument = low(call, 0);
     if argument == 1 << 31 {
         return Err(Errno::Esrch);
     }
@@ -70,13 +71,6 @@ fn wait_options(bits: u32) -> Option<WaitOptions>
     WaitOptions::from_bits(bits)
 }
 
-/// The low 32 bits of a register.
-fn low(register: u64) -> u32
-    ensures { result ≡ register % 2 ^ 32 }
-{
-    (register & u64::from(u32::MAX)) as u32
-}
-
 /// Asks what there is to tell, and waits where there is nothing yet.
 fn ask<S: ProcStore>(store: &mut S, caller: u32, request: Request) -> Outcome
     requires rules { IsWorld (S.contents store.old) }
@@ -87,7 +81,7 @@ fn ask<S: ProcStore>(store: &mut S, caller: u32, request: Request) -> Outcome
 {
     match wait_poll(store, caller, &request) {
         Poll::Told { pid, status } => Outcome::Told { pid, status },
-        Poll::NoMatch => failed(Errno::Echild),
+        Poll::NoMatch => Outcome::failed(Errno::Echild),
         Poll::NotReady => {
             if request.options.contains(WaitOptions::WNOHANG) {
                 return Outcome::Returned(0);
@@ -108,7 +102,7 @@ fn ask_again<S: ProcStore>(store: &mut S, pid: u32, request: Request) -> Outcome
 {
     let outcome = match wait_poll(store, pid, &request) {
         Poll::Told { pid, status } => Outcome::Told { pid, status },
-        Poll::NoMatch => failed(Errno::Echild),
+        Poll::NoMatch => Outcome::failed(Errno::Echild),
         Poll::NotReady => return Outcome::Waits,
     };
     set_waiting(store, pid, Waiting::Nothing);
@@ -123,11 +117,4 @@ fn set_waiting<S: ProcStore>(store: &mut S, pid: u32, waiting: Waiting)
     if let Some(body) = store.body_mut(pid) {
         body.waiting = waiting;
     }
-}
-
-/// A call that has failed returns the negated error.
-fn failed(error: Errno) -> Outcome
-    ensures { result ≡ Returned (neg_ℤ (pos (number_of error))) }
-{
-    Outcome::Returned(-i64::from(error.number()))
 }

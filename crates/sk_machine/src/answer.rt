@@ -1,6 +1,9 @@
-ghost use Rattle.std.specs.Prelude.{◌≡◌};
+ghost use Rattle.std.specs.Prelude.{◌≡◌, pos, neg_ℤ};
+ghost use Rattle.sk_creds.specs.Errno.{number_of as errno_of};
 ghost use Rattle.sk_machine.specs.Events.{number_of};
+ghost use Rattle.sk_machine.specs.declared.answer.Outcome.TheVariants.{Returned};
 
+use sk_creds::Errno;
 use sk_signal::SigSet;
 
 /// What an event came to.
@@ -36,6 +39,15 @@ pub enum Outcome {
     Ended(u32),
     /// The process runs another program.
     Executed,
+}
+
+impl Outcome {
+    /// What a call comes to that fails: it returns the negated error.
+    pub fn failed(errno: Errno) -> Outcome
+        ensures { result ≡ Returned (neg_ℤ (pos (errno_of errno))) }
+    {
+        Outcome::Returned(-i64::from(errno.number()))
+    }
 }
 
 /// What a delivered signal did.

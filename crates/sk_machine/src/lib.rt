@@ -3,11 +3,13 @@
 #![tactic(auto)]
 
 mod answer;
+mod arguments;
 mod event;
 mod images;
 mod operation;
 
 pub use answer::{Answer, Effect, Outcome, Reason};
+pub use arguments::{low, register, signed};
 pub use event::{Event, Need};
 pub use images::{Images, Mark};
 pub use operation::{PrctlOption, SeccompOperation};

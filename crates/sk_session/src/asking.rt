@@ -43,11 +43,21 @@ pub(crate) fn pid_named(this: u32, pid: i32) -> u32
 }
 
 /// The session of a process, 0 where it is not there.
-pub(crate) fn session_of<S: ProcStore>(store: &S, pid: u32) -> u32
+pub fn session_of<S: ProcStore>(store: &S, pid: u32) -> u32
     ensures { result ≡ session_of (at (S.contents store.now) pid) }
 {
     match store.get(pid) {
         Some(process) => process.links.session,
+        None => 0,
+    }
+}
+
+/// The process group of a process, 0 where it is not there.
+pub fn group_of<S: ProcStore>(store: &S, pid: u32) -> u32
+    ensures { result ≡ group_of (at (S.contents store.now) pid) }
+{
+    match store.get(pid) {
+        Some(process) => process.links.group,
         None => 0,
     }
 }

@@ -2,7 +2,7 @@ ghost use Rattle.std.specs.Prelude.{[], ◌≡◌, ◌≢◌, ℕ, ◌&&◌, ◌
 ghost use Rattle.sk_numbers.specs.Numbers.{contains};
 ghost use Rattle.sk_signal.specs.SignalSet.{IsSignal};
 ghost use Rattle.sk_world.specs.declared.process.TheConstants.{INIT};
-ghost use Rattle.sk_world.specs.World.{at, is_alive, is_stopped, is_halted, is_child_of};
+ghost use Rattle.sk_world.specs.World.{at, is_alive, is_child_of};
 ghost use Rattle.sk_world.specs.Rules.{IsWorld};
 ghost use Rattle.sk_session.specs.Sessions.{is_group};
 ghost use Rattle.sk_session.specs.Orphans.{is_tie, is_orphaned, has_stopped_member, groups as groups_of, sent_to_group, hung_up, each_hung_up, ended_and_hung_up};
@@ -11,7 +11,7 @@ ghost use Rattle.sk_session.specs.views.Ties.{is_engaged, TiesNone};
 use crate::orphans::{is_tie, orphaned};
 use sk_numbers::NumberSet;
 use sk_signal::number::{SIGCONT, SIGHUP};
-use sk_world::{INIT, Life, ProcStore, send};
+use sk_world::{INIT, ProcStore, is_alive, is_stopped, is_zombie, send};
 
 /// Ends a process with this status: exit(2). The groups that this leaves orphaned, with a stopped process in them, get
 /// SIGHUP and then SIGCONT: POSIX.1-2017, exit(), "Consequences of Process Termination". Where neither the process nor a
@@ -49,7 +49,7 @@ fn may_untie<S: ProcStore>(store: &S, pid: u32) -> bool
     requires rules { IsWorld (S.contents store.now) }
     ensures { IsFalse result → (q : ℕ) → IsTrue (is_engaged (S.contents store.now) pid q) → TiesNone (S.contents store.now) q }
 {
-    is_halted(store) || ties_a_group(store, pid) || has_child_that_ties(store, pid)
+    is_zombie(store, INIT) || ties_a_group(store, pid) || has_child_that_ties(store, pid)
 }
 
 /// Whether the process ties its group to its session.
@@ -100,20 +100,11 @@ fn add_groups_tied_by<S: ProcStore>(store: &S, pid: u32, groups: &mut NumberSet)
     ensures tied { (group : ℕ) → IsTrue (contains groups.new group) → is_orphaned (S.contents store.now) group ≡ false }
     ensures whole { (group q : ℕ) → IsTrue (is_tie (S.contents store.now) group q) → IsTrue (is_engaged (S.contents store.now) pid q) → IsTrue (contains groups.new group) }
 {
-    if is_halted(store) {
+    if is_zombie(store, INIT) {
         add_ties(store, groups);
     } else {
         add_tie(store, pid, groups);
         add_ties_of_children(store, pid, groups);
-    }
-}
-
-fn is_halted<S: ProcStore>(store: &S) -> bool
-    ensures { result ≡ is_halted (S.contents store.now) }
-{
-    match store.get(INIT) {
-        Some(process) => matches!(process.body.life, Life::Zombie(_)),
-        None => false,
     }
 }
 
@@ -194,15 +185,6 @@ fn has_stopped_member<S: ProcStore>(store: &S, group: u32) -> bool
     false
 }
 
-fn is_stopped<S: ProcStore>(store: &S, pid: u32) -> bool
-    ensures { result ≡ is_stopped (at (S.contents store.now) pid) }
-{
-    match store.get(pid) {
-        Some(process) => matches!(process.body.life, Life::Stopped),
-        None => false,
-    }
-}
-
 /// Hangs up each of these groups, in rising order.
 fn hang_up_each<S: ProcStore>(store: &mut S, groups: &NumberSet)
     requires rules { IsWorld (S.contents store.old) }
@@ -239,14 +221,5 @@ fn send_to_group<S: ProcStore>(store: &mut S, group: u32, signal: u8)
             send(store, pid, signal);
         }
         after = pid;
-    }
-}
-
-fn is_alive<S: ProcStore>(store: &S, pid: u32) -> bool
-    ensures { result ≡ is_alive (at (S.contents store.now) pid) }
-{
-    match store.get(pid) {
-        Some(process) => !matches!(process.body.life, Life::Zombie(_)),
-        None => false,
     }
 }

@@ -9,7 +9,7 @@ mod grouping;
 pub mod laws;
 mod orphans;
 
-pub use asking::{getpgid, getsid};
+pub use asking::{getpgid, getsid, group_of, session_of};
 pub use ending::end;
 pub use grouping::{setpgid, setsid};
 pub use orphans::orphaned;

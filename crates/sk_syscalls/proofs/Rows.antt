@@ -106,16 +106,16 @@ has_changed w pid n r asked answer outcome after same says made told =
     (made ∙ ap (λ x. result_unwrap_or x w) same ∙ world_changes w n r)
 
 -- the same of one that asks for the caller's ids
-pub has_changed_by : (w : World) (pid n : ℕ) (r : Creds → Result World Errno) (creds : Creds) (asked : Result World Errno) (answer : Result ℕ Errno) (outcome : Outcome) (after : World)
-    → IfSome (at w pid) (λ p. creds ≡ p.body.creds) → asked ≡ r creds → answer ≡ answered n asked → after ≡ result_unwrap_or asked w → outcome ≡ returned answer
+pub has_changed_by : (w : World) (pid n : ℕ) (r : Creds → Result World Errno) (caller : Proc) (asked : Result World Errno) (answer : Result ℕ Errno) (outcome : Outcome) (after : World)
+    → IfSome (at w pid) (λ p. p ≡ caller) → asked ≡ r caller.body.creds → answer ≡ answered n asked → after ≡ result_unwrap_or asked w → outcome ≡ returned answer
     → ComesTo w pid (λ v body. changes v n (r body.creds)) outcome after
-has_changed_by w pid n r creds asked answer outcome after own same says made told =
-    elim (at w pid) as (λ o. IfSome o (λ p. creds ≡ p.body.creds) → IfSome o (λ p. record { outcome : outcome ≡ (changes w n (r p.body.creds)).outcome; world : after ≡ (changes w n (r p.body.creds)).world })) [
+has_changed_by w pid n r caller asked answer outcome after own same says made told =
+    elim (at w pid) as (λ o. IfSome o (λ p. p ≡ caller) → IfSome o (λ p. record { outcome : outcome ≡ (changes w n (r p.body.creds)).outcome; world : after ≡ (changes w n (r p.body.creds)).world })) [
       | None ↦ λ _. tt
-      | Some p ↦ λ is. record {
-        outcome = told ∙ ap returned (says ∙ ap (answered n) (same ∙ ap r is)) ∙ returned_changes w n (r p.body.creds);
-        world = made ∙ ap (λ x. result_unwrap_or x w) (same ∙ ap r is) ∙ world_changes w n (r p.body.creds);
-      }
+      | Some p ↦ λ is. subst (λ q. record { outcome : outcome ≡ (changes w n (r q.body.creds)).outcome; world : after ≡ (changes w n (r q.body.creds)).world }) (sym is) (record {
+        outcome = told ∙ ap returned (says ∙ ap (answered n) same) ∙ returned_changes w n (r caller.body.creds);
+        world = made ∙ ap (λ x. result_unwrap_or x w) same ∙ world_changes w n (r caller.body.creds);
+      })
     ] own
 
 -- what holds anyway holds where there is an error

@@ -14,7 +14,7 @@ ghost use Rattle.sk_machine.specs.Memory.{is_read};
 ghost use Rattle.sk_machine.specs.Performed.{authorises};
 ghost use Rattle.sk_syscalls.specs.Rows.{ComesTo};
 
-use crate::outcome::{done, failed};
+use crate::outcome::done;
 use sk_chain::{Chain, ChainFault};
 use sk_check::{Checked, check};
 use sk_creds::Errno;
@@ -43,11 +43,11 @@ pub(crate) fn attach<S: ProcStore>(
     ensures rules { IsWorld (S.contents store.new) }
 {
     if flags != 0 {
-        return Ok(failed(Errno::Einval));
+        return Ok(Outcome::failed(Errno::Einval));
     }
     match program_of(images, alloc, image)? {
         Ok(insns) => filter_caller(store, alloc, pid, insns),
-        Err(errno) => Ok(failed(errno)),
+        Err(errno) => Ok(Outcome::failed(errno)),
     }
 }
 

@@ -14,48 +14,11 @@ ghost use Rattle.sk_machine.specs.Performed.{returns, authorises};
 ghost use Rattle.sk_machine.specs.Performing.{executing, execve, ids};
 ghost use Rattle.sk_syscalls.specs.Rows.{ComesTo};
 
-use crate::arguments::{low, register};
-use crate::outcome::{done, failed, returned};
+use crate::outcome::{done, returned};
 use sk_creds::{Creds, Errno};
 use sk_insn::Record;
-use sk_machine::{Images, Mark, Outcome};
+use sk_machine::{Images, Mark, Outcome, low, register};
 use sk_world::{Body, ProcStore};
-
-/// getuid(2).
-pub(crate) fn getuid<S: ProcStore>(store: &S, pid: u32) -> Outcome
-    requires { IsTrue (is_some (at (S.contents store.now) pid)) }
-    ensures { ComesTo (S.contents store.now) pid (λ w body. returns w body.creds.real) result (S.contents store.now) }
-{
-    match store.get(pid) {
-        Some(process) => returned(Ok(process.body.creds.real)),
-        None => unreachable!(),
-    }
-}
-
-/// geteuid(2).
-pub(crate) fn geteuid<S: ProcStore>(store: &S, pid: u32) -> Outcome
-    requires { IsTrue (is_some (at (S.contents store.now) pid)) }
-    ensures { ComesTo (S.contents store.now) pid (λ w body. returns w body.creds.effective) result (S.contents store.now) }
-{
-    match store.get(pid) {
-        Some(process) => returned(Ok(process.body.creds.effective)),
-        None => unreachable!(),
-    }
-}
-
-/// getresuid(2).
-pub(crate) fn getresuid<S: ProcStore>(store: &S, pid: u32) -> Outcome
-    requires { IsTrue (is_some (at (S.contents store.now) pid)) }
-    ensures { ComesTo (S.contents store.now) pid (λ w body. ids w body.creds) result (S.contents store.now) }
-{
-    match store.get(pid) {
-        Some(process) => {
-            let creds = process.body.creds;
-            Outcome::Ids(creds.real, creds.effective, creds.saved)
-        }
-        None => unreachable!(),
-    }
-}
 
 /// setuid(2).
 pub(crate) fn setuid<S: ProcStore>(store: &mut S, pid: u32, call: &Record) -> Outcome
@@ -114,7 +77,7 @@ pub(crate) fn execve<S: ProcStore>(
 {
     match mark_of(images, register(call, 0)) {
         Some(mark) => execute(store, pid, mark),
-        None => failed(Errno::Enoent),
+        None => Outcome::failed(Errno::Enoent),
     }
 }
 

@@ -9,10 +9,9 @@ ghost use Rattle.sk_machine.specs.Arguments.{signed};
 ghost use Rattle.sk_machine.specs.Performed.{returns, asked, changes};
 ghost use Rattle.sk_syscalls.specs.Rows.{ComesTo};
 
-use crate::arguments::signed;
 use crate::outcome::returned;
 use sk_insn::Record;
-use sk_machine::Outcome;
+use sk_machine::{Outcome, signed};
 use sk_world::ProcStore;
 
 /// setpgid(2).
@@ -34,17 +33,6 @@ pub(crate) fn setsid<S: ProcStore>(store: &mut S, pid: u32) -> Outcome
     ensures rules { IsWorld (S.contents store.new) }
 {
     returned(sk_session::setsid(store, pid))
-}
-
-/// getpgrp(2).
-pub(crate) fn getpgrp<S: ProcStore>(store: &S, pid: u32) -> Outcome
-    requires { IsTrue (is_some (at (S.contents store.now) pid)) }
-    ensures { ComesTo (S.contents store.now) pid (λ w body. returns w (group_of (at w pid))) result (S.contents store.now) }
-{
-    match store.get(pid) {
-        Some(process) => returned(Ok(process.links.group)),
-        None => unreachable!(),
-    }
 }
 
 /// getpgid(2).

@@ -1,9 +1,9 @@
 //! What each call does when it is performed, over any store of processes.
 #![tactic(auto)]
 
-mod arguments;
 mod attaching;
 mod authority;
+mod caller;
 mod groups;
 mod outcome;
 mod performing;

@@ -1,17 +1,11 @@
 //! What calls come to that return a number.
 
-ghost use Rattle.std.specs.Prelude.{◌≡◌, Ok, Err};
+ghost use Rattle.std.specs.Prelude.{◌≡◌};
+ghost use Rattle.sk_machine.specs.declared.answer.Outcome.TheVariants.{Ids};
 ghost use Rattle.sk_syscalls.specs.views.Returned.{returned, done};
 
-use sk_creds::Errno;
+use sk_creds::{Creds, Errno};
 use sk_machine::Outcome;
-
-/// The call fails: it returns the negated error.
-pub(crate) fn failed(errno: Errno) -> Outcome
-    ensures { result ≡ returned (Err errno) }
-{
-    Outcome::Returned(-i64::from(errno.number()))
-}
 
 /// The call returns a number, or fails.
 pub(crate) fn returned(answer: Result<u32, Errno>) -> Outcome
@@ -19,7 +13,7 @@ pub(crate) fn returned(answer: Result<u32, Errno>) -> Outcome
 {
     match answer {
         Ok(number) => Outcome::Returned(i64::from(number)),
-        Err(errno) => failed(errno),
+        Err(errno) => Outcome::failed(errno),
     }
 }
 
@@ -29,6 +23,13 @@ pub(crate) fn done(answer: Result<(), Errno>) -> Outcome
 {
     match answer {
         Ok(()) => Outcome::Returned(0),
-        Err(errno) => failed(errno),
+        Err(errno) => Outcome::failed(errno),
     }
+}
+
+/// The call returns the three user ids: getresuid(2).
+pub(crate) fn ids(creds: Creds) -> Outcome
+    ensures { result ≡ Ids creds.real creds.effective creds.saved }
+{
+    Outcome::Ids(creds.real, creds.effective, creds.saved)
 }

@@ -9,7 +9,8 @@ ghost use Rattle.sk_machine.specs.Memory.{may_grow};
 ghost use Rattle.sk_machine.specs.Performing.{row, performed};
 ghost use Rattle.sk_syscalls.specs.Rows.{ComesTo};
 
-use crate::outcome::{failed, returned};
+use crate::caller::caller;
+use crate::outcome::{ids, returned};
 use crate::{authority, groups, prctl, processes, seccomp, signals};
 use sk_creds::Errno;
 use sk_insn::Record;
@@ -35,7 +36,7 @@ pub fn perform<S: ProcStore>(
 {
     match Syscall::of(call.nr) {
         Some(which) => perform_known(store, images, alloc, pid, which, call),
-        None => Ok(failed(Errno::Enosys)),
+        None => Ok(Outcome::failed(Errno::Enosys)),
     }
 }
 
@@ -62,24 +63,24 @@ fn perform_known<S: ProcStore>(
         Syscall::RtSigaction => Ok(signals::rt_sigaction(store, pid, call)),
         Syscall::RtSigprocmask => Ok(signals::rt_sigprocmask(store, pid, call)),
         Syscall::RtSigreturn => Ok(signals::rt_sigreturn(store, pid)),
-        Syscall::RtSigpending => Ok(signals::rt_sigpending(store, pid)),
+        Syscall::RtSigpending => Ok(Outcome::Signals(caller(store, pid).body.signals.pending())),
         Syscall::SchedYield => Ok(returned(Ok(0))),
         Syscall::Pause => Ok(processes::pause(store, pid)),
         Syscall::Getpid => Ok(returned(Ok(pid))),
-        Syscall::Getppid => Ok(processes::getppid(store, pid)),
+        Syscall::Getppid => Ok(returned(Ok(caller(store, pid).links.parent))),
         Syscall::Execve => Ok(authority::execve(store, images, pid, call)),
         Syscall::Exit => Ok(processes::exit(store, pid, call)),
         Syscall::ExitGroup => Ok(processes::exit(store, pid, call)),
         Syscall::Wait4 => Ok(processes::wait4(store, pid, call)),
         Syscall::Kill => Ok(processes::kill(store, pid, call)),
-        Syscall::Getuid => Ok(authority::getuid(store, pid)),
-        Syscall::Geteuid => Ok(authority::geteuid(store, pid)),
-        Syscall::Getresuid => Ok(authority::getresuid(store, pid)),
+        Syscall::Getuid => Ok(returned(Ok(caller(store, pid).body.creds.real))),
+        Syscall::Geteuid => Ok(returned(Ok(caller(store, pid).body.creds.effective))),
+        Syscall::Getresuid => Ok(ids(caller(store, pid).body.creds)),
         Syscall::Setuid => Ok(authority::setuid(store, pid, call)),
         Syscall::Setresuid => Ok(authority::setresuid(store, pid, call)),
         Syscall::Setpgid => Ok(groups::setpgid(store, pid, call)),
         Syscall::Setsid => Ok(groups::setsid(store, pid)),
-        Syscall::Getpgrp => Ok(groups::getpgrp(store, pid)),
+        Syscall::Getpgrp => Ok(returned(Ok(caller(store, pid).links.group))),
         Syscall::Getpgid => Ok(groups::getpgid(store, pid, call)),
         Syscall::Getsid => Ok(groups::getsid(store, pid, call)),
     }

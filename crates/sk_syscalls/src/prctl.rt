@@ -14,12 +14,12 @@ ghost use Rattle.sk_machine.specs.Performing.{prctl, seccomp_mode, no_new_privs_
 ghost use Rattle.sk_machine.specs.declared.operation.PrctlOption.TheVariants as option;
 ghost use Rattle.sk_syscalls.specs.Rows.{ComesTo};
 
-use crate::arguments::{low, register};
 use crate::attaching::attach;
-use crate::outcome::{done, failed, returned};
+use crate::caller::caller;
+use crate::outcome::{done, returned};
 use sk_creds::Errno;
 use sk_insn::Record;
-use sk_machine::{Images, Outcome, PrctlOption};
+use sk_machine::{Images, Outcome, PrctlOption, low, register};
 use sk_world::{Body, ProcStore};
 use std::alloc::{AllocError, Global};
 
@@ -48,7 +48,7 @@ pub(crate) fn prctl<S: ProcStore>(
         Some(PrctlOption::GetNoNewPrivs) => Ok(get_no_new_privs(store, pid, call)),
         Some(PrctlOption::SetChildSubreaper) => Ok(set_child_subreaper(store, images, pid, call)),
         Some(PrctlOption::GetChildSubreaper) => Ok(get_child_subreaper(store, images, pid)),
-        None => Ok(failed(Errno::Einval)),
+        None => Ok(Outcome::failed(Errno::Einval)),
     }
 }
 
@@ -70,7 +70,7 @@ fn set_seccomp<S: ProcStore>(
     if register(call, 1) == u64::from(SECCOMP_MODE_FILTER) {
         attach(store, images, alloc, pid, 0, register(call, 2))
     } else {
-        Ok(failed(Errno::Einval))
+        Ok(Outcome::failed(Errno::Einval))
     }
 }
 
@@ -78,10 +78,7 @@ fn get_seccomp<S: ProcStore>(store: &S, pid: u32) -> Outcome
     requires { IsTrue (is_some (at (S.contents store.now) pid)) }
     ensures { ComesTo (S.contents store.now) pid (λ w body. returns w (seccomp_mode body.chain)) result (S.contents store.now) }
 {
-    match store.get(pid) {
-        Some(process) => returned(Ok(seccomp_mode(&process.body))),
-        None => unreachable!(),
-    }
+    returned(Ok(seccomp_mode(&caller(store, pid).body)))
 }
 
 fn seccomp_mode(body: &Body) -> u32
@@ -131,10 +128,7 @@ fn get_no_new_privs<S: ProcStore>(store: &S, pid: u32, call: &Record) -> Outcome
     ensures { ComesTo (S.contents store.now) pid
         (λ w body. asked w (no_new_privs_asked call.now body.creds.no_new_privs)) result (S.contents store.now) }
 {
-    match store.get(pid) {
-        Some(process) => returned(no_new_privs_asked(call, process.body.creds.no_new_privs)),
-        None => unreachable!(),
-    }
+    returned(no_new_privs_asked(call, caller(store, pid).body.creds.no_new_privs))
 }
 
 fn no_new_privs_asked(call: &Record, is_set: bool) -> Result<u32, Errno>
@@ -159,7 +153,7 @@ fn set_child_subreaper<S: ProcStore>(
     ensures rules { IsWorld (S.contents store.new) }
 {
     if !images.subreapers {
-        return failed(Errno::Einval);
+        return Outcome::failed(Errno::Einval);
     }
     mark_subreaper(store, pid, register(call, 1) != 0);
     returned(Ok(0))
@@ -180,10 +174,7 @@ fn get_child_subreaper<S: ProcStore>(store: &S, images: &Images, pid: u32) -> Ou
         (λ w body. where_subreapers images.now.subreapers w (subreaper_asked w body.subreaper)) result (S.contents store.now) }
 {
     if !images.subreapers {
-        return failed(Errno::Einval);
+        return Outcome::failed(Errno::Einval);
     }
-    match store.get(pid) {
-        Some(process) => returned(Ok(u32::from(process.body.subreaper))),
-        None => unreachable!(),
-    }
+    returned(Ok(u32::from(caller(store, pid).body.subreaper)))
 }

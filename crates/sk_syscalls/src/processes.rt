@@ -13,11 +13,10 @@ ghost use Rattle.sk_machine.specs.Performed.{returns, changes, waits, waiting_in
 ghost use Rattle.sk_machine.specs.Performing.{forks, exit_status, end_of_caller};
 ghost use Rattle.sk_syscalls.specs.Rows.{ComesTo};
 
-use crate::arguments::{low, signed};
+use crate::caller::caller;
 use crate::outcome::returned;
-use sk_creds::Creds;
 use sk_insn::Record;
-use sk_machine::Outcome;
+use sk_machine::{Outcome, low, signed};
 use sk_world::{ProcStore, Waiting};
 use std::alloc::AllocError;
 
@@ -73,17 +72,6 @@ fn wait_in<S: ProcStore>(store: &mut S, pid: u32, what: Waiting)
     }
 }
 
-/// getppid(2).
-pub(crate) fn getppid<S: ProcStore>(store: &S, pid: u32) -> Outcome
-    requires { IsTrue (is_some (at (S.contents store.now) pid)) }
-    ensures { ComesTo (S.contents store.now) pid (λ w body. returns w (parent_of (at w pid))) result (S.contents store.now) }
-{
-    match store.get(pid) {
-        Some(process) => returned(Ok(process.links.parent)),
-        None => unreachable!(),
-    }
-}
-
 /// kill(2).
 pub(crate) fn kill<S: ProcStore>(store: &mut S, pid: u32, call: &Record) -> Outcome
     requires rules { IsWorld (S.contents store.old) }
@@ -92,18 +80,8 @@ pub(crate) fn kill<S: ProcStore>(store: &mut S, pid: u32, call: &Record) -> Outc
         (λ w body. changes w 0 (after_kill w pid body.creds (signed call.now 0) (low call.now 1))) result (S.contents store.new) }
     ensures rules { IsWorld (S.contents store.new) }
 {
-    let creds = creds_of(store, pid);
+    let creds = caller(store, pid).body.creds;
     returned(sk_delivery::kill(store, pid, creds, signed(call, 0), low(call, 1)))
-}
-
-fn creds_of<S: ProcStore>(store: &S, pid: u32) -> Creds
-    requires { IsTrue (is_some (at (S.contents store.now) pid)) }
-    ensures { IfSome (at (S.contents store.now) pid) (λ p. result ≡ p.body.creds) }
-{
-    match store.get(pid) {
-        Some(process) => process.body.creds,
-        None => unreachable!(),
-    }
 }
 
 /// wait4(2).

@@ -9,13 +9,12 @@ ghost use Rattle.sk_machine.specs.Memory.{is_read, seccomp_attaches};
 ghost use Rattle.sk_machine.specs.Performing.{seccomp, action_available};
 ghost use Rattle.sk_syscalls.specs.Rows.{ComesTo};
 
-use crate::arguments::{low, register};
 use crate::attaching::attach;
-use crate::outcome::{failed, returned};
+use crate::outcome::returned;
 use sk_chain::Action;
 use sk_creds::Errno;
 use sk_insn::Record;
-use sk_machine::{Images, Outcome, SeccompOperation};
+use sk_machine::{Images, Outcome, SeccompOperation, low, register};
 use sk_world::ProcStore;
 use std::alloc::{AllocError, Global};
 
@@ -42,7 +41,7 @@ pub(crate) fn seccomp<S: ProcStore>(
         Some(SeccompOperation::GetActionAvail) => {
             Ok(returned(action_available(low(call, 1), low(call, 2))))
         }
-        None => Ok(failed(Errno::Einval)),
+        None => Ok(Outcome::failed(Errno::Einval)),
     }
 }
 

@@ -10,11 +10,10 @@ ghost use Rattle.sk_machine.specs.SignalCalls.{resignals, can_be_caught, disposi
 ghost use Rattle.sk_machine.specs.Performing.{pending_signals};
 ghost use Rattle.sk_syscalls.specs.Rows.{ComesTo};
 
-use crate::arguments::{low, register};
 use crate::outcome::done;
 use sk_creds::Errno;
 use sk_insn::Record;
-use sk_machine::Outcome;
+use sk_machine::{Outcome, low, register};
 use sk_signal::number::{SIGKILL, SIGSTOP};
 use sk_signal::{Disposition, SigSet, SigState};
 use sk_world::{INIT, ProcStore};
@@ -63,17 +62,6 @@ pub(crate) fn rt_sigreturn<S: ProcStore>(store: &mut S, pid: u32) -> Outcome
 {
     match store.body_mut(pid) {
         Some(body) => done(sigreturn(&mut body.signals)),
-        None => unreachable!(),
-    }
-}
-
-/// sigpending(2).
-pub(crate) fn rt_sigpending<S: ProcStore>(store: &S, pid: u32) -> Outcome
-    requires { IsTrue (is_some (at (S.contents store.now) pid)) }
-    ensures { ComesTo (S.contents store.now) pid (λ w body. pending_signals w body.signals.pending) result (S.contents store.now) }
-{
-    match store.get(pid) {
-        Some(process) => Outcome::Signals(process.body.signals.pending()),
         None => unreachable!(),
     }
 }

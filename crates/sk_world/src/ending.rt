@@ -7,8 +7,9 @@ ghost use Rattle.sk_world.specs.Rules.{IsWorld, has_links_within};
 ghost use Rattle.sk_world.specs.Subreapers.{new_parent};
 ghost use Rattle.sk_world.specs.Ending.{handed_on, ignores_children, has_zombie_child, with_children_handed_on, reparented, zombie, left_to_parent, ended};
 
+use crate::asking::parent_of;
 use crate::process::{Body, INIT, Life, Links, Note, Waiting};
-use crate::sending::{parent_of, send};
+use crate::sending::send;
 use crate::store::ProcStore;
 use crate::subreapers::reaper;
 use sk_signal::number::SIGCHLD;

@@ -2,6 +2,7 @@
 //! it, the trait of a store that keeps them, and the functions that follow those rules over any store.
 #![tactic(auto)]
 
+mod asking;
 mod ending;
 mod forking;
 pub mod laws;
@@ -12,6 +13,7 @@ mod store;
 mod subreapers;
 mod waiting;
 
+pub use asking::{is_alive, is_asked_for, is_stopped, is_zombie, parent_of};
 pub use ending::{end, reparent};
 pub use forking::fork;
 pub use process::{Body, INIT, LAST_PID, Life, Links, Note, PROCESSES, Proc, Waiting};

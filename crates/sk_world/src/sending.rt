@@ -1,9 +1,9 @@
 ghost use Rattle.std.specs.Prelude.{◌≡◌};
 ghost use Rattle.sk_signal.specs.SignalSet.{IsSignal};
-ghost use Rattle.sk_world.specs.World.{at, is_stopped, parent_of};
 ghost use Rattle.sk_world.specs.Rules.{IsWorld};
 ghost use Rattle.sk_world.specs.Sending.{signalled, generated_at, sent};
 
+use crate::asking::{is_stopped, parent_of};
 use crate::process::{Body, INIT, Life, Note};
 use crate::store::ProcStore;
 use sk_signal::number::{SIGCHLD, SIGCONT};
@@ -21,25 +21,6 @@ pub fn send<S: ProcStore>(store: &mut S, pid: u32, signal: u8)
         generate_at(store, parent, SIGCHLD);
     } else {
         generate_at(store, pid, signal);
-    }
-}
-
-fn is_stopped<S: ProcStore>(store: &S, pid: u32) -> bool
-    ensures { result ≡ is_stopped (at (S.contents store.now) pid) }
-{
-    match store.get(pid) {
-        Some(process) => matches!(process.body.life, Life::Stopped),
-        None => false,
-    }
-}
-
-/// The parent of a process, 0 where the process is not there.
-pub(crate) fn parent_of<S: ProcStore>(store: &S, pid: u32) -> u32
-    ensures { result ≡ parent_of (at (S.contents store.now) pid) }
-{
-    match store.get(pid) {
-        Some(process) => process.links.parent,
-        None => 0,
     }
 }
 

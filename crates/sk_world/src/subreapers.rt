@@ -1,8 +1,8 @@
 ghost use Rattle.std.specs.Prelude.{◌≡◌, ◌==◌, ◌&&◌, not};
 ghost use Rattle.sk_world.specs.Subreapers.{new_parent};
 
+use crate::asking::parent_of;
 use crate::process::{INIT, PROCESSES, Proc};
-use crate::sending::parent_of;
 use crate::store::ProcStore;
 
 /// Who the children of a process go to when it ends: its nearest ancestor that is a subreaper, and process 1 where none

@@ -4,10 +4,11 @@ ghost use Rattle.sk_world.specs.declared.process.TheConstants.{INIT};
 ghost use Rattle.sk_world.specs.declared.process.Life.TheVariants.{Zombie};
 ghost use Rattle.sk_world.specs.World.{at, is_zombie, stored, changed};
 ghost use Rattle.sk_world.specs.Rules.{IsWorld};
-ghost use Rattle.sk_world.specs.Waits.{is_asked_for, is_match, status_of_note, status_of, ready_of, without_note, told};
+ghost use Rattle.sk_world.specs.Waits.{is_match, status_of_note, status_of, ready_of, without_note, told};
 
-use crate::process::{Life, Note, Proc};
-use crate::request::{Poll, Request, WaitOptions, Who};
+use crate::asking::{is_asked_for, is_zombie};
+use crate::process::{Life, Note};
+use crate::request::{Poll, Request, WaitOptions};
 use crate::store::ProcStore;
 use bitflags::Flags;
 
@@ -74,16 +75,6 @@ fn is_match<S: ProcStore>(store: &S, caller: u32, request: Request, pid: u32) ->
     }
 }
 
-fn is_asked_for(who: Who, pid: u32, process: &Proc) -> bool
-    ensures { result ≡ is_asked_for who pid process.now }
-{
-    match who {
-        Who::Child(child) => pid == child,
-        Who::Any => true,
-        Who::Group(group) => process.links.group == group,
-    }
-}
-
 fn status_of<S: ProcStore>(store: &S, options: WaitOptions, pid: u32) -> Option<u32>
     ensures { result ≡ status_of options (at (S.contents store.now) pid) }
 {
@@ -128,15 +119,6 @@ fn tell<S: ProcStore>(store: &mut S, poll: Poll)
         } else {
             forget_note(store, pid);
         }
-    }
-}
-
-fn is_zombie<S: ProcStore>(store: &S, pid: u32) -> bool
-    ensures { result ≡ is_zombie (at (S.contents store.now) pid) }
-{
-    match store.get(pid) {
-        Some(process) => matches!(process.body.life, Life::Zombie(_)),
-        None => false,
     }
 }
 

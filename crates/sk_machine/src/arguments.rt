@@ -1,12 +1,11 @@
 //! What is in the registers of a call.
-
 ghost use Rattle.std.specs.Prelude.{◌≡◌, ◌<◌};
 ghost use Rattle.sk_machine.specs.Arguments.{register, low, signed};
 
 use sk_insn::Record;
 
 /// All 64 bits of a register.
-pub(crate) fn register(call: &Record, n: usize) -> u64
+pub fn register(call: &Record, n: usize) -> u64
     requires { n < 6 }
     ensures { result ≡ register call.now n }
 {
@@ -14,7 +13,7 @@ pub(crate) fn register(call: &Record, n: usize) -> u64
 }
 
 /// The low 32 bits of a register, as a number without a sign.
-pub(crate) fn low(call: &Record, n: usize) -> u32
+pub fn low(call: &Record, n: usize) -> u32
     requires { n < 6 }
     ensures { result ≡ low call.now n }
 {
@@ -22,7 +21,7 @@ pub(crate) fn low(call: &Record, n: usize) -> u32
 }
 
 /// The same bits as a number with a sign.
-pub(crate) fn signed(call: &Record, n: usize) -> i32
+pub fn signed(call: &Record, n: usize) -> i32
     requires { n < 6 }
     ensures { result ≡ signed call.now n }
 {
