@@ -206,7 +206,7 @@ impl<S: ProcStore> ProcStore for Candidates<S> {
         look_at(&self.store, &mut self.noted, parent);
     }
 
-    fn remove(&mut self, pid: u32) -> Option<Proc> {
+    fn remove(&mut self, pid: u32) -> bool {
         let parent = parent_of(&self.store, pid);
         settle(&self.store, &mut self.noted, self.touched, parent);
         note(&mut self.noted, parent);

@@ -82,7 +82,7 @@ fn candidates_keep_what_the_store_keeps<S: ProcStore, R: Abort + AllocGlobal>(
 ) -> Result<(), Fail> {
     let mut store: Candidates<S> = after_forks(rt, &[INIT])?;
     keeps_processes_1_and_2(rt, &store);
-    assert!(rt; store.remove(2).is_some() && store.get(2).is_none());
+    assert!(rt; store.remove(2) && store.get(2).is_none());
     Ok(())
 }
 

@@ -40,7 +40,7 @@ fn parent(rt: &HostRuntime) -> Proc {
 #[test]
 fn a_child_has_the_rights_and_nothing_that_pends(rt: HostRuntime) -> Result<(), Fail> {
     let parent = parent(&rt);
-    let child = parent.child(7)?;
+    let child = parent.child(7, parent.body.chain.share()?);
     assert_eq!(rt;
         parent.body.signals.pending(),
         SigSet::empty().with(SIGTERM)

@@ -139,15 +139,15 @@ impl ProcStore for SlotStore {
         self.last = pid;
     }
 
-    fn remove(&mut self, pid: u32) -> Option<Proc> {
+    fn remove(&mut self, pid: u32) -> bool {
         let Some(slot) = slot_in(&self.table, pid) else {
-            return None;
+            return false;
         };
-        let proc = self.slots.remove(slot);
+        self.index.leave(pid, self.slots[slot].links);
+        let _removed = self.slots.remove(slot);
         self.table[pid as usize] = None;
         self.present.remove(pid);
-        self.index.leave(pid, proc.links);
-        Some(proc)
+        true
     }
 
     fn next_child(&self, parent: u32, after: u32) -> Option<u32> {

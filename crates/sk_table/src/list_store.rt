@@ -67,12 +67,12 @@ impl ProcStore for ListStore {
         self.last = pid;
     }
 
-    fn remove(&mut self, pid: u32) -> Option<Proc> {
+    fn remove(&mut self, pid: u32) -> bool {
         let Some(place) = place(&self.rows, pid) else {
-            return None;
+            return false;
         };
-        let Row { pid: _, proc } = self.rows.remove(place);
-        Some(proc)
+        let _removed = self.rows.remove(place);
+        true
     }
 
     fn next_child(&self, parent: u32, after: u32) -> Option<u32> {

@@ -43,7 +43,7 @@ fn leave_to_parent<S: ProcStore>(store: &mut S, pid: u32, status: u32)
 {
     let parent = parent_of(store, pid);
     if ignores_children(store, parent) {
-        let _ = store.remove(pid);
+        store.remove(pid);
     } else {
         leave_zombie(store, pid, status);
         send(store, parent, SIGCHLD);
@@ -126,7 +126,7 @@ fn hand_on<S: ProcStore>(store: &mut S, dying: u32, child: u32, parent: u32, rem
         ..process.links
     };
     if removes && is_zombie {
-        let _ = store.remove(child);
+        store.remove(child);
     } else {
         store.relink(child, links);
     }

@@ -25,7 +25,7 @@ pub fn fork<S: ProcStore>(store: &mut S, caller: u32) -> Result<Result<u32, Errn
         return Ok(Err(Errno::Eagain));
     }
     let child = match store.get(caller) {
-        Some(parent) => parent.child(caller)?,
+        Some(parent) => parent.child(caller, parent.body.chain.share()?),
         None => unreachable!(),
     };
     let pid = store.fresh();

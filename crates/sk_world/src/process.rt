@@ -1,10 +1,9 @@
-ghost use Rattle.std.specs.Prelude.{◌≡◌, [], IfOk, IsOk};
+ghost use Rattle.std.specs.Prelude.{◌≡◌};
 
 use crate::request::Request;
 use sk_chain::Chain;
 use sk_creds::Creds;
 use sk_signal::SigState;
-use std::alloc::AllocError;
 
 /// The process that the system starts with.
 pub const INIT: u32 = 1;
@@ -77,41 +76,39 @@ pub struct Proc {
 impl Body {
     ghost use Rattle.sk_world.specs.Forking.{child_body};
 
-    /// What the child has that a process with this body forks: fork(2). It shares the filters. The contract
-    /// lets a refusal through wherever there are filters; the run of `sk_forks`, 1000 forks of a process with
-    /// 6554 filters, shows that none comes.
-    pub fn child(&self) -> Result<Body, AllocError>
-        ensures child { IfOk result (λ child. child ≡ child_body self.now) }
-        ensures unfiltered { self.now.chain ≡ [] → IsOk result }
+    /// What the child has that a process with this body forks: fork(2). It shares the filters.
+    fn child(&self, shared: Chain) -> Body
+        requires shared { shared ≡ self.now.chain }
+        ensures child { result ≡ child_body self.now }
     {
-        Ok(Body {
+        Body {
             life: Life::Running,
             creds: self.creds,
-            chain: self.chain.share()?,
+            chain: shared,
             signals: self.signals.forked(),
             executed: false,
             subreaper: false,
             waiting: Waiting::Nothing,
             note: Note::Nothing,
-        })
+        }
     }
 }
 
 impl Proc {
     ghost use Rattle.sk_world.specs.Forking.{child_of};
 
-    /// The child that the process forks, whose pid is `caller`: fork(2). It shares the filters.
-    pub fn child(&self, caller: u32) -> Result<Proc, AllocError>
-        ensures child { IfOk result (λ child. child ≡ child_of caller self.now) }
-        ensures unfiltered { self.now.body.chain ≡ [] → IsOk result }
+    /// The child that the process forks, whose pid is `caller`: fork(2). These are the filters that it shares.
+    pub fn child(&self, caller: u32, shared: Chain) -> Proc
+        requires shared { shared ≡ self.now.body.chain }
+        ensures child { result ≡ child_of caller self.now }
     {
-        Ok(Proc {
+        Proc {
             links: Links {
                 parent: caller,
                 group: self.links.group,
                 session: self.links.session,
             },
-            body: self.body.child()?,
-        })
+            body: self.body.child(shared),
+        }
     }
 }

@@ -48,9 +48,9 @@ pub trait ProcStore: Drop {
         requires pid { (2 ≤ pid) × (pid ≤ LAST_PID) }
         ensures inserted { contents self.new ≡ inserted (contents self.old) pid proc };
 
-    /// Takes the process out.
-    fn remove(&mut self, pid: u32) -> Option<Proc>
-        ensures gone { result ≡ at (contents self.old) pid }
+    /// Takes the process out. False where it is not there.
+    fn remove(&mut self, pid: u32) -> bool
+        ensures found { result ≡ is_some (at (contents self.old) pid) }
         ensures rest { contents self.new ≡ stored (contents self.old) pid None };
 
     /// The least pid above `after` of a child of `parent`.

@@ -34,7 +34,16 @@ pub fn reap<S: ProcStore>(store: &mut S, pid: u32) -> u32
     ensures gone { S.contents store.new ≡ stored (S.contents store.old) pid None }
     ensures rules { IsWorld (S.contents store.new) }
 {
-    match store.remove(pid) {
+    let status = status_of_zombie(store, pid);
+    store.remove(pid);
+    status
+}
+
+fn status_of_zombie<S: ProcStore>(store: &S, pid: u32) -> u32
+    requires { IsTrue (is_zombie (at (S.contents store.now) pid)) }
+    ensures { option_map (λ p. p.body.life) (at (S.contents store.now) pid) ≡ Some (Zombie result) }
+{
+    match store.get(pid) {
         Some(process) => match process.body.life {
             Life::Zombie(status) => status,
             _ => unreachable!(),
@@ -115,7 +124,7 @@ fn tell<S: ProcStore>(store: &mut S, poll: Poll)
 {
     if let Poll::Told { pid, status: _ } = poll {
         if is_zombie(store, pid) {
-            let _ = store.remove(pid);
+            store.remove(pid);
         } else {
             forget_note(store, pid);
         }

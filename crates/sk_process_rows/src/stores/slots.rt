@@ -30,7 +30,7 @@ fn slot_of_a_process_that_went_is_used_again(rt: HostRuntime) -> Result<(), Fail
     set_executed(&mut store, 5);
     let before = slots(&store, INIT, 5, 9);
     assert!(rt; before.iter().all(|slot| slot.is_some()));
-    assert!(rt; store.remove(5).is_some());
+    assert!(rt; store.remove(5));
     assert!(rt; slots(&store, 5, 0, 40000) == [None; 3]);
     insert(&rt, rt.alloc(), &mut store, 7, links(INIT, INIT, INIT));
     assert!(rt; slots(&store, INIT, 7, 9) == before);
@@ -56,7 +56,7 @@ fn assert_members(rt: &impl Abort, store: &SlotStore, rows: &[(u32, &[(u32, u32)
 fn children_and_members_are_lent_in_rising_order(rt: HostRuntime) -> Result<(), Fail> {
     let mut store = with_two_children(&rt)?;
     assert_children(&rt, &store, &[(0, &[(0, 1)]), (INIT, &[(1, 5), (1, 9)])]);
-    assert!(rt; store.remove(5).is_some());
+    assert!(rt; store.remove(5));
     insert(&rt, rt.alloc(), &mut store, 7, links(INIT, INIT, INIT));
     assert_children(&rt, &store, &[(INIT, &[(1, 7), (1, 9)])]);
     assert_members(&rt, &store, &[(INIT, &[(1, 1), (1, 7), (1, 9)])]);

@@ -10,7 +10,7 @@ returns-then-count-ge-PROCESSES-clause-answer g c = full_answer (g.S.ProcStore.c
 
 pub insert-requires-clause-within : goal.insert-requires-clause-within
 insert-requires-clause-within g c =
-    ap (λ p. is_within p.links) c.in_ok-child-in-Some.ensures.child
+    ap (λ p. is_within p.links) c.child-child.ensures.child
     ∙ child_within (g.S.ProcStore.contents c.args.store.now) _ c.in-Some.parent.now c.requires.world c.in-Some.ensures.there
 
 pub returns-clause-answer : goal.returns-clause-answer
@@ -20,7 +20,7 @@ returns-clause-answer g c =
 pub returns-clause-world : goal.returns-clause-world
 returns-clause-world g c =
     c.insert.ensures.inserted
-    ∙ (λ i. inserted (g.S.ProcStore.contents c.args.store.now) (c.fresh-pid.ensures.fresh i) (c.in_ok-child-in-Some.ensures.child i))
+    ∙ (λ i. inserted (g.S.ProcStore.contents c.args.store.now) (c.fresh-pid.ensures.fresh i) (c.child-child.ensures.child i))
     ∙ room_forked (g.S.ProcStore.contents c.args.store.now) _ c.in-Some.parent.now c.in-Some.ensures.there (room (g.S.ProcStore.contents c.args.store.now) _ c.count.ensures.count c.if-count-ge-PROCESSES.false)
 
 pub returns-clause-rules : goal.returns-clause-rules
