@@ -24,9 +24,9 @@ leave-requires c =
     let old = c.self.inside in
     let its = entry_is old.table.items _ c.args.pid _ c.in-Some.ensures c.deref.ensures.value in (
       procs_of old,
-      c.remove-proc.result,
+      c.index.result.now,
       c.self.invariant.beside,
-      here old.slots old.table.items old.last _ c.args.pid refl c.in-Some.slot c.remove-proc.result its c.remove-proc.ensures.value,
+      here old.slots old.table.items old.last _ c.args.pid refl c.in-Some.slot c.index.result.now its c.index.ensures,
       refl,
     )
 
@@ -36,12 +36,12 @@ invariant_of-self c =
     let is = c.self.invariant in
     let pid = c.args.pid in
     let i = c.in-Some.slot in
-    let p = c.remove-proc.result in
-    let slots = c.remove-proc.new.self in
-    let left = c.remove-proc.ensures in
+    let p = c.index.result.now in
+    let slots = c.remove-2.new.self in
+    let left = c.remove-2.ensures in
     let table = set old.table.items pid None in
     let its : slot old.table.items pid ≡ Some i = entry_is old.table.items _ pid _ c.in-Some.ensures c.deref.ensures.value in
-    let was : get (procs_of old) pid ≡ Some p = here old.slots old.table.items old.last _ pid refl i p its left.value in
+    let was : get (procs_of old) pid ≡ Some p = here old.slots old.table.items old.last _ pid refl i p its c.index.ensures in
     let there = slot_set old.table.items pid None (entry_within old.table.items pid i its) in
     let others = not_its old.slots old.table.items pid i is.apart its in
     let changed : processes_from slots 0 table ≡ store (procs_of old) pid None =
@@ -65,7 +65,7 @@ pub returns-clause-gone : goal.returns-clause-gone
 returns-clause-gone c =
     let old = c.self.inside in
     let its = entry_is old.table.items _ c.args.pid _ c.in-Some.ensures c.deref.ensures.value in
-    sym (found old.slots old.table.items old.last _ c.args.pid (ap (λ (s : Slotted). s.world) c.self.view_is) c.in-Some.slot c.remove-proc.result its c.remove-proc.ensures.value)
+    sym (found old.slots old.table.items old.last _ c.args.pid (ap (λ (s : Slotted). s.world) c.self.view_is) c.in-Some.slot c.remove-2.result its c.remove-2.ensures.value)
 
 pub returns-clause-rest : goal.returns-clause-rest
 returns-clause-rest c =
@@ -75,6 +75,6 @@ returns-clause-rest c =
     let i = c.in-Some.slot in
     let its : slot old.table.items pid ≡ Some i = entry_is old.table.items _ pid _ c.in-Some.ensures c.deref.ensures.value in
     let there = slot_set old.table.items pid None (entry_within old.table.items pid i its) in
-    let changed = processes_changed old.slots c.remove-proc.new.self old.table.items (set old.table.items pid None) pid i None None c.remove-proc.ensures.updates there
+    let changed = processes_changed old.slots c.remove-2.new.self old.table.items (set old.table.items pid None) pid i None None c.remove-2.ensures.updates there
     (not_its old.slots old.table.items pid i is.apart its) refl in
     ap (λ m. let w : World = record { procs = m; last = old.last } in w) changed ∙ ap (λ (s : Slotted). stored s.world pid None) c.self.view_is
