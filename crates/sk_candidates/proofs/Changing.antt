@@ -191,7 +191,7 @@ module _ (w : World) (nobody : at w 0 ≡ None) (before : List ℕ) (all : AllRe
     others = λ q within out none.
         let other = unnoted_other pid before first notes q within out in
         rests_lent w pid body q other none (all q within (sym (notes.others q other) ∙ out));
-    there = λ q within other is. still_there w pid (body_changed (λ old. body)) q (known q within other (sym (notes.others q other) ∙ is));
+    there = λ q some within other is. still_there w pid (body_changed (λ old. body)) q (known q some within other (sym (notes.others q other) ∙ is));
   }
 
   -- who went is forgotten
@@ -206,9 +206,9 @@ module _ (w : World) (nobody : at w 0 ≡ None) (before : List ℕ) (all : AllRe
           let outside = sym (forgets.others q other) ∙ out in
           let apart = unnoted_other (parent_of (at w pid)) before first notes q within outside in
           rests_removed w pid q apart (all q within (sym (notes.others q apart) ∙ outside)));
-      there = λ q within apart is. by_same q pid (IsTrue (is_some (at (stored w pid None) q)))
+      there = λ q some within apart is. by_same q pid (IsTrue (is_some (at (stored w pid None) q)))
           (λ same. absurd (false≢true (sym (forgets.own (subst (λ k. k ≤ LAST_PID) same within)) ∙ subst (λ k. IsTrue (contains second k)) same is)))
-          (λ other. subst (λ o. IsTrue (is_some o)) (sym (at_other w pid None q other)) (known q within apart (sym (notes.others q apart) ∙ sym (forgets.others q other) ∙ is)));
+          (λ other. subst (λ o. IsTrue (is_some o)) (sym (at_other w pid None q other)) (known q some within apart (sym (notes.others q apart) ∙ sym (forgets.others q other) ∙ is)));
     }
 
     -- the parent that it had is looked at
@@ -222,9 +222,9 @@ module _ (w : World) (nobody : at w 0 ≡ None) (before : List ℕ) (all : AllRe
           let outside = sym (looks.others q other) ∙ out in
           let apart = unnoted_other links.parent before first notes q within outside in
           rests_relinked w pid links q other apart (all q within (sym (notes.others q apart) ∙ outside)));
-      there = λ q within apart is. by_same q (parent_of (at w pid)) (IsTrue (is_some (at (with_links w pid links) q)))
+      there = λ q some within apart is. by_same q (parent_of (at w pid)) (IsTrue (is_some (at (with_links w pid links) q)))
           (λ same. seen (with_links w pid links) (parent_of (at w pid)) looks q within is same)
-          (λ other. still_there w pid (links_changed (λ old. links)) q (known q within apart (sym (notes.others q apart) ∙ sym (looks.others q other) ∙ is)));
+          (λ other. still_there w pid (links_changed (λ old. links)) q (known q some within apart (sym (notes.others q apart) ∙ sym (looks.others q other) ∙ is)));
     }
 
     -- its parent is looked at
@@ -238,9 +238,9 @@ module _ (w : World) (nobody : at w 0 ≡ None) (before : List ℕ) (all : AllRe
           let outside = sym (looks.others q other) ∙ out in
           let apart = unnoted_other pid before first notes q within outside in
           rests_inserted w pid p q free apart other (all q within (sym (notes.others q apart) ∙ outside)));
-      there = λ q within apart is. by_same q p.links.parent (IsTrue (is_some (at (inserted w pid p) q)))
+      there = λ q some within apart is. by_same q p.links.parent (IsTrue (is_some (at (inserted w pid p) q)))
           (λ same. seen (inserted w pid p) p.links.parent looks q within is same)
-          (λ other. subst (λ o. IsTrue (is_some o)) (sym (at_other w pid (Some p) q apart)) (known q within apart (sym (notes.others q apart) ∙ sym (looks.others q other) ∙ is)));
+          (λ other. subst (λ o. IsTrue (is_some o)) (sym (at_other w pid (Some p) q apart)) (known q some within apart (sym (notes.others q apart) ∙ sym (looks.others q other) ∙ is)));
     }
 
 -- as the system starts process 1 alone is noted
@@ -251,7 +251,7 @@ noted_opening w none_yet first is empty put = record {
   others = λ q within out _. by_same q 1 (Rests w q)
       (λ same. absurd (false≢true (sym out ∙ put q ∙ ap (λ b. b || contains none_yet q) (eq-eqb q 1 same))))
       (λ other. subst (λ v. Rests v q) (sym is) (subst (RestsAs opening q) (sym (at_other nobody_yet 1 (Some first_process) q other)) tt));
-  there = λ q within other noted. absurd (false≢true (sym (put q ∙ ap (λ l. (q == 1) || contains l q) empty ∙ ap (λ b. b || false) (ne_eqb q 1 other)) ∙ noted));
+  there = λ q some within other noted. absurd (false≢true (sym (put q ∙ ap (λ l. (q == 1) || contains l q) empty ∙ ap (λ b. b || false) (ne_eqb q 1 other)) ∙ noted));
 }
   where
     nobody_yet : World

@@ -1,22 +1,25 @@
 -- Who is passed over on the way to the next candidate, and who is found.
 use Rattle.std.proofs.Common.{◌≡◌, ◌≢◌, ◌∙◌, ◌<◌, ◌≤◌, ⊎_elim, ℕ, zero, suc, arith, ap, sym, refl, subst, Bool, true, false, not, ◌&&◌, ◌||◌, IsTrue, IsFalse, List, Option, None, Some}
 use Rattle.std.specs.Prelude.{nat_lt}
-use Rattle.std.specs.Option.{is_some}
+use Rattle.std.specs.Option.{is_some, option_and_then, option_or}
 use Rattle.std.specs.List.{find}
 use Rattle.std.proofs.lemmas.Bool.{false≢true, lt-ltb, le-ltb, cases_lt, false_from_ne_true}
 use Rattle.std.proofs.lemmas.Option.{none-some, same_Some}
 use Rattle.sk_numbers.specs.Numbers.{contains, IsLeastAbove}
-use Rattle.sk_world.specs.declared.process.TheConstants.{LAST_PID}
+use Rattle.sk_world.specs.declared.process.TheConstants.{LAST_PID, INIT}
+use Rattle.sk_world.specs.declared.process.Life.{Life}
+use Rattle.sk_world.specs.declared.process.Life.TheVariants.{Running, Stopped, Zombie}
 use Rattle.sk_world.specs.declared.process.Proc.{Proc}
 use Rattle.sk_world.specs.Processes.{pids}
-use Rattle.sk_world.specs.World.{World, at, is_halted, is_alive, is_stopped}
+use Rattle.sk_world.specs.World.{World, at, has_ended, is_zombie, is_halted, is_alive, is_stopped}
 use Rattle.sk_world.specs.Rules.{IsWorld}
 use Rattle.sk_world.proofs.Walks.{first_here, none_first}
-use Rattle.sk_machine.specs.Turns.{goes_on, is_runnable}
+use Rattle.sk_machine.specs.Machine.{end_status, halted_of}
+use Rattle.sk_machine.specs.Turns.{goes_on, is_runnable, next_of}
 use Rattle.sk_session.proofs.Walking.{nobody_at_0}
 use Rattle.sk_machine.specs.Delivering.{signal_due}
 use Rattle.sk_candidates.specs.views.Resting.{is_news}
-use Rattle.sk_candidates.specs.views.Noting.{OthersRest, PassesOver}
+use Rattle.sk_candidates.specs.views.Noting.{OthersRest, NoOtherPasses, PassesOver}
 use Rattle.sk_candidates.proofs.Idle.{cannot_run}
 
 and_none : (b : Bool) → (b && false) ≡ false
@@ -61,29 +64,30 @@ module _ (w : World) (rules : IsWorld w) (noted : List ℕ) (touched : ℕ) (oth
     not_hearing : (q : ℕ) → hearer ≢ Some q → IsFalse (is_news q (at w touched))
     not_hearing q other = false_from_ne_true (is_news q (at w touched)) (λ news. other (hears q news))
 
-    passed_over : (q : ℕ) → hearer ≢ Some q → IsFalse (contains noted q) → is_runnable w q ≡ false
-    passed_over q other out = still q out (not_hearing q other)
+    pub passed_over : NoOtherPasses (is_runnable w) noted hearer
+    passed_over q out other = still q out (not_hearing q other)
 
-    -- the noted one comes first
-    pub to_noted : (after pid parent : ℕ) → hearer ≡ Some parent → pid < parent → IsLeastAbove (contains noted) after (Some pid) → PassesOver (is_runnable w) after (Some pid)
-    to_noted after pid parent is lt least =
-        (least.0, λ q above below. passed_over q (λ same. differs q below (same_Some parent q (sym is ∙ same))) (least.2 q above below))
-      where
-        differs : (q : ℕ) → q < pid → parent ≡ q → ⊥
-        differs q below same = omega (arith, below, same, lt)
+module _ (test : ℕ → Bool) (noted : List ℕ) (hearer : Option ℕ) (others : NoOtherPasses test noted hearer) where
+  -- the noted one comes first
+  pub to_noted : (after pid parent : ℕ) → hearer ≡ Some parent → pid < parent → IsLeastAbove (contains noted) after (Some pid) → PassesOver test after (Some pid)
+  to_noted after pid parent is lt least =
+      (least.0, λ q above below. others q (least.2 q above below) (λ same. differs q below (same_Some parent q (sym is ∙ same))))
+    where
+      differs : (q : ℕ) → q < pid → parent ≡ q → ⊥
+      differs q below same = omega (arith, below, same, lt)
 
-    -- the one who hears comes first
-    pub to_hearer : (after parent : ℕ) → hearer ≡ Some parent → after < parent → ((q : ℕ) → after < q → q < parent → IsFalse (contains noted q)) → PassesOver (is_runnable w) after (Some parent)
-    to_hearer after parent is lt out =
-        (lt, λ q above below. passed_over q (λ same. differs q below (same_Some parent q (sym is ∙ same))) (out q above below))
-      where
-        differs : (q : ℕ) → q < parent → parent ≡ q → ⊥
-        differs q below same = omega (arith, below, same)
+  -- the one who hears comes first
+  pub to_hearer : (after parent : ℕ) → hearer ≡ Some parent → after < parent → ((q : ℕ) → after < q → q < parent → IsFalse (contains noted q)) → PassesOver test after (Some parent)
+  to_hearer after parent is lt out =
+      (lt, λ q above below. others q (out q above below) (λ same. differs q below (same_Some parent q (sym is ∙ same))))
+    where
+      differs : (q : ℕ) → q < parent → parent ≡ q → ⊥
+      differs q below same = omega (arith, below, same)
 
-    -- nobody above has anything to hear
-    pub to_next : (after : ℕ) (next : Option ℕ) → ((q : ℕ) → after < q → hearer ≢ Some q) → IsLeastAbove (contains noted) after next → PassesOver (is_runnable w) after next
-    to_next after None other least = λ q above. passed_over q (other q above) (least q above)
-    to_next after (Some next) other least = (least.0, λ q above below. passed_over q (other q above) (least.2 q above below))
+  -- nobody above has anything to hear
+  pub to_next : (after : ℕ) (next : Option ℕ) → ((q : ℕ) → after < q → hearer ≢ Some q) → IsLeastAbove (contains noted) after next → PassesOver test after next
+  to_next after None other least = λ q above. others q (least q above) (other q above)
+  to_next after (Some next) other least = (least.0, λ q above below. others q (least.2 q above below) (other q above))
 
 -- who is behind is not above
 pub behind : (after parent q : ℕ) (hearer : Option ℕ) → hearer ≡ Some parent → parent ≤ after → after < q → hearer ≢ Some q
@@ -141,3 +145,24 @@ above_0 w rules = (λ i. find (λ q. same q i) (pids w.procs))
     same : (q : ℕ) → runs_above w 0 q ≡ is_runnable w q
     same zero = sym (nobody_runs w 0 (nobody_at_0 w rules))
     same (suc q) = ap (λ b. b && is_runnable w (suc q)) (lt-ltb 0 (suc q) (omega arith))
+
+is_over : (o : Option Proc) → IsTrue (is_some (option_and_then (λ p. end_status p.body.life) o)) → is_zombie o ≡ true
+is_over None over = absurd (false≢true over)
+is_over (Some p) over = by_life p.body.life over
+  where
+    by_life : (l : Life) → IsTrue (is_some (end_status l)) → has_ended l ≡ true
+    by_life (Zombie status) over = refl
+    by_life Stopped over = absurd (false≢true over)
+    by_life Running over = absurd (false≢true over)
+
+-- nobody runs in a system that has halted
+module _ (w : World) (halted : IsTrue (is_some (halted_of w))) where
+  none_runs : (q : ℕ) → is_runnable w q ≡ false
+  none_runs q = ap (λ b. not b && is_alive (at w q) && others) (is_over (at w INIT) halted)
+    where
+      others : Bool
+      others = is_some (signal_due (at w q)) || (not (is_stopped (at w q)) && goes_on w q (at w q))
+
+  pub none_is_next : (last : ℕ) → None ≡ next_of w last
+  none_is_next last =
+      sym (λ i. option_or (none_first (runs_above w last) (pids w.procs) (λ q. not_above w last q (λ _. none_runs q)) i) (none_first (is_runnable w) (pids w.procs) none_runs i))

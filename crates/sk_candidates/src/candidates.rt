@@ -1,15 +1,15 @@
-ghost use Rattle.std.specs.Prelude.{◌≡◌, ◌≢◌, ℕ, ◌≤◌, ◌&&◌, None, IsFalse, find, nat_lt};
+ghost use Rattle.std.specs.Prelude.{◌≡◌, ◌≢◌, ℕ, ◌≤◌, None, Some, IsFalse};
 ghost use Rattle.sk_numbers.specs.Numbers.{contains};
 ghost use Rattle.sk_world.specs.declared.process.TheConstants.{LAST_PID};
-ghost use Rattle.sk_world.specs.Processes.{pids};
 ghost use Rattle.sk_world.specs.World.{at, parent_of};
 ghost use Rattle.sk_world.specs.Rules.{IsWorld};
-ghost use Rattle.sk_machine.specs.Turns.{is_runnable, next_of};
-ghost use Rattle.sk_candidates.specs.views.Noting.{AllRest, OthersRest, OthersAreThere, Notes, Forgets, LooksAt, PassesOver};
+ghost use Rattle.sk_machine.specs.Turns.{next_of};
+ghost use Rattle.sk_candidates.specs.views.Noting.{AllRest, OthersRest, OthersAreThere, Notes, Forgets, LooksAt};
 
-use crate::resting::{hearer, rests};
+use crate::asking::first_runnable;
+use crate::resting::{hearer, parent_told, rests_as};
 use sk_numbers::NumberSet;
-use sk_turns::runnable;
+use sk_turns::halted;
 use sk_world::{Body, INIT, LAST_PID, Links, Proc, ProcStore};
 use std::alloc::{AllocError, Global};
 use std::marker::Model;
@@ -58,12 +58,24 @@ fn forget(noted: &mut NumberSet, pid: u32)
     }
 }
 
-/// Notes a process, or takes its note off where it rests.
+/// Notes a process, or takes its note off where it rests or is not there.
 fn look_at<S: ProcStore>(store: &S, noted: &mut NumberSet, pid: u32)
     requires nobody { at (S.contents store.now) 0 ≡ None }
     ensures { LooksAt (S.contents store.now) pid noted.old noted.new }
 {
-    if rests(store, pid) {
+    match store.get(pid) {
+        Some(process) => look_at_process(store, noted, pid, process),
+        None => forget(noted, pid),
+    }
+}
+
+/// The same of the process of this pid.
+fn look_at_process<S: ProcStore>(store: &S, noted: &mut NumberSet, pid: u32, process: &Proc)
+    requires nobody { at (S.contents store.now) 0 ≡ None }
+    requires own { at (S.contents store.now) pid ≡ Some process.now }
+    ensures { LooksAt (S.contents store.now) pid noted.old noted.new }
+{
+    if rests_as(store, pid, process) {
         forget(noted, pid);
     } else {
         note(noted, pid);
@@ -71,19 +83,20 @@ fn look_at<S: ProcStore>(store: &S, noted: &mut NumberSet, pid: u32)
 }
 
 /// Looks at the parent to whom the process has something to tell.
-fn announce<S: ProcStore>(store: &S, noted: &mut NumberSet, pid: u32)
+fn announce<S: ProcStore>(store: &S, noted: &mut NumberSet, pid: u32, process: &Proc)
     requires nobody { at (S.contents store.now) 0 ≡ None }
+    requires own { at (S.contents store.now) pid ≡ Some process.now }
     requires rest { OthersRest (S.contents store.now) noted.old pid }
     requires there { OthersAreThere (S.contents store.now) noted.old pid }
     ensures rest { AllRest (S.contents store.now) noted.new }
     ensures there { OthersAreThere (S.contents store.now) noted.new pid }
 {
-    if let Some(parent) = hearer(store, pid) {
+    if let Some(parent) = parent_told(process) {
         look_at(store, noted, parent);
     }
 }
 
-/// Looks at the process that the last change was about, but where the next one is about the same.
+/// Looks at the process that the last change was about, if any, but where the next one is about the same.
 fn settle<S: ProcStore>(store: &S, noted: &mut NumberSet, touched: u32, next: u32)
     requires nobody { at (S.contents store.now) 0 ≡ None }
     requires rest { OthersRest (S.contents store.now) noted.old touched }
@@ -91,9 +104,17 @@ fn settle<S: ProcStore>(store: &S, noted: &mut NumberSet, touched: u32, next: u3
     ensures rest { AllRest (S.contents store.now) noted.new }
     ensures there { OthersAreThere (S.contents store.now) noted.new next }
 {
-    announce(store, noted, touched);
-    if touched != next {
-        look_at(store, noted, touched);
+    if touched == 0 {
+        return;
+    }
+    match store.get(touched) {
+        Some(process) => {
+            announce(store, noted, touched, process);
+            if touched != next {
+                look_at_process(store, noted, touched, process);
+            }
+        }
+        None => forget(noted, touched),
     }
 }
 
@@ -123,39 +144,13 @@ impl<S: ProcStore> Candidates<S> {
         requires { IsWorld self.now }
         ensures { result ≡ next_of self.now last }
     {
-        match self.first_runnable(last) {
+        if halted(&self.store).is_some() {
+            return None;
+        }
+        let hearer = hearer(&self.store, self.touched);
+        match first_runnable(&self.store, &self.noted, hearer, last) {
             Some(pid) => Some(pid),
-            None => self.first_runnable(0),
-        }
-    }
-
-    /// The least pid above `after` of a process that can run.
-    fn first_runnable(&self, after: u32) -> Option<u32>
-        requires { IsWorld self.now }
-        ensures { result ≡ find (λ pid. nat_lt after pid && is_runnable self.now pid) (pids self.now.procs) }
-    {
-        let mut passed = after;
-        while let Some(pid) = self.next_candidate(passed) {
-            if runnable(&self.store, pid) {
-                return Some(pid);
-            }
-            passed = pid;
-        }
-        None
-    }
-
-    /// The next pid that has to be asked above `after`: that of one that is noted, or that has something to hear.
-    fn next_candidate(&self, after: u32) -> Option<u32>
-        requires { IsWorld self.now }
-        ensures { PassesOver (is_runnable self.now) after result }
-    {
-        let noted = self.noted.next(after);
-        match hearer(&self.store, self.touched) {
-            Some(parent) if parent > after => match noted {
-                Some(pid) if pid < parent => Some(pid),
-                _ => Some(parent),
-            },
-            _ => noted,
+            None => first_runnable(&self.store, &self.noted, hearer, 0),
         }
     }
 }

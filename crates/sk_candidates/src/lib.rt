@@ -2,6 +2,7 @@
 //! turn is given.
 #![tactic(auto)]
 
+mod asking;
 mod candidates;
 mod resting;
 

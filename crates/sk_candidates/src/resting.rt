@@ -1,11 +1,11 @@
-ghost use Rattle.std.specs.Prelude.{◌≡◌, ℕ, None, Some, IsTrue, IsFalse};
+ghost use Rattle.std.specs.Prelude.{◌≡◌, ℕ, None, Some, IsTrue};
 ghost use Rattle.std.specs.Option.{is_some};
 ghost use Rattle.sk_world.specs.World.{at};
 ghost use Rattle.sk_world.specs.Waits.{is_asked_for, status_of_note, status_of_body};
-ghost use Rattle.sk_candidates.specs.views.Resting.{has_tidings, is_news, Rests, KeepsWaiting, IsStillAsking};
+ghost use Rattle.sk_candidates.specs.views.Resting.{has_tidings, is_news, RestsAs, KeepsWaiting, IsStillAsking};
 
 use bitflags::Flags;
-use sk_turns::signal_due;
+use sk_turns::signal_for;
 use sk_world::{Body, Life, Note, Proc, ProcStore, Request, WaitOptions, Waiting, Who};
 
 /// The parent to whom the process has something to tell. The pid 0, which is nobody's, stands for no process.
@@ -16,22 +16,25 @@ pub(crate) fn hearer<S: ProcStore>(store: &S, pid: u32) -> Option<u32>
     if pid == 0 {
         return None;
     }
-    let Some(process) = store.get(pid) else {
-        return None;
-    };
+    match store.get(pid) {
+        Some(process) => parent_told(process),
+        None => None,
+    }
+}
+
+/// The parent to whom this process has something to tell.
+pub(crate) fn parent_told(process: &Proc) -> Option<u32>
+    ensures { (q : ℕ) → IsTrue (is_news q (Some process.now)) → result ≡ Some q }
+{
     has_tidings(&process.body).then_some(process.links.parent)
 }
 
-/// Whether the process cannot run, and will not before it changes or a child of it does.
-pub(crate) fn rests<S: ProcStore>(store: &S, pid: u32) -> bool
+/// Whether this process cannot run, and will not before it changes or a child of it does.
+pub(crate) fn rests_as<S: ProcStore>(store: &S, pid: u32, process: &Proc) -> bool
     requires nobody { at (S.contents store.now) 0 ≡ None }
-    ensures rests { IsTrue result → Rests (S.contents store.now) pid }
-    ensures there { IsFalse result → IsTrue (is_some (at (S.contents store.now) pid)) }
+    ensures { IsTrue result → RestsAs (S.contents store.now) pid (Some process.now) }
 {
-    let is_due = signal_due(store, pid).is_some();
-    let Some(process) = store.get(pid) else {
-        return true;
-    };
+    let is_due = signal_for(&process.body).is_some();
     match process.body.life {
         Life::Zombie(_) => true,
         Life::Stopped => !is_due,

@@ -29,13 +29,13 @@ no_bit_past words long n past = ap (λ w. bit_at w (n % 64) == 1) (get_or_past w
 
 -- ---- a word that is not inhabited
 
-is_zero : (w : ℕ) (b : Bool) → b ≡ not (w == 0) → b ≡ false → w ≡ 0
+pub is_zero : (w : ℕ) (b : Bool) → b ≡ not (w == 0) → b ≡ false → w ≡ 0
 is_zero w b is none = grind (arith, nat_tests, is, none)
 
-is_some : (w : ℕ) (b : Bool) → b ≡ not (w == 0) → b ≡ true → w ≢ 0
+pub is_some : (w : ℕ) (b : Bool) → b ≡ not (w == 0) → b ≡ true → w ≢ 0
 is_some w b is some = grind (arith, nat_tests, is, some)
 
-not_zero : (w : ℕ) → w ≢ 0 → not (w == 0) ≡ true
+pub not_zero : (w : ℕ) → w ≢ 0 → not (w == 0) ≡ true
 not_zero w some = grind (arith, nat_tests, some)
 
 module _ (words inhabited : List ℕ) (summed : IsSummed words inhabited) where
@@ -137,7 +137,7 @@ set_is_some word bit fits none =
 pub left_was_some : (word mask : ℕ) → bit_and word mask ≢ 0 → word ≢ 0
 left_was_some word mask some none = some (ap (λ w. bit_and w mask) none ∙ and_zero_l mask)
 
-zeros : (n i : ℕ) → ◌≡◌ {A = ℕ} (get_or (replicate n 0) i 0) 0
+pub zeros : (n i : ℕ) → ◌≡◌ {A = ℕ} (get_or (replicate n 0) i 0) 0
 zeros zero i = refl
 zeros (suc n) zero = refl
 zeros (suc n) (suc i) = zeros n i

@@ -1,6 +1,7 @@
 ghost use Rattle.std.specs.Prelude.{◌≡◌, ℕ, List, [], length, ◌+◌, ◌/◌, ◌^◌, ◌<◌, ◌≤◌, ◌==◌, ◌||◌, ◌&&◌, not, IfSome, IfNone};
 ghost use Rattle.std.specs.Int.{bit_at};
 ghost use Rattle.sk_numbers.specs.Numbers.{contains, has_bit, IsLeast, IsLeastAbove, IsLeastFrom};
+ghost use Rattle.sk_numbers.specs.Summary.{IsMarked};
 
 use std::marker::Model;
 
@@ -13,14 +14,16 @@ const WORDS: usize = 512;
 // How many words have the bits of all words.
 const GROUPS: usize = 8;
 
-/// A set of numbers below `NUMBERS`, in place: it takes no memory beside its own 4160 bytes. The next member is
-/// found in a few steps, however far it is.
+/// A set of numbers below `NUMBERS`, in place: it takes no memory beside its own 4168 bytes. The next member is
+/// found in a fixed number of steps, however far it is.
 #[derive(Drop)]
 pub struct NumberSet {
     // Bit `n % 64` of `words[n / 64]` says whether the number `n` is a member.
     words: [u64; WORDS],
     // Bit `i % 64` of `inhabited[i / 64]` says whether `words[i]` has a member.
     inhabited: [u64; GROUPS],
+    // Bit `i` says whether `inhabited[i]` has a bit.
+    groups: u64,
 }
 
 /// The members, in rising order.
@@ -28,7 +31,7 @@ impl Model for NumberSet {
     ghost use Rattle.std.specs.Prelude.{ℕ, List};
     ghost use Rattle.std.specs.Coded.{coded_list, coded_ℕ};
     ghost use Rattle.sk_numbers.specs.Numbers.{members_of};
-    ghost use Rattle.sk_numbers.specs.Summary.{IsSummed};
+    ghost use Rattle.sk_numbers.specs.Summary.{IsSummed, IsMarked};
 
     ghost Value = { List ℕ };
 
@@ -36,7 +39,7 @@ impl Model for NumberSet {
 
     ghost view = { λ s. members_of s.words };
 
-    ghost invariant = { λ s. IsSummed s.words s.inhabited };
+    ghost invariant = { λ s. IsSummed s.words s.inhabited × IsMarked s.inhabited s.groups };
 }
 
 impl NumberSet {
@@ -47,6 +50,7 @@ impl NumberSet {
         NumberSet {
             words: [0; WORDS],
             inhabited: [0; GROUPS],
+            groups: 0,
         }
     }
 
@@ -58,6 +62,7 @@ impl NumberSet {
         let index = number / 64;
         self.words[index as usize] |= 1 << (number % 64);
         self.inhabited[(index / 64) as usize] |= 1 << (index % 64);
+        self.groups |= 1 << (index / 64);
     }
 
     /// Takes the number out, if it is a member.
@@ -69,6 +74,9 @@ impl NumberSet {
         self.words[index as usize] &= !(1 << (number % 64));
         if self.words[index as usize] == 0 {
             self.inhabited[(index / 64) as usize] &= !(1 << (index % 64));
+            if self.inhabited[(index / 64) as usize] == 0 {
+                self.groups &= !(1 << (index / 64));
+            }
         }
     }
 
@@ -105,27 +113,28 @@ impl NumberSet {
         if let Some(bit) = lowest_from(word, start % 64) {
             return Some(index * 64 + bit);
         }
-        let index = least_from(&self.inhabited, index + 1)?;
+        let index = least_from(&self.inhabited, self.groups, index + 1)?;
         let bit = lowest_from(self.words[index as usize], 0)?;
         Some(index * 64 + bit)
     }
 }
 
 // The least bit of these words that is set and not below `start`.
-fn least_from(words: &[u64], start: u32) -> Option<u32>
+fn least_from(words: &[u64], marks: u64, start: u32) -> Option<u32>
     requires long { length words.now ≡ 8 }
+    requires marked { IsMarked words.now marks }
     requires start { start ≤ 512 }
     ensures least { IsLeastFrom (has_bit words.now) start result }
     ensures within { IfSome result (λ n. n < 512) }
 {
-    let mut bit = start % 64;
-    for group in start / 64..8 {
-        if let Some(found) = lowest_from(words[group as usize], bit) {
-            return Some(group * 64 + found);
-        }
-        bit = 0;
+    let index = start / 64;
+    let word = *words.get(index as usize)?;
+    if let Some(bit) = lowest_from(word, start % 64) {
+        return Some(index * 64 + bit);
     }
-    None
+    let index = lowest_from(marks, index + 1)?;
+    let bit = lowest_from(words[index as usize], 0)?;
+    Some(index * 64 + bit)
 }
 
 // The lowest bit that is set, from `first` on.

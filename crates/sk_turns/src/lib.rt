@@ -5,5 +5,5 @@
 mod reasons;
 mod turns;
 
-pub use reasons::{halted, reason, signal_due};
-pub use turns::{need, runnable};
+pub use reasons::{halted, reason, signal_due, signal_for};
+pub use turns::{can_run, need, runnable};

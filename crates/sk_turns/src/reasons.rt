@@ -80,7 +80,8 @@ fn running_reason(event: &Event, is_in_call: bool, is_due: bool) -> Option<Reaso
     }
 }
 
-pub(crate) fn signal_for(body: &Body) -> Option<u8>
+/// The same of a process with this body.
+pub fn signal_for(body: &Body) -> Option<u8>
     ensures value { result ≡ signal_for body.now }
     ensures signal { IfSome result IsSignal }
 {

@@ -1,5 +1,6 @@
-ghost use Rattle.std.specs.Prelude.{◌≡◌};
+ghost use Rattle.std.specs.Prelude.{◌≡◌, None};
 ghost use Rattle.sk_world.specs.Rules.{IsWorld};
+ghost use Rattle.sk_machine.specs.Machine.{halted_of};
 ghost use Rattle.sk_machine.specs.Turns.{waits_no_more, is_runnable, need_of};
 
 use crate::reasons::{halted, is_waiting, signal_for};
@@ -15,6 +16,15 @@ pub fn runnable<S: ProcStore>(store: &S, pid: u32) -> bool
     if halted(store).is_some() {
         return false;
     }
+    can_run(store, pid)
+}
+
+/// The same in a system that has not halted, which is not looked at again.
+pub fn can_run<S: ProcStore>(store: &S, pid: u32) -> bool
+    requires rules { IsWorld (S.contents store.now) }
+    requires goes_on { halted_of (S.contents store.now) ≡ None }
+    ensures { result ≡ is_runnable (S.contents store.now) pid }
+{
     let Some(process) = store.get(pid) else {
         return false;
     };

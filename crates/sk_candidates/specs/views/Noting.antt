@@ -14,9 +14,9 @@ AllRest w noted = (pid : ℕ) → pid ≤ LAST_PID → IsFalse (contains noted p
 abbrev pub OthersRest : World → List ℕ → ℕ → Type 0
 OthersRest w noted touched = (pid : ℕ) → pid ≤ LAST_PID → IsFalse (contains noted pid) → IsFalse (is_news pid (at w touched)) → Rests w pid
 
--- who is noted is there, but for this process
+-- who is noted is there, but for this process; of 0, which is nobody's pid, nothing is said
 abbrev pub OthersAreThere : World → List ℕ → ℕ → Type 0
-OthersAreThere w noted touched = (pid : ℕ) → pid ≤ LAST_PID → pid ≢ touched → IsTrue (contains noted pid) → IsTrue (is_some (at w pid))
+OthersAreThere w noted touched = (pid : ℕ) → 0 < pid → pid ≤ LAST_PID → pid ≢ touched → IsTrue (contains noted pid) → IsTrue (is_some (at w pid))
 
 -- everyone rests who is not noted, and to whom the process that was touched last has nothing to tell; nobody is noted
 -- who is not there, but for that process
@@ -40,6 +40,10 @@ pub record LooksAt (w : World) (pid : ℕ) (before now : List ℕ) : Type 0 wher
   pub rests : pid ≤ LAST_PID → IsFalse (contains now pid) → Rests w pid
   pub there : pid ≤ LAST_PID → IsTrue (contains now pid) → IsTrue (is_some (at w pid))
   pub others : (n : ℕ) → n ≢ pid → contains now n ≡ contains before n
+
+-- no number passes the test but these, and the one who hears
+abbrev pub NoOtherPasses : (ℕ → Bool) → List ℕ → Option ℕ → Type 0
+NoOtherPasses test noted hearer = (n : ℕ) → IsFalse (contains noted n) → hearer ≢ Some n → test n ≡ false
 
 -- no number that passes the test is passed over on the way to the next one, or where there is none
 abbrev pub PassesOver : (ℕ → Bool) → ℕ → Option ℕ → Type 0

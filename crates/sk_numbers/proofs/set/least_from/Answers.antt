@@ -1,49 +1,33 @@
-use Rattle.std.proofs.Common.{◌∙◌, ◌+◌, ◌*◌, ap, arith, inl, inr, nat_eq}
-use Rattle.std.proofs.lemmas.Bool.{cases_lt}
-use Rattle.sk_numbers.proofs.Summing.{bit_of_word, no_bit_between, no_bit_past}
+use Rattle.std.proofs.Common.{◌∙◌, ◌/◌, ap, sym, arith, nat_eq}
+use Rattle.std.specs.Int.{bit_at}
+use Rattle.std.proofs.lemmas.Bool.{ltb-true}
+use Rattle.std.proofs.lemmas.Grind.{get_or_default_zero}
+use Rattle.sk_numbers.proofs.Summing.{bit_of_word}
+use Rattle.sk_numbers.proofs.Marking.{none_from, none_until, is_there}
 use Rattle.sk_numbers.proofs.set.least_from.Goals as goal
 
-pub loop-group-init : goal.loop-group-init
-loop-group-init c = record {
-  bit = omega arith;
-  start = omega arith;
-  none = λ n from below. absurd (omega (arith, from, below));
-}
-
-pub lowest_from-requires : goal.lowest_from-requires
-lowest_from-requires c = c.loop-group.invariant.bit
-
-pub returns-in-Some-clause-least : goal.returns-in-Some-clause-least
-returns-in-Some-clause-least c =
-    let found = c.in-Some.ensures.found in
-    let before = c.loop-group.invariant in (
-      omega (arith, before.start, found.0),
-      bit_of_word c.args.words.now c.loop-group.group c.in-Some.found found.1 ∙ ap (λ x. nat_eq x 1) found.2,
-      λ n from below.
-          elim (cases_lt n (c.loop-group.group * 64 + c.loop-group.bit)) [
-            | inl early ↦ before.none n from early
-            | inr late ↦ no_bit_between c.args.words.now c.loop-group.group c.loop-group.bit c.in-Some.found (omega (arith, found.1)) found.3 n late below
-          ],
-    )
-
-pub loop-group-preserved : goal.loop-group-preserved
-loop-group-preserved c =
-    let none = c.in_default.ensures.none in
-    let before = c.loop-group.invariant in
-    record {
-      bit = omega arith;
-      start = omega (arith, before.start, before.bit);
-      none = λ n from below.
-          elim (cases_lt n (c.loop-group.group * 64 + c.loop-group.bit)) [
-            | inl early ↦ before.none n from early
-            | inr late ↦ no_bit_between c.args.words.now c.loop-group.group c.loop-group.bit 64 (omega arith) (λ i first _. none i first) n late (omega (arith, below))
-          ];
-    }
+pub returns-in_err-index-clause-least : goal.returns-in_err-index-clause-least
+returns-in_err-index-clause-least c =
+    let words = c.args.words.now in
+    let within = ltb-true _ _ (sym c.in_ok-word.ensures.lookup.0) in
+    let word = sym (c.in_ok-word.ensures.lookup.1 ∙ get_or_default_zero words (c.args.start / 64) c.in_ok-word.field-0.now within) in
+    rw c.from_residual-in_err-index.ensures
+    (none_from words c.args.marks c.requires.marked c.requires.long c.args.start (omega (arith, within, c.requires.long))
+    (λ i first. ap (λ w. bit_at w i) word ∙ c.in_default.ensures.none i first)
+    c.in_err-index.ensures.none)
 
 pub returns-clause-least : goal.returns-clause-least
-returns-clause-least c n from =
-    let before = c.loop-group.invariant in
-    elim (cases_lt n (c.loop-group.group * 64 + c.loop-group.bit)) [
-      | inl early ↦ before.none n from early
-      | inr late ↦ no_bit_past c.args.words.now c.requires.long n (omega (arith, late, c.loop-group-test.false))
-    ]
+returns-clause-least c =
+    let words = c.args.words.now in
+    let within = ltb-true _ _ (sym c.in_ok-word.ensures.lookup.0) in
+    let word = sym (c.in_ok-word.ensures.lookup.1 ∙ get_or_default_zero words (c.args.start / 64) c.in_ok-word.field-0.now within) in
+    let index = c.in_ok-index.index in
+    let behind = c.in_ok-index.ensures.found in
+    let there = is_there words c.args.marks c.requires.marked index behind.1 behind.2 in
+    let found = c.in_ok-bit.ensures.found in (
+      omega (arith, behind.0, found.0),
+      bit_of_word words index c.in_ok-bit.bit found.1 ∙ ap (λ x. nat_eq x 1) found.2,
+      none_until words c.args.marks c.requires.marked c.requires.long c.args.start (omega (arith, within, c.requires.long))
+          (λ i first. ap (λ w. bit_at w i) word ∙ c.in_default.ensures.none i first)
+          index c.in_ok-bit.bit (omega (arith, there, c.requires.long)) found.1 behind.3 (λ i early. found.3 i (omega arith) early),
+    )

@@ -1,11 +1,11 @@
 use Rattle.std.proofs.Common.{◌≡◌, ◌-◌, ◌<◌, ◌≤◌, ℕ, false}
 use Rattle.sk_machine.specs.Turns.{is_runnable}
-use Rattle.sk_candidates.proofs.candidates.Candidates.first_runnable.Given as goal
+use Rattle.sk_candidates.proofs.asking.first_runnable.Given as goal
 
 abbrev pub invariant-loop-pid : goal.invariant-loop-pid
 invariant-loop-pid g l = record {
   above : l.fn.after ≤ l.passed;
-  none : (q : ℕ) → l.fn.after < q → q ≤ l.passed → is_runnable l.self q ≡ false;
+  none : (q : ℕ) → l.fn.after < q → q ≤ l.passed → is_runnable (g.S.ProcStore.contents l.store) q ≡ false;
 }
 
 abbrev pub decreases-loop-pid : goal.decreases-loop-pid

@@ -1,0 +1,25 @@
+use Rattle.std.proofs.Common.{◌∙◌, arith, sym}
+use Rattle.sk_machine.specs.Turns.{is_runnable}
+use Rattle.sk_candidates.proofs.Passing.{found, not_found, passed_by}
+use Rattle.sk_candidates.proofs.asking.first_runnable.Goals as goal
+
+pub returns-then-can_run : goal.returns-then-can_run
+returns-then-can_run g c =
+    let w = g.S.ProcStore.contents c.args.store.now in
+    found w c.args.after c.loop-pid.passed c.in-Some.pid c.loop-pid.invariant.above c.loop-pid.invariant.none
+    (c.in-Some.ensures (is_runnable w) c.requires.others)
+    (sym c.can_run.ensures ∙ c.if-can_run.true)
+
+pub loop-pid-preserved : goal.loop-pid-preserved
+loop-pid-preserved g c =
+    let w = g.S.ProcStore.contents c.args.store.now in
+    let next = c.in-Some.ensures (is_runnable w) c.requires.others in
+    record {
+      above = omega (arith, c.loop-pid.invariant.above, next.0);
+      none = passed_by w c.args.after c.loop-pid.passed c.in-Some.pid c.loop-pid.invariant.none next (sym c.can_run.ensures ∙ c.if-can_run.false);
+    }
+
+pub returns : goal.returns
+returns g c =
+    let w = g.S.ProcStore.contents c.args.store.now in
+    not_found w c.args.after c.loop-pid.passed c.loop-pid.invariant.none (c.in_default.ensures (is_runnable w) c.requires.others)
