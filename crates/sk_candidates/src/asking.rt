@@ -11,6 +11,7 @@ use sk_world::ProcStore;
 
 /// The least pid above `after` of a process that can run, where nobody can but those that are noted and the one who
 /// hears. The system has not halted.
+#[inline(always)]
 pub(crate) fn first_runnable<S: ProcStore>(
     store: &S,
     noted: &NumberSet,
@@ -33,6 +34,7 @@ pub(crate) fn first_runnable<S: ProcStore>(
 }
 
 /// The next pid above `after` that has to be asked: that of one that is noted, or of the one who hears.
+#[inline(always)]
 fn next_candidate(noted: &NumberSet, hearer: Option<u32>, after: u32) -> Option<u32>
     ensures { (test : ℕ → Bool) → NoOtherPasses test noted.now hearer → PassesOver test after result }
 {

@@ -97,6 +97,7 @@ fn announce<S: ProcStore>(store: &S, noted: &mut NumberSet, pid: u32, process: &
 }
 
 /// Looks at the process that the last change was about, if any, but where the next one is about the same.
+#[inline(always)]
 fn settle<S: ProcStore>(store: &S, noted: &mut NumberSet, touched: u32, next: u32)
     requires nobody { at (S.contents store.now) 0 ≡ None }
     requires rest { OthersRest (S.contents store.now) noted.old touched }
@@ -104,9 +105,20 @@ fn settle<S: ProcStore>(store: &S, noted: &mut NumberSet, touched: u32, next: u3
     ensures rest { AllRest (S.contents store.now) noted.new }
     ensures there { OthersAreThere (S.contents store.now) noted.new next }
 {
-    if touched == 0 {
-        return;
+    if touched != 0 {
+        settle_touched(store, noted, touched, next);
     }
+}
+
+/// The same of a change that was about some process.
+#[inline(never)]
+fn settle_touched<S: ProcStore>(store: &S, noted: &mut NumberSet, touched: u32, next: u32)
+    requires nobody { at (S.contents store.now) 0 ≡ None }
+    requires rest { OthersRest (S.contents store.now) noted.old touched }
+    requires there { OthersAreThere (S.contents store.now) noted.old touched }
+    ensures rest { AllRest (S.contents store.now) noted.new }
+    ensures there { OthersAreThere (S.contents store.now) noted.new next }
+{
     match store.get(touched) {
         Some(process) => {
             announce(store, noted, touched, process);

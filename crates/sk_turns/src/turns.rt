@@ -1,11 +1,12 @@
 ghost use Rattle.std.specs.Prelude.{◌≡◌, None};
+ghost use Rattle.sk_world.specs.declared.process.Waiting.TheVariants.{Asks};
 ghost use Rattle.sk_world.specs.Rules.{IsWorld};
 ghost use Rattle.sk_machine.specs.Machine.{halted_of};
 ghost use Rattle.sk_machine.specs.Turns.{waits_no_more, is_runnable, need_of};
 
 use crate::reasons::{halted, is_waiting, signal_for};
 use sk_machine::Need;
-use sk_world::{Life, Poll, ProcStore, Waiting, ready};
+use sk_world::{Life, Poll, ProcStore, Request, Waiting, ready};
 
 /// Whether the process can run: it lives, and a signal is due, or it is not stopped and its call would not go on
 /// waiting.
@@ -61,10 +62,19 @@ fn waits_no_more<S: ProcStore>(store: &S, pid: u32, waiting: Waiting) -> bool
     match waiting {
         Waiting::Nothing => true,
         Waiting::Pause => false,
-        Waiting::Asks(request) => match ready(store, pid, &request) {
-            Poll::Told { pid: _, status: _ } => true,
-            Poll::NoMatch => true,
-            Poll::NotReady => false,
-        },
+        Waiting::Asks(request) => asks_no_more(store, pid, &request),
+    }
+}
+
+/// Whether a wait4(2) with this request would end now. Few are asked, and those that make calls are not to pay for it.
+#[inline(never)]
+fn asks_no_more<S: ProcStore>(store: &S, pid: u32, request: &Request) -> bool
+    requires { IsWorld (S.contents store.now) }
+    ensures { result ≡ waits_no_more (S.contents store.now) pid (Asks request.now) }
+{
+    match ready(store, pid, request) {
+        Poll::Told { pid: _, status: _ } => true,
+        Poll::NoMatch => true,
+        Poll::NotReady => false,
     }
 }
