@@ -1,12 +1,14 @@
 //! What the report of a scenario is, as definitions in `specs/`, and the text of one of its lines.
 #![tactic(auto)]
 
+mod calls;
 mod level;
+mod numbers;
 mod rows;
 mod text;
 mod turn;
 
 pub use level::Level;
 pub use rows::worked_reports;
-pub use text::{Line, turn_line, write_line};
+pub use text::{Line, turn_line, write_end, write_happening, write_line};
 pub use turn::{End, Turn};

@@ -1,14 +1,14 @@
 //! The text of a report's line, made in place: it takes no memory, whatever the values are.
 ghost use Rattle.std.specs.Prelude.{◌≡◌, ◌≤◌, ◌+◌, ◌++◌, ◌∷◌, [], codes, length};
-ghost use Rattle.std.specs.Fmt.{decimal, signed_decimal};
 ghost use Rattle.arrayvec.specs.ArrayString.{array_string_len};
-ghost use Rattle.sk_report.specs.Text.{digit_of, hex, number_in, status_text, verdict_text, outcome_text, effect_text, call_name, happening_text, end_text, turn_text};
+ghost use Rattle.sk_report.specs.Text.{hex, number_in, status_text, verdict_text, outcome_text, effect_text, happening_text, end_text, turn_text};
 ghost use Rattle.sk_report.specs.Report.{line};
+ghost use Rattle.sk_report.specs.declared.turn.Turn.TheVariants as told;
 
+use crate::calls::push_call;
+use crate::numbers::{push_digit, push_long, push_number, push_signed};
 use crate::{End, Turn};
 use arrayvec::ArrayString;
-use itoa::Buffer;
-use sk_calls::Syscall;
 use sk_insn::Action;
 use sk_machine::{Answer, Effect, Event, Outcome};
 
@@ -31,34 +31,46 @@ pub fn turn_line(turn: &Turn) -> Line
 pub fn write_line(text: &mut Line, turn: &Turn)
     ensures text { text.new.bytes ≡ line turn.now }
 {
-    text.clear();
-    push_turn(text, turn);
-    text.push_str("\n");
-}
-
-#[tactic(auto, unfolding(crate::specs::Text::turn_text))]
-fn push_turn(text: &mut Line, turn: &Turn)
-    requires { array_string_len text.old ≡ 0 }
-    ensures text { text.new.bytes ≡ text.old.bytes ++ turn_text turn.now }
-    ensures growth { array_string_len text.new ≤ array_string_len text.old + 120 }
-{
     match turn {
         Turn::Line {
             turn,
             event,
             answer,
-        } => {
-            push_number(text, *turn);
-            text.push_str(" ");
-            push_number(text, event.pid());
-            text.push_str(" ");
-            push_happening(text, event, answer);
-        }
-        Turn::End(end) => {
-            text.push_str("end ");
-            push_end(text, *end);
-        }
+        } => write_happening(text, *turn, event, answer),
+        Turn::End(end) => write_end(text, *end),
     }
+}
+
+/// The line of a turn with this number, event and answer, in the place of what was written there.
+#[tactic(auto, unfolding(crate::specs::Text::turn_text))]
+pub fn write_happening(text: &mut Line, turn: u32, event: &Event, answer: &Answer)
+    ensures text { text.new.bytes ≡ line (told.Line turn event.now answer.now) }
+{
+    text.clear();
+    push_number(text, turn);
+    text.push_str(" ");
+    push_number(text, event.pid());
+    text.push_str(" ");
+    push_happening(text, event, answer);
+    end_line(text);
+}
+
+/// The line of the end, in the place of what was written there.
+#[tactic(auto, unfolding(crate::specs::Text::turn_text))]
+pub fn write_end(text: &mut Line, end: End)
+    ensures text { text.new.bytes ≡ line (told.End end) }
+{
+    text.clear();
+    text.push_str("end ");
+    push_end(text, end);
+    end_line(text);
+}
+
+fn end_line(text: &mut Line)
+    requires room { array_string_len text.old + 1 ≤ 128 }
+    ensures text { text.new.bytes ≡ text.old.bytes ++ 10 ∷ [] }
+{
+    text.push_str("\n");
 }
 
 #[tactic(auto, unfolding(crate::specs::Text::end_text))]
@@ -85,8 +97,7 @@ fn push_happening(text: &mut Line, event: &Event, answer: &Answer)
 {
     match *answer {
         Answer::Call { verdict, outcome } => {
-            text.push_str("call ");
-            push_name(text, number(event));
+            push_call(text, number(event));
             push_judgement(text, verdict);
             push_outcome(text, outcome);
         }
@@ -115,29 +126,16 @@ fn number(event: &Event) -> u32
     }
 }
 
-#[tactic(auto, unfolding(crate::specs::Text::call_name))]
-fn push_name(text: &mut Line, nr: u32)
-    requires room { array_string_len text.old + 14 ≤ 128 }
-    ensures text { text.new.bytes ≡ text.old.bytes ++ call_name nr }
-    ensures growth { array_string_len text.new ≤ array_string_len text.old + 14 }
-{
-    match Syscall::of(nr) {
-        Some(call) => push_word(text, call.name()),
-        None => push_number(text, nr),
-    }
-}
-
-// The verdict between two spaces. Most calls have no filter, or one that allows them.
+// The verdict and a space. Most calls have no filter, or one that allows them.
 #[tactic(auto, unfolding(crate::specs::Text::verdict_text))]
 fn push_judgement(text: &mut Line, verdict: u32)
-    requires room { array_string_len text.old + 27 ≤ 128 }
-    ensures text { text.new.bytes ≡ text.old.bytes ++ (codes " " ++ (verdict_text verdict ++ codes " ")) }
-    ensures growth { array_string_len text.new ≤ array_string_len text.old + 27 }
+    requires room { array_string_len text.old + 26 ≤ 128 }
+    ensures text { text.new.bytes ≡ text.old.bytes ++ (verdict_text verdict ++ codes " ") }
+    ensures growth { array_string_len text.new ≤ array_string_len text.old + 26 }
 {
     if verdict == ALLOW {
-        text.push_str(" allow/0 ");
+        text.push_str("allow/0 ");
     } else {
-        text.push_str(" ");
         push_verdict(text, verdict);
         text.push_str(" ");
     }
@@ -246,54 +244,4 @@ fn push_hex(text: &mut Line, number: u32, width: u8)
         push_hex(text, number / 16, width - 1);
         push_digit(text, (number % 16) as u8);
     }
-}
-
-fn push_digit(text: &mut Line, digit: u8)
-    requires digit { digit ≤ 15 }
-    requires room { array_string_len text.old + 1 ≤ 128 }
-    ensures text { text.new.bytes ≡ text.old.bytes ++ digit_of digit ∷ [] }
-    ensures growth { array_string_len text.new ≤ array_string_len text.old + 1 }
-{
-    let code = if digit < 10 { 48 + digit } else { 87 + digit };
-    text.push(char::from(code));
-}
-
-#[tactic(auto, using(std::proofs::lemmas::Fmt::decimal_digit))]
-fn push_number(text: &mut Line, number: u32)
-    requires room { array_string_len text.old + 10 ≤ 128 }
-    ensures text { text.new.bytes ≡ text.old.bytes ++ decimal number }
-    ensures growth { array_string_len text.new ≤ array_string_len text.old + 10 }
-{
-    if number < 10 {
-        push_digit(text, number as u8);
-    } else {
-        push_digits(text, number);
-    }
-}
-
-fn push_digits(text: &mut Line, number: u32)
-    requires room { array_string_len text.old + 10 ≤ 128 }
-    ensures text { text.new.bytes ≡ text.old.bytes ++ decimal number }
-    ensures growth { array_string_len text.new ≤ array_string_len text.old + 10 }
-{
-    let mut buffer = Buffer::new();
-    text.push_str(buffer.format(number));
-}
-
-fn push_long(text: &mut Line, number: u64)
-    requires room { array_string_len text.old + 20 ≤ 128 }
-    ensures text { text.new.bytes ≡ text.old.bytes ++ decimal number }
-    ensures growth { array_string_len text.new ≤ array_string_len text.old + 20 }
-{
-    let mut buffer = Buffer::new();
-    text.push_str(buffer.format(number));
-}
-
-fn push_signed(text: &mut Line, number: i64)
-    requires room { array_string_len text.old + 20 ≤ 128 }
-    ensures text { text.new.bytes ≡ text.old.bytes ++ signed_decimal number }
-    ensures growth { array_string_len text.new ≤ array_string_len text.old + 20 }
-{
-    let mut buffer = Buffer::new();
-    text.push_str(buffer.format(number));
 }

@@ -1,4 +1,6 @@
 pub mod Following
+pub mod Placing
+pub mod Children
 pub mod Underway
 pub mod Delivering
 pub mod Happening

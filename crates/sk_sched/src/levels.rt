@@ -1,12 +1,12 @@
 //! The levels of one process.
-ghost use Rattle.std.specs.Prelude.{◌≡◌, ◌<◌, ◌+◌, ◌^◌, IfOk, IfSome};
+ghost use Rattle.std.specs.Prelude.{◌≡◌, ◌<◌, ◌+◌, ◌^◌, IfOk, IfSome, OnOk};
 ghost use Rattle.std.specs.Option.{option_copied};
-ghost use Rattle.sk_report.specs.Levels.{first_call, alone, handling, returned, begun, made, performing, called};
-ghost use Rattle.sk_sched.specs.views.Stacks.{stack_of};
+ghost use Rattle.sk_report.specs.Levels.{first_call, alone, delivered, returned, begun, made, performing, called};
+ghost use Rattle.sk_sched.specs.views.Stacks.{stack_of, HasRoom};
 ghost use Rattle.sk_insn.specs.Record.{native};
 
 use sk_calls::Syscall;
-use sk_machine::Outcome;
+use sk_machine::{Effect, Outcome};
 use sk_report::Level;
 use sk_setting::ScriptCall;
 use std::alloc::{AllocError, Global};
@@ -50,16 +50,23 @@ impl Levels {
         })
     }
 
-    /// A level on top, for a handler whose program is not known yet.
-    pub(crate) fn deeper(self) -> Result<Levels, AllocError>
-        ensures stack { IfOk result (λ deeper. stack_of deeper ≡ handling 0 (stack_of self)) }
+    /// Makes room for the level of a handler. The levels stay as they are.
+    pub(crate) fn make_room(&mut self) -> Result<(), AllocError>
+        ensures stack { stack_of self.new ≡ stack_of self.old }
+        ensures room { OnOk result (HasRoom self.new) }
     {
-        let Levels { top, mut below } = self;
-        below.push(top)?;
-        Ok(Levels {
-            top: first_call(0),
-            below,
-        })
+        self.below.reserve(1)
+    }
+
+    /// What a delivery does to the levels of its process: a handler's level comes on top.
+    pub(crate) fn deliver(&mut self, effect: Effect)
+        requires room { HasRoom self.old }
+        ensures stack { stack_of self.new ≡ delivered effect (stack_of self.old) }
+    {
+        if let Effect::Handler { program, .. } = effect {
+            self.below.push_reserved(self.top);
+            self.top = first_call(program);
+        }
     }
 
     /// The top level stands at the first call of this program.

@@ -1,14 +1,10 @@
 //! The machine that makes the turns of a scenario.
 ghost use Rattle.sk_machine.specs.Turns.{is_runnable, next_of};
 ghost use Rattle.std.specs.Prelude.{◌≡◌, ◌<◌, IfOk, IsTrue, OnOk, OnErr, Err, None, map};
-ghost use Rattle.sk_report.specs.Levels.{alone, first_call};
-ghost use Rattle.sk_sched.specs.views.Stacks.{stack_of};
 ghost use Rattle.sk_report.specs.Scheduling.{opened, runner_of, turn_of, after_turn, turn_by, after_turn_by, mark_of_script};
 
-use crate::levels::{Levels, at_program};
 use crate::making::{event_by, line_due, make};
-use crate::stacks::{Stacks, levels_at};
-use indexmap::IndexMap;
+use crate::stacks::{Stacks, levels_at, reach};
 use sk_kernel::{Images, Kernel, Mark};
 use sk_report::{End, Turn};
 use sk_scenario::{Program, Scenario};
@@ -21,14 +17,11 @@ pub struct Machine<S: ProcStore> {
     kernel: Kernel<S>,
     programs: Vec<Program>,
     stacks: Stacks,
-    // The levels that process 1 opens with.
-    first: Levels,
     turns: u32,
     last: u32,
     used: u32,
     alloc: Global,
     ghost declared: { kernel.images.programs ≡ map mark_of_script programs.items },
-    ghost opens: { stack_of first ≡ alone (first_call 0) },
 }
 
 impl<S: ProcStore> Machine<S> {
@@ -54,8 +47,7 @@ impl<S: ProcStore> Machine<S> {
         Ok(Machine {
             kernel: Kernel::new(alloc, images)?,
             programs,
-            stacks: IndexMap::new(alloc),
-            first: at_program(alloc, 0),
+            stacks: Vec::new(alloc),
             turns,
             last: 0,
             used: 0,
@@ -115,19 +107,12 @@ impl<S: ProcStore> Machine<S> {
         ensures kept { OnErr result ((now_of self.new) ≡ (now_of self.old)) }
         ensures setting { (setting_of self.new) ≡ (setting_of self.old) }
     {
-        self.stacks.reserve(2)?;
-        let levels = levels_at(&self.stacks, &self.first, u64::from(pid));
+        reach(&mut self.stacks, self.alloc, pid)?;
+        let levels = levels_at(&self.stacks, pid as usize);
         let programs = self.programs.as_slice();
         let line = line_due(programs, levels);
         let event = event_by(programs, pid, levels, self.kernel.need(pid), line);
-        let answer = make(
-            &mut self.kernel,
-            &mut self.stacks,
-            &self.first,
-            self.alloc,
-            line,
-            &event,
-        )?;
+        let answer = make(&mut self.kernel, &mut self.stacks, self.alloc, line, &event)?;
         self.last = pid;
         self.used += 1;
         Ok(Turn::Line {

@@ -1,21 +1,21 @@
 //! Which event is due, and what its answer leads to.
-ghost use Rattle.std.specs.Prelude.{◌≡◌, ◌<◌, ◌≤◌, ◌+◌, ◌^◌, IfOk, OnOk, OnErr, IfSome, IsTrue, None, true};
+ghost use Rattle.std.specs.Prelude.{◌≡◌, ◌<◌, ◌≤◌, ◌^◌, IfOk, OnOk, OnErr, IfSome, IsTrue, None, true, slice_get, vec_len, vec_capacity};
 ghost use Rattle.std.specs.Option.{option_copied};
-ghost use Rattle.indexmap.specs.IndexMap.{spare};
+ghost use Rattle.sk_world.specs.declared.process.TheConstants.{LAST_PID};
 ghost use Rattle.sk_insn.specs.Actions.{performs};
 ghost use Rattle.sk_machine.specs.Machine.{reason_of, step_of};
 ghost use Rattle.sk_machine.specs.Events.{pid_of};
 ghost use Rattle.sk_machine.specs.declared.event.Event.TheVariants as event;
-ghost use Rattle.sk_report.specs.Levels.{alone, begun, first_call, made, delivered, handling, stacked, stacks_after, with_child, script_of_child, pid_in};
-ghost use Rattle.sk_report.specs.Scheduling.{line_due, own_event, event_by, address_of, closing, script_of};
-ghost use Rattle.sk_sched.specs.views.Stacks.{is_fork, is_other_call, stack_of, stacks_of};
+ghost use Rattle.sk_report.specs.Levels.{begun, made, called, delivered, stacked, stacks_after, with_child, script_of_child, pid_in};
+ghost use Rattle.sk_report.specs.Scheduling.{line_due, event_by, address_of, closing, script_of};
+ghost use Rattle.sk_sched.specs.views.Stacks.{is_fork, is_other_call, stack_of, stacks_of, HasRoom, ChildIsLow};
 
 use crate::levels::Levels;
-use crate::stacks::{Stacks, follow, levels_at, put};
+use crate::stacks::{Stacks, follow, follow_delivery, levels_at, make_room, make_room_above, put};
 use sk_calls::Syscall;
 use sk_insn::Action;
 use sk_kernel::Kernel;
-use sk_machine::{Answer, Effect, Event, Need, Outcome};
+use sk_machine::{Answer, Event, Need, Outcome};
 use sk_report::Level;
 use sk_scenario::Program;
 use sk_setting::ScriptCall;
@@ -52,30 +52,18 @@ pub(crate) fn event_by(
     requires room { IfSome line (λ _. levels.now.top.position < 2 ^ 63) }
     ensures event { result ≡ event_by programs.now pid (stack_of levels.now) need }
 {
-    match need {
-        Need::Deliver => Event::Deliver { pid },
-        Need::Resume => Event::Resume { pid },
-        Need::Call => own_event(programs, pid, levels, line),
-    }
-}
-
-/// The event of a process that makes a call of its own.
-fn own_event(programs: &[Program], pid: u32, levels: &Levels, line: Option<&ScriptCall>) -> Event
-    requires room { IfSome line (λ _. levels.now.top.position < 2 ^ 63) }
-    ensures event { result ≡ own_event programs.now pid (stack_of levels.now) (option_copied line.entry) }
-{
     let Levels { top, below } = levels;
-    match line {
-        Some(line) => {
-            Event::Call {
-                pid,
-                ip: address_of(top.program, top.position),
-                nr: line.nr,
-                args: line.args,
-            }
-        }
-        None if top.refused => Event::Fault { pid },
-        None => Event::Call {
+    match (need, line) {
+        (Need::Deliver, _) => Event::Deliver { pid },
+        (Need::Resume, _) => Event::Resume { pid },
+        (Need::Call, Some(line)) => Event::Call {
+            pid,
+            ip: address_of(top.program, top.position),
+            nr: line.nr,
+            args: line.args,
+        },
+        (Need::Call, None) if top.refused => Event::Fault { pid },
+        (Need::Call, None) => Event::Call {
             pid,
             ip: address_of(top.program, script_of(programs, top.program).len()),
             nr: closing(below.as_slice()),
@@ -107,31 +95,29 @@ fn closing(below: &[Level]) -> u32
 pub(crate) fn make<S: ProcStore>(
     kernel: &mut Kernel<S>,
     stacks: &mut Stacks,
-    first: &Levels,
     alloc: Global,
     line: Option<&ScriptCall>,
     event: &Event,
 ) -> Result<Answer, AllocError>
     requires possible { reason_of kernel.old.world event.now ≡ None }
-    requires spare { 2 ≤ spare stacks.old }
-    requires first { stack_of first.now ≡ alone (first_call 0) }
-    requires room { IfSome line (λ _. (stacks_of stacks.old (pid_of event.now)).top.position < 2 ^ 63) }
+    requires there { pid_of event.now < vec_len stacks.old }
+    requires room { IfSome line (λ _. (stacks_of stacks.old.items (pid_of event.now)).top.position < 2 ^ 63) }
     ensures answer { IfOk result (λ answer. answer ≡ (step_of kernel.old.images kernel.old.world event.now).answer) }
     ensures world { OnOk result (kernel.new.world ≡ (step_of kernel.old.images kernel.old.world event.now).world) }
-    ensures stacks { IfOk result (λ answer. stacks_of stacks.new ≡ stacks_after (option_copied line.entry) event.now answer (stacks_of stacks.old)) }
+    ensures stacks { IfOk result (λ answer. stacks_of stacks.new.items ≡ stacks_after (option_copied line.entry) event.now answer (stacks_of stacks.old.items)) }
     ensures kept { OnErr result (kernel.new.world ≡ kernel.old.world) }
-    ensures kept_stacks { OnErr result (stacks_of stacks.new ≡ stacks_of stacks.old) }
+    ensures kept_stacks { OnErr result (stacks_of stacks.new.items ≡ stacks_of stacks.old.items) }
     ensures images { kernel.new.images ≡ kernel.old.images }
 {
     match event {
         Event::Call { nr, .. } => {
             if *nr == Syscall::Fork.number() {
-                fork(kernel, stacks, first, alloc, line, event)
+                fork(kernel, stacks, alloc, line, event)
             } else {
-                make_call(kernel, stacks, alloc, line, event)
+                make_call(kernel, stacks, line, event)
             }
         }
-        Event::Deliver { pid } => deliver(kernel, stacks, first, alloc, *pid),
+        Event::Deliver { pid } => deliver(kernel, stacks, *pid),
         Event::Resume { .. } => kernel.happen(event),
         Event::Fault { .. } => kernel.happen(event),
     }
@@ -141,37 +127,31 @@ pub(crate) fn make<S: ProcStore>(
 fn deliver<S: ProcStore>(
     kernel: &mut Kernel<S>,
     stacks: &mut Stacks,
-    first: &Levels,
-    alloc: Global,
     pid: u32,
 ) -> Result<Answer, AllocError>
     requires possible { reason_of kernel.old.world (event.Deliver pid) ≡ None }
-    requires spare { 2 ≤ spare stacks.old }
-    requires first { stack_of first.now ≡ alone (first_call 0) }
+    requires there { pid < vec_len stacks.old }
     ensures answer { IfOk result (λ answer. answer ≡ (step_of kernel.old.images kernel.old.world (event.Deliver pid)).answer) }
     ensures world { OnOk result (kernel.new.world ≡ (step_of kernel.old.images kernel.old.world (event.Deliver pid)).world) }
-    ensures stacks { IfOk result (λ answer. stacks_of stacks.new ≡ stacks_after None (event.Deliver pid) answer (stacks_of stacks.old)) }
+    ensures stacks { IfOk result (λ answer. stacks_of stacks.new.items ≡ stacks_after None (event.Deliver pid) answer (stacks_of stacks.old.items)) }
     ensures kept { OnErr result (kernel.new.world ≡ kernel.old.world) }
-    ensures kept_stacks { OnErr result (stacks_of stacks.new ≡ stacks_of stacks.old) }
+    ensures kept_stacks { OnErr result (stacks_of stacks.new.items ≡ stacks_of stacks.old.items) }
     ensures images { kernel.new.images ≡ kernel.old.images }
 {
-    let levels = levels_at(stacks, first, u64::from(pid)).copy(alloc)?;
-    let deeper = levels.deeper()?;
+    make_room_above(stacks, pid as usize)?;
     let answer = kernel.happen(&Event::Deliver { pid })?;
-    if let Answer::Signal { effect, .. } = answer {
-        follow_delivery(stacks, pid, deeper, effect);
-    }
+    follow_signal(stacks, pid, &answer);
     Ok(answer)
 }
 
-/// The levels of a process after a delivery; `deeper` has one for a handler already.
-fn follow_delivery(stacks: &mut Stacks, pid: u32, deeper: Levels, effect: Effect)
-    requires deeper { stack_of deeper ≡ handling 0 (stacks_of stacks.old pid) }
-    requires room { 0 < spare stacks.old }
-    ensures stacks { stacks_of stacks.new ≡ stacked pid (delivered effect (stacks_of stacks.old pid)) (stacks_of stacks.old) }
+/// The levels after a delivery.
+fn follow_signal(stacks: &mut Stacks, pid: u32, answer: &Answer)
+    requires there { pid < vec_len stacks.old }
+    requires room { IfSome (slice_get stacks.old.items pid) HasRoom }
+    ensures stacks { stacks_of stacks.new.items ≡ stacks_after None (event.Deliver pid) answer.now (stacks_of stacks.old.items) }
 {
-    if let Effect::Handler { program, .. } = effect {
-        put(stacks, u64::from(pid), deeper.at_first_call(program));
+    if let Answer::Signal { effect, .. } = *answer {
+        follow_delivery(stacks, pid as usize, effect);
     }
 }
 
@@ -179,53 +159,36 @@ fn follow_delivery(stacks: &mut Stacks, pid: u32, deeper: Levels, effect: Effect
 fn make_call<S: ProcStore>(
     kernel: &mut Kernel<S>,
     stacks: &mut Stacks,
-    alloc: Global,
     line: Option<&ScriptCall>,
     event: &Event,
 ) -> Result<Answer, AllocError>
     requires possible { reason_of kernel.old.world event.now ≡ None }
-    requires spare { 0 < spare stacks.old }
-    requires room { IfSome line (λ _. (stacks_of stacks.old (pid_of event.now)).top.position < 2 ^ 63) }
+    requires there { pid_of event.now < vec_len stacks.old }
+    requires room { IfSome line (λ _. (stacks_of stacks.old.items (pid_of event.now)).top.position < 2 ^ 63) }
     requires other { IsTrue (is_other_call event.now) }
     ensures answer { IfOk result (λ answer. answer ≡ (step_of kernel.old.images kernel.old.world event.now).answer) }
     ensures world { OnOk result (kernel.new.world ≡ (step_of kernel.old.images kernel.old.world event.now).world) }
-    ensures stacks { IfOk result (λ answer. stacks_of stacks.new ≡ stacks_after (option_copied line.entry) event.now answer (stacks_of stacks.old)) }
+    ensures stacks { IfOk result (λ answer. stacks_of stacks.new.items ≡ stacks_after (option_copied line.entry) event.now answer (stacks_of stacks.old.items)) }
     ensures kept { OnErr result (kernel.new.world ≡ kernel.old.world) }
-    ensures kept_stacks { OnErr result (stacks_of stacks.new ≡ stacks_of stacks.old) }
+    ensures kept_stacks { OnErr result (stacks_of stacks.new.items ≡ stacks_of stacks.old.items) }
     ensures images { kernel.new.images ≡ kernel.old.images }
 {
     let answer = kernel.happen(event)?;
-    follow_call(stacks, alloc, line, event, &answer);
+    follow_call(stacks, line, event, &answer);
     Ok(answer)
 }
 
 /// The levels after a call that makes no process.
-fn follow_call(
-    stacks: &mut Stacks,
-    alloc: Global,
-    line: Option<&ScriptCall>,
-    event: &Event,
-    answer: &Answer,
-)
-    requires room { IfSome line (λ _. (stacks_of stacks.old (pid_of event.now)).top.position < 2 ^ 63) }
-    requires spare { 0 < spare stacks.old }
+fn follow_call(stacks: &mut Stacks, line: Option<&ScriptCall>, event: &Event, answer: &Answer)
+    requires there { pid_of event.now < vec_len stacks.old }
+    requires room { IfSome line (λ _. (stacks_of stacks.old.items (pid_of event.now)).top.position < 2 ^ 63) }
     requires other { IsTrue (is_other_call event.now) }
-    ensures stacks { stacks_of stacks.new ≡ stacks_after (option_copied line.entry) event.now answer.now (stacks_of stacks.old) }
+    ensures stacks { stacks_of stacks.new.items ≡ stacks_after (option_copied line.entry) event.now answer.now (stacks_of stacks.old.items) }
 {
     if let Event::Call { pid, ip, nr, args } = event {
         if let Answer::Call { verdict, outcome } = *answer {
             let performed = Action::of(verdict).performs();
-            follow(
-                stacks,
-                alloc,
-                line,
-                u64::from(*pid),
-                *ip,
-                *nr,
-                args,
-                performed,
-                outcome,
-            );
+            follow(stacks, line, *pid, *ip, *nr, args, performed, outcome);
         }
     }
 }
@@ -234,24 +197,23 @@ fn follow_call(
 fn fork<S: ProcStore>(
     kernel: &mut Kernel<S>,
     stacks: &mut Stacks,
-    first: &Levels,
     alloc: Global,
     line: Option<&ScriptCall>,
     event: &Event,
 ) -> Result<Answer, AllocError>
     requires possible { reason_of kernel.old.world event.now ≡ None }
-    requires spare { 2 ≤ spare stacks.old }
-    requires first { stack_of first.now ≡ alone (first_call 0) }
-    requires room { IfSome line (λ _. (stacks_of stacks.old (pid_of event.now)).top.position < 2 ^ 63) }
+    requires there { pid_of event.now < vec_len stacks.old }
+    requires room { IfSome line (λ _. (stacks_of stacks.old.items (pid_of event.now)).top.position < 2 ^ 63) }
     requires fork { IsTrue (is_fork event.now) }
     ensures answer { IfOk result (λ answer. answer ≡ (step_of kernel.old.images kernel.old.world event.now).answer) }
     ensures world { OnOk result (kernel.new.world ≡ (step_of kernel.old.images kernel.old.world event.now).world) }
-    ensures stacks { IfOk result (λ answer. stacks_of stacks.new ≡ stacks_after (option_copied line.entry) event.now answer (stacks_of stacks.old)) }
+    ensures stacks { IfOk result (λ answer. stacks_of stacks.new.items ≡ stacks_after (option_copied line.entry) event.now answer (stacks_of stacks.old.items)) }
     ensures kept { OnErr result (kernel.new.world ≡ kernel.old.world) }
-    ensures kept_stacks { OnErr result (stacks_of stacks.new ≡ stacks_of stacks.old) }
+    ensures kept_stacks { OnErr result (stacks_of stacks.new.items ≡ stacks_of stacks.old.items) }
     ensures images { kernel.new.images ≡ kernel.old.images }
 {
-    let copy = levels_at(stacks, first, u64::from(event.pid())).copy(alloc)?;
+    make_room(stacks)?;
+    let copy = levels_at(stacks, event.pid() as usize).copy(alloc)?;
     let answer = kernel.happen(event)?;
     follow_fork(stacks, alloc, copy, line, event, &answer);
     Ok(answer)
@@ -266,28 +228,20 @@ fn follow_fork(
     event: &Event,
     answer: &Answer,
 )
-    requires copy { stack_of copy ≡ stacks_of stacks.old (pid_of event.now) }
+    requires copy { stack_of copy ≡ stacks_of stacks.old.items (pid_of event.now) }
+    requires there { pid_of event.now < vec_len stacks.old }
     requires room { IfSome line (λ _. copy.top.position < 2 ^ 63) }
-    requires spare { 2 ≤ spare stacks.old }
+    requires places { LAST_PID < vec_capacity stacks.old }
     requires fork { IsTrue (is_fork event.now) }
-    ensures stacks { stacks_of stacks.new ≡ stacks_after (option_copied line.entry) event.now answer.now (stacks_of stacks.old) }
+    requires child { ChildIsLow answer.now }
+    ensures stacks { stacks_of stacks.new.items ≡ stacks_after (option_copied line.entry) event.now answer.now (stacks_of stacks.old.items) }
 {
     if let Event::Call { pid, ip, nr, args } = event {
         if let Answer::Call { verdict, outcome } = *answer {
             let performed = Action::of(verdict).performs();
-            follow(
-                stacks,
-                alloc,
-                line,
-                u64::from(*pid),
-                *ip,
-                *nr,
-                args,
-                performed,
-                outcome,
-            );
+            follow(stacks, line, *pid, *ip, *nr, args, performed, outcome);
             if performed {
-                follow_child(stacks, copy, line, pid_in(&outcome));
+                follow_child(stacks, alloc, copy, line, pid_in(&outcome));
             }
         }
     }
@@ -304,16 +258,23 @@ fn pid_in(outcome: &Outcome) -> Option<u64>
 }
 
 /// The levels of a child, which a performed fork(2) has made.
-fn follow_child(stacks: &mut Stacks, copy: Levels, line: Option<&ScriptCall>, child: Option<u64>)
+fn follow_child(
+    stacks: &mut Stacks,
+    alloc: Global,
+    copy: Levels,
+    line: Option<&ScriptCall>,
+    child: Option<u64>,
+)
     requires room { IfSome line (λ _. copy.top.position < 2 ^ 63) }
-    requires spare { 0 < spare stacks.old }
-    ensures stacks { stacks_of stacks.new ≡ with_child child (begun (script_of_child (option_copied line.entry)) (made (option_copied line.entry) true (stack_of copy))) (stacks_of stacks.old) }
+    requires places { LAST_PID < vec_capacity stacks.old }
+    requires low { IfSome child (λ pid. pid ≤ LAST_PID) }
+    ensures stacks { stacks_of stacks.new.items ≡ with_child child (begun (script_of_child (option_copied line.entry)) (made (option_copied line.entry) true (stack_of copy))) (stacks_of stacks.old.items) }
 {
     if let Some(child) = child {
         let mut levels = copy;
         levels.make(line, true);
         let program = script_of_child(line);
-        put(stacks, child, levels.begun(program));
+        put(stacks, alloc, child as usize, levels.begun(program));
     }
 }
 

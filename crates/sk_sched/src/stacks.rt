@@ -1,84 +1,110 @@
-//! The levels of all processes, by their pids.
-ghost use Rattle.std.specs.Prelude.{◌≡◌, ◌+◌, ◌<◌, ◌≤◌, ◌^◌, IfSome, None, nat_eq};
+//! The levels of all processes, at the places of their pids.
+ghost use Rattle.std.specs.Prelude.{◌≡◌, ◌<◌, ◌^◌, OnOk, IfSome, slice_get, vec_len, vec_capacity};
 ghost use Rattle.std.specs.Option.{option_copied};
-ghost use Rattle.indexmap.specs.IndexMap.{get, spare};
-ghost use Rattle.sk_report.specs.Levels.{alone, called, first_call, stacked};
-ghost use Rattle.sk_sched.specs.views.Stacks.{stack_of, stacks_of};
+ghost use Rattle.sk_world.specs.declared.process.TheConstants.{LAST_PID};
+ghost use Rattle.sk_report.specs.Levels.{called, delivered, stacked};
+ghost use Rattle.sk_sched.specs.views.Stacks.{stack_of, stacks_of, HasRoom};
 ghost use Rattle.sk_insn.specs.Record.{native};
 
 use crate::levels::{Levels, at_program};
-use indexmap::IndexMap;
-use sk_machine::Outcome;
+use sk_machine::{Effect, Outcome};
 use sk_setting::ScriptCall;
-use std::alloc::Global;
+use sk_world::LAST_PID;
+use std::alloc::{AllocError, Global};
 
-/// The levels of each process that was made.
-pub(crate) type Stacks = IndexMap<u64, Levels>;
+/// The levels of each process that was made, at the place of its pid. Those of no process are the ones that process 1
+/// opens with.
+pub(crate) type Stacks = Vec<Levels>;
 
-/// The levels of a process. One that was given none has those that process 1 opens with.
-pub(crate) fn levels_at<'a>(stacks: &'a Stacks, first: &'a Levels, pid: u64) -> &'a Levels
-    requires first { stack_of first.now ≡ alone (first_call 0) }
-    ensures stack { stack_of result.now ≡ stacks_of stacks.now pid }
+/// Makes the place of a pid, where it is missing. The levels of all processes stay as they are.
+pub(crate) fn reach(stacks: &mut Stacks, alloc: Global, pid: u32) -> Result<(), AllocError>
+    ensures stacks { stacks_of stacks.new.items ≡ stacks_of stacks.old.items }
+    ensures there { OnOk result (pid < vec_len stacks.new) }
 {
-    match stacks.get(&pid) {
-        Some(levels) => levels,
-        None => first,
+    let place = pid as usize;
+    let len = stacks.len();
+    if len <= place {
+        stacks.reserve(place - len + 1)?;
+        fill(stacks, alloc, place);
     }
+    Ok(())
+}
+
+/// Makes room for the place of each pid that a process may get.
+pub(crate) fn make_room(stacks: &mut Stacks) -> Result<(), AllocError>
+    ensures stacks { stacks.new.items ≡ stacks.old.items }
+    ensures len { vec_len stacks.new ≡ vec_len stacks.old }
+    ensures room { OnOk result (LAST_PID < vec_capacity stacks.new) }
+{
+    let places = LAST_PID as usize + 1;
+    if stacks.capacity() < places {
+        stacks.reserve(places - stacks.len())?;
+    }
+    Ok(())
+}
+
+/// Makes the places up to this one, for which there is room.
+fn fill(stacks: &mut Stacks, alloc: Global, place: usize)
+    requires room { place < vec_capacity stacks.old }
+    ensures stacks { stacks_of stacks.new.items ≡ stacks_of stacks.old.items }
+    ensures there { place < vec_len stacks.new }
+{
+    while stacks.len() <= place {
+        stacks.push_reserved(at_program(alloc, 0));
+    }
+}
+
+/// The process of this place has these levels now.
+pub(crate) fn put(stacks: &mut Stacks, alloc: Global, place: usize, levels: Levels)
+    requires room { place < vec_capacity stacks.old }
+    ensures stacks { stacks_of stacks.new.items ≡ stacked place (stack_of levels) (stacks_of stacks.old.items) }
+{
+    fill(stacks, alloc, place);
+    stacks[place] = levels;
+}
+
+/// The levels of a process.
+pub(crate) fn levels_at(stacks: &Stacks, place: usize) -> &Levels
+    requires there { place < vec_len stacks.now }
+    ensures stack { stack_of result.now ≡ stacks_of stacks.now.items place }
+{
+    &stacks[place]
 }
 
 /// The levels of a process after a call.
 pub(crate) fn follow(
     stacks: &mut Stacks,
-    alloc: Global,
     line: Option<&ScriptCall>,
-    pid: u64,
+    pid: u32,
     ip: u64,
     nr: u32,
     args: &[u64; 6],
     performed: bool,
     outcome: Outcome,
 )
-    requires room { IfSome line (λ _. (stacks_of stacks.old pid).top.position < 2 ^ 63) }
-    requires spare { 0 < spare stacks.old }
-    ensures stacks { stacks_of stacks.new ≡ stacked pid (called (option_copied line.entry) (native nr ip args.now) performed outcome (stacks_of stacks.old pid)) (stacks_of stacks.old) }
-    ensures room { spare stacks.old ≤ spare stacks.new + 1 }
+    requires there { pid < vec_len stacks.old }
+    requires room { IfSome line (λ _. (stacks_of stacks.old.items pid).top.position < 2 ^ 63) }
+    ensures stacks { stacks_of stacks.new.items ≡ stacked pid (called (option_copied line.entry) (native nr ip args.now) performed outcome (stacks_of stacks.old.items pid)) (stacks_of stacks.old.items) }
+    ensures places { vec_capacity stacks.new ≡ vec_capacity stacks.old }
 {
-    match stacks.get_mut(&pid) {
-        Some(levels) => levels.call(line, ip, nr, args, performed, outcome),
-        None => follow_first(stacks, alloc, line, pid, ip, nr, args, performed, outcome),
-    }
+    stacks[pid as usize].call(line, ip, nr, args, performed, outcome);
 }
 
-/// A process has these levels now.
-pub(crate) fn put(stacks: &mut Stacks, pid: u64, levels: Levels)
-    requires room { 0 < spare stacks.old }
-    ensures stacks { stacks_of stacks.new ≡ stacked pid (stack_of levels) (stacks_of stacks.old) }
-    ensures room { spare stacks.old ≤ spare stacks.new + 1 }
+/// Makes room for the level of a handler. The levels of all processes stay as they are.
+pub(crate) fn make_room_above(stacks: &mut Stacks, place: usize) -> Result<(), AllocError>
+    requires there { place < vec_len stacks.old }
+    ensures stacks { stacks_of stacks.new.items ≡ stacks_of stacks.old.items }
+    ensures there { vec_len stacks.new ≡ vec_len stacks.old }
+    ensures room { OnOk result (IfSome (slice_get stacks.new.items place) HasRoom) }
 {
-    match stacks.insert(pid, levels) {
-        Ok(_) => {}
-        Err(_) => unreachable!(),
-    }
+    stacks[place].make_room()
 }
 
-/// The levels of a process after its first call, where it was given none before.
-fn follow_first(
-    stacks: &mut Stacks,
-    alloc: Global,
-    line: Option<&ScriptCall>,
-    pid: u64,
-    ip: u64,
-    nr: u32,
-    args: &[u64; 6],
-    performed: bool,
-    outcome: Outcome,
-)
-    requires absent { get nat_eq stacks.old pid ≡ None }
-    requires spare { 0 < spare stacks.old }
-    ensures stacks { stacks_of stacks.new ≡ stacked pid (called (option_copied line.entry) (native nr ip args.now) performed outcome (stacks_of stacks.old pid)) (stacks_of stacks.old) }
-    ensures room { spare stacks.old ≤ spare stacks.new + 1 }
+/// The levels of a process after a delivery.
+pub(crate) fn follow_delivery(stacks: &mut Stacks, place: usize, effect: Effect)
+    requires there { place < vec_len stacks.old }
+    requires room { IfSome (slice_get stacks.old.items place) HasRoom }
+    ensures stacks { stacks_of stacks.new.items ≡ stacked place (delivered effect (stacks_of stacks.old.items place)) (stacks_of stacks.old.items) }
 {
-    let mut levels = at_program(alloc, 0);
-    levels.call(line, ip, nr, args, performed, outcome);
-    put(stacks, pid, levels);
+    stacks[place].deliver(effect);
 }

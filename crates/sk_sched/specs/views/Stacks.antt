@@ -1,22 +1,26 @@
 -- The code's levels as the definitions see them.
-use Rattle.std.specs.Prelude.{ℕ, Bool, false, not, ◌==◌, nat_eq, reverse}
+use Rattle.std.specs.Prelude.{ℕ, ◌<◌, ◌≤◌, Bool, false, not, ◌==◌, IfSome, List, reverse, slice_get, vec_len, vec_capacity, ⊤}
 use Rattle.std.specs.Option.{option_map_or}
-use Rattle.std.specs.declared.hash.FoldHasher.{FoldHasher}
-use Rattle.std.specs.declared.hash.BuildHasherDefault.{BuildHasherDefault}
-use Rattle.indexmap.specs.IndexMap.{IndexMap, get}
 use Rattle.sk_calls.specs.declared.syscall.Syscall.TheVariants as syscall
 use Rattle.sk_calls.specs.Syscalls.{number_of}
+use Rattle.sk_world.specs.declared.process.TheConstants.{LAST_PID}
+use Rattle.sk_machine.specs.declared.answer.Answer.{Answer}
+use Rattle.sk_machine.specs.declared.answer.Answer.TheVariants as answer
 use Rattle.sk_machine.specs.declared.event.Event.{Event}
 use Rattle.sk_machine.specs.declared.event.Event.TheVariants.{Call}
-use Rattle.sk_report.specs.Levels.{Stack, Stacks, first_call, alone}
+use Rattle.sk_report.specs.Levels.{Stack, Stacks, first_call, alone, pid_in}
 use Rattle.sk_sched.specs.declared.levels.Levels.{Levels}
 
 abbrev pub stack_of : Levels → Stack
 stack_of levels = record { top = levels.top; below = reverse levels.below.items }
 
--- a process that was never put has the levels that process 1 opens with
-abbrev pub stacks_of : IndexMap ℕ Levels (BuildHasherDefault FoldHasher) → Stacks
-stacks_of stacks = λ pid. option_map_or stack_of (get nat_eq stacks pid) (alone (first_call 0))
+-- the levels of each process stand at the place of its pid. One without a place has the levels that process 1 opens with
+abbrev pub stacks_of : List Levels → Stacks
+stacks_of places = λ pid. option_map_or stack_of (slice_get places pid) (alone (first_call 0))
+
+-- there is room for one level more
+abbrev pub HasRoom : Levels → Type 0
+HasRoom levels = vec_len levels.below < vec_capacity levels.below
 
 -- ---- what an event is
 
@@ -29,3 +33,10 @@ is_other_call other = false
 abbrev pub is_fork : Event → Bool
 is_fork (Call pid ip nr args) = nr == number_of syscall.Fork
 is_fork other = false
+
+-- ---- what an answer is
+
+-- a child, if the answer tells of one, has a pid that there may be
+abbrev pub ChildIsLow : Answer → Type 0
+ChildIsLow (answer.Call verdict outcome) = IfSome (pid_in outcome) (λ child. child ≤ LAST_PID)
+ChildIsLow other = ⊤

@@ -9,4 +9,4 @@ abbrev pub setting_of : {S : Type 0} {ghosts : Ghosts S} → Machine S ghosts �
 setting_of m = record { turns = m.turns; subreapers = m.kernel.images.subreapers; filters = m.kernel.images.filters; programs = m.programs.items }
 
 abbrev pub now_of : {S : Type 0} {ghosts : Ghosts S} → Machine S ghosts → Scheduled
-now_of m = record { world = m.kernel.world; stacks = stacks_of m.stacks; last = m.last; used = m.used }
+now_of m = record { world = m.kernel.world; stacks = stacks_of m.stacks.items; last = m.last; used = m.used }

@@ -8,5 +8,5 @@ pub returns-then-verdict-eq-ALLOW-clause-text : goal.returns-then-verdict-eq-ALL
 unfolding verdict_text action_of
 returns-then-verdict-eq-ALLOW-clause-text c =
     c.push_str.ensures.bytes
-    ∙ ap (λ digits. c.args.text.now.bytes ++ 32 ∷ ((codes "allow/" ++ digits) ++ 32 ∷ [])) (sym (decimal_digit 0 (omega arith)))
-    ∙ ap (λ v. c.args.text.now.bytes ++ 32 ∷ (verdict_text v ++ 32 ∷ [])) (sym c.if-verdict-eq-ALLOW.true)
+    ∙ ap (λ digits. c.args.text.now.bytes ++ ((codes "allow/" ++ digits) ++ 32 ∷ [])) (sym (decimal_digit 0 (omega arith)))
+    ∙ ap (λ v. c.args.text.now.bytes ++ (verdict_text v ++ 32 ∷ [])) (sym c.if-verdict-eq-ALLOW.true)

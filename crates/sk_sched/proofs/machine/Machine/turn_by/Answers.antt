@@ -1,27 +1,39 @@
-use Rattle.std.proofs.Common.{◌∙◌, ap}
+use Rattle.std.proofs.Common.{◌∙◌, refl}
 use Rattle.std.specs.Option.{option_copied}
 use Rattle.sk_sched.specs.views.Stacks.{stack_of, stacks_of}
 use Rattle.sk_sched.specs.views.State.{setting_of, now_of}
-use Rattle.sk_sched.proofs.Following.{on_err, same_entries, same_images, same_now, follows}
+use Rattle.sk_sched.proofs.Following.{on_err, same_images, same_now, tells, follows}
 use Rattle.sk_sched.proofs.Happening.{due_now}
 use Rattle.sk_sched.proofs.machine.Machine.turn_by.Goals as goal
+
+pub returns-in_err-reach-clause-kept : goal.returns-in_err-reach-clause-kept
+returns-in_err-reach-clause-kept g c = on_err _ _ (same_now _ _ _ _ _ _ refl c.reach.ensures.stacks)
 
 pub returns-in_err-answer-clause-kept : goal.returns-in_err-answer-clause-kept
 returns-in_err-answer-clause-kept g c =
     on_err _ _ (same_now _ _ _ _ _ _ c.in_err-answer.ensures.kept
-    (c.in_err-answer.ensures.kept_stacks ∙ same_entries c.args.self.now.stacks c.reserve.new.self c.reserve.ensures.entries))
+    (c.in_err-answer.ensures.kept_stacks ∙ c.reach.ensures.stacks))
 
 pub make-requires-clause-possible : goal.make-requires-clause-possible
 make-requires-clause-possible g c =
     due_now (setting_of c.args.self.now) c.args.self.now.kernel.world c.args.pid (stack_of c.levels_at-levels.result.now) c.event_by-event.result
     (rw (c.as_slice-programs.ensures.value, c.need.ensures) at c.event_by-event.ensures.event) c.requires.runs
 
+pub returns-clause-turn : goal.returns-clause-turn
+returns-clause-turn g c =
+    tells (setting_of c.args.self.now) (now_of c.args.self.now) c.args.pid c.args.self.now.kernel.images (stacks_of c.reach.new.stacks.items) (stack_of c.levels_at-levels.result.now) c.event_by-event.result c.in_ok-answer.answer
+    (same_images c.args.self.now.kernel.images c.args.self.now.programs.items c.args.self.now.declared)
+    c.reach.ensures.stacks
+    c.levels_at-levels.ensures.stack
+    (rw (c.as_slice-programs.ensures.value, c.need.ensures) at c.event_by-event.ensures.event)
+    c.in_ok-answer.ensures.answer
+
 pub returns-clause-after : goal.returns-clause-after
 returns-clause-after g c =
-    follows (setting_of c.args.self.now) (now_of c.args.self.now) c.args.pid c.args.self.now.kernel.images (stacks_of c.reserve.new.self) (stack_of c.levels_at-levels.result.now) (option_copied c.line_due-line.result) c.event_by-event.result c.in_ok-answer.answer _ _
+    follows (setting_of c.args.self.now) (now_of c.args.self.now) c.args.pid c.args.self.now.kernel.images (stacks_of c.reach.new.stacks.items) (stack_of c.levels_at-levels.result.now) (option_copied c.line_due-line.result) c.event_by-event.result c.in_ok-answer.answer _ _
     (same_images c.args.self.now.kernel.images c.args.self.now.programs.items c.args.self.now.declared)
-    (same_entries c.args.self.now.stacks c.reserve.new.self c.reserve.ensures.entries)
-    (c.levels_at-levels.ensures.stack ∙ ap (stacks_of c.reserve.new.self) c.from.ensures)
+    c.reach.ensures.stacks
+    c.levels_at-levels.ensures.stack
     (rw c.as_slice-programs.ensures.value at c.line_due-line.ensures.line)
     (rw (c.as_slice-programs.ensures.value, c.need.ensures) at c.event_by-event.ensures.event)
     c.in_ok-answer.ensures.answer
