@@ -1,4 +1,6 @@
 pub mod Coding
+pub mod Ends
 pub mod Entries
 pub mod Found
+pub mod Once
 pub mod Turns

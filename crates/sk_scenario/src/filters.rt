@@ -97,7 +97,7 @@ fn code_image(
     ahead: &[u8],
 ) -> Result<Block, ScenarioFault>
     requires first { 1 ≤ n }
-    requires numbers { n + length ahead.now < 2 ^ 64 }
+    requires numbers { n < 2 ^ 63 }
     ensures exact { Answers block_seen result (coded (known_seen known.entry) (assembled_lines n (until_end (lines_of ahead.now)))) }
 {
     match assemble_block(alloc, n - 1, ahead) {
@@ -132,7 +132,7 @@ pub(crate) fn decide(
     ahead: &[u8],
 ) -> Result<Block, ScenarioFault>
     requires first { 1 ≤ n }
-    requires numbers { n + length ahead.now < 2 ^ 64 }
+    requires numbers { n < 2 ^ 63 }
     ensures exact { Answers block_seen result (decided (known_seen known.entry) n line.now (until_end (lines_of ahead.now))) }
 {
     if is_passed_over(line) {

@@ -1,5 +1,5 @@
 //! Lines as what they say.
-ghost use Rattle.std.specs.Prelude.{◌≡◌, ◌∷◌, [], drop};
+ghost use Rattle.std.specs.Prelude.{◌≡◌, ◌==◌, ◌∷◌, [], drop, slice_index};
 ghost use Rattle.std.specs.Option.{option_map};
 ghost use Rattle.sk_text.specs.Lines.{words_of};
 ghost use Rattle.sk_text.specs.Numbers.{up_to};
@@ -8,9 +8,14 @@ ghost use Rattle.sk_scenario.specs.views.ScenarioCode.{heading, argument_seen, a
 
 use crate::line::{Argument, Arguments, CallLine, ProgramLine, TopLine};
 use sk_calls::Syscall;
-use sk_text::{
-    Words, is_name, is_number, is_passed_over, is_word, no_word, number_up_to, one_word,
-};
+use sk_text::{Words, is_name, is_number, is_word, no_word, number_up_to, one_word};
+
+// Whether a comment begins with the word.
+fn is_comment(word: &[u8]) -> bool
+    ensures exact { result ≡ (slice_index word.now 0 == 59) }
+{
+    word.first() == Some(&b';')
+}
 
 fn name(word: &[u8]) -> Option<&[u8]>
     ensures exact { option_map (λ w. w.now) result ≡ only_if_name word.now }
@@ -114,11 +119,13 @@ fn headed<'a>(first: &'a [u8], words: Words<'a>) -> Option<TopLine<'a>>
 pub(crate) fn top_line(line: &[u8]) -> Option<TopLine<'_>>
     ensures exact { option_map heading result ≡ heading_of line.now }
 {
-    if is_passed_over(line) {
+    let mut words = Words(line);
+    let Some(first) = words.next() else {
+        return Some(TopLine::Silent);
+    };
+    if is_comment(first) {
         return Some(TopLine::Silent);
     }
-    let mut words = Words(line);
-    let first = words.next()?;
     headed(first, words)
 }
 
@@ -236,11 +243,13 @@ fn called_with<'a>(nr: u32, mut words: Words<'a>) -> Option<CallLine<'a>>
 pub(crate) fn program_line(line: &[u8]) -> Option<ProgramLine<'_>>
     ensures exact { option_map line_seen result ≡ asked_of line.now }
 {
-    if is_passed_over(line) {
+    let mut words = Words(line);
+    let Some(first) = words.next() else {
+        return Some(ProgramLine::Silent);
+    };
+    if is_comment(first) {
         return Some(ProgramLine::Silent);
     }
-    let mut words = Words(line);
-    let first = words.next()?;
     let call = call_line(first, words)?;
     Some(ProgramLine::Call(call))
 }

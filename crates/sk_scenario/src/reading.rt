@@ -9,13 +9,13 @@ ghost use Rattle.sk_scenario.specs.views.ScenarioCode.{known_seen, gained, block
 use crate::calls::{add_call, read_call};
 use crate::fault::ScenarioFault;
 use crate::filters::{decide, grow};
+use crate::names::ends_block;
 use crate::scenario::Program;
 use crate::state::{Block, Done, Names};
 use crate::top::{check_line, read_top, start};
 use indexmap::IndexMap;
-use sk_asm::is_end;
 use sk_setting::TextFault;
-use sk_text::{Lines, cut};
+use sk_text::Lines;
 use std::alloc::{AllocError, Global};
 
 // The block that is open, behind line `n`.
@@ -29,7 +29,7 @@ fn inside(
     ahead: &[u8],
 ) -> Result<Block, ScenarioFault>
     requires first { 1 ≤ n }
-    requires numbers { n + length ahead.now < 2 ^ 64 }
+    requires numbers { n < 2 ^ 63 }
     ensures exact { Answers block_seen result (inside (known_seen known.entry) n (block_seen current) line.now (until_end (lines_of ahead.now))) }
 {
     match current {
@@ -95,12 +95,12 @@ fn within(
     ahead: &[u8],
 ) -> Result<Block, ScenarioFault>
     requires first { 1 ≤ n }
-    requires numbers { n + length ahead.now < 2 ^ 64 }
+    requires numbers { n < 2 ^ 63 }
     ensures exact { MatchResult result
         (λ next. within (known_seen known.entry) n (gained done.old) (block_seen current) line.now (lines_of ahead.now) ≡ Ok (gained done.new, block_seen next))
         (λ fault. IsFaultOf fault (within (known_seen known.entry) n (gained done.old) (block_seen current) line.now (lines_of ahead.now))) }
 {
-    if is_end(line) {
+    if ends_block(line) {
         finish(alloc, done, current)?;
         return Ok(Block::Nothing);
     }
@@ -119,7 +119,7 @@ fn step<'a>(
     ahead: &[u8],
 ) -> Result<Block, ScenarioFault>
     requires first { 1 ≤ n }
-    requires numbers { n + length ahead.now < 2 ^ 64 }
+    requires numbers { n < 2 ^ 63 }
     ensures exact { MatchResult result
         (λ next. stepped (known_seen known.entry) n (gained done.old) (block_seen current) line.now (lines_of ahead.now) ≡ Ok (gained done.new, block_seen next))
         (λ fault. IsFaultOf fault (stepped (known_seen known.entry) n (gained done.old) (block_seen current) line.now (lines_of ahead.now))) }
@@ -162,10 +162,11 @@ pub(crate) fn read_lines<'a>(
     let mut current = Block::Nothing;
     let mut n = 0;
     let mut ahead = text;
-    for line in Lines(text) {
+    let mut lines = Lines(text);
+    while let Some(line) = lines.next() {
         n += 1;
         current = step(alloc, known, &mut done, n, current, line, ahead)?;
-        ahead = cut(ahead, b'\n').1;
+        ahead = lines.0;
     }
     close(n + 1, &current)?;
     Ok(done)
