@@ -1,5 +1,5 @@
 -- Lines that end no block, by their first byte.
-use Rattle.std.proofs.Common.{◌≡◌, ◌≢◌, ◌∙◌, ◌==◌, ◌&&◌, refl, ap, ℕ, List, [], ◌∷◌, nat_le, length, filter, Bool, true, false, Option, Some, None, slice_get, ◌≤◌, ◌+◌, arith, inl, inr}
+use Rattle.std.proofs.Common.{◌≡◌, ◌≢◌, ◌∙◌, ◌==◌, ◌&&◌, refl, ap, ℕ, List, [], ◌∷◌, nat_le, length, filter, Bool, true, false, Some, slice_get, ◌≤◌, ◌+◌, arith, inl, inr}
 use Rattle.std.proofs.lemmas.Bool.{cases_Bool, ne_eqb}
 use Rattle.std.specs.List.{slice_split, onto_first}
 use Rattle.sk_text.specs.Lines.{lines_of, words_of, has_bytes}

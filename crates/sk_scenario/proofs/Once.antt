@@ -1,6 +1,6 @@
 -- One reading, by the names that it finds itself, is what two readings give.
-use Rattle.std.proofs.Common.{◌≡◌, ◌∙◌, arith, refl, sym, subst, suc, zero, ℕ, List, [], ◌∷◌, ◌<◌, Option, Some, None, Ok, length, slice_get}
-use Rattle.sk_setting.specs.Scenario.{Names, names_from, AreParts}
+use Rattle.std.proofs.Common.{◌≡◌, ◌∙◌, arith, refl, sym, subst, suc, ℕ, List, [], ◌∷◌, ◌<◌, Some, None, Ok, length, slice_get}
+use Rattle.sk_setting.specs.Scenario.{Names, names_from}
 use Rattle.sk_setting.specs.Reading.{Gained, Nothing, nothing_yet, reading, setting, scenario_of}
 use Rattle.sk_setting.specs.declared.call.Named.{Named}
 use Rattle.sk_asm.proofs.Distinct.{given_once-none}

@@ -1,6 +1,8 @@
 //! Lines in a program's block.
-ghost use Rattle.std.specs.Prelude.{◌≡◌, ◌<◌, ◌≤◌, ℕ, Bool, MatchResult};
+ghost use Rattle.std.specs.Prelude.{◌≡◌, ◌<◌, ◌≤◌, ℕ, Bool, IsTrue, MatchResult};
 ghost use Rattle.std.specs.Option.{option_map};
+ghost use Rattle.std.specs.List.{list_all};
+ghost use Rattle.sk_text.specs.Lines.{is_printable_byte};
 ghost use Rattle.sk_setting.specs.Grammar.{asked_of};
 ghost use Rattle.sk_setting.specs.Scenario.{argument_value, child_of, call_of, named_by, program_number, number_of as number_of_named};
 ghost use Rattle.sk_setting.specs.Reading.{checked, resolved, called};
@@ -10,7 +12,7 @@ ghost use Rattle.sk_scenario.specs.views.ScenarioCode.{argument_seen, call_seen,
 
 use crate::fault::ScenarioFault;
 use crate::line::{Argument, Arguments, ProgramLine};
-use crate::parse::program_line;
+use crate::parse::{child_alone, program_line};
 use crate::state::Names;
 use crate::top::check_line;
 use sk_calls::Syscall;
@@ -21,10 +23,14 @@ const MOST_CALLS: usize = 1000;
 
 // What line `n` says in a program's block.
 #[tactic(auto, unfolding(sk_setting::specs::Reading::checked))]
-pub(crate) fn read_call(n: usize, line: &[u8]) -> Result<ProgramLine<'_>, TextFault>
+pub(crate) fn read_call(n: usize, line: &[u8], is_clean: bool) -> Result<ProgramLine<'_>, TextFault>
+    requires clean { IsTrue is_clean → IsTrue (list_all is_printable_byte line.now) }
     ensures exact { Judges line_seen result (checked asked_of n line.now) }
 {
-    check_line(n, line)?;
+    if let Some(child) = child_alone(line) {
+        return Ok(ProgramLine::Fork(Some(child)));
+    }
+    check_line(n, line, is_clean)?;
     match program_line(line) {
         Some(said) => Ok(said),
         None => Err(TextFault::Line { n }),

@@ -1,6 +1,7 @@
 //! Lines in a filter's block.
-ghost use Rattle.std.specs.Prelude.{◌≡◌, ◌≢◌, ◌+◌, ◌≤◌, ◌<◌, ◌^◌, [], length, IfOk, MatchResult, Ok, Err};
-ghost use Rattle.sk_text.specs.Lines.{lines_of, words_of};
+ghost use Rattle.std.specs.Prelude.{◌≡◌, ◌≢◌, ◌+◌, ◌≤◌, ◌<◌, ◌^◌, [], length, IfOk, IsTrue, MatchResult, Ok, Err};
+ghost use Rattle.sk_text.specs.Lines.{lines_of, words_of, is_printable_byte};
+ghost use Rattle.std.specs.List.{list_all};
 ghost use Rattle.sk_asm.specs.Block.{until_end};
 ghost use Rattle.sk_asm.specs.Passes.{assembled_lines};
 ghost use Rattle.sk_asm.specs.declared.fault.AsmFault.TheVariants.{Memory};
@@ -153,10 +154,12 @@ pub(crate) fn grow(
     n: usize,
     mut image: Vec<u8>,
     line: &[u8],
+    is_clean: bool,
 ) -> Result<Block, ScenarioFault>
+    requires clean { IsTrue is_clean → IsTrue (list_all is_printable_byte line.now) }
     ensures exact { Answers block_seen result (grown n image.items line.now) }
 {
-    check_line(n, line)?;
+    check_line(n, line, is_clean)?;
     let bytes = image_bytes(alloc, n, line)??;
     image.extend_from_slice(bytes.as_slice())?;
     judge_image(n, image.as_slice())?;

@@ -6,6 +6,8 @@ ghost use Rattle.sk_scenario.specs.views.ScenarioCode.{names_seen};
 use crate::line::TopLine;
 use crate::parse::top_line;
 use crate::state::Names;
+use memchr::memmem::Finder;
+use memchr::memrchr;
 use sk_asm::is_end;
 use sk_setting::Named;
 use sk_text::{Lines, is_word};
@@ -46,6 +48,31 @@ fn note<'a>(found: &mut Found<'a>, line: &'a [u8]) -> Result<bool, AllocError> {
     }
 }
 
+// The text from the beginning of the line on that holds this place.
+fn from_line_of(text: &[u8], place: usize) -> &[u8] {
+    let before = text.get(..place).unwrap_or(&[]);
+    let start = match memrchr(b'\n', before) {
+        Some(at) => at.saturating_add(1),
+        None => 0,
+    };
+    text.get(start..).unwrap_or(&[])
+}
+
+// The text behind the line that ends the block with whose lines it begins. Lines without `end` are not cut.
+fn behind_block<'a>(end: &Finder<'_>, text: &'a [u8]) -> &'a [u8] {
+    let mut rest = Lines(text);
+    for _ in 0..text.len() {
+        let Some(place) = end.find(rest.0) else {
+            break;
+        };
+        rest = Lines(from_line_of(rest.0, place));
+        if rest.next().is_some_and(ends_block) {
+            return rest.0;
+        }
+    }
+    &[]
+}
+
 // The names of a text. No contract says which: whoever reads the text by them finds its names once more, and
 // compares.
 pub(crate) fn find_names(alloc: Global, text: &[u8]) -> Result<Names<'_>, AllocError> {
@@ -54,13 +81,15 @@ pub(crate) fn find_names(alloc: Global, text: &[u8]) -> Result<Names<'_>, AllocE
         filters: 0,
         programs: 0,
     };
-    let mut is_open = false;
-    for line in Lines(text) {
-        is_open = if is_open {
-            !ends_block(line)
-        } else {
-            note(&mut found, line)?
+    let end = Finder::new(b"end");
+    let mut rest = Lines(text);
+    for _ in 0..text.len() {
+        let Some(line) = rest.next() else {
+            break;
         };
+        if note(&mut found, line)? {
+            rest = Lines(behind_block(&end, rest.0));
+        }
     }
     Ok(found.names)
 }

@@ -1,10 +1,11 @@
 //! Lines as what they say.
-ghost use Rattle.std.specs.Prelude.{◌≡◌, ◌==◌, ◌∷◌, [], drop, Some, slice_index};
+ghost use Rattle.std.specs.Prelude.{◌≡◌, ◌==◌, ◌∷◌, [], ℕ, drop, Some, Ok, IfSome, slice_index};
 ghost use Rattle.std.specs.Option.{option_map};
 ghost use Rattle.sk_text.specs.Lines.{words_of};
 ghost use Rattle.sk_text.specs.Numbers.{up_to};
 ghost use Rattle.sk_setting.specs.Grammar.{only_if_name, only_name, setuid_with, setuid_of, owned, program_by, program_of, turns_of, headed, heading_in, heading_of, decimal_of, argument_of, next_argument, arguments_of, asked_with, forked, numbered, asked, asked_in, asked_of};
-ghost use Rattle.sk_scenario.specs.views.ScenarioCode.{heading, argument_seen, line_seen};
+ghost use Rattle.sk_scenario.specs.views.ScenarioCode.{heading, argument_seen, fork_seen, line_seen};
+ghost use Rattle.sk_setting.specs.Reading.{checked};
 
 use crate::line::{Argument, Arguments, ProgramLine, TopLine};
 use sk_calls::Syscall;
@@ -181,6 +182,17 @@ fn numbered<'a>(mut words: Words<'a>) -> Option<ProgramLine<'a>>
     let word = words.next()?;
     let nr = number_up_to(word, 0xffff_ffff)?;
     called_with(nr as u32, words)
+}
+
+// The name of a line that is `fork`, a space and a name: found without its words.
+pub(crate) fn child_alone(line: &[u8]) -> Option<&[u8]>
+    ensures exact { IfSome result (λ child. (n : ℕ) → checked asked_of n line.now ≡ Ok (Some (fork_seen (Some child)))) }
+{
+    if !line.starts_with(b"fork ") {
+        return None;
+    }
+    let child = &line[5..];
+    if is_name(child) { Some(child) } else { None }
 }
 
 fn forked<'a>(mut words: Words<'a>) -> Option<ProgramLine<'a>>

@@ -1,4 +1,3 @@
-use Rattle.std.proofs.Common.{refl}
 use Rattle.sk_text.specs.Lines.{lines_of}
 use Rattle.sk_scenario.specs.views.ScenarioCode.{gained, names_seen}
 use Rattle.sk_scenario.proofs.Once.{once}

@@ -1,6 +1,7 @@
 use Rattle.std.proofs.Common.{ap, arith, refl, inr, length, rules}
 use Rattle.std.proofs.lemmas.Result.{err_from_is_err_and}
 use Rattle.sk_text.specs.Lines.{lines_of}
+use Rattle.sk_scenario.proofs.Clean.{first_printable}
 use Rattle.sk_scenario.proofs.Ends.{few_lines}
 use Rattle.sk_scenario.proofs.Turns.{goes, fails, ends, ends_open}
 use Rattle.sk_scenario.proofs.reading.read_lines.Goals as goal
@@ -8,7 +9,7 @@ use Rattle.sk_scenario.proofs.reading.read_lines.Goals as goal
 pub loop-line-init : goal.loop-line-init
 loop-line-init c =
     let fewer = few_lines c.args.text.now in
-    record { few = omega (arith, fewer, c.requires.limit); same = refl; so_far = search rules }
+    record { few = omega (arith, fewer, c.requires.limit); clean = c.has_printable_lines-is_clean.ensures.lines; same = refl; so_far = search rules }
 
 pub returns-in_err-current : goal.returns-in_err-current
 returns-in_err-current c =
@@ -23,6 +24,7 @@ loop-line-preserved c =
     let few = c.loop-line.invariant.few in
     record {
       few = omega (arith, one, few);
+      clean = λ is. (first_printable _ _ _ c.in-Some.ensures.steps (c.loop-line.invariant.clean is)).1;
       same = refl;
       so_far = goes _ _ _ _ _ _ _ (ap lines_of c.loop-line.invariant.same) c.loop-line.invariant.so_far _ _ _ c.in-Some.ensures.steps c.in_ok-current.ensures.exact;
     }
