@@ -31,9 +31,17 @@ struct Found<'a> {
     programs: u32,
 }
 
+// What the line opens, if it does. Most others show by their first byte that they don't.
+fn opening(line: &[u8]) -> Option<TopLine<'_>> {
+    match line.first() {
+        Some(b'f' | b'p' | b' ') => top_line(line),
+        _ => None,
+    }
+}
+
 // Notes the name of a block that the line opens, if it does.
 fn note<'a>(found: &mut Found<'a>, line: &'a [u8]) -> Result<bool, AllocError> {
-    match top_line(line) {
+    match opening(line) {
         Some(TopLine::Filter(name)) => {
             found.names.insert(name, Named::Filter(found.filters))?;
             found.filters = found.filters.saturating_add(1);

@@ -216,9 +216,23 @@ fn next_argument<'a>(words: &mut Words<'a>) -> Option<Argument<'a>>
     }
 }
 
+// Those of a call that names none.
+const NONE: Arguments<'static> = Arguments {
+    a: Argument::Plain(0),
+    b: Argument::Plain(0),
+    c: Argument::Plain(0),
+    d: Argument::Plain(0),
+    e: Argument::Plain(0),
+    f: Argument::Plain(0),
+};
+
+#[tactic(auto, using(sk_text::proofs::Cuts::words_none))]
 fn called_with<'a>(nr: u32, mut words: Words<'a>) -> Option<ProgramLine<'a>>
     ensures exact { option_map line_seen result ≡ option_map Some (asked_with nr (words_of words.entry.0.now)) }
 {
+    if words.0.is_empty() {
+        return Some(ProgramLine::Call(nr, NONE));
+    }
     let a = next_argument(&mut words)?;
     let b = next_argument(&mut words)?;
     let c = next_argument(&mut words)?;
