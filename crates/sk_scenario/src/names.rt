@@ -13,6 +13,9 @@ use sk_setting::Named;
 use sk_text::{Lines, is_word};
 use std::alloc::{AllocError, Global};
 
+// The most names that a scenario gives: 256 of filters, and 256 of programs.
+const MOST_NAMES: usize = 512;
+
 // Whether a line ends a block. Nearly all others show by their first byte that they don't.
 pub(crate) fn ends_block(line: &[u8]) -> bool
     ensures end { result ≡ is_end line.now }
@@ -92,6 +95,9 @@ pub(crate) fn find_names(alloc: Global, text: &[u8]) -> Result<Names<'_>, AllocE
     let end = Finder::new(b"end");
     let mut rest = Lines(text);
     for _ in 0..text.len() {
+        if found.names.len() > MOST_NAMES {
+            break;
+        }
         let Some(line) = rest.next() else {
             break;
         };
