@@ -1,8 +1,5 @@
 -- One turn of the loop over the lines.
-use Rattle.std.proofs.Common.{◌≡◌, ◌≤◌, ◌<◌, ◌+◌, ◌==◌, ◌∙◌, arith, refl, sym, subst, ℕ, List, [], ◌∷◌, Option, Result, Ok, Err, inl, inr, length, length-drop}
-use Rattle.std.specs.List.{after_first}
-use Rattle.sk_text.specs.Lines.{lines_of}
-use Rattle.sk_text.proofs.Cuts.{lines_first}
+use Rattle.std.proofs.Common.{◌≡◌, ◌+◌, ◌∙◌, refl, sym, subst, ℕ, List, [], ◌∷◌, Option, Result, Ok, Err, inl, inr}
 use Rattle.sk_scenario.specs.declared.fault.ScenarioFault.{ScenarioFault}
 use Rattle.sk_setting.specs.declared.fault.TextFault.{TextFault}
 use Rattle.sk_setting.specs.Scenario.{Names}
@@ -40,16 +37,3 @@ module _ (known : Option Names) (n : ℕ) (d : Gained) (block : Open) (here line
   ends_open why e h =
       let all = subst (λ l. reading known n d block l ≡ total) e so_far in
       sym (rw h at all)
-
-no_lines : (text line : List ℕ) (rest : List (List ℕ)) → lines_of text ≡ line ∷ rest → 0 < length text
-no_lines [] line rest h = cc
-no_lines (byte ∷ text) line rest h = omega arith
-
--- what stands behind the first line of a text
-pub behind : (text line : List ℕ) (rest : List (List ℕ)) → lines_of text ≡ line ∷ rest
-    → (lines_of (after_first (λ b. b == 10) text) ≡ rest) × (length (after_first (λ b. b == 10) text) + 1 ≤ length text)
-behind text line rest h =
-    let some = no_lines text line rest h in
-    let e = sym (lines_first text some) ∙ h in
-    let same : lines_of (after_first (λ b. b == 10) text) ≡ rest = cc in
-    (same, simp length-drop (omega arith))

@@ -1,18 +1,21 @@
 //! Lines in a program's block.
-ghost use Rattle.std.specs.Prelude.{◌≡◌, ◌<◌, ◌≤◌, ℕ, Bool, MatchResult};
+ghost use Rattle.std.specs.Prelude.{◌≡◌, ◌<◌, ◌≤◌, ℕ, Bool, IsTrue, MatchResult};
 ghost use Rattle.std.specs.Option.{option_map};
+ghost use Rattle.std.specs.List.{list_all};
+ghost use Rattle.sk_text.specs.Lines.{is_printable_byte};
 ghost use Rattle.sk_setting.specs.Grammar.{asked_of};
 ghost use Rattle.sk_setting.specs.Scenario.{argument_value, child_of, call_of, named_by, program_number, number_of as number_of_named};
 ghost use Rattle.sk_setting.specs.Reading.{checked, resolved, called};
 ghost use Rattle.sk_setting.specs.declared.fault.TextFault.TheVariants.{Limit};
 ghost use Rattle.sk_scenario.specs.Answers.{Answers, Judges};
-ghost use Rattle.sk_scenario.specs.views.ScenarioCode.{argument_seen, call_seen, line_seen, names_seen, known_seen, script_with};
+ghost use Rattle.sk_scenario.specs.views.ScenarioCode.{argument_seen, call_seen, fork_seen, line_seen, names_seen, known_seen, script_with};
 
 use crate::fault::ScenarioFault;
-use crate::line::{Argument, CallLine, ProgramLine};
-use crate::parse::program_line;
+use crate::line::{Argument, Arguments, ProgramLine};
+use crate::parse::{child_alone, program_line};
 use crate::state::Names;
 use crate::top::check_line;
+use sk_calls::Syscall;
 use sk_setting::{Named, ScriptCall, TextFault};
 
 // The most calls that a program may have.
@@ -20,10 +23,14 @@ const MOST_CALLS: usize = 1000;
 
 // What line `n` says in a program's block.
 #[tactic(auto, unfolding(sk_setting::specs::Reading::checked))]
-pub(crate) fn read_call(n: usize, line: &[u8]) -> Result<ProgramLine<'_>, TextFault>
+pub(crate) fn read_call(n: usize, line: &[u8], is_clean: bool) -> Result<ProgramLine<'_>, TextFault>
+    requires clean { IsTrue is_clean → IsTrue (list_all is_printable_byte line.now) }
     ensures exact { Judges line_seen result (checked asked_of n line.now) }
 {
-    check_line(n, line)?;
+    if let Some(child) = child_alone(line) {
+        return Ok(ProgramLine::Fork(Some(child)));
+    }
+    check_line(n, line, is_clean)?;
     match program_line(line) {
         Some(said) => Ok(said),
         None => Err(TextFault::Line { n }),
@@ -84,38 +91,67 @@ fn child_of(names: &Names<'_>, child: Option<&[u8]>) -> Option<Option<u32>>
 }
 
 #[tactic(auto, unfolding(sk_setting::specs::Scenario::call_of))]
-fn call_of(names: &Names<'_>, call: CallLine<'_>) -> Option<ScriptCall>
-    ensures exact { result ≡ call_of (names_seen names.now) (call_seen call.entry) }
+fn call_of(names: &Names<'_>, nr: u32, arguments: Arguments<'_>) -> Option<ScriptCall>
+    ensures exact { result ≡ call_of (names_seen names.now) (call_seen nr arguments.entry) }
 {
-    let a = argument_value(names, call.arguments.a)?;
-    let b = argument_value(names, call.arguments.b)?;
-    let c = argument_value(names, call.arguments.c)?;
-    let d = argument_value(names, call.arguments.d)?;
-    let e = argument_value(names, call.arguments.e)?;
-    let f = argument_value(names, call.arguments.f)?;
-    let script = child_of(names, call.child)?;
+    let a = argument_value(names, arguments.a)?;
+    let b = argument_value(names, arguments.b)?;
+    let c = argument_value(names, arguments.c)?;
+    let d = argument_value(names, arguments.d)?;
+    let e = argument_value(names, arguments.e)?;
+    let f = argument_value(names, arguments.f)?;
     Some(ScriptCall {
-        nr: call.nr,
+        nr,
         args: [a, b, c, d, e, f],
-        script,
+        script: None,
     })
 }
 
-// The call that line `n` asks for. Where the names are not known yet, it is any.
+// Any call, for a line whose names are not known yet.
+const ANY: ScriptCall = ScriptCall {
+    nr: 0,
+    args: [0; 6],
+    script: None,
+};
+
+// The call that line `n` asks for.
 #[tactic(auto, unfolding(sk_setting::specs::Reading::resolved))]
-fn resolve(known: Option<&Names<'_>>, n: usize, call: CallLine<'_>) -> Result<ScriptCall, TextFault>
-    ensures exact { Judges (λ made. made) result (resolved (known_seen known.entry) n (call_seen call.entry)) }
+fn resolve(
+    known: Option<&Names<'_>>,
+    n: usize,
+    nr: u32,
+    arguments: Arguments<'_>,
+) -> Result<ScriptCall, TextFault>
+    ensures exact { Judges (λ made. made) result (resolved (known_seen known.entry) n (call_seen nr arguments.entry)) }
 {
     match known {
-        None => Ok(ScriptCall {
-            nr: 0,
-            args: [0; 6],
-            script: None,
-        }),
-        Some(names) => match call_of(names, call) {
+        None => Ok(ANY),
+        Some(names) => match call_of(names, nr, arguments) {
             Some(made) => Ok(made),
             None => Err(TextFault::Unresolved { n }),
         },
+    }
+}
+
+// The fork(2) that line `n` asks for.
+#[tactic(auto, unfolding(sk_setting::specs::Reading::resolved, sk_setting::specs::Scenario::call_of))]
+fn resolve_fork(
+    known: Option<&Names<'_>>,
+    n: usize,
+    child: Option<&[u8]>,
+) -> Result<ScriptCall, TextFault>
+    ensures exact { Judges (λ made. made) result (resolved (known_seen known.entry) n (fork_seen child.entry)) }
+{
+    let Some(names) = known else {
+        return Ok(ANY);
+    };
+    match child_of(names, child) {
+        Some(script) => Ok(ScriptCall {
+            nr: Syscall::Fork.number(),
+            args: [0; 6],
+            script,
+        }),
+        None => Err(TextFault::Unresolved { n }),
     }
 }
 
@@ -142,9 +178,15 @@ pub(crate) fn add_call(
 {
     match line {
         ProgramLine::Silent => Ok(calls),
-        ProgramLine::Call(call) => {
+        ProgramLine::Fork(child) => {
             judge_count(n, calls.len())?;
-            let made = resolve(known, n, call)?;
+            let made = resolve_fork(known, n, child)?;
+            calls.push(made)?;
+            Ok(calls)
+        }
+        ProgramLine::Call(nr, arguments) => {
+            judge_count(n, calls.len())?;
+            let made = resolve(known, n, nr, arguments)?;
             calls.push(made)?;
             Ok(calls)
         }

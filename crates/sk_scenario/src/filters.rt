@@ -1,6 +1,7 @@
 //! Lines in a filter's block.
-ghost use Rattle.std.specs.Prelude.{◌≡◌, ◌≢◌, ◌+◌, ◌≤◌, ◌<◌, ◌^◌, [], length, IfOk, MatchResult, Ok, Err};
-ghost use Rattle.sk_text.specs.Lines.{lines_of, words_of};
+ghost use Rattle.std.specs.Prelude.{◌≡◌, ◌≢◌, ◌+◌, ◌≤◌, ◌<◌, ◌^◌, [], length, IfOk, IsTrue, MatchResult, Ok, Err};
+ghost use Rattle.sk_text.specs.Lines.{lines_of, words_of, is_printable_byte};
+ghost use Rattle.std.specs.List.{list_all};
 ghost use Rattle.sk_asm.specs.Block.{until_end};
 ghost use Rattle.sk_asm.specs.Passes.{assembled_lines};
 ghost use Rattle.sk_asm.specs.declared.fault.AsmFault.TheVariants.{Memory};
@@ -97,7 +98,7 @@ fn code_image(
     ahead: &[u8],
 ) -> Result<Block, ScenarioFault>
     requires first { 1 ≤ n }
-    requires numbers { n + length ahead.now < 2 ^ 64 }
+    requires numbers { n < 2 ^ 63 }
     ensures exact { Answers block_seen result (coded (known_seen known.entry) (assembled_lines n (until_end (lines_of ahead.now)))) }
 {
     match assemble_block(alloc, n - 1, ahead) {
@@ -132,7 +133,7 @@ pub(crate) fn decide(
     ahead: &[u8],
 ) -> Result<Block, ScenarioFault>
     requires first { 1 ≤ n }
-    requires numbers { n + length ahead.now < 2 ^ 64 }
+    requires numbers { n < 2 ^ 63 }
     ensures exact { Answers block_seen result (decided (known_seen known.entry) n line.now (until_end (lines_of ahead.now))) }
 {
     if is_passed_over(line) {
@@ -153,10 +154,12 @@ pub(crate) fn grow(
     n: usize,
     mut image: Vec<u8>,
     line: &[u8],
+    is_clean: bool,
 ) -> Result<Block, ScenarioFault>
+    requires clean { IsTrue is_clean → IsTrue (list_all is_printable_byte line.now) }
     ensures exact { Answers block_seen result (grown n image.items line.now) }
 {
-    check_line(n, line)?;
+    check_line(n, line, is_clean)?;
     let bytes = image_bytes(alloc, n, line)??;
     image.extend_from_slice(bytes.as_slice())?;
     judge_image(n, image.as_slice())?;

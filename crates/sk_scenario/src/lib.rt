@@ -5,6 +5,7 @@ mod calls;
 mod fault;
 mod filters;
 mod line;
+mod names;
 mod parse;
 mod reader;
 mod reading;

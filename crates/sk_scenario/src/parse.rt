@@ -1,16 +1,22 @@
 //! Lines as what they say.
-ghost use Rattle.std.specs.Prelude.{◌≡◌, ◌∷◌, [], drop};
+ghost use Rattle.std.specs.Prelude.{◌≡◌, ◌==◌, ◌∷◌, [], ℕ, drop, Some, Ok, IfSome, slice_index};
 ghost use Rattle.std.specs.Option.{option_map};
 ghost use Rattle.sk_text.specs.Lines.{words_of};
 ghost use Rattle.sk_text.specs.Numbers.{up_to};
 ghost use Rattle.sk_setting.specs.Grammar.{only_if_name, only_name, setuid_with, setuid_of, owned, program_by, program_of, turns_of, headed, heading_in, heading_of, decimal_of, argument_of, next_argument, arguments_of, asked_with, forked, numbered, asked, asked_in, asked_of};
-ghost use Rattle.sk_scenario.specs.views.ScenarioCode.{heading, argument_seen, arguments_seen, call_seen, line_seen};
+ghost use Rattle.sk_scenario.specs.views.ScenarioCode.{heading, argument_seen, fork_seen, line_seen};
+ghost use Rattle.sk_setting.specs.Reading.{checked};
 
-use crate::line::{Argument, Arguments, CallLine, ProgramLine, TopLine};
+use crate::line::{Argument, Arguments, ProgramLine, TopLine};
 use sk_calls::Syscall;
-use sk_text::{
-    Words, is_name, is_number, is_passed_over, is_word, no_word, number_up_to, one_word,
-};
+use sk_text::{Words, is_name, is_number, is_word, no_word, number_up_to, one_word};
+
+// Whether a comment begins with the word.
+fn is_comment(word: &[u8]) -> bool
+    ensures exact { result ≡ (slice_index word.now 0 == 59) }
+{
+    word.first() == Some(&b';')
+}
 
 fn name(word: &[u8]) -> Option<&[u8]>
     ensures exact { option_map (λ w. w.now) result ≡ only_if_name word.now }
@@ -114,11 +120,13 @@ fn headed<'a>(first: &'a [u8], words: Words<'a>) -> Option<TopLine<'a>>
 pub(crate) fn top_line(line: &[u8]) -> Option<TopLine<'_>>
     ensures exact { option_map heading result ≡ heading_of line.now }
 {
-    if is_passed_over(line) {
+    let mut words = Words(line);
+    let Some(first) = words.next() else {
+        return Some(TopLine::Silent);
+    };
+    if is_comment(first) {
         return Some(TopLine::Silent);
     }
-    let mut words = Words(line);
-    let first = words.next()?;
     headed(first, words)
 }
 
@@ -155,8 +163,8 @@ fn argument(word: &[u8]) -> Option<Argument<'_>>
 }
 
 #[tactic(auto, unfolding(sk_setting::specs::Grammar::asked))]
-fn call_line<'a>(first: &'a [u8], words: Words<'a>) -> Option<CallLine<'a>>
-    ensures exact { option_map call_seen result ≡ asked first.now (words_of words.entry.0.now) }
+fn call_line<'a>(first: &'a [u8], words: Words<'a>) -> Option<ProgramLine<'a>>
+    ensures exact { option_map line_seen result ≡ option_map Some (asked first.now (words_of words.entry.0.now)) }
 {
     if is_word(first, b"call") {
         return numbered(words);
@@ -168,40 +176,34 @@ fn call_line<'a>(first: &'a [u8], words: Words<'a>) -> Option<CallLine<'a>>
     called_with(call.number(), words)
 }
 
-fn numbered<'a>(mut words: Words<'a>) -> Option<CallLine<'a>>
-    ensures exact { option_map call_seen result ≡ numbered (words_of words.entry.0.now) }
+fn numbered<'a>(mut words: Words<'a>) -> Option<ProgramLine<'a>>
+    ensures exact { option_map line_seen result ≡ option_map Some (numbered (words_of words.entry.0.now)) }
 {
     let word = words.next()?;
     let nr = number_up_to(word, 0xffff_ffff)?;
     called_with(nr as u32, words)
 }
 
-const NONE: Arguments<'static> = Arguments {
-    a: Argument::Plain(0),
-    b: Argument::Plain(0),
-    c: Argument::Plain(0),
-    d: Argument::Plain(0),
-    e: Argument::Plain(0),
-    f: Argument::Plain(0),
-};
+// The name of a line that is `fork`, a space and a name: found without its words.
+pub(crate) fn child_alone(line: &[u8]) -> Option<&[u8]>
+    ensures exact { IfSome result (λ child. (n : ℕ) → checked asked_of n line.now ≡ Ok (Some (fork_seen (Some child)))) }
+{
+    if !line.starts_with(b"fork ") {
+        return None;
+    }
+    let child = &line[5..];
+    if is_name(child) { Some(child) } else { None }
+}
 
-fn forked<'a>(mut words: Words<'a>) -> Option<CallLine<'a>>
-    ensures exact { option_map call_seen result ≡ forked (words_of words.entry.0.now) }
+fn forked<'a>(mut words: Words<'a>) -> Option<ProgramLine<'a>>
+    ensures exact { option_map line_seen result ≡ option_map Some (forked (words_of words.entry.0.now)) }
 {
     let Some(word) = words.next() else {
-        return Some(CallLine {
-            nr: Syscall::Fork.number(),
-            arguments: NONE,
-            child: None,
-        });
+        return Some(ProgramLine::Fork(None));
     };
     no_word(words)?;
     let name = name(word)?;
-    Some(CallLine {
-        nr: Syscall::Fork.number(),
-        arguments: NONE,
-        child: Some(name),
-    })
+    Some(ProgramLine::Fork(Some(name)))
 }
 
 fn next_argument<'a>(words: &mut Words<'a>) -> Option<Argument<'a>>
@@ -214,9 +216,23 @@ fn next_argument<'a>(words: &mut Words<'a>) -> Option<Argument<'a>>
     }
 }
 
-fn called_with<'a>(nr: u32, mut words: Words<'a>) -> Option<CallLine<'a>>
-    ensures exact { option_map call_seen result ≡ asked_with nr (words_of words.entry.0.now) }
+// Those of a call that names none.
+const NONE: Arguments<'static> = Arguments {
+    a: Argument::Plain(0),
+    b: Argument::Plain(0),
+    c: Argument::Plain(0),
+    d: Argument::Plain(0),
+    e: Argument::Plain(0),
+    f: Argument::Plain(0),
+};
+
+#[tactic(auto, using(sk_text::proofs::Cuts::words_none))]
+fn called_with<'a>(nr: u32, mut words: Words<'a>) -> Option<ProgramLine<'a>>
+    ensures exact { option_map line_seen result ≡ option_map Some (asked_with nr (words_of words.entry.0.now)) }
 {
+    if words.0.is_empty() {
+        return Some(ProgramLine::Call(nr, NONE));
+    }
     let a = next_argument(&mut words)?;
     let b = next_argument(&mut words)?;
     let c = next_argument(&mut words)?;
@@ -224,11 +240,7 @@ fn called_with<'a>(nr: u32, mut words: Words<'a>) -> Option<CallLine<'a>>
     let e = next_argument(&mut words)?;
     let f = next_argument(&mut words)?;
     no_word(words)?;
-    Some(CallLine {
-        nr,
-        arguments: Arguments { a, b, c, d, e, f },
-        child: None,
-    })
+    Some(ProgramLine::Call(nr, Arguments { a, b, c, d, e, f }))
 }
 
 // What a line in a program's block says.
@@ -236,11 +248,12 @@ fn called_with<'a>(nr: u32, mut words: Words<'a>) -> Option<CallLine<'a>>
 pub(crate) fn program_line(line: &[u8]) -> Option<ProgramLine<'_>>
     ensures exact { option_map line_seen result ≡ asked_of line.now }
 {
-    if is_passed_over(line) {
+    let mut words = Words(line);
+    let Some(first) = words.next() else {
+        return Some(ProgramLine::Silent);
+    };
+    if is_comment(first) {
         return Some(ProgramLine::Silent);
     }
-    let mut words = Words(line);
-    let first = words.next()?;
-    let call = call_line(first, words)?;
-    Some(ProgramLine::Call(call))
+    call_line(first, words)
 }

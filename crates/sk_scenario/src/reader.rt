@@ -1,5 +1,5 @@
 //! The scenario reader.
-ghost use Rattle.std.specs.Prelude.{◌≡◌, ◌<◌, ◌≤◌, length, IfOk, IfErr, MatchResult, Some};
+ghost use Rattle.std.specs.Prelude.{◌≡◌, ◌<◌, ◌≤◌, length, IfOk, IfErr, IfSome, MatchResult, Some, Ok};
 ghost use Rattle.sk_text.specs.Lines.{lines_of};
 ghost use Rattle.sk_setting.specs.Reading.{reading, scenario, scenario_of, nothing_yet, setting, Nothing as NoBlock};
 ghost use Rattle.sk_setting.specs.Scenario.{IsScenarioText, Setting};
@@ -10,11 +10,12 @@ ghost use Rattle.sk_scenario.specs.Answers.{Answers, Finds, IsToldOf, Tells};
 ghost use Rattle.sk_scenario.specs.views.ScenarioCode.{gained, names_seen};
 
 use crate::fault::ScenarioFault;
+use crate::names::{are_same, find_names};
 use crate::reading::read_lines;
 use crate::scenario::Scenario;
 use crate::state::{Done, Names};
 use sk_setting::TextFault;
-use std::alloc::Global;
+use std::alloc::{AllocError, Global};
 
 // The most bytes that an input may have.
 const LONGEST_TEXT: usize = 1_048_576;
@@ -29,7 +30,7 @@ pub fn read(alloc: Global, input: &[u8]) -> Result<Scenario, ScenarioFault>
     ensures told { (why : TextFault) → IsFirstFaultOfText input.now why → Tells result why }
 {
     judge_length(input)?;
-    read_twice(alloc, input)
+    read_short(alloc, input)
 }
 
 fn judge_length(input: &[u8]) -> Result<(), TextFault>
@@ -39,6 +40,30 @@ fn judge_length(input: &[u8]) -> Result<(), TextFault>
         return Err(TextFault::Limit { n: 0 });
     }
     Ok(())
+}
+
+// A text of which one reading makes no scenario has a fault, and two readings find it.
+fn read_short(alloc: Global, text: &[u8]) -> Result<Scenario, ScenarioFault>
+    requires limit { length text.now ≤ 1048576 }
+    ensures exact { Answers (λ read. read) result (scenario_of (lines_of text.now)) }
+{
+    let names = find_names(alloc, text)?;
+    match read_once(alloc, &names, text)? {
+        Some(scenario) => Ok(scenario),
+        None => read_twice(alloc, text),
+    }
+}
+
+// The scenario by one reading, where the lines are one and give these names.
+fn read_once(alloc: Global, names: &Names<'_>, text: &[u8]) -> Result<Option<Scenario>, AllocError>
+    requires limit { length text.now ≤ 1048576 }
+    ensures exact { IfOk result (λ answer. IfSome answer (λ read. scenario_of (lines_of text.now) ≡ Ok read)) }
+{
+    match read_again(alloc, names, text) {
+        Ok(second) if are_same(names, &second.names) => Ok(Some(setting(second))),
+        Err(ScenarioFault::Memory) => Err(AllocError),
+        _ => Ok(None),
+    }
 }
 
 #[tactic(auto, unfolding(sk_setting::specs::Reading::scenario_of))]

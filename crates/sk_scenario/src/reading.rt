@@ -1,6 +1,7 @@
 //! The lines, read one after the other.
-ghost use Rattle.std.specs.Prelude.{◌≡◌, ◌+◌, ◌≤◌, ◌<◌, ◌^◌, length, MatchResult, OnOk, Ok};
-ghost use Rattle.sk_text.specs.Lines.{lines_of};
+ghost use Rattle.std.specs.Prelude.{◌≡◌, ◌+◌, ◌≤◌, ◌<◌, ◌^◌, length, IsTrue, MatchResult, OnOk, Ok};
+ghost use Rattle.std.specs.List.{list_all};
+ghost use Rattle.sk_text.specs.Lines.{lines_of, is_printable_byte};
 ghost use Rattle.sk_asm.specs.Block.{until_end};
 ghost use Rattle.sk_setting.specs.Reading.{is_open, inside, finished, within, stepped, closed, reading, nothing_yet, Nothing as NoBlock};
 ghost use Rattle.sk_scenario.specs.Answers.{Answers, IsFaultOf, Judges};
@@ -9,13 +10,13 @@ ghost use Rattle.sk_scenario.specs.views.ScenarioCode.{known_seen, gained, block
 use crate::calls::{add_call, read_call};
 use crate::fault::ScenarioFault;
 use crate::filters::{decide, grow};
+use crate::names::ends_block;
 use crate::scenario::Program;
 use crate::state::{Block, Done, Names};
-use crate::top::{check_line, read_top, start};
+use crate::top::{check_line, has_printable_lines, read_top, start};
 use indexmap::IndexMap;
-use sk_asm::is_end;
 use sk_setting::TextFault;
-use sk_text::{Lines, cut};
+use sk_text::Lines;
 use std::alloc::{AllocError, Global};
 
 // The block that is open, behind line `n`.
@@ -26,26 +27,28 @@ fn inside(
     n: usize,
     current: Block,
     line: &[u8],
+    is_clean: bool,
     ahead: &[u8],
 ) -> Result<Block, ScenarioFault>
+    requires clean { IsTrue is_clean → IsTrue (list_all is_printable_byte line.now) }
     requires first { 1 ≤ n }
-    requires numbers { n + length ahead.now < 2 ^ 64 }
+    requires numbers { n < 2 ^ 63 }
     ensures exact { Answers block_seen result (inside (known_seen known.entry) n (block_seen current) line.now (until_end (lines_of ahead.now))) }
 {
     match current {
         Block::Nothing => Ok(Block::Nothing),
         Block::Undecided => {
-            check_line(n, line)?;
+            check_line(n, line, is_clean)?;
             decide(alloc, known, n, line, ahead)
         }
-        Block::Bytes(image) => grow(alloc, n, image, line),
+        Block::Bytes(image) => grow(alloc, n, image, line, is_clean),
         Block::Code(image) => Ok(Block::Code(image)),
         Block::Calls {
             owner,
             setuid,
             calls,
         } => {
-            let said = read_call(n, line)?;
+            let said = read_call(n, line, is_clean)?;
             let calls = add_call(calls, known, n, said)?;
             Ok(Block::Calls {
                 owner,
@@ -92,19 +95,21 @@ fn within(
     n: usize,
     current: Block,
     line: &[u8],
+    is_clean: bool,
     ahead: &[u8],
 ) -> Result<Block, ScenarioFault>
+    requires clean { IsTrue is_clean → IsTrue (list_all is_printable_byte line.now) }
     requires first { 1 ≤ n }
-    requires numbers { n + length ahead.now < 2 ^ 64 }
+    requires numbers { n < 2 ^ 63 }
     ensures exact { MatchResult result
         (λ next. within (known_seen known.entry) n (gained done.old) (block_seen current) line.now (lines_of ahead.now) ≡ Ok (gained done.new, block_seen next))
         (λ fault. IsFaultOf fault (within (known_seen known.entry) n (gained done.old) (block_seen current) line.now (lines_of ahead.now))) }
 {
-    if is_end(line) {
+    if ends_block(line) {
         finish(alloc, done, current)?;
         return Ok(Block::Nothing);
     }
-    inside(alloc, known, n, current, line, ahead)
+    inside(alloc, known, n, current, line, is_clean, ahead)
 }
 
 // Reads line `n`, with which the text ahead begins.
@@ -116,18 +121,20 @@ fn step<'a>(
     n: usize,
     current: Block,
     line: &'a [u8],
+    is_clean: bool,
     ahead: &[u8],
 ) -> Result<Block, ScenarioFault>
+    requires clean { IsTrue is_clean → IsTrue (list_all is_printable_byte line.now) }
     requires first { 1 ≤ n }
-    requires numbers { n + length ahead.now < 2 ^ 64 }
+    requires numbers { n < 2 ^ 63 }
     ensures exact { MatchResult result
         (λ next. stepped (known_seen known.entry) n (gained done.old) (block_seen current) line.now (lines_of ahead.now) ≡ Ok (gained done.new, block_seen next))
         (λ fault. IsFaultOf fault (stepped (known_seen known.entry) n (gained done.old) (block_seen current) line.now (lines_of ahead.now))) }
 {
     if is_open(&current) {
-        return within(alloc, known, done, n, current, line, ahead);
+        return within(alloc, known, done, n, current, line, is_clean, ahead);
     }
-    let said = read_top(n, line)?;
+    let said = read_top(n, line, is_clean)?;
     start(alloc, done, n, said)
 }
 
@@ -162,10 +169,12 @@ pub(crate) fn read_lines<'a>(
     let mut current = Block::Nothing;
     let mut n = 0;
     let mut ahead = text;
-    for line in Lines(text) {
+    let mut lines = Lines(text);
+    let is_clean = has_printable_lines(text);
+    while let Some(line) = lines.next() {
         n += 1;
-        current = step(alloc, known, &mut done, n, current, line, ahead)?;
-        ahead = cut(ahead, b'\n').1;
+        current = step(alloc, known, &mut done, n, current, line, is_clean, ahead)?;
+        ahead = lines.0;
     }
     close(n + 1, &current)?;
     Ok(done)

@@ -1,7 +1,10 @@
 //! Lines at the top level.
-ghost use Rattle.std.specs.Prelude.{◌≡◌, ◌<◌, false, is_some, MatchResult, Ok, Err};
+ghost use Rattle.std.specs.Prelude.{◌≡◌, ◌<◌, false, is_some, IsTrue, MatchResult, Ok, Err};
 ghost use Rattle.std.specs.Option.{option_map_or};
+ghost use Rattle.std.specs.List.{list_all};
+ghost use Rattle.sk_text.specs.Lines.{lines_of, is_printable_byte};
 ghost use Rattle.sk_text.specs.Numbers.{number_of};
+ghost use Rattle.sk_scenario.specs.Clean.{is_clean_byte};
 ghost use Rattle.sk_setting.specs.Grammar.{Turns, Subreapers, heading_of};
 ghost use Rattle.sk_setting.specs.Reading.{plain, checked, remarked, given, opened, started};
 ghost use Rattle.sk_setting.specs.Scenario.{named_by};
@@ -26,14 +29,34 @@ const MOST_TURNS: u64 = 100_000;
 // The most filters, and the most programs, that a scenario may have.
 const MOST_OF_A_KIND: usize = 256;
 
+// Whether all lines of a text are printable. Of a whole text that is found many bytes at a time.
+#[tactic(auto, using(crate::proofs::Clean::printable_lines))]
+pub(crate) fn has_printable_lines(text: &[u8]) -> bool
+    ensures lines { IsTrue result → IsTrue (list_all (list_all is_printable_byte) (lines_of text.now)) }
+{
+    has_clean_bytes(text)
+}
+
+#[tactic(auto, unfolding(sk_text::specs::Lines::is_printable_byte))]
+fn has_clean_bytes(text: &[u8]) -> bool
+    ensures every { result ≡ list_all is_clean_byte text.now }
+{
+    let mut every = true;
+    for byte in text {
+        every &= matches!(*byte, 0x20..=0x7e | b'\n');
+    }
+    every
+}
+
 // Whether line `n` is short enough and printable.
-pub(crate) fn check_line(n: usize, line: &[u8]) -> Result<(), TextFault>
+pub(crate) fn check_line(n: usize, line: &[u8], is_clean: bool) -> Result<(), TextFault>
+    requires clean { IsTrue is_clean → IsTrue (list_all is_printable_byte line.now) }
     ensures exact { Judges (λ none. none) result (plain n line.now) }
 {
     if line.len() > LONGEST_LINE {
         return Err(TextFault::Limit { n });
     }
-    if is_printable(line) {
+    if is_clean || is_printable(line) {
         Ok(())
     } else {
         Err(TextFault::Line { n })
@@ -42,10 +65,11 @@ pub(crate) fn check_line(n: usize, line: &[u8]) -> Result<(), TextFault>
 
 // What line `n` says at the top level.
 #[tactic(auto, unfolding(sk_setting::specs::Reading::checked))]
-pub(crate) fn read_top(n: usize, line: &[u8]) -> Result<TopLine<'_>, TextFault>
+pub(crate) fn read_top(n: usize, line: &[u8], is_clean: bool) -> Result<TopLine<'_>, TextFault>
+    requires clean { IsTrue is_clean → IsTrue (list_all is_printable_byte line.now) }
     ensures exact { Judges heading result (checked heading_of n line.now) }
 {
-    check_line(n, line)?;
+    check_line(n, line, is_clean)?;
     match top_line(line) {
         Some(said) => Ok(said),
         None => Err(TextFault::Line { n }),

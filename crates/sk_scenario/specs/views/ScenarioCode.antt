@@ -1,14 +1,15 @@
 -- The code's values as the definitions see them.
-use Rattle.std.specs.Prelude.{ℕ, if◌then◌else◌, Bool, List, [], ◌∷◌, map, Option, Some, None}
+use Rattle.std.specs.Prelude.{ℕ, if◌then◌else◌, Bool, List, [], ◌∷◌, map, replicate, Option, Some, None}
 use Rattle.std.specs.Borrow.{Bor}
 use Rattle.std.specs.Option.{option_map, option_map_or}
-use Rattle.sk_text.specs.Numbers.{number_of}
+use Rattle.sk_text.specs.Numbers.{number_of as number_said}
+use Rattle.sk_calls.specs.declared.syscall.Syscall.TheVariants as syscall
+use Rattle.sk_calls.specs.Syscalls.{number_of}
 use Rattle.sk_scenario.specs.declared.line.TopLine.{TopLine}
 use Rattle.sk_scenario.specs.declared.line.TopLine.TheVariants as top
 use Rattle.sk_scenario.specs.declared.line.Argument.{Argument as CodeArgument}
 use Rattle.sk_scenario.specs.declared.line.Argument.TheVariants as argument
 use Rattle.sk_scenario.specs.declared.line.Arguments.{Arguments}
-use Rattle.sk_scenario.specs.declared.line.CallLine.{CallLine}
 use Rattle.sk_scenario.specs.declared.line.ProgramLine.{ProgramLine}
 use Rattle.sk_scenario.specs.declared.line.ProgramLine.TheVariants as program
 use Rattle.std.specs.declared.hash.FoldHasher.{FoldHasher}
@@ -26,7 +27,7 @@ use Rattle.sk_setting.specs.Grammar.{Heading, Alone, Opens, Silent, Turns, Subre
 
 abbrev pub heading : TopLine → Heading
 heading top.Silent = Alone Silent
-heading (top.Turns word) = Alone (Turns (option_map_or (λ n. n) (number_of word.now) 0))
+heading (top.Turns word) = Alone (Turns (option_map_or (λ n. n) (number_said word.now) 0))
 heading top.Subreapers = Alone Subreapers
 heading (top.Filter name) = Opens (Filter name.now)
 heading (top.Program name owner setuid) = Opens (Program name.now owner setuid)
@@ -40,12 +41,16 @@ abbrev pub arguments_seen : Arguments → List Argument
 arguments_seen given =
     argument_seen given.a ∷ argument_seen given.b ∷ argument_seen given.c ∷ argument_seen given.d ∷ argument_seen given.e ∷ argument_seen given.f ∷ []
 
-abbrev pub call_seen : CallLine → Asked
-call_seen line = record { nr = line.nr; arguments = arguments_seen line.arguments; child = option_map (λ name. name.now) line.child }
+abbrev pub fork_seen : Option (Bor (List ℕ)) → Asked
+fork_seen child = record { nr = number_of syscall.Fork; arguments = replicate 6 (Plain 0); child = option_map (λ name. name.now) child }
+
+abbrev pub call_seen : ℕ → Arguments → Asked
+call_seen nr arguments = record { nr = nr; arguments = arguments_seen arguments; child = None }
 
 abbrev pub line_seen : ProgramLine → Option Asked
 line_seen program.Silent = None
-line_seen (program.Call line) = Some (call_seen line)
+line_seen (program.Fork child) = Some (fork_seen child)
+line_seen (program.Call nr arguments) = Some (call_seen nr arguments)
 
 -- ---- what was read
 

@@ -1,32 +1,42 @@
-use Rattle.std.proofs.Common.{◌∙◌, arith, refl, inr}
+use Rattle.std.proofs.Common.{ap, arith, refl, inr, length, rules}
 use Rattle.std.proofs.lemmas.Result.{err_from_is_err_and}
-use Rattle.sk_scenario.proofs.Turns.{goes, fails, ends, ends_open, behind}
+use Rattle.sk_text.specs.Lines.{lines_of}
+use Rattle.sk_scenario.proofs.Clean.{first_printable}
+use Rattle.sk_scenario.proofs.Ends.{few_lines}
+use Rattle.sk_scenario.proofs.Turns.{goes, fails, ends, ends_open}
 use Rattle.sk_scenario.proofs.reading.read_lines.Goals as goal
+
+pub loop-line-init : goal.loop-line-init
+loop-line-init c =
+    let fewer = few_lines c.args.text.now in
+    record { few = omega (arith, fewer, c.requires.limit); clean = c.has_printable_lines-is_clean.ensures.lines; same = refl; so_far = search rules }
 
 pub returns-in_err-current : goal.returns-in_err-current
 returns-in_err-current c =
     let p = err_from_is_err_and c.from_residual.result c.from_residual.ensures.1 in
     record {
-      exact = rw (p.1, p.2) (fails _ _ _ _ _ _ _ c.loop-line.invariant.same c.loop-line.invariant.so_far _ _ c.in_err-current.field-0.0 c.in-Some.ensures.steps c.in_err-current.ensures.exact);
+      exact = rw (p.1, p.2) (fails _ _ _ _ _ _ _ (ap lines_of c.loop-line.invariant.same) c.loop-line.invariant.so_far _ _ c.in_err-current.field-0.0 c.in-Some.ensures.steps c.in_err-current.ensures.exact);
     }
 
 pub loop-line-preserved : goal.loop-line-preserved
 loop-line-preserved c =
-    let b = behind c.loop-line.ahead.now _ _ (c.loop-line.invariant.same ∙ c.in-Some.ensures.steps) in
+    let one = ap length c.in-Some.ensures.steps in
+    let few = c.loop-line.invariant.few in
     record {
-      few = let less = b.1 in let few = c.loop-line.invariant.few in rw c.cut.ensures.back (omega arith);
-      same = rw c.cut.ensures.back b.0;
-      so_far = goes _ _ _ _ _ _ _ c.loop-line.invariant.same c.loop-line.invariant.so_far _ _ _ c.in-Some.ensures.steps c.in_ok-current.ensures.exact;
+      few = omega (arith, one, few);
+      clean = λ is. (first_printable _ _ _ c.in-Some.ensures.steps (c.loop-line.invariant.clean is)).1;
+      same = refl;
+      so_far = goes _ _ _ _ _ _ _ (ap lines_of c.loop-line.invariant.same) c.loop-line.invariant.so_far _ _ _ c.in-Some.ensures.steps c.in_ok-current.ensures.exact;
     }
 
 pub returns-in_err-close : goal.returns-in_err-close
 returns-in_err-close c =
     let p = err_from_is_err_and c.from_residual-in_err-close.result c.from_residual-in_err-close.ensures.1 in
     record {
-      exact = rw (p.1, p.2) (inr (c.in_err-close.field-0.0, refl, ends_open _ _ _ _ _ _ _ c.loop-line.invariant.same c.loop-line.invariant.so_far c.in_err-close.field-0.0 c.in-None.ensures.steps.0 c.in_err-close.ensures.exact));
+      exact = rw (p.1, p.2) (inr (c.in_err-close.field-0.0, refl, ends_open _ _ _ _ _ _ _ (ap lines_of c.loop-line.invariant.same) c.loop-line.invariant.so_far c.in_err-close.field-0.0 c.in_default.ensures.steps.0 c.in_err-close.ensures.exact));
     }
 
 pub returns : goal.returns
 returns c = record {
-  exact = ends _ _ _ _ _ _ _ c.loop-line.invariant.same c.loop-line.invariant.so_far c.in-None.ensures.steps.0 c.in_ok-close.ensures.exact;
+  exact = ends _ _ _ _ _ _ _ (ap lines_of c.loop-line.invariant.same) c.loop-line.invariant.so_far c.in_default.ensures.steps.0 c.in_ok-close.ensures.exact;
 }
