@@ -1,7 +1,7 @@
 ghost use Rattle.std.specs.Prelude.{◌≡◌, ◌≢◌, ℕ, ◌≤◌, None, Some, IsFalse};
 ghost use Rattle.sk_numbers.specs.Numbers.{contains};
 ghost use Rattle.sk_world.specs.declared.process.TheConstants.{LAST_PID};
-ghost use Rattle.sk_world.specs.World.{at, parent_of};
+ghost use Rattle.sk_world.specs.World.{at};
 ghost use Rattle.sk_world.specs.Rules.{IsWorld};
 ghost use Rattle.sk_machine.specs.Turns.{next_of};
 ghost use Rattle.sk_candidates.specs.views.Noting.{AllRest, OthersRest, OthersAreThere, Notes, Forgets, LooksAt};
@@ -10,7 +10,7 @@ use crate::asking::first_runnable;
 use crate::resting::{hearer, parent_told, rests_as};
 use sk_numbers::NumberSet;
 use sk_turns::halted;
-use sk_world::{Body, INIT, LAST_PID, Links, Proc, ProcStore};
+use sk_world::{Body, INIT, LAST_PID, Links, Proc, ProcStore, parent_of};
 use std::alloc::{AllocError, Global};
 use std::marker::Model;
 
@@ -127,16 +127,6 @@ fn settle_touched<S: ProcStore>(store: &S, noted: &mut NumberSet, touched: u32, 
             }
         }
         None => forget(noted, touched),
-    }
-}
-
-/// The parent of a process, 0 where the process is not there.
-fn parent_of<S: ProcStore>(store: &S, pid: u32) -> u32
-    ensures { result ≡ parent_of (at (S.contents store.now) pid) }
-{
-    match store.get(pid) {
-        Some(process) => process.links.parent,
-        None => 0,
     }
 }
 

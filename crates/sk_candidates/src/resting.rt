@@ -1,12 +1,12 @@
 ghost use Rattle.std.specs.Prelude.{◌≡◌, ℕ, None, Some, IsTrue};
 ghost use Rattle.std.specs.Option.{is_some};
 ghost use Rattle.sk_world.specs.World.{at};
-ghost use Rattle.sk_world.specs.Waits.{is_asked_for, status_of_note, status_of_body};
+ghost use Rattle.sk_world.specs.Waits.{status_of_note, status_of_body};
 ghost use Rattle.sk_candidates.specs.views.Resting.{has_tidings, is_news, RestsAs, KeepsWaiting, IsStillAsking};
 
 use bitflags::Flags;
 use sk_turns::signal_for;
-use sk_world::{Body, Life, Note, Proc, ProcStore, Request, WaitOptions, Waiting, Who};
+use sk_world::{Body, Life, Note, Proc, ProcStore, Request, WaitOptions, Waiting, is_asked_for};
 
 /// The parent to whom the process has something to tell. The pid 0, which is nobody's, stands for no process.
 pub(crate) fn hearer<S: ProcStore>(store: &S, pid: u32) -> Option<u32>
@@ -74,16 +74,6 @@ fn is_still_asking<S: ProcStore>(store: &S, pid: u32, request: Request) -> bool
         after = child;
     }
     is_matched
-}
-
-fn is_asked_for(who: Who, pid: u32, process: &Proc) -> bool
-    ensures { result ≡ is_asked_for who pid process.now }
-{
-    match who {
-        Who::Child(child) => pid == child,
-        Who::Any => true,
-        Who::Group(group) => process.links.group == group,
-    }
 }
 
 /// Whether a wait4(2) with these options is told of a process with this body.

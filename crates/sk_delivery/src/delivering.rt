@@ -10,9 +10,9 @@ ghost use Rattle.sk_world.specs.World.{at, is_alive, changed};
 ghost use Rattle.sk_world.specs.Rules.{IsWorld};
 ghost use Rattle.sk_session.specs.Orphans.{ended_and_hung_up};
 ghost use Rattle.sk_machine.specs.declared.answer.Effect.TheVariants.{Ended};
-ghost use Rattle.sk_machine.specs.Delivering.{is_waiting, is_in_call, in_handler, enters_handler, stopping, acts_by_default, taking, acted_on, delivered};
+ghost use Rattle.sk_machine.specs.Delivering.{is_in_call, in_handler, enters_handler, stopping, acts_by_default, taking, acted_on, delivered};
 
-use sk_machine::Effect;
+use sk_machine::{Effect, is_waiting};
 use sk_session::{end, group_of, orphaned};
 use sk_signal::number::{SIGCHLD, SIGKILL, SIGSEGV, SIGSYS};
 use sk_signal::{DefaultAction, Disposition, SigSet, default_action, tty_stop};
@@ -133,12 +133,6 @@ fn is_in_call<S: ProcStore>(store: &S, pid: u32) -> bool
         Some(process) => is_waiting(process.body.waiting),
         None => false,
     }
-}
-
-fn is_waiting(waiting: Waiting) -> bool
-    ensures { result ≡ is_waiting waiting }
-{
-    !matches!(waiting, Waiting::Nothing)
 }
 
 /// Whether there was room for the frame.

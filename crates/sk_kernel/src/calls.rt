@@ -9,7 +9,6 @@ ghost use Rattle.sk_machine.specs.Memory.{may_grow, call_takes_memory};
 ghost use Rattle.sk_machine.specs.declared.answer.Outcome.TheVariants.{Returned};
 ghost use Rattle.sk_machine.specs.Performing.{end_of_caller};
 ghost use Rattle.sk_machine.specs.Machine.{judged, called};
-ghost use Rattle.sk_creds.specs.Errno.{number_of};
 ghost use Rattle.sk_signal.specs.declared.number.TheConstants.{SIGSYS};
 
 use sk_chain::Chain;
@@ -91,7 +90,7 @@ fn judge<S: ProcStore>(
             Ok(Outcome::Trapped)
         }
         Action::Errno => Ok(refused(verdict % 0x1_0000)),
-        Action::UserNotif | Action::Trace => Ok(failed(Errno::Enosys)),
+        Action::UserNotif | Action::Trace => Ok(Outcome::failed(Errno::Enosys)),
         Action::KillProcess | Action::KillThread | Action::Unknown => Ok(kill(store, pid)),
     }
 }
@@ -101,12 +100,6 @@ fn refused(errno: u32) -> Outcome
     ensures { result ≡ Returned (neg_ℤ (pos (min errno 4095))) }
 {
     Outcome::Returned(-i64::from(errno.min(MAX_ERRNO)))
-}
-
-fn failed(errno: Errno) -> Outcome
-    ensures { result ≡ Returned (neg_ℤ (pos (number_of errno))) }
-{
-    Outcome::Returned(-i64::from(errno.number()))
 }
 
 /// Ends a process whose filter kills it, as SIGSYS does.

@@ -43,6 +43,7 @@ pub enum Outcome {
 
 impl Outcome {
     /// What a call comes to that fails: it returns the negated error.
+    #[inline(always)]
     pub fn failed(errno: Errno) -> Outcome
         ensures { result ≡ Returned (neg_ℤ (pos (errno_of errno))) }
     {

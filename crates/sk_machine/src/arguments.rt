@@ -5,6 +5,7 @@ ghost use Rattle.sk_machine.specs.Arguments.{register, low, signed};
 use sk_insn::Record;
 
 /// All 64 bits of a register.
+#[inline(always)]
 pub fn register(call: &Record, n: usize) -> u64
     requires { n < 6 }
     ensures { result ≡ register call.now n }
@@ -13,6 +14,7 @@ pub fn register(call: &Record, n: usize) -> u64
 }
 
 /// The low 32 bits of a register, as a number without a sign.
+#[inline(always)]
 pub fn low(call: &Record, n: usize) -> u32
     requires { n < 6 }
     ensures { result ≡ low call.now n }
@@ -21,6 +23,7 @@ pub fn low(call: &Record, n: usize) -> u32
 }
 
 /// The same bits as a number with a sign.
+#[inline(always)]
 pub fn signed(call: &Record, n: usize) -> i32
     requires { n < 6 }
     ensures { result ≡ signed call.now n }

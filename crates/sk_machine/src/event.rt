@@ -1,5 +1,8 @@
 ghost use Rattle.std.specs.Prelude.{◌≡◌};
+ghost use Rattle.sk_machine.specs.Delivering.{is_waiting};
 ghost use Rattle.sk_machine.specs.Events.{pid_of};
+
+use sk_world::Waiting;
 
 /// One event of the kernel, in which it does all that it does at once.
 #[derive(Clone, Copy, PartialEq, Eq, Debug)]
@@ -48,4 +51,12 @@ impl Event {
             Event::Fault { pid } => pid,
         }
     }
+}
+
+/// Whether a process that waits for this waits in a call, which it resumes.
+#[inline(always)]
+pub fn is_waiting(waiting: Waiting) -> bool
+    ensures { result ≡ is_waiting waiting }
+{
+    !matches!(waiting, Waiting::Nothing)
 }

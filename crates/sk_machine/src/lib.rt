@@ -10,7 +10,7 @@ mod operation;
 
 pub use answer::{Answer, Effect, Outcome, Reason};
 pub use arguments::{low, register, signed};
-pub use event::{Event, Need};
+pub use event::{Event, Need, is_waiting};
 pub use images::{Images, Mark};
 pub use operation::{PrctlOption, SeccompOperation};
 pub use sk_calls::Syscall;

@@ -2,13 +2,16 @@
 
 use crate::sessions::world::setsid;
 use crate::world::{after_forks, end_of, stop};
+use bitflags::Flags;
 use sk_creds::Errno;
 use sk_insn::Record;
-use sk_machine::{Outcome, low, register, signed};
+use sk_machine::{Outcome, is_waiting, low, register, signed};
 use sk_session::{group_of, session_of};
 use sk_signal::number::SIGTSTP;
 use sk_table::{INIT, ListStore};
-use sk_world::{Who, is_alive, is_asked_for, is_stopped, is_zombie, parent_of};
+use sk_world::{
+    Request, WaitOptions, Waiting, Who, is_alive, is_asked_for, is_stopped, is_zombie, parent_of,
+};
 use std::test::Fail;
 
 #[test]
@@ -77,4 +80,19 @@ fn a_register_has_64_bits_and_a_low_half(rt: HostRuntime) {
 #[test]
 fn a_failed_call_returns_the_negated_error(rt: HostRuntime) {
     assert_eq!(rt; Outcome::failed(Errno::Esrch), Outcome::Returned(-3));
+}
+
+#[test]
+fn a_process_waits_in_pause_and_in_wait4(rt: HostRuntime) {
+    let asks = Waiting::Asks(Request {
+        who: Who::Any,
+        options: WaitOptions::empty(),
+    });
+    for (waiting, is) in [
+        (Waiting::Nothing, false),
+        (Waiting::Pause, true),
+        (asks, true),
+    ] {
+        assert!(rt; is_waiting(waiting) == is);
+    }
 }

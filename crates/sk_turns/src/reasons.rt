@@ -1,13 +1,13 @@
 ghost use Rattle.std.specs.Prelude.{◌≡◌, IfSome};
 ghost use Rattle.sk_signal.specs.SignalSet.{IsSignal};
 ghost use Rattle.sk_world.specs.World.{at};
-ghost use Rattle.sk_machine.specs.Delivering.{signal_for, signal_due, is_waiting};
+ghost use Rattle.sk_machine.specs.Delivering.{signal_for, signal_due};
 ghost use Rattle.sk_machine.specs.Machine.{reason_of, halted_of};
 ghost use Rattle.sk_turns.specs.views.OfProcess.{running_reason, stopped_reason, reason_for};
 
-use sk_machine::{Event, Reason};
+use sk_machine::{Event, Reason, is_waiting};
 use sk_signal::number::SIGKILL;
-use sk_world::{Body, INIT, Life, Proc, ProcStore, Waiting};
+use sk_world::{Body, INIT, Life, Proc, ProcStore};
 
 /// Why the event is not possible, if it is not: the first reason that holds.
 pub fn reason<S: ProcStore>(store: &S, event: &Event) -> Option<Reason>
@@ -89,15 +89,4 @@ pub fn signal_for(body: &Body) -> Option<u8>
         return body.signals.pending().contains(SIGKILL).then_some(SIGKILL);
     }
     body.signals.deliverable()
-}
-
-/// Whether a process that waits for this waits in a call.
-pub(crate) fn is_waiting(waiting: Waiting) -> bool
-    ensures { result ≡ is_waiting waiting }
-{
-    match waiting {
-        Waiting::Nothing => false,
-        Waiting::Pause => true,
-        Waiting::Asks(_) => true,
-    }
 }

@@ -4,8 +4,8 @@ ghost use Rattle.sk_world.specs.Rules.{IsWorld};
 ghost use Rattle.sk_machine.specs.Machine.{halted_of};
 ghost use Rattle.sk_machine.specs.Turns.{waits_no_more, is_runnable, need_of};
 
-use crate::reasons::{halted, is_waiting, signal_for};
-use sk_machine::Need;
+use crate::reasons::{halted, signal_for};
+use sk_machine::{Need, is_waiting};
 use sk_world::{Life, Poll, ProcStore, Request, Waiting, ready};
 
 /// Whether the process can run: it lives, and a signal is due, or it is not stopped and its call would not go on

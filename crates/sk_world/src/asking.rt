@@ -48,6 +48,7 @@ pub fn is_zombie<S: ProcStore>(store: &S, pid: u32) -> bool
 }
 
 /// Whether a process is one of those that a wait4(2) asks for.
+#[inline(always)]
 pub fn is_asked_for(who: Who, pid: u32, process: &Proc) -> bool
     ensures { result ≡ is_asked_for who pid process.now }
 {
