@@ -6,7 +6,7 @@ ghost use Rattle.sk_insn.specs.Actions.{performs};
 ghost use Rattle.sk_machine.specs.Machine.{reason_of, step_of};
 ghost use Rattle.sk_machine.specs.Events.{pid_of};
 ghost use Rattle.sk_machine.specs.declared.event.Event.TheVariants as event;
-ghost use Rattle.sk_report.specs.Levels.{begun, made, called, delivered, stacked, stacks_after, with_child, script_of_child, pid_in};
+ghost use Rattle.sk_report.specs.Levels.{begun, made, stacks_after, with_child, script_of_child, pid_in};
 ghost use Rattle.sk_report.specs.Scheduling.{line_due, event_by, address_of, closing, script_of};
 ghost use Rattle.sk_sched.specs.views.Stacks.{is_fork, is_other_call, stack_of, stacks_of, HasRoom, ChildIsLow, IsReady};
 
