@@ -6,9 +6,9 @@ ghost use Rattle.sk_insn.specs.Actions.{performs};
 ghost use Rattle.sk_machine.specs.Machine.{reason_of, step_of};
 ghost use Rattle.sk_machine.specs.Events.{pid_of};
 ghost use Rattle.sk_machine.specs.declared.event.Event.TheVariants as event;
-ghost use Rattle.sk_report.specs.Levels.{begun, made, called, delivered, stacked, stacks_after, with_child, script_of_child, pid_in};
+ghost use Rattle.sk_report.specs.Levels.{begun, made, stacks_after, with_child, script_of_child, pid_in};
 ghost use Rattle.sk_report.specs.Scheduling.{line_due, event_by, address_of, closing, script_of};
-ghost use Rattle.sk_sched.specs.views.Stacks.{is_fork, is_other_call, stack_of, stacks_of, HasRoom, ChildIsLow};
+ghost use Rattle.sk_sched.specs.views.Stacks.{is_fork, is_other_call, stack_of, stacks_of, HasRoom, ChildIsLow, IsReady};
 
 use crate::levels::Levels;
 use crate::stacks::{Stacks, follow, follow_delivery, levels_at, make_room, make_room_above, put};
@@ -109,39 +109,62 @@ pub(crate) fn make<S: ProcStore>(
     ensures kept_stacks { OnErr result (stacks_of stacks.new.items ≡ stacks_of stacks.old.items) }
     ensures images { kernel.new.images ≡ kernel.old.images }
 {
+    let copy = prepare(stacks, alloc, event)?;
+    let answer = kernel.happen(event)?;
+    follow_event(stacks, alloc, copy, line, event, &answer);
+    Ok(answer)
+}
+
+/// Makes the room that an event may need, and a copy of the levels of who forks. The levels of all processes stay as
+/// they are.
+fn prepare(stacks: &mut Stacks, alloc: Global, event: &Event) -> Result<Option<Levels>, AllocError>
+    requires there { pid_of event.now < vec_len stacks.old }
+    ensures stacks { stacks_of stacks.new.items ≡ stacks_of stacks.old.items }
+    ensures there { vec_len stacks.new ≡ vec_len stacks.old }
+    ensures ready { IfOk result (λ copy. IsReady stacks.new.items (vec_capacity stacks.new) event.now copy) }
+{
     match event {
-        Event::Call { nr, .. } => {
-            if *nr == Syscall::Fork.number() {
-                fork(kernel, stacks, alloc, line, event)
-            } else {
-                make_call(kernel, stacks, line, event)
-            }
+        Event::Call { pid, nr, .. } if *nr == Syscall::Fork.number() => {
+            make_room(stacks)?;
+            Ok(Some(levels_at(stacks, *pid as usize).copy(alloc)?))
         }
-        Event::Deliver { pid } => deliver(kernel, stacks, *pid),
-        Event::Resume { .. } => kernel.happen(event),
-        Event::Fault { .. } => kernel.happen(event),
+        Event::Call { .. } => Ok(None),
+        Event::Deliver { pid } => {
+            make_room_above(stacks, *pid as usize)?;
+            Ok(None)
+        }
+        Event::Resume { .. } => Ok(None),
+        Event::Fault { .. } => Ok(None),
     }
 }
 
-/// A signal is delivered: a handler begins, or the levels stay.
-fn deliver<S: ProcStore>(
-    kernel: &mut Kernel<S>,
+/// All levels after an event, for which all is ready.
+fn follow_event(
     stacks: &mut Stacks,
-    pid: u32,
-) -> Result<Answer, AllocError>
-    requires possible { reason_of kernel.old.world (event.Deliver pid) ≡ None }
-    requires there { pid < vec_len stacks.old }
-    ensures answer { IfOk result (λ answer. answer ≡ (step_of kernel.old.images kernel.old.world (event.Deliver pid)).answer) }
-    ensures world { OnOk result (kernel.new.world ≡ (step_of kernel.old.images kernel.old.world (event.Deliver pid)).world) }
-    ensures stacks { IfOk result (λ answer. stacks_of stacks.new.items ≡ stacks_after None (event.Deliver pid) answer (stacks_of stacks.old.items)) }
-    ensures kept { OnErr result (kernel.new.world ≡ kernel.old.world) }
-    ensures kept_stacks { OnErr result (stacks_of stacks.new.items ≡ stacks_of stacks.old.items) }
-    ensures images { kernel.new.images ≡ kernel.old.images }
+    alloc: Global,
+    copy: Option<Levels>,
+    line: Option<&ScriptCall>,
+    event: &Event,
+    answer: &Answer,
+)
+    requires there { pid_of event.now < vec_len stacks.old }
+    requires room { IfSome line (λ _. (stacks_of stacks.old.items (pid_of event.now)).top.position < 2 ^ 63) }
+    requires ready { IsReady stacks.old.items (vec_capacity stacks.old) event.now copy }
+    requires child { IsTrue (is_fork event.now) → ChildIsLow answer.now }
+    ensures stacks { stacks_of stacks.new.items ≡ stacks_after (option_copied line.entry) event.now answer.now (stacks_of stacks.old.items) }
 {
-    make_room_above(stacks, pid as usize)?;
-    let answer = kernel.happen(&Event::Deliver { pid })?;
-    follow_signal(stacks, pid, &answer);
-    Ok(answer)
+    match event {
+        Event::Call { nr, .. } if *nr == Syscall::Fork.number() => {
+            match copy {
+                Some(copy) => follow_fork(stacks, alloc, copy, line, event, answer),
+                None => unreachable!(),
+            }
+        }
+        Event::Call { .. } => follow_call(stacks, line, event, answer),
+        Event::Deliver { pid } => follow_signal(stacks, *pid, answer),
+        Event::Resume { .. } => {}
+        Event::Fault { .. } => {}
+    }
 }
 
 /// The levels after a delivery.
@@ -153,29 +176,6 @@ fn follow_signal(stacks: &mut Stacks, pid: u32, answer: &Answer)
     if let Answer::Signal { effect, .. } = *answer {
         follow_delivery(stacks, pid as usize, effect);
     }
-}
-
-/// A call that makes no process.
-fn make_call<S: ProcStore>(
-    kernel: &mut Kernel<S>,
-    stacks: &mut Stacks,
-    line: Option<&ScriptCall>,
-    event: &Event,
-) -> Result<Answer, AllocError>
-    requires possible { reason_of kernel.old.world event.now ≡ None }
-    requires there { pid_of event.now < vec_len stacks.old }
-    requires room { IfSome line (λ _. (stacks_of stacks.old.items (pid_of event.now)).top.position < 2 ^ 63) }
-    requires other { IsTrue (is_other_call event.now) }
-    ensures answer { IfOk result (λ answer. answer ≡ (step_of kernel.old.images kernel.old.world event.now).answer) }
-    ensures world { OnOk result (kernel.new.world ≡ (step_of kernel.old.images kernel.old.world event.now).world) }
-    ensures stacks { IfOk result (λ answer. stacks_of stacks.new.items ≡ stacks_after (option_copied line.entry) event.now answer (stacks_of stacks.old.items)) }
-    ensures kept { OnErr result (kernel.new.world ≡ kernel.old.world) }
-    ensures kept_stacks { OnErr result (stacks_of stacks.new.items ≡ stacks_of stacks.old.items) }
-    ensures images { kernel.new.images ≡ kernel.old.images }
-{
-    let answer = kernel.happen(event)?;
-    follow_call(stacks, line, event, &answer);
-    Ok(answer)
 }
 
 /// The levels after a call that makes no process.
@@ -191,32 +191,6 @@ fn follow_call(stacks: &mut Stacks, line: Option<&ScriptCall>, event: &Event, an
             follow(stacks, line, *pid, *ip, *nr, args, performed, outcome);
         }
     }
-}
-
-/// A fork(2): a child that it makes has a copy of its parent's levels.
-fn fork<S: ProcStore>(
-    kernel: &mut Kernel<S>,
-    stacks: &mut Stacks,
-    alloc: Global,
-    line: Option<&ScriptCall>,
-    event: &Event,
-) -> Result<Answer, AllocError>
-    requires possible { reason_of kernel.old.world event.now ≡ None }
-    requires there { pid_of event.now < vec_len stacks.old }
-    requires room { IfSome line (λ _. (stacks_of stacks.old.items (pid_of event.now)).top.position < 2 ^ 63) }
-    requires fork { IsTrue (is_fork event.now) }
-    ensures answer { IfOk result (λ answer. answer ≡ (step_of kernel.old.images kernel.old.world event.now).answer) }
-    ensures world { OnOk result (kernel.new.world ≡ (step_of kernel.old.images kernel.old.world event.now).world) }
-    ensures stacks { IfOk result (λ answer. stacks_of stacks.new.items ≡ stacks_after (option_copied line.entry) event.now answer (stacks_of stacks.old.items)) }
-    ensures kept { OnErr result (kernel.new.world ≡ kernel.old.world) }
-    ensures kept_stacks { OnErr result (stacks_of stacks.new.items ≡ stacks_of stacks.old.items) }
-    ensures images { kernel.new.images ≡ kernel.old.images }
-{
-    make_room(stacks)?;
-    let copy = levels_at(stacks, event.pid() as usize).copy(alloc)?;
-    let answer = kernel.happen(event)?;
-    follow_fork(stacks, alloc, copy, line, event, &answer);
-    Ok(answer)
 }
 
 /// The levels after a fork(2), of the caller and of the child.

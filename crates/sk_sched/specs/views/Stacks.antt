@@ -1,5 +1,5 @@
 -- The code's levels as the definitions see them.
-use Rattle.std.specs.Prelude.{ℕ, ◌<◌, ◌≤◌, Bool, false, not, ◌==◌, IfSome, List, reverse, slice_get, vec_len, vec_capacity, ⊤}
+use Rattle.std.specs.Prelude.{ℕ, ◌≡◌, ◌<◌, ◌≤◌, Bool, false, not, ◌==◌, IfSome, IsTrue, Option, Some, None, List, reverse, slice_get, vec_len, vec_capacity, ⊤}
 use Rattle.std.specs.Option.{option_map_or}
 use Rattle.sk_calls.specs.declared.syscall.Syscall.TheVariants as syscall
 use Rattle.sk_calls.specs.Syscalls.{number_of}
@@ -7,7 +7,7 @@ use Rattle.sk_world.specs.declared.process.TheConstants.{LAST_PID}
 use Rattle.sk_machine.specs.declared.answer.Answer.{Answer}
 use Rattle.sk_machine.specs.declared.answer.Answer.TheVariants as answer
 use Rattle.sk_machine.specs.declared.event.Event.{Event}
-use Rattle.sk_machine.specs.declared.event.Event.TheVariants.{Call}
+use Rattle.sk_machine.specs.declared.event.Event.TheVariants.{Call, Deliver}
 use Rattle.sk_report.specs.Levels.{Stack, Stacks, first_call, alone, pid_in}
 use Rattle.sk_sched.specs.declared.levels.Levels.{Levels}
 
@@ -40,3 +40,17 @@ is_fork other = false
 abbrev pub ChildIsLow : Answer → Type 0
 ChildIsLow (answer.Call verdict outcome) = IfSome (pid_in outcome) (λ child. child ≤ LAST_PID)
 ChildIsLow other = ⊤
+
+-- ---- what is made ready for an event
+
+-- these are those levels
+abbrev pub IsCopy : Stack → Option Levels → Type 0
+IsCopy s (Some levels) = stack_of levels ≡ s
+IsCopy s None = ⊥
+
+-- for a fork(2) there is room for the place of each pid that there may be, and a copy of the levels of its caller; for a delivery there
+-- is room for the level of a handler
+abbrev pub IsReady : List Levels → ℕ → Event → Option Levels → Type 0
+IsReady places room (Call pid ip nr args) copy = IsTrue (nr == number_of syscall.Fork) → (LAST_PID < room) × IsCopy (stacks_of places pid) copy
+IsReady places room (Deliver pid) copy = IfSome (slice_get places pid) HasRoom
+IsReady places room other copy = ⊤
