@@ -10,5 +10,5 @@ mod turn;
 
 pub use level::Level;
 pub use rows::worked_reports;
-pub use text::{Line, turn_line, write_end, write_happening, write_line};
+pub use text::{Line, turn_line, write_line};
 pub use turn::{End, Turn};

@@ -43,7 +43,7 @@ pub fn write_line(text: &mut Line, turn: &Turn)
 
 /// The line of a turn with this number, event and answer, in the place of what was written there.
 #[tactic(auto, unfolding(crate::specs::Text::turn_text))]
-pub fn write_happening(text: &mut Line, turn: u32, event: &Event, answer: &Answer)
+fn write_happening(text: &mut Line, turn: u32, event: &Event, answer: &Answer)
     ensures text { text.new.bytes ≡ line (told.Line turn event.now answer.now) }
 {
     text.clear();
@@ -57,7 +57,7 @@ pub fn write_happening(text: &mut Line, turn: u32, event: &Event, answer: &Answe
 
 /// The line of the end, in the place of what was written there.
 #[tactic(auto, unfolding(crate::specs::Text::turn_text))]
-pub fn write_end(text: &mut Line, end: End)
+fn write_end(text: &mut Line, end: End)
     ensures text { text.new.bytes ≡ line (told.End end) }
 {
     text.clear();
