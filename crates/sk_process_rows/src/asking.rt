@@ -8,7 +8,7 @@ use sk_insn::Record;
 use sk_machine::{Outcome, is_waiting, low, register, signed};
 use sk_session::{group_of, session_of};
 use sk_signal::number::SIGTSTP;
-use sk_table::{INIT, ListStore};
+use sk_table::{INIT, ListStore, ProcStore};
 use sk_world::{
     Request, WaitOptions, Waiting, Who, is_alive, is_asked_for, is_stopped, is_zombie, parent_of,
 };
