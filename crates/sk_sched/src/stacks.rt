@@ -22,11 +22,10 @@ pub(crate) fn reach(stacks: &mut Stacks, alloc: Global, pid: u32) -> Result<(), 
     ensures there { OnOk result (pid < vec_len stacks.new) }
 {
     let place = pid as usize;
-    let len = stacks.len();
-    if len <= place {
-        stacks.reserve(place - len + 1)?;
-        fill(stacks, alloc, place);
+    if stacks.capacity() <= place {
+        stacks.reserve(place + 1 - stacks.len())?;
     }
+    fill(stacks, alloc, place);
     Ok(())
 }
 
