@@ -1,4 +1,4 @@
--- Who rests still, after a process was changed.
+-- Who is still blocked, after a process was changed.
 use Rattle.std.proofs.Common.{◌≡◌, ◌≢◌, ◌∙◌, ◌≤◌, ℕ, arith, List, [], ap, sym, refl, subst, true, false, cond, ◌==◌, ◌&&◌, ◌||◌, IsTrue, IsFalse, Option, None, Some}
 use Rattle.std.specs.Option.{is_some, option_map}
 use Rattle.std.proofs.lemmas.Bool.{false≢true, eq-eqb, eqb-true, eqb-false, ne_eqb, and_parts}
@@ -20,8 +20,8 @@ use Rattle.sk_world.proofs.Stored.{everywhere, at_here, at_other}
 use Rattle.sk_numbers.specs.Numbers.{contains}
 use Rattle.sk_world.specs.declared.process.TheConstants.{LAST_PID}
 use Rattle.sk_candidates.proofs.Idle.{unready_as}
-use Rattle.sk_candidates.specs.views.Noting.{AllRest, OthersAreThere, IsNoted, Notes, Forgets, LooksAt}
-use Rattle.sk_candidates.specs.views.Resting.{has_tidings, is_news, IsStillAsking, KeepsWaiting, RestsBy, RestsAs, Rests}
+use Rattle.sk_candidates.specs.views.Noting.{AllBlocked, OthersAreThere, IsNoted, Notes, Forgets, LooksAt}
+use Rattle.sk_candidates.specs.views.Blocked.{has_status_change, has_change_for, IsStillAsking, KeepsWaiting, BlockedBy, BlockedAs, IsBlocked}
 
 -- in another world, where it goes on asking whatever it asked
 module _ (w now : World) (pid : ℕ) (asks : (request : Request) → IsStillAsking w pid request → IsStillAsking now pid request) where
@@ -30,17 +30,17 @@ module _ (w now : World) (pid : ℕ) (asks : (request : Request) → IsStillAski
   waits_on waiting.Pause keeps = keeps
   waits_on (waiting.Asks request) keeps = asks request keeps
 
-  rests_by : (body : Body) (l : Life) → RestsBy w pid body l → RestsBy now pid body l
-  rests_by body (Zombie status) rests = rests
-  rests_by body Stopped rests = rests
-  rests_by body Running rests = (rests.0, waits_on body.waiting rests.1)
+  blocked_by : (body : Body) (l : Life) → BlockedBy w pid body l → BlockedBy now pid body l
+  blocked_by body (Zombie status) blocked = blocked
+  blocked_by body Stopped blocked = blocked
+  blocked_by body Running blocked = (blocked.0, waits_on body.waiting blocked.1)
 
-  rests_on : (o : Option Proc) → RestsAs w pid o → RestsAs now pid o
-  rests_on None rests = tt
-  rests_on (Some p) rests = rests_by p.body p.body.life rests
+  blocked_on : (o : Option Proc) → BlockedAs w pid o → BlockedAs now pid o
+  blocked_on None blocked = tt
+  blocked_on (Some p) blocked = blocked_by p.body p.body.life blocked
 
 -- after the process of a pid became another, or went
-module _ (w : World) (pid : ℕ) (o : Option Proc) (q : ℕ) (none : IsFalse (is_news q o))
+module _ (w : World) (pid : ℕ) (o : Option Proc) (q : ℕ) (none : IsFalse (has_change_for q o))
     (keeps : (request : Request) → IsTrue (is_match q request pid (at w pid)) → IsTrue (is_match q request pid o)) where
   asks_on : (request : Request) → IsStillAsking w q request → IsStillAsking (stored w pid o) q request
   asks_on request asks =
@@ -59,13 +59,13 @@ module _ (w : World) (pid : ℕ) (o : Option Proc) (q : ℕ) (none : IsFalse (is
         unready = everywhere w pid o (λ k x. IsFalse (is_match q request k x && is_some (status_of request.options x))) (unready_as q request pid o none) (λ k ne. asks.unready k);
       }
 
-  pub rests_stored : (q ≡ pid → RestsAs w q (at w q) → RestsAs w q o) → Rests w q → Rests (stored w pid o) q
-  rests_stored own rests =
-      rests_on w (stored w pid o) q asks_on (at (stored w pid o) q)
-      (subst (RestsAs w q) (sym (get_store w.procs pid o q)) (
-      elim (q == pid) as (λ b. (q == pid) ≡ b → RestsAs w q (cond b o (at w q))) [
-        | true ↦ λ is. own (eqb-true q pid is) rests
-        | false ↦ λ _. rests
+  pub blocked_stored : (q ≡ pid → BlockedAs w q (at w q) → BlockedAs w q o) → IsBlocked w q → IsBlocked (stored w pid o) q
+  blocked_stored own blocked =
+      blocked_on w (stored w pid o) q asks_on (at (stored w pid o) q)
+      (subst (BlockedAs w q) (sym (get_store w.procs pid o q)) (
+      elim (q == pid) as (λ b. (q == pid) ≡ b → BlockedAs w q (cond b o (at w q))) [
+        | true ↦ λ is. own (eqb-true q pid is) blocked
+        | false ↦ λ _. blocked
       ] refl))
 
 -- ---- the changes of a store
@@ -80,53 +80,53 @@ same_match q request pid body None match = match
 same_match q request pid body (Some p) match = sym (ap (λ b. (p.links.parent == q) && b) (same_asked request.who pid p body)) ∙ match
 
 -- a body was lent
-pub rests_lent : (w : World) (pid : ℕ) (body : Body) (q : ℕ) → q ≢ pid → IsFalse (is_news q (at (with_body w pid body) pid)) → Rests w q → Rests (with_body w pid body) q
-rests_lent w pid body q other none rests =
-    rests_stored w pid (option_map (body_changed (λ old. body)) (at w pid)) q
-    (subst (λ x. IsFalse (is_news q x)) (at_here w pid (option_map (body_changed (λ old. body)) (at w pid))) none)
+pub blocked_lent : (w : World) (pid : ℕ) (body : Body) (q : ℕ) → q ≢ pid → IsFalse (has_change_for q (at (with_body w pid body) pid)) → IsBlocked w q → IsBlocked (with_body w pid body) q
+blocked_lent w pid body q other none blocked =
+    blocked_stored w pid (option_map (body_changed (λ old. body)) (at w pid)) q
+    (subst (λ x. IsFalse (has_change_for q x)) (at_here w pid (option_map (body_changed (λ old. body)) (at w pid))) none)
     (λ request match. same_match q request pid body (at w pid) match)
     (λ same _. absurd (other same))
-    rests
+    blocked
 
 no_child : (q : ℕ) (request : Request) (pid : ℕ) (o : Option Proc) → q ≢ parent_of o → IsTrue (is_match q request pid o) → ⊥
 no_child q request pid None other match = false≢true match
 no_child q request pid (Some p) other match = other (sym (eqb-true p.links.parent q (and_parts (p.links.parent == q) (is_asked_for request.who pid p) match).0))
 
-no_news : (q : ℕ) (o : Option Proc) → q ≢ parent_of o → IsFalse (is_news q o)
-no_news q None other = refl
-no_news q (Some p) other = ap (λ b. b && has_tidings p.body) (ne_eqb p.links.parent q (λ e. other (sym e)))
+no_change : (q : ℕ) (o : Option Proc) → q ≢ parent_of o → IsFalse (has_change_for q o)
+no_change q None other = refl
+no_change q (Some p) other = ap (λ b. b && has_status_change p.body) (ne_eqb p.links.parent q (λ e. other (sym e)))
 
 -- links were changed
-pub rests_relinked : (w : World) (pid : ℕ) (links : Links) (q : ℕ) → q ≢ parent_of (at w pid) → q ≢ links.parent → Rests w q → Rests (with_links w pid links) q
-rests_relinked w pid links q old new rests =
-    rests_stored w pid (option_map (links_changed (λ old. links)) (at w pid)) q
-    (no_news_new (at w pid))
+pub blocked_relinked : (w : World) (pid : ℕ) (links : Links) (q : ℕ) → q ≢ parent_of (at w pid) → q ≢ links.parent → IsBlocked w q → IsBlocked (with_links w pid links) q
+blocked_relinked w pid links q old new blocked =
+    blocked_stored w pid (option_map (links_changed (λ old. links)) (at w pid)) q
+    (no_change_new (at w pid))
     (λ request match. absurd (no_child q request pid (at w pid) old match))
-    (λ same rests. same_body (at w pid) (subst (λ k. RestsAs w q (at w k)) same rests))
-    rests
+    (λ same blocked. same_body (at w pid) (subst (λ k. BlockedAs w q (at w k)) same blocked))
+    blocked
   where
-    no_news_new : (o : Option Proc) → IsFalse (is_news q (option_map (links_changed (λ old. links)) o))
-    no_news_new None = refl
-    no_news_new (Some p) = ap (λ b. b && has_tidings p.body) (ne_eqb links.parent q (λ e. new (sym e)))
+    no_change_new : (o : Option Proc) → IsFalse (has_change_for q (option_map (links_changed (λ old. links)) o))
+    no_change_new None = refl
+    no_change_new (Some p) = ap (λ b. b && has_status_change p.body) (ne_eqb links.parent q (λ e. new (sym e)))
 
-    same_body : (o : Option Proc) → RestsAs w q o → RestsAs w q (option_map (links_changed (λ old. links)) o)
-    same_body None rests = rests
-    same_body (Some p) rests = rests
+    same_body : (o : Option Proc) → BlockedAs w q o → BlockedAs w q (option_map (links_changed (λ old. links)) o)
+    same_body None blocked = blocked
+    same_body (Some p) blocked = blocked
 
 -- a process came
-pub rests_inserted : (w : World) (pid : ℕ) (p : Proc) (q : ℕ) → at w pid ≡ None → q ≢ pid → q ≢ p.links.parent → Rests w q → Rests (inserted w pid p) q
-rests_inserted w pid p q free other parent rests =
-    rests_on (stored w pid (Some p)) (inserted w pid p) q (λ request asks. record { matched = asks.matched; unready = asks.unready }) (at (stored w pid (Some p)) q)
-    (rests_stored w pid (Some p) q
-    (no_news q (Some p) parent)
+pub blocked_inserted : (w : World) (pid : ℕ) (p : Proc) (q : ℕ) → at w pid ≡ None → q ≢ pid → q ≢ p.links.parent → IsBlocked w q → IsBlocked (inserted w pid p) q
+blocked_inserted w pid p q free other parent blocked =
+    blocked_on (stored w pid (Some p)) (inserted w pid p) q (λ request asks. record { matched = asks.matched; unready = asks.unready }) (at (stored w pid (Some p)) q)
+    (blocked_stored w pid (Some p) q
+    (no_change q (Some p) parent)
     (λ request match. absurd (false≢true (subst (λ o. IsTrue (is_match q request pid o)) free match)))
     (λ same _. absurd (other same))
-    rests)
+    blocked)
 
 -- a process went
-pub rests_removed : (w : World) (pid q : ℕ) → q ≢ parent_of (at w pid) → Rests w q → Rests (stored w pid None) q
-rests_removed w pid q other rests =
-    rests_stored w pid None q refl (λ request match. absurd (no_child q request pid (at w pid) other match)) (λ _ _. tt) rests
+pub blocked_removed : (w : World) (pid q : ℕ) → q ≢ parent_of (at w pid) → IsBlocked w q → IsBlocked (stored w pid None) q
+blocked_removed w pid q other blocked =
+    blocked_stored w pid None q refl (λ request match. absurd (no_child q request pid (at w pid) other match)) (λ _ _. tt) blocked
 
 -- ---- what is noted, after a change
 
@@ -176,21 +176,21 @@ nobody_inserted w pid p nobody given = nobody_stored w pid (Some p) nobody (λ s
     not_0 same = omega (arith, same, given)
 
 -- who was looked at, by another name
-looked_at : (w : World) (pid : ℕ) {before now : List ℕ} → LooksAt w pid before now → (q : ℕ) → q ≤ LAST_PID → IsFalse (contains now q) → q ≡ pid → Rests w q
+looked_at : (w : World) (pid : ℕ) {before now : List ℕ} → LooksAt w pid before now → (q : ℕ) → q ≤ LAST_PID → IsFalse (contains now q) → q ≡ pid → IsBlocked w q
 looked_at w pid {now = now} looks q within out same =
-    subst (Rests w) (sym same) (looks.rests (subst (λ k. k ≤ LAST_PID) same within) (subst (λ k. IsFalse (contains now k)) same out))
+    subst (IsBlocked w) (sym same) (looks.blocked (subst (λ k. k ≤ LAST_PID) same within) (subst (λ k. IsFalse (contains now k)) same out))
 
 seen : (w : World) (pid : ℕ) {before now : List ℕ} → LooksAt w pid before now → (q : ℕ) → q ≤ LAST_PID → IsTrue (contains now q) → q ≡ pid → IsTrue (is_some (at w q))
 seen w pid {now = now} looks q within is same =
     subst (λ k. IsTrue (is_some (at w k))) (sym same) (looks.there (subst (λ k. k ≤ LAST_PID) same within) (subst (λ k. IsTrue (contains now k)) same is))
 
-module _ (w : World) (nobody : at w 0 ≡ None) (before : List ℕ) (all : AllRest w before) (first : List ℕ) where
+module _ (w : World) (nobody : at w 0 ≡ None) (before : List ℕ) (all : AllBlocked w before) (first : List ℕ) where
   pub noted_lent : (pid : ℕ) (body : Body) → OthersAreThere w before pid → Notes pid before first → IsNoted (with_body w pid body) first pid
   noted_lent pid body known notes = record {
     nobody = nobody_lent w pid body nobody;
     others = λ q within out none.
         let other = unnoted_other pid before first notes q within out in
-        rests_lent w pid body q other none (all q within (sym (notes.others q other) ∙ out));
+        blocked_lent w pid body q other none (all q within (sym (notes.others q other) ∙ out));
     there = λ q some within other is. still_there w pid (body_changed (λ old. body)) q (known q some within other (sym (notes.others q other) ∙ is));
   }
 
@@ -200,12 +200,12 @@ module _ (w : World) (nobody : at w 0 ≡ None) (before : List ℕ) (all : AllRe
         → IsNoted (stored w pid None) second (parent_of (at w pid))
     noted_removed pid known notes forgets = record {
       nobody = nobody_stored w pid None nobody (λ _. refl);
-      others = λ q within out _. by_same q pid (Rests (stored w pid None) q)
-          (λ same. subst (Rests (stored w pid None)) (sym same) (subst (RestsAs (stored w pid None) pid) (sym (at_here w pid None)) tt))
+      others = λ q within out _. by_same q pid (IsBlocked (stored w pid None) q)
+          (λ same. subst (IsBlocked (stored w pid None)) (sym same) (subst (BlockedAs (stored w pid None) pid) (sym (at_here w pid None)) tt))
           (λ other.
           let outside = sym (forgets.others q other) ∙ out in
           let apart = unnoted_other (parent_of (at w pid)) before first notes q within outside in
-          rests_removed w pid q apart (all q within (sym (notes.others q apart) ∙ outside)));
+          blocked_removed w pid q apart (all q within (sym (notes.others q apart) ∙ outside)));
       there = λ q some within apart is. by_same q pid (IsTrue (is_some (at (stored w pid None) q)))
           (λ same. absurd (false≢true (sym (forgets.own (subst (λ k. k ≤ LAST_PID) same within)) ∙ subst (λ k. IsTrue (contains second k)) same is)))
           (λ other. subst (λ o. IsTrue (is_some o)) (sym (at_other w pid None q other)) (known q some within apart (sym (notes.others q apart) ∙ sym (forgets.others q other) ∙ is)));
@@ -216,12 +216,12 @@ module _ (w : World) (nobody : at w 0 ≡ None) (before : List ℕ) (all : AllRe
         → IsNoted (with_links w pid links) second links.parent
     noted_relinked pid links known notes looks = record {
       nobody = nobody_relinked w pid links nobody;
-      others = λ q within out _. by_same q (parent_of (at w pid)) (Rests (with_links w pid links) q)
+      others = λ q within out _. by_same q (parent_of (at w pid)) (IsBlocked (with_links w pid links) q)
           (λ same. looked_at (with_links w pid links) (parent_of (at w pid)) looks q within out same)
           (λ other.
           let outside = sym (looks.others q other) ∙ out in
           let apart = unnoted_other links.parent before first notes q within outside in
-          rests_relinked w pid links q other apart (all q within (sym (notes.others q apart) ∙ outside)));
+          blocked_relinked w pid links q other apart (all q within (sym (notes.others q apart) ∙ outside)));
       there = λ q some within apart is. by_same q (parent_of (at w pid)) (IsTrue (is_some (at (with_links w pid links) q)))
           (λ same. seen (with_links w pid links) (parent_of (at w pid)) looks q within is same)
           (λ other. still_there w pid (links_changed (λ old. links)) q (known q some within apart (sym (notes.others q apart) ∙ sym (looks.others q other) ∙ is)));
@@ -232,12 +232,12 @@ module _ (w : World) (nobody : at w 0 ≡ None) (before : List ℕ) (all : AllRe
         → IsNoted (inserted w pid p) second pid
     noted_inserted pid p free given known notes looks = record {
       nobody = nobody_inserted w pid p nobody given;
-      others = λ q within out _. by_same q p.links.parent (Rests (inserted w pid p) q)
+      others = λ q within out _. by_same q p.links.parent (IsBlocked (inserted w pid p) q)
           (λ same. looked_at (inserted w pid p) p.links.parent looks q within out same)
           (λ other.
           let outside = sym (looks.others q other) ∙ out in
           let apart = unnoted_other pid before first notes q within outside in
-          rests_inserted w pid p q free apart other (all q within (sym (notes.others q apart) ∙ outside)));
+          blocked_inserted w pid p q free apart other (all q within (sym (notes.others q apart) ∙ outside)));
       there = λ q some within apart is. by_same q p.links.parent (IsTrue (is_some (at (inserted w pid p) q)))
           (λ same. seen (inserted w pid p) p.links.parent looks q within is same)
           (λ other. subst (λ o. IsTrue (is_some o)) (sym (at_other w pid (Some p) q apart)) (known q some within apart (sym (notes.others q apart) ∙ sym (looks.others q other) ∙ is)));
@@ -248,9 +248,9 @@ pub noted_opening : (w : World) (none_yet first : List ℕ) → w ≡ opening �
 unfolding contains
 noted_opening w none_yet first is empty put = record {
   nobody = ap (λ v. at v 0) is;
-  others = λ q within out _. by_same q 1 (Rests w q)
+  others = λ q within out _. by_same q 1 (IsBlocked w q)
       (λ same. absurd (false≢true (sym out ∙ put q ∙ ap (λ b. b || contains none_yet q) (eq-eqb q 1 same))))
-      (λ other. subst (λ v. Rests v q) (sym is) (subst (RestsAs opening q) (sym (at_other nobody_yet 1 (Some first_process) q other)) tt));
+      (λ other. subst (λ v. IsBlocked v q) (sym is) (subst (BlockedAs opening q) (sym (at_other nobody_yet 1 (Some first_process) q other)) tt));
   there = λ q some within other noted. absurd (false≢true (sym (put q ∙ ap (λ l. (q == 1) || contains l q) empty ∙ ap (λ b. b || false) (ne_eqb q 1 other)) ∙ noted));
 }
   where

@@ -1,4 +1,4 @@
--- Who rests cannot run.
+-- Who is blocked cannot run.
 use Rattle.std.proofs.Common.{◌≡◌, ◌∙◌, ℕ, ap, sym, refl, Bool, true, false, not, ◌==◌, ◌&&◌, ◌||◌, IsTrue, Option, None, Some}
 use Rattle.std.specs.Option.{is_some}
 use Rattle.std.proofs.lemmas.Bool.{false≢true}
@@ -18,28 +18,28 @@ use Rattle.sk_world.specs.Waits.{is_asked_for, is_match, is_ready, status_of_bod
 use Rattle.sk_world.proofs.Walks.{any_here, none_any}
 use Rattle.sk_machine.specs.Delivering.{signal_for, signal_due}
 use Rattle.sk_machine.specs.Turns.{waits_no_more, goes_on, is_runnable}
-use Rattle.sk_candidates.specs.views.Resting.{is_untold, has_tidings, is_news, KeepsWaiting, RestsBy, RestsAs, Rests}
+use Rattle.sk_candidates.specs.views.Blocked.{is_unreported, has_status_change, has_change_for, KeepsWaiting, BlockedBy, BlockedAs, IsBlocked}
 
 and_none : (b : Bool) → (b && false) ≡ false
 and_none true = refl
 and_none false = refl
 
--- where there is nothing to tell wait4(2) finds no status, whatever it asks for
-untold : (options : WaitOptions) (n : Note) (l : Life) → (has_ended l || is_untold n) ≡ false → is_some (status_of_body options n l) ≡ false
-untold options n (Zombie status) none = absurd (false≢true (sym none))
-untold options note.Nothing Stopped none = refl
-untold options (note.Stopped n) Stopped none = absurd (false≢true (sym none))
-untold options note.Continued Stopped none = absurd (false≢true (sym none))
-untold options note.Nothing Running none = refl
-untold options (note.Stopped n) Running none = absurd (false≢true (sym none))
-untold options note.Continued Running none = absurd (false≢true (sym none))
+-- where there is no status change wait4(2) finds no status, whatever it asks for
+unchanged : (options : WaitOptions) (n : Note) (l : Life) → (has_ended l || is_unreported n) ≡ false → is_some (status_of_body options n l) ≡ false
+unchanged options n (Zombie status) none = absurd (false≢true (sym none))
+unchanged options note.Nothing Stopped none = refl
+unchanged options (note.Stopped n) Stopped none = absurd (false≢true (sym none))
+unchanged options note.Continued Stopped none = absurd (false≢true (sym none))
+unchanged options note.Nothing Running none = refl
+unchanged options (note.Stopped n) Running none = absurd (false≢true (sym none))
+unchanged options note.Continued Running none = absurd (false≢true (sym none))
 
--- who has no news for the parent is not ready
-pub unready_as : (parent : ℕ) (request : Request) (pid : ℕ) (o : Option Proc) → is_news parent o ≡ false → (is_match parent request pid o && is_some (status_of request.options o)) ≡ false
+-- who has no status change for the parent is not ready
+pub unready_as : (parent : ℕ) (request : Request) (pid : ℕ) (o : Option Proc) → has_change_for parent o ≡ false → (is_match parent request pid o && is_some (status_of request.options o)) ≡ false
 unready_as parent request pid None none = refl
 unready_as parent request pid (Some p) none =
-    elim (p.links.parent == parent) as (λ b. (b && has_tidings p.body) ≡ false → ((b && is_asked_for request.who pid p) && is_some (status_of_body request.options p.body.note p.body.life)) ≡ false) [
-      | true ↦ λ none. ap (λ b. is_asked_for request.who pid p && b) (untold request.options p.body.note p.body.life none) ∙ and_none (is_asked_for request.who pid p)
+    elim (p.links.parent == parent) as (λ b. (b && has_status_change p.body) ≡ false → ((b && is_asked_for request.who pid p) && is_some (status_of_body request.options p.body.note p.body.life)) ≡ false) [
+      | true ↦ λ none. ap (λ b. is_asked_for request.who pid p && b) (unchanged request.options p.body.note p.body.life none) ∙ and_none (is_asked_for request.who pid p)
       | false ↦ λ _. refl
     ] none
 
@@ -55,18 +55,18 @@ still_waits w pid (waiting.Asks request) keeps =
     λ i. none_any (is_ready w pid request) (pids w.procs) keeps.unready i
     || not (any_here (λ q. is_match pid request q (at w q)) w.procs.entries child (match_is_there pid request child (at w child) keeps.matched.1) keeps.matched.1 i)
 
-by_life : (w : World) (pid : ℕ) (body : Body) (l : Life) (runs : Bool) → RestsBy w pid body l
+by_life : (w : World) (pid : ℕ) (body : Body) (l : Life) (runs : Bool) → BlockedBy w pid body l
     → ((runs && not (has_ended l)) && (is_some (signal_for body) || (not (has_stopped l) && waits_no_more w pid body.waiting))) ≡ false
-by_life w pid body l false rests = refl
-by_life w pid body (Zombie status) true rests = refl
-by_life w pid body Stopped true rests = ap (λ b. b || false) rests
-by_life w pid body Running true rests = λ i. rests.0 i || still_waits w pid body.waiting rests.1 i
+by_life w pid body l false blocked = refl
+by_life w pid body (Zombie status) true blocked = refl
+by_life w pid body Stopped true blocked = ap (λ b. b || false) blocked
+by_life w pid body Running true blocked = λ i. blocked.0 i || still_waits w pid body.waiting blocked.1 i
 
-as_is : (w : World) (pid : ℕ) (o : Option Proc) (runs : Bool) → RestsAs w pid o
+as_is : (w : World) (pid : ℕ) (o : Option Proc) (runs : Bool) → BlockedAs w pid o
     → ((runs && is_alive o) && (is_some (signal_due o) || (not (is_stopped o) && goes_on w pid o))) ≡ false
-as_is w pid None true rests = refl
-as_is w pid None false rests = refl
-as_is w pid (Some p) runs rests = by_life w pid p.body p.body.life runs rests
+as_is w pid None true blocked = refl
+as_is w pid None false blocked = refl
+as_is w pid (Some p) runs blocked = by_life w pid p.body p.body.life runs blocked
 
-pub cannot_run : (w : World) (pid : ℕ) → Rests w pid → is_runnable w pid ≡ false
-cannot_run w pid rests = as_is w pid (at w pid) (not (is_halted w)) rests
+pub cannot_run : (w : World) (pid : ℕ) → IsBlocked w pid → is_runnable w pid ≡ false
+cannot_run w pid blocked = as_is w pid (at w pid) (not (is_halted w)) blocked

@@ -18,8 +18,8 @@ use Rattle.sk_machine.specs.Machine.{end_status, halted_of}
 use Rattle.sk_machine.specs.Turns.{goes_on, is_runnable, next_of}
 use Rattle.sk_session.proofs.Walking.{nobody_at_0}
 use Rattle.sk_machine.specs.Delivering.{signal_due}
-use Rattle.sk_candidates.specs.views.Resting.{is_news}
-use Rattle.sk_candidates.specs.views.Noting.{OthersRest, NoOtherPasses, PassesOver}
+use Rattle.sk_candidates.specs.views.Blocked.{has_change_for}
+use Rattle.sk_candidates.specs.views.Noting.{OthersBlocked, NoOtherPasses, PassesOver}
 use Rattle.sk_candidates.proofs.Idle.{cannot_run}
 
 and_none : (b : Bool) → (b && false) ≡ false
@@ -48,9 +48,9 @@ there w pid runs = elim (at w pid) as (λ o. at w pid ≡ o → IsTrue (is_some 
   | Some p ↦ λ _. refl
 ] refl
 
-module _ (w : World) (rules : IsWorld w) (noted : List ℕ) (touched : ℕ) (others : OthersRest w noted touched) where
-  -- who is not noted, and has nothing to hear
-  pub still : (q : ℕ) → IsFalse (contains noted q) → IsFalse (is_news q (at w touched)) → is_runnable w q ≡ false
+module _ (w : World) (rules : IsWorld w) (noted : List ℕ) (touched : ℕ) (others : OthersBlocked w noted touched) where
+  -- who is not noted, and has no status change to wait for
+  pub still : (q : ℕ) → IsFalse (contains noted q) → IsFalse (has_change_for q (at w touched)) → is_runnable w q ≡ false
   still q out none = ⊎_elim
       (λ beyond. nobody_runs w q (absent (at w q) (false_from_ne_true (is_some (at w q)) (λ is. too_far q beyond (rules.pids q is).1))))
       (λ within. cannot_run w q (others q within out none))
@@ -59,45 +59,45 @@ module _ (w : World) (rules : IsWorld w) (noted : List ℕ) (touched : ℕ) (oth
       too_far : (q : ℕ) → LAST_PID < q → q ≤ LAST_PID → ⊥
       too_far q beyond within = omega (arith, beyond, within)
 
-  -- nobody has anything to hear but this one
-  module _ (hearer : Option ℕ) (hears : (q : ℕ) → IsTrue (is_news q (at w touched)) → hearer ≡ Some q) where
-    not_hearing : (q : ℕ) → hearer ≢ Some q → IsFalse (is_news q (at w touched))
-    not_hearing q other = false_from_ne_true (is_news q (at w touched)) (λ news. other (hears q news))
+  -- nobody has a status change to wait for but this one
+  module _ (waiter : Option ℕ) (is_waiter : (q : ℕ) → IsTrue (has_change_for q (at w touched)) → waiter ≡ Some q) where
+    not_waiting : (q : ℕ) → waiter ≢ Some q → IsFalse (has_change_for q (at w touched))
+    not_waiting q other = false_from_ne_true (has_change_for q (at w touched)) (λ change. other (is_waiter q change))
 
-    pub passed_over : NoOtherPasses (is_runnable w) noted hearer
-    passed_over q out other = still q out (not_hearing q other)
+    pub passed_over : NoOtherPasses (is_runnable w) noted waiter
+    passed_over q out other = still q out (not_waiting q other)
 
-module _ (test : ℕ → Bool) (noted : List ℕ) (hearer : Option ℕ) (others : NoOtherPasses test noted hearer) where
+module _ (test : ℕ → Bool) (noted : List ℕ) (waiter : Option ℕ) (others : NoOtherPasses test noted waiter) where
   -- the noted one comes first
-  pub to_noted : (after pid parent : ℕ) → hearer ≡ Some parent → pid < parent → IsLeastAbove (contains noted) after (Some pid) → PassesOver test after (Some pid)
+  pub to_noted : (after pid parent : ℕ) → waiter ≡ Some parent → pid < parent → IsLeastAbove (contains noted) after (Some pid) → PassesOver test after (Some pid)
   to_noted after pid parent is lt least =
       (least.0, λ q above below. others q (least.2 q above below) (λ same. differs q below (same_Some parent q (sym is ∙ same))))
     where
       differs : (q : ℕ) → q < pid → parent ≡ q → ⊥
       differs q below same = omega (arith, below, same, lt)
 
-  -- the one who hears comes first
-  pub to_hearer : (after parent : ℕ) → hearer ≡ Some parent → after < parent → ((q : ℕ) → after < q → q < parent → IsFalse (contains noted q)) → PassesOver test after (Some parent)
-  to_hearer after parent is lt out =
+  -- the waiter comes first
+  pub to_waiter : (after parent : ℕ) → waiter ≡ Some parent → after < parent → ((q : ℕ) → after < q → q < parent → IsFalse (contains noted q)) → PassesOver test after (Some parent)
+  to_waiter after parent is lt out =
       (lt, λ q above below. others q (out q above below) (λ same. differs q below (same_Some parent q (sym is ∙ same))))
     where
       differs : (q : ℕ) → q < parent → parent ≡ q → ⊥
       differs q below same = omega (arith, below, same)
 
-  -- nobody above has anything to hear
-  pub to_next : (after : ℕ) (next : Option ℕ) → ((q : ℕ) → after < q → hearer ≢ Some q) → IsLeastAbove (contains noted) after next → PassesOver test after next
+  -- nobody above has a status change to wait for
+  pub to_next : (after : ℕ) (next : Option ℕ) → ((q : ℕ) → after < q → waiter ≢ Some q) → IsLeastAbove (contains noted) after next → PassesOver test after next
   to_next after None other least = λ q above. others q (least q above) (other q above)
   to_next after (Some next) other least = (least.0, λ q above below. others q (least.2 q above below) (other q above))
 
 -- who is behind is not above
-pub behind : (after parent q : ℕ) (hearer : Option ℕ) → hearer ≡ Some parent → parent ≤ after → after < q → hearer ≢ Some q
-behind after parent q hearer is le lt same = differs (same_Some parent q (sym is ∙ same))
+pub behind : (after parent q : ℕ) (waiter : Option ℕ) → waiter ≡ Some parent → parent ≤ after → after < q → waiter ≢ Some q
+behind after parent q waiter is le lt same = differs (same_Some parent q (sym is ∙ same))
   where
     differs : parent ≡ q → ⊥
     differs same = omega (arith, same, le, lt)
 
-pub nobody_hears : (q : ℕ) (hearer : Option ℕ) → hearer ≡ None → hearer ≢ Some q
-nobody_hears q hearer is same = none-some q (sym is ∙ same)
+pub nobody_waits : (q : ℕ) (waiter : Option ℕ) → waiter ≡ None → waiter ≢ Some q
+nobody_waits q waiter is same = none-some q (sym is ∙ same)
 
 -- ---- the walk from candidate to candidate
 

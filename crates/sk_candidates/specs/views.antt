@@ -1,2 +1,2 @@
-pub mod Resting
+pub mod Blocked
 pub mod Noting

@@ -9,22 +9,22 @@ use sk_numbers::NumberSet;
 use sk_turns::can_run;
 use sk_world::ProcStore;
 
-/// The least pid above `after` of a process that can run, where nobody can but those that are noted and the one who
-/// hears. The system has not halted.
+/// The least pid above `after` of a process that can run, where nobody can but those that are noted and the waiter.
+/// The system has not halted.
 #[inline(always)]
 pub(crate) fn first_runnable<S: ProcStore>(
     store: &S,
     noted: &NumberSet,
-    hearer: Option<u32>,
+    waiter: Option<u32>,
     after: u32,
 ) -> Option<u32>
     requires rules { IsWorld (S.contents store.now) }
     requires goes_on { halted_of (S.contents store.now) ≡ None }
-    requires others { NoOtherPasses (is_runnable (S.contents store.now)) noted.now hearer }
+    requires others { NoOtherPasses (is_runnable (S.contents store.now)) noted.now waiter }
     ensures { result ≡ find (λ pid. nat_lt after pid && is_runnable (S.contents store.now) pid) (pids (S.contents store.now).procs) }
 {
     let mut passed = after;
-    while let Some(pid) = next_candidate(noted, hearer, passed) {
+    while let Some(pid) = next_candidate(noted, waiter, passed) {
         if can_run(store, pid) {
             return Some(pid);
         }
@@ -33,13 +33,13 @@ pub(crate) fn first_runnable<S: ProcStore>(
     None
 }
 
-/// The next pid above `after` that has to be asked: that of one that is noted, or of the one who hears.
+/// The next pid above `after` that has to be asked: that of one that is noted, or of the waiter.
 #[inline(always)]
-fn next_candidate(noted: &NumberSet, hearer: Option<u32>, after: u32) -> Option<u32>
-    ensures { (test : ℕ → Bool) → NoOtherPasses test noted.now hearer → PassesOver test after result }
+fn next_candidate(noted: &NumberSet, waiter: Option<u32>, after: u32) -> Option<u32>
+    ensures { (test : ℕ → Bool) → NoOtherPasses test noted.now waiter → PassesOver test after result }
 {
     let next = noted.next(after);
-    match hearer {
+    match waiter {
         Some(parent) if parent > after => match next {
             Some(pid) if pid < parent => Some(pid),
             _ => Some(parent),

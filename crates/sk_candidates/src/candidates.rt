@@ -4,10 +4,10 @@ ghost use Rattle.sk_world.specs.declared.process.TheConstants.{LAST_PID};
 ghost use Rattle.sk_world.specs.World.{at};
 ghost use Rattle.sk_world.specs.Rules.{IsWorld};
 ghost use Rattle.sk_machine.specs.Turns.{next_of};
-ghost use Rattle.sk_candidates.specs.views.Noting.{AllRest, OthersRest, OthersAreThere, Notes, Forgets, LooksAt};
+ghost use Rattle.sk_candidates.specs.views.Noting.{AllBlocked, OthersBlocked, OthersAreThere, Notes, Forgets, LooksAt};
 
 use crate::asking::first_runnable;
-use crate::resting::{hearer, parent_told, rests_as};
+use crate::blocked::{waiter, notified_parent, is_blocked};
 use sk_numbers::NumberSet;
 use sk_turns::halted;
 use sk_world::{Body, INIT, LAST_PID, Links, Proc, ProcStore, parent_of};
@@ -20,8 +20,8 @@ use std::marker::Model;
 pub struct Candidates<S: ProcStore> {
     store: S,
     noted: NumberSet,
-    // Who is looked at again before the next change: the process that the last one was about. To its parent it may be
-    // news.
+    // Who is looked at again before the next change: the process that the last one was about. Its parent may wait for
+    // that change.
     touched: u32,
 }
 
@@ -58,7 +58,7 @@ fn forget(noted: &mut NumberSet, pid: u32)
     }
 }
 
-/// Notes a process, or takes its note off where it rests or is not there.
+/// Notes a process, or takes its note off where it is blocked or not there.
 fn look_at<S: ProcStore>(store: &S, noted: &mut NumberSet, pid: u32)
     requires nobody { at (S.contents store.now) 0 ≡ None }
     ensures { LooksAt (S.contents store.now) pid noted.old noted.new }
@@ -75,48 +75,48 @@ fn look_at_process<S: ProcStore>(store: &S, noted: &mut NumberSet, pid: u32, pro
     requires own { at (S.contents store.now) pid ≡ Some process.now }
     ensures { LooksAt (S.contents store.now) pid noted.old noted.new }
 {
-    if rests_as(store, pid, process) {
+    if is_blocked(store, pid, process) {
         forget(noted, pid);
     } else {
         note(noted, pid);
     }
 }
 
-/// Looks at the parent to whom the process has something to tell.
+/// Looks at the parent that a status change of the process is reported to.
 fn announce<S: ProcStore>(store: &S, noted: &mut NumberSet, pid: u32, process: &Proc)
     requires nobody { at (S.contents store.now) 0 ≡ None }
     requires own { at (S.contents store.now) pid ≡ Some process.now }
-    requires rest { OthersRest (S.contents store.now) noted.old pid }
+    requires blocked { OthersBlocked (S.contents store.now) noted.old pid }
     requires there { OthersAreThere (S.contents store.now) noted.old pid }
-    ensures rest { AllRest (S.contents store.now) noted.new }
+    ensures blocked { AllBlocked (S.contents store.now) noted.new }
     ensures there { OthersAreThere (S.contents store.now) noted.new pid }
 {
-    if let Some(parent) = parent_told(process) {
+    if let Some(parent) = notified_parent(process) {
         look_at(store, noted, parent);
     }
 }
 
 /// Looks at the process that the last change was about, if any, but where the next one is about the same.
 #[inline(always)]
-fn settle<S: ProcStore>(store: &S, noted: &mut NumberSet, touched: u32, next: u32)
+fn update<S: ProcStore>(store: &S, noted: &mut NumberSet, touched: u32, next: u32)
     requires nobody { at (S.contents store.now) 0 ≡ None }
-    requires rest { OthersRest (S.contents store.now) noted.old touched }
+    requires blocked { OthersBlocked (S.contents store.now) noted.old touched }
     requires there { OthersAreThere (S.contents store.now) noted.old touched }
-    ensures rest { AllRest (S.contents store.now) noted.new }
+    ensures blocked { AllBlocked (S.contents store.now) noted.new }
     ensures there { OthersAreThere (S.contents store.now) noted.new next }
 {
     if touched != 0 {
-        settle_touched(store, noted, touched, next);
+        update_touched(store, noted, touched, next);
     }
 }
 
 /// The same of a change that was about some process.
 #[inline(never)]
-fn settle_touched<S: ProcStore>(store: &S, noted: &mut NumberSet, touched: u32, next: u32)
+fn update_touched<S: ProcStore>(store: &S, noted: &mut NumberSet, touched: u32, next: u32)
     requires nobody { at (S.contents store.now) 0 ≡ None }
-    requires rest { OthersRest (S.contents store.now) noted.old touched }
+    requires blocked { OthersBlocked (S.contents store.now) noted.old touched }
     requires there { OthersAreThere (S.contents store.now) noted.old touched }
-    ensures rest { AllRest (S.contents store.now) noted.new }
+    ensures blocked { AllBlocked (S.contents store.now) noted.new }
     ensures there { OthersAreThere (S.contents store.now) noted.new next }
 {
     match store.get(touched) {
@@ -131,12 +131,12 @@ fn settle_touched<S: ProcStore>(store: &S, noted: &mut NumberSet, touched: u32, 
 }
 
 impl<S: ProcStore> Candidates<S> {
-    /// Looks at the process that the last change was about, which need not be asked again where it rests. No process
+    /// Looks at the process that the last change was about, which need not be asked again where it is blocked. No process
     /// changes.
-    pub fn settle(&mut self)
+    pub fn update(&mut self)
         ensures { self.new ≡ self.old }
     {
-        settle(&self.store, &mut self.noted, self.touched, 0);
+        update(&self.store, &mut self.noted, self.touched, 0);
         self.touched = 0;
     }
 
@@ -149,10 +149,10 @@ impl<S: ProcStore> Candidates<S> {
         if halted(&self.store).is_some() {
             return None;
         }
-        let hearer = hearer(&self.store, self.touched);
-        match first_runnable(&self.store, &self.noted, hearer, last) {
+        let waiter = waiter(&self.store, self.touched);
+        match first_runnable(&self.store, &self.noted, waiter, last) {
             Some(pid) => Some(pid),
-            None => first_runnable(&self.store, &self.noted, hearer, 0),
+            None => first_runnable(&self.store, &self.noted, waiter, 0),
         }
     }
 }
@@ -175,7 +175,7 @@ impl<S: ProcStore> ProcStore for Candidates<S> {
     }
 
     fn body_mut(&mut self, pid: u32) -> Option<&mut Body> {
-        settle(&self.store, &mut self.noted, self.touched, pid);
+        update(&self.store, &mut self.noted, self.touched, pid);
         self.touched = pid;
         note(&mut self.noted, self.touched);
         match self.store.body_mut(pid) {
@@ -186,7 +186,7 @@ impl<S: ProcStore> ProcStore for Candidates<S> {
 
     fn relink(&mut self, pid: u32, links: Links) -> bool {
         let former = parent_of(&self.store, pid);
-        settle(&self.store, &mut self.noted, self.touched, links.parent);
+        update(&self.store, &mut self.noted, self.touched, links.parent);
         note(&mut self.noted, links.parent);
         self.touched = links.parent;
         let is_there = self.store.relink(pid, links);
@@ -196,7 +196,7 @@ impl<S: ProcStore> ProcStore for Candidates<S> {
 
     fn insert(&mut self, pid: u32, proc: Proc) {
         let parent = proc.links.parent;
-        settle(&self.store, &mut self.noted, self.touched, pid);
+        update(&self.store, &mut self.noted, self.touched, pid);
         note(&mut self.noted, pid);
         self.touched = pid;
         self.store.insert(pid, proc);
@@ -205,7 +205,7 @@ impl<S: ProcStore> ProcStore for Candidates<S> {
 
     fn remove(&mut self, pid: u32) -> bool {
         let parent = parent_of(&self.store, pid);
-        settle(&self.store, &mut self.noted, self.touched, parent);
+        update(&self.store, &mut self.noted, self.touched, parent);
         note(&mut self.noted, parent);
         forget(&mut self.noted, pid);
         self.touched = parent;

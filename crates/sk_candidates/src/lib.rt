@@ -4,6 +4,6 @@
 
 mod asking;
 mod candidates;
-mod resting;
+mod blocked;
 
 pub use candidates::Candidates;

@@ -63,7 +63,7 @@ impl<S: ProcStore> Kernel<S> {
         ensures images { self.new.images ≡ self.old.images }
     {
         let answer = stepping::step(&mut self.store, &self.images, self.alloc, &event);
-        self.store.settle();
+        self.store.update();
         answer
     }
 
@@ -77,7 +77,7 @@ impl<S: ProcStore> Kernel<S> {
         ensures images { self.new.images ≡ self.old.images }
     {
         let answer = stepping::step_possible(&mut self.store, &self.images, self.alloc, event);
-        self.store.settle();
+        self.store.update();
         answer
     }
 

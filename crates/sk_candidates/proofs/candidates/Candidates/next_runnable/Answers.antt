@@ -16,12 +16,12 @@ returns-then-is_some g c =
 pub first_runnable-requires-clause-others : goal.first_runnable-requires-clause-others
 first_runnable-requires-clause-others g c =
     let w = g.S.ProcStore.contents c.self.inside.store in
-    passed_over w (subst IsWorld (sym c.self.view_is) c.requires) c.self.inside.noted c.self.inside.touched c.self.invariant.others c.hearer-hearer.result c.hearer-hearer.ensures
+    passed_over w (subst IsWorld (sym c.self.view_is) c.requires) c.self.inside.noted c.self.inside.touched c.self.invariant.others c.waiter-waiter.result c.waiter-waiter.ensures
 
 pub first_runnable-requires-in-None-clause-others : goal.first_runnable-requires-in-None-clause-others
 first_runnable-requires-in-None-clause-others g c =
     let w = g.S.ProcStore.contents c.self.inside.store in
-    passed_over w (subst IsWorld (sym c.self.view_is) c.requires) c.self.inside.noted c.self.inside.touched c.self.invariant.others c.hearer-hearer.result c.hearer-hearer.ensures
+    passed_over w (subst IsWorld (sym c.self.view_is) c.requires) c.self.inside.noted c.self.inside.touched c.self.invariant.others c.waiter-waiter.result c.waiter-waiter.ensures
 
 pub returns-in-None : goal.returns-in-None
 returns-in-None g c =

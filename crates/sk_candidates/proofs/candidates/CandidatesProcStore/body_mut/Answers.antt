@@ -8,7 +8,7 @@ pub invariant_of-self-lent : goal.invariant_of-self-lent
 invariant_of-self-lent g c body =
     let pid = c.args.pid in
     subst (λ v. IsNoted v c.note.new.noted pid) (sym (rw c.in-Some.is at (c.body_mut.follows.holds body)))
-    (noted_lent (g.S.ProcStore.contents c.self.inside.store) c.self.invariant.nobody c.settle.new.noted c.settle.ensures.rest c.note.new.noted pid body c.settle.ensures.there c.note.ensures)
+    (noted_lent (g.S.ProcStore.contents c.self.inside.store) c.self.invariant.nobody c.update.new.noted c.update.ensures.blocked c.note.new.noted pid body c.update.ensures.there c.note.ensures)
 
 pub returns-in-Some : goal.returns-in-Some
 returns-in-Some g c =

@@ -18,6 +18,6 @@ invariant_of-self g c =
     let pid = c.args.pid in
     let proc = c.args.proc in
     subst (λ v. IsNoted v c.look_at.new.noted pid) (sym c.insert.ensures.inserted)
-    (noted_inserted w c.self.invariant.nobody c.settle.new.noted c.settle.ensures.rest c.note.new.noted c.look_at.new.noted pid proc
-    (ap (λ v. at v pid) c.self.view_is ∙ c.requires.free) c.requires.pid.0 c.settle.ensures.there c.note.ensures
+    (noted_inserted w c.self.invariant.nobody c.update.new.noted c.update.ensures.blocked c.note.new.noted c.look_at.new.noted pid proc
+    (ap (λ v. at v pid) c.self.view_is ∙ c.requires.free) c.requires.pid.0 c.update.ensures.there c.note.ensures
     (subst (λ v. LooksAt v proc.links.parent c.note.new.noted c.look_at.new.noted) c.insert.ensures.inserted c.look_at.ensures))

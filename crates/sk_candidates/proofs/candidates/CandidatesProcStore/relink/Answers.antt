@@ -18,7 +18,7 @@ invariant_of-self g c =
     let links = c.args.links in
     let pid = c.args.pid in
     subst (λ v. IsNoted v c.look_at.new.noted links.parent) (sym c.relink-is_there.ensures.links)
-    (noted_relinked w c.self.invariant.nobody c.settle.new.noted c.settle.ensures.rest c.note.new.noted c.look_at.new.noted pid links
-    c.settle.ensures.there c.note.ensures
+    (noted_relinked w c.self.invariant.nobody c.update.new.noted c.update.ensures.blocked c.note.new.noted c.look_at.new.noted pid links
+    c.update.ensures.there c.note.ensures
     (subst (λ k. LooksAt (with_links w pid links) k c.note.new.noted c.look_at.new.noted) c.parent_of-former.ensures
     (subst (λ v. LooksAt v c.parent_of-former.result c.note.new.noted c.look_at.new.noted) c.relink-is_there.ensures.links c.look_at.ensures)))

@@ -10,9 +10,9 @@ invariant_of-self g c =
     let w = g.S.ProcStore.contents c.self.inside.store in
     let pid = c.args.pid in
     let same = c.parent_of-parent.ensures in
-    subst (λ v. IsNoted v c.forget.new.noted c.parent_of-parent.result) (sym c.remove.ensures.rest)
+    subst (λ v. IsNoted v c.forget.new.noted c.parent_of-parent.result) (sym c.remove.ensures.blocked)
     (subst (IsNoted (stored w pid None) c.forget.new.noted) (sym same)
-    (noted_removed w c.self.invariant.nobody c.settle.new.noted c.settle.ensures.rest c.note.new.noted c.forget.new.noted pid
-    (subst (OthersAreThere w c.settle.new.noted) same c.settle.ensures.there)
-    (subst (λ k. Notes k c.settle.new.noted c.note.new.noted) same c.note.ensures)
+    (noted_removed w c.self.invariant.nobody c.update.new.noted c.update.ensures.blocked c.note.new.noted c.forget.new.noted pid
+    (subst (OthersAreThere w c.update.new.noted) same c.update.ensures.there)
+    (subst (λ k. Notes k c.update.new.noted c.note.new.noted) same c.note.ensures)
     c.forget.ensures))

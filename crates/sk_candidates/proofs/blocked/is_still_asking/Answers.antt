@@ -4,7 +4,7 @@ use Rattle.std.proofs.lemmas.Bool.{false≢true}
 use Rattle.sk_world.specs.World.{is_child_of}
 use Rattle.sk_world.specs.Waits.{is_match, status_of}
 use Rattle.sk_world.proofs.Polling.{unready_up_to}
-use Rattle.sk_candidates.proofs.resting.is_still_asking.Goals as goal
+use Rattle.sk_candidates.proofs.blocked.is_still_asking.Goals as goal
 
 nothing : (o : Option ℕ) → is_some o ≡ false → o ≡ None
 nothing None is = refl

@@ -1,7 +1,7 @@
 use Rattle.std.proofs.Common.{◌-◌, ◌≤◌, ℕ, IsTrue, IsFalse}
 use Rattle.sk_world.specs.World.{at}
 use Rattle.sk_world.specs.Waits.{is_match, is_ready}
-use Rattle.sk_candidates.proofs.resting.is_still_asking.Given as goal
+use Rattle.sk_candidates.proofs.blocked.is_still_asking.Given as goal
 
 abbrev pub invariant-loop-child : goal.invariant-loop-child
 invariant-loop-child g l = record {

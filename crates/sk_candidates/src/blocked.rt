@@ -2,37 +2,37 @@ ghost use Rattle.std.specs.Prelude.{◌≡◌, ℕ, None, Some, IsTrue};
 ghost use Rattle.std.specs.Option.{is_some};
 ghost use Rattle.sk_world.specs.World.{at};
 ghost use Rattle.sk_world.specs.Waits.{status_of_note, status_of_body};
-ghost use Rattle.sk_candidates.specs.views.Resting.{has_tidings, is_news, RestsAs, KeepsWaiting, IsStillAsking};
+ghost use Rattle.sk_candidates.specs.views.Blocked.{has_status_change, has_change_for, BlockedAs, KeepsWaiting, IsStillAsking};
 
 use bitflags::Flags;
 use sk_turns::signal_for;
 use sk_world::{Body, Life, Note, Proc, ProcStore, Request, WaitOptions, Waiting, is_asked_for};
 
-/// The parent to whom the process has something to tell. The pid 0, which is nobody's, stands for no process.
-pub(crate) fn hearer<S: ProcStore>(store: &S, pid: u32) -> Option<u32>
+/// The parent that a status change of the process is reported to, if there is one. The pid 0, which is nobody's, stands for no process.
+pub(crate) fn waiter<S: ProcStore>(store: &S, pid: u32) -> Option<u32>
     requires nobody { at (S.contents store.now) 0 ≡ None }
-    ensures { (q : ℕ) → IsTrue (is_news q (at (S.contents store.now) pid)) → result ≡ Some q }
+    ensures { (q : ℕ) → IsTrue (has_change_for q (at (S.contents store.now) pid)) → result ≡ Some q }
 {
     if pid == 0 {
         return None;
     }
     match store.get(pid) {
-        Some(process) => parent_told(process),
+        Some(process) => notified_parent(process),
         None => None,
     }
 }
 
-/// The parent to whom this process has something to tell.
-pub(crate) fn parent_told(process: &Proc) -> Option<u32>
-    ensures { (q : ℕ) → IsTrue (is_news q (Some process.now)) → result ≡ Some q }
+/// The parent that a status change of this process is reported to, if there is one.
+pub(crate) fn notified_parent(process: &Proc) -> Option<u32>
+    ensures { (q : ℕ) → IsTrue (has_change_for q (Some process.now)) → result ≡ Some q }
 {
-    has_tidings(&process.body).then_some(process.links.parent)
+    has_status_change(&process.body).then_some(process.links.parent)
 }
 
 /// Whether this process cannot run, and will not before it changes or a child of it does.
-pub(crate) fn rests_as<S: ProcStore>(store: &S, pid: u32, process: &Proc) -> bool
+pub(crate) fn is_blocked<S: ProcStore>(store: &S, pid: u32, process: &Proc) -> bool
     requires nobody { at (S.contents store.now) 0 ≡ None }
-    ensures { IsTrue result → RestsAs (S.contents store.now) pid (Some process.now) }
+    ensures { IsTrue result → BlockedAs (S.contents store.now) pid (Some process.now) }
 {
     let is_due = signal_for(&process.body).is_some();
     match process.body.life {
@@ -54,7 +54,7 @@ fn keeps_waiting<S: ProcStore>(store: &S, pid: u32, waiting: Waiting) -> bool
     }
 }
 
-/// Whether a child matches the request, and none that does has anything to tell.
+/// Whether a child matches the request, and none that does has a status to report.
 fn is_still_asking<S: ProcStore>(store: &S, pid: u32, request: Request) -> bool
     requires nobody { at (S.contents store.now) 0 ≡ None }
     ensures { IsTrue result → IsStillAsking (S.contents store.now) pid request }
@@ -76,7 +76,7 @@ fn is_still_asking<S: ProcStore>(store: &S, pid: u32, request: Request) -> bool
     is_matched
 }
 
-/// Whether a wait4(2) with these options is told of a process with this body.
+/// Whether a wait4(2) with these options reports a process with this body.
 fn has_status(options: WaitOptions, body: &Body) -> bool
     ensures { result ≡ is_some (status_of_body options body.now.note body.now.life) }
 {
@@ -97,14 +97,14 @@ fn has_status_of_note(options: WaitOptions, note: Note) -> bool
     }
 }
 
-/// Whether there is something to tell of the process: it has ended, or a stop or a continuation of it is untold.
-fn has_tidings(body: &Body) -> bool
-    ensures { result ≡ has_tidings body.now }
+/// Whether a status change of the process is still to be reported: it has ended, or was stopped or continued.
+fn has_status_change(body: &Body) -> bool
+    ensures { result ≡ has_status_change body.now }
 {
-    let is_untold = match body.note {
+    let is_unreported = match body.note {
         Note::Nothing => false,
         Note::Stopped(_) => true,
         Note::Continued => true,
     };
-    matches!(body.life, Life::Zombie(_)) || is_untold
+    matches!(body.life, Life::Zombie(_)) || is_unreported
 }
