@@ -1,15 +1,24 @@
-ghost use Rattle.std.specs.Prelude.{◌≡◌, ℕ, Bool, ◌&&◌, None, find, nat_lt};
+ghost use Rattle.std.specs.Prelude.{◌≡◌, ℕ, Bool, ◌&&◌, IfSome, None, find, nat_lt};
+ghost use Rattle.std.specs.Option.{option_map};
 ghost use Rattle.sk_world.specs.Processes.{pids};
 ghost use Rattle.sk_world.specs.Rules.{IsWorld};
 ghost use Rattle.sk_machine.specs.Machine.{halted_of};
-ghost use Rattle.sk_machine.specs.Turns.{is_runnable};
+ghost use Rattle.sk_machine.specs.Turns.{is_runnable, need_of};
 ghost use Rattle.sk_candidates.specs.views.Noting.{NoOtherPasses, PassesOver};
 
+use sk_machine::Need;
 use sk_numbers::NumberSet;
-use sk_turns::can_run;
+use sk_turns::need_to_run;
 use sk_world::ProcStore;
 
-/// The least pid above `after` of a process that can run, where nobody can but those that are noted and the waiter.
+/// A process that can run, and what its next event is.
+#[derive(Clone, Copy, PartialEq, Eq, Debug)]
+pub struct Runner {
+    pub pid: u32,
+    pub need: Need,
+}
+
+/// The process with the least pid above `after` that can run, where nobody can but those that are noted and the waiter.
 /// The system has not halted.
 #[inline(always)]
 pub(crate) fn first_runnable<S: ProcStore>(
@@ -17,16 +26,17 @@ pub(crate) fn first_runnable<S: ProcStore>(
     noted: &NumberSet,
     waiter: Option<u32>,
     after: u32,
-) -> Option<u32>
+) -> Option<Runner>
     requires rules { IsWorld (S.contents store.now) }
     requires goes_on { halted_of (S.contents store.now) ≡ None }
     requires others { NoOtherPasses (is_runnable (S.contents store.now)) noted.now waiter }
-    ensures { result ≡ find (λ pid. nat_lt after pid && is_runnable (S.contents store.now) pid) (pids (S.contents store.now).procs) }
+    ensures pid { option_map (λ runner. runner.pid) result ≡ find (λ pid. nat_lt after pid && is_runnable (S.contents store.now) pid) (pids (S.contents store.now).procs) }
+    ensures need { IfSome result (λ runner. runner.need ≡ need_of (S.contents store.now) runner.pid) }
 {
     let mut passed = after;
     while let Some(pid) = next_candidate(noted, waiter, passed) {
-        if can_run(store, pid) {
-            return Some(pid);
+        if let Some(need) = need_to_run(store, pid) {
+            return Some(Runner { pid, need });
         }
         passed = pid;
     }

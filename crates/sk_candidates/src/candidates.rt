@@ -1,12 +1,13 @@
-ghost use Rattle.std.specs.Prelude.{◌≡◌, ◌≢◌, ℕ, ◌≤◌, None, Some, IsFalse};
+ghost use Rattle.std.specs.Prelude.{◌≡◌, ◌≢◌, ℕ, ◌≤◌, None, Some, IfSome, IsFalse};
+ghost use Rattle.std.specs.Option.{option_map};
 ghost use Rattle.sk_numbers.specs.Numbers.{contains};
 ghost use Rattle.sk_world.specs.declared.process.TheConstants.{LAST_PID};
 ghost use Rattle.sk_world.specs.World.{at};
 ghost use Rattle.sk_world.specs.Rules.{IsWorld};
-ghost use Rattle.sk_machine.specs.Turns.{next_of};
+ghost use Rattle.sk_machine.specs.Turns.{next_of, need_of};
 ghost use Rattle.sk_candidates.specs.views.Noting.{AllBlocked, OthersBlocked, OthersAreThere, Notes, Forgets, LooksAt};
 
-use crate::asking::first_runnable;
+use crate::asking::{Runner, first_runnable};
 use crate::blocked::{waiter, notified_parent, is_blocked};
 use sk_numbers::NumberSet;
 use sk_turns::halted;
@@ -140,18 +141,19 @@ impl<S: ProcStore> Candidates<S> {
         self.touched = 0;
     }
 
-    /// Whose turn is next, in round robin: the least pid above `last` of a process that can run, else the least of all.
-    /// Only who is noted is asked.
-    pub fn next_runnable(&self, last: u32) -> Option<u32>
+    /// Whose turn is next, in round robin: the process with the least pid above `last` that can run, else with the least
+    /// of all. Only who is noted is asked.
+    pub fn next_runner(&self, last: u32) -> Option<Runner>
         requires { IsWorld self.now }
-        ensures { result ≡ next_of self.now last }
+        ensures pid { option_map (λ runner. runner.pid) result ≡ next_of self.now last }
+        ensures need { IfSome result (λ runner. runner.need ≡ need_of self.now runner.pid) }
     {
         if halted(&self.store).is_some() {
             return None;
         }
         let waiter = waiter(&self.store, self.touched);
         match first_runnable(&self.store, &self.noted, waiter, last) {
-            Some(pid) => Some(pid),
+            Some(runner) => Some(runner),
             None => first_runnable(&self.store, &self.noted, waiter, 0),
         }
     }

@@ -6,4 +6,5 @@ mod asking;
 mod candidates;
 mod blocked;
 
+pub use asking::Runner;
 pub use candidates::Candidates;

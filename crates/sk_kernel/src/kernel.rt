@@ -1,4 +1,5 @@
 ghost use Rattle.std.specs.Prelude.{◌≡◌, [], ◌∷◌, ◌++◌, ◌<◌, length, IfSome, IfNone, IfOk, IfErr, OnOk, OnErr, None, Some};
+ghost use Rattle.std.specs.Option.{option_map};
 ghost use Rattle.sk_world.specs.World.{at, opening};
 ghost use Rattle.sk_machine.specs.Memory.{TakesMemory};
 ghost use Rattle.sk_machine.specs.Machine.{reason_of, step_of, answers_of, world_after, halted_of};
@@ -7,7 +8,7 @@ ghost use Rattle.sk_machine_laws.specs.RunLaws.{RunIsLawful};
 ghost use Rattle.sk_kernel.specs.State.{done_of};
 
 use crate::stepping;
-use sk_candidates::Candidates;
+use sk_candidates::{Candidates, Runner};
 use sk_machine::{Answer, Event, Images, Need};
 use sk_world::{Proc, ProcStore};
 use std::alloc::{AllocError, Global};
@@ -141,7 +142,15 @@ impl<S: ProcStore> Kernel<S> {
     pub fn next_runnable(&self, after: u32) -> Option<u32>
         ensures { result ≡ next_of self.now.world after }
     {
-        self.store.next_runnable(after)
+        self.next_runner(after).map(|runner| runner.pid)
+    }
+
+    /// The same process with what its next event is.
+    pub fn next_runner(&self, after: u32) -> Option<Runner>
+        ensures pid { option_map (λ runner. runner.pid) result ≡ next_of self.now.world after }
+        ensures need { IfSome result (λ runner. runner.need ≡ need_of self.now.world runner.pid) }
+    {
+        self.store.next_runner(after)
     }
 
     /// What the next event of a process that can run is.

@@ -8,4 +8,5 @@ pub mod laws;
 mod stepping;
 
 pub use kernel::{Kernel, Stopped};
+pub use sk_candidates::Runner;
 pub use sk_machine::{Answer, Effect, Event, Images, Mark, Need, Outcome, Reason};

@@ -117,7 +117,8 @@ fn turns<S: ProcStore>(rt: &impl Abort, store: &Candidates<S>, rows: &[(u32, Opt
     requires { IsWorld store.now }
 {
     for (after, next) in rows {
-        assert_eq!(rt; store.next_runnable(*after), *next, "after {after}");
+        let runner = store.next_runner(*after);
+        assert_eq!(rt; runner.map(|runner| runner.pid), *next, "after {after}");
     }
 }
 

@@ -1,11 +1,11 @@
 //! The machine that makes the turns of a scenario.
-ghost use Rattle.sk_machine.specs.Turns.{is_runnable, next_of};
-ghost use Rattle.std.specs.Prelude.{◌≡◌, ◌<◌, IfOk, IsTrue, OnOk, OnErr, Err, None, map};
+ghost use Rattle.sk_machine.specs.Turns.{is_runnable, need_of, next_of};
+ghost use Rattle.std.specs.Prelude.{◌≡◌, ◌<◌, IfOk, IfErr, IsTrue, OnOk, OnErr, Ok, Err, None, map};
 ghost use Rattle.sk_report.specs.Scheduling.{opened, runner_of, turn_of, after_turn, turn_by, after_turn_by, mark_of_script};
 
 use crate::making::{event_by, line_due, make};
 use crate::stacks::{Stacks, levels_at, reach};
-use sk_kernel::{Images, Kernel, Mark};
+use sk_kernel::{Images, Kernel, Mark, Runner};
 use sk_report::{End, Turn};
 use sk_scenario::{Program, Scenario};
 use sk_world::ProcStore;
@@ -66,9 +66,9 @@ impl<S: ProcStore> Machine<S> {
     {
         match self.runner() {
             Err(end) => Ok(Turn::End(end)),
-            Ok(pid) => {
+            Ok(runner) => {
                 if self.used < self.turns {
-                    self.turn_by(pid)
+                    self.turn_by(runner)
                 } else {
                     Ok(Turn::End(End::Limit))
                 }
@@ -77,12 +77,14 @@ impl<S: ProcStore> Machine<S> {
     }
 
     /// Whose turn it is, or why nobody's is.
-    fn runner(&self) -> Result<u32, End>
-        ensures runner { result ≡ runner_of (now_of self.now) }
-        ensures runs { IfOk result (λ pid. IsTrue (is_runnable self.now.kernel.world pid)) }
+    fn runner(&self) -> Result<Runner, End>
+        ensures runner { IfOk result (λ runner. runner_of (now_of self.now) ≡ Ok runner.pid) }
+        ensures nobody { IfErr result (λ end. runner_of (now_of self.now) ≡ Err end) }
+        ensures runs { IfOk result (λ runner. IsTrue (is_runnable self.now.kernel.world runner.pid)) }
+        ensures need { IfOk result (λ runner. runner.need ≡ need_of self.now.kernel.world runner.pid) }
     {
-        match self.kernel.next_runnable(self.last) {
-            Some(pid) => Ok(pid),
+        match self.kernel.next_runner(self.last) {
+            Some(runner) => Ok(runner),
             None => Err(self.end()),
         }
     }
@@ -99,19 +101,21 @@ impl<S: ProcStore> Machine<S> {
     }
 
     /// The turn of this process.
-    fn turn_by(&mut self, pid: u32) -> Result<Turn, AllocError>
+    fn turn_by(&mut self, runner: Runner) -> Result<Turn, AllocError>
         requires room { (now_of self.old).used < (setting_of self.old).turns }
-        requires runs { IsTrue (is_runnable self.old.kernel.world pid) }
-        ensures turn { IfOk result (λ turn. turn ≡ turn_by (setting_of self.old) (now_of self.old) pid) }
-        ensures after { OnOk result ((now_of self.new) ≡ after_turn_by (setting_of self.old) (now_of self.old) pid) }
+        requires runs { IsTrue (is_runnable self.old.kernel.world runner.pid) }
+        requires need { runner.need ≡ need_of self.old.kernel.world runner.pid }
+        ensures turn { IfOk result (λ turn. turn ≡ turn_by (setting_of self.old) (now_of self.old) runner.pid) }
+        ensures after { OnOk result ((now_of self.new) ≡ after_turn_by (setting_of self.old) (now_of self.old) runner.pid) }
         ensures kept { OnErr result ((now_of self.new) ≡ (now_of self.old)) }
         ensures setting { (setting_of self.new) ≡ (setting_of self.old) }
     {
+        let Runner { pid, need } = runner;
         reach(&mut self.stacks, self.alloc, pid)?;
         let levels = levels_at(&self.stacks, pid as usize);
         let programs = self.programs.as_slice();
         let line = line_due(programs, levels);
-        let event = event_by(programs, pid, levels, self.kernel.need(pid), line);
+        let event = event_by(programs, pid, levels, need, line);
         let answer = make(&mut self.kernel, &mut self.stacks, self.alloc, line, &event)?;
         self.last = pid;
         self.used += 1;

@@ -6,4 +6,4 @@ mod reasons;
 mod turns;
 
 pub use reasons::{halted, reason, signal_due, signal_for};
-pub use turns::{can_run, need, runnable};
+pub use turns::{need, need_to_run, runnable};

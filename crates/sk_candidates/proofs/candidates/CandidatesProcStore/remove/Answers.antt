@@ -10,7 +10,7 @@ invariant_of-self g c =
     let w = g.S.ProcStore.contents c.self.inside.store in
     let pid = c.args.pid in
     let same = c.parent_of-parent.ensures in
-    subst (λ v. IsNoted v c.forget.new.noted c.parent_of-parent.result) (sym c.remove.ensures.blocked)
+    subst (λ v. IsNoted v c.forget.new.noted c.parent_of-parent.result) (sym c.remove.ensures.rest)
     (subst (IsNoted (stored w pid None) c.forget.new.noted) (sym same)
     (noted_removed w c.self.invariant.nobody c.update.new.noted c.update.ensures.blocked c.note.new.noted c.forget.new.noted pid
     (subst (OthersAreThere w c.update.new.noted) same c.update.ensures.there)

@@ -16,26 +16,26 @@ returns-in_err-answer-clause-kept g c =
 
 pub make-requires-clause-possible : goal.make-requires-clause-possible
 make-requires-clause-possible g c =
-    due_now (setting_of c.args.self.now) c.args.self.now.kernel.world c.args.pid (stack_of c.levels_at-levels.result.now) c.event_by-event.result
-    (rw (c.as_slice-programs.ensures.value, c.need.ensures) at c.event_by-event.ensures.event) c.requires.runs
+    due_now (setting_of c.args.self.now) c.args.self.now.kernel.world c.args.runner.pid (stack_of c.levels_at-levels.result.now) c.event_by-event.result
+    (rw (c.as_slice-programs.ensures.value, c.requires.need) at c.event_by-event.ensures.event) c.requires.runs
 
 pub returns-clause-turn : goal.returns-clause-turn
 returns-clause-turn g c =
-    tells (setting_of c.args.self.now) (now_of c.args.self.now) c.args.pid c.args.self.now.kernel.images (stacks_of c.reach.new.stacks.items) (stack_of c.levels_at-levels.result.now) c.event_by-event.result c.in_ok-answer.answer
+    tells (setting_of c.args.self.now) (now_of c.args.self.now) c.args.runner.pid c.args.self.now.kernel.images (stacks_of c.reach.new.stacks.items) (stack_of c.levels_at-levels.result.now) c.event_by-event.result c.in_ok-answer.answer
     (same_images c.args.self.now.kernel.images c.args.self.now.programs.items c.args.self.now.declared)
     c.reach.ensures.stacks
     c.levels_at-levels.ensures.stack
-    (rw (c.as_slice-programs.ensures.value, c.need.ensures) at c.event_by-event.ensures.event)
+    (rw (c.as_slice-programs.ensures.value, c.requires.need) at c.event_by-event.ensures.event)
     c.in_ok-answer.ensures.answer
 
 pub returns-clause-after : goal.returns-clause-after
 returns-clause-after g c =
-    follows (setting_of c.args.self.now) (now_of c.args.self.now) c.args.pid c.args.self.now.kernel.images (stacks_of c.reach.new.stacks.items) (stack_of c.levels_at-levels.result.now) (option_copied c.line_due-line.result) c.event_by-event.result c.in_ok-answer.answer _ _
+    follows (setting_of c.args.self.now) (now_of c.args.self.now) c.args.runner.pid c.args.self.now.kernel.images (stacks_of c.reach.new.stacks.items) (stack_of c.levels_at-levels.result.now) (option_copied c.line_due-line.result) c.event_by-event.result c.in_ok-answer.answer _ _
     (same_images c.args.self.now.kernel.images c.args.self.now.programs.items c.args.self.now.declared)
     c.reach.ensures.stacks
     c.levels_at-levels.ensures.stack
     (rw c.as_slice-programs.ensures.value at c.line_due-line.ensures.line)
-    (rw (c.as_slice-programs.ensures.value, c.need.ensures) at c.event_by-event.ensures.event)
+    (rw (c.as_slice-programs.ensures.value, c.requires.need) at c.event_by-event.ensures.event)
     c.in_ok-answer.ensures.answer
     c.in_ok-answer.ensures.world
     c.in_ok-answer.ensures.stacks
