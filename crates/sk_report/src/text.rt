@@ -28,6 +28,7 @@ pub fn turn_line(turn: &Turn) -> Line
 }
 
 /// The same, in the place of what was written there.
+#[inline(always)]
 pub fn write_line(text: &mut Line, turn: &Turn)
     ensures text { text.new.bytes ≡ line turn.now }
 {

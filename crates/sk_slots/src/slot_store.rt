@@ -109,6 +109,7 @@ impl ProcStore for SlotStore {
         Ok(store)
     }
 
+    #[inline(always)]
     fn get(&self, pid: u32) -> Option<&Proc> {
         let Some(slot) = slot_in(&self.table, pid) else {
             return None;
@@ -116,6 +117,7 @@ impl ProcStore for SlotStore {
         Some(&self.slots[slot])
     }
 
+    #[inline(always)]
     fn body_mut(&mut self, pid: u32) -> Option<&mut Body> {
         let Some(slot) = slot_in(&self.table, pid) else {
             return None;

@@ -81,6 +81,7 @@ fn running_reason(event: &Event, is_in_call: bool, is_due: bool) -> Option<Reaso
 }
 
 /// The same of a process with this body.
+#[inline(always)]
 pub fn signal_for(body: &Body) -> Option<u8>
     ensures value { result ≡ signal_for body.now }
     ensures signal { IfSome result IsSignal }
