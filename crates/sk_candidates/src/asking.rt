@@ -3,7 +3,7 @@ ghost use Rattle.std.specs.Option.{option_map};
 ghost use Rattle.sk_world.specs.Processes.{pids};
 ghost use Rattle.sk_world.specs.Rules.{IsWorld};
 ghost use Rattle.sk_machine.specs.Machine.{halted_of};
-ghost use Rattle.sk_machine.specs.Turns.{is_runnable, need_of};
+ghost use Rattle.sk_machine.specs.Turns.{is_runnable, need_of, next_of};
 ghost use Rattle.sk_candidates.specs.views.Noting.{NoOtherPasses, PassesOver};
 
 use sk_machine::Need;
@@ -18,10 +18,48 @@ pub struct Runner {
     pub need: Need,
 }
 
+/// Whose turn is next, where nobody can run but those that are noted and the waiter: the process with the least pid above
+/// `last` that can run, else with the least of all. The system has not halted.
+#[inline(always)]
+pub(crate) fn next_in_turn<S: ProcStore>(
+    store: &S,
+    noted: &NumberSet,
+    waiter: Option<u32>,
+    last: u32,
+) -> Option<Runner>
+    requires rules { IsWorld (S.contents store.now) }
+    requires goes_on { halted_of (S.contents store.now) ≡ None }
+    requires others { NoOtherPasses (is_runnable (S.contents store.now)) noted.now waiter }
+    ensures pid { option_map (λ runner. runner.pid) result ≡ next_of (S.contents store.now) last }
+    ensures need { IfSome result (λ runner. runner.need ≡ need_of (S.contents store.now) runner.pid) }
+{
+    match first_runnable(store, noted, waiter, last) {
+        Some(runner) => Some(runner),
+        None => first_runnable(store, noted, waiter, 0),
+    }
+}
+
+/// The same where there is a waiter, which few turns have.
+#[inline(never)]
+pub(crate) fn next_beside_waiter<S: ProcStore>(
+    store: &S,
+    noted: &NumberSet,
+    waiter: Option<u32>,
+    last: u32,
+) -> Option<Runner>
+    requires rules { IsWorld (S.contents store.now) }
+    requires goes_on { halted_of (S.contents store.now) ≡ None }
+    requires others { NoOtherPasses (is_runnable (S.contents store.now)) noted.now waiter }
+    ensures pid { option_map (λ runner. runner.pid) result ≡ next_of (S.contents store.now) last }
+    ensures need { IfSome result (λ runner. runner.need ≡ need_of (S.contents store.now) runner.pid) }
+{
+    next_in_turn(store, noted, waiter, last)
+}
+
 /// The process with the least pid above `after` that can run, where nobody can but those that are noted and the waiter.
 /// The system has not halted.
 #[inline(always)]
-pub(crate) fn first_runnable<S: ProcStore>(
+fn first_runnable<S: ProcStore>(
     store: &S,
     noted: &NumberSet,
     waiter: Option<u32>,

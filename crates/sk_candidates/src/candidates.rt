@@ -7,7 +7,7 @@ ghost use Rattle.sk_world.specs.Rules.{IsWorld};
 ghost use Rattle.sk_machine.specs.Turns.{next_of, need_of};
 ghost use Rattle.sk_candidates.specs.views.Noting.{AllBlocked, OthersBlocked, OthersAreThere, Notes, Forgets, LooksAt};
 
-use crate::asking::{Runner, first_runnable};
+use crate::asking::{Runner, next_beside_waiter, next_in_turn};
 use crate::blocked::{waiter, notified_parent, is_blocked};
 use sk_numbers::NumberSet;
 use sk_turns::halted;
@@ -151,10 +151,9 @@ impl<S: ProcStore> Candidates<S> {
         if halted(&self.store).is_some() {
             return None;
         }
-        let waiter = waiter(&self.store, self.touched);
-        match first_runnable(&self.store, &self.noted, waiter, last) {
-            Some(runner) => Some(runner),
-            None => first_runnable(&self.store, &self.noted, waiter, 0),
+        match waiter(&self.store, self.touched) {
+            None => next_in_turn(&self.store, &self.noted, None, last),
+            waiter => next_beside_waiter(&self.store, &self.noted, waiter, last),
         }
     }
 }

@@ -92,6 +92,7 @@ fn closing(below: &[Level]) -> u32
 }
 
 /// Makes the event that is due, and follows its answer. Where memory is refused nothing is changed.
+#[inline(always)]
 pub(crate) fn make<S: ProcStore>(
     kernel: &mut Kernel<S>,
     stacks: &mut Stacks,

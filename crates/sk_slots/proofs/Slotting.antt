@@ -1,5 +1,5 @@
 -- What the slots say of the processes, before and after a slot was filled, emptied or written.
-use Rattle.std.proofs.Common.{◌≡◌, ◌≢◌, ◌∙◌, ◌-◌, ◌<◌, ◌==◌, ◌||◌, ◌&&◌, ℕ, zero, suc, arith, ap, sym, refl, Bool, true, false, cond, not, List, [], ◌∷◌, length, get_or, set, replicate, Option, None, Some, inl, inr, get_or-set_same, get_or-set_other}
+use Rattle.std.proofs.Common.{◌≡◌, ◌≢◌, ◌∙◌, ◌-◌, ◌<◌, ◌==◌, ◌||◌, ◌&&◌, ℕ, suc, arith, ap, sym, refl, Bool, true, false, cond, not, List, [], ◌∷◌, length, get_or, set, Option, None, Some, inl, inr, get_or-set_same, get_or-set_other}
 use Rattle.std.specs.Prelude.{nat_lt}
 use Rattle.std.specs.Option.{is_some}
 use Rattle.std.proofs.lemmas.Bool.{eqb-true, eqb-false, eq-eqb, ne_eqb, cases_eq, cases_order, lt-ltb, le-ltb, true≢false}
@@ -52,17 +52,9 @@ read slots table q =
     let at : q - 0 ≡ q = omega arith in
     get_from slots 0 table q ∙ (λ i. cond (from i) None (in_slot slots (get_or table (at i) None)))
 
-pub nothing_there : (slots : Slab Proc) (n pid : ℕ) → processes_from slots pid (replicate n None) ≡ none
+pub nothing_there : (slots : Slab Proc) → processes_from slots 0 [] ≡ none
 unfolding processes_from
-nothing_there slots zero pid = refl
-nothing_there slots (suc n) pid =
-    ap (λ m. store m pid None) (nothing_there slots n (suc pid))
-    ∙ same_map (store none pid None) none (λ q. get_store none pid None q ∙ sym (nothing_either (q == pid)))
-
-pub no_slot : (n q : ℕ) → slot (replicate n None) q ≡ None
-no_slot zero q = refl
-no_slot (suc n) zero = refl
-no_slot (suc n) (suc q) = no_slot n q
+nothing_there slots = refl
 
 -- ---- one entry of the table is written
 

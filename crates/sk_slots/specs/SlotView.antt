@@ -1,9 +1,9 @@
 -- What a store of slots says of the world, and what holds of its parts.
-use Rattle.std.specs.Prelude.{◌≡◌, ℕ, ◌≤◌, length, Some}
+use Rattle.std.specs.Prelude.{◌≡◌, ℕ, ◌+◌, ◌<◌, ◌≤◌, Some, vec_len, vec_capacity}
 use Rattle.std.specs.Option.{is_some}
 use Rattle.slab.specs.Slab.{slab_len}
 use Rattle.sk_numbers.specs.Numbers.{contains}
-use Rattle.sk_world.specs.declared.process.TheConstants.{PROCESSES}
+use Rattle.sk_world.specs.declared.process.TheConstants.{LAST_PID, PROCESSES}
 use Rattle.sk_world.specs.Processes.{Processes, count}
 use Rattle.sk_index.specs.Beside.{IsBeside}
 use Rattle.sk_slots.specs.Slots.{Slotted, slot, in_slot, processes_from}
@@ -18,7 +18,8 @@ slotted_of store = record { world = record { procs = procs_of store; last = stor
 -- each pid has a slot of its own with a process, the numbers there are those with a slot, and what stands
 -- beside the slots agrees
 pub record IsStore (store : Inside) : Type 0 where
-  pub wide : length store.table.items ≡ 32768
+  pub wide : LAST_PID < vec_capacity store.table
+  pub narrow : vec_len store.table ≤ LAST_PID + 1
   pub capacity : PROCESSES ≤ store.slots.capacity
   pub len : slab_len store.slots ≡ count (procs_of store)
   pub few : count (procs_of store) ≤ PROCESSES

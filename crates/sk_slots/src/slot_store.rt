@@ -1,4 +1,4 @@
-ghost use Rattle.std.specs.Prelude.{◌≡◌, ℕ, ◌<◌, ◌≤◌, None, Some, IfSome, IsTrue};
+ghost use Rattle.std.specs.Prelude.{◌≡◌, ℕ, ◌+◌, ◌<◌, ◌≤◌, ◌==◌, if◌then◌else◌, None, Some, IfSome, IsTrue, vec_len, vec_capacity};
 ghost use Rattle.std.specs.Option.{is_some};
 ghost use Rattle.sk_world.specs.declared.process.TheConstants.{LAST_PID, PROCESSES};
 ghost use Rattle.sk_world.specs.Processes.{count};
@@ -20,7 +20,7 @@ use std::marker::Model;
 #[derive(Drop)]
 pub struct SlotStore {
     slots: Slab<Proc>,
-    // The slot of each pid.
+    // The slot of each pid up to the highest that there was. There is room for all.
     table: Vec<Option<usize>>,
     // The pids that are there.
     present: NumberSet,
@@ -52,6 +52,35 @@ fn slot_in(table: &[Option<usize>], pid: u32) -> Option<usize>
     match table.get(pid as usize) {
         Some(slot) => *slot,
         None => None,
+    }
+}
+
+// Gives a pid the slot of this index. The place of the pid is made where it is missing.
+fn give_slot(table: &mut Vec<Option<usize>>, pid: u32, index: usize)
+    requires pid { pid ≤ LAST_PID }
+    requires room { LAST_PID < vec_capacity table.old }
+    requires narrow { vec_len table.old ≤ LAST_PID + 1 }
+    ensures slots { (q : ℕ) → slot table.new.items q ≡ (if q == pid then Some index else slot table.old.items q) }
+    ensures room { vec_capacity table.new ≡ vec_capacity table.old }
+    ensures narrow { vec_len table.new ≤ LAST_PID + 1 }
+{
+    let place = pid as usize;
+    fill(table, place);
+    table[place] = Some(index);
+}
+
+// Makes the places up to this one, which have no slot.
+fn fill(table: &mut Vec<Option<usize>>, place: usize)
+    requires place { place ≤ LAST_PID }
+    requires room { LAST_PID < vec_capacity table.old }
+    requires narrow { vec_len table.old ≤ LAST_PID + 1 }
+    ensures slots { (q : ℕ) → slot table.new.items q ≡ slot table.old.items q }
+    ensures there { place < vec_len table.new }
+    ensures room { vec_capacity table.new ≡ vec_capacity table.old }
+    ensures narrow { vec_len table.new ≤ LAST_PID + 1 }
+{
+    while table.len() <= place {
+        table.push_reserved(None);
     }
 }
 
@@ -90,7 +119,7 @@ impl SlotStore {
         self.index.enter(pid, proc.links);
         self.present.insert(pid);
         let slot = self.slots.insert_reserved(proc);
-        self.table[pid as usize] = Some(slot);
+        give_slot(&mut self.table, pid, slot);
     }
 }
 
@@ -100,7 +129,7 @@ impl ProcStore for SlotStore {
     fn new(alloc: Global) -> Result<Self, AllocError> {
         let mut store = SlotStore {
             slots: Slab::with_capacity(alloc, PROCESSES)?,
-            table: vec![in alloc; None; NUMBERS as usize]?,
+            table: Vec::with_capacity(alloc, NUMBERS as usize)?,
             present: NumberSet::empty(),
             index: Index::new(alloc)?,
             last: INIT,

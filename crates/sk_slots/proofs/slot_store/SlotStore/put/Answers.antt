@@ -1,11 +1,11 @@
-use Rattle.std.proofs.Common.{◌≡◌, ◌∙◌, ◌+◌, ap, sym, subst, refl, arith, None, Some, length-set, set}
+use Rattle.std.proofs.Common.{◌≡◌, ◌∙◌, ◌+◌, ap, sym, subst, refl, arith, None, Some}
 use Rattle.sk_world.specs.Processes.{get, count, store}
 use Rattle.sk_world.specs.World.{World, at, stored}
 use Rattle.sk_index.specs.Beside.{IsBeside}
 use Rattle.sk_slots.specs.SlotView.{procs_of}
 use Rattle.sk_slots.specs.Slots.{Slotted, processes_from}
 use Rattle.sk_index.proofs.Indexing.{count_entered}
-use Rattle.sk_slots.proofs.Slotting.{slot_set, not_empty, processes_changed, live_changed, apart_changed, numbers_inserted, only_it}
+use Rattle.sk_slots.proofs.Slotting.{not_empty, processes_changed, live_changed, apart_changed, numbers_inserted, only_it}
 use Rattle.sk_slots.proofs.slot_store.SlotStore.put.Goals as goal
 
 pub enter-requires-clause-free : goal.enter-requires-clause-free
@@ -24,14 +24,15 @@ invariant_of-self c =
     let i = c.insert_reserved-slot.result in
     let slots = c.insert_reserved-slot.new.self in
     let entered = c.insert_reserved-slot.ensures in
-    let table = set old.table.items pid (Some i) in
+    let table = c.give_slot.new.table.items in
     let free : get (procs_of old) pid ≡ None = ap (λ (s : Slotted). at s.world pid) c.self.view_is ∙ c.requires.free in
-    let there = slot_set old.table.items pid (Some i) (omega (arith, is.wide, c.requires.pid)) in
+    let there = c.give_slot.ensures.slots in
     let others = not_empty old.slots old.table.items pid i is.live entered.was_vacant in
     let changed : processes_from slots 0 table ≡ store (procs_of old) pid (Some c.args.proc) =
     processes_changed old.slots slots old.table.items table pid i (Some i) (Some c.args.proc) entered.updates there others entered.updates.changed in
     record {
-      wide = length-set old.table.items pid (Some i) ∙ is.wide;
+      wide = omega (arith, is.wide, c.give_slot.ensures.room);
+      narrow = c.give_slot.ensures.narrow;
       capacity = omega (arith, is.capacity, entered.capacity);
       len = entered.len ∙ ap (λ n. n + 1) is.len ∙ sym (count_entered (procs_of old) pid c.args.proc free) ∙ ap count (sym changed);
       few = omega (arith, c.requires.room, ap (λ (s : Slotted). count s.world.procs) c.self.view_is, ap count changed, count_entered (procs_of old) pid c.args.proc free);
@@ -52,8 +53,8 @@ returns c =
     let i = c.insert_reserved-slot.result in
     let slots = c.insert_reserved-slot.new.self in
     let entered = c.insert_reserved-slot.ensures in
-    let table = set old.table.items pid (Some i) in
-    let there = slot_set old.table.items pid (Some i) (omega (arith, is.wide, c.requires.pid)) in
+    let table = c.give_slot.new.table.items in
+    let there = c.give_slot.ensures.slots in
     let others = not_empty old.slots old.table.items pid i is.live entered.was_vacant in
     let changed : processes_from slots 0 table ≡ store (procs_of old) pid (Some c.args.proc) =
     processes_changed old.slots slots old.table.items table pid i (Some i) (Some c.args.proc) entered.updates there others entered.updates.changed in

@@ -31,6 +31,7 @@ invariant_of-self-lent c w =
     let same = ap count changed ∙ count_kept (procs_of old) pid p (record p { body = w }) there in
     record {
       wide = is.wide;
+      narrow = is.narrow;
       capacity = is.capacity;
       len = len_written old.slots c.in-Some.slot p (record p { body = w }) has ∙ is.len ∙ sym same;
       few = omega (arith, same, is.few);

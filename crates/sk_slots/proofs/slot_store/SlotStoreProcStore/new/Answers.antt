@@ -1,4 +1,4 @@
-use Rattle.std.proofs.Common.{◌≡◌, ◌∙◌, ℕ, ap, sym, subst, refl, arith, rules, false, [], None, Some, replicate, count_by}
+use Rattle.std.proofs.Common.{◌≡◌, ◌∙◌, ℕ, ap, sym, subst, refl, arith, false, [], length, None, Some, count_by}
 use Rattle.std.specs.Option.{is_some}
 use Rattle.std.proofs.lemmas.Option.{none-some}
 use Rattle.sk_numbers.specs.Numbers.{contains}
@@ -6,7 +6,7 @@ use Rattle.sk_world.specs.Processes.{none, get, store, count}
 use Rattle.sk_world.specs.World.{World}
 use Rattle.sk_index.specs.Beside.{IsBeside}
 use Rattle.sk_slots.specs.Slots.{slot, in_slot, processes_from}
-use Rattle.sk_slots.proofs.Slotting.{nothing_there, no_slot}
+use Rattle.sk_slots.proofs.Slotting.{nothing_there}
 use Rattle.sk_slots.proofs.slot_store.SlotStoreProcStore.new.Goals as goal
 use Rattle.sk_slots.proofs.slot_store.SlotStoreProcStore.new.Goals.{In_ok-new}
 
@@ -14,21 +14,19 @@ contains_none : (q : ℕ) → contains [] q ≡ false
 unfolding contains
 contains_none q = refl
 
-items : (c : In_ok-new) → c.in_ok-vec.field-0.items ≡ replicate 32768 None
-items c = c.in_ok-vec.ensures.items_if_clones_equal (λ y h. search rules)
-
-nothing : (c : In_ok-new) → processes_from c.in_ok-with_capacity.field-0 0 c.in_ok-vec.field-0.items ≡ none
-nothing c = ap (processes_from c.in_ok-with_capacity.field-0 0) (items c) ∙ nothing_there c.in_ok-with_capacity.field-0 32768 0
+nothing : (c : In_ok-new) → processes_from c.in_ok-with_capacity.field-0 0 c.in_ok-with_capacity-2.field-0.items ≡ none
+nothing c = ap (processes_from c.in_ok-with_capacity.field-0 0) c.in_ok-with_capacity-2.ensures.items ∙ nothing_there c.in_ok-with_capacity.field-0
 
 pub invariant_of-store : goal.invariant_of-store
 invariant_of-store c =
     let slots = c.in_ok-with_capacity.field-0 in
-    let table = c.in_ok-vec.field-0 in
+    let table = c.in_ok-with_capacity-2.field-0 in
     let index = c.in_ok-new.field-0 in
-    let empty : (q : ℕ) → slot table.items q ≡ None = λ q. ap (λ t. slot t q) (items c) ∙ no_slot 32768 q in
+    let empty : (q : ℕ) → slot table.items q ≡ None = λ q. ap (λ t. slot t q) c.in_ok-with_capacity-2.ensures.items in
     let few = ap count (nothing c) in
     record {
-      wide = omega (arith, c.in_ok-vec.ensures.len, table.ok.0);
+      wide = omega (arith, c.in_ok-with_capacity-2.ensures.capacity);
+      narrow = omega (arith, ap length c.in_ok-with_capacity-2.ensures.items);
       capacity = c.in_ok-with_capacity.ensures.capacity;
       len = ap (count_by is_some) c.in_ok-with_capacity.ensures.empty ∙ sym few;
       few = omega (arith, few);

@@ -61,6 +61,7 @@ invariant_of-self c =
     let same = ap count changed ∙ count_kept (procs_of old) pid p p' there in
     record {
       wide = is.wide;
+      narrow = is.narrow;
       capacity = is.capacity;
       len = len_written old.slots i p p' has ∙ is.len ∙ sym same;
       few = omega (arith, same, is.few);

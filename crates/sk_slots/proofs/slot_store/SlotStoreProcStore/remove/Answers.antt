@@ -49,7 +49,8 @@ invariant_of-self c =
     processes_changed old.slots slots old.table.items table pid i None None left.updates there others refl in
     let fewer = count_left (procs_of old) pid p was in
     record {
-      wide = length-set old.table.items pid None ∙ is.wide;
+      wide = is.wide;
+      narrow = omega (arith, is.narrow, length-set old.table.items pid None);
       capacity = omega (arith, is.capacity, left.capacity);
       len = omega (arith, left.len, is.len, fewer, ap count changed);
       few = omega (arith, is.few, fewer, ap count changed);
