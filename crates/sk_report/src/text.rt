@@ -154,6 +154,7 @@ fn push_verdict(text: &mut Line, verdict: u32)
 }
 
 #[tactic(auto, unfolding(crate::specs::Text::outcome_text))]
+#[inline(always)]
 fn push_outcome(text: &mut Line, outcome: Outcome)
     requires room { array_string_len text.old + 36 ≤ 128 }
     ensures text { text.new.bytes ≡ text.old.bytes ++ outcome_text outcome }

@@ -7,7 +7,7 @@ ghost use Rattle.sk_machine.specs.Machine.{reason_of, step_of};
 ghost use Rattle.sk_machine.specs.Events.{pid_of};
 ghost use Rattle.sk_machine.specs.declared.event.Event.TheVariants as event;
 ghost use Rattle.sk_report.specs.Levels.{begun, made, stacks_after, with_child, script_of_child, pid_in};
-ghost use Rattle.sk_report.specs.Scheduling.{line_due, event_by, address_of, closing, script_of};
+ghost use Rattle.sk_report.specs.Scheduling.{line_due, own_event, event_by, address_of, closing, script_of};
 ghost use Rattle.sk_sched.specs.views.Stacks.{is_fork, is_other_call, stack_of, stacks_of, HasRoom, ChildIsLow, IsReady};
 
 use crate::levels::Levels;
@@ -52,18 +52,33 @@ pub(crate) fn event_by(
     requires room { IfSome line (λ _. levels.now.top.position < 2 ^ 63) }
     ensures event { result ≡ event_by programs.now pid (stack_of levels.now) need }
 {
+    match need {
+        Need::Deliver => Event::Deliver { pid },
+        Need::Resume => Event::Resume { pid },
+        Need::Call => own_event(programs, pid, levels, line),
+    }
+}
+
+/// The event of a process that goes on with its script: a call of it, or what ends it.
+fn own_event(
+    programs: &[Program],
+    pid: u32,
+    levels: &Levels,
+    line: Option<&ScriptCall>,
+) -> Event
+    requires room { IfSome line (λ _. levels.now.top.position < 2 ^ 63) }
+    ensures event { result ≡ own_event programs.now pid (stack_of levels.now) (option_copied line) }
+{
     let Levels { top, below } = levels;
-    match (need, line) {
-        (Need::Deliver, _) => Event::Deliver { pid },
-        (Need::Resume, _) => Event::Resume { pid },
-        (Need::Call, Some(line)) => Event::Call {
+    match line {
+        Some(line) => Event::Call {
             pid,
             ip: address_of(top.program, top.position),
             nr: line.nr,
             args: line.args,
         },
-        (Need::Call, None) if top.refused => Event::Fault { pid },
-        (Need::Call, None) => Event::Call {
+        None if top.refused => Event::Fault { pid },
+        None => Event::Call {
             pid,
             ip: address_of(top.program, script_of(programs, top.program).len()),
             nr: closing(below.as_slice()),
