@@ -63,7 +63,6 @@ const SYSCALLS: [Syscall; 26] = [
 
 impl Syscall {
     /// The call of a number on x86-64, if the kernel has it.
-    #[inline(always)]
     pub fn of(nr: u32) -> Option<Syscall>
         ensures call { result ≡ syscall_of nr }
         ensures number { IfSome result (λ call. number_of call ≡ nr) }
