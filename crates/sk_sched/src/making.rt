@@ -67,7 +67,7 @@ fn own_event(
     line: Option<&ScriptCall>,
 ) -> Event
     requires room { IfSome line (λ _. levels.now.top.position < 2 ^ 63) }
-    ensures event { result ≡ own_event programs.now pid (stack_of levels.now) (option_copied line) }
+    ensures event { result ≡ own_event programs.now pid (stack_of levels.now) (option_copied line.entry) }
 {
     let Levels { top, below } = levels;
     match line {
