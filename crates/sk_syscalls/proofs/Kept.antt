@@ -2,21 +2,12 @@
 use Rattle.std.proofs.Common.{◌≡◌, ℕ, ap, sym, subst, IsTrue, Some}
 use Rattle.sk_world.specs.declared.process.Body.{Body}
 use Rattle.sk_world.specs.declared.process.Proc.{Proc}
-use Rattle.sk_world.specs.World.{World, at, has_ended, has_stopped, changed, with_body}
+use Rattle.sk_world.specs.World.{World, at, has_ended, has_stopped, with_body}
 use Rattle.sk_world.specs.Rules.{IsWorld}
 use Rattle.sk_world.proofs.Bodies.{kept_body}
-use Rattle.sk_world.proofs.Stored.{kept_changed}
 
 -- the caller has another body
 pub kept_alike : (w : World) (pid : ℕ) (p : Proc) (b now : Body) (after : World)
     → IsWorld w → at w pid ≡ Some p → p.body ≡ b → now.life ≡ b.life → after ≡ with_body w pid now → IsWorld after
 kept_alike w pid p b now after rules is body same made =
     subst IsWorld (sym made) (kept_body w pid p b now rules is body (ap has_ended same) (λ e h. subst (λ life. IsTrue (has_stopped life)) same h))
-
--- its body is changed
-pub kept_change : (w : World) (pid : ℕ) (f : Body → Body) (after : World) → IsWorld w → ((body : Body) → (f body).life ≡ body.life) → after ≡ changed w pid f → IsWorld after
-kept_change w pid f after rules same made =
-    subst IsWorld (sym made) (kept_changed w pid f rules (λ p is. record {
-      ended = ap has_ended (same p.body);
-      init = λ e h. subst (λ life. IsTrue (has_stopped life)) (same p.body) h;
-    }))
