@@ -17,7 +17,8 @@ use Rattle.sk_machine.specs.Performed.{Performed, returns, changes, authorises}
 use Rattle.sk_machine.specs.Performing.{with_subreaper, where_subreapers}
 use Rattle.sk_machine.specs.SignalCalls.{with_signals, resignals}
 use Rattle.sk_machine.specs.Authority.{Authority, authority_of, with_authority, with_creds}
-use Rattle.sk_syscalls.specs.Rows.{ComesTo, ActsOn}
+use Rattle.sk_syscalls.specs.Rows.{ComesTo}
+use Rattle.sk_syscalls.specs.views.Own.{ActsOn}
 use Rattle.sk_syscalls.specs.views.Returned.{done, returned}
 
 -- what is shown at the caller's body

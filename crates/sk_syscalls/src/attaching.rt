@@ -7,7 +7,7 @@ ghost use Rattle.sk_creds.specs.Errno.{answer_of};
 ghost use Rattle.sk_machine.specs.Given.{filter_image};
 ghost use Rattle.sk_machine.specs.Authority.{authority_of, program_of, filtered, after_attach};
 ghost use Rattle.sk_machine.specs.Memory.{is_read};
-ghost use Rattle.sk_syscalls.specs.Rows.{reauthorised};
+ghost use Rattle.sk_syscalls.specs.views.Own.{reauthorised};
 
 use sk_chain::{Chain, ChainFault};
 use sk_check::{Checked, check};

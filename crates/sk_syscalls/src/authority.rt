@@ -8,7 +8,7 @@ ghost use Rattle.sk_machine.specs.Arguments.{register, low};
 ghost use Rattle.sk_machine.specs.Authority.{authority_of, after_execve};
 ghost use Rattle.sk_machine.specs.Given.{mark_of};
 ghost use Rattle.sk_machine.specs.Performing.{executing, execve};
-ghost use Rattle.sk_syscalls.specs.Rows.{ActsOn};
+ghost use Rattle.sk_syscalls.specs.views.Own.{ActsOn};
 
 use sk_creds::{Creds, Errno};
 use sk_insn::Record;

@@ -5,7 +5,8 @@ ghost use Rattle.std.specs.Option.{is_some, option_map_or};
 ghost use Rattle.sk_world.specs.World.{at};
 ghost use Rattle.sk_world.specs.Rules.{IsWorld};
 ghost use Rattle.sk_machine.specs.Memory.{is_read};
-ghost use Rattle.sk_syscalls.specs.Rows.{ComesTo, ActsOn, own_row, own_attaches};
+ghost use Rattle.sk_syscalls.specs.Rows.{ComesTo};
+ghost use Rattle.sk_syscalls.specs.views.Own.{ActsOn, own_row, own_attaches};
 
 use crate::authority::{execve, setresuid, setuid};
 use crate::outcome::done;

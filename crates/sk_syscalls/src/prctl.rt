@@ -11,7 +11,8 @@ ghost use Rattle.sk_machine.specs.Authority.{authority_of, after_no_new_privs, a
 ghost use Rattle.sk_machine.specs.Memory.{is_read, prctl_attaches};
 ghost use Rattle.sk_machine.specs.Performing.{prctl, seccomp_mode, no_new_privs_asked, with_subreaper};
 ghost use Rattle.sk_machine.specs.declared.operation.PrctlOption.TheVariants as option;
-ghost use Rattle.sk_syscalls.specs.Rows.{ComesTo, reauthorised};
+ghost use Rattle.sk_syscalls.specs.Rows.{ComesTo};
+ghost use Rattle.sk_syscalls.specs.views.Own.{reauthorised};
 
 use crate::attaching::attach;
 use crate::caller::caller;

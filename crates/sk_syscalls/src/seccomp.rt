@@ -10,7 +10,8 @@ ghost use Rattle.sk_machine.specs.Authority.{authority_of, after_set_mode_filter
 ghost use Rattle.sk_machine.specs.Memory.{is_read, seccomp_attaches};
 ghost use Rattle.sk_machine.specs.Performing.{seccomp, action_available};
 ghost use Rattle.sk_machine.specs.declared.operation.SeccompOperation.TheVariants as operation;
-ghost use Rattle.sk_syscalls.specs.Rows.{ComesTo, reauthorised};
+ghost use Rattle.sk_syscalls.specs.Rows.{ComesTo};
+ghost use Rattle.sk_syscalls.specs.views.Own.{reauthorised};
 
 use crate::attaching::attach;
 use crate::outcome::returned;

@@ -2,7 +2,8 @@ use Rattle.std.proofs.Common.{◌∙◌, ap, sym, subst}
 use Rattle.std.proofs.lemmas.Result.{IfOk-weaker, on_err_weaker}
 use Rattle.sk_world.specs.declared.process.Body.{Body}
 use Rattle.sk_world.specs.World.{World, with_body}
-use Rattle.sk_syscalls.specs.Rows.{ComesTo, own_row}
+use Rattle.sk_syscalls.specs.Rows.{ComesTo}
+use Rattle.sk_syscalls.specs.views.Own.{own_row}
 use Rattle.sk_delivery.proofs.Taking.{kept_alike}
 use Rattle.sk_syscalls.proofs.Rows.{put_back}
 use Rattle.sk_syscalls.proofs.own.perform_own.Goals as goal
