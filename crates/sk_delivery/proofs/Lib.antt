@@ -2,4 +2,4 @@ pub mod Options
 pub mod Listing
 pub mod Reaching
 pub mod Taking
-pub mod Acting
+pub mod Deeds

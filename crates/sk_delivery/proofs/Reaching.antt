@@ -1,8 +1,11 @@
 -- Walks from one process that a signal is meant for to the next.
-use Rattle.std.proofs.Common.{◌≡◌, ◌∙◌, ◌<◌, ◌≤◌, ◌==◌, ⊎_elim, ℕ, arith, ap, sym, refl, subst, Bool, true, false, cond, not, ◌&&◌, ◌||◌, IsTrue, filter, length, Option, None, Some}
+use Rattle.std.proofs.Common.{◌≡◌, ◌∙◌, ◌<◌, ◌≤◌, ◌==◌, ⊎_elim, ℕ, ℤ, arith, ap, sym, refl, subst, Bool, true, false, cond, not, ◌&&◌, ◌||◌, IsTrue, [], ◌∷◌, filter, length, Option, None, Some, Ok, Err}
+use Rattle.std.specs.Prelude.{nat_le}
 use Rattle.std.specs.Option.{is_some, option_map, option_map_or}
 use Rattle.std.specs.List.{list_any}
-use Rattle.std.proofs.lemmas.Bool.{and_parts, cases_lt, cond_both}
+use Rattle.std.proofs.lemmas.Bool.{and_parts, cases_eq, cond_both, eq-eqb, ne_eqb}
+use Rattle.std.proofs.lemmas.Bool.Decides.{nat_tests}
+use Rattle.sk_creds.specs.declared.errno.Errno.TheVariants.{Eperm, Esrch, Einval}
 use Rattle.sk_creds.specs.declared.creds.Creds.{Creds}
 use Rattle.sk_creds.specs.Creds.{may_signal}
 use Rattle.sk_signal.specs.declared.number.TheConstants.{SIGCHLD, SIGCONT}
@@ -20,16 +23,13 @@ use Rattle.sk_world.specs.World.{World, at, has_ended, has_stopped, is_stopped, 
 use Rattle.sk_world.specs.Rules.{IsWorld}
 use Rattle.sk_world.specs.Sending.{continued, signalled, generated_at, sent, sent_to_each}
 use Rattle.sk_world.proofs.Stored.{everywhere}
-use Rattle.sk_world.proofs.Walks.{above, none_above, next_above, pass_above, all_above, none_any, any_here, beyond}
-use Rattle.sk_session.specs.Sessions.{session_of}
+use Rattle.sk_world.proofs.Walks.{above, none_above, next_above, all_above, none_any, any_here, beyond}
+use Rattle.sk_session.specs.Sessions.{group_of, session_of}
 use Rattle.sk_session.proofs.Walking.{nobody_at_0}
-use Rattle.sk_machine.specs.Killing.{is_meant, is_open_to, may_kill}
-use Rattle.sk_delivery.specs.Targets.{is_target, meant, reached}
+use Rattle.sk_machine.specs.Arguments.{who_meant}
+use Rattle.sk_machine.specs.Killing.{is_meant, is_open_to, may_kill, killed, after_kill}
+use Rattle.sk_delivery.specs.Targets.{is_target, meant, reached, is_reached, after_kill_of, after_kill_of_one}
 use Rattle.sk_delivery.proofs.Listing.{kept_there, kept_both, some_kept}
-
--- a process that is meant, and that the caller may send the signal to
-abbrev pub is_reached : World → ℕ → Creds → Who → ℕ → ℕ → Bool
-is_reached w caller creds who n q = is_target w caller who q && may_kill w caller creds n q
 
 -- nobody has the pid 0
 no_target_at_0 : (w : World) (caller : ℕ) (who : Who) → IsWorld w → is_target w caller who 0 ≡ false
@@ -66,32 +66,103 @@ reached_as_any : (w : World) (caller : ℕ) (creds : Creds) (who : Who) (n : ℕ
 reached_as_any w caller creds who n = ap (λ xs. not (length xs == 0)) (reached_is w caller creds who n) ∙ some_kept (is_reached w caller creds who n) (pids w.procs)
 
 -- who is not meant is not reached
-pub no_target : (w : World) (caller : ℕ) (creds : Creds) (who : Who) (n q : ℕ) → is_target w caller who q ≡ false → is_reached w caller creds who n q ≡ false
+no_target : (w : World) (caller : ℕ) (creds : Creds) (who : Who) (n q : ℕ) → is_target w caller who q ≡ false → is_reached w caller creds who n q ≡ false
 no_target w caller creds who n q none = ap (λ b. b && may_kill w caller creds n q) none
+
+none_low : (w : World) (caller : ℕ) (creds : Creds) (who : Who) (n : ℕ) → IsWorld w → (q : ℕ) → q ≤ 0 → is_reached w caller creds who n q ≡ false
+none_low w caller creds who n rules q le = no_target w caller creds who n q (low_targets w caller who rules q le)
+
+-- who is reached is there
+reached_there : (w : World) (caller : ℕ) (creds : Creds) (who : Who) (n q : ℕ) → IsTrue (is_reached w caller creds who n q) → IsTrue (is_some (at w q))
+reached_there w caller creds who n q is =
+    (and_parts (is_some (at w q)) (is_meant w caller who q) (and_parts (is_target w caller who q) (may_kill w caller creds n q) is).0).0
+
+-- the first of those that are reached says whether any is
+pub reached_found : (w : World) (caller : ℕ) (creds : Creds) (who : Who) (n : ℕ) (found : Option ℕ) → IsWorld w → IsNext (is_reached w caller creds who n) 0 found
+    → is_some found ≡ not (length (reached w caller creds who n) == 0)
+reached_found w caller creds who n None rules none =
+    sym (reached_as_any w caller creds who n ∙ none_any (is_reached w caller creds who n) (pids w.procs) (beyond (is_reached w caller creds who n) (is_reached w caller creds who n) 0 (λ _ h. h) (none_low w caller creds who n rules) none))
+reached_found w caller creds who n (Some pid) rules next =
+    sym (reached_as_any w caller creds who n ∙ any_here (is_reached w caller creds who n) w.procs.entries pid (reached_there w caller creds who n pid next.1) next.1)
+
+-- ---- one that is meant
 
 and_none : (b : Bool) → (b && false) ≡ false
 and_none true = refl
 and_none false = refl
 
--- nor is who may not be sent to
-pub not_permitted : (w : World) (caller : ℕ) (creds : Creds) (who : Who) (n q : ℕ) → may_kill w caller creds n q ≡ false → is_reached w caller creds who n q ≡ false
-not_permitted w caller creds who n q none = ap (λ b. is_target w caller who q && b) none ∙ and_none (is_target w caller who q)
+if_not : (b : Bool) → not b ≡ false → b ≡ true
+if_not true e = refl
+if_not false e = sym e
 
-pub none_reached_low : (w : World) (caller : ℕ) (creds : Creds) (who : Who) (n : ℕ) → IsWorld w → (q : ℕ) → q ≤ 0 → is_reached w caller creds who n q ≡ false
-none_reached_low w caller creds who n rules q le = no_target w caller creds who n q (low_targets w caller who rules q le)
+if_so : (b : Bool) → not b ≡ true → b ≡ false
+if_so true e = sym e
+if_so false e = refl
 
--- one that is meant and may be sent to is reached
-pub one_reached : (w : World) (caller : ℕ) (creds : Creds) (who : Who) (n pid : ℕ) → IsTrue (is_target w caller who pid) → may_kill w caller creds n pid ≡ true
-    → true ≡ not (length (reached w caller creds who n) == 0)
-one_reached w caller creds who n pid target permitted =
-    sym (reached_as_any w caller creds who n
-    ∙ any_here (is_reached w caller creds who n) w.procs.entries pid (and_parts (is_some (at w pid)) (is_meant w caller who pid) target).0 (λ i. target i && permitted i))
+module _ (w : World) (caller : ℕ) (creds : Creds) (pid n : ℕ) (rules : IsWorld w) where
+  another : (q : ℕ) → (q ≡ pid → ⊥) → is_target w caller (who.Child pid) q ≡ false
+  another q other = ap (λ b. is_some (at w q) && b) (ne_eqb q pid other) ∙ and_none (is_some (at w q))
 
-pub none_reached : (w : World) (caller : ℕ) (creds : Creds) (who : Who) (n after : ℕ) → ((q : ℕ) → q ≤ after → is_reached w caller creds who n q ≡ false)
-    → IsNext (is_target w caller who) after None → false ≡ not (length (reached w caller creds who n) == 0)
-none_reached w caller creds who n after low none =
-    sym (reached_as_any w caller creds who n
-    ∙ none_any (is_reached w caller creds who n) (pids w.procs) (beyond (is_reached w caller creds who n) (is_target w caller who) after (no_target w caller creds who n) low none))
+  another_reached : (q : ℕ) → (q ≡ pid → ⊥) → is_reached w caller creds (who.Child pid) n q ≡ false
+  another_reached q other = no_target w caller creds (who.Child pid) n q (another q other)
+
+  nobody_meant : is_some (at w pid) ≡ false → (length (meant w caller (who.Child pid)) == 0) ≡ true
+  nobody_meant gone = if_not (length (meant w caller (who.Child pid)) == 0) (meant_as_any w caller (who.Child pid) ∙ none_any (is_target w caller (who.Child pid)) (pids w.procs) (λ q.
+      ⊎_elim (λ is. ap (λ k. is_some (at w k) && (k == pid)) is ∙ ap (λ b. b && (pid == pid)) gone) (another q) (cases_eq q pid)))
+
+  nobody_reached : may_kill w caller creds n pid ≡ false → (length (reached w caller creds (who.Child pid) n) == 0) ≡ true
+  nobody_reached refused = if_not (length (reached w caller creds (who.Child pid) n) == 0) (reached_as_any w caller creds (who.Child pid) n ∙ none_any (is_reached w caller creds (who.Child pid) n) (pids w.procs) (λ q.
+      ⊎_elim (λ is. ap (is_reached w caller creds (who.Child pid) n) is ∙ ap (λ b. is_target w caller (who.Child pid) pid && b) refused ∙ and_none (is_target w caller (who.Child pid) pid)) (another_reached q) (cases_eq q pid)))
+
+  module _ (there : is_some (at w pid) ≡ true) where
+    here : is_target w caller (who.Child pid) pid ≡ true
+    here = λ i. there i && eq-eqb pid pid refl i
+
+    one_meant : (length (meant w caller (who.Child pid)) == 0) ≡ false
+    one_meant = if_so (length (meant w caller (who.Child pid)) == 0) (meant_as_any w caller (who.Child pid) ∙ any_here (is_target w caller (who.Child pid)) w.procs.entries pid there here)
+
+    one_reached : may_kill w caller creds n pid ≡ true → reached w caller creds (who.Child pid) n ≡ pid ∷ []
+    one_reached may =
+        let test : ℕ → Bool = is_reached w caller creds (who.Child pid) n in
+        reached_is w caller creds (who.Child pid) n
+        ∙ sym (all_above test w.procs.entries (none_low w caller creds (who.Child pid) n rules 0 (omega arith)))
+        ∙ next_above test 0 pid w.procs.entries w.procs.rising there (rules.pids pid there).0 (λ i. here i && may i) (λ q _ lt. another_reached q (λ is. below q lt is))
+        ∙ ap (λ xs. pid ∷ xs) (none_above test pid w.procs.entries (λ q lt. another_reached q (λ is. above_it q lt is)))
+      where
+        below : (q : ℕ) → q < pid → q ≡ pid → ⊥
+        below q lt is = omega arith
+
+        above_it : (q : ℕ) → pid < q → q ≡ pid → ⊥
+        above_it q lt is = omega arith
+
+  -- what is done where this one process is meant
+  pub one_is : after_kill_of_one w caller creds pid n ≡ after_kill_of w caller creds (who.Child pid) n
+  one_is = by_there (is_some (at w pid)) refl
+    where
+      if_permitted : (b : Bool) → may_kill w caller creds n pid ≡ b → is_some (at w pid) ≡ true
+          → cond (not b) (Err Eperm) (Ok (cond (n == 0) w (sent w pid n)))
+          ≡ cond (length (reached w caller creds (who.Child pid) n) == 0) (Err Eperm) (Ok (killed w (reached w caller creds (who.Child pid) n) n))
+      if_permitted true may there = sym (ap (λ xs. cond (length xs == 0) (Err Eperm) (Ok (killed w xs n))) (one_reached there may))
+      if_permitted false may there = sym (ap (λ b. cond b (Err Eperm) (Ok (killed w (reached w caller creds (who.Child pid) n) n))) (nobody_reached may))
+
+      by_there : (b : Bool) → is_some (at w pid) ≡ b → after_kill_of_one w caller creds pid n ≡ after_kill_of w caller creds (who.Child pid) n
+      by_there true there =
+          ap (λ b. cond (not b) (Err Esrch) (cond (not (may_kill w caller creds n pid)) (Err Eperm) (Ok (cond (n == 0) w (sent w pid n))))) there
+          ∙ if_permitted (may_kill w caller creds n pid) refl there
+          ∙ sym (ap (λ b. cond b (Err Esrch) (cond (length (reached w caller creds (who.Child pid) n) == 0) (Err Eperm) (Ok (killed w (reached w caller creds (who.Child pid) n) n)))) (one_meant there))
+      by_there false gone =
+          ap (λ b. cond (not b) (Err Esrch) (cond (not (may_kill w caller creds n pid)) (Err Eperm) (Ok (cond (n == 0) w (sent w pid n))))) gone
+          ∙ sym (ap (λ b. cond b (Err Esrch) (cond (length (reached w caller creds (who.Child pid) n) == 0) (Err Eperm) (Ok (killed w (reached w caller creds (who.Child pid) n) n)))) (nobody_meant gone))
+
+-- what is done where those are meant that the argument means
+pub as_meant : (w : World) (caller : ℕ) (creds : Creds) (who : Who) (argument : ℤ) (n : ℕ) → who ≡ who_meant (group_of (at w caller)) argument → n ≤ 31
+    → after_kill_of w caller creds who n ≡ after_kill w caller creds argument n
+as_meant w caller creds who argument n is within =
+    ap (λ x. after_kill_of w caller creds x n) is
+    ∙ sym (ap (λ b. cond (not b) (Err Einval) (after_kill_of w caller creds (who_meant (group_of (at w caller)) argument) n)) (in_range within))
+  where
+    in_range : n ≤ 31 → nat_le n 31 ≡ true
+    in_range h = grind (arith, nat_tests)
 
 -- ---- what a signal leaves
 
@@ -178,46 +249,27 @@ sending_begins w caller creds who signal rules = record {
   world = ap (λ xs. sent_to_each w xs signal) (all_above (is_reached w caller creds who signal) w.procs.entries (no_target w caller creds who signal 0 (no_target_at_0 w caller who rules)) ∙ sym (reached_is w caller creds who signal));
 }
 
-module _ (before now : World) (caller : ℕ) (creds : Creds) (who : Who) (signal after next : ℕ) (is : IsSentTo before now caller creds who signal after) (found : IsNext (is_target now caller who) after (Some next)) where
-  target : IsTrue (is_target before caller who next)
-  target = sym (same_target now before is.same caller who next) ∙ found.1
+module _ (before now : World) (caller : ℕ) (creds : Creds) (who : Who) (signal after : ℕ) (is : IsSentTo before now caller creds who signal after) where
+  same_reached : (q : ℕ) → is_reached now caller creds who signal q ≡ is_reached before caller creds who signal q
+  same_reached q = λ i. same_target now before is.same caller who q i && same_permission now before is.same caller creds signal q i
 
-  between : (q : ℕ) → after < q → q < next → is_reached before caller creds who signal q ≡ false
-  between q beyond below = no_target before caller creds who signal q (sym (same_target now before is.same caller who q) ∙ found.2 q beyond below)
-
-  pub sent_further : (then : World) → may_kill now caller creds signal next ≡ true → IsWorld then → then ≡ sent now next signal → IsSentTo before then caller creds who signal next
-  sent_further then permitted rules e = record {
+  pub sent_further : (next : ℕ) (then : World) → IsNext (is_reached now caller creds who signal) after (Some next) → IsWorld then → then ≡ sent now next signal
+      → IsSentTo before then caller creds who signal next
+  sent_further next then found rules e = record {
     rules = rules;
     same = λ q. ap (λ v. seen (at v q)) e ∙ sent_seen now next signal q ∙ is.same q;
     world =
         ap (λ v. sent_to_each v (above (is_reached before caller creds who signal) next before.procs.entries) signal) e
         ∙ ap (λ xs. sent_to_each now xs signal)
-        (sym (next_above (is_reached before caller creds who signal) after next before.procs.entries before.procs.rising (and_parts (is_some (at before next)) (is_meant before caller who next) target).0 found.0 passes between))
+        (sym (next_above (is_reached before caller creds who signal) after next before.procs.entries before.procs.rising (reached_there before caller creds who signal next passes) found.0 passes
+        (λ q beyond below. sym (same_reached q) ∙ found.2 q beyond below)))
         ∙ is.world;
   }
     where
       passes : is_reached before caller creds who signal next ≡ true
-      passes = (λ i. target i && (sym (same_permission now before is.same caller creds signal next) ∙ permitted) i)
+      passes = sym (same_reached next) ∙ found.1
 
-  pub passed_over : may_kill now caller creds signal next ≡ false → IsSentTo before now caller creds who signal next
-  passed_over refused = record {
-    rules = is.rules;
-    same = is.same;
-    world = ap (λ xs. sent_to_each now xs signal) (sym (pass_above (is_reached before caller creds who signal) after next before.procs.entries found.0 none)) ∙ is.world;
-  }
-    where
-      same : (q : ℕ) → q ≤ next → next ≤ q → next ≡ q
-      same q le ge = omega arith
-
-      here : is_reached before caller creds who signal next ≡ false
-      here = not_permitted before caller creds who signal next (sym (same_permission now before is.same caller creds signal next) ∙ refused)
-
-      none : (q : ℕ) → after < q → q ≤ next → is_reached before caller creds who signal q ≡ false
-      none q beyond le = ⊎_elim (λ lt. between q beyond lt) (λ ge. subst (λ k. is_reached before caller creds who signal k ≡ false) (same q le ge) here) (cases_lt q next)
-
-pub sending_ends : (before now : World) (caller : ℕ) (creds : Creds) (who : Who) (signal after : ℕ) → IsSentTo before now caller creds who signal after
-    → IsNext (is_target now caller who) after None → now ≡ sent_to_each before (reached before caller creds who signal) signal
-sending_ends before now caller creds who signal after is none =
-    ap (λ xs. sent_to_each now xs signal)
-    (sym (none_above (is_reached before caller creds who signal) after before.procs.entries (λ q lt. no_target before caller creds who signal q (sym (same_target now before is.same caller who q) ∙ none q lt))))
-    ∙ is.world
+  pub sending_ends : IsNext (is_reached now caller creds who signal) after None → now ≡ sent_to_each before (reached before caller creds who signal) signal
+  sending_ends none =
+      ap (λ xs. sent_to_each now xs signal) (sym (none_above (is_reached before caller creds who signal) after before.procs.entries (λ q lt. sym (same_reached q) ∙ none q lt)))
+      ∙ is.world

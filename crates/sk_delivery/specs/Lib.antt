@@ -1,2 +1,3 @@
 pub mod Targets
 pub mod Requests
+pub mod Deeds

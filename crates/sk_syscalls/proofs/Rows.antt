@@ -1,21 +1,24 @@
 -- How a row is met by a change of the caller's body.
-use Rattle.std.proofs.Common.{◌≡◌, ◌∙◌, ℕ, ap, sym, refl, subst, None, Some, Result, Ok, Err, IfSome}
+use Rattle.std.proofs.Common.{◌≡◌, ◌∙◌, ℕ, ap, sym, refl, subst, Bool, true, false, cond, None, Some, Result, Ok, Err, IfSome}
 use Rattle.std.specs.Option.{option_map}
-use Rattle.std.specs.Result.{OnErr, result_unwrap_or}
+use Rattle.std.specs.Result.{result_unwrap_or}
 use Rattle.sk_creds.specs.declared.errno.Errno.{Errno}
+use Rattle.sk_creds.specs.declared.errno.Errno.TheVariants.{Einval}
+use Rattle.sk_creds.specs.declared.creds.Creds.{Creds}
+use Rattle.sk_creds.specs.Errno.{answer_of}
 use Rattle.sk_signal.specs.SignalState.{SignalState}
 use Rattle.sk_world.specs.declared.process.Body.{Body}
 use Rattle.sk_world.specs.declared.process.Proc.{Proc}
-use Rattle.sk_world.specs.World.{World, at, stored, body_changed, with_body}
+use Rattle.sk_world.specs.World.{World, at, stored, changed, body_changed, with_body}
 use Rattle.sk_world.proofs.Bodies.{kept_at, given_back}
-use Rattle.sk_machine.specs.declared.answer.Outcome.{Outcome}
-use Rattle.sk_machine.specs.Performed.{Performed, changes, authorises}
-use Rattle.sk_machine.specs.SignalCalls.{with_signals, resignals}
-use Rattle.sk_creds.specs.Errno.{answer_of}
-use Rattle.sk_creds.specs.declared.creds.Creds.{Creds}
-use Rattle.sk_machine.specs.Authority.{Authority, authority_of, with_authority, with_creds}
 use Rattle.sk_session.specs.Sessions.{answered}
+use Rattle.sk_machine.specs.declared.answer.Outcome.{Outcome}
+use Rattle.sk_machine.specs.Performed.{Performed, returns, changes, authorises}
+use Rattle.sk_machine.specs.Performing.{with_subreaper, where_subreapers}
+use Rattle.sk_machine.specs.SignalCalls.{with_signals, resignals}
+use Rattle.sk_machine.specs.Authority.{Authority, authority_of, with_authority, with_creds}
 use Rattle.sk_syscalls.specs.Rows.{ComesTo}
+use Rattle.sk_syscalls.specs.views.Own.{ActsOn}
 use Rattle.sk_syscalls.specs.views.Returned.{done, returned}
 
 -- what is shown at the caller's body
@@ -31,41 +34,37 @@ put_back w pid p b is body =
     ap (λ o. stored w pid (option_map (body_changed (λ old. b)) o)) is
     ∙ kept_at w pid (Some (record p { body = b })) (is ∙ ap (λ x. Some (record p { body = x })) body)
 
--- other signals
-pub resignalled : (w : World) (pid : ℕ) (p : Proc) (b : Body) (r : Result SignalState Errno) → at w pid ≡ Some p → p.body ≡ b
-    → with_body w pid (with_signals (result_unwrap_or r b.signals) b) ≡ (resignals w pid r).world
-resignalled w pid p b (Ok s) is body = given_back w pid (with_signals s) p b is body
-resignalled w pid p b (Err e) is body = put_back w pid p b is body
+-- a call that has changed the body, whatever it was
+pub has_acted : (pid : ℕ) (row : World → Body → Performed) (b : Body) (f : Body → Body) (outcome : Outcome) (now : Body)
+    → ((w : World) → (outcome ≡ (row w b).outcome) × (changed w pid f ≡ (row w b).world)) → now ≡ f b → ActsOn pid b row outcome now
+has_acted pid row b f outcome now says is w p there body =
+    comes_to w pid row outcome (with_body w pid now) p b there body (says w).0 (ap (with_body w pid) is ∙ given_back w pid f p b there body ∙ (says w).1)
 
-done_resignals : (w : World) (pid : ℕ) (r : Result SignalState Errno) → done (answer_of r) ≡ (resignals w pid r).outcome
-done_resignals w pid (Ok s) = refl
-done_resignals w pid (Err e) = refl
+-- a call that has left it
+pub has_left : (pid : ℕ) (row : World → Body → Performed) (b : Body) (outcome : Outcome) (now : Body)
+    → ((w : World) → (outcome ≡ (row w b).outcome) × (w ≡ (row w b).world)) → now ≡ b → ActsOn pid b row outcome now
+has_left pid row b outcome now says is w p there body =
+    comes_to w pid row outcome (with_body w pid now) p b there body (says w).0 (ap (with_body w pid) is ∙ put_back w pid p b there body ∙ (says w).1)
 
--- a call that has changed the caller's signals, or has failed
-pub has_resignalled : (w : World) (pid : ℕ) (r : SignalState → Result SignalState Errno) (p : Proc) (b : Body) (answer : Result (Unit {0}) Errno) (s : SignalState) (outcome : Outcome) (after : World)
-    → at w pid ≡ Some p → p.body ≡ b → answer ≡ answer_of (r b.signals) → s ≡ result_unwrap_or (r b.signals) b.signals
-    → outcome ≡ done answer → after ≡ with_body w pid (with_signals s b) → ComesTo w pid (λ v body. resignals v pid (r body.signals)) outcome after
-has_resignalled w pid r p b answer s outcome after is body answered state told made =
-    comes_to w pid (λ v x. resignals v pid (r x.signals)) outcome after p b is body (told ∙ ap done answered ∙ done_resignals w pid (r b.signals))
-    (made ∙ ap (λ x. with_body w pid (with_signals x b)) state ∙ resignalled w pid p b (r b.signals) is body)
-
--- another authority
-authorised : (w : World) (pid : ℕ) (p : Proc) (b : Body) (r : Result Authority Errno) → at w pid ≡ Some p → p.body ≡ b
-    → with_body w pid (with_authority (result_unwrap_or r (authority_of b)) b) ≡ (authorises w pid r).world
-authorised w pid p b (Ok a) is body = given_back w pid (with_authority a) p b is body
-authorised w pid p b (Err e) is body = put_back w pid p b is body
-
-done_authorises : (w : World) (pid : ℕ) (r : Result Authority Errno) → done (answer_of r) ≡ (authorises w pid r).outcome
-done_authorises w pid (Ok a) = refl
-done_authorises w pid (Err e) = refl
+-- a call that has given the caller other signals, or has failed
+pub has_resignalled : (pid : ℕ) (r : SignalState → Result SignalState Errno) (b : Body) (answer : Result (Unit {0}) Errno) (s : SignalState) (outcome : Outcome)
+    → answer ≡ answer_of (r b.signals) → s ≡ result_unwrap_or (r b.signals) b.signals → outcome ≡ done answer
+    → ActsOn pid b (λ w body. resignals w pid (r body.signals)) outcome (with_signals s b)
+has_resignalled pid r b answer s outcome answered state told =
+    elim (r b.signals) as (λ x. answer ≡ answer_of x → s ≡ result_unwrap_or x b.signals → r b.signals ≡ x → ActsOn pid b (λ w body. resignals w pid (r body.signals)) outcome (with_signals s b)) [
+      | Ok t ↦ λ answered state is. has_acted pid _ b (with_signals t) outcome _ (λ w. (told ∙ ap done answered ∙ ap (λ x. (resignals w pid x).outcome) (sym is), ap (λ x. (resignals w pid x).world) (sym is))) (ap (λ x. with_signals x b) state)
+      | Err e ↦ λ answered state is. has_left pid _ b outcome _ (λ w. (told ∙ ap done answered ∙ ap (λ x. (resignals w pid x).outcome) (sym is), ap (λ x. (resignals w pid x).world) (sym is))) (ap (λ x. with_signals x b) state)
+    ] answered state refl
 
 -- a call that has given the caller another authority, or has failed
-pub has_authorised : (w : World) (pid : ℕ) (r : Authority → Result Authority Errno) (p : Proc) (b : Body) (answer : Result (Unit {0}) Errno) (now : Body) (outcome : Outcome) (after : World)
-    → at w pid ≡ Some p → p.body ≡ b → answer ≡ answer_of (r (authority_of b)) → now ≡ with_authority (result_unwrap_or (r (authority_of b)) (authority_of b)) b
-    → outcome ≡ done answer → after ≡ with_body w pid now → ComesTo w pid (λ v body. authorises v pid (r (authority_of body))) outcome after
-has_authorised w pid r p b answer now outcome after is body answered state told made =
-    comes_to w pid (λ v x. authorises v pid (r (authority_of x))) outcome after p b is body (told ∙ ap done answered ∙ done_authorises w pid (r (authority_of b)))
-    (made ∙ ap (with_body w pid) state ∙ authorised w pid p b (r (authority_of b)) is body)
+pub has_authorised : (pid : ℕ) (r : Authority → Result Authority Errno) (b : Body) (answer : Result (Unit {0}) Errno) (now : Body) (outcome : Outcome)
+    → answer ≡ answer_of (r (authority_of b)) → now ≡ with_authority (result_unwrap_or (r (authority_of b)) (authority_of b)) b → outcome ≡ done answer
+    → ActsOn pid b (λ w body. authorises w pid (r (authority_of body))) outcome now
+has_authorised pid r b answer now outcome answered state told =
+    elim (r (authority_of b)) as (λ x. answer ≡ answer_of x → now ≡ with_authority (result_unwrap_or x (authority_of b)) b → r (authority_of b) ≡ x → ActsOn pid b (λ w body. authorises w pid (r (authority_of body))) outcome now) [
+      | Ok a ↦ λ answered state is. has_acted pid _ b (with_authority a) outcome now (λ w. (told ∙ ap done answered ∙ ap (λ x. (authorises w pid x).outcome) (sym is), ap (λ x. (authorises w pid x).world) (sym is))) state
+      | Err e ↦ λ answered state is. has_left pid _ b outcome now (λ w. (told ∙ ap done answered ∙ ap (λ x. (authorises w pid x).outcome) (sym is), ap (λ x. (authorises w pid x).world) (sym is))) state
+    ] answered state refl
 
 answer_with_creds : (a : Authority) (r : Result Creds Errno) → answer_of r ≡ answer_of (with_creds a r)
 answer_with_creds a (Ok creds) = refl
@@ -76,12 +75,19 @@ body_with_creds b (Ok creds) = refl
 body_with_creds b (Err e) = refl
 
 -- a call that has given the caller other ids, or has failed
-pub has_other_ids : (w : World) (pid : ℕ) (r : Creds → Result Creds Errno) (p : Proc) (b : Body) (answer : Result (Unit {0}) Errno) (creds : Creds) (outcome : Outcome) (after : World)
-    → at w pid ≡ Some p → p.body ≡ b → answer ≡ answer_of (r b.creds) → creds ≡ result_unwrap_or (r b.creds) b.creds
-    → outcome ≡ done answer → after ≡ with_body w pid (record b { creds = creds }) → ComesTo w pid (λ v body. authorises v pid (with_creds (authority_of body) (r body.creds))) outcome after
-has_other_ids w pid r p b answer creds outcome after is body answered state told made =
-    has_authorised w pid (λ a. with_creds a (r a.creds)) p b answer (record b { creds = creds }) outcome after is body (answered ∙ answer_with_creds (authority_of b) (r b.creds))
-    (ap (λ x. record b { creds = x }) state ∙ body_with_creds b (r b.creds)) told made
+pub has_other_ids : (pid : ℕ) (r : Creds → Result Creds Errno) (b : Body) (answer : Result (Unit {0}) Errno) (creds : Creds) (outcome : Outcome)
+    → answer ≡ answer_of (r b.creds) → creds ≡ result_unwrap_or (r b.creds) b.creds → outcome ≡ done answer
+    → ActsOn pid b (λ w body. authorises w pid (with_creds (authority_of body) (r body.creds))) outcome (record b { creds = creds })
+has_other_ids pid r b answer creds outcome answered state told =
+    has_authorised pid (λ a. with_creds a (r a.creds)) b answer (record b { creds = creds }) outcome (answered ∙ answer_with_creds (authority_of b) (r b.creds))
+    (ap (λ x. record b { creds = x }) state ∙ body_with_creds b (r b.creds)) told
+
+-- a call that has set or cleared the mark of a subreaper, where there are subreapers
+pub has_marked : (pid : ℕ) (there mark : Bool) (b : Body) (answer : Result (Unit {0}) Errno) (now : Body) (outcome : Outcome)
+    → answer ≡ cond there (Ok tt) (Err Einval) → now ≡ cond there (with_subreaper mark b) b → outcome ≡ done answer
+    → ActsOn pid b (λ w body. where_subreapers there w (returns (changed w pid (with_subreaper mark)) 0)) outcome now
+has_marked pid true mark b answer now outcome answered state told = has_acted pid _ b (with_subreaper mark) outcome now (λ w. (told ∙ ap done answered, refl)) state
+has_marked pid false mark b answer now outcome answered state told = has_left pid _ b outcome now (λ w. (told ∙ ap done answered, refl)) state
 
 -- a row that asks nothing of the caller
 pub comes_anyway : (w : World) (pid : ℕ) (row : Performed) (outcome : Outcome) (after : World) → outcome ≡ row.outcome → after ≡ row.world → ComesTo w pid (λ v body. row) outcome after
@@ -117,8 +123,3 @@ has_changed_by w pid n r caller asked answer outcome after own same says made to
         world = made ∙ ap (λ x. result_unwrap_or x w) same ∙ world_changes w n (r caller.body.creds);
       })
     ] own
-
--- what holds anyway holds where there is an error
-pub on_err : {T E P : Type 0} (r : Result T E) → P → OnErr r P
-on_err (Ok v) holds = tt
-on_err (Err e) holds = holds

@@ -1,53 +1,43 @@
 //! How a filter is attached: seccomp(2), SECCOMP_SET_MODE_FILTER.
 
 ghost use Rattle.std.specs.Prelude.{◌≡◌, ◌+◌, ◌∷◌, nat_lt, length, if◌then◌else◌, IsTrue, IfOk, OnOk, OnErr, MatchResult, Ok, Err};
-ghost use Rattle.std.specs.Option.{is_some};
-ghost use Rattle.std.specs.Result.{result_unwrap_or};
 ghost use Rattle.sk_chain.specs.Chains.{path_limit, cost_of};
 ghost use Rattle.sk_creds.specs.declared.errno.Errno.TheVariants.{Enomem};
 ghost use Rattle.sk_creds.specs.Errno.{answer_of};
-ghost use Rattle.sk_world.specs.World.{at};
-ghost use Rattle.sk_world.specs.Rules.{IsWorld};
 ghost use Rattle.sk_machine.specs.Given.{filter_image};
-ghost use Rattle.sk_machine.specs.Authority.{authority_of, with_authority, program_of, filtered, after_attach};
+ghost use Rattle.sk_machine.specs.Authority.{authority_of, program_of, filtered, after_attach};
 ghost use Rattle.sk_machine.specs.Memory.{is_read};
-ghost use Rattle.sk_machine.specs.Performed.{authorises};
-ghost use Rattle.sk_syscalls.specs.Rows.{ComesTo};
+ghost use Rattle.sk_syscalls.specs.views.Own.{reauthorised};
 
-use crate::outcome::done;
 use sk_chain::{Chain, ChainFault};
 use sk_check::{Checked, check};
 use sk_creds::Errno;
 use sk_insn::{Insn, read_image};
-use sk_machine::{Images, Outcome};
-use sk_world::{Body, ProcStore};
+use sk_machine::Images;
+use sk_world::Body;
 use std::alloc::{AllocError, Global};
 use std::mem::replace;
 
-/// Attaches the filter of an image to the caller. The image is read before the caller's rights are asked for.
-pub(crate) fn attach<S: ProcStore>(
-    store: &mut S,
+/// Attaches the filter of an image to a process. The image is read before the process's rights are asked for.
+pub(crate) fn attach(
+    body: &mut Body,
     images: &Images,
     alloc: Global,
-    pid: u32,
     flags: u32,
     image: u64,
-) -> Result<Outcome, AllocError>
-    requires rules { IsWorld (S.contents store.old) }
-    requires there { IsTrue (is_some (at (S.contents store.old) pid)) }
-    ensures performed { IfOk result (λ outcome.
-        ComesTo (S.contents store.old) pid (λ w body. authorises w pid (after_attach images.now flags image (authority_of body))) outcome (S.contents store.new)) }
+) -> Result<Result<(), Errno>, AllocError>
+    ensures answer { IfOk result (λ answer. answer ≡ answer_of (after_attach images.now flags image (authority_of body.old))) }
+    ensures body { OnOk result (body.new ≡ reauthorised (after_attach images.now flags image (authority_of body.old)) body.old) }
     ensures flags { OnErr result (flags ≡ 0) }
     ensures memory { OnErr result (IsTrue (is_read images.now image)) }
-    ensures kept { OnErr result (S.contents store.new ≡ S.contents store.old) }
-    ensures rules { IsWorld (S.contents store.new) }
+    ensures kept { OnErr result (body.new ≡ body.old) }
 {
     if flags != 0 {
-        return Ok(Outcome::failed(Errno::Einval));
+        return Ok(Err(Errno::Einval));
     }
     match program_of(images, alloc, image)? {
-        Ok(insns) => filter_caller(store, alloc, pid, insns),
-        Err(errno) => Ok(Outcome::failed(errno)),
+        Ok(insns) => filter(body, alloc, insns),
+        Err(errno) => Ok(Err(errno)),
     }
 }
 
@@ -71,29 +61,9 @@ fn program_of(
     }
 }
 
-fn filter_caller<S: ProcStore>(
-    store: &mut S,
-    alloc: Global,
-    pid: u32,
-    insns: Vec<Insn>,
-) -> Result<Outcome, AllocError>
-    requires rules { IsWorld (S.contents store.old) }
-    requires there { IsTrue (is_some (at (S.contents store.old) pid)) }
-    ensures performed { IfOk result (λ outcome.
-        ComesTo (S.contents store.old) pid (λ w body. authorises w pid (filtered (authority_of body) (Ok insns.items))) outcome (S.contents store.new)) }
-    ensures kept { OnErr result (S.contents store.new ≡ S.contents store.old) }
-    ensures rules { IsWorld (S.contents store.new) }
-{
-    match store.body_mut(pid) {
-        Some(body) => Ok(done(filter(body, alloc, insns)?)),
-        None => unreachable!(),
-    }
-}
-
 fn filter(body: &mut Body, alloc: Global, insns: Vec<Insn>) -> Result<Result<(), Errno>, AllocError>
     ensures answer { IfOk result (λ answer. answer ≡ answer_of (filtered (authority_of body.old) (Ok insns.items))) }
-    ensures body { OnOk result (body.new ≡ with_authority
-        (result_unwrap_or (filtered (authority_of body.old) (Ok insns.items)) (authority_of body.old)) body.old) }
+    ensures body { OnOk result (body.new ≡ reauthorised (filtered (authority_of body.old) (Ok insns.items)) body.old) }
     ensures kept { OnErr result (body.new ≡ body.old) }
 {
     if !body.creds.is_privileged() && !body.creds.no_new_privs {

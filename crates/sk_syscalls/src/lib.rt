@@ -6,6 +6,7 @@ mod authority;
 mod caller;
 mod groups;
 mod outcome;
+mod own;
 mod performing;
 mod prctl;
 mod processes;

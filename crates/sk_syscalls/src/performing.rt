@@ -11,7 +11,8 @@ ghost use Rattle.sk_syscalls.specs.Rows.{ComesTo};
 
 use crate::caller::caller;
 use crate::outcome::{ids, returned};
-use crate::{authority, groups, prctl, processes, seccomp, signals};
+use crate::own::{OwnCall, perform_own};
+use crate::{groups, prctl, processes, seccomp};
 use sk_creds::Errno;
 use sk_insn::Record;
 use sk_machine::{Images, Outcome, Syscall};
@@ -60,24 +61,31 @@ fn perform_known<S: ProcStore>(
         Syscall::Fork => processes::fork(store, pid),
         Syscall::Prctl => prctl::prctl(store, images, alloc, pid, call),
         Syscall::Seccomp => seccomp::seccomp(store, images, alloc, pid, call),
-        Syscall::RtSigaction => Ok(signals::rt_sigaction(store, pid, call)),
-        Syscall::RtSigprocmask => Ok(signals::rt_sigprocmask(store, pid, call)),
-        Syscall::RtSigreturn => Ok(signals::rt_sigreturn(store, pid)),
+        Syscall::RtSigaction => perform_own(store, images, alloc, pid, OwnCall::Sigaction, call),
+        Syscall::RtSigprocmask => perform_own(
+            store,
+            images,
+            alloc,
+            pid,
+            OwnCall::Sigprocmask,
+            call,
+        ),
+        Syscall::RtSigreturn => perform_own(store, images, alloc, pid, OwnCall::Sigreturn, call),
         Syscall::RtSigpending => Ok(Outcome::Signals(caller(store, pid).body.signals.pending())),
         Syscall::SchedYield => Ok(returned(Ok(0))),
-        Syscall::Pause => Ok(processes::pause(store, pid)),
+        Syscall::Pause => perform_own(store, images, alloc, pid, OwnCall::Pause, call),
         Syscall::Getpid => Ok(returned(Ok(pid))),
         Syscall::Getppid => Ok(returned(Ok(caller(store, pid).links.parent))),
-        Syscall::Execve => Ok(authority::execve(store, images, pid, call)),
+        Syscall::Execve => perform_own(store, images, alloc, pid, OwnCall::Execve, call),
         Syscall::Exit => Ok(processes::exit(store, pid, call)),
         Syscall::ExitGroup => Ok(processes::exit(store, pid, call)),
-        Syscall::Wait4 => Ok(processes::wait4(store, pid, call)),
+        Syscall::Wait4 => Ok(sk_delivery::wait4(store, pid, call)),
         Syscall::Kill => Ok(processes::kill(store, pid, call)),
         Syscall::Getuid => Ok(returned(Ok(caller(store, pid).body.creds.real))),
         Syscall::Geteuid => Ok(returned(Ok(caller(store, pid).body.creds.effective))),
         Syscall::Getresuid => Ok(ids(caller(store, pid).body.creds)),
-        Syscall::Setuid => Ok(authority::setuid(store, pid, call)),
-        Syscall::Setresuid => Ok(authority::setresuid(store, pid, call)),
+        Syscall::Setuid => perform_own(store, images, alloc, pid, OwnCall::Setuid, call),
+        Syscall::Setresuid => perform_own(store, images, alloc, pid, OwnCall::Setresuid, call),
         Syscall::Setpgid => Ok(groups::setpgid(store, pid, call)),
         Syscall::Setsid => Ok(groups::setsid(store, pid)),
         Syscall::Getpgrp => Ok(returned(Ok(caller(store, pid).links.group))),

@@ -1,22 +1,23 @@
 //! prctl(2).
 
-ghost use Rattle.std.specs.Prelude.{◌≡◌, ◌==◌, ◌&&◌, not, false, if◌then◌else◌, IsTrue, IfOk, OnErr, Option, Some, None};
+ghost use Rattle.std.specs.Prelude.{◌≡◌, ◌==◌, ◌&&◌, not, false, if◌then◌else◌, IsTrue, IfOk, OnOk, OnErr, Option, Some, None, Ok, Err};
 ghost use Rattle.std.specs.Option.{is_some, option_map_or};
-ghost use Rattle.std.specs.Result.{result_unwrap_or};
+ghost use Rattle.sk_creds.specs.declared.errno.Errno.TheVariants.{Einval};
 ghost use Rattle.sk_creds.specs.Errno.{answer_of};
-ghost use Rattle.sk_world.specs.World.{at, changed};
+ghost use Rattle.sk_world.specs.World.{World, at};
 ghost use Rattle.sk_world.specs.Rules.{IsWorld};
 ghost use Rattle.sk_machine.specs.Arguments.{register, low, prctl_option_of};
-ghost use Rattle.sk_machine.specs.Authority.{authority_of, with_authority, after_no_new_privs, after_set_seccomp};
+ghost use Rattle.sk_machine.specs.Authority.{authority_of, after_no_new_privs, after_set_seccomp};
 ghost use Rattle.sk_machine.specs.Memory.{is_read, prctl_attaches};
-ghost use Rattle.sk_machine.specs.Performed.{returns, asked, authorises};
-ghost use Rattle.sk_machine.specs.Performing.{prctl, seccomp_mode, no_new_privs_asked, where_subreapers, with_subreaper, subreaper_set, subreaper_asked};
+ghost use Rattle.sk_machine.specs.Performing.{prctl, seccomp_mode, no_new_privs_asked, with_subreaper};
 ghost use Rattle.sk_machine.specs.declared.operation.PrctlOption.TheVariants as option;
 ghost use Rattle.sk_syscalls.specs.Rows.{ComesTo};
+ghost use Rattle.sk_syscalls.specs.views.Own.{reauthorised};
 
 use crate::attaching::attach;
 use crate::caller::caller;
-use crate::outcome::{done, returned};
+use crate::outcome::returned;
+use crate::own::{OwnCall, perform_own};
 use sk_creds::Errno;
 use sk_insn::Record;
 use sk_machine::{Images, Outcome, PrctlOption, low, register};
@@ -42,43 +43,46 @@ pub(crate) fn prctl<S: ProcStore>(
     ensures rules { IsWorld (S.contents store.new) }
 {
     match PrctlOption::of(low(call, 0)) {
-        Some(PrctlOption::SetSeccomp) => set_seccomp(store, images, alloc, pid, call),
-        Some(PrctlOption::GetSeccomp) => Ok(get_seccomp(store, pid)),
-        Some(PrctlOption::SetNoNewPrivs) => Ok(set_no_new_privs(store, pid, call)),
-        Some(PrctlOption::GetNoNewPrivs) => Ok(get_no_new_privs(store, pid, call)),
-        Some(PrctlOption::SetChildSubreaper) => Ok(set_child_subreaper(store, images, pid, call)),
-        Some(PrctlOption::GetChildSubreaper) => Ok(get_child_subreaper(store, images, pid)),
+        Some(PrctlOption::SetSeccomp) => {
+            perform_own(store, images, alloc, pid, OwnCall::SetSeccomp, call)
+        }
+        Some(PrctlOption::SetNoNewPrivs) => {
+            perform_own(store, images, alloc, pid, OwnCall::SetNoNewPrivs, call)
+        }
+        Some(PrctlOption::SetChildSubreaper) => {
+            perform_own(store, images, alloc, pid, OwnCall::SetChildSubreaper, call)
+        }
+        Some(PrctlOption::GetSeccomp) => {
+            Ok(returned(Ok(seccomp_mode(&caller(store, pid).body))))
+        }
+        Some(PrctlOption::GetNoNewPrivs) => {
+            let is_set = caller(store, pid).body.creds.no_new_privs;
+            Ok(returned(no_new_privs_asked(call, is_set)))
+        }
+        Some(PrctlOption::GetChildSubreaper) => {
+            Ok(returned(child_subreaper_asked(images, caller(store, pid).body.subreaper)))
+        }
         None => Ok(Outcome::failed(Errno::Einval)),
     }
 }
 
-fn set_seccomp<S: ProcStore>(
-    store: &mut S,
+/// prctl(2), PR_SET_SECCOMP.
+pub(crate) fn set_seccomp(
+    body: &mut Body,
     images: &Images,
     alloc: Global,
-    pid: u32,
     call: &Record,
-) -> Result<Outcome, AllocError>
-    requires rules { IsWorld (S.contents store.old) }
-    requires there { IsTrue (is_some (at (S.contents store.old) pid)) }
-    ensures performed { IfOk result (λ outcome.
-        ComesTo (S.contents store.old) pid (λ w body. authorises w pid (after_set_seccomp images.now call.now (authority_of body))) outcome (S.contents store.new)) }
+) -> Result<Result<(), Errno>, AllocError>
+    ensures answer { IfOk result (λ answer. answer ≡ answer_of (after_set_seccomp images.now call.now (authority_of body.old))) }
+    ensures body { OnOk result (body.new ≡ reauthorised (after_set_seccomp images.now call.now (authority_of body.old)) body.old) }
     ensures memory { OnErr result (IsTrue (option_map_or (is_read images.now) (prctl_attaches (Some option.SetSeccomp) call.now) false)) }
-    ensures kept { OnErr result (S.contents store.new ≡ S.contents store.old) }
-    ensures rules { IsWorld (S.contents store.new) }
+    ensures kept { OnErr result (body.new ≡ body.old) }
 {
     if register(call, 1) == u64::from(SECCOMP_MODE_FILTER) {
-        attach(store, images, alloc, pid, 0, register(call, 2))
+        attach(body, images, alloc, 0, register(call, 2))
     } else {
-        Ok(Outcome::failed(Errno::Einval))
+        Ok(Err(Errno::Einval))
     }
-}
-
-fn get_seccomp<S: ProcStore>(store: &S, pid: u32) -> Outcome
-    requires { IsTrue (is_some (at (S.contents store.now) pid)) }
-    ensures { ComesTo (S.contents store.now) pid (λ w body. returns w (seccomp_mode body.chain)) result (S.contents store.now) }
-{
-    returned(Ok(seccomp_mode(&caller(store, pid).body)))
 }
 
 fn seccomp_mode(body: &Body) -> u32
@@ -91,23 +95,10 @@ fn seccomp_mode(body: &Body) -> u32
     }
 }
 
-fn set_no_new_privs<S: ProcStore>(store: &mut S, pid: u32, call: &Record) -> Outcome
-    requires rules { IsWorld (S.contents store.old) }
-    requires there { IsTrue (is_some (at (S.contents store.old) pid)) }
-    ensures performed { ComesTo (S.contents store.old) pid
-        (λ w body. authorises w pid (after_no_new_privs call.now (authority_of body))) result (S.contents store.new) }
-    ensures rules { IsWorld (S.contents store.new) }
-{
-    match store.body_mut(pid) {
-        Some(body) => done(bind(body, call)),
-        None => unreachable!(),
-    }
-}
-
-fn bind(body: &mut Body, call: &Record) -> Result<(), Errno>
+/// prctl(2), PR_SET_NO_NEW_PRIVS.
+pub(crate) fn set_no_new_privs(body: &mut Body, call: &Record) -> Result<(), Errno>
     ensures answer { result ≡ answer_of (after_no_new_privs call.now (authority_of body.old)) }
-    ensures body { body.new ≡ with_authority
-        (result_unwrap_or (after_no_new_privs call.now (authority_of body.old)) (authority_of body.old)) body.old }
+    ensures body { body.new ≡ reauthorised (after_no_new_privs call.now (authority_of body.old)) body.old }
 {
     if register(call, 1) != 1 || !has_no_more(call) {
         return Err(Errno::Einval);
@@ -123,14 +114,6 @@ fn has_no_more(call: &Record) -> bool
     register(call, 2) == 0 && register(call, 3) == 0 && register(call, 4) == 0
 }
 
-fn get_no_new_privs<S: ProcStore>(store: &S, pid: u32, call: &Record) -> Outcome
-    requires { IsTrue (is_some (at (S.contents store.now) pid)) }
-    ensures { ComesTo (S.contents store.now) pid
-        (λ w body. asked w (no_new_privs_asked call.now body.creds.no_new_privs)) result (S.contents store.now) }
-{
-    returned(no_new_privs_asked(call, caller(store, pid).body.creds.no_new_privs))
-}
-
 fn no_new_privs_asked(call: &Record, is_set: bool) -> Result<u32, Errno>
     ensures { result ≡ no_new_privs_asked call.now is_set }
 {
@@ -140,41 +123,27 @@ fn no_new_privs_asked(call: &Record, is_set: bool) -> Result<u32, Errno>
     Ok(u32::from(is_set))
 }
 
-fn set_child_subreaper<S: ProcStore>(
-    store: &mut S,
+/// prctl(2), PR_SET_CHILD_SUBREAPER.
+pub(crate) fn set_child_subreaper(
+    body: &mut Body,
     images: &Images,
-    pid: u32,
     call: &Record,
-) -> Outcome
-    requires rules { IsWorld (S.contents store.old) }
-    requires there { IsTrue (is_some (at (S.contents store.old) pid)) }
-    ensures performed { ComesTo (S.contents store.old) pid
-        (λ w body. where_subreapers images.now.subreapers w (subreaper_set w pid call.now)) result (S.contents store.new) }
-    ensures rules { IsWorld (S.contents store.new) }
+) -> Result<(), Errno>
+    ensures answer { result ≡ (if images.now.subreapers then Ok tt else Err Einval) }
+    ensures body { body.new ≡ (if images.now.subreapers then with_subreaper (not (register call.now 1 == 0)) body.old else body.old) }
 {
     if !images.subreapers {
-        return Outcome::failed(Errno::Einval);
+        return Err(Errno::Einval);
     }
-    mark_subreaper(store, pid, register(call, 1) != 0);
-    returned(Ok(0))
+    body.subreaper = register(call, 1) != 0;
+    Ok(())
 }
 
-fn mark_subreaper<S: ProcStore>(store: &mut S, pid: u32, mark: bool)
-    ensures world { S.contents store.new ≡ changed (S.contents store.old) pid (with_subreaper mark) }
-    ensures rules { IsWorld (S.contents store.old) → IsWorld (S.contents store.new) }
-{
-    if let Some(body) = store.body_mut(pid) {
-        body.subreaper = mark;
-    }
-}
-
-fn get_child_subreaper<S: ProcStore>(store: &S, images: &Images, pid: u32) -> Outcome
-    requires { IsTrue (is_some (at (S.contents store.now) pid)) }
-    ensures { ComesTo (S.contents store.now) pid
-        (λ w body. where_subreapers images.now.subreapers w (subreaper_asked w body.subreaper)) result (S.contents store.now) }
+fn child_subreaper_asked(images: &Images, is_marked: bool) -> Result<u32, Errno>
+    ensures { result ≡ (if images.now.subreapers then Ok (if is_marked then 1 else 0) else Err Einval) }
 {
     if !images.subreapers {
-        return Outcome::failed(Errno::Einval);
+        return Err(Errno::Einval);
     }
-    returned(Ok(u32::from(caller(store, pid).body.subreaper)))
+    Ok(u32::from(is_marked))
 }

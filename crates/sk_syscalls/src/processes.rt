@@ -1,15 +1,13 @@
-//! The calls by which processes come and go, and wait, and ask for their numbers.
+//! The calls by which processes come and go, and signal each other.
 
 ghost use Rattle.std.specs.Prelude.{◌≡◌, ◌&&◌, IsTrue, IfOk, IfSome, OnErr};
 ghost use Rattle.std.specs.Option.{is_some};
-ghost use Rattle.sk_world.specs.World.{at, is_alive, parent_of, changed};
+ghost use Rattle.sk_world.specs.World.{at, is_alive};
 ghost use Rattle.sk_world.specs.Rules.{IsWorld};
 ghost use Rattle.sk_world.specs.Forking.{fork_answer, has_room, has_filters};
-ghost use Rattle.sk_world.specs.declared.process.Waiting.TheVariants as waiting;
 ghost use Rattle.sk_machine.specs.Arguments.{low, signed};
 ghost use Rattle.sk_machine.specs.Killing.{after_kill};
-ghost use Rattle.sk_machine.specs.WaitCalls.{wait4};
-ghost use Rattle.sk_machine.specs.Performed.{returns, changes, waits, waiting_in};
+ghost use Rattle.sk_machine.specs.Performed.{changes};
 ghost use Rattle.sk_machine.specs.Performing.{forks, exit_status, end_of_caller};
 ghost use Rattle.sk_syscalls.specs.Rows.{ComesTo};
 
@@ -17,7 +15,7 @@ use crate::caller::caller;
 use crate::outcome::returned;
 use sk_insn::Record;
 use sk_machine::{Outcome, low, signed};
-use sk_world::{ProcStore, Waiting};
+use sk_world::ProcStore;
 use std::alloc::AllocError;
 
 /// fork(2).
@@ -52,26 +50,6 @@ fn exit_status(code: u32) -> u32
     code % 256 * 256
 }
 
-/// pause(2). It ends by a signal alone.
-pub(crate) fn pause<S: ProcStore>(store: &mut S, pid: u32) -> Outcome
-    requires rules { IsWorld (S.contents store.old) }
-    requires there { IsTrue (is_some (at (S.contents store.old) pid)) }
-    ensures performed { ComesTo (S.contents store.old) pid (λ w body. waits w pid waiting.Pause) result (S.contents store.new) }
-    ensures rules { IsWorld (S.contents store.new) }
-{
-    wait_in(store, pid, Waiting::Pause);
-    Outcome::Waits
-}
-
-fn wait_in<S: ProcStore>(store: &mut S, pid: u32, what: Waiting)
-    ensures world { S.contents store.new ≡ changed (S.contents store.old) pid (waiting_in what) }
-    ensures rules { IsWorld (S.contents store.old) → IsWorld (S.contents store.new) }
-{
-    if let Some(body) = store.body_mut(pid) {
-        body.waiting = what;
-    }
-}
-
 /// kill(2).
 pub(crate) fn kill<S: ProcStore>(store: &mut S, pid: u32, call: &Record) -> Outcome
     requires rules { IsWorld (S.contents store.old) }
@@ -82,14 +60,4 @@ pub(crate) fn kill<S: ProcStore>(store: &mut S, pid: u32, call: &Record) -> Outc
 {
     let creds = caller(store, pid).body.creds;
     returned(sk_delivery::kill(store, pid, creds, signed(call, 0), low(call, 1)))
-}
-
-/// wait4(2).
-pub(crate) fn wait4<S: ProcStore>(store: &mut S, pid: u32, call: &Record) -> Outcome
-    requires rules { IsWorld (S.contents store.old) }
-    requires there { IsTrue (is_some (at (S.contents store.old) pid)) }
-    ensures performed { ComesTo (S.contents store.old) pid (λ w body. wait4 w pid call.now) result (S.contents store.new) }
-    ensures rules { IsWorld (S.contents store.new) }
-{
-    sk_delivery::wait4(store, pid, call)
 }

@@ -1,21 +1,26 @@
 //! seccomp(2).
 
-ghost use Rattle.std.specs.Prelude.{◌≡◌, false, IsTrue, IfOk, OnErr, Option};
+ghost use Rattle.std.specs.Prelude.{◌≡◌, false, IsTrue, IfOk, OnOk, OnErr, Option, Some};
 ghost use Rattle.std.specs.Option.{is_some, option_map_or};
+ghost use Rattle.sk_creds.specs.Errno.{answer_of};
 ghost use Rattle.sk_world.specs.World.{at};
 ghost use Rattle.sk_world.specs.Rules.{IsWorld};
 ghost use Rattle.sk_machine.specs.Arguments.{low, seccomp_operation_of};
+ghost use Rattle.sk_machine.specs.Authority.{authority_of, after_set_mode_filter};
 ghost use Rattle.sk_machine.specs.Memory.{is_read, seccomp_attaches};
 ghost use Rattle.sk_machine.specs.Performing.{seccomp, action_available};
+ghost use Rattle.sk_machine.specs.declared.operation.SeccompOperation.TheVariants as operation;
 ghost use Rattle.sk_syscalls.specs.Rows.{ComesTo};
+ghost use Rattle.sk_syscalls.specs.views.Own.{reauthorised};
 
 use crate::attaching::attach;
 use crate::outcome::returned;
+use crate::own::{OwnCall, perform_own};
 use sk_chain::Action;
 use sk_creds::Errno;
 use sk_insn::Record;
 use sk_machine::{Images, Outcome, SeccompOperation, low, register};
-use sk_world::ProcStore;
+use sk_world::{Body, ProcStore};
 use std::alloc::{AllocError, Global};
 
 /// seccomp(2), by its operation.
@@ -36,13 +41,28 @@ pub(crate) fn seccomp<S: ProcStore>(
 {
     match SeccompOperation::of(low(call, 0)) {
         Some(SeccompOperation::SetModeFilter) => {
-            attach(store, images, alloc, pid, low(call, 1), register(call, 2))
+            perform_own(store, images, alloc, pid, OwnCall::SetModeFilter, call)
         }
         Some(SeccompOperation::GetActionAvail) => {
             Ok(returned(action_available(low(call, 1), low(call, 2))))
         }
         None => Ok(Outcome::failed(Errno::Einval)),
     }
+}
+
+/// seccomp(2), SECCOMP_SET_MODE_FILTER.
+pub(crate) fn set_mode_filter(
+    body: &mut Body,
+    images: &Images,
+    alloc: Global,
+    call: &Record,
+) -> Result<Result<(), Errno>, AllocError>
+    ensures answer { IfOk result (λ answer. answer ≡ answer_of (after_set_mode_filter images.now call.now (authority_of body.old))) }
+    ensures body { OnOk result (body.new ≡ reauthorised (after_set_mode_filter images.now call.now (authority_of body.old)) body.old) }
+    ensures memory { OnErr result (IsTrue (option_map_or (is_read images.now) (seccomp_attaches (Some operation.SetModeFilter) call.now) false)) }
+    ensures kept { OnErr result (body.new ≡ body.old) }
+{
+    attach(body, images, alloc, low(call, 1), register(call, 2))
 }
 
 fn action_available(flags: u32, value: u32) -> Result<u32, Errno>

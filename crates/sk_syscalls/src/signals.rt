@@ -1,22 +1,19 @@
-//! The calls by which a process changes its own signals, and asks for those that are pending.
+//! The calls by which a process changes its own signals, and waits for one.
 
-ghost use Rattle.std.specs.Prelude.{◌≡◌, ◌==◌, IsTrue};
-ghost use Rattle.std.specs.Option.{is_some};
+ghost use Rattle.std.specs.Prelude.{◌≡◌, ◌==◌};
 ghost use Rattle.std.specs.Result.{result_unwrap_or};
 ghost use Rattle.sk_creds.specs.Errno.{answer_of};
-ghost use Rattle.sk_world.specs.World.{at};
-ghost use Rattle.sk_world.specs.Rules.{IsWorld};
-ghost use Rattle.sk_machine.specs.SignalCalls.{resignals, can_be_caught, disposition_in, after_sigaction, after_sigprocmask, after_sigreturn};
-ghost use Rattle.sk_machine.specs.Performing.{pending_signals};
-ghost use Rattle.sk_syscalls.specs.Rows.{ComesTo};
+ghost use Rattle.sk_world.specs.declared.process.Waiting.TheVariants as waiting;
+ghost use Rattle.sk_machine.specs.declared.answer.Outcome.TheVariants.{Waits};
+ghost use Rattle.sk_machine.specs.Performed.{waiting_in};
+ghost use Rattle.sk_machine.specs.SignalCalls.{can_be_caught, disposition_in, after_sigaction, after_sigprocmask, after_sigreturn};
 
-use crate::outcome::done;
 use sk_creds::Errno;
 use sk_insn::Record;
 use sk_machine::{Outcome, low, register};
 use sk_signal::number::{SIGKILL, SIGSTOP};
 use sk_signal::{Disposition, SigSet, SigState};
-use sk_world::{INIT, ProcStore};
+use sk_world::{Body, INIT, Waiting};
 
 const SIG_BLOCK: u32 = 0;
 
@@ -25,48 +22,7 @@ const SIG_UNBLOCK: u32 = 1;
 const SIG_SETMASK: u32 = 2;
 
 /// sigaction(2).
-pub(crate) fn rt_sigaction<S: ProcStore>(store: &mut S, pid: u32, call: &Record) -> Outcome
-    requires rules { IsWorld (S.contents store.old) }
-    requires there { IsTrue (is_some (at (S.contents store.old) pid)) }
-    ensures performed { ComesTo (S.contents store.old) pid
-        (λ w body. resignals w pid (after_sigaction pid call.now body.signals)) result (S.contents store.new) }
-    ensures rules { IsWorld (S.contents store.new) }
-{
-    match store.body_mut(pid) {
-        Some(body) => done(sigaction(&mut body.signals, pid, call)),
-        None => unreachable!(),
-    }
-}
-
-/// sigprocmask(2).
-pub(crate) fn rt_sigprocmask<S: ProcStore>(store: &mut S, pid: u32, call: &Record) -> Outcome
-    requires rules { IsWorld (S.contents store.old) }
-    requires there { IsTrue (is_some (at (S.contents store.old) pid)) }
-    ensures performed { ComesTo (S.contents store.old) pid
-        (λ w body. resignals w pid (after_sigprocmask call.now body.signals)) result (S.contents store.new) }
-    ensures rules { IsWorld (S.contents store.new) }
-{
-    match store.body_mut(pid) {
-        Some(body) => done(sigprocmask(&mut body.signals, call)),
-        None => unreachable!(),
-    }
-}
-
-/// sigreturn(2).
-pub(crate) fn rt_sigreturn<S: ProcStore>(store: &mut S, pid: u32) -> Outcome
-    requires rules { IsWorld (S.contents store.old) }
-    requires there { IsTrue (is_some (at (S.contents store.old) pid)) }
-    ensures performed { ComesTo (S.contents store.old) pid
-        (λ w body. resignals w pid (after_sigreturn body.signals.frames body.signals)) result (S.contents store.new) }
-    ensures rules { IsWorld (S.contents store.new) }
-{
-    match store.body_mut(pid) {
-        Some(body) => done(sigreturn(&mut body.signals)),
-        None => unreachable!(),
-    }
-}
-
-fn sigaction(signals: &mut SigState, pid: u32, call: &Record) -> Result<(), Errno>
+pub(crate) fn rt_sigaction(signals: &mut SigState, pid: u32, call: &Record) -> Result<(), Errno>
     ensures answer { result ≡ answer_of (after_sigaction pid call.now signals.old) }
     ensures signals { signals.new ≡ result_unwrap_or (after_sigaction pid call.now signals.old) signals.old }
 {
@@ -98,7 +54,8 @@ fn disposition_in(action: u64, mask: u64) -> Disposition
     }
 }
 
-fn sigprocmask(signals: &mut SigState, call: &Record) -> Result<(), Errno>
+/// sigprocmask(2).
+pub(crate) fn rt_sigprocmask(signals: &mut SigState, call: &Record) -> Result<(), Errno>
     ensures answer { result ≡ answer_of (after_sigprocmask call.now signals.old) }
     ensures signals { signals.new ≡ result_unwrap_or (after_sigprocmask call.now signals.old) signals.old }
 {
@@ -113,7 +70,8 @@ fn sigprocmask(signals: &mut SigState, call: &Record) -> Result<(), Errno>
     Ok(())
 }
 
-fn sigreturn(signals: &mut SigState) -> Result<(), Errno>
+/// sigreturn(2).
+pub(crate) fn rt_sigreturn(signals: &mut SigState) -> Result<(), Errno>
     ensures answer { result ≡ answer_of (after_sigreturn signals.old.frames signals.old) }
     ensures signals { signals.new ≡ result_unwrap_or (after_sigreturn signals.old.frames signals.old) signals.old }
 {
@@ -122,4 +80,13 @@ fn sigreturn(signals: &mut SigState) -> Result<(), Errno>
     } else {
         Err(Errno::Einval)
     }
+}
+
+/// pause(2). It ends by a signal alone.
+pub(crate) fn pause(body: &mut Body) -> Outcome
+    ensures answer { result ≡ Waits }
+    ensures body { body.new ≡ waiting_in waiting.Pause body.old }
+{
+    body.waiting = Waiting::Pause;
+    Outcome::Waits
 }
