@@ -2,6 +2,7 @@ pub mod Assembly
 pub mod Block
 pub mod Faults
 pub mod Grammar
+pub mod Kept
 pub mod Labels
 pub mod LineFaults
 pub mod Passes

@@ -10,6 +10,8 @@ use Rattle.sk_asm.specs.declared.statement.Target.TheVariants as targets
 use Rattle.sk_asm.specs.declared.statement.Parsed.TheVariants as parsed
 use Rattle.sk_asm.specs.Grammar.{Destination, Further, Labelled, Statement, Silent, Marks, Plain, Jumps, Branches}
 use Rattle.sk_asm.specs.Labels.{Labels}
+use Rattle.sk_asm.specs.declared.statement.Instruction.{Instruction}
+use Rattle.sk_asm.specs.Kept.{Kept}
 
 -- a distance is a number
 abbrev pub destination_by : {N : Type 0} → (N → ℕ) → Target N → Destination
@@ -28,3 +30,6 @@ statement (parsed.Branch code k jt jf) = Branches code k (destination jt) (desti
 
 abbrev pub labels_in : IndexMap (Bor (List ℕ)) ℕ (BuildHasherDefault FoldHasher) → Labels
 labels_in labels = map (λ entry. (entry.0.now, entry.1)) labels.entries
+
+abbrev pub kept_in : List Instruction → Kept
+kept_in kept = map (λ given. (given.n, statement given.parsed)) kept

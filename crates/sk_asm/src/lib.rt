@@ -6,6 +6,7 @@ mod distance;
 mod examples;
 mod fault;
 pub mod laws;
+mod names;
 mod parse;
 mod passes;
 mod shape;

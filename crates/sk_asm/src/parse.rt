@@ -1,5 +1,5 @@
 //! Lines as statements.
-ghost use Rattle.std.specs.Prelude.{◌≡◌};
+ghost use Rattle.std.specs.Prelude.{◌≡◌, ◌∷◌};
 ghost use Rattle.std.specs.Option.{option_map};
 ghost use Rattle.sk_text.specs.Lines.{words_of};
 ghost use Rattle.sk_asm.specs.Grammar.{Plain, insn, shaped, branching, raw, instruction_said, spoken, statement_of};
@@ -8,13 +8,13 @@ ghost use Rattle.sk_asm.specs.Faults.{Answers};
 ghost use Rattle.sk_asm.specs.Views.{statement};
 
 use crate::fault::AsmFault;
+use crate::names::operation;
 use crate::shape::Shape;
 use crate::statement::Parsed;
 use crate::value::{byte, destination, half, label, returned, word};
-use sk_insn::{Insn, Operation};
+use sk_insn::Insn;
 use sk_text::{
-    Words, four_words, is_passed_over, is_printable, is_word, no_word, one_word, three_words,
-    two_words,
+    Words, four_words, is_printable, is_word, no_word, one_word, three_words, two_words,
 };
 
 // The most bytes that a line may have.
@@ -38,19 +38,20 @@ pub(crate) fn check_line(n: usize, line: &[u8]) -> Result<Parsed<'_>, AsmFault>
 fn parse_line(line: &[u8]) -> Option<Parsed<'_>>
     ensures exact { option_map statement result ≡ statement_of line.now }
 {
-    if is_passed_over(line) {
-        return Some(Parsed::Silent);
-    }
-    parse_words(Words(line))
-}
-
-#[tactic(auto, unfolding(crate::specs::Grammar::spoken))]
-fn parse_words(mut words: Words<'_>) -> Option<Parsed<'_>>
-    ensures exact { option_map statement result ≡ spoken (words_of words.entry.0.now) }
-{
+    let mut words = Words(line);
     let Some(first) = words.next() else {
         return Some(Parsed::Silent);
     };
+    if first.first() == Some(&b';') {
+        return Some(Parsed::Silent);
+    }
+    parse_words(first, words)
+}
+
+#[tactic(auto, unfolding(crate::specs::Grammar::spoken))]
+fn parse_words<'a>(first: &'a [u8], words: Words<'a>) -> Option<Parsed<'a>>
+    ensures exact { option_map statement result ≡ spoken (first.now ∷ words_of words.entry.0.now) }
+{
     match label(first) {
         Some(name) => {
             no_word(words)?;
@@ -67,7 +68,7 @@ fn parse_instruction<'a>(first: &'a [u8], words: Words<'a>) -> Option<Parsed<'a>
     if is_word(first, b".insn") {
         return parse_fields(words);
     }
-    let operation = Operation::named(first)?;
+    let operation = operation(first)?;
     parse_form(Shape::of(operation), operation.code(), words)
 }
 

@@ -1,4 +1,4 @@
-//! The two passes over the lines: one for the labels, and one for the instructions.
+//! The two passes: one over the lines, for their labels and instructions, and one over the instructions, for their jumps.
 ghost use Rattle.std.specs.Prelude.{Err, ◌≡◌, ◌≢◌, ◌+◌, ◌-◌, ◌≤◌, ◌<◌, ◌^◌, ◌++◌, length, IfOk, IfErr, MatchResult, OnOk, Ok, List, []};
 ghost use Rattle.sk_asm.specs.Assembly.{Assembles, AssemblesText, Finds};
 ghost use Rattle.sk_asm.specs.Block.{lines_in, until_end};
@@ -7,14 +7,15 @@ ghost use Rattle.sk_asm.specs.Faults.{Answers, IsAsmFault};
 ghost use Rattle.sk_asm.specs.LineFaults.{IsFirstTextFault};
 ghost use Rattle.sk_asm.specs.Labels.{Labels as Places, label_place};
 ghost use Rattle.sk_asm.specs.Passes.{noted, counted, marked, labelled, landed, distance, resolved, emitted, assembled, assembled_lines, in_front};
-ghost use Rattle.sk_asm.specs.Views.{destination_by, statement, labels_in};
+ghost use Rattle.sk_asm.specs.Kept.{kept_of, kept_before};
+ghost use Rattle.sk_asm.specs.Views.{destination_by, statement, labels_in, kept_in};
 ghost use Rattle.sk_text.specs.Lines.{lines_of};
 
 use crate::block::BlockLines;
 use crate::distance::Distance;
 use crate::fault::AsmFault;
 use crate::parse::check_line;
-use crate::statement::{Parsed, Target};
+use crate::statement::{Instruction, Parsed, Target};
 use indexmap::IndexMap;
 use sk_insn::{Insn, MOST_INSNS};
 use sk_text::Lines;
@@ -63,30 +64,54 @@ fn assemble_lines(
     requires numbers { before + length text.now < 2 ^ 64 }
     ensures exact { Answers (λ insns. insns.items) result (assembled_lines (before + 1) (lines_in is_block text.now)) }
 {
-    let labels = find_labels(alloc, before, text, is_block)?;
-    emit(alloc, &labels, before, text, is_block)
+    let found = find(alloc, before, text, is_block)?;
+    emit(alloc, &found.labels, found.kept.as_slice())
 }
 
-// The labels of the lines, with their places.
-fn find_labels<'a>(
+// The labels of lines, with their places, and their instructions, whose jumps are not resolved yet.
+#[derive(Drop)]
+struct Found<'a> {
+    labels: Labels<'a>,
+    kept: Vec<Instruction<'a>>,
+}
+
+// What the lines say.
+fn find<'a>(
     alloc: Global,
     before: usize,
     text: &'a [u8],
     is_block: bool,
-) -> Result<Labels<'a>, AsmFault>
+) -> Result<Found<'a>, AsmFault>
     requires numbers { before + length text.now < 2 ^ 64 }
-    ensures exact { Answers labels_in result (labelled (before + 1) [] 0 (lines_in is_block text.now)) }
+    ensures labels { Answers (λ found. labels_in found.labels) result (labelled (before + 1) [] 0 (lines_in is_block text.now)) }
+    ensures kept { IfOk result (λ found. (labels : Places)
+        → kept_before labels 0 (kept_in found.kept.items) (Ok []) ≡ emitted labels (before + 1) 0 (lines_in is_block text.now)) }
 {
     let rest = Lines(text);
     let mut labels = IndexMap::new(alloc);
+    let mut kept = Vec::new(alloc);
     let mut at = 0;
     let mut n = before;
     for line in (BlockLines { rest, is_block }) {
         n += 1;
         let parsed = check_line(n, line)?;
         at = note(&mut labels, n, at, parsed)?;
+        keep(&mut kept, n, parsed)?;
     }
-    Ok(labels)
+    Ok(Found { labels, kept })
+}
+
+// Keeps the statement of line `n`, if it is an instruction.
+fn keep<'a>(kept: &mut Vec<Instruction<'a>>, n: usize, parsed: Parsed<'a>) -> Result<(), AllocError>
+    ensures kept { OnOk result (kept_in kept.new.items ≡ kept_in kept.old.items ++ kept_of n (statement parsed.entry)) }
+{
+    match parsed {
+        Parsed::Silent | Parsed::Label(_) => {}
+        Parsed::Plain(_) | Parsed::Jump { .. } | Parsed::Branch { .. } => {
+            kept.push(Instruction { n, parsed })?;
+        }
+    }
+    Ok(())
 }
 
 // Notes the statement of line `n`, and gives the place of the next instruction.
@@ -132,26 +157,14 @@ fn mark<'a>(labels: &mut Labels<'a>, n: usize, at: usize, name: &'a [u8]) -> Res
     Ok(at)
 }
 
-// The instructions of the lines, with the distances of their jumps.
-fn emit(
-    alloc: Global,
-    labels: &Labels<'_>,
-    before: usize,
-    text: &[u8],
-    is_block: bool,
-) -> Result<Vec<Insn>, AsmFault>
-    requires numbers { before + length text.now < 2 ^ 64 }
-    ensures exact { Answers (λ insns. insns.items) result
-        (emitted (labels_in labels.now) (before + 1) 0 (lines_in is_block text.now)) }
+// The instructions that were kept, with the distances of their jumps.
+fn emit(alloc: Global, labels: &Labels<'_>, kept: &[Instruction<'_>]) -> Result<Vec<Insn>, AsmFault>
+    ensures exact { Answers (λ insns. insns.items) result (kept_before (labels_in labels.now) 0 (kept_in kept.now) (Ok [])) }
 {
-    let rest = Lines(text);
     let mut insns = Vec::new(alloc);
-    let mut n = before;
-    for line in (BlockLines { rest, is_block }) {
-        n += 1;
-        let parsed = check_line(n, line)?;
-        let given = resolve(labels, n, insns.len(), parsed)?;
-        push_some(&mut insns, given)?;
+    for (at, given) in kept.iter().enumerate() {
+        let insn = resolve(labels, given.n, at, given.parsed)?;
+        push_some(&mut insns, insn)?;
     }
     Ok(insns)
 }

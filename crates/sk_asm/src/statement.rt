@@ -25,3 +25,10 @@ pub(crate) enum Parsed<'a> {
         jf: Target<'a, u8>,
     },
 }
+
+// The statement of line `n`, which is an instruction.
+#[derive(Clone, Copy)]
+pub(crate) struct Instruction<'a> {
+    pub(crate) n: usize,
+    pub(crate) parsed: Parsed<'a>,
+}

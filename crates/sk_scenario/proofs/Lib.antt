@@ -4,5 +4,6 @@ pub mod Ends
 pub mod Entries
 pub mod Forks
 pub mod Found
+pub mod Idle
 pub mod Once
 pub mod Turns

@@ -1,6 +1,7 @@
 //! The scenario reader: from the bytes of a scenario to its filters and programs, or to its first fault.
 #![tactic(auto)]
 
+mod call_names;
 mod calls;
 mod fault;
 mod filters;

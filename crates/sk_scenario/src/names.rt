@@ -1,6 +1,5 @@
 //! The names of a text, found before it is read.
 ghost use Rattle.std.specs.Prelude.{◌≡◌, IsTrue, slice_get};
-ghost use Rattle.sk_asm.specs.Block.{is_end};
 ghost use Rattle.sk_scenario.specs.views.ScenarioCode.{names_seen};
 
 use crate::line::TopLine;
@@ -15,16 +14,6 @@ use std::alloc::{AllocError, Global};
 
 // The most names that a scenario gives: 256 of filters, and 256 of programs.
 const MOST_NAMES: usize = 512;
-
-// Whether a line ends a block. Nearly all others show by their first byte that they don't.
-pub(crate) fn ends_block(line: &[u8]) -> bool
-    ensures end { result ≡ is_end line.now }
-{
-    match line.first() {
-        Some(byte) if *byte != b'e' && *byte != b' ' => false,
-        _ => is_end(line),
-    }
-}
 
 // The names that are found so far, and how many filters and programs.
 #[derive(Drop)]
@@ -77,8 +66,18 @@ fn behind_block<'a>(end: &Finder<'_>, text: &'a [u8]) -> &'a [u8] {
             break;
         };
         rest = Lines(from_line_of(rest.0, place));
-        if rest.next().is_some_and(ends_block) {
+        if rest.next().is_some_and(|line| is_end(line)) {
             return rest.0;
+        }
+    }
+    &[]
+}
+
+// The text behind the empty lines with which it begins.
+fn behind_empty_lines(text: &[u8]) -> &[u8] {
+    for (at, byte) in text.iter().enumerate() {
+        if *byte != b'\n' {
+            return &text[at..];
         }
     }
     &[]
@@ -98,6 +97,7 @@ pub(crate) fn find_names(alloc: Global, text: &[u8]) -> Result<Names<'_>, AllocE
         if found.names.len() > MOST_NAMES {
             break;
         }
+        rest = Lines(behind_empty_lines(rest.0));
         let Some(line) = rest.next() else {
             break;
         };

@@ -3,10 +3,11 @@ ghost use Rattle.std.specs.Prelude.{◌≡◌, ◌==◌, ◌∷◌, [], ℕ, dro
 ghost use Rattle.std.specs.Option.{option_map};
 ghost use Rattle.sk_text.specs.Lines.{words_of};
 ghost use Rattle.sk_text.specs.Numbers.{up_to};
-ghost use Rattle.sk_setting.specs.Grammar.{only_if_name, only_name, setuid_with, setuid_of, owned, program_by, program_of, turns_of, headed, heading_in, heading_of, decimal_of, argument_of, next_argument, arguments_of, asked_with, forked, numbered, asked, asked_in, asked_of};
-ghost use Rattle.sk_scenario.specs.views.ScenarioCode.{heading, argument_seen, fork_seen, line_seen};
+ghost use Rattle.sk_setting.specs.Grammar.{Plain, only_if_name, only_name, setuid_with, setuid_of, owned, program_by, program_of, turns_of, headed, heading_in, heading_of, decimal_of, argument_of, next_argument, arguments_of, asked_with, forked, numbered, asked, asked_in, asked_of};
+ghost use Rattle.sk_scenario.specs.views.ScenarioCode.{heading, argument_seen, arguments_seen, fork_seen, line_seen};
 ghost use Rattle.sk_setting.specs.Reading.{checked};
 
+use crate::call_names::call_named;
 use crate::line::{Argument, Arguments, ProgramLine, TopLine};
 use sk_calls::Syscall;
 use sk_text::{Words, is_name, is_number, is_word, no_word, number_up_to, one_word};
@@ -172,7 +173,7 @@ fn call_line<'a>(first: &'a [u8], words: Words<'a>) -> Option<ProgramLine<'a>>
     if is_word(first, Syscall::Fork.name().as_bytes()) {
         return forked(words);
     }
-    let call = Syscall::named(first)?;
+    let call = call_named(first)?;
     called_with(call.number(), words)
 }
 
@@ -226,6 +227,21 @@ const NONE: Arguments<'static> = Arguments {
     f: Argument::Plain(0),
 };
 
+// Those of a call that names two at most.
+#[inline(always)]
+fn two_arguments<'a>(a: Argument<'a>, b: Argument<'a>) -> Arguments<'a>
+    ensures exact { arguments_seen result ≡ argument_seen a.entry ∷ argument_seen b.entry ∷ Plain 0 ∷ Plain 0 ∷ Plain 0 ∷ Plain 0 ∷ [] }
+{
+    Arguments {
+        a,
+        b,
+        c: Argument::Plain(0),
+        d: Argument::Plain(0),
+        e: Argument::Plain(0),
+        f: Argument::Plain(0),
+    }
+}
+
 #[tactic(auto, using(sk_text::proofs::Cuts::words_none))]
 fn called_with<'a>(nr: u32, mut words: Words<'a>) -> Option<ProgramLine<'a>>
     ensures exact { option_map line_seen result ≡ option_map Some (asked_with nr (words_of words.entry.0.now)) }
@@ -234,7 +250,13 @@ fn called_with<'a>(nr: u32, mut words: Words<'a>) -> Option<ProgramLine<'a>>
         return Some(ProgramLine::Call(nr, NONE));
     }
     let a = next_argument(&mut words)?;
+    if words.0.is_empty() {
+        return Some(ProgramLine::Call(nr, two_arguments(a, Argument::Plain(0))));
+    }
     let b = next_argument(&mut words)?;
+    if words.0.is_empty() {
+        return Some(ProgramLine::Call(nr, two_arguments(a, b)));
+    }
     let c = next_argument(&mut words)?;
     let d = next_argument(&mut words)?;
     let e = next_argument(&mut words)?;

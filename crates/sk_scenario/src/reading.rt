@@ -1,20 +1,21 @@
 //! The lines, read one after the other.
-ghost use Rattle.std.specs.Prelude.{◌≡◌, ◌+◌, ◌≤◌, ◌<◌, ◌^◌, length, IsTrue, MatchResult, OnOk, Ok};
+ghost use Rattle.std.specs.Prelude.{◌≡◌, ◌+◌, ◌≤◌, ◌<◌, ◌^◌, ℕ, List, Option, length, IsTrue, MatchResult, OnOk, Ok};
 ghost use Rattle.std.specs.List.{list_all};
 ghost use Rattle.sk_text.specs.Lines.{lines_of, is_printable_byte};
 ghost use Rattle.sk_asm.specs.Block.{until_end};
-ghost use Rattle.sk_setting.specs.Reading.{is_open, inside, finished, within, stepped, closed, reading, nothing_yet, Nothing as NoBlock};
+ghost use Rattle.sk_setting.specs.Scenario.{Names as Known};
+ghost use Rattle.sk_setting.specs.Reading.{Gained, is_open, inside, finished, within, stepped, closed, reading, nothing_yet, Nothing as NoBlock};
 ghost use Rattle.sk_scenario.specs.Answers.{Answers, IsFaultOf, Judges};
 ghost use Rattle.sk_scenario.specs.views.ScenarioCode.{known_seen, gained, block_seen};
 
 use crate::calls::{add_call, read_call};
 use crate::fault::ScenarioFault;
 use crate::filters::{decide, grow};
-use crate::names::ends_block;
 use crate::scenario::Program;
 use crate::state::{Block, Done, Names};
 use crate::top::{check_line, has_printable_lines, read_top, start};
 use indexmap::IndexMap;
+use sk_asm::is_end;
 use sk_setting::TextFault;
 use sk_text::Lines;
 use std::alloc::{AllocError, Global};
@@ -105,11 +106,24 @@ fn within(
         (λ next. within (known_seen known.entry) n (gained done.old) (block_seen current) line.now (lines_of ahead.now) ≡ Ok (gained done.new, block_seen next))
         (λ fault. IsFaultOf fault (within (known_seen known.entry) n (gained done.old) (block_seen current) line.now (lines_of ahead.now))) }
 {
-    if ends_block(line) {
+    if is_end(line) {
         finish(alloc, done, current)?;
         return Ok(Block::Nothing);
     }
     inside(alloc, known, n, current, line, is_clean, ahead)
+}
+
+// Whether a line changes nothing: an empty one, but for one among bytes, or one of code that is assembled already.
+#[inline(always)]
+fn is_idle(current: &Block, line: &[u8]) -> bool
+    ensures same { IsTrue result → (names : Option Known) (n : ℕ) (before : Gained) (here : List (List ℕ))
+        → stepped names n before (block_seen current.now) line.now here ≡ Ok (before, block_seen current.now) }
+{
+    match current {
+        Block::Nothing | Block::Undecided | Block::Calls { .. } => line.is_empty(),
+        Block::Bytes(_) => false,
+        Block::Code(_) => !is_end(line),
+    }
 }
 
 // Reads line `n`, with which the text ahead begins.
@@ -173,7 +187,9 @@ pub(crate) fn read_lines<'a>(
     let is_clean = has_printable_lines(text);
     while let Some(line) = lines.next() {
         n += 1;
-        current = step(alloc, known, &mut done, n, current, line, is_clean, ahead)?;
+        if !is_idle(&current, line) {
+            current = step(alloc, known, &mut done, n, current, line, is_clean, ahead)?;
+        }
         ahead = lines.0;
     }
     close(n + 1, &current)?;

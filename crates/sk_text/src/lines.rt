@@ -17,6 +17,7 @@ impl<'a> Iterator for Lines<'a> {
 
     ghost remaining = { item_count (λ s. lines_of s.0.now) };
 
+    #[inline(always)]
     #[tactic(auto, using(crate::proofs::Cuts::lines_first, crate::proofs::Cuts::lines_none))]
     fn next(&mut self) -> Option<&'a [u8]> {
         if self.0.is_empty() {
@@ -62,6 +63,7 @@ pub fn cut(text: &[u8], byte: u8) -> (&[u8], &[u8])
 }
 
 // What stands before this place, and what stands behind the byte there.
+#[inline(always)]
 fn cut_at(text: &[u8], at: usize) -> (&[u8], &[u8])
     requires within { at ≤ length text.now }
     ensures front { result.0.now ≡ take at text.now }
@@ -74,8 +76,20 @@ fn cut_at(text: &[u8], at: usize) -> (&[u8], &[u8])
     }
 }
 
-// The place of the first line feed, or the length where there is none: many bytes at a time.
+// The place of the first line feed, or the length where there is none. An empty line shows by its first byte.
+#[inline(always)]
 fn end_of_line(text: &[u8]) -> usize
+    ensures within { result ≤ length text.now }
+    ensures first { result ≡ position_or_len (λ b. b == 10) text.now }
+{
+    if text.first() == Some(&b'\n') {
+        return 0;
+    }
+    first_line_feed(text)
+}
+
+// The same, many bytes at a time.
+fn first_line_feed(text: &[u8]) -> usize
     ensures within { result ≤ length text.now }
     ensures first { result ≡ position_or_len (λ b. b == 10) text.now }
 {

@@ -11,6 +11,9 @@ pub fn number_up_to(word: &[u8], most: u64) -> Option<u64>
     ensures bound { IfSome result (λ number. number ≤ most) }
 {
     let (digits, radix) = digits_of(word);
+    if radix == 10 {
+        return digits_up_to(digits, 10, most);
+    }
     digits_up_to(digits, radix, most)
 }
 
@@ -23,6 +26,7 @@ pub fn is_number(word: &[u8]) -> bool
 }
 
 // The digits of a number, without the mark of their radix, and the radix.
+#[inline(always)]
 #[tactic(auto, unfolding(crate::specs::Numbers::number_of))]
 fn digits_of(word: &[u8]) -> (&[u8], u32)
     ensures same { number_in result.1 result.0.now ≡ number_of word.now }
@@ -55,6 +59,7 @@ fn all_digits(bytes: &[u8], radix: u32) -> bool
 }
 
 // The value of these digits of a radix, where it is at most `most`.
+#[inline(always)]
 fn digits_up_to(digits: &[u8], radix: u32, most: u64) -> Option<u64>
     requires low { 2 ≤ radix }
     requires high { radix ≤ 36 }
@@ -73,6 +78,7 @@ fn digits_up_to(digits: &[u8], radix: u32, most: u64) -> Option<u64>
 }
 
 // A value with one digit more, where it is at most `most` then.
+#[inline(always)]
 fn with_digit(value: u64, radix: u32, digit: u32, most: u64) -> Option<u64>
     ensures next { SomeIff result (value * radix + digit ≤ most) (value * radix + digit) }
 {

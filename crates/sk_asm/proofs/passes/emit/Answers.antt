@@ -1,40 +1,30 @@
-use Rattle.std.proofs.Common.{◌∙◌, ap, refl, length, arith}
-use Rattle.sk_asm.specs.Block.{lines_in}
+use Rattle.std.proofs.Common.{◌≡◌, ◌<◌, ◌+◌, ◌∷◌, ℕ, List, ap, add-one, drop, length, get_or, drop-cons}
+use Rattle.std.proofs.lemmas.List.{drop_all}
 use Rattle.std.proofs.lemmas.Result.{err_from_is_err_and}
-use Rattle.sk_asm.proofs.Blocks.{length-lines_in}
-use Rattle.sk_asm.proofs.Turns.{emitted-unchecked, emitted-unresolved, emitted-turn, emitted-end, emitted-start}
+use Rattle.sk_asm.specs.declared.statement.Instruction.{Instruction}
+use Rattle.sk_asm.specs.Views.{statement, kept_in}
+use Rattle.sk_asm.proofs.Turns.{resolved-fault, resolved-turn, resolved-end, resolved-start}
 use Rattle.sk_asm.proofs.passes.emit.Goals as goal
 
-pub loop-line-init : goal.loop-line-init
-loop-line-init c =
-    let same = ap (λ s. lines_in s.is_block s.rest.0.now) c.into_iter-line-iterator.ensures.into_iter_gives in
-    let lines = length-lines_in c.args.is_block c.args.text.now in
-    record {
-      few = omega (arith, ap length same, lines);
-      so_far = emitted-start _ _ _ _ _ c.new-insns.ensures.items same;
-    }
+cut_off : (kept : List Instruction) (at : ℕ) (other : Instruction) → at < length kept
+    → kept_in (drop at kept) ≡ ((get_or kept at other).n, statement (get_or kept at other).parsed) ∷ kept_in (drop (at + 1) kept)
+cut_off kept at other within = rw add-one (ap kept_in (drop-cons kept at other within))
 
-pub returns-in_err-parsed : goal.returns-in_err-parsed
-returns-in_err-parsed c =
+pub returns-in_err-insn : goal.returns-in_err-insn
+returns-in_err-insn c =
     let p = err_from_is_err_and c.from_residual.result c.from_residual.ensures.1 in
-    record {
-      exact = rw (p.1, p.2) (emitted-unchecked _ _ _ _ _ _ _ _ c.in-Some.ensures.steps c.loop-line.invariant.so_far c.in_err-parsed.field-0.0 c.in_err-parsed.ensures.exact);
-    }
+    let cut = cut_off c.args.kept.now c.loop-at.at _ c.loop-at-test.true in
+    record { exact = rw (p.1, p.2) (resolved-fault _ _ _ _ _ _ _ _ cut c.loop-at.invariant c.in_err-insn.field-0.0 c.in_err-insn.ensures.exact) }
 
-pub returns-in_err-given : goal.returns-in_err-given
-returns-in_err-given c =
-    let p = err_from_is_err_and c.from_residual-in_err-given.result c.from_residual-in_err-given.ensures.1 in
-    record {
-      exact = rw (p.1, p.2) (emitted-unresolved _ _ _ _ _ _ _ _ c.in-Some.ensures.steps c.loop-line.invariant.so_far _ c.len.result c.in_err-given.field-0.0 c.in_ok-parsed.ensures.exact (c.len.ensures ∙ c.loop-line.insns.ok.0) c.in_err-given.ensures.exact);
-    }
+pub loop-at-init : goal.loop-at-init
+loop-at-init c = resolved-start _ _ _ c.new-insns.ensures.items
 
-pub loop-line-preserved : goal.loop-line-preserved
-loop-line-preserved c = record {
-  few = let shorter = ap length c.in-Some.ensures.steps in omega (arith, shorter, c.loop-line.invariant.few);
-  so_far = emitted-turn _ _ _ _ _ _ _ _ c.in-Some.ensures.steps c.loop-line.invariant.so_far _ c.len.result c.in_ok-given.given _ c.in_ok-parsed.ensures.exact (c.len.ensures ∙ c.loop-line.insns.ok.0) c.in_ok-given.ensures.exact refl c.in_ok-push_some.ensures.pushed;
-}
+pub loop-at-preserved : goal.loop-at-preserved
+loop-at-preserved c =
+    let cut = cut_off c.args.kept.now c.loop-at.at _ c.loop-at-test.true in
+    resolved-turn _ _ _ _ _ _ _ _ cut c.loop-at.invariant c.in_ok-insn.insn _ c.in_ok-insn.ensures.exact c.in_ok-push_some.ensures.pushed
 
 pub returns : goal.returns
 returns c = record {
-  exact = emitted-end _ _ _ _ _ _ c.in-None.ensures.steps.0 c.loop-line.invariant.so_far;
+  exact = resolved-end _ _ _ _ _ (ap kept_in (drop_all c.loop-at.at c.args.kept.now c.loop-at-test.false)) c.loop-at.invariant;
 }

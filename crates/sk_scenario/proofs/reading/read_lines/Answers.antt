@@ -4,6 +4,7 @@ use Rattle.sk_text.specs.Lines.{lines_of}
 use Rattle.sk_scenario.proofs.Clean.{first_printable}
 use Rattle.sk_scenario.proofs.Ends.{few_lines}
 use Rattle.sk_scenario.proofs.Turns.{goes, fails, ends, ends_open}
+use Rattle.sk_scenario.proofs.reading.read_lines.Goals.{then-not-is_idle+in_ok-current, else-not-is_idle}
 use Rattle.sk_scenario.proofs.reading.read_lines.Goals as goal
 
 pub loop-line-init : goal.loop-line-init
@@ -26,7 +27,13 @@ loop-line-preserved c =
       few = omega (arith, one, few);
       clean = λ is. (first_printable _ _ _ c.in-Some.ensures.steps (c.loop-line.invariant.clean is)).1;
       same = refl;
-      so_far = goes _ _ _ _ _ _ _ (ap lines_of c.loop-line.invariant.same) c.loop-line.invariant.so_far _ _ _ c.in-Some.ensures.steps c.in_ok-current.ensures.exact;
+      so_far = elim c.if-not-is_idle.branch [
+        | then-not-is_idle+in_ok-current w ↦
+            rw (w.done-is, w.current-is) (goes _ _ _ _ _ _ _ (ap lines_of c.loop-line.invariant.same) c.loop-line.invariant.so_far _ _ _ c.in-Some.ensures.steps w.in_ok-current.ensures.exact)
+        | else-not-is_idle w ↦
+            let idle = c.is_idle.ensures.same w.if-not-is_idle.false in
+            rw (w.done-is, w.current-is) (goes _ _ _ _ _ _ _ (ap lines_of c.loop-line.invariant.same) c.loop-line.invariant.so_far _ _ _ c.in-Some.ensures.steps (idle _ _ _ _))
+      ];
     }
 
 pub returns-in_err-close : goal.returns-in_err-close

@@ -1,7 +1,7 @@
 use Rattle.std.proofs.Common.{◌==◌, length, sym, arith}
 use Rattle.std.proofs.lemmas.List.Sums.{position_or_len_is}
 use Rattle.std.proofs.lemmas.Bool.{false_from_ne_true}
-use Rattle.sk_text.proofs.lines.end_of_line.Goals as goal
+use Rattle.sk_text.proofs.lines.first_line_feed.Goals as goal
 
 pub returns-in-Some-clause-first : goal.returns-in-Some-clause-first
 returns-in-Some-clause-first c =

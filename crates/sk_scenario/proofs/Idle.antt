@@ -1,0 +1,23 @@
+-- Lines that change nothing.
+use Rattle.std.proofs.Common.{◌≡◌, refl, ℕ, List, [], Option, false, Ok}
+use Rattle.sk_asm.specs.Block.{is_end}
+use Rattle.sk_setting.specs.Grammar.{heading_of, asked_of}
+use Rattle.sk_setting.specs.Scenario.{Names, Script}
+use Rattle.sk_setting.specs.Reading.{Gained, Nothing, Undecided, Code, Calls, checked, remarked, started, decided, called, inside, within, stepped}
+
+module _ (known : Option Names) (n : ℕ) (d : Gained) (here : List (List ℕ)) where
+  pub idle_top : (line : List ℕ) → line ≡ [] → stepped known n d Nothing line here ≡ Ok (d, Nothing)
+  unfolding stepped checked heading_of started remarked
+  idle_top line e = rw e refl
+
+  pub idle_undecided : (line : List ℕ) → line ≡ [] → stepped known n d Undecided line here ≡ Ok (d, Undecided)
+  unfolding stepped within is_end inside decided
+  idle_undecided line e = rw e refl
+
+  pub idle_call : (script : Script) (line : List ℕ) → line ≡ [] → stepped known n d (Calls script) line here ≡ Ok (d, Calls script)
+  unfolding stepped within is_end inside checked asked_of called
+  idle_call script line e = rw e refl
+
+  pub idle_code : (image line : List ℕ) → is_end line ≡ false → stepped known n d (Code image) line here ≡ Ok (d, Code image)
+  unfolding stepped within inside
+  idle_code image line e = rw e refl
