@@ -8,7 +8,7 @@ ghost use Rattle.sk_machine.specs.Turns.{next_of, need_of};
 ghost use Rattle.sk_candidates.specs.views.Noting.{AllBlocked, OthersBlocked, OthersAreThere, Notes, Forgets, LooksAt};
 
 use crate::asking::{Runner, next_beside_waiter, next_in_turn};
-use crate::blocked::{waiter, notified_parent, is_blocked};
+use crate::blocked::{is_blocked, notified_parent, waiter};
 use sk_numbers::NumberSet;
 use sk_turns::halted;
 use sk_world::{Body, INIT, LAST_PID, Links, Proc, ProcStore, parent_of};

@@ -3,8 +3,8 @@
 #![tactic(auto)]
 
 mod asking;
-mod candidates;
 mod blocked;
+mod candidates;
 
 pub use asking::Runner;
 pub use candidates::Candidates;

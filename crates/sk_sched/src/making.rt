@@ -60,12 +60,7 @@ pub(crate) fn event_by(
 }
 
 /// The event of a process that goes on with its script: a call of it, or what ends it.
-fn own_event(
-    programs: &[Program],
-    pid: u32,
-    levels: &Levels,
-    line: Option<&ScriptCall>,
-) -> Event
+fn own_event(programs: &[Program], pid: u32, levels: &Levels, line: Option<&ScriptCall>) -> Event
     requires room { IfSome line (λ _. levels.now.top.position < 2 ^ 63) }
     ensures event { result ≡ own_event programs.now pid (stack_of levels.now) (option_copied line.entry) }
 {
