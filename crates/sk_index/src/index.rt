@@ -6,7 +6,7 @@ ghost use Rattle.sk_world.specs.Rules.{is_within};
 ghost use Rattle.sk_index.specs.Beside.{IsBeside};
 
 use crate::uses::Uses;
-use sk_pairs::PairRow;
+use sk_numbers::PairRow;
 use sk_world::Links;
 use std::alloc::{AllocError, Global};
 

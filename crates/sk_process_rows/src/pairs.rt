@@ -1,4 +1,4 @@
-use sk_pairs::PairRow;
+use sk_numbers::PairRow;
 use std::test::Fail;
 
 #[test]

@@ -1,7 +1,7 @@
 use Rattle.std.proofs.Common.{◌∙◌, ap, sym}
 use Rattle.sk_world.specs.World.{at, is_member_of}
 use Rattle.sk_slots.specs.Slots.{Slotted}
-use Rattle.sk_pairs.specs.Pairs.{has_pair}
+use Rattle.sk_numbers.specs.Pairs.{has_pair}
 use Rattle.sk_slots.proofs.Freely.{next_is}
 use Rattle.sk_slots.proofs.slot_store.SlotStoreProcStore.next_member.Goals as goal
 

@@ -2,8 +2,8 @@ use Rattle.std.proofs.Common.{◌∙◌, ◌==◌, ap, sym, rules}
 use Rattle.std.specs.Prelude.{nat_lt, nat_le, filter}
 use Rattle.std.specs.List.{slice_range}
 use Rattle.std.proofs.lemmas.List.Sorted.{IsPartitionPoint-from_clause}
-use Rattle.sk_pairs.proofs.Rows.{Pair, Parted, point_in, falls_lt, falls_le, in_order, slice_is}
-use Rattle.sk_pairs.proofs.row.PairRow.slice_of.Goals as goal
+use Rattle.sk_numbers.proofs.Rows.{Pair, Parted, point_in, falls_lt, falls_le, in_order, slice_is}
+use Rattle.sk_numbers.proofs.row.PairRow.slice_of.Goals as goal
 
 starts : (c : goal.After-partition_point-end) → Parted (λ y. nat_lt y.0 c.args.first) c.self.inside.pairs.items c.partition_point-start.result
 starts c =

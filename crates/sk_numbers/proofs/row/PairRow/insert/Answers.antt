@@ -1,9 +1,9 @@
 use Rattle.std.proofs.Common.{◌≡◌, ◌∙◌, ◌==◌, ◌&&◌, ◌||◌, ap, arith, true, length}
 use Rattle.std.specs.List.{insert}
-use Rattle.sk_pairs.specs.Pairs.{below, is_rising, has_pair}
-use Rattle.sk_pairs.proofs.Rows.{Parted, placed, put_in, rising-insert, has_pair-insert}
-use Rattle.sk_pairs.proofs.row.PairRow.insert.Goals as goal
-use Rattle.sk_pairs.proofs.row.PairRow.insert.Goals.{After-insert}
+use Rattle.sk_numbers.specs.Pairs.{below, is_rising, has_pair}
+use Rattle.sk_numbers.proofs.Rows.{Parted, placed, put_in, rising-insert, has_pair-insert}
+use Rattle.sk_numbers.proofs.row.PairRow.insert.Goals as goal
+use Rattle.sk_numbers.proofs.row.PairRow.insert.Goals.{After-insert}
 
 parted : (c : After-insert) → Parted (λ y. below y (c.args.first, c.args.second)) c.self.inside.pairs.items c.place-place.result
 parted c = placed _ _ _ (c.args.first, c.args.second) c.deref.ensures.value c.place-place.ensures.within c.place-place.ensures.before c.place-place.ensures.after

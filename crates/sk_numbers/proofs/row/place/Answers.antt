@@ -1,8 +1,8 @@
 use Rattle.std.proofs.Common.{rules, refl}
 use Rattle.std.proofs.lemmas.List.Sorted.{IsPartitionPoint-from_clause}
-use Rattle.sk_pairs.specs.Pairs.{below}
-use Rattle.sk_pairs.proofs.Rows.{Pair, Parted, point_in, falls_below}
-use Rattle.sk_pairs.proofs.row.place.Goals as goal
+use Rattle.sk_numbers.specs.Pairs.{below}
+use Rattle.sk_numbers.proofs.Rows.{Pair, Parted, point_in, falls_below}
+use Rattle.sk_numbers.proofs.row.place.Goals as goal
 
 parted : (c : goal.After-partition_point) → Parted (λ y. below y (c.args.first, c.args.second)) c.args.pairs.now c.partition_point.result
 parted c =

@@ -1,6 +1,6 @@
 ghost use Rattle.std.specs.Prelude.{◌≡◌, ℕ, ◌+◌, ◌<◌, ◌≤◌, ◌==◌, ◌&&◌, ◌||◌, nat_lt, nat_le, true, false, not, slice_index_or, length, filter, vec_len, IfOk, IsTrue, IsFalse, []};
 ghost use Rattle.sk_numbers.specs.Numbers.{IsLeastAbove};
-ghost use Rattle.sk_pairs.specs.Pairs.{has_pair, is_rising, below};
+ghost use Rattle.sk_numbers.specs.Pairs.{has_pair, is_rising, below};
 
 use std::alloc::{AllocError, Global};
 use std::marker::Model;
@@ -22,7 +22,7 @@ impl Model for PairRow {
 
     ghost coded = { coded_list (coded× coded_ℕ coded_ℕ) };
 
-    ghost use Rattle.sk_pairs.specs.RowView.{pairs_of, IsKept};
+    ghost use Rattle.sk_numbers.specs.RowView.{pairs_of, IsKept};
 
     ghost view = { pairs_of };
 

@@ -1,8 +1,8 @@
 use Rattle.std.proofs.Common.{◌≡◌, ◌∙◌, ◌==◌, ◌&&◌, not, ap, arith, true}
-use Rattle.sk_pairs.specs.Pairs.{below, is_rising, has_pair}
-use Rattle.sk_pairs.proofs.Rows.{Parted, placed, place_within, rising-remove, has_pair-remove}
-use Rattle.sk_pairs.proofs.row.PairRow.remove.Goals as goal
-use Rattle.sk_pairs.proofs.row.PairRow.remove.Goals.{After-remove-removed}
+use Rattle.sk_numbers.specs.Pairs.{below, is_rising, has_pair}
+use Rattle.sk_numbers.proofs.Rows.{Parted, placed, place_within, rising-remove, has_pair-remove}
+use Rattle.sk_numbers.proofs.row.PairRow.remove.Goals as goal
+use Rattle.sk_numbers.proofs.row.PairRow.remove.Goals.{After-remove-removed}
 
 parted : (c : goal.After-remove-arg-1) → Parted (λ y. below y (c.args.first, c.args.second)) c.self.inside.pairs.items c.place-place.result
 parted c = placed _ _ _ (c.args.first, c.args.second) c.deref.ensures.value c.place-place.ensures.within c.place-place.ensures.before c.place-place.ensures.after

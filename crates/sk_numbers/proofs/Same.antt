@@ -2,8 +2,8 @@
 use Rattle.std.proofs.Common.{◌≡◌, ◌∙◌, ◌==◌, ◌||◌, ◌&&◌, ℕ, arith, ap, sym, subst, refl, Bool, true, false, cond, List, [], ◌∷◌, filter}
 use Rattle.std.proofs.lemmas.Bool.{and_parts, and_from, eqb-true}
 use Rattle.std.proofs.lemmas.Bool.Decides.{nat_tests}
-use Rattle.sk_pairs.specs.Pairs.{below, below_all, is_rising, has_pair}
-use Rattle.sk_pairs.proofs.Rows.{Pair, below_member, absent_later}
+use Rattle.sk_numbers.specs.Pairs.{below, below_all, is_rising, has_pair}
+use Rattle.sk_numbers.proofs.Rows.{Pair, below_member, absent_later}
 
 -- ---- rising rows with the same pairs are the same
 

@@ -1,8 +1,8 @@
 -- What a row of pairs says, and what holds of it.
 use Rattle.std.specs.Prelude.{ℕ, ◌≤◌, List, IsTrue, vec_capacity}
-use Rattle.sk_pairs.specs.Pairs.{is_rising}
-use Rattle.sk_pairs.specs.declared.row.PairRow.TheInside.{Inside}
-use Rattle.sk_pairs.specs.declared.row.TheConstants.{PAIRS}
+use Rattle.sk_numbers.specs.Pairs.{is_rising}
+use Rattle.sk_numbers.specs.declared.row.PairRow.TheInside.{Inside}
+use Rattle.sk_numbers.specs.declared.row.TheConstants.{PAIRS}
 
 abbrev pub pairs_of : Inside → List (ℕ × ℕ)
 pairs_of row = row.pairs.items

@@ -6,7 +6,7 @@ use Rattle.std.specs.List.Sorted.{IsPartitionPoint, IsPartitionedBy}
 use Rattle.std.proofs.lemmas.Bool.{and_parts, and_from, cases_lt, eq-eqb, ne_eqb}
 use Rattle.std.proofs.lemmas.Bool.Decides.{nat_tests}
 use Rattle.sk_numbers.specs.Numbers.{IsLeastAbove}
-use Rattle.sk_pairs.specs.Pairs.{below, below_all, is_rising, has_pair}
+use Rattle.sk_numbers.specs.Pairs.{below, below_all, is_rising, has_pair}
 
 abbrev pub Pair : Type 0
 Pair = ℕ × ℕ

@@ -1,9 +1,9 @@
 use Rattle.std.proofs.Common.{◌||◌, ◌&&◌, ◌==◌, arith, rules}
 use Rattle.std.specs.Prelude.{nat_lt, nat_le}
 use Rattle.std.proofs.lemmas.List.Sorted.{IsPartitionPoint-from_clause}
-use Rattle.sk_pairs.proofs.Rows.{Pair, Parted, point_in, falls_upto, next_past, next_some, next_other}
-use Rattle.sk_pairs.proofs.row.PairRow.next.Goals as goal
-use Rattle.sk_pairs.proofs.row.PairRow.next.Goals.{After-partition_point-place}
+use Rattle.sk_numbers.proofs.Rows.{Pair, Parted, point_in, falls_upto, next_past, next_some, next_other}
+use Rattle.sk_numbers.proofs.row.PairRow.next.Goals as goal
+use Rattle.sk_numbers.proofs.row.PairRow.next.Goals.{After-partition_point-place}
 
 parted : (c : After-partition_point-place) → Parted (λ y. nat_lt y.0 c.args.first || ((y.0 == c.args.first) && nat_le y.1 c.args.after)) c.self.inside.pairs.items c.partition_point-place.result
 parted c =
