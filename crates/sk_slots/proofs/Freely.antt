@@ -4,10 +4,10 @@ use Rattle.std.specs.Prelude.{nat_lt}
 use Rattle.sk_world.specs.Numbers.{is_used, next_number, free_from, fresh_of}
 use Rattle.sk_world.specs.World.{World, IsNext}
 use Rattle.sk_numbers.specs.Numbers.{IsLeastAbove}
-use Rattle.sk_index.specs.Beside.{uses_in}
+use Rattle.sk_slots.specs.Beside.{uses_in}
 use Rattle.sk_slots.specs.Free.{free_counted}
 use Rattle.sk_slots.specs.declared.numbering.TheConstants.{NUMBERS}
-use Rattle.sk_index.proofs.Indexing.{used_counts}
+use Rattle.sk_slots.proofs.Indexing.{used_counts}
 
 pub free_here : (more : ℕ) (counts : List ℕ) (n : ℕ) → nat_lt 0 (get_or counts n 0) ≡ false → free_counted more counts n ≡ n
 unfolding free_counted

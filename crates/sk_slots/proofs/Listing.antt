@@ -12,8 +12,8 @@ use Rattle.sk_world.proofs.Maps.{same_number}
 use Rattle.sk_numbers.specs.Pairs.{below, below_all, is_rising, has_pair}
 use Rattle.sk_numbers.proofs.Rows.{Pair}
 use Rattle.sk_numbers.proofs.Same.{same_rows, rising-filter, has_pair-filter}
-use Rattle.sk_index.specs.Beside.{IsRow}
-use Rattle.sk_index.proofs.Indexing.{numbered}
+use Rattle.sk_slots.specs.Beside.{IsRow}
+use Rattle.sk_slots.proofs.Indexing.{numbered}
 
 nothing_of : (v : Bool) → false ≡ (v && false)
 nothing_of true = refl

@@ -13,7 +13,7 @@ use Rattle.sk_world.specs.declared.process.Proc.{Proc}
 use Rattle.sk_world.specs.Processes.{get, store}
 use Rattle.sk_world.specs.World.{World, at, stored, body_changed, links_changed, with_body, with_links}
 use Rattle.sk_slots.specs.Slots.{slot, in_slot, processes_from}
-use Rattle.sk_index.proofs.Indexing.{none_back}
+use Rattle.sk_slots.proofs.Indexing.{none_back}
 use Rattle.sk_slots.proofs.Slotting.{read, slot_kept, not_its, processes_changed, live_changed}
 
 -- the world of a store with these fields

@@ -5,7 +5,7 @@ use Rattle.slab.specs.Slab.{slab_len}
 use Rattle.sk_numbers.specs.Numbers.{contains}
 use Rattle.sk_world.specs.declared.process.TheConstants.{LAST_PID, PROCESSES}
 use Rattle.sk_world.specs.Processes.{Processes, count}
-use Rattle.sk_index.specs.Beside.{IsBeside}
+use Rattle.sk_slots.specs.Beside.{IsBeside}
 use Rattle.sk_slots.specs.Slots.{Slotted, slot, in_slot, processes_from}
 use Rattle.sk_slots.specs.declared.slot_store.SlotStore.TheInside.{Inside}
 

@@ -2,7 +2,7 @@ ghost use Rattle.std.specs.Prelude.{◌≡◌};
 ghost use Rattle.sk_world.specs.Numbers.{next_number};
 ghost use Rattle.sk_slots.specs.Free.{free_counted};
 
-use sk_index::Uses;
+use crate::uses::Uses;
 use sk_world::LAST_PID;
 
 // How many numbers there are to be given, from 2 to the last.

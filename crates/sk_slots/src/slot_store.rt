@@ -7,8 +7,8 @@ ghost use Rattle.sk_world.specs.World.{at, stored};
 ghost use Rattle.sk_slots.specs.Slots.{slot, children_of, members_of};
 
 use crate::first::first_process;
+use crate::index::Index;
 use crate::numbering::first_free;
-use sk_index::Index;
 use sk_numbers::{NUMBERS, NumberSet};
 use sk_world::{Body, INIT, Links, PROCESSES, Proc, ProcStore};
 use slab::Slab;

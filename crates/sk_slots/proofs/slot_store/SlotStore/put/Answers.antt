@@ -1,10 +1,10 @@
 use Rattle.std.proofs.Common.{◌≡◌, ◌∙◌, ◌+◌, ap, sym, subst, refl, arith, None, Some}
 use Rattle.sk_world.specs.Processes.{get, count, store}
 use Rattle.sk_world.specs.World.{World, at, stored}
-use Rattle.sk_index.specs.Beside.{IsBeside}
+use Rattle.sk_slots.specs.Beside.{IsBeside}
 use Rattle.sk_slots.specs.SlotView.{procs_of}
 use Rattle.sk_slots.specs.Slots.{Slotted, processes_from}
-use Rattle.sk_index.proofs.Indexing.{count_entered}
+use Rattle.sk_slots.proofs.Indexing.{count_entered}
 use Rattle.sk_slots.proofs.Slotting.{not_empty, processes_changed, live_changed, apart_changed, numbers_inserted, only_it}
 use Rattle.sk_slots.proofs.slot_store.SlotStore.put.Goals as goal
 

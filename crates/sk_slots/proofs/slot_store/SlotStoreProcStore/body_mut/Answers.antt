@@ -1,9 +1,9 @@
 use Rattle.std.proofs.Common.{◌≡◌, ◌∙◌, ap, sym, subst, refl, Some, arith}
 use Rattle.sk_world.specs.Processes.{count}
-use Rattle.sk_index.specs.Beside.{IsBeside}
+use Rattle.sk_slots.specs.Beside.{IsBeside}
 use Rattle.sk_slots.specs.Slots.{Slotted, slot}
 use Rattle.sk_slots.specs.SlotView.{procs_of}
-use Rattle.sk_index.proofs.Indexing.{count_kept, beside_kept}
+use Rattle.sk_slots.proofs.Indexing.{count_kept, beside_kept}
 use Rattle.sk_slots.proofs.Writing.{entry_is, absent, here, found, written, live_written, len_written, body_written}
 use Rattle.sk_slots.proofs.slot_store.SlotStoreProcStore.body_mut.Goals as goal
 

@@ -4,7 +4,7 @@ use Rattle.std.proofs.lemmas.Option.{none-some}
 use Rattle.sk_numbers.specs.Numbers.{contains}
 use Rattle.sk_world.specs.Processes.{none, get, store, count}
 use Rattle.sk_world.specs.World.{World}
-use Rattle.sk_index.specs.Beside.{IsBeside}
+use Rattle.sk_slots.specs.Beside.{IsBeside}
 use Rattle.sk_slots.specs.Slots.{slot, in_slot, processes_from}
 use Rattle.sk_slots.proofs.Slotting.{nothing_there}
 use Rattle.sk_slots.proofs.slot_store.SlotStoreProcStore.new.Goals as goal

@@ -2,10 +2,10 @@ use Rattle.std.proofs.Common.{◌≡◌, ◌∙◌, ap, sym, subst, refl, arith,
 use Rattle.std.specs.Option.{is_some, option_map}
 use Rattle.sk_world.specs.Processes.{store, count}
 use Rattle.sk_world.specs.World.{stored, links_changed}
-use Rattle.sk_index.specs.Beside.{IsBeside}
+use Rattle.sk_slots.specs.Beside.{IsBeside}
 use Rattle.sk_slots.specs.Slots.{Slotted, slot}
 use Rattle.sk_slots.specs.SlotView.{procs_of}
-use Rattle.sk_index.proofs.Indexing.{count_left, count_kept, gone_here, stored_again}
+use Rattle.sk_slots.proofs.Indexing.{count_left, count_kept, gone_here, stored_again}
 use Rattle.sk_slots.proofs.Writing.{entry_is, absent, nothing_stored, here, found, written, live_written, len_written, links_written}
 use Rattle.sk_slots.proofs.slot_store.SlotStoreProcStore.relink.Goals as goal
 

@@ -2,10 +2,10 @@ use Rattle.std.proofs.Common.{◌≡◌, ◌∙◌, ap, sym, subst, refl, arith,
 use Rattle.std.specs.Option.{is_some}
 use Rattle.sk_world.specs.Processes.{get, store, count}
 use Rattle.sk_world.specs.World.{World, stored}
-use Rattle.sk_index.specs.Beside.{IsBeside}
+use Rattle.sk_slots.specs.Beside.{IsBeside}
 use Rattle.sk_slots.specs.Slots.{Slotted, slot, processes_from}
 use Rattle.sk_slots.specs.SlotView.{procs_of}
-use Rattle.sk_index.proofs.Indexing.{count_left}
+use Rattle.sk_slots.proofs.Indexing.{count_left}
 use Rattle.sk_slots.proofs.Slotting.{slot_set, not_its, processes_changed, live_changed, apart_changed, numbers_removed, only_none}
 use Rattle.sk_slots.proofs.Writing.{entry_is, entry_within, absent, nothing_stored, here, found}
 use Rattle.sk_slots.proofs.slot_store.SlotStoreProcStore.remove.Goals as goal

@@ -3,7 +3,7 @@ ghost use Rattle.sk_world.specs.declared.process.Proc.{Proc};
 ghost use Rattle.sk_world.specs.declared.process.TheConstants.{LAST_PID, PROCESSES};
 ghost use Rattle.sk_world.specs.Processes.{Processes, none, get, store, count};
 ghost use Rattle.sk_world.specs.Rules.{is_within};
-ghost use Rattle.sk_index.specs.Beside.{IsBeside};
+ghost use Rattle.sk_slots.specs.Beside.{IsBeside};
 
 use crate::uses::Uses;
 use sk_numbers::PairRow;

@@ -4,7 +4,7 @@ use Rattle.std.specs.Option.{option_map_or}
 use Rattle.sk_world.specs.declared.process.Proc.{Proc}
 use Rattle.sk_world.specs.Processes.{Processes, get, count}
 use Rattle.sk_numbers.specs.Pairs.{has_pair}
-use Rattle.sk_index.specs.Weights.{weight}
+use Rattle.sk_slots.specs.Weights.{weight}
 
 -- how often the processes use a number
 abbrev pub uses_in : ℕ → List (ℕ × Proc) → ℕ

@@ -1,6 +1,6 @@
 use Rattle.std.proofs.Common.{[]}
-use Rattle.sk_index.proofs.Indexing.{weight_there, beside_left}
-use Rattle.sk_index.proofs.index.Index.leave.Goals as goal
+use Rattle.sk_slots.proofs.Indexing.{weight_there, beside_left}
+use Rattle.sk_slots.proofs.index.Index.leave.Goals as goal
 
 pub leave-requires : goal.leave-requires
 leave-requires c =

@@ -1,7 +1,7 @@
 ghost use Rattle.std.specs.Prelude.{◌≡◌, ℕ, ◌+◌, ◌<◌, ◌≤◌, ◌==◌, nat_lt, slice_index, IfOk, IsTrue};
 ghost use Rattle.sk_world.specs.declared.process.TheConstants.{LAST_PID};
 ghost use Rattle.sk_world.specs.Rules.{is_within};
-ghost use Rattle.sk_index.specs.Weights.{one, weight};
+ghost use Rattle.sk_slots.specs.Weights.{one, weight};
 
 use sk_numbers::NUMBERS;
 use sk_world::Links;

@@ -14,8 +14,8 @@ use Rattle.sk_world.specs.Processes.{Processes, none, get, store, count}
 use Rattle.sk_world.specs.Numbers.{has_number}
 use Rattle.sk_world.proofs.Maps.{get_store, same_map, count_put, equal_numbers}
 use Rattle.sk_numbers.specs.Pairs.{has_pair}
-use Rattle.sk_index.specs.Weights.{one, weight}
-use Rattle.sk_index.specs.Beside.{uses_in, IsRow, IsBeside}
+use Rattle.sk_slots.specs.Weights.{one, weight}
+use Rattle.sk_slots.specs.Beside.{uses_in, IsRow, IsBeside}
 
 -- ---- the processes
 
