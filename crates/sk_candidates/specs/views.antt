@@ -1,2 +1,3 @@
+pub mod OfProcess
 pub mod Blocked
 pub mod Noting

@@ -6,9 +6,9 @@ ghost use Rattle.sk_machine.specs.Machine.{halted_of};
 ghost use Rattle.sk_machine.specs.Turns.{is_runnable, need_of, next_of};
 ghost use Rattle.sk_candidates.specs.views.Noting.{NoOtherPasses, PassesOver};
 
+use crate::turns::need_to_run;
 use sk_machine::Need;
 use sk_numbers::NumberSet;
-use sk_turns::need_to_run;
 use sk_world::ProcStore;
 
 /// A process that can run, and what its next event is.

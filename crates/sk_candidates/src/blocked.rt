@@ -4,8 +4,8 @@ ghost use Rattle.sk_world.specs.World.{at};
 ghost use Rattle.sk_world.specs.Waits.{status_of_note, status_of_body};
 ghost use Rattle.sk_candidates.specs.views.Blocked.{has_status_change, has_change_for, BlockedAs, KeepsWaiting, IsStillAsking};
 
+use crate::reasons::signal_for;
 use bitflags::Flags;
-use sk_turns::signal_for;
 use sk_world::{Body, Life, Note, Proc, ProcStore, Request, WaitOptions, Waiting, is_asked_for};
 
 /// The parent that a status change of the process is reported to, if there is one. The pid 0, which is nobody's, stands for no process.

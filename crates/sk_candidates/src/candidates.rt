@@ -9,8 +9,8 @@ ghost use Rattle.sk_candidates.specs.views.Noting.{AllBlocked, OthersBlocked, Ot
 
 use crate::asking::{Runner, next_beside_waiter, next_in_turn};
 use crate::blocked::{is_blocked, notified_parent, waiter};
+use crate::reasons::halted;
 use sk_numbers::NumberSet;
-use sk_turns::halted;
 use sk_world::{Body, INIT, LAST_PID, Links, Proc, ProcStore, parent_of};
 use std::alloc::{AllocError, Global};
 use std::marker::Model;

@@ -127,7 +127,7 @@ impl<S: ProcStore> Kernel<S> {
     pub fn halted(&self) -> Option<u32>
         ensures { result ≡ halted_of self.now.world }
     {
-        sk_turns::halted(&self.store)
+        sk_candidates::halted(&self.store)
     }
 
     /// Whether the process can run: it lives, and a signal is due, or it is not stopped and its call would not go on
@@ -135,7 +135,7 @@ impl<S: ProcStore> Kernel<S> {
     pub fn runnable(&self, pid: u32) -> bool
         ensures { result ≡ is_runnable self.now.world pid }
     {
-        sk_turns::runnable(&self.store, pid)
+        sk_candidates::runnable(&self.store, pid)
     }
 
     /// Whose turn is next, in round robin, after the process that ran last.
@@ -157,6 +157,6 @@ impl<S: ProcStore> Kernel<S> {
     pub fn need(&self, pid: u32) -> Need
         ensures { result ≡ need_of self.now.world pid }
     {
-        sk_turns::need(&self.store, pid)
+        sk_candidates::need(&self.store, pid)
     }
 }

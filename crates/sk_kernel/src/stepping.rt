@@ -9,12 +9,12 @@ ghost use Rattle.sk_machine.specs.Machine.{reason_of, delivery, happened_to, ste
 ghost use Rattle.sk_machine.specs.Memory.{takes_memory};
 
 use crate::calls::call;
+use sk_candidates::{reason, signal_due};
 use sk_delivery::{deliver, resume};
 use sk_insn::Record;
 use sk_machine::{Answer, Event, Images, Outcome};
 use sk_session::end;
 use sk_signal::number::SIGSEGV;
-use sk_turns::{reason, signal_due};
 use sk_world::ProcStore;
 use std::alloc::{AllocError, Global};
 

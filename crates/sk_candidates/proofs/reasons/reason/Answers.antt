@@ -1,8 +1,8 @@
 use Rattle.std.proofs.Common.{◌∙◌, ap, sym}
 use Rattle.std.specs.Option.{is_some}
 use Rattle.sk_world.specs.World.{at}
-use Rattle.sk_turns.proofs.Why.{reason_there, halted_by_status}
-use Rattle.sk_turns.proofs.reasons.reason.Goals as goal
+use Rattle.sk_candidates.proofs.Why.{reason_there, halted_by_status}
+use Rattle.sk_candidates.proofs.reasons.reason.Goals as goal
 
 pub returns-in-Some : goal.returns-in-Some
 returns-in-Some g c =

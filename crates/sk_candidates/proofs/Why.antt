@@ -13,7 +13,7 @@ use Rattle.sk_machine.specs.declared.answer.Reason.TheVariants.{NoProcess, Zombi
 use Rattle.sk_machine.specs.Events.{pid_of}
 use Rattle.sk_machine.specs.Delivering.{signal_for, signal_due, is_waiting, is_in_call}
 use Rattle.sk_machine.specs.Machine.{reason_of, halted_of, end_status}
-use Rattle.sk_turns.specs.views.OfProcess.{running_reason, reason_by, reason_for}
+use Rattle.sk_candidates.specs.views.OfProcess.{running_reason, reason_by, reason_for}
 
 -- whether the event may reach a stopped process
 kills : Bool → Event → Bool

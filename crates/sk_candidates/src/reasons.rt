@@ -3,7 +3,7 @@ ghost use Rattle.sk_signal.specs.SignalSet.{IsSignal};
 ghost use Rattle.sk_world.specs.World.{at};
 ghost use Rattle.sk_machine.specs.Delivering.{signal_for, signal_due};
 ghost use Rattle.sk_machine.specs.Machine.{reason_of, halted_of};
-ghost use Rattle.sk_turns.specs.views.OfProcess.{running_reason, stopped_reason, reason_for};
+ghost use Rattle.sk_candidates.specs.views.OfProcess.{running_reason, stopped_reason, reason_for};
 
 use sk_machine::{Event, Reason, is_waiting};
 use sk_signal::number::SIGKILL;

@@ -1,6 +1,6 @@
 use Rattle.std.proofs.Common.{◌∙◌, sym}
-use Rattle.sk_turns.proofs.Walking.{goes_on_waiting, ends_by_child, ends_by_none}
-use Rattle.sk_turns.proofs.turns.asks_no_more.Goals as goal
+use Rattle.sk_candidates.proofs.Walking.{goes_on_waiting, ends_by_child, ends_by_none}
+use Rattle.sk_candidates.proofs.turns.asks_no_more.Goals as goal
 
 pub returns-in-Told : goal.returns-in-Told
 returns-in-Told g c =
