@@ -15,3 +15,4 @@ pub mod Turns
 pub mod Marks
 pub mod Runs
 pub mod Machines
+pub mod HangingUp

@@ -6,3 +6,4 @@ pub mod TellingLaws
 pub mod ConfinementLaws
 pub mod RunLaws
 pub mod AnyMachine
+pub mod HangingUpLaws

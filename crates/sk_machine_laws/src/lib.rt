@@ -1,5 +1,5 @@
-//! Laws on the process machine, which stand on its definitions alone. No program calls these functions: the
-//! contract of each is the law, and its statement stands in `specs/`.
+//! Laws on the process machine, and on what the end of a process does to groups, which stand on their definitions alone.
+//! No program calls these functions: the contract of each is the law, and its statement stands in `specs/`.
 #![tactic(auto)]
 
 ghost use Rattle.sk_machine_laws.specs.MachineLaws.{ImpossibleChangesNothing, PossibleHappens, RefusedChangesNothing, TrapForcesSigsys, KillEndsCaller, FailedChangesNothing, HaltHasStatus, CallKeepsRules, DeliveryKeepsRules, ResumptionKeepsRules, EventKeepsRules, RunKeepsRules, ReachedHasRules, EventMarksNobody, RunMarksNobody, NobodyIsMarked, InitTakesOrphans, OrphansGoToInit};
@@ -10,6 +10,7 @@ ghost use Rattle.sk_machine_laws.specs.AnyMachine.{HasMachineLaws};
 ghost use Rattle.sk_machine_laws.specs.ConfinementLaws.{EventIsConfined, ConfinementStays, LineIsConfined};
 ghost use Rattle.sk_machine_laws.specs.FilterLaws.{EventKeepsAccepted, RunKeepsAccepted, AcceptedReturn, AcceptedAreBounded, FiltersInForceAreAccepted, StepsInForceAreBounded};
 ghost use Rattle.sk_machine_laws.specs.LineLaws.{EventChangesAuthority, AuthorityIsOfLine, LineComesFromInit, EqualLinesMayDoTheSame, LineKeepsFilters, VerdictIsOfLine, EqualLinesAreJudgedAlike, PerformedMeetsNoRefusal};
+ghost use Rattle.sk_machine_laws.specs.HangingUpLaws.{EndKeepsRights, HangingUpKeepsAllElse, HangingUpEndsNobody, HangingUpKeepsZombies, EndWithoutStopped, OpeningGroupIsOrphaned};
 
 /// An event that is not possible, and a call that is refused or fails, changes nothing; a call that a filter
 /// traps or kills does what the action says, and no more.
@@ -107,4 +108,16 @@ pub fn runs_are_lawful()
 #[tactic(auto, using(crate::proofs::Machines::has_machine_laws))]
 pub fn machine_has_its_laws()
     ensures laws { HasMachineLaws }
+{}
+
+/// Groups are hung up by signals alone: nobody gets rights by them, ends, or leaves its group, and where nobody is
+/// stopped none is sent. Group 1 is orphaned as the system starts.
+#[tactic(auto, using(crate::proofs::HangingUp::all_else_kept, crate::proofs::HangingUp::nobody_ends, crate::proofs::HangingUp::zombies_kept, crate::proofs::HangingUp::nobody_hung_up))]
+pub fn hanging_up_sends_signals()
+    ensures rights { EndKeepsRights }
+    ensures all_else { HangingUpKeepsAllElse }
+    ensures lives { HangingUpEndsNobody }
+    ensures zombies { HangingUpKeepsZombies }
+    ensures nobody { EndWithoutStopped }
+    ensures opening { OpeningGroupIsOrphaned }
 {}
