@@ -13,3 +13,4 @@ mod OrphanRows
 mod ReaperRows
 mod WidthRows
 mod LimitRows
+mod Wrongs

@@ -12,3 +12,4 @@ pub mod WorkedOrphans
 pub mod WorkedReapers
 pub mod WorkedWidths
 pub mod WorkedLimits
+pub mod WrongMachines

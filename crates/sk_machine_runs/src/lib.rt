@@ -1,5 +1,6 @@
 //! Runs of the process machine that were worked out by hand. No program calls these functions: the contract
-//! of each says that the definitions give what was worked out, which stands in `specs/`.
+//! of each says that the definitions give what was worked out, which stands in `specs/`. And machines that are wrong,
+//! which the laws on authority refuse by themselves, whatever the definitions of the calls say.
 #![tactic(auto)]
 
 ghost use Rattle.sk_machine_runs.specs.WorkedCalls.{WorkedCalls};
@@ -15,6 +16,7 @@ ghost use Rattle.sk_machine_runs.specs.WorkedOrphans.{WorkedOrphans};
 ghost use Rattle.sk_machine_runs.specs.WorkedReapers.{WorkedReapers};
 ghost use Rattle.sk_machine_runs.specs.WorkedWidths.{WorkedWidths};
 ghost use Rattle.sk_machine_runs.specs.WorkedLimits.{WorkedLimits};
+ghost use Rattle.sk_machine_runs.specs.WrongMachines.{WrongsAreRefused};
 
 /// The definitions give what was worked out by hand of filters, ids and programs.
 #[tactic(auto, using(crate::proofs::CallRows::worked_calls))]
@@ -92,4 +94,9 @@ pub fn worked_widths()
 /// The definitions give what was worked out by hand of the limits on pids, processes and filters.
 pub fn worked_limits()
     ensures law { WorkedLimits }
+{}
+
+/// Each wrong machine lacks the law that it breaks.
+pub fn wrong_machines_are_refused()
+    ensures law { WrongsAreRefused }
 {}

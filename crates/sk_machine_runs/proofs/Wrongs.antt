@@ -29,8 +29,8 @@ use Rattle.sk_machine_laws.specs.ConfinementLaws.{RefusesKill, IsConfined, after
 use Rattle.sk_machine_laws.proofs.LineSteps.{authority_in}
 use Rattle.sk_machine_laws.proofs.KeptEvents.{kept_reached}
 use Rattle.sk_machine_runs.specs.Scripts.{nothing_given, given, plain, always, fork, execve, exit, wait4, kill, setuid, seccomp}
+use Rattle.sk_machine_runs.specs.WrongMachines.{forks_bare, forks_into_old, executes_bare, orphans_with_first_ids, leaves_zombies, performs_refused, stops_with_hangup, ends_with_hangup, WrongsAreRefused}
 use Rattle.sk_machine_runs.proofs.Computing.{worked_runs}
-use Rattle.sk_machine_wrongs.specs.WrongMachines.{forks_bare, forks_into_old, executes_bare, orphans_with_first_ids, leaves_zombies, performs_refused, stops_with_hangup, ends_with_hangup, WrongsAreRefused}
 use Rattle.sk_machine.specs.Lines.{authority_at}
 
 -- a filter that allows everything, and a program
