@@ -5,7 +5,7 @@ use Rattle.std.specs.Option.{option_and_then}
 use Rattle.json.specs.Find.{as_str}
 use Rattle.json.specs.Json.{Json}
 use Rattle.sk_call_names.specs.Names.{number_named}
-use Rattle.sk_other_calls.specs.Names.{is_elsewhere}
+use Rattle.sk_call_names.specs.Elsewhere.{is_elsewhere}
 use Rattle.sk_profile_json.specs.declared.context.Context.{Context}
 use Rattle.sk_profile_json.specs.Parts.{counted_names, entries_of, names_others}
 use Rattle.sk_profile_file.specs.Texts.{entry_text}

@@ -1,5 +1,5 @@
 //! Names of capabilities, and of calls.
-use sk_other_calls::is_elsewhere;
+use sk_call_names::is_elsewhere;
 use sk_profile_file::capability;
 
 /// A word, how many names it stands for, and the first of them.

@@ -1,13 +1,15 @@
-//! Whether a name is one of these.
+//! The names of the calls that Linux has on other architectures than x86-64 alone.
 ghost use Rattle.std.specs.Prelude.{◌≡◌};
 ghost use Rattle.std.specs.List.{list_any};
 ghost use Rattle.std.specs.Str.{bytes_eq};
-ghost use Rattle.sk_other_calls.specs.Names.{is_elsewhere};
+ghost use Rattle.sk_call_names.specs.Elsewhere.{is_elsewhere};
 
-use crate::names::ELSEWHERE;
+mod names;
+
+use crate::elsewhere::names::ELSEWHERE;
 
 /// Whether Linux has a call with this name on another architecture, and none on x86-64.
-#[tactic(auto, unfolding(crate::specs::Names::is_elsewhere))]
+#[tactic(auto, unfolding(crate::specs::Elsewhere::is_elsewhere))]
 pub fn is_elsewhere(name: &[u8]) -> bool
     ensures exact { result ≡ is_elsewhere name.now }
 {
