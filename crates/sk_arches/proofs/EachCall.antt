@@ -4,9 +4,9 @@ use Rattle.sk_insn.specs.declared.record.Record.{Record}
 use Rattle.sk_insn.specs.Record.{architecture}
 use Rattle.sk_chain.specs.Verdict.{verdict_of}
 use Rattle.sk_survey.specs.Answers.{ChainAnswersAmong, answers_of}
-use Rattle.sk_architectures.specs.declared.architecture.Architecture.{Architecture}
-use Rattle.sk_architectures.specs.declared.architecture.Architecture.TheVariants as by
-use Rattle.sk_architectures.specs.Architectures.{audit_of}
+use Rattle.sk_call_names.specs.declared.architecture.Architecture.{Architecture}
+use Rattle.sk_call_names.specs.declared.architecture.Architecture.TheVariants as by
+use Rattle.sk_call_names.specs.Architectures.{audit_of}
 use Rattle.sk_arch_filters.specs.ChainsFor.{chain_for, of_architecture}
 use Rattle.sk_arch_filters.proofs.Chains.{chains_for_architectures}
 use Rattle.sk_arches.specs.Answers.{OneVerdictIsOfEachCall, only_value}

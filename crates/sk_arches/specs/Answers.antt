@@ -7,9 +7,9 @@ use Rattle.sk_chain.specs.Chains.{AllValid}
 use Rattle.sk_chain.specs.Verdict.{verdict_of}
 use Rattle.sk_survey.specs.Answers.{answers_of}
 use Rattle.sk_survey.specs.Surveys.{Holds}
-use Rattle.sk_architectures.specs.declared.architecture.Architecture.{Architecture}
-use Rattle.sk_architectures.specs.declared.architecture.Architecture.TheVariants as architecture
-use Rattle.sk_architectures.specs.Architectures.{architectures, audit_of}
+use Rattle.sk_call_names.specs.declared.architecture.Architecture.{Architecture}
+use Rattle.sk_call_names.specs.declared.architecture.Architecture.TheVariants as architecture
+use Rattle.sk_call_names.specs.Architectures.{architectures, audit_of}
 use Rattle.sk_arch_filters.specs.ChainsFor.{chain_for}
 use Rattle.sk_arches.specs.declared.answered.Answered.{Answered}
 

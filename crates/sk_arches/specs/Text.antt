@@ -3,10 +3,10 @@ use Rattle.std.specs.Prelude.{ℕ, ◌++◌, if◌then◌else◌, List, [], code
 use Rattle.std.specs.Fmt.{decimal}
 use Rattle.sk_survey.specs.Answers.{answers_of}
 use Rattle.sk_verdict.specs.Verdicts.{verdict_text}
-use Rattle.sk_architectures.specs.declared.architecture.Architecture.{Architecture}
-use Rattle.sk_architectures.specs.declared.architecture.Architecture.TheVariants as architecture
-use Rattle.sk_architectures.specs.Architectures.{text_of}
-use Rattle.sk_architectures.specs.Names.{number_on}
+use Rattle.sk_call_names.specs.declared.architecture.Architecture.{Architecture}
+use Rattle.sk_call_names.specs.declared.architecture.Architecture.TheVariants as architecture
+use Rattle.sk_call_names.specs.Architectures.{text_of}
+use Rattle.sk_call_names.specs.Names.{number_on}
 use Rattle.sk_arches.specs.declared.answered.Answered.{Answered}
 use Rattle.sk_arches.specs.declared.other.Other.{Other}
 use Rattle.sk_arches.specs.declared.other.Other.TheVariants.{Verdict, Several, Unknown}

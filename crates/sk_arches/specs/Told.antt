@@ -2,10 +2,10 @@
 use Rattle.std.specs.Prelude.{ℕ, ◌&&◌, ◌||◌, not, is_some, Bool, false, List, [], ◌∷◌}
 use Rattle.sk_insn.specs.declared.insn.Insn.{Insn}
 use Rattle.sk_survey.specs.Answers.{answers_of}
-use Rattle.sk_call_names.specs.Names.{named_from, names_end}
-use Rattle.sk_architectures.specs.declared.architecture.Architecture.{Architecture}
-use Rattle.sk_architectures.specs.declared.architecture.Architecture.TheVariants as architecture
-use Rattle.sk_architectures.specs.Architectures.{audit_of}
+use Rattle.sk_call_names.specs.X86_64.{named_from, names_end}
+use Rattle.sk_call_names.specs.declared.architecture.Architecture.{Architecture}
+use Rattle.sk_call_names.specs.declared.architecture.Architecture.TheVariants as architecture
+use Rattle.sk_call_names.specs.Architectures.{audit_of}
 use Rattle.sk_arch_filters.specs.ChainsFor.{chain_for}
 use Rattle.sk_arches.specs.declared.answered.Answered.{Answered}
 use Rattle.sk_arches.specs.declared.told.Told.{Told}

@@ -7,7 +7,7 @@ ghost use Rattle.sk_arches.specs.Other.{agrees, audits, is_named, shared_value, 
 
 use crate::text::only_value;
 use sk_arch_filters::chain_by_architecture;
-use sk_architectures::Architecture;
+use sk_call_names::Architecture;
 use sk_chain::Chain;
 use sk_survey::{Row, Survey};
 use std::alloc::{AllocError, Global};

@@ -7,7 +7,7 @@ ghost use Rattle.sk_arches.specs.Text.{answered_text, arches_text, judged_text, 
 use crate::answered::Answered;
 use crate::other::Other;
 use crate::told::{Told, judges_calls};
-use sk_architectures::{Architecture, number};
+use sk_call_names::{Architecture, number};
 use sk_survey::Answers;
 use sk_verdict::push_verdict;
 use std::alloc::{AllocError, Global};

@@ -4,9 +4,9 @@ use Rattle.sk_insn.specs.declared.insn.Insn.{Insn}
 use Rattle.sk_insn.specs.declared.record.Record.{Record}
 use Rattle.sk_insn.specs.Record.{architecture, IsNative}
 use Rattle.sk_chain.specs.Verdict.{verdict_of}
-use Rattle.sk_architectures.specs.declared.architecture.Architecture.{Architecture}
-use Rattle.sk_architectures.specs.declared.architecture.Architecture.TheVariants as architecture
-use Rattle.sk_architectures.specs.Architectures.{audit_of}
+use Rattle.sk_call_names.specs.declared.architecture.Architecture.{Architecture}
+use Rattle.sk_call_names.specs.declared.architecture.Architecture.TheVariants as architecture
+use Rattle.sk_call_names.specs.Architectures.{audit_of}
 use Rattle.sk_arch_filters.proofs.Chains.{chains_for_architectures}
 use Rattle.sk_ask.specs.Architectures.{call_on, AnswersTheArchitecture}
 

@@ -5,9 +5,9 @@ use Rattle.sk_insn.specs.declared.record.Record.{Record}
 use Rattle.sk_insn.specs.Record.{architecture, IsNative}
 use Rattle.sk_chain.specs.Chains.{AllValid}
 use Rattle.sk_chain.specs.Verdict.{verdict_of}
-use Rattle.sk_architectures.specs.declared.architecture.Architecture.{Architecture}
-use Rattle.sk_architectures.specs.declared.architecture.Architecture.TheVariants.{X86_64}
-use Rattle.sk_architectures.specs.Architectures.{audit_of}
+use Rattle.sk_call_names.specs.declared.architecture.Architecture.{Architecture}
+use Rattle.sk_call_names.specs.declared.architecture.Architecture.TheVariants.{X86_64}
+use Rattle.sk_call_names.specs.Architectures.{audit_of}
 use Rattle.sk_arch_filters.specs.ChainsFor.{chain_for, of_architecture}
 
 -- x86-64 where none is named

@@ -11,7 +11,7 @@ use Rattle.sk_survey_lines.specs.declared.line.Shown.{Shown}
 use Rattle.sk_survey_lines.specs.declared.line.Line.{Line}
 use Rattle.sk_survey_lines.specs.Text.{numbers_text, name_text, answers_text}
 use Rattle.sk_verdict.specs.Verdicts.{verdict_text}
-use Rattle.sk_architectures.specs.declared.architecture.Architecture.{Architecture}
+use Rattle.sk_call_names.specs.declared.architecture.Architecture.{Architecture}
 use Rattle.sk_ask.specs.Architectures.{call_on}
 
 -- one row: its numbers, the name of a single one, and the verdicts

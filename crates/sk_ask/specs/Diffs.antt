@@ -1,7 +1,7 @@
 -- What `ask diff` answers.
 use Rattle.std.specs.Prelude.{ℕ, ◌≡◌, ◌⊎◌, ◌++◌, Bool, true, false, List, codes, take, drop, Option}
 use Rattle.sk_insn.specs.declared.insn.Insn.{Insn}
-use Rattle.sk_architectures.specs.declared.architecture.Architecture.{Architecture}
+use Rattle.sk_call_names.specs.declared.architecture.Architecture.{Architecture}
 use Rattle.sk_conditions.specs.declared.standing.Relation.{Relation}
 use Rattle.sk_conditions.specs.declared.standing.Relation.TheVariants.{Same, AsStrict}
 use Rattle.sk_diff.specs.declared.comparison.Standing.{Standing}

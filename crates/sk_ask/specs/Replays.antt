@@ -1,7 +1,7 @@
 -- What `ask replay` answers.
 use Rattle.std.specs.Prelude.{ℕ, ◌≡◌, ◌⊎◌, ◌==◌, if◌then◌else◌, List, codes, Option, IfSome}
 use Rattle.sk_insn.specs.declared.insn.Insn.{Insn}
-use Rattle.sk_architectures.specs.declared.architecture.Architecture.{Architecture}
+use Rattle.sk_call_names.specs.declared.architecture.Architecture.{Architecture}
 use Rattle.sk_replay.specs.Replaying.{replay_text, replay_denies, distinct_calls}
 use Rattle.sk_ask_files.specs.Filters.{Filters}
 use Rattle.sk_profile_json.specs.declared.context.Context.{Context}

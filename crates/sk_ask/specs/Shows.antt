@@ -1,7 +1,7 @@
 -- What `ask show` answers.
 use Rattle.std.specs.Prelude.{ℕ, ◌⊎◌, false, List, [], ◌∷◌, codes, Option}
 use Rattle.sk_insn.specs.declared.insn.Insn.{Insn}
-use Rattle.sk_architectures.specs.declared.architecture.Architecture.{Architecture}
+use Rattle.sk_call_names.specs.declared.architecture.Architecture.{Architecture}
 use Rattle.sk_show.specs.Showing.{show_text}
 use Rattle.sk_ask_files.specs.Filters.{Filters}
 use Rattle.sk_profile_json.specs.declared.context.Context.{Context}

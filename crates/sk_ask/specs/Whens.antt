@@ -1,7 +1,7 @@
 -- What `ask when` answers.
 use Rattle.std.specs.Prelude.{ℕ, ◌≡◌, ◌⊎◌, Bool, true, false, List, Option, Some, None}
 use Rattle.sk_insn.specs.declared.insn.Insn.{Insn}
-use Rattle.sk_architectures.specs.declared.architecture.Architecture.{Architecture}
+use Rattle.sk_call_names.specs.declared.architecture.Architecture.{Architecture}
 use Rattle.sk_when.specs.Picture.{IsPicture}
 use Rattle.sk_when.specs.Telling.{TellsWhen}
 use Rattle.sk_ask_files.specs.Filters.{Filters}

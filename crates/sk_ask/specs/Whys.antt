@@ -2,7 +2,7 @@
 use Rattle.std.specs.Prelude.{ℕ, ◌≡◌, ◌⊎◌, ◌++◌, false, List, [], codes, Option, Ok, Err, ⊤}
 use Rattle.sk_insn.specs.declared.insn.Insn.{Insn}
 use Rattle.sk_insn.specs.declared.record.Record.{Record}
-use Rattle.sk_architectures.specs.declared.architecture.Architecture.{Architecture}
+use Rattle.sk_call_names.specs.declared.architecture.Architecture.{Architecture}
 use Rattle.sk_call_text.specs.declared.fault.CallFault.{CallFault}
 use Rattle.sk_call_text.specs.declared.fault.CallFault.TheVariants.{NoCall}
 use Rattle.sk_call_text.specs.CallWords.{call_of, name_part}

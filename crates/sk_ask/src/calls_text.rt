@@ -6,7 +6,7 @@ ghost use Rattle.sk_engines.specs.Output.{line};
 ghost use Rattle.sk_ask.specs.Architectures.{call_on};
 ghost use Rattle.sk_ask.specs.CallsText.{row_text, found_text, shown_text, line_text, calls_text, unseen_text};
 
-use sk_architectures::Architecture;
+use sk_call_names::Architecture;
 use sk_insn::Record;
 use sk_survey::Row;
 use sk_survey_examples::Example;

@@ -9,8 +9,8 @@ ghost use Rattle.sk_ask.specs.Diffs.{AnswersDiff, AnswersSides, IsDiff, relation
 use crate::answer::Answer;
 use crate::on::{architecture_of, filters_on};
 use crate::words::Asked;
-use sk_architectures::Architecture;
 use sk_ask_filters::{Filters, Shelf, Trouble, filters_in};
+use sk_call_names::Architecture;
 use sk_diff::{Comparison, Relation, Standing};
 use sk_profile_json::Context;
 use std::alloc::{AllocError, Global};

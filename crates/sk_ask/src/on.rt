@@ -4,8 +4,8 @@ ghost use Rattle.sk_chain.specs.Chains.{IsWithinLimit};
 ghost use Rattle.sk_ask.specs.Architectures.{architecture_of, chain_on};
 
 use sk_arch_filters::chain_for;
-use sk_architectures::Architecture;
 use sk_ask_filters::Filters;
+use sk_call_names::Architecture;
 use sk_chain::Chain;
 use sk_insn::ARCHITECTURE;
 use std::alloc::{AllocError, Global};

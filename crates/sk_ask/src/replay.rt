@@ -8,8 +8,8 @@ ghost use Rattle.sk_ask.specs.Replays.{AnswersReplay, AnswersLog, replayed};
 use crate::answer::Answer;
 use crate::on::architecture_of;
 use crate::words::{Asked, Word};
-use sk_architectures::Architecture;
 use sk_ask_filters::{Filters, MOST_LOG_BYTES, Shelf, Trouble, about, content, filters_in};
+use sk_call_names::Architecture;
 use sk_profile_json::Context;
 use std::alloc::Global;
 

@@ -8,8 +8,8 @@ use crate::answer::Answer;
 use crate::filters::asked_filters;
 use crate::on::architecture_of;
 use crate::words::Asked;
-use sk_architectures::Architecture;
 use sk_ask_filters::{Filters, Shelf, Trouble, of_word};
+use sk_call_names::Architecture;
 use sk_profile_json::Context;
 use std::alloc::Global;
 

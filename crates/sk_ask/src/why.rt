@@ -9,8 +9,8 @@ ghost use Rattle.sk_ask.specs.Whys.{AnswersCall, AnswersWhy, IsFaultOf, TellsWhy
 use crate::answer::Answer;
 use crate::on::architecture_of;
 use crate::words::{Asked, Word};
-use sk_architectures::Architecture;
 use sk_ask_filters::{Filters, Shelf, Trouble, filters_in, of_word};
+use sk_call_names::Architecture;
 use sk_call_text::{CallFault, call_in, name_part};
 use sk_insn::Record;
 use sk_profile_json::Context;

@@ -1,13 +1,13 @@
 //! The words behind `ask WORD`.
 ghost use Rattle.std.specs.Prelude.{◌≡◌, ◌≤◌, ◌∷◌, IfOk, length, string_bytes, map, slice_get};
 ghost use Rattle.std.specs.Option.{option_map};
-ghost use Rattle.sk_architectures.specs.Architectures.{architecture_named};
+ghost use Rattle.sk_call_names.specs.Architectures.{architecture_named};
 ghost use Rattle.sk_profile_json.specs.Contexts.{kernel_of};
 ghost use Rattle.sk_profile_file.specs.Capabilities.{capability};
 ghost use Rattle.sk_ask.specs.Asking.{asked_of, nothing_asked, with_word, with_free, with_option, with_valued, with_value, with_caps, with_kernel, with_architecture, with_flag, with_own_flag, with_name, valued_name, valued_named, value_kind, tells_calls, tells_of_one, tells_arguments, is_turned, is_given, expected_line, ended, complete, understood, named, none_missing, two_named, missing, wanted, is_option, question_of, word_named, word_name, Asks, HasCall, HasNames};
 
-use sk_architectures::Architecture;
 use sk_ask_filters::{Trouble, of_word};
+use sk_call_names::Architecture;
 use sk_profile_file::capability;
 use sk_profile_json::{Kernel, kernel_of};
 use sk_text::is_word;

@@ -1,6 +1,6 @@
 //! Some calls by their numbers and names, on x86-64 and on others.
-use sk_architectures::Architecture;
-use sk_call_names::{name, number, numbers};
+use sk_call_names::Architecture;
+use sk_call_names::x86_64::{name, number, numbers};
 use std::test::Fail;
 
 #[test]
@@ -64,8 +64,8 @@ fn architectures(rt: HostRuntime) {
         );
         assert_eq!(rt;
             (
-                sk_architectures::name(it, nr),
-                sk_architectures::number(it, call.as_bytes())
+                sk_call_names::name(it, nr),
+                sk_call_names::number(it, call.as_bytes())
             ),
             (Some(call), Some(nr))
         );
@@ -83,9 +83,9 @@ fn architectures(rt: HostRuntime) {
 /// x32 has bit 30 in each number, and arm calls of its own far behind the others.
 #[test]
 fn all_named_calls_elsewhere(rt: HostRuntime) -> Result<(), Fail> {
-    let x32 = sk_architectures::numbers(rt.alloc(), Architecture::X32)?;
-    let arm = sk_architectures::numbers(rt.alloc(), Architecture::Arm)?;
-    let i386 = sk_architectures::numbers(rt.alloc(), Architecture::I386)?;
+    let x32 = sk_call_names::numbers(rt.alloc(), Architecture::X32)?;
+    let arm = sk_call_names::numbers(rt.alloc(), Architecture::Arm)?;
+    let i386 = sk_call_names::numbers(rt.alloc(), Architecture::I386)?;
     assert_eq!(rt;
         (
             x32.first(),

@@ -1,3 +1,7 @@
 pub mod Places
-pub mod Naming
+pub mod NativeNames
 pub mod Numbering
+pub mod Lookups
+pub mod Listing
+pub mod Named
+pub mod Naming

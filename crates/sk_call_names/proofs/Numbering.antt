@@ -1,6 +1,6 @@
 -- The numbers with a name, one after the other.
 use Rattle.std.proofs.Common.{◌≡◌, ℕ, suc, ◌+◌, ◌-◌, ◌<◌, ◌≤◌, ◌++◌, List, [], ◌∷◌, Bool, true, false, cond, is_some, arith, refl, sym, ap, ◌∙◌, append_assoc, append-nil}
-use Rattle.sk_call_names.specs.Names.{name_of, named_from}
+use Rattle.sk_call_names.specs.X86_64.{name_of, named_from}
 
 next_named : (n nr : ℕ) → named_from (suc n) nr ≡ cond (is_some (name_of nr)) (nr ∷ named_from n (nr + 1)) (named_from n (nr + 1))
 unfolding named_from

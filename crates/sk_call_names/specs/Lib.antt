@@ -1,2 +1,5 @@
-pub mod Names
+pub mod X86_64
 pub mod Elsewhere
+pub mod Architectures
+pub mod Names
+pub mod Worked

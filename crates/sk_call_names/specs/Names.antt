@@ -1,25 +1,96 @@
--- The names of the calls of Linux on x86-64.
-use Rattle.std.specs.Prelude.{ℕ, zero, suc, ◌+◌, ◌-◌, nat_lt, is_some, if◌then◌else◌, List, [], ◌∷◌, length, map, position, Option, slice_get}
+-- The names and numbers of the calls of Linux on each architecture, by its table of runs.
+use Rattle.std.specs.Prelude.{ℕ, ◌+◌, ◌-◌, ◌^◌, ◌&&◌, nat_lt, nat_le, Bool, if◌then◌else◌, List, [], ◌∷◌, length, map, flat_map, position, Option, None, slice_get}
+use Rattle.std.specs.List.{range_with_len}
 use Rattle.std.specs.Option.{option_map, option_or}
+use Rattle.std.specs.Borrow.{Bor}
 use Rattle.std.specs.Str.{bytes_eq}
-use Rattle.sk_call_names.specs.declared.names.TheConstants.{EARLY, LATE}
+use Rattle.sk_call_names.specs.X86_64.{name_of, named_from, names_end, number_named}
+use Rattle.sk_call_names.specs.declared.architecture.Architecture.{Architecture}
+use Rattle.sk_call_names.specs.declared.architecture.Architecture.TheVariants as architecture
+use Rattle.sk_call_names.specs.declared.tables.aarch64.TheConstants.{AARCH64}
+use Rattle.sk_call_names.specs.declared.tables.arm.TheConstants.{ARM}
+use Rattle.sk_call_names.specs.declared.tables.i386.TheConstants.{I386}
+use Rattle.sk_call_names.specs.declared.tables.loongarch64.TheConstants.{LOONGARCH64}
+use Rattle.sk_call_names.specs.declared.tables.ppc64le.TheConstants.{PPC64LE}
+use Rattle.sk_call_names.specs.declared.tables.riscv64.TheConstants.{RISCV64}
+use Rattle.sk_call_names.specs.declared.tables.s390x.TheConstants.{S390X}
+use Rattle.sk_call_names.specs.declared.tables.x32.TheConstants.{X32}
 
--- the name of a number, if it is a call's: those below 424 and those from there on have a table each
-unfoldable pub name_of : ℕ → Option (List ℕ)
-name_of nr =
-    if nat_lt nr 424 then slice_get (map (λ name. name.now) EARLY) nr else slice_get (map (λ name. name.now) LATE) (nr - 424)
+-- ---- a run: its first number, and the names of that and of those behind it
 
--- no number from here on has a name
-abbrev pub names_end : ℕ
-names_end = 424 + length LATE
+abbrev pub Run : Type 0
+Run = ℕ × List (List ℕ)
 
--- those with a name among so many numbers from one on
-unfoldable pub named_from : ℕ → ℕ → List ℕ
-named_from zero nr = []
-named_from (suc count) nr = if is_some (name_of nr) then nr ∷ named_from count (nr + 1) else named_from count (nr + 1)
+-- a run as the code has it
+abbrev pub plain : ℕ × Bor (List (Bor (List ℕ))) → Run
+plain run = (run.0, map (λ name. name.now) run.1.now)
+
+-- no number of the run is from here on
+abbrev pub end_of : Run → ℕ
+end_of run = run.0 + length run.1
+
+unfoldable pub name_at : Run → ℕ → Option (List ℕ)
+name_at run nr = if nat_lt nr run.0 then None else slice_get run.1 (nr - run.0)
+
+unfoldable pub number_at : Run → List ℕ → Option ℕ
+number_at run wanted = option_map (λ place. run.0 + place) (position (λ name. bytes_eq name wanted) run.1)
+
+-- ---- a table
+
+-- the name of a number, by the first run that has one
+unfoldable pub name_in : List Run → ℕ → Option (List ℕ)
+name_in [] nr = None
+name_in (run ∷ runs) nr = option_or (name_at run nr) (name_in runs nr)
+
+-- the number of the first of all names that is this one
+unfoldable pub number_in : List Run → List ℕ → Option ℕ
+number_in [] wanted = None
+number_in (run ∷ runs) wanted = option_or (number_at run wanted) (number_in runs wanted)
+
+-- the numbers of a run, each behind a base
+abbrev pub numbers_at : ℕ → Run → List ℕ
+numbers_at base run = range_with_len (base + run.0) (length run.1)
+
+abbrev pub numbers_in : ℕ → List Run → List ℕ
+numbers_in base runs = flat_map (numbers_at base) runs
+
+-- each run begins where the one before it has ended, or later, and the last has ended where bit 30 begins
+abbrev pub are_apart : ℕ → List Run → Bool
+are_apart from [] = nat_le from (2 ^ 30)
+are_apart from (run ∷ runs) = nat_le from run.0 && are_apart (end_of run) runs
+
+-- ---- an architecture
+
+-- the runs of a table in src/tables
+abbrev pub table : List (ℕ × record { now : List record { now : List ℕ } }) → List Run
+table runs = map (λ run. (run.0, map (λ name. name.now) run.1.now)) runs
+
+-- the runs of its numbers, but for x86-64, which has a table of its own
+unfoldable pub runs_of : Architecture → List Run
+runs_of architecture.X86_64 = []
+runs_of architecture.X32 = table X32.now
+runs_of architecture.I386 = table I386.now
+runs_of architecture.Aarch64 = table AARCH64.now
+runs_of architecture.Arm = table ARM.now
+runs_of architecture.Riscv64 = table RISCV64.now
+runs_of architecture.Ppc64le = table PPC64LE.now
+runs_of architecture.S390x = table S390X.now
+runs_of architecture.Loongarch64 = table LOONGARCH64.now
+
+-- the name of a number; the numbers of x32 have bit 30, which its table leaves out
+unfoldable pub name_on : Architecture → ℕ → Option (List ℕ)
+name_on architecture.X86_64 nr = name_of nr
+name_on architecture.X32 nr = if nat_lt nr (2 ^ 30) then None else name_in (runs_of architecture.X32) (nr - 2 ^ 30)
+name_on other nr = name_in (runs_of other) nr
 
 -- the number of the first of all names, in rising order of their numbers, that is this one
-unfoldable pub number_named : List ℕ → Option ℕ
-number_named wanted =
-    option_or (position (λ name. bytes_eq name wanted) (map (λ name. name.now) EARLY))
-    (option_map (λ place. 424 + place) (position (λ name. bytes_eq name wanted) (map (λ name. name.now) LATE)))
+unfoldable pub number_on : Architecture → List ℕ → Option ℕ
+number_on architecture.X86_64 wanted = number_named wanted
+number_on architecture.X32 wanted = option_map (λ nr. 2 ^ 30 + nr) (number_in (runs_of architecture.X32) wanted)
+number_on other wanted = number_in (runs_of other) wanted
+
+-- all numbers that have a name, in rising order
+unfoldable pub numbers_on : Architecture → List ℕ
+numbers_on architecture.X86_64 = named_from names_end 0
+numbers_on architecture.X32 = numbers_in (2 ^ 30) (runs_of architecture.X32)
+numbers_on other = numbers_in 0 (runs_of other)

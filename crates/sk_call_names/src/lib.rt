@@ -1,10 +1,15 @@
-//! The names and numbers of the calls of Linux on x86-64, as linux/unistd.h has them, and the names of those that it has on
-//! other architectures alone. The calls of the process machine, which are few of these, stand in `sk_calls`.
+//! The architectures by which a program can call Linux, as seccomp filters see them, and the names and numbers of their calls,
+//! as the headers of Linux have them. The calls of the process machine, which are few of those of x86-64, stand in `sk_calls`.
 #![tactic(auto)]
 
+mod architecture;
 mod elsewhere;
+pub mod laws;
 mod names;
-mod table;
+mod runs;
+mod tables;
+pub mod x86_64;
 
+pub use architecture::Architecture;
 pub use elsewhere::is_elsewhere;
-pub use table::{name, number, numbers};
+pub use names::{name, number, numbers};

@@ -7,7 +7,7 @@ use crate::argument::arguments;
 use crate::cuts::cut_at;
 use crate::fault::CallFault;
 use crate::named::call_named;
-use sk_architectures::Architecture;
+use sk_call_names::Architecture;
 use sk_insn::Record;
 use sk_text::{Words, cut, no_word, one_word};
 

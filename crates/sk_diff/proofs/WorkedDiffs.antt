@@ -4,8 +4,8 @@ use Rattle.std.specs.Fmt.{digits}
 use Rattle.hex.specs.Hex.{encode_with}
 use Rattle.sk_insn.specs.Actions.{action_of}
 use Rattle.sk_insn.specs.Operations.{operation_of}
-use Rattle.sk_call_names.specs.Names.{name_of}
-use Rattle.sk_architectures.specs.Names.{name_at, name_in, name_on, runs_of}
+use Rattle.sk_call_names.specs.X86_64.{name_of}
+use Rattle.sk_call_names.specs.Names.{name_at, name_in, name_on, runs_of}
 use Rattle.sk_verdict.specs.Verdicts.{verdict_text}
 use Rattle.sk_verdict.specs.Errors.{error_named}
 use Rattle.sk_diff.specs.DiffText.{call_text, record_text, verdicts_text, head_text, argument_text}

@@ -2,7 +2,7 @@
 use Rattle.std.specs.Prelude.{◌≡◌, ◌++◌, [], ◌∷◌, codes, true, false, Some, None}
 use Rattle.sk_insn.specs.declared.record.Record.{Record}
 use Rattle.sk_insn.specs.Record.{native}
-use Rattle.sk_architectures.specs.declared.architecture.Architecture.TheVariants as architecture
+use Rattle.sk_call_names.specs.declared.architecture.Architecture.TheVariants as architecture
 use Rattle.sk_conditions.specs.declared.differences.Verdicts.{Verdicts}
 use Rattle.sk_diff.specs.declared.piece.Calls.TheVariants.{Every, This}
 use Rattle.sk_diff.specs.declared.piece.Part.{Part}

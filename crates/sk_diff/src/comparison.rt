@@ -8,7 +8,7 @@ use crate::piece::{Part, Piece};
 use crate::pieces::pieces;
 use crate::showing::any_shown;
 use crate::text::{differences_text, everywhere_text};
-use sk_architectures::Architecture;
+use sk_call_names::Architecture;
 use sk_chain::Chain;
 use sk_conditions::Relation;
 use std::alloc::{AllocError, Global};

@@ -6,7 +6,7 @@ ghost use Rattle.sk_diff.specs.Pieces.{AreCompared, Holds, ArePartsOfOne};
 
 use crate::parts::piece_of;
 use crate::piece::{Calls, Part, Piece};
-use sk_architectures::{Architecture, name, numbers};
+use sk_call_names::{Architecture, name, numbers};
 use sk_chain::Chain;
 use sk_conditions::{Budget, Comparing, Numbers, Relation};
 use sk_survey::cuts::cuts;

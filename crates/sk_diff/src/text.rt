@@ -3,7 +3,7 @@ ghost use Rattle.std.specs.Prelude.{◌≡◌, ◌++◌, IfOk, OnOk, string_byte
 ghost use Rattle.sk_diff.specs.DiffText.{call_name_text, argument_text, address_text, call_text, differences_text, piece_text, kind_text, kind_of, is_kind, part_text, outcome_text, calls_text, head_text, shown_text, record_text, everywhere_text};
 
 use crate::piece::{Calls, Part, Piece};
-use sk_architectures::{Architecture, name};
+use sk_call_names::{Architecture, name};
 use sk_conditions::{Numbers, Relation, Verdicts, stands};
 use sk_insn::Record;
 use sk_survey_lines::{name_of_numbers, push_numbers};

@@ -4,7 +4,7 @@ use Rattle.std.specs.List.{filter_map}
 use Rattle.std.specs.Option.{option_and_then}
 use Rattle.json.specs.Find.{as_str}
 use Rattle.json.specs.Json.{Json}
-use Rattle.sk_call_names.specs.Names.{number_named}
+use Rattle.sk_call_names.specs.X86_64.{number_named}
 use Rattle.sk_call_names.specs.Elsewhere.{is_elsewhere}
 use Rattle.sk_profile_json.specs.declared.context.Context.{Context}
 use Rattle.sk_profile_json.specs.Parts.{counted_names, entries_of, names_others}

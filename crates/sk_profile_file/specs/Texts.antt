@@ -2,7 +2,7 @@
 -- the rest are counted from 1 on.
 use Rattle.std.specs.Prelude.{ℕ, ◌+◌, ◌++◌, List, [], codes, Option, Some, None}
 use Rattle.std.specs.Fmt.{decimal}
-use Rattle.sk_call_names.specs.Names.{name_of}
+use Rattle.sk_call_names.specs.X86_64.{name_of}
 use Rattle.sk_profile_json.specs.declared.fault.Fault.{Fault}
 use Rattle.sk_profile_json.specs.declared.fault.Field.{Field}
 use Rattle.sk_profile_json.specs.declared.fault.Field.TheVariants as field

@@ -6,7 +6,8 @@ ghost use Rattle.sk_profile_file.specs.Notes.{notes_of, notes_from, others_note,
 
 use crate::text::push_entry;
 use json::Value;
-use sk_call_names::{is_elsewhere, number};
+use sk_call_names::is_elsewhere;
+use sk_call_names::x86_64::number;
 use sk_profile_json::{Context, counted_names, entries_of, names_others};
 use std::alloc::{AllocError, Global};
 

@@ -1,11 +1,11 @@
 //! What is said of a profile that is refused.
 ghost use Rattle.std.specs.Prelude.{◌≡◌, ◌+◌, ◌++◌, IfOk, OnOk, codes, string_bytes};
 ghost use Rattle.std.specs.Fmt.{decimal};
-ghost use Rattle.sk_call_names.specs.Names.{name_of};
+ghost use Rattle.sk_call_names.specs.X86_64.{name_of};
 ghost use Rattle.sk_profile_file.specs.Texts.{refusal_text, clash_text, both_text, call_text, fault_text, place_text, wrong_text, entry_text, keys_text, expected_text, contradiction_text};
 
 use crate::answer::{Clash, Refusal};
-use sk_call_names::name;
+use sk_call_names::x86_64::name;
 use sk_profile_json::{Fault, Field, Place, Wrong};
 use std::alloc::{AllocError, Global};
 use std::fmt::Write;

@@ -5,7 +5,7 @@ use Rattle.std.specs.List.{list_any, list_all, filter_map}
 use Rattle.std.specs.Option.{option_and_then, option_map}
 use Rattle.json.specs.Json.{Json}
 use Rattle.json.specs.Find.{as_str}
-use Rattle.sk_call_names.specs.Names.{number_named}
+use Rattle.sk_call_names.specs.X86_64.{number_named}
 use Rattle.sk_insn.specs.declared.action.Action.{Action}
 use Rattle.sk_insn.specs.declared.action.Action.TheVariants.{KillProcess, KillThread, Trap, Errno, UserNotif, Trace, Log, Allow, Unknown}
 use Rattle.sk_profile_code.specs.declared.condition.Condition.{Condition}

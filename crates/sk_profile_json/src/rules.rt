@@ -3,7 +3,7 @@ ghost use Rattle.std.specs.Prelude.{◌≡◌, ◌++◌, [], map, Ok, IfOk, IfEr
 ghost use Rattle.std.specs.List.{cons_option};
 ghost use Rattle.std.specs.Option.{option_and_then};
 ghost use Rattle.json.specs.Find.{as_str};
-ghost use Rattle.sk_call_names.specs.Names.{number_named};
+ghost use Rattle.sk_call_names.specs.X86_64.{number_named};
 ghost use Rattle.sk_profile_json.specs.declared.fault.ReadFault.TheVariants.{Profile as profile_fault};
 ghost use Rattle.json.specs.Value.{value_view};
 ghost use Rattle.sk_profile.specs.Views.{rule_of};
@@ -15,7 +15,7 @@ use crate::context::{Context, counts};
 use crate::entry::{Entry, entry_of};
 use crate::fault::{Fault, Field, Place, ReadFault, Wrong};
 use json::Value;
-use sk_call_names::number;
+use sk_call_names::x86_64::number;
 use sk_profile::Rule;
 use sk_profile_code::Condition;
 use std::alloc::{AllocError, Global};

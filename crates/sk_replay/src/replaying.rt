@@ -9,7 +9,7 @@ use crate::row::Row;
 use crate::tally::Tally;
 use crate::text::replay_text;
 use indexmap::IndexMap;
-use sk_architectures::Architecture;
+use sk_call_names::Architecture;
 use sk_chain::Chain;
 use std::alloc::{AllocError, Global};
 

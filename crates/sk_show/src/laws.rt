@@ -5,8 +5,8 @@ ghost use Rattle.sk_show.specs.RoundTrip.{ShownAssembles};
 ghost use Rattle.sk_show.specs.WorkedTexts.{WorkedTexts};
 
 use crate::listing::show;
-use sk_architectures::Architecture;
 use sk_asm::{AsmFault, assemble};
+use sk_call_names::Architecture;
 use sk_check::Checked;
 use sk_insn::Insn;
 use std::alloc::Global;

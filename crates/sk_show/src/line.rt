@@ -7,7 +7,7 @@ ghost use Rattle.sk_show.specs.Showing.{comment_line, insn_line, label_lines, la
 
 use crate::held::Held;
 use crate::note::push_note;
-use sk_architectures::Architecture;
+use sk_call_names::Architecture;
 use sk_insn::{Comparison, Insn, Operand, Operation, decode};
 use sk_listing::push_words;
 use std::alloc::AllocError;

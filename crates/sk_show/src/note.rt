@@ -5,7 +5,7 @@ ghost use Rattle.sk_insn.specs.Operations.{operation_of};
 ghost use Rattle.sk_show.specs.Notes.{argument_text, architecture_of, architecture_text, compared_text, field_text, half_text, named_text, note_text};
 
 use crate::held::Held;
-use sk_architectures::{Architecture, name};
+use sk_call_names::{Architecture, name};
 use sk_insn::{Comparison, Insn, Operand, Operation, decode};
 use sk_verdict::push_verdict;
 use std::alloc::AllocError;

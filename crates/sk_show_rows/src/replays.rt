@@ -1,4 +1,4 @@
-use sk_architectures::Architecture;
+use sk_call_names::Architecture;
 use sk_chain::Chain;
 use sk_check::check;
 use sk_insn::Insn;

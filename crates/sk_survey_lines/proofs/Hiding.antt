@@ -5,11 +5,11 @@ use Rattle.std.specs.Option.{unwrap_or, option_or}
 use Rattle.std.proofs.lemmas.Bool.{cases_lt, lt-ltb, le-ltb}
 use Rattle.std.proofs.lemmas.List.Elements.{All-head, All-tail}
 use Rattle.std.proofs.lemmas.List.Sums.{AllPass-from_list_all}
-use Rattle.sk_call_names.specs.declared.names.TheConstants.{EARLY, LATE}
-use Rattle.sk_call_names.specs.Names.{name_of}
-use Rattle.sk_architectures.specs.declared.architecture.Architecture.{Architecture}
-use Rattle.sk_architectures.specs.declared.architecture.Architecture.TheVariants as architecture
-use Rattle.sk_architectures.specs.Names.{Run, name_at, name_in, name_on, runs_of}
+use Rattle.sk_call_names.specs.declared.x86_64.names.TheConstants.{EARLY, LATE}
+use Rattle.sk_call_names.specs.X86_64.{name_of}
+use Rattle.sk_call_names.specs.declared.architecture.Architecture.{Architecture}
+use Rattle.sk_call_names.specs.declared.architecture.Architecture.TheVariants as architecture
+use Rattle.sk_call_names.specs.Names.{Run, name_at, name_in, name_on, runs_of}
 use Rattle.sk_survey_lines.specs.Lines.{TellsNamedAlone}
 use Rattle.sk_survey_lines.specs.NamesLaws.{NameIsOfEach, NoNameIsHidden, NamedHasARow}
 

@@ -2,8 +2,8 @@
 use Rattle.std.proofs.Common.{ℕ, is_some, IsTrue, List}
 use Rattle.std.specs.List.{All, Contains}
 use Rattle.std.proofs.lemmas.List.Elements.{All-contains}
-use Rattle.sk_architectures.specs.declared.architecture.Architecture.{Architecture}
-use Rattle.sk_architectures.specs.Names.{name_on}
+use Rattle.sk_call_names.specs.declared.architecture.Architecture.{Architecture}
+use Rattle.sk_call_names.specs.Names.{name_on}
 use Rattle.sk_survey.specs.declared.rows.Row.{Row}
 use Rattle.sk_survey.specs.Surveys.{TellsAlone, StandAlone}
 use Rattle.sk_survey_lines.specs.Lines.{TellsNamedAlone}

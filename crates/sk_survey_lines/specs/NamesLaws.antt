@@ -3,8 +3,8 @@ use Rattle.std.specs.Prelude.{ℕ, ◌≡◌, ◌≤◌, ◌<◌, is_some, IsTru
 use Rattle.std.specs.List.{All, Any}
 use Rattle.std.specs.Option.{unwrap_or}
 use Rattle.sk_insn.specs.declared.insn.Insn.{Insn}
-use Rattle.sk_architectures.specs.declared.architecture.Architecture.{Architecture}
-use Rattle.sk_architectures.specs.Names.{name_on}
+use Rattle.sk_call_names.specs.declared.architecture.Architecture.{Architecture}
+use Rattle.sk_call_names.specs.Names.{name_on}
 use Rattle.sk_survey.specs.declared.rows.Row.{Row}
 use Rattle.sk_survey.specs.Surveys.{Tell}
 use Rattle.sk_survey_lines.specs.Lines.{TellsNamedAlone}

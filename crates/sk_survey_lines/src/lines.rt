@@ -7,7 +7,7 @@ ghost use Rattle.sk_survey_lines.specs.Lines.{first_told, end_told, TellsNamedAl
 
 use crate::line::{Line, Shown};
 use crate::options::Options;
-use sk_architectures::{Architecture, numbers};
+use sk_call_names::{Architecture, numbers};
 use sk_chain::Chain;
 use sk_survey::{Answers, Row, Survey};
 use sk_survey_examples::find;

@@ -1,5 +1,5 @@
 //! What is wanted of a survey.
-use sk_architectures::Architecture;
+use sk_call_names::Architecture;
 
 /// What is wanted of a survey.
 #[derive(Clone, Copy, Debug, PartialEq, Eq)]

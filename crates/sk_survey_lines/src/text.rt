@@ -4,7 +4,7 @@ ghost use Rattle.sk_survey.specs.Answers.{answers_of};
 ghost use Rattle.sk_verdict.specs.Verdicts.{verdict_text};
 ghost use Rattle.sk_survey_lines.specs.Text.{numbers_text, name_text, values_text, answers_text};
 
-use sk_architectures::{Architecture, name};
+use sk_call_names::{Architecture, name};
 use sk_survey::Answers;
 use sk_verdict::push_verdict;
 use std::alloc::AllocError;

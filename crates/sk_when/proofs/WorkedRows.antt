@@ -8,10 +8,10 @@ use Rattle.sk_insn.specs.declared.record.Record.{Record}
 use Rattle.sk_insn.specs.Actions.{action_of}
 use Rattle.sk_insn.specs.Operations.{operation_of}
 use Rattle.sk_interp.specs.WorkedMeanings.{call_of}
-use Rattle.sk_call_names.specs.Names.{name_of}
-use Rattle.sk_architectures.specs.declared.architecture.Architecture.{Architecture}
-use Rattle.sk_architectures.specs.declared.architecture.Architecture.TheVariants as architecture
-use Rattle.sk_architectures.specs.Names.{name_at, name_in, name_on, runs_of}
+use Rattle.sk_call_names.specs.X86_64.{name_of}
+use Rattle.sk_call_names.specs.declared.architecture.Architecture.{Architecture}
+use Rattle.sk_call_names.specs.declared.architecture.Architecture.TheVariants as architecture
+use Rattle.sk_call_names.specs.Names.{name_at, name_in, name_on, runs_of}
 use Rattle.sk_chain.specs.Verdict.{verdict_of}
 use Rattle.sk_verdict.specs.Errors.{error_named}
 use Rattle.sk_verdict.specs.Verdicts.{verdict_text}

@@ -1,7 +1,7 @@
 -- What the text of `ask when` says of a chain.
 use Rattle.std.specs.Prelude.{ℕ, ◌≡◌, ◌≤◌, List, map, Option}
 use Rattle.std.specs.List.{All}
-use Rattle.sk_architectures.specs.declared.architecture.Architecture.{Architecture}
+use Rattle.sk_call_names.specs.declared.architecture.Architecture.{Architecture}
 use Rattle.sk_insn.specs.declared.insn.Insn.{Insn}
 use Rattle.sk_survey.specs.declared.rows.Row.{Row}
 use Rattle.sk_survey.specs.Answers.{ChainAnswersAmong, answers_of}

@@ -1,6 +1,6 @@
 -- The text of `ask when`: rows as those of `ask calls`, and under which condition of C each verdict comes.
 use Rattle.std.specs.Prelude.{ℕ, ◌++◌, List, [], ◌∷◌, codes, flat_map, Option, Some, None}
-use Rattle.sk_architectures.specs.declared.architecture.Architecture.{Architecture}
+use Rattle.sk_call_names.specs.declared.architecture.Architecture.{Architecture}
 use Rattle.sk_engines.specs.Output.{line}
 use Rattle.sk_survey.specs.Answers.{answers_of}
 use Rattle.sk_survey_lines.specs.Text.{numbers_text, name_text, answers_text}

@@ -7,7 +7,7 @@ ghost use Rattle.sk_when.specs.Lines.{IsTold};
 
 use crate::row::{Told, tell};
 use crate::text::when_text;
-use sk_architectures::Architecture;
+use sk_call_names::Architecture;
 use sk_chain::Chain;
 use sk_conditions::{Budget, MOST_STEPS};
 use sk_survey_lines::{Line, Options, lines_of};

@@ -4,7 +4,7 @@ ghost use Rattle.sk_survey.specs.Answers.{answers_of};
 ghost use Rattle.sk_when.specs.Text.{value_text, line_text, ends_text, row_text, when_text};
 
 use crate::row::Told;
-use sk_architectures::Architecture;
+use sk_call_names::Architecture;
 use sk_survey::Answers;
 use sk_survey_lines::{name_of_numbers, push_answers, push_numbers};
 use sk_terms::{Line, push_condition};

@@ -1,5 +1,5 @@
 //! The text of small filters for one call, worked out by hand from their instructions.
-use sk_architectures::Architecture;
+use sk_call_names::Architecture;
 use sk_chain::Chain;
 use sk_check::{Checked, check};
 use sk_insn::Insn;

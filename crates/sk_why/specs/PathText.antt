@@ -13,8 +13,8 @@ use Rattle.sk_insn.specs.declared.operation.Operation.{Operation}
 use Rattle.sk_insn.specs.declared.operation.Operation.TheVariants.{LoadRecord, LoadConstant, LoadScratch, LoadLength, StoreScratch, Jump, Branch, CopyToIndex}
 use Rattle.sk_insn.specs.Operations.{operation_of}
 use Rattle.sk_listing.specs.Listing.{words_for}
-use Rattle.sk_architectures.specs.declared.architecture.Architecture.{Architecture}
-use Rattle.sk_architectures.specs.Names.{name_on}
+use Rattle.sk_call_names.specs.declared.architecture.Architecture.{Architecture}
+use Rattle.sk_call_names.specs.Names.{name_on}
 use Rattle.sk_interp.specs.Meaning.{holds, meaning_of}
 use Rattle.sk_chain.specs.Verdict.{meaning_value, values_of, verdict_of}
 use Rattle.sk_survey_examples.specs.Examples.{ComesFrom}

@@ -4,7 +4,7 @@ ghost use Rattle.sk_insn.specs.Operations.{operation_of};
 ghost use Rattle.std.specs.Option.{option_map};
 ghost use Rattle.sk_why.specs.PathText.{bits_text, call_text, compared_call, compared_text, holds_number, sign};
 
-use sk_architectures::{Architecture, name};
+use sk_call_names::{Architecture, name};
 use sk_insn::{Comparison, Insn, Operation, Register, decode};
 use sk_interp::holds;
 use std::alloc::AllocError;

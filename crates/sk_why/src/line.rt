@@ -7,7 +7,7 @@ ghost use Rattle.sk_why.specs.PathText.{indent, jump_text, padded, registers_tex
 
 use crate::compared::push_compared;
 use crate::tracing::{Registers, Step};
-use sk_architectures::Architecture;
+use sk_call_names::Architecture;
 use sk_insn::{Insn, Operand, Operation, decode};
 use sk_listing::push_words;
 use std::alloc::AllocError;

@@ -5,7 +5,7 @@ ghost use Rattle.sk_why.specs.PathText.{IsSource, TellsWhy, filter_text, filters
 use crate::compared::holds_number;
 use crate::line::push_step;
 use crate::tracing::{Step, trace};
-use sk_architectures::Architecture;
+use sk_call_names::Architecture;
 use sk_chain::Chain;
 use sk_check::Checked;
 use sk_insn::Record;

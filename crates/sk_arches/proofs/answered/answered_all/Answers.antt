@@ -4,8 +4,8 @@ use Rattle.std.proofs.Math.ListN.{get_or}
 use Rattle.std.proofs.Math.Seq.{take-suc}
 use Rattle.std.proofs.lemmas.List.{map-append}
 use Rattle.std.proofs.lemmas.List.Elements.{All-push}
-use Rattle.sk_architectures.specs.declared.architecture.Architecture.{Architecture}
-use Rattle.sk_architectures.specs.Architectures.{architectures}
+use Rattle.sk_call_names.specs.declared.architecture.Architecture.{Architecture}
+use Rattle.sk_call_names.specs.Architectures.{architectures}
 use Rattle.sk_arches.specs.Answers.{answered_architecture, IsAnswered}
 use Rattle.sk_arches.proofs.answered.answered_all.Goals as goal
 

@@ -1,6 +1,6 @@
 use Rattle.std.proofs.Common.{◌≡◌, map, take}
 use Rattle.std.specs.List.{All}
-use Rattle.sk_architectures.specs.Architectures.{architectures}
+use Rattle.sk_call_names.specs.Architectures.{architectures}
 use Rattle.sk_arches.specs.Answers.{answered_architecture, IsAnswered}
 use Rattle.sk_arches.proofs.answered.answered_all.Given as goal
 

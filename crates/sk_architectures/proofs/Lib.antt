@@ -1,4 +1,0 @@
-pub mod Lookups
-pub mod Listing
-pub mod Named
-pub mod Naming

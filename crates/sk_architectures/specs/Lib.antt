@@ -1,3 +1,0 @@
-pub mod Architectures
-pub mod Names
-pub mod Worked
