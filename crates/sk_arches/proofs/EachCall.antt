@@ -7,8 +7,8 @@ use Rattle.sk_survey.specs.Answers.{ChainAnswersAmong, answers_of}
 use Rattle.sk_call_names.specs.declared.architecture.Architecture.{Architecture}
 use Rattle.sk_call_names.specs.declared.architecture.Architecture.TheVariants as by
 use Rattle.sk_call_names.specs.Architectures.{audit_of}
-use Rattle.sk_arch_filters.specs.ChainsFor.{chain_for, of_architecture}
-use Rattle.sk_arch_filters.proofs.Chains.{chains_for_architectures}
+use Rattle.sk_arches.specs.ChainsFor.{chain_for, of_architecture}
+use Rattle.sk_arches.proofs.Chains.{chains_for_architectures}
 use Rattle.sk_arches.specs.Answers.{OneVerdictIsOfEachCall, only_value}
 
 fits : (a : Architecture) → audit_of a < 2 ^ 32

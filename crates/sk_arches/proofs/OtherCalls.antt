@@ -13,9 +13,9 @@ use Rattle.sk_chain.specs.Verdict.{verdict_of}
 use Rattle.sk_survey.specs.declared.rows.Row.{Row}
 use Rattle.sk_survey.specs.Answers.{ChainAnswersAmong, answers_of}
 use Rattle.sk_survey.specs.Surveys.{Tell, TellsAlone}
-use Rattle.sk_arch_filters.specs.ByArchitecture.{by_architecture, chain_with_number_at, free_place}
-use Rattle.sk_arch_filters.proofs.ByArchitecture.{chains_by_architecture}
-use Rattle.sk_arch_filters.proofs.Words.{free}
+use Rattle.sk_arches.specs.ByArchitecture.{by_architecture, chain_with_number_at, free_place}
+use Rattle.sk_arches.proofs.ByArchitecture.{chains_by_architecture}
+use Rattle.sk_arches.proofs.Words.{free}
 use Rattle.sk_arches.specs.declared.other.Other.TheVariants.{Verdict}
 use Rattle.sk_arches.specs.Other.{IsOtherCall, IsOtherOf, OtherVerdictIsOfEachCall, agrees, audits, first_value, is_named, shared_value, value_of, verdict_or_several}
 use Rattle.sk_arches.proofs.EachCall.{alone, one_of_one}

@@ -10,7 +10,7 @@ use Rattle.sk_survey.specs.Surveys.{Holds}
 use Rattle.sk_call_names.specs.declared.architecture.Architecture.{Architecture}
 use Rattle.sk_call_names.specs.declared.architecture.Architecture.TheVariants as architecture
 use Rattle.sk_call_names.specs.Architectures.{architectures, audit_of}
-use Rattle.sk_arch_filters.specs.ChainsFor.{chain_for}
+use Rattle.sk_arches.specs.ChainsFor.{chain_for}
 use Rattle.sk_arches.specs.declared.answered.Answered.{Answered}
 
 -- the numbers of its calls: those of x32 have bit 30, those of x86-64 have not; on the others any number may be one

@@ -1,3 +1,7 @@
+pub mod ByArchitecture
+pub mod ChainsFor
+pub mod Changes
+pub mod Looks
 pub mod Answers
 pub mod Other
 pub mod Alike

@@ -10,7 +10,7 @@ use Rattle.sk_survey.specs.declared.rows.Row.{Row}
 use Rattle.sk_survey.specs.Answers.{answers_of}
 use Rattle.sk_survey.specs.Surveys.{IsSurveyFrom, StandAlone}
 use Rattle.sk_call_names.specs.Architectures.{architectures, audit_of}
-use Rattle.sk_arch_filters.specs.ByArchitecture.{chain_by_architecture}
+use Rattle.sk_arches.specs.ByArchitecture.{chain_by_architecture}
 use Rattle.sk_arches.specs.declared.other.Other.{Other}
 use Rattle.sk_arches.specs.declared.other.Other.TheVariants.{Verdict, Several, Unknown}
 use Rattle.sk_arches.specs.Answers.{only_value}

@@ -6,7 +6,7 @@ use Rattle.sk_call_names.specs.X86_64.{named_from, names_end}
 use Rattle.sk_call_names.specs.declared.architecture.Architecture.{Architecture}
 use Rattle.sk_call_names.specs.declared.architecture.Architecture.TheVariants as architecture
 use Rattle.sk_call_names.specs.Architectures.{audit_of}
-use Rattle.sk_arch_filters.specs.ChainsFor.{chain_for}
+use Rattle.sk_arches.specs.ChainsFor.{chain_for}
 use Rattle.sk_arches.specs.declared.answered.Answered.{Answered}
 use Rattle.sk_arches.specs.declared.told.Told.{Told}
 use Rattle.sk_arches.specs.Alike.{AreAlike}

@@ -3,7 +3,7 @@ ghost use Rattle.std.specs.Prelude.{◌≡◌, ◌≤◌, IfOk};
 ghost use Rattle.sk_chain.specs.Chains.{IsWithinLimit};
 ghost use Rattle.sk_arches.specs.Answers.{first_of, last_of, AreAnswered, IsAnswered};
 
-use sk_arch_filters::chain_for;
+use crate::chain::chain_for;
 use sk_call_names::Architecture;
 use sk_chain::Chain;
 use sk_survey::{Row, Survey};

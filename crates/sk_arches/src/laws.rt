@@ -1,6 +1,31 @@
-//! Laws on what is told of architectures. No program calls these functions: the contract of each is the law.
+//! Laws on filters for one architecture, and on what is told of architectures. No program calls these functions: the contract
+//! of each is the law.
+ghost use Rattle.sk_arches.specs.ByArchitecture.{ChainsByArchitecture, WorkedCall};
+ghost use Rattle.sk_arches.specs.ChainsFor.{ChainsForArchitectures};
+ghost use Rattle.sk_arches.specs.Looks.{UnseenArchitectures};
 ghost use Rattle.sk_arches.specs.Answers.{OneVerdictIsOfEachCall};
 ghost use Rattle.sk_arches.specs.Other.{OtherVerdictIsOfEachCall};
+
+/// What a chain for an architecture answers to a call of x86-64, the chain itself answers to the same call of that architecture.
+pub fn chains_for_architectures()
+    ensures law { ChainsForArchitectures }
+{}
+
+/// A chain that does not look at the architecture answers the same to a call of each.
+pub fn unseen_architectures()
+    ensures law { UnseenArchitectures }
+{}
+
+/// What a chain that looks for the architecture where the number is answers to a call with the architecture as its number, the
+/// chain itself answers to the call.
+pub fn chains_by_architecture()
+    ensures law { ChainsByArchitecture }
+{}
+
+/// The definitions give what was worked out by hand.
+pub fn worked_call()
+    ensures law { WorkedCall }
+{}
 
 /// Where one verdict is told of an architecture, each of its calls gets it.
 pub fn one_verdict_is_of_each_call()

@@ -2,10 +2,10 @@
 ghost use Rattle.std.specs.Prelude.{IfOk};
 ghost use Rattle.sk_chain.specs.Chains.{IsWithinLimit};
 ghost use Rattle.sk_call_names.specs.Architectures.{audit_of};
-ghost use Rattle.sk_arch_filters.specs.ChainsFor.{chain_for};
+ghost use Rattle.sk_arches.specs.ChainsFor.{chain_for};
 ghost use Rattle.sk_arches.specs.Alike.{AreAlike, IsAlike};
 
-use sk_arch_filters::chain_for;
+use crate::chain::chain_for;
 use sk_call_names::Architecture;
 use sk_chain::Chain;
 use sk_survey::Survey;

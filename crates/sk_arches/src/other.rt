@@ -5,8 +5,8 @@ ghost use Rattle.std.specs.Option.{option_map};
 ghost use Rattle.sk_chain.specs.Chains.{IsWithinLimit};
 ghost use Rattle.sk_arches.specs.Other.{agrees, audits, is_named, shared_value, verdict_or_several, IsOther, IsOtherOf};
 
+use crate::chain::chain_by_architecture;
 use crate::text::only_value;
-use sk_arch_filters::chain_by_architecture;
 use sk_call_names::Architecture;
 use sk_chain::Chain;
 use sk_survey::{Row, Survey};

@@ -7,7 +7,7 @@ use Rattle.sk_chain.specs.Verdict.{verdict_of}
 use Rattle.sk_call_names.specs.declared.architecture.Architecture.{Architecture}
 use Rattle.sk_call_names.specs.declared.architecture.Architecture.TheVariants as architecture
 use Rattle.sk_call_names.specs.Architectures.{audit_of}
-use Rattle.sk_arch_filters.proofs.Chains.{chains_for_architectures}
+use Rattle.sk_arches.proofs.Chains.{chains_for_architectures}
 use Rattle.sk_ask.specs.Architectures.{call_on, AnswersTheArchitecture}
 
 -- x86-64 and x32 have the number of x86-64

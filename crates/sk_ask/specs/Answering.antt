@@ -3,7 +3,7 @@ use Rattle.std.specs.Prelude.{ℕ, ◌≡◌, ◌⊎◌, ◌&&◌, is_none, not,
 use Rattle.std.specs.Bool.{MatchBool}
 use Rattle.std.specs.Str.{bytes_eq}
 use Rattle.sk_insn.specs.declared.insn.Insn.{Insn}
-use Rattle.sk_arch_filters.specs.Looks.{looks_at_architecture}
+use Rattle.sk_arches.specs.Looks.{looks_at_architecture}
 use Rattle.sk_ask_files.specs.Filters.{Filters}
 use Rattle.sk_survey_lines.specs.declared.line.Line.{Line}
 use Rattle.sk_survey_lines.specs.declared.options.Options.{Options}

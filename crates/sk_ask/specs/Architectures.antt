@@ -8,7 +8,7 @@ use Rattle.sk_chain.specs.Verdict.{verdict_of}
 use Rattle.sk_call_names.specs.declared.architecture.Architecture.{Architecture}
 use Rattle.sk_call_names.specs.declared.architecture.Architecture.TheVariants.{X86_64}
 use Rattle.sk_call_names.specs.Architectures.{audit_of}
-use Rattle.sk_arch_filters.specs.ChainsFor.{chain_for, of_architecture}
+use Rattle.sk_arches.specs.ChainsFor.{chain_for, of_architecture}
 
 -- x86-64 where none is named
 abbrev pub architecture_of : Option Architecture → Architecture

@@ -14,7 +14,7 @@ use crate::calls_text::calls_text;
 use crate::filters::asked_filters;
 use crate::on::{architecture_of, filters_on};
 use crate::words::Asked;
-use sk_arch_filters::looks_at_architecture;
+use sk_arches::looks_at_architecture;
 use sk_ask_filters::{Filters, Shelf, Trouble, of_word};
 use sk_call_names::Architecture;
 use sk_call_text::call_named;

@@ -3,7 +3,7 @@ ghost use Rattle.std.specs.Prelude.{◌≡◌, IfOk};
 ghost use Rattle.sk_chain.specs.Chains.{IsWithinLimit};
 ghost use Rattle.sk_ask.specs.Architectures.{architecture_of, chain_on};
 
-use sk_arch_filters::chain_for;
+use sk_arches::chain_for;
 use sk_ask_filters::Filters;
 use sk_call_names::Architecture;
 use sk_chain::Chain;

@@ -1,5 +1,5 @@
 -- What a comparison of two chains for an architecture is, and what it says of every call. A call of x86-64 stands there for the
--- same call of the architecture, by the law `ChainsForArchitectures` of sk_arch_filters.
+-- same call of the architecture, by the law `ChainsForArchitectures` of sk_arches.
 use Rattle.std.specs.Prelude.{ℕ, ◌≡◌, ◌^◌, ◌<◌, true, false, List}
 use Rattle.sk_call_names.specs.declared.architecture.Architecture.{Architecture}
 use Rattle.sk_insn.specs.declared.insn.Insn.{Insn}

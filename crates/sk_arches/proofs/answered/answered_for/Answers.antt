@@ -1,7 +1,7 @@
 use Rattle.std.proofs.Common.{ap, refl, subst, ◌∙◌}
 use Rattle.sk_survey.specs.declared.rows.Row.{Row}
 use Rattle.sk_survey.specs.Surveys.{Holds}
-use Rattle.sk_arch_filters.specs.ChainsFor.{chain_for}
+use Rattle.sk_arches.specs.ChainsFor.{chain_for}
 use Rattle.sk_arches.proofs.answered.answered_for.Goals as goal
 
 pub returns : goal.returns

@@ -4,7 +4,7 @@ use Rattle.std.proofs.lemmas.List.{take_all}
 use Rattle.std.proofs.lemmas.List.Elements.{All-more}
 use Rattle.std.proofs.lemmas.Option.{slice_get-get_or}
 use Rattle.sk_insn.specs.declared.insn.Insn.{Insn}
-use Rattle.sk_arch_filters.specs.ChainsFor.{chain_for}
+use Rattle.sk_arches.specs.ChainsFor.{chain_for}
 use Rattle.sk_arches.specs.Alike.{IsAlike}
 use Rattle.sk_arches.proofs.numbered.are_judged_alike.Goals as goal
 

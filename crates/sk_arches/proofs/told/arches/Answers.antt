@@ -1,7 +1,7 @@
 use Rattle.std.proofs.Common.{subst, ◌∙◌}
 use Rattle.sk_call_names.specs.declared.architecture.Architecture.TheVariants as architecture
 use Rattle.sk_call_names.specs.Architectures.{audit_of}
-use Rattle.sk_arch_filters.specs.ChainsFor.{chain_for}
+use Rattle.sk_arches.specs.ChainsFor.{chain_for}
 use Rattle.sk_arches.specs.Alike.{AreAlike}
 use Rattle.sk_arches.proofs.told.arches.Goals as goal
 

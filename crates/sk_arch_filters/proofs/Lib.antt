@@ -1,7 +1,0 @@
-mod Alike
-pub mod ByArchitecture
-pub mod Chains
-mod Meanings
-pub mod Unseen
-mod Valid
-pub mod Words

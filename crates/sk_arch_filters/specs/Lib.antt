@@ -1,4 +1,0 @@
-pub mod ByArchitecture
-pub mod ChainsFor
-pub mod Changes
-pub mod Looks
