@@ -6,7 +6,7 @@ use Rattle.sk_insn.specs.Record.{record_bytes}
 use Rattle.sk_engines.specs.Output.{line}
 use Rattle.sk_survey.specs.declared.rows.Row.{Row}
 use Rattle.sk_survey.specs.Answers.{answers_of}
-use Rattle.sk_survey_examples.specs.declared.example.Example.{Example}
+use Rattle.sk_survey_lines.specs.declared.example.Example.{Example}
 use Rattle.sk_survey_lines.specs.declared.line.Shown.{Shown}
 use Rattle.sk_survey_lines.specs.declared.line.Line.{Line}
 use Rattle.sk_survey_lines.specs.Text.{numbers_text, name_text, answers_text}

@@ -7,7 +7,7 @@ use Rattle.sk_call_names.specs.Names.{name_on}
 use Rattle.sk_survey.specs.declared.rows.Row.{Row}
 use Rattle.sk_survey.specs.Answers.{answers_of}
 use Rattle.sk_survey.specs.Surveys.{Tell, TellsAlone}
-use Rattle.sk_survey_examples.specs.Examples.{IsExample}
+use Rattle.sk_survey_lines.specs.Examples.{IsExample}
 use Rattle.sk_survey_lines.specs.declared.line.Line.{Line}
 use Rattle.sk_survey_lines.specs.declared.line.Shown.{Shown}
 use Rattle.sk_survey_lines.specs.declared.options.Options.{Options}

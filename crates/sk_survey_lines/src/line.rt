@@ -1,6 +1,6 @@
 //! A line of a survey, with the calls that show its verdicts.
+use crate::example::Example;
 use sk_survey::Row;
-use sk_survey_examples::Example;
 
 /// A verdict, and what was found that shows it.
 #[derive(Clone, Copy, Debug)]

@@ -5,12 +5,12 @@ ghost use Rattle.sk_survey.specs.Answers.{answers_of};
 ghost use Rattle.sk_survey.specs.Surveys.{Tell};
 ghost use Rattle.sk_survey_lines.specs.Lines.{first_told, end_told, TellsNamedAlone, Shows, IsShown, AreLinesOf};
 
+use crate::example::find;
 use crate::line::{Line, Shown};
 use crate::options::Options;
 use sk_call_names::{Architecture, numbers};
 use sk_chain::Chain;
 use sk_survey::{Answers, Row, Survey};
-use sk_survey_examples::find;
 use std::alloc::{AllocError, Global};
 
 /// The lines that tell what a chain answers.

@@ -2,5 +2,5 @@ pub mod Paths
 pub mod PathLaws
 pub mod PathText
 pub mod WorkedPaths
-pub use Rattle.sk_survey_examples.specs.Runs
-pub use Rattle.sk_survey_examples.specs.Examples
+pub use Rattle.sk_survey_lines.specs.Runs
+pub use Rattle.sk_survey_lines.specs.Examples

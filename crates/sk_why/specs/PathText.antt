@@ -17,7 +17,7 @@ use Rattle.sk_call_names.specs.declared.architecture.Architecture.{Architecture}
 use Rattle.sk_call_names.specs.Names.{name_on}
 use Rattle.sk_interp.specs.Meaning.{holds, meaning_of}
 use Rattle.sk_chain.specs.Verdict.{meaning_value, values_of, verdict_of}
-use Rattle.sk_survey_examples.specs.Examples.{ComesFrom}
+use Rattle.sk_survey_lines.specs.Examples.{ComesFrom}
 use Rattle.sk_verdict.specs.Verdicts.{verdict_text}
 use Rattle.sk_why.specs.declared.tracing.Registers.{Registers}
 use Rattle.sk_why.specs.declared.tracing.Step.{Step}

@@ -9,7 +9,7 @@ use sk_call_names::Architecture;
 use sk_chain::Chain;
 use sk_check::Checked;
 use sk_insn::Record;
-use sk_survey_examples::answering;
+use sk_survey_lines::answering;
 use sk_verdict::push_verdict;
 use std::alloc::{AllocError, Global};
 use std::fmt::Write;

@@ -1,11 +1,11 @@
 use Rattle.std.proofs.Common.{◌++◌, suc, refl, sym, ap, ◌∙◌}
 use Rattle.sk_check.specs.Valid.{IsValid}
 use Rattle.sk_check.proofs.ValidPrograms.{valid_count}
-use Rattle.sk_survey_examples.specs.Tracing.{state_of, effect_of}
-use Rattle.sk_survey_examples.proofs.Runs.{insn_at, is_there, takes_constant, stays_inside, comes_further, ends_with, never_stuck}
+use Rattle.sk_survey_lines.specs.Tracing.{state_of, effect_of}
+use Rattle.sk_survey_lines.proofs.Runs.{insn_at, is_there, takes_constant, stays_inside, comes_further, ends_with, never_stuck}
 use Rattle.sk_interp.specs.Meaning.{meaning_of}
 use Rattle.sk_chain.specs.Verdict.{meaning_value}
-use Rattle.sk_survey_examples.specs.Runs.{EndsAt}
+use Rattle.sk_survey_lines.specs.Runs.{EndsAt}
 use Rattle.sk_why.specs.Paths.{path_of, steps_from}
 use Rattle.sk_why.proofs.Paths.{path_ends, path_on}
 use Rattle.sk_why.proofs.tracing.trace.Goals as goal

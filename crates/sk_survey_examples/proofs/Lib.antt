@@ -1,3 +1,0 @@
-pub mod Newer
-pub mod Runs
-pub mod OneSource

@@ -1,4 +1,0 @@
-pub mod Runs
-pub mod Examples
-pub mod ExamplesLaws
-pub mod Tracing
