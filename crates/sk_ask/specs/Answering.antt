@@ -4,13 +4,13 @@ use Rattle.std.specs.Bool.{MatchBool}
 use Rattle.std.specs.Str.{bytes_eq}
 use Rattle.sk_insn.specs.declared.insn.Insn.{Insn}
 use Rattle.sk_arches.specs.Looks.{looks_at_architecture}
-use Rattle.sk_ask_files.specs.Filters.{Filters}
+use Rattle.sk_ask_filters.specs.Filters.{Filters}
 use Rattle.sk_survey_lines.specs.declared.line.Line.{Line}
 use Rattle.sk_survey_lines.specs.declared.options.Options.{Options}
 use Rattle.sk_survey_lines.specs.Lines.{AreLinesOf}
 use Rattle.sk_profile_json.specs.declared.context.Context.{Context}
 use Rattle.sk_ask_filters.specs.Complaints.{of_word}
-use Rattle.sk_ask_filters.specs.Filters.{ReadsFilters, IsRefusedOf}
+use Rattle.sk_ask_filters.specs.Reading.{ReadsFilters, IsRefusedOf}
 use Rattle.sk_ask.specs.declared.words.Word.{Word}
 use Rattle.sk_ask.specs.declared.words.Word.TheVariants as word
 use Rattle.sk_ask.specs.Asking.{Question, asked_of, nothing_asked, word_named}

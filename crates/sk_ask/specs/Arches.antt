@@ -4,9 +4,9 @@ use Rattle.sk_insn.specs.declared.insn.Insn.{Insn}
 use Rattle.sk_arches.specs.declared.told.Told.{Told}
 use Rattle.sk_arches.specs.Told.{IsTold, warns}
 use Rattle.sk_arches.specs.Text.{arches_text}
-use Rattle.sk_ask_files.specs.Filters.{Filters}
+use Rattle.sk_ask_filters.specs.Filters.{Filters}
 use Rattle.sk_profile_json.specs.declared.context.Context.{Context}
-use Rattle.sk_ask_filters.specs.Filters.{ReadsFilters, IsRefusedOf}
+use Rattle.sk_ask_filters.specs.Reading.{ReadsFilters, IsRefusedOf}
 use Rattle.sk_ask.specs.Asking.{Question}
 use Rattle.sk_ask.specs.Endings.{Ending, answered}
 use Rattle.sk_ask.specs.Troubles.{IsTrouble}

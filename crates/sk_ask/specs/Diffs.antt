@@ -7,9 +7,9 @@ use Rattle.sk_conditions.specs.declared.standing.Relation.TheVariants.{Same, AsS
 use Rattle.sk_diff.specs.declared.comparison.Standing.{Standing}
 use Rattle.sk_diff.specs.declared.comparison.Standing.TheVariants.{Everywhere, Apart, Undecided}
 use Rattle.sk_diff.specs.Diffs.{IsComparison}
-use Rattle.sk_ask_files.specs.Filters.{Filters}
+use Rattle.sk_ask_filters.specs.Filters.{Filters}
 use Rattle.sk_profile_json.specs.declared.context.Context.{Context}
-use Rattle.sk_ask_filters.specs.Filters.{ReadsFilters, IsRefusedOf}
+use Rattle.sk_ask_filters.specs.Reading.{ReadsFilters, IsRefusedOf}
 use Rattle.sk_ask.specs.Architectures.{architecture_of, chain_on}
 use Rattle.sk_ask.specs.Asking.{Question}
 use Rattle.sk_ask.specs.Endings.{Ending, answered, refused, no_memory, ComesTo}

@@ -3,10 +3,10 @@ use Rattle.std.specs.Prelude.{ℕ, ◌≡◌, ◌⊎◌, ◌==◌, if◌then◌e
 use Rattle.sk_insn.specs.declared.insn.Insn.{Insn}
 use Rattle.sk_call_names.specs.declared.architecture.Architecture.{Architecture}
 use Rattle.sk_replay.specs.Replaying.{replay_text, replay_denies, distinct_calls}
-use Rattle.sk_ask_files.specs.Filters.{Filters}
+use Rattle.sk_ask_filters.specs.Filters.{Filters}
 use Rattle.sk_profile_json.specs.declared.context.Context.{Context}
 use Rattle.sk_ask_filters.specs.Complaints.{about}
-use Rattle.sk_ask_filters.specs.Filters.{ReadsFilters, IsRefusedOf}
+use Rattle.sk_ask_filters.specs.Reading.{ReadsFilters, IsRefusedOf}
 use Rattle.sk_ask_filters.specs.Shelves.{IsUnread}
 use Rattle.sk_ask.specs.Architectures.{architecture_of}
 use Rattle.sk_ask.specs.Asking.{Question}

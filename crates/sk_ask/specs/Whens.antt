@@ -4,9 +4,9 @@ use Rattle.sk_insn.specs.declared.insn.Insn.{Insn}
 use Rattle.sk_call_names.specs.declared.architecture.Architecture.{Architecture}
 use Rattle.sk_when.specs.Picture.{IsPicture}
 use Rattle.sk_when.specs.Telling.{TellsWhen}
-use Rattle.sk_ask_files.specs.Filters.{Filters}
+use Rattle.sk_ask_filters.specs.Filters.{Filters}
 use Rattle.sk_profile_json.specs.declared.context.Context.{Context}
-use Rattle.sk_ask_filters.specs.Filters.{ReadsFilters, IsRefusedOf}
+use Rattle.sk_ask_filters.specs.Reading.{ReadsFilters, IsRefusedOf}
 use Rattle.sk_ask.specs.Architectures.{architecture_of, chain_on}
 use Rattle.sk_ask.specs.Asking.{Question}
 use Rattle.sk_ask.specs.Calls.{IsAskedCall, IsNoCall}

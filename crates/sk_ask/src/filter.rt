@@ -1,6 +1,6 @@
 //! `ask filter`: the filters as lines, or one filter as raw bytes.
 ghost use Rattle.std.specs.Prelude.{◌≡◌, ◌++◌, true, IfOk, OnOk, map};
-ghost use Rattle.sk_ask_files.specs.Finding.{filters_of};
+ghost use Rattle.sk_ask_filters.specs.Finding.{filters_of};
 ghost use Rattle.sk_ask_filters.specs.Counts.{CountsReads};
 ghost use Rattle.sk_ask.specs.Endings.{ending_of};
 ghost use Rattle.sk_ask.specs.Asking.{question_of};

@@ -1,8 +1,8 @@
 //! The filters in the files that are asked of, and where the profiles among them are to hold.
 ghost use Rattle.std.specs.Prelude.{◌≡◌, IfOk, IfErr};
-ghost use Rattle.sk_ask_files.specs.Finding.{filters_of};
+ghost use Rattle.sk_ask_filters.specs.Finding.{filters_of};
 ghost use Rattle.sk_ask_filters.specs.Counts.{CountsReads};
-ghost use Rattle.sk_ask_filters.specs.Filters.{ReadsFilters, IsRefusedOf};
+ghost use Rattle.sk_ask_filters.specs.Reading.{ReadsFilters, IsRefusedOf};
 ghost use Rattle.sk_ask.specs.Asking.{question_of};
 ghost use Rattle.sk_ask.specs.Contexts.{IsContextOf};
 

@@ -11,10 +11,10 @@ use Rattle.sk_check.proofs.FirstFaults.{valid-first_fault}
 use Rattle.sk_profile.specs.Profiles.{Profile}
 use Rattle.sk_engines.specs.Filters.{chained}
 use Rattle.sk_profile_file.specs.Filters.{IsFilterOf}
-use Rattle.sk_ask_files.specs.declared.form.Form.TheVariants as form
-use Rattle.sk_ask_files.specs.Filters.{no_filters, with_file, with_files, filters_in, chain_of}
-use Rattle.sk_ask_files.specs.Forms.{form_of}
-use Rattle.sk_ask_filters.specs.Filters.{judged}
+use Rattle.sk_ask_filters.specs.declared.form.Form.TheVariants as form
+use Rattle.sk_ask_filters.specs.Filters.{no_filters, with_file, with_files, filters_in, chain_of}
+use Rattle.sk_ask_filters.specs.Forms.{form_of}
+use Rattle.sk_ask_filters.specs.Reading.{judged}
 use Rattle.sk_ask_filters.specs.Images.{alone}
 
 -- the instructions that were read, by their number

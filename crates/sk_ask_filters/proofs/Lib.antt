@@ -1,3 +1,4 @@
+pub mod Given
 pub mod Wholes
 pub mod Among
 pub mod Standing

@@ -9,10 +9,10 @@ use Rattle.sk_check.specs.FirstFault.{first_fault}
 use Rattle.sk_chain.specs.Chains.{IsWithinLimit, cost_of, path_limit}
 use Rattle.sk_engines.specs.declared.filters.Refusal.{Refusal}
 use Rattle.sk_engines.specs.Filters.{chained, image_attached, program_attached}
-use Rattle.sk_ask_files.specs.declared.fault.Refused.{Refused}
-use Rattle.sk_ask_files.specs.declared.found.Place.{Place}
-use Rattle.sk_ask_files.specs.Filters.{Filters, as_chain, chain_of, filters_in}
-use Rattle.sk_ask_filters.specs.Filters.{judged, with_chain}
+use Rattle.sk_ask_filters.specs.declared.fault.Refused.{Refused}
+use Rattle.sk_ask_filters.specs.declared.found.Place.{Place}
+use Rattle.sk_ask_filters.specs.Filters.{Filters, as_chain, chain_of, filters_in}
+use Rattle.sk_ask_filters.specs.Reading.{judged, with_chain}
 
 -- one program more
 with_program : (older : List (List Insn)) (program : List Insn) (fault : Option CheckFault) (chain : List (List Insn))

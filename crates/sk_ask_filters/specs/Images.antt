@@ -1,9 +1,9 @@
 -- The image of a profile's filter is read as one filter, which has just the instructions that mean the profile.
 use Rattle.std.specs.Prelude.{ℕ, ◌≡◌, List, [], ◌∷◌, None, Ok}
-use Rattle.sk_ask_files.specs.Filters.{Filters}
+use Rattle.sk_ask_filters.specs.Filters.{Filters}
 use Rattle.sk_profile.specs.Profiles.{Profile}
 use Rattle.sk_profile_file.specs.Filters.{IsFilterOf}
-use Rattle.sk_ask_filters.specs.Filters.{judged}
+use Rattle.sk_ask_filters.specs.Reading.{judged}
 
 -- in the first file, and in no line of it
 abbrev pub alone : List ℕ → Filters

@@ -1,6 +1,12 @@
+pub mod Filters
+pub mod Finding
+pub mod Given
+pub mod Forms
+pub mod Lines
+pub mod Texts
 pub mod Complaints
 pub mod Counts
 pub mod Shelves
 pub mod Expanding
-pub mod Filters
+pub mod Reading
 pub mod Images

@@ -1,14 +1,18 @@
 //! The filters of files that are known by their names.
 ghost use Rattle.std.specs.Prelude.{◌≡◌, ◌<◌, IfOk, IfErr, length, map, string_bytes};
-ghost use Rattle.sk_ask_files.specs.Finding.{filters_of};
+ghost use Rattle.sk_ask_filters.specs.Finding.{filters_of};
 ghost use Rattle.sk_ask_filters.specs.Counts.{CountsReads};
-ghost use Rattle.sk_ask_filters.specs.Filters.{ReadsFilters, IsRefusal, IsRefusedOf, IsReadAs, Judges, judged};
+ghost use Rattle.sk_ask_filters.specs.Reading.{ReadsFilters, IsRefusal, IsRefusedOf, IsReadAs, Judges, judged};
 
+use crate::attaching::attach;
 use crate::complaint::about;
 use crate::expansion::{Expansion, expanded};
+use crate::fault::Refused;
+use crate::files::find;
+use crate::found::Found;
 use crate::shelf::{Shelf, contents};
+use crate::text::fault_text;
 use crate::trouble::Trouble;
-use sk_ask_files::{Found, Refused, attach, fault_text, find};
 use sk_chain::Chain;
 use sk_profile_json::Context;
 use std::alloc::{AllocError, Global};

@@ -1,4 +1,6 @@
-use sk_ask_files::{FileFault, Form, LineFault, Place, Refused, attach, fault_text, find, form_of};
+use sk_ask_filters::{
+    FileFault, Form, LineFault, Place, Refused, attach, fault_text, find, form_of,
+};
 use sk_check::CheckFault;
 use sk_engines::Refusal;
 use std::test::Fail;

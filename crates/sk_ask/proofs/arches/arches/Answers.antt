@@ -1,5 +1,5 @@
 use Rattle.std.proofs.Common.{rules, inl}
-use Rattle.sk_ask_files.specs.Finding.{filters_of}
+use Rattle.sk_ask_filters.specs.Finding.{filters_of}
 use Rattle.sk_ask_filters.proofs.Limits.{judged_within}
 use Rattle.sk_ask.specs.Asking.{question_of}
 use Rattle.sk_ask.proofs.Refusing.{no_arches}

@@ -1,6 +1,6 @@
 use Rattle.std.proofs.Common.{length}
-use Rattle.sk_ask_files.specs.Finding.{filters_of}
-use Rattle.sk_ask_files.specs.Given.{ArePlaced}
+use Rattle.sk_ask_filters.specs.Finding.{filters_of}
+use Rattle.sk_ask_filters.specs.Given.{ArePlaced}
 use Rattle.sk_ask_filters.proofs.filters.judged.Goals as goal
 
 pub returns-in-Err-2-clause-given : goal.returns-in-Err-2-clause-given

@@ -1,7 +1,7 @@
 -- What is told of files is told of those that were given.
 use Rattle.std.specs.Prelude.{ℕ, ◌≡◌, ◌<◌, All, length, Result, Ok, Err, ⊤}
-use Rattle.sk_ask_files.specs.declared.fault.Refused.{Refused}
-use Rattle.sk_ask_files.specs.Filters.{Filters}
+use Rattle.sk_ask_filters.specs.declared.fault.Refused.{Refused}
+use Rattle.sk_ask_filters.specs.Filters.{Filters}
 
 -- each filter has a place, in a file of so many
 pub record ArePlaced (count : ℕ) (found : Filters) : Type 0 where

@@ -1,7 +1,7 @@
 use Rattle.std.proofs.Common.{◌≡◌, ◌+◌, ◌≤◌, length, map}
-use Rattle.sk_ask_files.specs.Filters.{with_files, filters_in}
-use Rattle.sk_ask_files.specs.Finding.{filters_of}
-use Rattle.sk_ask_files.proofs.files.find.Given as goal
+use Rattle.sk_ask_filters.specs.Filters.{with_files, filters_in}
+use Rattle.sk_ask_filters.specs.Finding.{filters_of}
+use Rattle.sk_ask_filters.proofs.files.find.Given as goal
 
 abbrev pub invariant-loop-file : goal.invariant-loop-file
 invariant-loop-file l = record {

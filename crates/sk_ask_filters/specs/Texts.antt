@@ -7,10 +7,10 @@ use Rattle.sk_check.specs.declared.fault.CheckFault.{CheckFault}
 use Rattle.sk_check.specs.declared.fault.CheckFault.TheVariants.{Empty, TooLong, Code, Load, DivZero, Shift, Word, Jump, NoReturn, Unstored}
 use Rattle.sk_engines.specs.declared.filters.Refusal.{Refusal}
 use Rattle.sk_engines.specs.declared.filters.Refusal.TheVariants.{Image, Program, PathLimit}
-use Rattle.sk_ask_files.specs.declared.fault.LineFault.{LineFault}
-use Rattle.sk_ask_files.specs.declared.fault.LineFault.TheVariants.{UnknownWord, NotHexadecimal}
-use Rattle.sk_ask_files.specs.declared.fault.FileFault.{FileFault}
-use Rattle.sk_ask_files.specs.declared.fault.FileFault.TheVariants.{NoFilter, OddDigits, Line, TooMany, Filter}
+use Rattle.sk_ask_filters.specs.declared.fault.LineFault.{LineFault}
+use Rattle.sk_ask_filters.specs.declared.fault.LineFault.TheVariants.{UnknownWord, NotHexadecimal}
+use Rattle.sk_ask_filters.specs.declared.fault.FileFault.{FileFault}
+use Rattle.sk_ask_filters.specs.declared.fault.FileFault.TheVariants.{NoFilter, OddDigits, Line, TooMany, Filter}
 
 -- what is wrong with a line, if it is one of several
 abbrev pub at_line : Option ℕ → List ℕ

@@ -2,10 +2,10 @@
 use Rattle.std.specs.Prelude.{ℕ, ◌≡◌, List, map, Vec, Option, Result, Ok, Err}
 use Rattle.std.specs.Global.{Global}
 use Rattle.std.specs.Option.{option_map}
-use Rattle.sk_ask_files.specs.declared.fault.LineFault.{LineFault}
-use Rattle.sk_ask_files.specs.declared.fault.Refused.{Refused}
-use Rattle.sk_ask_files.specs.declared.found.Found.{Found}
-use Rattle.sk_ask_files.specs.Filters.{Filters}
+use Rattle.sk_ask_filters.specs.declared.fault.LineFault.{LineFault}
+use Rattle.sk_ask_filters.specs.declared.fault.Refused.{Refused}
+use Rattle.sk_ask_filters.specs.declared.found.Found.{Found}
+use Rattle.sk_ask_filters.specs.Filters.{Filters}
 
 abbrev pub filters_of : Found → Filters
 filters_of found = record { images = map (λ image. image.items) found.images.items; places = found.places.items }

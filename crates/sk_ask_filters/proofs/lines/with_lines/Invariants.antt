@@ -1,8 +1,8 @@
 use Rattle.std.proofs.Common.{◌≡◌, ◌+◌, ◌≤◌, length}
 use Rattle.sk_text.specs.Lines.{lines_of}
-use Rattle.sk_ask_files.specs.Filters.{with_lines}
-use Rattle.sk_ask_files.specs.Finding.{filters_of}
-use Rattle.sk_ask_files.proofs.lines.with_lines.Given as goal
+use Rattle.sk_ask_filters.specs.Filters.{with_lines}
+use Rattle.sk_ask_filters.specs.Finding.{filters_of}
+use Rattle.sk_ask_filters.proofs.lines.with_lines.Given as goal
 
 abbrev pub invariant-loop-line : goal.invariant-loop-line
 invariant-loop-line l = record {

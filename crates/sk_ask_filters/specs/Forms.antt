@@ -1,8 +1,8 @@
 -- Which form a file has is decided by its bytes alone.
 use Rattle.std.specs.Prelude.{ℕ, ◌==◌, ◌&&◌, ◌||◌, nat_le, not, Bool, if◌then◌else◌, List, filter}
 use Rattle.std.specs.List.{list_all, list_any}
-use Rattle.sk_ask_files.specs.declared.form.Form.{Form}
-use Rattle.sk_ask_files.specs.declared.form.Form.TheVariants as form
+use Rattle.sk_ask_filters.specs.declared.form.Form.{Form}
+use Rattle.sk_ask_filters.specs.declared.form.Form.TheVariants as form
 
 -- a digit in hexadecimal of either case, a space (32), a line feed (10) or a carriage return (13)
 unfoldable pub is_digit_or_blank : ℕ → Bool

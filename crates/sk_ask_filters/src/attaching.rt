@@ -1,8 +1,8 @@
 //! The chain of filters that were found.
 ghost use Rattle.std.specs.Prelude.{◌≡◌, ◌<◌, ℕ, IfOk, length};
-ghost use Rattle.sk_ask_files.specs.Filters.{chain_of, place_at};
-ghost use Rattle.sk_ask_files.specs.Finding.{filters_of};
-ghost use Rattle.sk_ask_files.specs.Given.{ArePlaced, IsGiven};
+ghost use Rattle.sk_ask_filters.specs.Filters.{chain_of, place_at};
+ghost use Rattle.sk_ask_filters.specs.Finding.{filters_of};
+ghost use Rattle.sk_ask_filters.specs.Given.{ArePlaced, IsGiven};
 
 use crate::fault::{FileFault, Refused};
 use crate::found::{Found, Place};

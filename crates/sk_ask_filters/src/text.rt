@@ -1,7 +1,7 @@
 //! What is said of a file that is refused.
 ghost use Rattle.std.specs.Prelude.{◌≡◌, ◌++◌, IfOk, OnOk, codes, string_bytes};
 ghost use Rattle.std.specs.Fmt.{decimal};
-ghost use Rattle.sk_ask_files.specs.Texts.{fault_text, at_line, at_instruction, line_fault_text, refusal_text, no_image_text, check_fault_text};
+ghost use Rattle.sk_ask_filters.specs.Texts.{fault_text, at_line, at_instruction, line_fault_text, refusal_text, no_image_text, check_fault_text};
 
 use crate::fault::{FileFault, LineFault};
 use sk_check::CheckFault;

@@ -1,8 +1,8 @@
 use Rattle.std.proofs.Common.{◌≡◌, ◌<◌, length, map, [], Err, arith, rules}
 use Rattle.sk_engines.specs.Filters.{chained}
-use Rattle.sk_ask_files.specs.Filters.{place_at}
-use Rattle.sk_ask_files.proofs.Given.{place_given, refused_below}
-use Rattle.sk_ask_files.proofs.attaching.attach.Goals as goal
+use Rattle.sk_ask_filters.specs.Filters.{place_at}
+use Rattle.sk_ask_filters.proofs.Given.{place_given, refused_below}
+use Rattle.sk_ask_filters.proofs.attaching.attach.Goals as goal
 
 pub place_at-place-requires : goal.place_at-place-requires
 place_at-place-requires c =

@@ -11,18 +11,18 @@ use Rattle.sk_text.specs.Lines.{lines_of, words_of}
 use Rattle.sk_text.specs.Hexadecimal.{hex_text_bytes}
 use Rattle.sk_engines.specs.declared.filters.Refusal.{Refusal}
 use Rattle.sk_engines.specs.Filters.{chained, image_attached}
-use Rattle.sk_ask_files.specs.declared.fault.FileFault.TheVariants.{Line}
-use Rattle.sk_ask_files.specs.declared.fault.LineFault.{LineFault}
-use Rattle.sk_ask_files.specs.declared.fault.Refused.{Refused}
-use Rattle.sk_ask_files.specs.declared.form.Form.{Form}
-use Rattle.sk_ask_files.specs.declared.form.Form.TheVariants as form
-use Rattle.sk_ask_files.specs.declared.found.Place.{Place}
-use Rattle.sk_ask_files.specs.Filters.{Filters, no_filters, with_filter, with_line, with_lines, some_more, with_digits, with_file, with_files, filters_in, place_at, as_chain, chain_of}
-use Rattle.sk_ask_files.specs.Forms.{form_of, without_returns}
-use Rattle.sk_ask_files.specs.Lines.{says}
-use Rattle.sk_ask_files.specs.declared.found.Found.{Found}
-use Rattle.sk_ask_files.specs.Finding.{Finds, filters_of, found_in}
-use Rattle.sk_ask_files.specs.Given.{ArePlaced, AreGiven, IsGiven}
+use Rattle.sk_ask_filters.specs.declared.fault.FileFault.TheVariants.{Line}
+use Rattle.sk_ask_filters.specs.declared.fault.LineFault.{LineFault}
+use Rattle.sk_ask_filters.specs.declared.fault.Refused.{Refused}
+use Rattle.sk_ask_filters.specs.declared.form.Form.{Form}
+use Rattle.sk_ask_filters.specs.declared.form.Form.TheVariants as form
+use Rattle.sk_ask_filters.specs.declared.found.Place.{Place}
+use Rattle.sk_ask_filters.specs.Filters.{Filters, no_filters, with_filter, with_line, with_lines, some_more, with_digits, with_file, with_files, filters_in, place_at, as_chain, chain_of}
+use Rattle.sk_ask_filters.specs.Forms.{form_of, without_returns}
+use Rattle.sk_ask_filters.specs.Lines.{says}
+use Rattle.sk_ask_filters.specs.declared.found.Found.{Found}
+use Rattle.sk_ask_filters.specs.Finding.{Finds, filters_of, found_in}
+use Rattle.sk_ask_filters.specs.Given.{ArePlaced, AreGiven, IsGiven}
 
 -- ---- steps
 

@@ -1,7 +1,7 @@
 use Rattle.std.proofs.Common.{length, map, Ok, Err, sym, rules}
 use Rattle.std.proofs.lemmas.List.{length-map, nil_from_length}
-use Rattle.sk_ask_files.proofs.Given.{found_given}
-use Rattle.sk_ask_files.proofs.files.find.Goals as goal
+use Rattle.sk_ask_filters.proofs.Given.{found_given}
+use Rattle.sk_ask_filters.proofs.files.find.Goals as goal
 
 pub returns-in-Err-clause-given : goal.returns-in-Err-clause-given
 returns-in-Err-clause-given c =

@@ -2,8 +2,8 @@
 use Rattle.std.specs.Prelude.{ℕ, ◌==◌, ◌||◌, if◌then◌else◌, List, [], ◌∷◌, codes, slice_index, Option, Some, None, Result, Ok, Err}
 use Rattle.std.specs.Str.{bytes_eq}
 use Rattle.sk_text.specs.Hexadecimal.{hex_bytes}
-use Rattle.sk_ask_files.specs.declared.fault.LineFault.{LineFault}
-use Rattle.sk_ask_files.specs.declared.fault.LineFault.TheVariants.{UnknownWord, NotHexadecimal}
+use Rattle.sk_ask_filters.specs.declared.fault.LineFault.{LineFault}
+use Rattle.sk_ask_filters.specs.declared.fault.LineFault.TheVariants.{UnknownWord, NotHexadecimal}
 
 abbrev pub filter_says : Option (List ℕ) → Result (Option (List ℕ)) LineFault
 filter_says None = Err NotHexadecimal
