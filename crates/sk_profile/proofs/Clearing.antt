@@ -6,12 +6,12 @@ use Rattle.std.proofs.lemmas.List.{get_or_past}
 use Rattle.std.proofs.lemmas.List.Folds.{list_any_at}
 use Rattle.std.proofs.lemmas.Nat.{and_assoc, and_comm}
 use Rattle.sk_insn.specs.declared.record.Record.{Record}
-use Rattle.sk_profile_code.specs.declared.condition.Condition.{Condition}
-use Rattle.sk_profile_code.specs.declared.condition.Test.{Test}
-use Rattle.sk_profile_code.specs.declared.condition.Test.TheVariants.{Is, IsNot, Below, AtMost, Above, AtLeast, Masked}
-use Rattle.sk_profile_code.specs.Means.{IsCall}
-use Rattle.sk_profile_code.specs.Sayings.{Arm, compares, holds_of, all_hold}
-use Rattle.sk_profile_code.specs.Sayings.{Saying}
+use Rattle.sk_profile.specs.declared.condition.Condition.{Condition}
+use Rattle.sk_profile.specs.declared.condition.Test.{Test}
+use Rattle.sk_profile.specs.declared.condition.Test.TheVariants.{Is, IsNot, Below, AtMost, Above, AtLeast, Masked}
+use Rattle.sk_profile.specs.Means.{IsCall}
+use Rattle.sk_profile.specs.Sayings.{Arm, compares, holds_of, all_hold}
+use Rattle.sk_profile.specs.Sayings.{Saying}
 use Rattle.sk_profile.specs.declared.fault.Clash.{Clash}
 use Rattle.sk_profile.specs.declared.fault.ProfileFault.TheVariants.{Clashes}
 use Rattle.sk_profile.specs.declared.profile.Profile.{Profile as ProfileOfCode}

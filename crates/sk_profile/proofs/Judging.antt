@@ -4,7 +4,7 @@ use Rattle.std.specs.Prelude.{All}
 use Rattle.std.proofs.lemmas.Bool.{ltb-true, leb-true, and_parts}
 use Rattle.std.proofs.lemmas.List.Elements.{All-nil, All-cons}
 use Rattle.std.proofs.lemmas.List.Sums.{AllPass-from_list_all}
-use Rattle.sk_profile_code.specs.declared.condition.Condition.{Condition}
+use Rattle.sk_profile.specs.declared.condition.Condition.{Condition}
 use Rattle.sk_profile.specs.declared.profile.Rule.{Rule as RuleOfCode}
 use Rattle.sk_profile.specs.Faults.{is_good}
 use Rattle.sk_profile.specs.Rows.{IsGood}

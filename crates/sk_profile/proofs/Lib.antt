@@ -1,3 +1,14 @@
+pub mod Asking
+pub mod Steps
+pub mod Halves
+pub mod Conditions
+pub mod Joining
+pub mod Trees
+pub mod Rows
+pub mod Emitting
+pub mod Fitting
+pub mod Knowing
+pub mod WorkedCode
 pub mod Starts
 pub mod Places
 pub mod Clearing

@@ -3,9 +3,9 @@ use Rattle.std.proofs.Common.{◌≡◌, ℕ, zero, suc, ◌+◌, true, false, L
 use Rattle.std.specs.List.{list_any}
 use Rattle.std.specs.Option.{option_map}
 use Rattle.std.proofs.lemmas.Option.{slice_get-map}
-use Rattle.sk_profile_code.specs.declared.saying.Arm.{Arm as ArmOfCode}
-use Rattle.sk_profile_code.specs.Sayings.{Arm}
-use Rattle.sk_profile_code.specs.Views.{arm_of}
+use Rattle.sk_profile.specs.declared.saying.Arm.{Arm as ArmOfCode}
+use Rattle.sk_profile.specs.Sayings.{Arm}
+use Rattle.sk_profile.specs.CodeViews.{arm_of}
 use Rattle.sk_profile.specs.Clashes.{may_clash, never_clash, IsClashAt, MayClash}
 
 at_drop : {X : Type 0} (n : ℕ) (xs : List X) (k : ℕ) → slice_get (drop n xs) k ≡ slice_get xs (n + k)

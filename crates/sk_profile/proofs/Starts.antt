@@ -4,11 +4,11 @@ use Rattle.std.specs.Prelude.{All}
 use Rattle.std.proofs.lemmas.Bool.{cases_lt, leb-true, leb-false, le-leb, lt-leb, lt-ltb, le-ltb, eq-eqb, ne_eqb}
 use Rattle.std.proofs.lemmas.List.{map-append}
 use Rattle.std.proofs.lemmas.List.Elements.{All-nil, All-cons, All-head, All-tail, All-append}
-use Rattle.sk_profile_code.specs.declared.saying.Row.{Row as RowOfCode}
-use Rattle.sk_profile_code.specs.Sayings.{Arm, Saying}
-use Rattle.sk_profile_code.specs.Rows.{saying_in}
-use Rattle.sk_profile_code.specs.declared.saying.Saying.{Saying as SayingOfCode}
-use Rattle.sk_profile_code.specs.Views.{saying_of, row_of, IsSayingOfCode, IsRowOfCode, AreRising, AreRows}
+use Rattle.sk_profile.specs.declared.saying.Row.{Row as RowOfCode}
+use Rattle.sk_profile.specs.Sayings.{Arm, Saying}
+use Rattle.sk_profile.specs.CodeRows.{saying_in}
+use Rattle.sk_profile.specs.declared.saying.Saying.{Saying as SayingOfCode}
+use Rattle.sk_profile.specs.CodeViews.{saying_of, row_of, IsSayingOfCode, IsRowOfCode, AreRising, AreRows}
 use Rattle.sk_profile.specs.declared.profile.Rule.{Rule as RuleOfCode}
 use Rattle.sk_profile.specs.declared.profile.Profile.{Profile as ProfileOfCode}
 use Rattle.sk_profile.specs.Profiles.{Profile, plain_rule, arms_for, arm_of_rule, saying_of_rules, saying_for, always, is_x32, no_call, greater, greatest, has_x32_bit, is_unknown}

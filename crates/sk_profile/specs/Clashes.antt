@@ -3,11 +3,11 @@
 use Rattle.std.specs.Prelude.{ℕ, ◌≡◌, ◌+◌, ◌-◌, ◌^◌, ◌<◌, ◌==◌, ◌&&◌, ◌||◌, not, nat_lt, bit_and, Bool, true, false, if◌then◌else◌, List, [], ◌∷◌, slice_get, Option, Some, None, Contains}
 use Rattle.std.specs.List.{list_any}
 use Rattle.sk_insn.specs.declared.record.Record.{Record}
-use Rattle.sk_profile_code.specs.declared.condition.Condition.{Condition}
-use Rattle.sk_profile_code.specs.declared.condition.Test.{Test}
-use Rattle.sk_profile_code.specs.declared.condition.Test.TheVariants.{Is, IsNot, Below, AtMost, Above, AtLeast, Masked}
-use Rattle.sk_profile_code.specs.Means.{IsCall}
-use Rattle.sk_profile_code.specs.Sayings.{Arm, compares, all_hold}
+use Rattle.sk_profile.specs.declared.condition.Condition.{Condition}
+use Rattle.sk_profile.specs.declared.condition.Test.{Test}
+use Rattle.sk_profile.specs.declared.condition.Test.TheVariants.{Is, IsNot, Below, AtMost, Above, AtLeast, Masked}
+use Rattle.sk_profile.specs.Means.{IsCall}
+use Rattle.sk_profile.specs.Sayings.{Arm, compares, all_hold}
 use Rattle.sk_profile.specs.Profiles.{Profile, saying_for}
 
 -- ---- two conditions on one argument

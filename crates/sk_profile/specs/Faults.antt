@@ -1,9 +1,9 @@
 -- Why a profile has no filter.
 use Rattle.std.specs.Prelude.{ℕ, ◌≡◌, ◌&&◌, nat_lt, nat_le, Bool, false, List, length, slice_get, Some, ⊤}
 use Rattle.std.specs.List.{list_all}
-use Rattle.sk_profile_code.specs.declared.build.CodeFault.{CodeFault}
-use Rattle.sk_profile_code.specs.declared.build.CodeFault.TheVariants as code
-use Rattle.sk_profile_code.specs.declared.condition.Condition.{Condition}
+use Rattle.sk_profile.specs.declared.build.CodeFault.{CodeFault}
+use Rattle.sk_profile.specs.declared.build.CodeFault.TheVariants as code
+use Rattle.sk_profile.specs.declared.condition.Condition.{Condition}
 use Rattle.sk_profile.specs.declared.fault.ProfileFault.{ProfileFault}
 use Rattle.sk_profile.specs.declared.fault.ProfileFault.TheVariants.{Rule as WrongRule, Clashes, TooLong, Memory}
 use Rattle.sk_profile.specs.Clashes.{MayClash}

@@ -1,3 +1,10 @@
+pub mod Sayings
+pub mod Code
+pub mod Asking
+pub mod Means
+pub mod CodeRows
+pub mod CodeViews
+pub mod WorkedCode
 pub mod Profiles
 pub mod Views
 pub mod Rows

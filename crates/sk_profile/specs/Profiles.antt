@@ -4,8 +4,8 @@
 -- without the first counts.
 use Rattle.std.specs.Prelude.{ℕ, ◌/◌, ◌%◌, ◌^◌, ◌&&◌, ◌==◌, nat_le, nat_lt, Bool, true, false, if◌then◌else◌, List, [], ◌∷◌, filter, find, map, Option, Some, None}
 use Rattle.sk_insn.specs.declared.record.Record.{Record}
-use Rattle.sk_profile_code.specs.declared.condition.Condition.{Condition}
-use Rattle.sk_profile_code.specs.Sayings.{Arm, Saying, said}
+use Rattle.sk_profile.specs.declared.condition.Condition.{Condition}
+use Rattle.sk_profile.specs.Sayings.{Arm, Saying, said}
 
 -- `action` with its `errnoRet` as a filter's value, for one number of its `names`
 pub record Rule : Type 0 where

@@ -1,11 +1,11 @@
 -- Rows of what is said of the numbers of calls.
 use Rattle.std.specs.Prelude.{ℕ, ◌≡◌, ◌^◌, ◌<◌, ◌≤◌, List, map, length, All}
-use Rattle.sk_profile_code.specs.declared.condition.Condition.{Condition}
-use Rattle.sk_profile_code.specs.declared.saying.Row.{Row}
-use Rattle.sk_profile_code.specs.Sayings.{Saying}
-use Rattle.sk_profile_code.specs.Code.{filter_code}
-use Rattle.sk_profile_code.specs.Rows.{saying_in}
-use Rattle.sk_profile_code.specs.Views.{saying_of, row_of, IsOverlong}
+use Rattle.sk_profile.specs.declared.condition.Condition.{Condition}
+use Rattle.sk_profile.specs.declared.saying.Row.{Row}
+use Rattle.sk_profile.specs.Sayings.{Saying}
+use Rattle.sk_profile.specs.Code.{filter_code}
+use Rattle.sk_profile.specs.CodeRows.{saying_in}
+use Rattle.sk_profile.specs.CodeViews.{saying_of, row_of, IsOverlong}
 use Rattle.sk_profile.specs.declared.profile.Profile.{Profile as ProfileOfCode}
 use Rattle.sk_profile.specs.declared.profile.Rule.{Rule}
 use Rattle.sk_profile.specs.declared.rows.Rows.{Rows}

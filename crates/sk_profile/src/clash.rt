@@ -1,11 +1,12 @@
 //! Rules with conditions that may fit one call and say different things of it.
 ghost use Rattle.std.specs.Prelude.{◌≡◌, map, true, false, IfSome, IfNone};
-ghost use Rattle.sk_profile_code.specs.Views.{arm_of};
+ghost use Rattle.sk_profile.specs.CodeViews.{arm_of};
 ghost use Rattle.sk_profile.specs.Clashes.{range_of, ranges_apart, not_met, masks_apart, excludes, told_apart, may_clash, never_clash, IsClashAt, MayClash};
-ghost use Rattle.sk_profile_code.specs.Sayings.{compares};
+ghost use Rattle.sk_profile.specs.Sayings.{compares};
 ghost use Rattle.std.specs.List.{list_any};
 
-use sk_profile_code::{Arm, Condition, Test};
+use crate::condition::{Condition, Test};
+use crate::saying::Arm;
 
 // The places of two arms that may fit one call and have different values, if there are such.
 pub(crate) fn clash(arms: &[Arm]) -> Option<(usize, usize)>

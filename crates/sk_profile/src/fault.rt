@@ -1,5 +1,5 @@
 //! Why a profile has no filter.
-use sk_profile_code::CodeFault;
+use crate::build::CodeFault;
 use std::alloc::{AllocError, AllocFailed};
 
 /// A number, and the places of two rules among those for the number.

@@ -6,9 +6,9 @@ ghost use Rattle.sk_insn.specs.Actions.{allow};
 ghost use Rattle.sk_insn.specs.Record.{IsNative};
 ghost use Rattle.sk_interp.specs.Meaning.{meaning_of};
 ghost use Rattle.sk_interp.specs.Walk.{walks};
-ghost use Rattle.sk_profile_code.specs.Code.{filter_code};
-ghost use Rattle.sk_profile_code.specs.Means.{IsCall, Gives};
-ghost use Rattle.sk_profile_code.specs.Sayings.{Tree, AlwaysSays};
+ghost use Rattle.sk_profile.specs.Code.{filter_code};
+ghost use Rattle.sk_profile.specs.Means.{IsCall, Gives};
+ghost use Rattle.sk_profile.specs.Sayings.{Tree, AlwaysSays};
 ghost use Rattle.sk_profile.specs.Clashes.{IsClear};
 ghost use Rattle.sk_profile.specs.declared.fault.ProfileFault.TheVariants.{TooLong};
 ghost use Rattle.sk_profile.specs.Faults.{IsFaultOf};
@@ -16,12 +16,12 @@ ghost use Rattle.sk_profile.specs.Rows.{HasLongTree};
 ghost use Rattle.sk_profile.specs.Profiles.{said_by, saying_for};
 ghost use Rattle.sk_profile.specs.Views.{profile_of};
 
+use crate::build::filter;
 use crate::fault::ProfileFault;
 use crate::judge::wrong_rule;
 use crate::profile::Profile;
 use crate::rows::{Rows, rows_of};
 use sk_insn::Insn;
-use sk_profile_code::filter;
 use std::alloc::Global;
 
 /// The filter that answers to every call what the profile says, and its value for no call to every other architecture.

@@ -1,14 +1,14 @@
 //! Which rules a profile may have.
 ghost use Rattle.std.specs.Prelude.{◌≡◌, nat_lt, map, All, IfSome, IfNone};
 ghost use Rattle.std.specs.List.{list_all};
-ghost use Rattle.sk_profile_code.specs.declared.condition.Condition.{Condition};
+ghost use Rattle.sk_profile.specs.declared.condition.Condition.{Condition};
 ghost use Rattle.sk_profile.specs.Faults.{is_good, IsWrongAt};
 ghost use Rattle.sk_profile.specs.Rows.{IsGood};
 ghost use Rattle.sk_profile.specs.Views.{rule_of};
 
+use crate::condition::Condition;
 use crate::profile::Rule;
 use crate::rows::NUMBERS;
-use sk_profile_code::Condition;
 
 /// The place of the first rule that is for no call of x86-64, or has conditions that no call can be asked about.
 pub fn wrong_rule(rules: &[Rule]) -> Option<usize>

@@ -1,16 +1,26 @@
-//! What a profile says of every call, and the filter that answers so.
+//! What a profile says of every call, and the filter that answers so: from what the profile says of each number to the
+//! instructions of a filter that says the same of every call.
 #![tactic(auto)]
 
+mod build;
 mod clash;
+mod condition;
+mod emit;
 mod fault;
 mod filter;
+mod instructions;
 mod judge;
 pub mod laws;
+mod pieces;
 mod profile;
 mod rows;
+mod said;
 mod saying;
 mod stub;
+mod weights;
 
+pub use condition::{Condition, Test};
 pub use fault::{Clash, ProfileFault};
 pub use filter::profile_filter;
 pub use profile::{Profile, Rule};
+pub use weights::OFTEN;

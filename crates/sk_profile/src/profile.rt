@@ -1,5 +1,5 @@
 //! A profile, once its names are numbers.
-use sk_profile_code::Condition;
+use crate::condition::Condition;
 
 /// The value for the calls with one number whose arguments meet all conditions.
 #[derive(Debug, Drop)]

@@ -1,8 +1,8 @@
 //! The numbers of calls in rows of which the same is said.
 ghost use Rattle.std.specs.Prelude.{ℕ, ◌≡◌, ◌≤◌, ◌<◌, ◌+◌, ◌^◌, nat_le, if◌then◌else◌, map, All, length, ◌≢◌, IfOk, IfErr, OnOk, IsTrue};
-ghost use Rattle.sk_profile_code.specs.declared.saying.Row.{Row};
-ghost use Rattle.sk_profile_code.specs.Rows.{saying_in};
-ghost use Rattle.sk_profile_code.specs.Views.{saying_of, row_of, AreRows, IsSayingOfCode};
+ghost use Rattle.sk_profile.specs.declared.saying.Row.{Row};
+ghost use Rattle.sk_profile.specs.CodeRows.{saying_in};
+ghost use Rattle.sk_profile.specs.CodeViews.{saying_of, row_of, AreRows, IsSayingOfCode};
 ghost use Rattle.sk_profile.specs.Clashes.{AreClear, IsClear};
 ghost use Rattle.sk_profile.specs.declared.fault.ProfileFault.TheVariants.{TooLong};
 ghost use Rattle.sk_profile.specs.Faults.{IsFaultOf};
@@ -13,9 +13,9 @@ ghost use Rattle.sk_profile.specs.Rows.{said_at, StartBelow, AreGood};
 use crate::clash::clash;
 use crate::fault::{Clash, ProfileFault};
 use crate::profile::Profile;
-use crate::saying::{plain, saying};
+use crate::said::{plain, saying};
+use crate::saying::{Row, Saying};
 use crate::stub::{NO_CALL, greatest, is_unknown};
-use sk_profile_code::{Row, Saying};
 use std::alloc::{AllocError, Global};
 
 /// Calls of x86-64 have lower numbers.

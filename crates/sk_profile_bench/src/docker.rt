@@ -4,8 +4,7 @@ ghost use Rattle.std.specs.Prelude.{◌≡◌, ◌∷◌, []};
 ghost use Rattle.sk_insn.specs.Record.{native};
 
 use sk_insn::{ALLOW, Record};
-use sk_profile::{Profile, Rule};
-use sk_profile_code::{Condition, Test};
+use sk_profile::{Condition, Profile, Rule, Test};
 use std::alloc::{AllocError, Global};
 
 /// SCMP_ACT_ERRNO with EPERM, its default.

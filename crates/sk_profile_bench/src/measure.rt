@@ -3,7 +3,7 @@ use crate::docker::call;
 use sk_check::Checked;
 use sk_insn::Record;
 use sk_interp::{run, walk};
-use sk_profile_code::OFTEN;
+use sk_profile::OFTEN;
 use std::fmt;
 
 /// Numbers from here on up to the last but one are of the x32 ABI, and no calls of x86-64.

@@ -12,7 +12,7 @@ use Rattle.sk_profile.specs.declared.fault.ProfileFault.{ProfileFault}
 use Rattle.sk_profile.specs.declared.fault.ProfileFault.TheVariants.{Rule as WrongRule, Clashes as ClashesOfRules}
 use Rattle.sk_profile.specs.Faults.{is_good, IsWrongAt, IsFaultOf}
 use Rattle.sk_profile.specs.Profiles.{Rule, Profile, saying_for}
-use Rattle.sk_profile_code.specs.Sayings.{Arm}
+use Rattle.sk_profile.specs.Sayings.{Arm}
 use Rattle.sk_profile_json.specs.declared.context.Context.{Context}
 use Rattle.sk_profile_json.specs.Origins.{HasOrigins}
 use Rattle.sk_profile_json.specs.Wholes.{profile_in}

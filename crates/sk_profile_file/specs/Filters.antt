@@ -6,9 +6,9 @@ use Rattle.sk_insn.specs.Instructions.{image_instructions}
 use Rattle.sk_insn.specs.Record.{IsNative}
 use Rattle.sk_check.specs.Valid.{IsValid}
 use Rattle.sk_interp.specs.Meaning.{meaning_of}
-use Rattle.sk_profile_code.specs.Code.{filter_code}
-use Rattle.sk_profile_code.specs.Means.{AnswersOthers, IsCall, Gives}
-use Rattle.sk_profile_code.specs.Sayings.{Tree}
+use Rattle.sk_profile.specs.Code.{filter_code}
+use Rattle.sk_profile.specs.Means.{AnswersOthers, IsCall, Gives}
+use Rattle.sk_profile.specs.Sayings.{Tree}
 use Rattle.sk_profile.specs.Profiles.{Profile, said_by}
 
 -- who reads the bytes gets a valid program that answers to every call what the profile says of it, and what is no call

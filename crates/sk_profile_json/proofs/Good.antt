@@ -9,7 +9,7 @@ use Rattle.json.specs.Json.{Json}
 use Rattle.sk_call_names.proofs.Places.{at as place_in, is_at}
 use Rattle.sk_call_names.specs.declared.x86_64.names.TheConstants.{EARLY, LATE}
 use Rattle.sk_call_names.specs.X86_64.{number_named}
-use Rattle.sk_profile_code.specs.declared.condition.Condition.{Condition}
+use Rattle.sk_profile.specs.declared.condition.Condition.{Condition}
 use Rattle.sk_profile.specs.Faults.{is_good}
 use Rattle.sk_profile.specs.Profiles.{Rule, Profile}
 use Rattle.sk_profile_json.specs.declared.conditions.WrongArgument.{WrongArgument}

@@ -9,7 +9,7 @@ use Rattle.json.specs.Json.{Json}
 use Rattle.json.specs.Value.{value_view}
 use Rattle.json.specs.declared.value.Value.{Value}
 use Rattle.sk_call_names.specs.X86_64.{number_named}
-use Rattle.sk_profile_code.specs.declared.condition.Condition.{Condition}
+use Rattle.sk_profile.specs.declared.condition.Condition.{Condition}
 use Rattle.sk_profile.specs.Profiles.{Rule, Profile, is_for, is_unknown, is_x32, arm_of_rule, arms_for, plain_rule, settled, saying_for}
 use Rattle.sk_profile_json.specs.declared.conditions.WrongArgument.{WrongArgument}
 use Rattle.sk_profile_json.specs.declared.context.Context.{Context}

@@ -4,9 +4,9 @@
 use Rattle.std.specs.Prelude.{ℕ, ◌==◌, ◌-◌, ◌^◌, bit_and, if◌then◌else◌, List, [], ◌∷◌, codes, Option, Some, None, Result, Ok, Err, unwrap_or}
 use Rattle.std.specs.Str.{bytes_eq}
 use Rattle.json.specs.Json.{Json}
-use Rattle.sk_profile_code.specs.declared.condition.Condition.{Condition}
-use Rattle.sk_profile_code.specs.declared.condition.Test.{Test}
-use Rattle.sk_profile_code.specs.declared.condition.Test.TheVariants.{Is, IsNot, Below, AtMost, Above, AtLeast, Masked}
+use Rattle.sk_profile.specs.declared.condition.Condition.{Condition}
+use Rattle.sk_profile.specs.declared.condition.Test.{Test}
+use Rattle.sk_profile.specs.declared.condition.Test.TheVariants.{Is, IsNot, Below, AtMost, Above, AtLeast, Masked}
 use Rattle.sk_profile_json.specs.declared.fault.Field.{Field}
 use Rattle.sk_profile_json.specs.declared.fault.Field.TheVariants as field
 use Rattle.sk_profile_json.specs.declared.fault.Wrong.{Wrong}

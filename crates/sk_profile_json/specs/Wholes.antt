@@ -6,7 +6,7 @@ use Rattle.std.specs.Option.{IsSomeAnd}
 use Rattle.json.specs.Json.{Json, document}
 use Rattle.json.specs.Strict.{HasUniqueKeys}
 use Rattle.sk_insn.specs.declared.action.Action.{Action}
-use Rattle.sk_profile_code.specs.declared.condition.Condition.{Condition}
+use Rattle.sk_profile.specs.declared.condition.Condition.{Condition}
 use Rattle.sk_profile.specs.Faults.{is_good}
 use Rattle.sk_profile.specs.Profiles.{Rule, Profile}
 use Rattle.sk_profile_json.specs.declared.conditions.WrongArgument.{WrongArgument}

@@ -3,9 +3,9 @@ use Rattle.std.specs.Prelude.{ℕ, ◌≡◌, Bool, true, false, List, [], ◌�
 use Rattle.std.specs.Borrow.{Bor}
 use Rattle.std.specs.Option.{option_map}
 use Rattle.json.specs.Json.{Json, document, null, string, number, array, object, Items, no_items, item, Members, no_members, member}
-use Rattle.sk_profile_code.specs.declared.condition.Condition.{Condition}
-use Rattle.sk_profile_code.specs.declared.condition.Test.{Test}
-use Rattle.sk_profile_code.specs.declared.condition.Test.TheVariants.{Is, Above, Masked}
+use Rattle.sk_profile.specs.declared.condition.Condition.{Condition}
+use Rattle.sk_profile.specs.declared.condition.Test.{Test}
+use Rattle.sk_profile.specs.declared.condition.Test.TheVariants.{Is, Above, Masked}
 use Rattle.sk_profile.specs.Profiles.{Rule, Profile}
 use Rattle.sk_profile_json.specs.declared.context.Context.{Context}
 use Rattle.sk_profile_json.specs.declared.context.Kernel.{Kernel}

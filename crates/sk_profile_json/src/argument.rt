@@ -6,7 +6,7 @@ ghost use Rattle.sk_profile_json.specs.Arguments.{condition_of, comparison_in, o
 use crate::fault::{Field, Wrong};
 use crate::fields::{number, text, wrong_keys};
 use json::Value;
-use sk_profile_code::{Condition, Test};
+use sk_profile::{Condition, Test};
 
 /// The fields that an argument may have.
 const FIELDS: [Field; 4] = [Field::Index, Field::Value, Field::ValueTwo, Field::Op];

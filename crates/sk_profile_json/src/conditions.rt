@@ -9,7 +9,7 @@ ghost use Rattle.sk_profile_json.specs.Arguments.{condition_of};
 use crate::argument::condition;
 use crate::fault::Wrong;
 use json::Value;
-use sk_profile_code::Condition;
+use sk_profile::Condition;
 use std::alloc::{AllocError, Global};
 
 /// What is wrong with an argument, and its number from 0.

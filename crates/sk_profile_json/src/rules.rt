@@ -16,8 +16,7 @@ use crate::entry::{Entry, entry_of};
 use crate::fault::{Fault, Field, Place, ReadFault, Wrong};
 use json::Value;
 use sk_call_names::x86_64::number;
-use sk_profile::Rule;
-use sk_profile_code::Condition;
+use sk_profile::{Condition, Rule};
 use std::alloc::{AllocError, Global};
 
 /// The rules of these entries, in their order.

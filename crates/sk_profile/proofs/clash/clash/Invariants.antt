@@ -1,5 +1,5 @@
 use Rattle.std.proofs.Common.{◌≡◌, ◌+◌, length, drop, map}
-use Rattle.sk_profile_code.specs.Views.{arm_of}
+use Rattle.sk_profile.specs.CodeViews.{arm_of}
 use Rattle.sk_profile.specs.Clashes.{never_clash}
 use Rattle.sk_profile.proofs.clash.clash.Given as goal
 

@@ -1,5 +1,5 @@
 use Rattle.std.proofs.Common.{arith, sym, ◌∙◌}
-use Rattle.sk_profile_code.specs.Views.{arm_of}
+use Rattle.sk_profile.specs.CodeViews.{arm_of}
 use Rattle.sk_profile.proofs.Places.{here, drop_more, none_more}
 use Rattle.sk_profile.proofs.clash.clash_with.Goals as goal
 

@@ -1,6 +1,6 @@
 use Rattle.std.proofs.Common.{◌≡◌, ◌+◌, length, drop, map}
 use Rattle.std.specs.List.{list_any}
-use Rattle.sk_profile_code.specs.Views.{arm_of}
+use Rattle.sk_profile.specs.CodeViews.{arm_of}
 use Rattle.sk_profile.specs.Clashes.{may_clash}
 use Rattle.sk_profile.proofs.clash.clash_with.Given as goal
 

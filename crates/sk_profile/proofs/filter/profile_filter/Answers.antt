@@ -1,10 +1,10 @@
 use Rattle.std.proofs.Common.{◌≡◌, List, refl, subst}
 use Rattle.std.specs.Prelude.{Result, Ok, Err, IfErr, IsErrAnd}
-use Rattle.sk_profile_code.specs.declared.build.CodeFault.{CodeFault}
-use Rattle.sk_profile_code.specs.declared.build.CodeFault.TheVariants as code
-use Rattle.sk_profile_code.specs.declared.saying.Row.{Row}
-use Rattle.sk_profile_code.specs.Code.{filter_code}
-use Rattle.sk_profile_code.specs.Views.{IsOverlong}
+use Rattle.sk_profile.specs.declared.build.CodeFault.{CodeFault}
+use Rattle.sk_profile.specs.declared.build.CodeFault.TheVariants as code
+use Rattle.sk_profile.specs.declared.saying.Row.{Row}
+use Rattle.sk_profile.specs.Code.{filter_code}
+use Rattle.sk_profile.specs.CodeViews.{IsOverlong}
 use Rattle.sk_profile.specs.declared.fault.ProfileFault.{ProfileFault}
 use Rattle.sk_profile.specs.declared.fault.ProfileFault.TheVariants.{TooLong}
 use Rattle.sk_profile.specs.Faults.{of_code}

@@ -1,5 +1,5 @@
 use Rattle.std.proofs.Common.{◌≡◌, ◌-◌, List, length, Some, slice_get, sym, subst}
-use Rattle.sk_profile_code.specs.declared.saying.Row.{Row}
+use Rattle.sk_profile.specs.declared.saying.Row.{Row}
 use Rattle.sk_profile.proofs.Starts.{last_said}
 use Rattle.sk_profile.proofs.rows.last.Goals as goal
 

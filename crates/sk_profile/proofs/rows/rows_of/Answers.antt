@@ -1,6 +1,6 @@
 use Rattle.std.proofs.Common.{arith, nat_le, if◌then◌else◌, ap, subst, ◌∙◌}
-use Rattle.sk_profile_code.specs.Sayings.{Saying}
-use Rattle.sk_profile_code.specs.Views.{saying_of}
+use Rattle.sk_profile.specs.Sayings.{Saying}
+use Rattle.sk_profile.specs.CodeViews.{saying_of}
 use Rattle.sk_profile.specs.Rows.{said_at}
 use Rattle.sk_profile.specs.Clashes.{AreClear}
 use Rattle.sk_profile.specs.Profiles.{always, is_unknown, no_call, saying_for}

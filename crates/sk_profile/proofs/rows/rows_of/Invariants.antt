@@ -1,5 +1,5 @@
 use Rattle.std.proofs.Common.{ℕ, ◌≡◌, ◌+◌, ◌<◌, ◌≤◌, length}
-use Rattle.sk_profile_code.specs.Views.{AreRows}
+use Rattle.sk_profile.specs.CodeViews.{AreRows}
 use Rattle.sk_profile.specs.Clashes.{AreClear}
 use Rattle.sk_profile.specs.Profiles.{saying_for}
 use Rattle.sk_profile.specs.Views.{profile_of}

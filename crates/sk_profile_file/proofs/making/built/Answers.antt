@@ -2,8 +2,8 @@ use Rattle.std.proofs.Common.{◌≡◌, List, length, ◌<◌, Ok, ap, subst, s
 use Rattle.json.specs.Value.{value_view}
 use Rattle.sk_insn.specs.declared.insn.Insn.{Insn}
 use Rattle.sk_insn.specs.Instructions.{image_instructions}
-use Rattle.sk_profile_code.specs.Means.{AnswersOthers}
-use Rattle.sk_profile_code.proofs.Trees.{code_answers_others}
+use Rattle.sk_profile.specs.Means.{AnswersOthers}
+use Rattle.sk_profile.proofs.Trees.{code_answers_others}
 use Rattle.sk_profile.specs.Views.{profile_of}
 use Rattle.sk_profile_file.proofs.Built.{no_wrong_rule, clash_has_origins}
 use Rattle.sk_profile_file.proofs.making.built.Goals as goal

@@ -1,0 +1,191 @@
+//! The instructions of what is said of the calls of one number. Arms that ask one argument for numbers with the same upper
+//! half, and have the same value, test that half once.
+ghost use Rattle.std.specs.Prelude.{◌≡◌, ◌+◌, ◌<◌, ◌≤◌, ◌++◌, ◌∷◌, [], length, map, take, drop, OnOk, IfOk, IfSome, IsTrue, All};
+ghost use Rattle.sk_insn.specs.declared.operation.Comparison.TheVariants.{Equal};
+ghost use Rattle.sk_profile.specs.declared.saying.Arm.{Arm};
+ghost use Rattle.sk_profile.specs.Sayings.{asks};
+ghost use Rattle.sk_profile.specs.Code.{branch, high, low, lows_code, passed_over};
+ghost use Rattle.sk_profile.specs.CodeViews.{arm_of, saying_of, asked_for, Asks, PutsPiece, PutsPieces, PutsSaying, IsArmOfCode, IsSayingOfCode};
+
+use crate::condition::Test;
+use crate::emit::push_conditions;
+use crate::instructions::{answer, branch, load};
+use crate::saying::{Arm, Saying};
+use sk_insn::{Comparison, Insn};
+use std::alloc::AllocError;
+
+// At most so many arms share what they ask: a jump reaches over their tests.
+const MOST_JOINED: usize = 200;
+
+// An argument that is compared with a number for equality, and the value where it is equal.
+#[derive(Clone, Copy)]
+struct Question {
+    index: u8,
+    number: u64,
+    value: u32,
+}
+
+// Asks for the lower halves of numbers, of which the first stands before the others.
+fn push_lows(code: &mut Vec<Insn>, first: u64, others: &[Arm]) -> Result<(), AllocError>
+    requires few { length others.now ≤ MOST_JOINED }
+    ensures code { OnOk result (code.new.items ≡ code.old.items ++ lows_code (first ∷ map asked_for others.now)) }
+{
+    code.push(ask_low(first, others))?;
+    let mut left = others;
+    while let Some((arm, rest)) = left.split_first() {
+        code.push(ask_low(number_of(arm), rest))?;
+        left = rest;
+    }
+    Ok(())
+}
+
+// Asks for the lower half of a number, before others.
+fn ask_low(number: u64, others: &[Arm]) -> Insn
+    requires few { length others.now ≤ MOST_JOINED }
+    ensures insn { result ≡ branch Equal (low number) (length others.now) (passed_over (map asked_for others.now)) }
+{
+    branch(
+        Comparison::Equal,
+        (number % 0x1_0000_0000) as u32,
+        others.len() as u8,
+        u8::from(others.is_empty()),
+    )
+}
+
+// The number that the arm's condition has.
+fn number_of(arm: &Arm) -> u64
+    ensures number { result ≡ asked_for arm.now }
+{
+    match arm.conditions.first() {
+        Some(condition) => condition.value,
+        None => 0,
+    }
+}
+
+// Which argument an arm with one condition compares for equality, with which number, and its value.
+fn asked_by(arm: &Arm) -> Option<Question>
+    ensures asks { IfSome result (λ it. arm_of arm.now ≡ asks it.index it.value it.number) }
+{
+    let condition = arm.conditions.first()?;
+    if arm.conditions.len() != 1 || condition.test != Test::Is {
+        return None;
+    }
+    Some(Question {
+        index: condition.index,
+        number: condition.value,
+        value: arm.value,
+    })
+}
+
+// Whether the arm asks the same argument for a number with the same upper half, and has the same value.
+fn is_like(first: Question, arm: &Arm) -> bool
+    ensures like { IsTrue result → Asks first.index first.value (high first.number) arm.now }
+{
+    match asked_by(arm) {
+        Some(other) => {
+            first.index == other.index
+                && first.value == other.value
+                && first.number / 0x1_0000_0000 == other.number / 0x1_0000_0000
+        }
+        None => false,
+    }
+}
+
+// How many of the arms, from the first of them on, are like that: at most so many as are joined.
+fn alike(first: Question, arms: &[Arm]) -> usize
+    ensures inside { result ≤ length arms.now }
+    ensures few { result ≤ MOST_JOINED }
+    ensures like { All (Asks first.index first.value (high first.number)) (take result arms.now) }
+{
+    for (at, arm) in arms.iter().enumerate() {
+        if at == MOST_JOINED || !is_like(first, arm) {
+            return at;
+        }
+    }
+    arms.len()
+}
+
+// An arm and those behind it that share what it asks.
+fn push_joined(code: &mut Vec<Insn>, first: Question, others: &[Arm]) -> Result<(), AllocError>
+    requires index { first.index < 6 }
+    requires few { length others.now ≤ MOST_JOINED }
+    requires like { All (Asks first.index first.value (high first.number)) others.now }
+    ensures piece { OnOk result (PutsPiece code.old.items code.new.items
+        (asks first.index first.value first.number ∷ map arm_of others.now)) }
+{
+    let high = (first.number / 0x1_0000_0000) as u32;
+    code.push(load(20 + 8 * u32::from(first.index)))?;
+    code.push(branch(Comparison::Equal, high, 0, 3 + others.len() as u8))?;
+    code.push(load(16 + 8 * u32::from(first.index)))?;
+    push_lows(code, first.number, others)?;
+    code.push(answer(first.value))?;
+    Ok(())
+}
+
+// An arm by itself.
+fn push_single(code: &mut Vec<Insn>, arm: &Arm) -> Result<(), AllocError>
+    requires arm { IsArmOfCode arm.now }
+    ensures piece { OnOk result (PutsPiece code.old.items code.new.items (arm_of arm.now ∷ [])) }
+{
+    push_conditions(code, &arm.conditions, 1)?;
+    code.push(answer(arm.value))?;
+    Ok(())
+}
+
+// The first arm, with those of the rest that it is joined with: so many.
+fn push_piece(code: &mut Vec<Insn>, arm: &Arm, rest: &[Arm]) -> Result<usize, AllocError>
+    requires arm { IsArmOfCode arm.now }
+    ensures inside { IfOk result (λ joined. joined ≤ length rest.now) }
+    ensures piece { IfOk result (λ joined. PutsPiece code.old.items code.new.items
+        (arm_of arm.now ∷ map arm_of (take joined rest.now))) }
+{
+    let Some(first) = asked_by(arm) else {
+        push_single(code, arm)?;
+        return Ok(0);
+    };
+    let joined = alike(first, rest);
+    if joined == 0 {
+        push_single(code, arm)?;
+        return Ok(0);
+    }
+    push_joined(code, first, &rest[..joined])?;
+    Ok(joined)
+}
+
+// What the arms answer. What they leave stands behind.
+fn push_arms(code: &mut Vec<Insn>, arms: &[Arm]) -> Result<(), AllocError>
+    requires arms { All IsArmOfCode arms.now }
+    ensures pieces { OnOk result (PutsPieces code.old.items code.new.items (map arm_of arms.now)) }
+{
+    let mut left = arms;
+    while let Some((arm, rest)) = left.split_first() {
+        let joined = push_piece(code, arm, rest)?;
+        left = &rest[joined..];
+    }
+    Ok(())
+}
+
+// How many arms there are without those at the end that answer what is answered without them.
+fn needed(saying: &Saying) -> usize
+    ensures inside { result ≤ length saying.now.arms.items }
+    ensures rest { All (λ (arm : Arm). arm.value ≡ saying.now.otherwise) (drop result saying.now.arms.items) }
+    ensures none { All (λ (arm : Arm). arm.value ≡ saying.now.otherwise) saying.now.arms.items → result ≡ 0 }
+{
+    let mut count = 0;
+    for (at, arm) in saying.arms.iter().enumerate() {
+        if arm.value != saying.otherwise {
+            count = at + 1;
+        }
+    }
+    count
+}
+
+/// Appends the instructions of what is said of the calls of one number.
+pub fn push_saying(code: &mut Vec<Insn>, saying: &Saying) -> Result<(), AllocError>
+    requires arms { IsSayingOfCode saying.now }
+    ensures code { OnOk result (PutsSaying code.old.items code.new.items (saying_of saying.now)) }
+{
+    push_arms(code, &saying.arms[..needed(saying)])?;
+    code.push(answer(saying.otherwise))?;
+    Ok(())
+}
