@@ -1,4 +1,4 @@
-use sk_slots::Uses;
+use sk_table::Uses;
 use sk_world::Links;
 use std::test::Fail;
 

@@ -1,5 +1,5 @@
+use crate::first::first_process;
 use crate::scan::{Row, Sought, first_free, has_number, least_after, place};
-use sk_slots::first_process;
 use sk_world::{Body, INIT, Links, PROCESSES, Proc, ProcStore};
 use std::alloc::{AllocError, Global};
 use std::marker::Model;

@@ -5,7 +5,7 @@ ghost use Rattle.sk_world.specs.Numbers.{next_number};
 ghost use Rattle.sk_world.specs.World.{IsNext};
 ghost use Rattle.sk_table.specs.Rows.{Distinct, row_has_number, free_row, is_sought, is_sought_pid};
 
-use sk_slots::next_number;
+use crate::numbering::next_number;
 use sk_world::{LAST_PID, Proc};
 
 // How many numbers there are to be given, from 2 to the last.

@@ -7,10 +7,9 @@ use crate::world::assert_alive;
 use sk_creds::Errno;
 use sk_signal::number::SIGCHLD;
 use sk_signal::{Disposition, SigSet};
-use sk_slots::first_process;
 use sk_table::{
-    Body, INIT, LAST_PID, Life, Links, PROCESSES, Poll, ProcStore, Request, WaitOptions, Who, fork,
-    reap, reparent, wait_poll,
+    Body, INIT, LAST_PID, Life, Links, PROCESSES, Poll, ProcStore, Request, WaitOptions, Who,
+    first_process, fork, reap, reparent, wait_poll,
 };
 use std::alloc::{AllocError, Global};
 use std::process::Abort;

@@ -1,5 +1,0 @@
-pub mod Indexing
-pub mod Slotting
-pub mod Freely
-pub mod Writing
-pub mod Listing

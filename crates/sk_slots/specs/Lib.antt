@@ -1,5 +1,0 @@
-pub mod Weights
-pub mod Beside
-pub mod Free
-pub mod Slots
-pub mod SlotView

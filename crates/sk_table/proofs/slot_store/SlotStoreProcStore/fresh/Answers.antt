@@ -1,0 +1,32 @@
+use Rattle.std.proofs.Common.{◌≡◌, ◌∙◌, ◌≤◌, IsFalse, None, ap, subst, sym}
+use Rattle.sk_world.specs.declared.process.TheConstants.{LAST_PID}
+use Rattle.sk_world.specs.Numbers.{is_used, fresh_of}
+use Rattle.sk_world.specs.World.{at}
+use Rattle.sk_world.proofs.Fresh.{fresh_unused, fresh_absent, fresh_in_range}
+use Rattle.sk_table.specs.Slots.{Slotted}
+use Rattle.sk_table.specs.SlotView.{slotted_of}
+use Rattle.sk_table.proofs.Freely.{fresh_is}
+use Rattle.sk_table.proofs.slot_store.SlotStoreProcStore.fresh.Goals as goal
+
+pub returns-clause-fresh : goal.returns-clause-fresh
+returns-clause-fresh c =
+    c.first_free.ensures ∙ fresh_is (slotted_of c.self.inside).world _ c.self.invariant.beside.uses
+    ∙ ap (λ (s : Slotted). fresh_of s.world) c.self.view_is
+
+given : (s s' : Slotted) → s ≡ s' → 1 ≤ s.world.last → 1 ≤ s'.world.last
+given s s' = subst (λ (s : Slotted). 1 ≤ s.world.last)
+
+pub returns-clause-free : goal.returns-clause-free
+returns-clause-free c room =
+    let w = c.args.self.now.world in
+    subst (λ n. IsFalse (is_used w n)) (sym (returns-clause-fresh c)) (fresh_unused w room (given _ _ c.self.view_is c.self.invariant.given))
+
+pub returns-clause-absent : goal.returns-clause-absent
+returns-clause-absent c room =
+    let w = c.args.self.now.world in
+    subst (λ n. at w n ≡ None) (sym (returns-clause-fresh c)) (fresh_absent w room (given _ _ c.self.view_is c.self.invariant.given))
+
+pub returns-clause-fits : goal.returns-clause-fits
+returns-clause-fits c =
+    let w = c.args.self.now.world in
+    subst (λ n. (2 ≤ n) × (n ≤ LAST_PID)) (sym (returns-clause-fresh c)) (fresh_in_range w (given _ _ c.self.view_is c.self.invariant.given))

@@ -1,0 +1,49 @@
+use Rattle.std.proofs.Common.{◌≡◌, ◌∙◌, ℕ, ap, sym, subst, refl, arith, false, [], length, None, Some, count_by}
+use Rattle.std.specs.Option.{is_some}
+use Rattle.std.proofs.lemmas.Option.{none-some}
+use Rattle.sk_numbers.specs.Numbers.{contains}
+use Rattle.sk_world.specs.Processes.{none, get, store, count}
+use Rattle.sk_world.specs.World.{World}
+use Rattle.sk_table.specs.Beside.{IsBeside}
+use Rattle.sk_table.specs.Slots.{slot, in_slot, processes_from}
+use Rattle.sk_table.proofs.Slotting.{nothing_there}
+use Rattle.sk_table.proofs.slot_store.SlotStoreProcStore.new.Goals as goal
+use Rattle.sk_table.proofs.slot_store.SlotStoreProcStore.new.Goals.{In_ok-new}
+
+contains_none : (q : ℕ) → contains [] q ≡ false
+unfolding contains
+contains_none q = refl
+
+nothing : (c : In_ok-new) → processes_from c.in_ok-with_capacity.field-0 0 c.in_ok-with_capacity-2.field-0.items ≡ none
+nothing c = ap (processes_from c.in_ok-with_capacity.field-0 0) c.in_ok-with_capacity-2.ensures.items ∙ nothing_there c.in_ok-with_capacity.field-0
+
+pub invariant_of-store : goal.invariant_of-store
+invariant_of-store c =
+    let slots = c.in_ok-with_capacity.field-0 in
+    let table = c.in_ok-with_capacity-2.field-0 in
+    let index = c.in_ok-new.field-0 in
+    let empty : (q : ℕ) → slot table.items q ≡ None = λ q. ap (λ t. slot t q) c.in_ok-with_capacity-2.ensures.items in
+    let few = ap count (nothing c) in
+    record {
+      wide = omega (arith, c.in_ok-with_capacity-2.ensures.capacity);
+      narrow = omega (arith, ap length c.in_ok-with_capacity-2.ensures.items);
+      capacity = c.in_ok-with_capacity.ensures.capacity;
+      len = ap (count_by is_some) c.in_ok-with_capacity.ensures.empty ∙ sym few;
+      few = omega (arith, few);
+      live = λ q. ap (λ o. is_some (in_slot slots o)) (empty q) ∙ sym (ap is_some (empty q));
+      apart = λ p q i e _. absurd (none-some i (sym (empty p) ∙ e));
+      numbers = λ q. ap (λ s. contains s q) c.empty.ensures ∙ contains_none q ∙ sym (ap is_some (empty q));
+      beside = subst (λ m. IsBeside m index.children index.members index.uses) (sym (nothing c)) c.in_ok-new.ensures;
+      given = omega arith;
+    }
+
+pub put-requires-clause-room : goal.put-requires-clause-room
+put-requires-clause-room c = omega (arith, ap count (nothing c.before.before))
+
+pub put-requires-clause-free : goal.put-requires-clause-free
+put-requires-clause-free c = ap (λ m. get m 1) (nothing c.before.before)
+
+pub returns : goal.returns
+returns c = record {
+  opening = c.put.ensures ∙ (λ i. let w : World = record { procs = store (nothing c.before.before.before i) 1 (Some (c.first_process.ensures i)); last = 1 } in w);
+}

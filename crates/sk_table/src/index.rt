@@ -1,0 +1,63 @@
+ghost use Rattle.std.specs.Prelude.{◌≡◌, ◌<◌, ◌≤◌, None, Some, IfOk, IsTrue};
+ghost use Rattle.sk_world.specs.declared.process.Proc.{Proc};
+ghost use Rattle.sk_world.specs.declared.process.TheConstants.{LAST_PID, PROCESSES};
+ghost use Rattle.sk_world.specs.Processes.{Processes, none, get, store, count};
+ghost use Rattle.sk_world.specs.Rules.{is_within};
+ghost use Rattle.sk_table.specs.Beside.{IsBeside};
+
+use crate::uses::Uses;
+use sk_numbers::PairRow;
+use sk_world::Links;
+use std::alloc::{AllocError, Global};
+
+/// What leads from the links of processes back to their pids, and to the numbers that they use.
+#[derive(Drop)]
+pub struct Index {
+    /// Each process's parent beside its pid.
+    pub children: PairRow,
+    /// Each process's group beside its pid.
+    pub members: PairRow,
+    /// How often each number is used.
+    pub uses: Uses,
+}
+
+impl Index {
+    /// Of no process.
+    pub fn new(alloc: Global) -> Result<Index, AllocError>
+        ensures { IfOk result (λ index. IsBeside none index.children index.members index.uses) }
+    {
+        Ok(Index {
+            children: PairRow::new(alloc)?,
+            members: PairRow::new(alloc)?,
+            uses: Uses::new(alloc)?,
+        })
+    }
+
+    /// A process comes.
+    pub fn enter(&mut self, pid: u32, links: Links)
+        requires pid { pid ≤ LAST_PID }
+        requires within { IsTrue (is_within links) }
+        requires free { (procs : Processes) × IsBeside procs self.old.children self.old.members self.old.uses
+            × (get procs pid ≡ None) × (count procs < PROCESSES) }
+        ensures { (procs : Processes) (p : Proc) → p.links ≡ links → get procs pid ≡ None
+            → IsBeside procs self.old.children self.old.members self.old.uses
+            → IsBeside (store procs pid (Some p)) self.new.children self.new.members self.new.uses }
+    {
+        self.children.insert(links.parent, pid);
+        self.members.insert(links.group, pid);
+        self.uses.enter(pid, links);
+    }
+
+    /// A process goes.
+    pub fn leave(&mut self, pid: u32, links: Links)
+        requires { (procs : Processes) × (p : Proc) × IsBeside procs self.old.children self.old.members self.old.uses
+            × (get procs pid ≡ Some p) × (p.links ≡ links) }
+        ensures { (procs : Processes) (p : Proc) → p.links ≡ links → get procs pid ≡ Some p
+            → IsBeside procs self.old.children self.old.members self.old.uses
+            → IsBeside (store procs pid None) self.new.children self.new.members self.new.uses }
+    {
+        self.children.remove(links.parent, pid);
+        self.members.remove(links.group, pid);
+        self.uses.leave(pid, links);
+    }
+}
