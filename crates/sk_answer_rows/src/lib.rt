@@ -1,0 +1,8 @@
+//! Worked examples of what `ask` answers about filters: the text that `ask when` makes of small ones, and what the replay of
+//! a log says of its calls.
+#![tactic(auto)]
+
+#[cfg(test)]
+mod replays;
+#[cfg(test)]
+mod whens;
