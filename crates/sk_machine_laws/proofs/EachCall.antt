@@ -34,7 +34,7 @@ abbrev pub is_kill_row : Option Syscall → Bool
 is_kill_row (Some syscall.Kill) = true
 is_kill_row other = false
 
--- what a law may go by beside what the call comes to: whether it is fork(2) or kill(2), and what it makes of its
+-- what a law may go by beside what the call comes to: whether it is fork(2), or kill(2), and what it makes of its
 -- caller's authority
 pub record CallFacts : Type 0 where
   pub is_fork : Bool
@@ -56,7 +56,7 @@ changing r = record { is_fork = false; is_kill = false; authority = r }
 abbrev pub leaving : Body → CallFacts
 leaving body = changing (Ok (authority_of body))
 
--- what is to be shown of a caller's calls, so that it holds of each
+-- what is to be shown of a caller's calls, with what a law may go by, so that it holds of each
 pub record EachCall (images : GivenImages) (w : World) (pid : ℕ) (body : Body) (call : Record) (P : CallFacts → Performed → Type 0) : Type 0 where
   pub answers : (r : Result ℕ Errno) → P (leaving body) (asked w r)
   pub tells_signals : (set : Signals) → P (leaving body) (pending_signals w set)

@@ -1,5 +1,5 @@
 -- What each event does to authorities, and that they are those of the lines.
-use Rattle.std.proofs.Common.{◌≡◌, ◌≢◌, ◌∙◌, ℕ, ◌==◌, ◌&&◌, ap, sym, refl, subst, cond, not, Bool, true, false, IsTrue, List, [], ◌∷◌, ◌++◌, Option, None, Some, Result, Ok, Err}
+use Rattle.std.proofs.Common.{◌≡◌, ◌∙◌, ℕ, ◌==◌, ◌&&◌, ap, sym, refl, subst, cond, not, Bool, true, false, IsTrue, List, [], ◌∷◌, ◌++◌, Option, None, Some, Result, Ok, Err}
 use Rattle.std.specs.Option.{is_some, unwrap_or, option_to_list, option_map}
 use Rattle.std.specs.Result.{result_unwrap_or}
 use Rattle.std.proofs.lemmas.Bool.{false≢true, cond_both, and_parts, eqb-true, eqb-false, false_from_ne_true}
@@ -24,25 +24,18 @@ use Rattle.sk_world.proofs.Stored.{everywhere, at_other}
 use Rattle.sk_world_laws.proofs.Rights.{forced_rights, forked_rights}
 use Rattle.sk_world.specs.Sending.{forced}
 use Rattle.sk_world.proofs.KeptEnd.{alive_is_there}
-use Rattle.sk_session.specs.Sessions.{after_setpgid, after_setsid, group_asked, session_asked}
 use Rattle.sk_machine.specs.declared.event.Event.{Event}
 use Rattle.sk_machine.specs.declared.event.Event.TheVariants.{Call, Deliver, Resume, Fault}
-use Rattle.sk_machine.specs.declared.operation.PrctlOption.{PrctlOption}
-use Rattle.sk_machine.specs.declared.operation.PrctlOption.TheVariants as option
-use Rattle.sk_machine.specs.declared.operation.SeccompOperation.{SeccompOperation}
-use Rattle.sk_machine.specs.declared.operation.SeccompOperation.TheVariants as operation
 use Rattle.sk_calls.specs.declared.syscall.Syscall.{Syscall}
 use Rattle.sk_calls.specs.declared.syscall.Syscall.TheVariants as syscall
 use Rattle.sk_machine.specs.Events.{pid_of}
 use Rattle.sk_machine.specs.Given.{GivenImages}
 use Rattle.sk_calls.specs.Syscalls.{syscall_of}
 use Rattle.sk_calls.proofs.SyscallTable.{number_of-syscall_of}
-use Rattle.sk_machine.specs.Arguments.{register, low, signed, prctl_option_of, seccomp_operation_of}
-use Rattle.sk_machine.specs.Authority.{Authority, authority_of, with_authority, after_prctl, after_seccomp, authority_after}
+use Rattle.sk_machine.specs.Arguments.{register, low, signed}
+use Rattle.sk_machine.specs.Authority.{Authority, authority_of, with_authority, authority_after}
 use Rattle.sk_machine.specs.Performed.{Performed, authorises}
-use Rattle.sk_machine.specs.SignalCalls.{after_sigaction, after_sigprocmask, after_sigreturn}
-use Rattle.sk_machine.specs.Killing.{after_kill}
-use Rattle.sk_machine.specs.Performing.{executing, execve, forks, exit_status, no_new_privs_asked, subreaper_set, subreaper_asked, where_subreapers, with_subreaper, prctl, action_available, seccomp, row}
+use Rattle.sk_machine.specs.Performing.{executing, execve, forks, subreaper_set, subreaper_asked, where_subreapers, with_subreaper, row}
 use Rattle.sk_machine.specs.Delivering.{signal_for}
 use Rattle.sk_machine.specs.Machine.{Stepped, judged, happened, step_of, world_after}
 use Rattle.sk_machine.specs.Lines.{Line, Happening, is_fork, has_returned, line_before, calls_added, line_of, authority_after_calls, history_after}
@@ -71,10 +64,10 @@ fork_number nr =
 -- ---- one row
 -- whom a process comes from when a call of `pid`, a fork(2) or none, has come to this, and with which authority
 abbrev RowStep : World → ℕ → ℕ → (Authority → Authority) → Bool → Performed → Type 0
-RowStep w pid q f is_fork p =
-    CameBy (cond ((pid == q) && not (is_fork && has_returned q p.outcome)) f (λ a. a)) (at p.world q) (at w (cond (is_fork && has_returned q p.outcome) pid q))
+RowStep w pid q f forking p =
+    CameBy (cond ((pid == q) && not (forking && has_returned q p.outcome)) f (λ a. a)) (at p.world q) (at w (cond (forking && has_returned q p.outcome) pid q))
 
--- the same by what the call makes of the caller's own authority
+-- so it is with each change that makes of the caller's authority what the call makes of it
 abbrev OwnStep : World → ℕ → ℕ → Authority → CallFacts → Performed → Type 0
 OwnStep w pid q old facts p = (f : Authority → Authority) → f old ≡ result_unwrap_or facts.authority old → RowStep w pid q f facts.is_fork p
 
@@ -90,10 +83,12 @@ and_true true c is = is
 and_true false c is = refl
 
 module _ (w : World) (pid q : ℕ) (old : Authority) (own : HasAuthority w pid old) where
+  -- who comes from the caller comes from this authority
   caller_had : (forked : Bool) → IsTrue ((pid == q) && not forked) → HasAuthority w (cond forked pid q) old
   caller_had true is = own
   caller_had false is = subst (λ k. HasAuthority w k old) (eqb-true pid q (and_parts (pid == q) true is).0) own
 
+  -- a call that leaves the caller's authority, and gives a process that it has forked the same
   step_kept : (forked : Bool) (now : Option Proc) → Came now (at w (cond forked pid q)) → (f : Authority → Authority) → f old ≡ old
       → CameBy (cond ((pid == q) && not forked) f (λ a. a)) now (at w (cond forked pid q))
   step_kept forked now came f same =

@@ -39,25 +39,17 @@ use Rattle.sk_world.proofs.Ancestors.{new_parent_by}
 use Rattle.sk_world.proofs.KeptEnd.{handed_cases, handed_at, alive_is_there}
 use Rattle.sk_world_laws.proofs.Locality.{forked_touches, forked_child}
 use Rattle.sk_world.proofs.Fresh.{fresh_in_range, fresh_absent}
-use Rattle.sk_session.specs.Sessions.{after_setpgid, after_setsid, group_asked, session_asked}
 use Rattle.sk_machine.specs.declared.event.Event.{Event}
 use Rattle.sk_machine.specs.declared.event.Event.TheVariants.{Call, Deliver, Resume, Fault}
 use Rattle.sk_machine.specs.declared.answer.Reason.TheVariants.{Halted}
-use Rattle.sk_machine.specs.declared.operation.PrctlOption.{PrctlOption}
-use Rattle.sk_machine.specs.declared.operation.PrctlOption.TheVariants as option
-use Rattle.sk_machine.specs.declared.operation.SeccompOperation.{SeccompOperation}
-use Rattle.sk_machine.specs.declared.operation.SeccompOperation.TheVariants as operation
 use Rattle.sk_calls.specs.declared.syscall.Syscall.{Syscall}
-use Rattle.sk_calls.specs.declared.syscall.Syscall.TheVariants as syscall
 use Rattle.sk_machine.specs.Events.{pid_of}
 use Rattle.sk_machine.specs.Given.{GivenImages}
 use Rattle.sk_calls.specs.Syscalls.{syscall_of}
-use Rattle.sk_machine.specs.Arguments.{register, low, signed, prctl_option_of, seccomp_operation_of}
-use Rattle.sk_machine.specs.Authority.{Authority, with_authority, authority_of, after_prctl, after_seccomp}
+use Rattle.sk_machine.specs.Arguments.{register, low, signed}
+use Rattle.sk_machine.specs.Authority.{Authority, with_authority}
 use Rattle.sk_machine.specs.Performed.{Performed, authorises}
-use Rattle.sk_machine.specs.SignalCalls.{after_sigaction, after_sigprocmask, after_sigreturn}
-use Rattle.sk_machine.specs.Killing.{after_kill}
-use Rattle.sk_machine.specs.Performing.{executing, execve, forks, exit_status, authorised, no_new_privs_asked, subreaper_set, subreaper_asked, where_subreapers, with_subreaper, prctl, action_available, seccomp, row}
+use Rattle.sk_machine.specs.Performing.{executing, execve, forks, subreaper_set, subreaper_asked, where_subreapers, with_subreaper, row}
 use Rattle.sk_machine.specs.Delivering.{signal_for}
 use Rattle.sk_machine.specs.Machine.{Stepped, judged, happened, reason_of, step_of, world_after}
 use Rattle.sk_machine.specs.Lines.{Happening, is_fork, has_returned, is_fork_of, line_before, calls_added, line_of, authority_after_calls, history_after, authority_at}
@@ -294,9 +286,9 @@ comes_fork w pid q true room rules there =
     )
 comes_fork w pid q false room rules there = comes_moved w w pid q (moved_still w q)
 
--- this of a call that is a fork(2), or is none
+-- this when a call of `pid`, a fork(2) or none, has come to this
 abbrev RowComes : World → ℕ → ℕ → Bool → Performed → Type 0
-RowComes w pid q is_fork p = Comes w p.world pid q (is_fork && has_returned q p.outcome)
+RowComes w pid q forking p = Comes w p.world pid q (forking && has_returned q p.outcome)
 
 comes_row : (images : GivenImages) (w : World) (pid q : ℕ) (body : Body) (which : Option Syscall) (call : Record) → IsWorld w
     → IsTrue (is_some (at w pid)) → RowComes w pid q (is_fork_row which) (row images w pid body which call)
