@@ -50,39 +50,32 @@ use Rattle.std.proofs.lemmas.Bool.{ltb-true}
 use Rattle.sk_world.specs.declared.process.TheConstants.{PROCESSES}
 use Rattle.sk_world.specs.Processes.{count, pids}
 use Rattle.sk_session.specs.Orphans.{is_living_member, is_orphaned, has_stopped_member, is_left_orphaned, groups, sent_to_group, hung_up, each_hung_up, ended_and_hung_up}
-use Rattle.sk_session.specs.Sessions.{group_of, pid_named, session_of, has_executed, is_group, is_group_of_session, links_in_group, links_of_leader, may_move_child, may_join, put_into_group, regrouped, after_setpgid, after_setsid, group_asked, session_asked}
+use Rattle.sk_session.specs.Sessions.{group_of, pid_named, session_of, has_executed, is_group, is_group_of_session, links_in_group, links_of_leader, may_move_child, may_join, put_into_group, regrouped, after_setpgid, after_setsid}
 use Rattle.sk_machine.specs.declared.event.Event.{Event}
 use Rattle.sk_machine.specs.declared.event.Event.TheVariants.{Call, Deliver, Resume, Fault}
-use Rattle.sk_machine.specs.declared.operation.PrctlOption.{PrctlOption}
-use Rattle.sk_machine.specs.declared.operation.PrctlOption.TheVariants as option
-use Rattle.sk_machine.specs.declared.operation.SeccompOperation.{SeccompOperation}
-use Rattle.sk_machine.specs.declared.operation.SeccompOperation.TheVariants as operation
 use Rattle.sk_calls.specs.declared.syscall.Syscall.{Syscall}
 use Rattle.sk_calls.specs.declared.syscall.Syscall.TheVariants as syscall
 use Rattle.sk_machine.specs.Events.{pid_of}
 use Rattle.sk_machine.specs.Given.{GivenImages}
 use Rattle.sk_calls.specs.Syscalls.{syscall_of}
 use Rattle.sk_calls.proofs.SyscallTable.{number_of-syscall_of}
-use Rattle.sk_machine.specs.Arguments.{register, low, signed, prctl_option_of, seccomp_operation_of}
-use Rattle.sk_machine.specs.Authority.{Authority, with_authority, authority_of, after_prctl, after_seccomp}
+use Rattle.sk_machine.specs.Arguments.{register, low, signed}
+use Rattle.sk_machine.specs.Authority.{Authority, with_authority}
 use Rattle.sk_machine.specs.Performed.{Performed, returns, fails, asked, changes, authorises, waiting_in, waits}
-use Rattle.sk_machine.specs.SignalCalls.{with_signals, resignals, after_sigaction, after_sigprocmask, after_sigreturn}
+use Rattle.sk_machine.specs.SignalCalls.{with_signals, resignals}
 use Rattle.sk_machine.specs.WaitCalls.{are_wait_options, request_of, polled, wait4, polled_again, resumed}
-use Rattle.sk_machine.specs.Performing.{executing, execve, forks, exit_status, authorised, no_new_privs_asked, subreaper_set, subreaper_asked, where_subreapers, with_subreaper, prctl, action_available, seccomp, row}
+use Rattle.sk_machine.specs.Performing.{executing, execve, forks, subreaper_set, subreaper_asked, where_subreapers, with_subreaper, row}
 use Rattle.sk_machine.specs.Delivering.{Delivered, signal_for, terminated_by, in_handler, enters_handler, stopping, ignored, acts_by_default, acts_by_disposition, taking, acted_on, delivered, stopped_by}
 use Rattle.sk_machine.specs.Machine.{Stepped, judged, happened}
 use Rattle.sk_machine_laws.specs.ConfinementLaws.{RefusesKill, after_signals, is_of_stop, is_of_end, becomes_orphaned, IsTold, IsConfined, is_end, is_end_by_signal, is_stop, ends, stops, EventIsConfined}
 use Rattle.sk_session.proofs.HangingUp.{each_hung_up_by}
 use Rattle.sk_machine_laws.proofs.LeftOrphaned.{AreAlike, alike_still, alike_twice, alike_sent, alike_changed, orphaned_alike, StopsNobody, stopped_group, changed_stops, ended_stops}
 use Rattle.sk_machine_laws.proofs.Growing.{lets_through}
+use Rattle.sk_machine_laws.proofs.EachCall.{is_kill_row, each_call}
 use Rattle.sk_machine_laws.proofs.Happened.{at_step, at_delivery}
 use Rattle.sk_machine_laws.proofs.LineSteps.{authority_in}
 
 -- ---- which call is a kill
-abbrev is_kill_row : Option Syscall → Bool
-is_kill_row (Some syscall.Kill) = true
-is_kill_row other = false
-
 only_kill : (o : Option Syscall) → is_kill_row o ≡ true → o ≡ Some syscall.Kill
 only_kill (Some syscall.Kill) is = refl
 only_kill other is = absurd (false≢true is)
@@ -376,22 +369,6 @@ spares_subreapers : (there : Bool) (w : World) (pid q : ℕ) (p : Performed) →
 spares_subreapers true w pid q p spares = spares
 spares_subreapers false w pid q p spares = spares_world w pid q
 
-spares_prctl : (images : GivenImages) (w : World) (pid q : ℕ) (body : Body) (which : Option PrctlOption) (call : Record) → q ≢ pid
-    → Spares w pid q (prctl images w pid body which call)
-spares_prctl images w pid q body (Some option.GetSeccomp) call ne = spares_world w pid q
-spares_prctl images w pid q body (Some option.GetNoNewPrivs) call ne = spares_asked w pid q (no_new_privs_asked call body.creds.no_new_privs)
-spares_prctl images w pid q body (Some option.SetChildSubreaper) call ne =
-    spares_subreapers images.subreapers w pid q (subreaper_set w pid call) (spares_changed w pid q (with_subreaper (not (register call 1 == 0))) ne)
-spares_prctl images w pid q body (Some option.GetChildSubreaper) call ne = spares_subreapers images.subreapers w pid q (subreaper_asked w body.subreaper) (spares_world w pid q)
-spares_prctl images w pid q body None call ne = spares_world w pid q
-spares_prctl images w pid q body setting call ne = spares_authorises w pid q (after_prctl images setting call (authority_of body)) ne
-
-spares_seccomp : (images : GivenImages) (w : World) (pid q : ℕ) (body : Body) (which : Option SeccompOperation) (call : Record) → q ≢ pid
-    → Spares w pid q (seccomp images w pid body which call)
-spares_seccomp images w pid q body (Some operation.GetActionAvail) call ne = spares_asked w pid q (action_available (low call 1) (low call 2))
-spares_seccomp images w pid q body None call ne = spares_world w pid q
-spares_seccomp images w pid q body setting call ne = spares_authorises w pid q (after_seccomp images setting call (authority_of body)) ne
-
 spares_ends : (w : World) (pid status q : ℕ) → IsApart w pid q → Alone w pid q true false (ended_and_hung_up w pid status)
 spares_ends w pid status q apart = record {
   same = λ no _. absurd (false≢true (sym no));
@@ -402,34 +379,24 @@ spares_ends w pid status q apart = record {
 -- every call but kill(2)
 spares_row : (images : GivenImages) (w : World) (pid q : ℕ) (body : Body) (which : Option Syscall) (call : Record) → IsWorld w → IsApart w pid q
     → IsTrue (is_some (at w q)) → is_kill_row which ≡ false → Spares w pid q (row images w pid body which call)
-spares_row images w pid q body (Some syscall.RtSigaction) call rules apart there other = spares_resignals w pid q (after_sigaction pid call body.signals) apart.other
-spares_row images w pid q body (Some syscall.RtSigprocmask) call rules apart there other = spares_resignals w pid q (after_sigprocmask call body.signals) apart.other
-spares_row images w pid q body (Some syscall.RtSigreturn) call rules apart there other =
-    spares_resignals w pid q (after_sigreturn body.signals.frames body.signals) apart.other
-spares_row images w pid q body (Some syscall.RtSigpending) call rules apart there other = spares_world w pid q
-spares_row images w pid q body (Some syscall.SchedYield) call rules apart there other = spares_world w pid q
-spares_row images w pid q body (Some syscall.Pause) call rules apart there other = spares_changed w pid q (waiting_in waiting.Pause) apart.other
-spares_row images w pid q body (Some syscall.Getpid) call rules apart there other = spares_world w pid q
-spares_row images w pid q body (Some syscall.Getppid) call rules apart there other = spares_world w pid q
-spares_row images w pid q body (Some syscall.Fork) call rules apart there other = spares_forks w pid q (has_room w) refl rules there
-spares_row images w pid q body (Some syscall.Execve) call rules apart there other = spares_execve w pid q (authorised images body syscall.Execve call) apart.other
-spares_row images w pid q body (Some syscall.Exit) call rules apart there other = spares_ends w pid (exit_status (low call 0)) q apart
-spares_row images w pid q body (Some syscall.ExitGroup) call rules apart there other = spares_ends w pid (exit_status (low call 0)) q apart
-spares_row images w pid q body (Some syscall.Wait4) call rules apart there other = spares_wait4 w pid q call apart
-spares_row images w pid q body (Some syscall.Kill) call rules apart there other = absurd (false≢true (sym other))
-spares_row images w pid q body (Some syscall.Getuid) call rules apart there other = spares_world w pid q
-spares_row images w pid q body (Some syscall.Geteuid) call rules apart there other = spares_world w pid q
-spares_row images w pid q body (Some syscall.Setuid) call rules apart there other = spares_authorises w pid q (authorised images body syscall.Setuid call) apart.other
-spares_row images w pid q body (Some syscall.Setresuid) call rules apart there other = spares_authorises w pid q (authorised images body syscall.Setresuid call) apart.other
-spares_row images w pid q body (Some syscall.Getresuid) call rules apart there other = spares_world w pid q
-spares_row images w pid q body (Some syscall.Setpgid) call rules apart there other = spares_setpgid w pid q (signed call 0) (signed call 1) apart
-spares_row images w pid q body (Some syscall.Getpgrp) call rules apart there other = spares_world w pid q
-spares_row images w pid q body (Some syscall.Setsid) call rules apart there other = spares_setsid w pid q apart.other
-spares_row images w pid q body (Some syscall.Getpgid) call rules apart there other = spares_asked w pid q (group_asked w pid (signed call 0))
-spares_row images w pid q body (Some syscall.Getsid) call rules apart there other = spares_asked w pid q (session_asked w pid (signed call 0))
-spares_row images w pid q body (Some syscall.Prctl) call rules apart there other = spares_prctl images w pid q body (prctl_option_of (low call 0)) call apart.other
-spares_row images w pid q body (Some syscall.Seccomp) call rules apart there other = spares_seccomp images w pid q body (seccomp_operation_of (low call 0)) call apart.other
-spares_row images w pid q body None call rules apart there other = spares_world w pid q
+spares_row images w pid q body which call rules apart there other =
+    each_call images w pid body call (λ facts p. facts.is_kill ≡ false → Spares w pid q p) (record {
+      answers = λ r _. spares_asked w pid q r;
+      tells_signals = λ _ _. spares_world w pid q;
+      tells_ids = λ _. spares_world w pid q;
+      resignals = λ r _. spares_resignals w pid q r apart.other;
+      authorises = λ r _. spares_authorises w pid q r apart.other;
+      executes = λ r _. spares_execve w pid q r apart.other;
+      marks = λ _. spares_subreapers images.subreapers w pid q (subreaper_set w pid call) (spares_changed w pid q (with_subreaper (not (register call 1 == 0))) apart.other);
+      asks_mark = λ _. spares_subreapers images.subreapers w pid q (subreaper_asked w body.subreaper) (spares_world w pid q);
+      pauses = λ _. spares_changed w pid q (waiting_in waiting.Pause) apart.other;
+      waits_for = λ _. spares_wait4 w pid q call apart;
+      forks_one = λ _. spares_forks w pid q (has_room w) refl rules there;
+      ends = λ status _. spares_ends w pid status q apart;
+      kills = λ other. absurd (false≢true (sym other));
+      regroups = λ _. spares_setpgid w pid q (signed call 0) (signed call 1) apart;
+      leads = λ _. spares_setsid w pid q apart.other;
+    }) which other
 
 spares_judged : (images : GivenImages) (w : World) (pid q : ℕ) (body : Body) (call : Record) (verdict : ℕ) (a : Action) → IsWorld w → IsApart w pid q
     → IsTrue (is_some (at w q))

@@ -1,5 +1,5 @@
 -- What a performed call comes to, by what it does, so that a law goes through a dozen cases and not through each call.
-use Rattle.std.specs.Prelude.{ℕ, Option, None, Some, Result, Ok, Err}
+use Rattle.std.specs.Prelude.{ℕ, Bool, true, false, Option, None, Some, Result, Ok, Err}
 use Rattle.sk_insn.specs.declared.record.Record.{Record}
 use Rattle.sk_creds.specs.declared.errno.Errno.{Errno}
 use Rattle.sk_creds.specs.declared.errno.Errno.TheVariants.{Einval, Enosys}
@@ -18,33 +18,64 @@ use Rattle.sk_calls.specs.declared.syscall.Syscall.{Syscall}
 use Rattle.sk_calls.specs.declared.syscall.Syscall.TheVariants as syscall
 use Rattle.sk_machine.specs.Given.{GivenImages}
 use Rattle.sk_machine.specs.Arguments.{low, signed, prctl_option_of, seccomp_operation_of}
-use Rattle.sk_machine.specs.Authority.{Authority, authority_of, after_prctl, after_seccomp}
+use Rattle.sk_machine.specs.Authority.{Authority, authority_of, after_prctl, after_seccomp, authority_after}
 use Rattle.sk_machine.specs.Performed.{Performed, asked, changes, authorises, waits}
 use Rattle.sk_machine.specs.SignalCalls.{resignals, after_sigaction, after_sigprocmask, after_sigreturn}
 use Rattle.sk_machine.specs.Killing.{after_kill}
 use Rattle.sk_machine.specs.WaitCalls.{wait4}
 use Rattle.sk_machine.specs.Performing.{execve, forks, exit_status, end_of_caller, ids, pending_signals, authorised, seccomp_mode, no_new_privs_asked, where_subreapers, subreaper_set, subreaper_asked, prctl, action_available, seccomp, row}
 
--- what is to be shown of a caller's calls, so that it holds of each
-pub record EachCall (images : GivenImages) (w : World) (pid : ℕ) (body : Body) (call : Record) (P : Performed → Type 0) : Type 0 where
-  pub answers : (r : Result ℕ Errno) → P (asked w r)
-  pub tells_signals : (set : Signals) → P (pending_signals w set)
-  pub tells_ids : P (ids w body.creds)
-  pub resignals : (r : Result SignalState Errno) → P (resignals w pid r)
-  pub authorises : (r : Result Authority Errno) → P (authorises w pid r)
-  pub executes : (r : Result Authority Errno) → P (execve w pid r)
-  pub marks : P (where_subreapers images.subreapers w (subreaper_set w pid call))
-  pub asks_mark : P (where_subreapers images.subreapers w (subreaper_asked w body.subreaper))
-  pub pauses : P (waits w pid waiting.Pause)
-  pub waits_for : P (wait4 w pid call)
-  pub forks_one : P (forks w pid (fork_answer w))
-  pub ends : (status : ℕ) → P (end_of_caller w pid status)
-  pub kills : P (changes w 0 (after_kill w pid body.creds (signed call 0) (low call 1)))
-  pub regroups : P (changes w 0 (after_setpgid w pid (signed call 0) (signed call 1)))
-  pub leads : P (changes w pid (after_setsid w pid))
+-- which call is a fork, and which a kill
+abbrev pub is_fork_row : Option Syscall → Bool
+is_fork_row (Some syscall.Fork) = true
+is_fork_row other = false
 
-module _ (images : GivenImages) (w : World) (pid : ℕ) (body : Body) (call : Record) (P : Performed → Type 0) (c : EachCall images w pid body call P) where
-  each_prctl : (which : Option PrctlOption) → P (prctl images w pid body which call)
+abbrev pub is_kill_row : Option Syscall → Bool
+is_kill_row (Some syscall.Kill) = true
+is_kill_row other = false
+
+-- what a law may go by beside what the call comes to: whether it is fork(2), or kill(2), and what it makes of its
+-- caller's authority
+pub record CallFacts : Type 0 where
+  pub is_fork : Bool
+  pub is_kill : Bool
+  pub authority : Result Authority Errno
+
+abbrev pub facts_of : GivenImages → Body → Option Syscall → Record → CallFacts
+facts_of images body which call = record {
+  is_fork = is_fork_row which;
+  is_kill = is_kill_row which;
+  authority = authority_after images which call (authority_of body);
+}
+
+-- those of a call that is neither of the two
+abbrev pub changing : Result Authority Errno → CallFacts
+changing r = record { is_fork = false; is_kill = false; authority = r }
+
+-- and leaves its caller's authority
+abbrev pub leaving : Body → CallFacts
+leaving body = changing (Ok (authority_of body))
+
+-- what is to be shown of a caller's calls, with what a law may go by, so that it holds of each
+pub record EachCall (images : GivenImages) (w : World) (pid : ℕ) (body : Body) (call : Record) (P : CallFacts → Performed → Type 0) : Type 0 where
+  pub answers : (r : Result ℕ Errno) → P (leaving body) (asked w r)
+  pub tells_signals : (set : Signals) → P (leaving body) (pending_signals w set)
+  pub tells_ids : P (leaving body) (ids w body.creds)
+  pub resignals : (r : Result SignalState Errno) → P (leaving body) (resignals w pid r)
+  pub authorises : (r : Result Authority Errno) → P (changing r) (authorises w pid r)
+  pub executes : (r : Result Authority Errno) → P (changing r) (execve w pid r)
+  pub marks : P (leaving body) (where_subreapers images.subreapers w (subreaper_set w pid call))
+  pub asks_mark : P (leaving body) (where_subreapers images.subreapers w (subreaper_asked w body.subreaper))
+  pub pauses : P (leaving body) (waits w pid waiting.Pause)
+  pub waits_for : P (leaving body) (wait4 w pid call)
+  pub forks_one : P (record (leaving body) { is_fork = true }) (forks w pid (fork_answer w))
+  pub ends : (status : ℕ) → P (leaving body) (end_of_caller w pid status)
+  pub kills : P (record (leaving body) { is_kill = true }) (changes w 0 (after_kill w pid body.creds (signed call 0) (low call 1)))
+  pub regroups : P (leaving body) (changes w 0 (after_setpgid w pid (signed call 0) (signed call 1)))
+  pub leads : P (leaving body) (changes w pid (after_setsid w pid))
+
+module _ (images : GivenImages) (w : World) (pid : ℕ) (body : Body) (call : Record) (P : CallFacts → Performed → Type 0) (c : EachCall images w pid body call P) where
+  each_prctl : (which : Option PrctlOption) → P (changing (after_prctl images which call (authority_of body))) (prctl images w pid body which call)
   each_prctl (Some option.GetSeccomp) = c.answers (Ok (seccomp_mode body.chain))
   each_prctl (Some option.GetNoNewPrivs) = c.answers (no_new_privs_asked call body.creds.no_new_privs)
   each_prctl (Some option.SetChildSubreaper) = c.marks
@@ -52,12 +83,12 @@ module _ (images : GivenImages) (w : World) (pid : ℕ) (body : Body) (call : Re
   each_prctl None = c.answers (Err Einval)
   each_prctl setting = c.authorises (after_prctl images setting call (authority_of body))
 
-  each_seccomp : (which : Option SeccompOperation) → P (seccomp images w pid body which call)
+  each_seccomp : (which : Option SeccompOperation) → P (changing (after_seccomp images which call (authority_of body))) (seccomp images w pid body which call)
   each_seccomp (Some operation.GetActionAvail) = c.answers (action_available (low call 1) (low call 2))
   each_seccomp None = c.answers (Err Einval)
   each_seccomp setting = c.authorises (after_seccomp images setting call (authority_of body))
 
-  pub each_call : (which : Option Syscall) → P (row images w pid body which call)
+  pub each_call : (which : Option Syscall) → P (facts_of images body which call) (row images w pid body which call)
   each_call (Some syscall.RtSigaction) = c.resignals (after_sigaction pid call body.signals)
   each_call (Some syscall.RtSigprocmask) = c.resignals (after_sigprocmask call body.signals)
   each_call (Some syscall.RtSigreturn) = c.resignals (after_sigreturn body.signals.frames body.signals)

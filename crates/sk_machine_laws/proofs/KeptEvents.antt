@@ -143,7 +143,7 @@ kept_subreapers false w p rules kept = rules
 kept_row : (images : GivenImages) (w : World) (pid : ℕ) (body : Body) (which : Option Syscall) (call : Record) → IsWorld w
     → IsTrue (is_alive (at w pid)) → IsWorld (row images w pid body which call).world
 kept_row images w pid body which call rules alive =
-    each_call images w pid body call (λ p. IsWorld p.world) (record {
+    each_call images w pid body call (λ _ p. IsWorld p.world) (record {
       answers = λ r. kept_asked w r rules;
       tells_signals = λ _. rules;
       tells_ids = rules;

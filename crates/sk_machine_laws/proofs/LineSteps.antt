@@ -1,8 +1,8 @@
 -- What each event does to authorities, and that they are those of the lines.
-use Rattle.std.proofs.Common.{◌≡◌, ◌≢◌, ◌∙◌, ℕ, ◌==◌, ◌&&◌, ap, sym, refl, subst, cond, not, Bool, true, false, IsTrue, List, [], ◌∷◌, ◌++◌, Option, None, Some, Result, Ok, Err}
+use Rattle.std.proofs.Common.{◌≡◌, ◌∙◌, ℕ, ◌==◌, ◌&&◌, ap, sym, refl, subst, cond, not, Bool, true, false, IsTrue, List, [], ◌∷◌, ◌++◌, Option, None, Some, Result, Ok, Err}
 use Rattle.std.specs.Option.{is_some, unwrap_or, option_to_list, option_map}
 use Rattle.std.specs.Result.{result_unwrap_or}
-use Rattle.std.proofs.lemmas.Bool.{false≢true, eqb-true, eqb-false, false_from_ne_true}
+use Rattle.std.proofs.lemmas.Bool.{false≢true, cond_both, and_parts, eqb-true, eqb-false, false_from_ne_true}
 use Rattle.sk_insn.specs.declared.record.Record.{Record}
 use Rattle.sk_insn.specs.Record.{native}
 use Rattle.sk_insn.specs.declared.action.Action.{Action}
@@ -24,38 +24,28 @@ use Rattle.sk_world.proofs.Stored.{everywhere, at_other}
 use Rattle.sk_world_laws.proofs.Rights.{forced_rights, forked_rights}
 use Rattle.sk_world.specs.Sending.{forced}
 use Rattle.sk_world.proofs.KeptEnd.{alive_is_there}
-use Rattle.sk_session.specs.Sessions.{after_setpgid, after_setsid, group_asked, session_asked}
 use Rattle.sk_machine.specs.declared.event.Event.{Event}
 use Rattle.sk_machine.specs.declared.event.Event.TheVariants.{Call, Deliver, Resume, Fault}
-use Rattle.sk_machine.specs.declared.operation.PrctlOption.{PrctlOption}
-use Rattle.sk_machine.specs.declared.operation.PrctlOption.TheVariants as option
-use Rattle.sk_machine.specs.declared.operation.SeccompOperation.{SeccompOperation}
-use Rattle.sk_machine.specs.declared.operation.SeccompOperation.TheVariants as operation
 use Rattle.sk_calls.specs.declared.syscall.Syscall.{Syscall}
 use Rattle.sk_calls.specs.declared.syscall.Syscall.TheVariants as syscall
 use Rattle.sk_machine.specs.Events.{pid_of}
 use Rattle.sk_machine.specs.Given.{GivenImages}
 use Rattle.sk_calls.specs.Syscalls.{syscall_of}
 use Rattle.sk_calls.proofs.SyscallTable.{number_of-syscall_of}
-use Rattle.sk_machine.specs.Arguments.{register, low, signed, prctl_option_of, seccomp_operation_of}
-use Rattle.sk_machine.specs.Authority.{Authority, authority_of, with_authority, after_prctl, after_seccomp, authority_after}
+use Rattle.sk_machine.specs.Arguments.{register, low, signed}
+use Rattle.sk_machine.specs.Authority.{Authority, authority_of, with_authority, authority_after}
 use Rattle.sk_machine.specs.Performed.{Performed, authorises}
-use Rattle.sk_machine.specs.SignalCalls.{after_sigaction, after_sigprocmask, after_sigreturn}
-use Rattle.sk_machine.specs.Killing.{after_kill}
-use Rattle.sk_machine.specs.Performing.{executing, execve, forks, exit_status, no_new_privs_asked, subreaper_set, subreaper_asked, where_subreapers, with_subreaper, prctl, action_available, seccomp, row}
+use Rattle.sk_machine.specs.Performing.{executing, execve, forks, subreaper_set, subreaper_asked, where_subreapers, with_subreaper, row}
 use Rattle.sk_machine.specs.Delivering.{signal_for}
 use Rattle.sk_machine.specs.Machine.{Stepped, judged, happened, step_of, world_after}
 use Rattle.sk_machine.specs.Lines.{Line, Happening, is_fork, has_returned, line_before, calls_added, line_of, authority_after_calls, history_after}
 use Rattle.sk_machine_laws.specs.LineLaws.{happening, EventChangesAuthority, AuthorityIsOfLine, LineComesFromInit}
 use Rattle.sk_machine_laws.proofs.Carrying.{over_asked, over_changes, over_resignals, over_waits, over_kill, over_setpgid, over_setsid, over_wait4, over_end, over_delivered, over_resumed}
 use Rattle.sk_machine_laws.proofs.Authorities.{CameBy, Came, Keeps, came_still, came_at, came_by_rights, keeps_by_rights, keeps_still, keeps_changed, keeps}
+use Rattle.sk_machine_laws.proofs.EachCall.{is_fork_row, CallFacts, changing, each_call}
 use Rattle.sk_machine_laws.proofs.Happened.{at_step, at_delivery}
 
 -- ---- which call is a fork
-abbrev pub is_fork_row : Option Syscall → Bool
-is_fork_row (Some syscall.Fork) = true
-is_fork_row other = false
-
 only_fork : (o : Option Syscall) → is_fork_row o ≡ true → o ≡ Some syscall.Fork
 only_fork (Some syscall.Fork) is = refl
 only_fork other is = absurd (false≢true is)
@@ -72,22 +62,14 @@ fork_number nr =
     ] refl
 
 -- ---- one row
--- whom a process comes from when the call of `pid` has come to this, and with which authority
-abbrev RowStep : GivenImages → World → ℕ → ℕ → Record → Option Syscall → Performed → Type 0
-RowStep images w pid q call which p =
-    CameBy (cond ((pid == q) && not (is_fork_row which && has_returned q p.outcome)) (λ a. result_unwrap_or (authority_after images which call a) a) (λ a. a))
-    (at p.world q) (at w (cond (is_fork_row which && has_returned q p.outcome) pid q))
+-- whom a process comes from when a call of `pid`, a fork(2) or none, has come to this, and with which authority
+abbrev RowStep : World → ℕ → ℕ → (Authority → Authority) → Bool → Performed → Type 0
+RowStep w pid q f forking p =
+    CameBy (cond ((pid == q) && not (forking && has_returned q p.outcome)) f (λ a. a)) (at p.world q) (at w (cond (forking && has_returned q p.outcome) pid q))
 
-leaves : (b : Bool) (f : Authority → Authority) (now before : Option Proc) → ((a : Authority) → f a ≡ a) → Came now before → CameBy (cond b f (λ a. a)) now before
-leaves true f now before same came = λ p is.
-    let old = came p is in
-    (old.0, old.1, old.2 ∙ sym (same (authority_of old.0.body)))
-leaves false f now before same came = came
-
--- a change of the caller's authority, or a refusal
-abbrev changed_by : World → ℕ → (Authority → Body → Body) → Result Authority Errno → World
-changed_by w pid g (Ok a) = changed w pid (g a)
-changed_by w pid g (Err e) = w
+-- so it is with each change that makes of the caller's authority what the call makes of it
+abbrev OwnStep : World → ℕ → ℕ → Authority → CallFacts → Performed → Type 0
+OwnStep w pid q old facts p = (f : Authority → Authority) → f old ≡ result_unwrap_or facts.authority old → RowStep w pid q f facts.is_fork p
 
 -- the process of a pid, where there is one, has this authority
 abbrev HasAuthority : World → ℕ → Authority → Type 0
@@ -96,115 +78,79 @@ HasAuthority w pid a = (p : Proc) → at w pid ≡ Some p → authority_of p.bod
 own_authority : (w : World) (pid : ℕ) (p : Proc) → at w pid ≡ Some p → HasAuthority w pid (authority_of p.body)
 own_authority w pid p there q is = ap (λ o. authority_of (unwrap_or o p).body) (sym is ∙ there)
 
-step_here : (w : World) (pid : ℕ) (old : Authority) (f : Authority → Result Authority Errno) (g : Authority → Body → Body) (r : Result Authority Errno)
-    → ((a : Authority) (body : Body) → authority_of (g a body) ≡ a) → r ≡ f old → HasAuthority w pid old → CameBy (λ a. result_unwrap_or (f a) a) (at (changed_by w pid g r) pid) (at w pid)
-step_here w pid old f g (Ok a) same is own =
-    came_at w pid (λ x. result_unwrap_or (f x) x) (g a) (λ p there. same a p.body ∙ ap (λ r. result_unwrap_or r (authority_of p.body)) (is ∙ ap f (sym (own p there))))
-step_here w pid old f g (Err e) same is own = λ p there. (p, there, ap (λ r. result_unwrap_or r (authority_of p.body)) (is ∙ ap f (sym (own p there))))
+and_true : (b c : Bool) → c ≡ true → (b && c) ≡ b
+and_true true c is = is
+and_true false c is = refl
 
-step_there : (w : World) (pid q : ℕ) (g : Authority → Body → Body) (r : Result Authority Errno) → q ≢ pid → Came (at (changed_by w pid g r) q) (at w q)
-step_there w pid q g (Ok a) other = subst (λ x. Came x (at w q)) (sym (at_other w pid _ q other)) (came_still (at w q))
-step_there w pid q g (Err e) other = came_still (at w q)
+module _ (w : World) (pid q : ℕ) (old : Authority) (own : HasAuthority w pid old) where
+  -- who comes from the caller comes from this authority
+  caller_had : (forked : Bool) → IsTrue ((pid == q) && not forked) → HasAuthority w (cond forked pid q) old
+  caller_had true is = own
+  caller_had false is = subst (λ k. HasAuthority w k old) (eqb-true pid q (and_parts (pid == q) true is).0) own
 
-step_authorised : (w : World) (pid q : ℕ) (old : Authority) (f : Authority → Result Authority Errno) (g : Authority → Body → Body) (r : Result Authority Errno)
-    → ((a : Authority) (body : Body) → authority_of (g a body) ≡ a) → r ≡ f old → HasAuthority w pid old
-    → CameBy (cond ((pid == q) && true) (λ a. result_unwrap_or (f a) a) (λ a. a)) (at (changed_by w pid g r) q) (at w q)
-step_authorised w pid q old f g r same is own =
-    elim (pid == q) as (λ b. (pid == q) ≡ b → CameBy (cond (b && true) (λ a. result_unwrap_or (f a) a) (λ a. a)) (at (changed_by w pid g r) q) (at w q)) [
-      | true ↦ λ here. subst (λ k. CameBy (λ a. result_unwrap_or (f a) a) (at (changed_by w pid g r) k) (at w k)) (eqb-true pid q here) (step_here w pid old f g r same is own)
-      | false ↦ λ other. step_there w pid q g r (λ e. eqb-false pid q other (sym e))
-    ] refl
+  -- a call that leaves the caller's authority, and gives a process that it has forked the same
+  step_kept : (forked : Bool) (now : Option Proc) → Came now (at w (cond forked pid q)) → (f : Authority → Authority) → f old ≡ old
+      → CameBy (cond ((pid == q) && not forked) f (λ a. a)) now (at w (cond forked pid q))
+  step_kept forked now came f same =
+      cond_both ((pid == q) && not forked) f (λ a. a) (λ g. CameBy g now (at w (cond forked pid q)))
+      (λ is p there.
+      let before = came p there in
+      let had = caller_had forked is before.0 before.1 in
+      (before.0, before.1, before.2 ∙ had ∙ sym same ∙ ap f (sym had)))
+      (λ _. came)
 
-authorises_world : (w : World) (pid : ℕ) (r : Result Authority Errno) → changed_by w pid with_authority r ≡ (authorises w pid r).world
-authorises_world w pid (Ok a) = refl
-authorises_world w pid (Err e) = refl
+  -- a change of the caller to this authority
+  step_changed : (a : Authority) (g : Body → Body) → ((body : Body) → authority_of (g body) ≡ a) → (f : Authority → Authority) → f old ≡ a
+      → CameBy (cond ((pid == q) && true) f (λ a. a)) (at (changed w pid g) q) (at w q)
+  step_changed a g gives f is =
+      elim (pid == q) as (λ b. (pid == q) ≡ b → CameBy (cond (b && true) f (λ a. a)) (at (changed w pid g) q) (at w q)) [
+        | true ↦ λ here. subst (λ k. CameBy f (at (changed w pid g) k) (at w k)) (eqb-true pid q here) (came_at w pid f g (λ p there. gives p.body ∙ sym is ∙ ap f (sym (own p there))))
+        | false ↦ λ other. subst (λ x. Came x (at w q)) (sym (at_other w pid _ q (λ e. eqb-false pid q other (sym e)))) (came_still (at w q))
+      ] refl
 
-execve_world : (w : World) (pid : ℕ) (r : Result Authority Errno) → changed_by w pid executing r ≡ (execve w pid r).world
-execve_world w pid (Ok a) = refl
-execve_world w pid (Err e) = refl
+  step_authorises : (r : Result Authority Errno) → OwnStep w pid q old (changing r) (authorises w pid r)
+  step_authorises (Ok a) = step_changed a (with_authority a) (λ body. refl)
+  step_authorises (Err e) = step_kept false (at w q) (came_still (at w q))
 
-step_authorises : (w : World) (pid q : ℕ) (old : Authority) (f : Authority → Result Authority Errno) → HasAuthority w pid old
-    → CameBy (cond ((pid == q) && true) (λ a. result_unwrap_or (f a) a) (λ a. a)) (at (authorises w pid (f old)).world q) (at w q)
-step_authorises w pid q old f own =
-    subst (λ v. CameBy (cond ((pid == q) && true) (λ a. result_unwrap_or (f a) a) (λ a. a)) (at v q) (at w q)) (authorises_world w pid (f old))
-    (step_authorised w pid q old f with_authority (f old) (λ a body. refl) refl own)
+  step_execve : (r : Result Authority Errno) → OwnStep w pid q old (changing r) (execve w pid r)
+  step_execve (Ok a) = step_changed a (executing a) (λ body. refl)
+  step_execve (Err e) = step_kept false (at w q) (came_still (at w q))
 
-step_execve : (w : World) (pid q : ℕ) (old : Authority) (f : Authority → Result Authority Errno) → HasAuthority w pid old
-    → CameBy (cond ((pid == q) && true) (λ a. result_unwrap_or (f a) a) (λ a. a)) (at (execve w pid (f old)).world q) (at w q)
-step_execve w pid q old f own =
-    subst (λ v. CameBy (cond ((pid == q) && true) (λ a. result_unwrap_or (f a) a) (λ a. a)) (at v q) (at w q)) (execve_world w pid (f old))
-    (step_authorised w pid q old f executing (f old) (λ a body. refl) refl own)
-
--- a row whose call leaves every authority
-step_quiet : (pid q : ℕ) (now before : Option Proc) → Came now before → CameBy (cond ((pid == q) && true) (λ a. a) (λ a. a)) now before
-step_quiet pid q now before came = leaves ((pid == q) && true) (λ a. a) now before (λ a. refl) came
+  step_fork : (b : Bool) → has_room w ≡ b → IsTrue (is_alive (at w pid))
+      → OwnStep w pid q old (record (changing (Ok old)) { is_fork = true }) (forks w pid (cond b (Ok (fresh_of w)) (Err Eagain)))
+  step_fork true room alive =
+      step_kept (q == fresh_of w) (at (forked w pid) q)
+      (subst (λ c. Came (at (forked w pid) q) (at w (cond c pid q))) (and_true (q == fresh_of w) (has_room w) room)
+      (came_by_rights (at (forked w pid) q) (at w (cond ((q == fresh_of w) && has_room w) pid q)) (forked_rights w pid q alive)))
+  step_fork false room alive = step_kept false (at w q) (came_still (at w q))
 
 keeps_subreapers : (there : Bool) (w : World) (p : Performed) → Keeps w p.world → Keeps w (where_subreapers there w p).world
 keeps_subreapers true w p kept = kept
 keeps_subreapers false w p kept = keeps_still w
 
-step_prctl : (images : GivenImages) (w : World) (pid q : ℕ) (body : Body) (which : Option PrctlOption) (call : Record) → HasAuthority w pid (authority_of body)
-    → CameBy (cond ((pid == q) && true) (λ a. result_unwrap_or (after_prctl images which call a) a) (λ a. a)) (at (prctl images w pid body which call).world q) (at w q)
-step_prctl images w pid q body (Some option.GetSeccomp) call own = step_quiet pid q _ (at w q) (keeps_still w q)
-step_prctl images w pid q body (Some option.GetNoNewPrivs) call own =
-    step_quiet pid q _ (at w q) (over_asked Keeps keeps w (no_new_privs_asked call body.creds.no_new_privs) q)
-step_prctl images w pid q body (Some option.SetChildSubreaper) call own =
-    step_quiet pid q _ (at w q) (keeps_subreapers images.subreapers w (subreaper_set w pid call) (keeps_changed w pid (with_subreaper (not (register call 1 == 0))) (λ body. refl)) q)
-step_prctl images w pid q body (Some option.GetChildSubreaper) call own = step_quiet pid q _ (at w q) (keeps_subreapers images.subreapers w (subreaper_asked w body.subreaper) (keeps_still w) q)
-step_prctl images w pid q body None call own = step_quiet pid q _ (at w q) (keeps_still w q)
-step_prctl images w pid q body setting call own = step_authorises w pid q (authority_of body) (after_prctl images setting call) own
-
-step_seccomp : (images : GivenImages) (w : World) (pid q : ℕ) (body : Body) (which : Option SeccompOperation) (call : Record) → HasAuthority w pid (authority_of body)
-    → CameBy (cond ((pid == q) && true) (λ a. result_unwrap_or (after_seccomp images which call a) a) (λ a. a)) (at (seccomp images w pid body which call).world q) (at w q)
-step_seccomp images w pid q body (Some operation.GetActionAvail) call own =
-    step_quiet pid q _ (at w q) (over_asked Keeps keeps w (action_available (low call 1) (low call 2)) q)
-step_seccomp images w pid q body None call own = step_quiet pid q _ (at w q) (keeps_still w q)
-step_seccomp images w pid q body setting call own = step_authorises w pid q (authority_of body) (after_seccomp images setting call) own
-
-and_true : (b c : Bool) → c ≡ true → (b && c) ≡ b
-and_true true c is = is
-and_true false c is = refl
-
-step_fork : (images : GivenImages) (w : World) (pid q : ℕ) (call : Record) (b : Bool) → has_room w ≡ b → IsTrue (is_alive (at w pid))
-    → RowStep images w pid q call (Some syscall.Fork) (forks w pid (cond b (Ok (fresh_of w)) (Err Eagain)))
-step_fork images w pid q call true room alive =
-    leaves ((pid == q) && not (q == fresh_of w)) (λ a. a) (at (forked w pid) q) (at w (cond (q == fresh_of w) pid q)) (λ a. refl)
-    (subst (λ c. Came (at (forked w pid) q) (at w (cond c pid q))) (and_true (q == fresh_of w) (has_room w) room)
-    (came_by_rights (at (forked w pid) q) (at w (cond ((q == fresh_of w) && has_room w) pid q)) (forked_rights w pid q alive)))
-step_fork images w pid q call false room alive = leaves ((pid == q) && true) (λ a. a) (at w q) (at w q) (λ a. refl) (came_still (at w q))
-
 step_row : (images : GivenImages) (w : World) (pid q : ℕ) (body : Body) (which : Option Syscall) (call : Record)
-    → HasAuthority w pid (authority_of body) → IsTrue (is_alive (at w pid)) → RowStep images w pid q call which (row images w pid body which call)
-step_row images w pid q body (Some syscall.RtSigaction) call own alive = step_quiet pid q _ (at w q) (over_resignals Keeps keeps w pid (after_sigaction pid call body.signals) q)
-step_row images w pid q body (Some syscall.RtSigprocmask) call own alive = step_quiet pid q _ (at w q) (over_resignals Keeps keeps w pid (after_sigprocmask call body.signals) q)
-step_row images w pid q body (Some syscall.RtSigreturn) call own alive =
-    step_quiet pid q _ (at w q) (over_resignals Keeps keeps w pid (after_sigreturn body.signals.frames body.signals) q)
-step_row images w pid q body (Some syscall.RtSigpending) call own alive = step_quiet pid q _ (at w q) (keeps_still w q)
-step_row images w pid q body (Some syscall.SchedYield) call own alive = step_quiet pid q _ (at w q) (keeps_still w q)
-step_row images w pid q body (Some syscall.Pause) call own alive = step_quiet pid q _ (at w q) (over_waits Keeps keeps w pid waiting.Pause q)
-step_row images w pid q body (Some syscall.Getpid) call own alive = step_quiet pid q _ (at w q) (keeps_still w q)
-step_row images w pid q body (Some syscall.Getppid) call own alive = step_quiet pid q _ (at w q) (keeps_still w q)
-step_row images w pid q body (Some syscall.Fork) call own alive = step_fork images w pid q call (has_room w) refl alive
-step_row images w pid q body (Some syscall.Execve) call own alive = step_execve w pid q (authority_of body) (authority_after images (Some syscall.Execve) call) own
-step_row images w pid q body (Some syscall.Exit) call own alive = step_quiet pid q _ (at w q) (over_end Keeps keeps w pid (exit_status (low call 0)) (alive_is_there (at w pid) alive) q)
-step_row images w pid q body (Some syscall.ExitGroup) call own alive = step_quiet pid q _ (at w q) (over_end Keeps keeps w pid (exit_status (low call 0)) (alive_is_there (at w pid) alive) q)
-step_row images w pid q body (Some syscall.Wait4) call own alive = step_quiet pid q _ (at w q) (over_wait4 Keeps keeps w pid call q)
-step_row images w pid q body (Some syscall.Kill) call own alive =
-    step_quiet pid q _ (at w q) (over_changes Keeps keeps w 0 (after_kill w pid body.creds (signed call 0) (low call 1)) (over_kill Keeps keeps w pid body.creds (signed call 0) (low call 1)) q)
-step_row images w pid q body (Some syscall.Getuid) call own alive = step_quiet pid q _ (at w q) (keeps_still w q)
-step_row images w pid q body (Some syscall.Geteuid) call own alive = step_quiet pid q _ (at w q) (keeps_still w q)
-step_row images w pid q body (Some syscall.Setuid) call own alive = step_authorises w pid q (authority_of body) (authority_after images (Some syscall.Setuid) call) own
-step_row images w pid q body (Some syscall.Setresuid) call own alive = step_authorises w pid q (authority_of body) (authority_after images (Some syscall.Setresuid) call) own
-step_row images w pid q body (Some syscall.Getresuid) call own alive = step_quiet pid q _ (at w q) (keeps_still w q)
-step_row images w pid q body (Some syscall.Setpgid) call own alive =
-    step_quiet pid q _ (at w q) (over_changes Keeps keeps w 0 (after_setpgid w pid (signed call 0) (signed call 1)) (over_setpgid Keeps keeps w pid (signed call 0) (signed call 1)) q)
-step_row images w pid q body (Some syscall.Getpgrp) call own alive = step_quiet pid q _ (at w q) (keeps_still w q)
-step_row images w pid q body (Some syscall.Setsid) call own alive = step_quiet pid q _ (at w q) (over_changes Keeps keeps w pid (after_setsid w pid) (over_setsid Keeps keeps w pid) q)
-step_row images w pid q body (Some syscall.Getpgid) call own alive = step_quiet pid q _ (at w q) (over_asked Keeps keeps w (group_asked w pid (signed call 0)) q)
-step_row images w pid q body (Some syscall.Getsid) call own alive = step_quiet pid q _ (at w q) (over_asked Keeps keeps w (session_asked w pid (signed call 0)) q)
-step_row images w pid q body (Some syscall.Prctl) call own alive = step_prctl images w pid q body (prctl_option_of (low call 0)) call own
-step_row images w pid q body (Some syscall.Seccomp) call own alive = step_seccomp images w pid q body (seccomp_operation_of (low call 0)) call own
-step_row images w pid q body None call own alive = step_quiet pid q _ (at w q) (keeps_still w q)
+    → HasAuthority w pid (authority_of body) → IsTrue (is_alive (at w pid))
+    → RowStep w pid q (λ a. result_unwrap_or (authority_after images which call a) a) (is_fork_row which) (row images w pid body which call)
+step_row images w pid q body which call own alive =
+    let old : Authority = authority_of body in
+    let kept = step_kept w pid q old own false in
+    each_call images w pid body call (OwnStep w pid q old) (record {
+      answers = λ r. kept _ (over_asked Keeps keeps w r q);
+      tells_signals = λ _. kept (at w q) (came_still (at w q));
+      tells_ids = kept (at w q) (came_still (at w q));
+      resignals = λ r. kept _ (over_resignals Keeps keeps w pid r q);
+      authorises = step_authorises w pid q old own;
+      executes = step_execve w pid q old own;
+      marks = kept _ (keeps_subreapers images.subreapers w (subreaper_set w pid call) (keeps_changed w pid (with_subreaper (not (register call 1 == 0))) (λ body. refl)) q);
+      asks_mark = kept _ (keeps_subreapers images.subreapers w (subreaper_asked w body.subreaper) (keeps_still w) q);
+      pauses = kept _ (over_waits Keeps keeps w pid waiting.Pause q);
+      waits_for = kept _ (over_wait4 Keeps keeps w pid call q);
+      forks_one = step_fork w pid q old own (has_room w) refl alive;
+      ends = λ status. kept _ (over_end Keeps keeps w pid status (alive_is_there (at w pid) alive) q);
+      kills = kept _ (over_changes Keeps keeps w 0 _ (over_kill Keeps keeps w pid body.creds (signed call 0) (low call 1)) q);
+      regroups = kept _ (over_changes Keeps keeps w 0 _ (over_setpgid Keeps keeps w pid (signed call 0) (signed call 1)) q);
+      leads = kept _ (over_changes Keeps keeps w pid _ (over_setsid Keeps keeps w pid) q);
+    }) which (λ a. result_unwrap_or (authority_after images which call a) a) refl
 
 -- ---- one event
 -- the same, where this call was performed, or none
@@ -228,10 +174,8 @@ step_performed : (images : GivenImages) (w : World) (pid q : ℕ) (body : Body) 
 step_performed images w pid q body call own alive =
     let p : Performed = row images w pid body (syscall_of call.nr) call in
     let f : Authority → Authority = λ a. result_unwrap_or (authority_after images (syscall_of call.nr) call a) a in
-    let by_number : CameBy (cond ((pid == q) && not ((call.nr == 57) && has_returned q p.outcome)) f (λ a. a)) (at p.world q) (at w (cond ((call.nr == 57) && has_returned q p.outcome) pid q)) =
-    subst (λ b. CameBy (cond ((pid == q) && not (b && has_returned q p.outcome)) f (λ a. a)) (at p.world q) (at w (cond (b && has_returned q p.outcome) pid q)))
-    (fork_number call.nr) (step_row images w pid q body (syscall_of call.nr) call own alive) in
-    one_call images ((pid == q) && not ((call.nr == 57) && has_returned q p.outcome)) call (at p.world q) (at w (cond ((call.nr == 57) && has_returned q p.outcome) pid q)) by_number
+    one_call images ((pid == q) && not ((call.nr == 57) && has_returned q p.outcome)) call (at p.world q) (at w (cond ((call.nr == 57) && has_returned q p.outcome) pid q))
+    (subst (λ b. RowStep w pid q f b p) (fork_number call.nr) (step_row images w pid q body (syscall_of call.nr) call own alive))
 
 step_refused : (images : GivenImages) (w : World) (pid q : ℕ) (p : Performed) → Keeps w p.world → CallStep images w pid q None p
 step_refused images w pid q p keeps = no_calls images ((pid == q) && true) (at p.world q) (at w q) (keeps q)

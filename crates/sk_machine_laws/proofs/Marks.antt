@@ -146,7 +146,7 @@ marks_where false w p is = λ none. none
 marks_row : (images : GivenImages) (w : World) (pid : ℕ) (body : Body) (which : Option Syscall) (call : Record) → images.subreapers ≡ false
     → IsTrue (is_some (at w pid)) → MarksNobody w (row images w pid body which call).world
 marks_row images w pid body which call is there =
-    each_call images w pid body call (λ p. MarksNobody w p.world) (record {
+    each_call images w pid body call (λ _ p. MarksNobody w p.world) (record {
       answers = over_asked MarksNobody marks w;
       tells_signals = λ _ none. none;
       tells_ids = λ none. none;

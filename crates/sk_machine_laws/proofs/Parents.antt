@@ -39,25 +39,17 @@ use Rattle.sk_world.proofs.Ancestors.{new_parent_by}
 use Rattle.sk_world.proofs.KeptEnd.{handed_cases, handed_at, alive_is_there}
 use Rattle.sk_world_laws.proofs.Locality.{forked_touches, forked_child}
 use Rattle.sk_world.proofs.Fresh.{fresh_in_range, fresh_absent}
-use Rattle.sk_session.specs.Sessions.{after_setpgid, after_setsid, group_asked, session_asked}
 use Rattle.sk_machine.specs.declared.event.Event.{Event}
 use Rattle.sk_machine.specs.declared.event.Event.TheVariants.{Call, Deliver, Resume, Fault}
 use Rattle.sk_machine.specs.declared.answer.Reason.TheVariants.{Halted}
-use Rattle.sk_machine.specs.declared.operation.PrctlOption.{PrctlOption}
-use Rattle.sk_machine.specs.declared.operation.PrctlOption.TheVariants as option
-use Rattle.sk_machine.specs.declared.operation.SeccompOperation.{SeccompOperation}
-use Rattle.sk_machine.specs.declared.operation.SeccompOperation.TheVariants as operation
 use Rattle.sk_calls.specs.declared.syscall.Syscall.{Syscall}
-use Rattle.sk_calls.specs.declared.syscall.Syscall.TheVariants as syscall
 use Rattle.sk_machine.specs.Events.{pid_of}
 use Rattle.sk_machine.specs.Given.{GivenImages}
 use Rattle.sk_calls.specs.Syscalls.{syscall_of}
-use Rattle.sk_machine.specs.Arguments.{register, low, signed, prctl_option_of, seccomp_operation_of}
-use Rattle.sk_machine.specs.Authority.{Authority, with_authority, authority_of, after_prctl, after_seccomp}
+use Rattle.sk_machine.specs.Arguments.{register, low, signed}
+use Rattle.sk_machine.specs.Authority.{Authority, with_authority}
 use Rattle.sk_machine.specs.Performed.{Performed, authorises}
-use Rattle.sk_machine.specs.SignalCalls.{after_sigaction, after_sigprocmask, after_sigreturn}
-use Rattle.sk_machine.specs.Killing.{after_kill}
-use Rattle.sk_machine.specs.Performing.{executing, execve, forks, exit_status, authorised, no_new_privs_asked, subreaper_set, subreaper_asked, where_subreapers, with_subreaper, prctl, action_available, seccomp, row}
+use Rattle.sk_machine.specs.Performing.{executing, execve, forks, subreaper_set, subreaper_asked, where_subreapers, with_subreaper, row}
 use Rattle.sk_machine.specs.Delivering.{signal_for}
 use Rattle.sk_machine.specs.Machine.{Stepped, judged, happened, reason_of, step_of, world_after}
 use Rattle.sk_machine.specs.Lines.{Happening, is_fork, has_returned, is_fork_of, line_before, calls_added, line_of, authority_after_calls, history_after, authority_at}
@@ -66,9 +58,10 @@ use Rattle.sk_machine_laws.specs.ConfinementLaws.{RefusesKill, IsConfined, Confi
 use Rattle.sk_machine_laws.proofs.Carrying.{Carries, over_asked, over_changes, over_resignals, over_waits, over_kill, over_setpgid, over_setsid, over_wait4, over_end, over_delivered, over_resumed}
 use Rattle.sk_machine_laws.proofs.KeptEvents.{kept_step}
 use Rattle.sk_machine_laws.proofs.Unchanged.{impossible_changes_nothing}
-use Rattle.sk_machine_laws.proofs.LineSteps.{is_fork_row, fork_number, authority_in, event_changes_authority}
+use Rattle.sk_machine_laws.proofs.LineSteps.{fork_number, authority_in, event_changes_authority}
 use Rattle.sk_machine_laws.proofs.Growing.{grows_calls}
 use Rattle.sk_machine_laws.proofs.Confined.{event_is_confined}
+use Rattle.sk_machine_laws.proofs.EachCall.{is_fork_row, each_call}
 use Rattle.sk_machine_laws.proofs.Happened.{at_step, at_delivery}
 
 -- ---- whose child a process is
@@ -258,21 +251,6 @@ moved_subreapers : (there : Bool) (w : World) (p : Performed) → Moves w p.worl
 moved_subreapers true w p moved = moved
 moved_subreapers false w p moved = moved_still w
 
-moved_prctl : (images : GivenImages) (w : World) (pid : ℕ) (body : Body) (which : Option PrctlOption) (call : Record) → Moves w (prctl images w pid body which call).world
-moved_prctl images w pid body (Some option.GetSeccomp) call = moved_still w
-moved_prctl images w pid body (Some option.GetNoNewPrivs) call = over_asked Moves moves w (no_new_privs_asked call body.creds.no_new_privs)
-moved_prctl images w pid body (Some option.SetChildSubreaper) call =
-    moved_subreapers images.subreapers w (subreaper_set w pid call) (moved_changed w pid (with_subreaper (not (register call 1 == 0))))
-moved_prctl images w pid body (Some option.GetChildSubreaper) call = moved_subreapers images.subreapers w (subreaper_asked w body.subreaper) (moved_still w)
-moved_prctl images w pid body None call = moved_still w
-moved_prctl images w pid body setting call = moved_authorises w pid (after_prctl images setting call (authority_of body))
-
-moved_seccomp : (images : GivenImages) (w : World) (pid : ℕ) (body : Body) (which : Option SeccompOperation) (call : Record)
-    → Moves w (seccomp images w pid body which call).world
-moved_seccomp images w pid body (Some operation.GetActionAvail) call = over_asked Moves moves w (action_available (low call 1) (low call 2))
-moved_seccomp images w pid body None call = moved_still w
-moved_seccomp images w pid body setting call = moved_authorises w pid (after_seccomp images setting call (authority_of body))
-
 -- a process that this event has forked
 record IsForked (w after : World) (caller q : ℕ) : Type 0 where
   caller_there : IsTrue (is_some (at w caller))
@@ -308,51 +286,40 @@ comes_fork w pid q true room rules there =
     )
 comes_fork w pid q false room rules there = comes_moved w w pid q (moved_still w q)
 
-abbrev RowComes : World → ℕ → ℕ → Option Syscall → Performed → Type 0
-RowComes w pid q which p = Comes w p.world pid q (is_fork_row which && has_returned q p.outcome)
+-- this when a call of `pid`, a fork(2) or none, has come to this
+abbrev RowComes : World → ℕ → ℕ → Bool → Performed → Type 0
+RowComes w pid q forking p = Comes w p.world pid q (forking && has_returned q p.outcome)
 
 comes_row : (images : GivenImages) (w : World) (pid q : ℕ) (body : Body) (which : Option Syscall) (call : Record) → IsWorld w
-    → IsTrue (is_some (at w pid)) → RowComes w pid q which (row images w pid body which call)
-comes_row images w pid q body (Some syscall.RtSigaction) call rules there = comes_moved w _ pid q (over_resignals Moves moves w pid (after_sigaction pid call body.signals) q)
-comes_row images w pid q body (Some syscall.RtSigprocmask) call rules there = comes_moved w _ pid q (over_resignals Moves moves w pid (after_sigprocmask call body.signals) q)
-comes_row images w pid q body (Some syscall.RtSigreturn) call rules there =
-    comes_moved w _ pid q (over_resignals Moves moves w pid (after_sigreturn body.signals.frames body.signals) q)
-comes_row images w pid q body (Some syscall.RtSigpending) call rules there = comes_moved w w pid q (moved_still w q)
-comes_row images w pid q body (Some syscall.SchedYield) call rules there = comes_moved w w pid q (moved_still w q)
-comes_row images w pid q body (Some syscall.Pause) call rules there = comes_moved w _ pid q (over_waits Moves moves w pid waiting.Pause q)
-comes_row images w pid q body (Some syscall.Getpid) call rules there = comes_moved w w pid q (moved_still w q)
-comes_row images w pid q body (Some syscall.Getppid) call rules there = comes_moved w w pid q (moved_still w q)
-comes_row images w pid q body (Some syscall.Fork) call rules there = comes_fork w pid q (has_room w) refl rules there
-comes_row images w pid q body (Some syscall.Execve) call rules there = comes_moved w _ pid q (moved_execve w pid (authorised images body syscall.Execve call) q)
-comes_row images w pid q body (Some syscall.Exit) call rules there = comes_moved w _ pid q (over_end Moves moves w pid (exit_status (low call 0)) there q)
-comes_row images w pid q body (Some syscall.ExitGroup) call rules there = comes_moved w _ pid q (over_end Moves moves w pid (exit_status (low call 0)) there q)
-comes_row images w pid q body (Some syscall.Wait4) call rules there = comes_moved w _ pid q (over_wait4 Moves moves w pid call q)
-comes_row images w pid q body (Some syscall.Kill) call rules there =
-    comes_moved w _ pid q (over_changes Moves moves w 0 (after_kill w pid body.creds (signed call 0) (low call 1)) (over_kill Moves moves w pid body.creds (signed call 0) (low call 1)) q)
-comes_row images w pid q body (Some syscall.Getuid) call rules there = comes_moved w w pid q (moved_still w q)
-comes_row images w pid q body (Some syscall.Geteuid) call rules there = comes_moved w w pid q (moved_still w q)
-comes_row images w pid q body (Some syscall.Setuid) call rules there = comes_moved w _ pid q (moved_authorises w pid (authorised images body syscall.Setuid call) q)
-comes_row images w pid q body (Some syscall.Setresuid) call rules there = comes_moved w _ pid q (moved_authorises w pid (authorised images body syscall.Setresuid call) q)
-comes_row images w pid q body (Some syscall.Getresuid) call rules there = comes_moved w w pid q (moved_still w q)
-comes_row images w pid q body (Some syscall.Setpgid) call rules there =
-    comes_moved w _ pid q (over_changes Moves moves w 0 (after_setpgid w pid (signed call 0) (signed call 1)) (over_setpgid Moves moves w pid (signed call 0) (signed call 1)) q)
-comes_row images w pid q body (Some syscall.Getpgrp) call rules there = comes_moved w w pid q (moved_still w q)
-comes_row images w pid q body (Some syscall.Setsid) call rules there = comes_moved w _ pid q (over_changes Moves moves w pid (after_setsid w pid) (over_setsid Moves moves w pid) q)
-comes_row images w pid q body (Some syscall.Getpgid) call rules there = comes_moved w _ pid q (over_asked Moves moves w (group_asked w pid (signed call 0)) q)
-comes_row images w pid q body (Some syscall.Getsid) call rules there = comes_moved w _ pid q (over_asked Moves moves w (session_asked w pid (signed call 0)) q)
-comes_row images w pid q body (Some syscall.Prctl) call rules there = comes_moved w _ pid q (moved_prctl images w pid body (prctl_option_of (low call 0)) call q)
-comes_row images w pid q body (Some syscall.Seccomp) call rules there = comes_moved w _ pid q (moved_seccomp images w pid body (seccomp_operation_of (low call 0)) call q)
-comes_row images w pid q body None call rules there = comes_moved w w pid q (moved_still w q)
+    → IsTrue (is_some (at w pid)) → RowComes w pid q (is_fork_row which) (row images w pid body which call)
+comes_row images w pid q body which call rules there =
+    each_call images w pid body call (λ facts. RowComes w pid q facts.is_fork) (record {
+      answers = λ r. comes_moved w _ pid q (over_asked Moves moves w r q);
+      tells_signals = λ _. comes_moved w w pid q (moved_still w q);
+      tells_ids = comes_moved w w pid q (moved_still w q);
+      resignals = λ r. comes_moved w _ pid q (over_resignals Moves moves w pid r q);
+      authorises = λ r. comes_moved w _ pid q (moved_authorises w pid r q);
+      executes = λ r. comes_moved w _ pid q (moved_execve w pid r q);
+      marks = comes_moved w _ pid q (moved_subreapers images.subreapers w (subreaper_set w pid call) (moved_changed w pid (with_subreaper (not (register call 1 == 0)))) q);
+      asks_mark = comes_moved w _ pid q (moved_subreapers images.subreapers w (subreaper_asked w body.subreaper) (moved_still w) q);
+      pauses = comes_moved w _ pid q (over_waits Moves moves w pid waiting.Pause q);
+      waits_for = comes_moved w _ pid q (over_wait4 Moves moves w pid call q);
+      forks_one = comes_fork w pid q (has_room w) refl rules there;
+      ends = λ status. comes_moved w _ pid q (over_end Moves moves w pid status there q);
+      kills = comes_moved w _ pid q (over_changes Moves moves w 0 _ (over_kill Moves moves w pid body.creds (signed call 0) (low call 1)) q);
+      regroups = comes_moved w _ pid q (over_changes Moves moves w 0 _ (over_setpgid Moves moves w pid (signed call 0) (signed call 1)) q);
+      leads = comes_moved w _ pid q (over_changes Moves moves w pid _ (over_setsid Moves moves w pid) q);
+    }) which
 
 -- ---- events
 abbrev CallComes : World → ℕ → ℕ → Option Record → Performed → Type 0
-CallComes w pid q o p = Comes w p.world pid q (is_fork o && has_returned q p.outcome)
+CallComes w pid q o = RowComes w pid q (is_fork o)
 
 comes_performed : (images : GivenImages) (w : World) (pid q : ℕ) (body : Body) (call : Record) → IsWorld w → IsTrue (is_some (at w pid))
     → CallComes w pid q (Some call) (row images w pid body (syscall_of call.nr) call)
 comes_performed images w pid q body call rules there =
     let p : Performed = row images w pid body (syscall_of call.nr) call in
-    subst (λ b. Comes w p.world pid q (b && has_returned q p.outcome)) (fork_number call.nr) (comes_row images w pid q body (syscall_of call.nr) call rules there)
+    subst (λ b. RowComes w pid q b p) (fork_number call.nr) (comes_row images w pid q body (syscall_of call.nr) call rules there)
 
 comes_judged : (images : GivenImages) (w : World) (pid q : ℕ) (body : Body) (call : Record) (verdict : ℕ) (a : Action) → IsWorld w → IsTrue (is_some (at w pid))
     → CallComes w pid q (cond (performs a) (Some call) None) (judged images w pid body call verdict a)

@@ -183,7 +183,7 @@ tells_subreapers false w pid p right = λ child status is. nothing_told w w pid 
 tells_row : (images : GivenImages) (w : World) (pid : ℕ) (body : Body) (which : Option Syscall) (call : Record) → TellsRight w pid (row images w pid body which call)
 tells_row images w pid body which call =
     let none = λ (after : World) (child status : ℕ) (is : ◌≡◌ {A = Option (ℕ × ℕ)} None (Some (child, status))). nothing_told w after pid child status is in
-    each_call images w pid body call (TellsRight w pid) (record {
+    each_call images w pid body call (λ _. TellsRight w pid) (record {
       answers = tells_asked w pid;
       tells_signals = λ _. none w;
       tells_ids = none w;

@@ -198,7 +198,7 @@ clean_subreapers false w p clean = λ n is. refl
 
 clean_row : (images : GivenImages) (w : World) (pid : ℕ) (body : Body) (which : Option Syscall) (call : Record) → FailsClean w (row images w pid body which call)
 clean_row images w pid body which call =
-    each_call images w pid body call (FailsClean w) (record {
+    each_call images w pid body call (λ _. FailsClean w) (record {
       answers = clean_asked w;
       tells_signals = λ _ n is. refl;
       tells_ids = λ n is. refl;
