@@ -1,3 +1,4 @@
+//! The forms of files of filters, where their filters stand, and what is said of those that are refused.
 use sk_ask_files::{FileFault, Form, LineFault, Place, Refused, attach, fault_text, find, form_of};
 use sk_check::CheckFault;
 use sk_engines::Refusal;

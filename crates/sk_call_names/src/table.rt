@@ -1,3 +1,4 @@
+//! The name of a number, the number of a name, and all numbers with names, looked up in two tables.
 ghost use Rattle.std.specs.Prelude.{◌≡◌, ◌≢◌, ℕ, ◌<◌, ◌++◌, length, map, position, slice_get, is_some, if◌then◌else◌, [], ◌∷◌, Some, IfOk, OnOk, IfNone, IfSome};
 ghost use Rattle.std.specs.Option.{option_map};
 ghost use Rattle.std.specs.Str.{bytes_eq};

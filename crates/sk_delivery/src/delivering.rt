@@ -1,3 +1,4 @@
+//! The delivery of a signal: what it does to the body of its process, and then in the world.
 ghost use Rattle.std.specs.Prelude.{◌≡◌, ◌≢◌, IsTrue, IfSome};
 ghost use Rattle.sk_signal.specs.SignalSet.{IsSignal};
 ghost use Rattle.sk_signal.specs.declared.disposition.DefaultAction.TheVariants as action;

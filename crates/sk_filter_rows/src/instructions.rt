@@ -1,3 +1,4 @@
+//! Images, records, operations and actions, at bytes and numbers that the manuals give.
 use sk_insn::{
     Action, Arithmetic, Comparison, ImageFault, Insn, NoImage, Operand, Operation, Record,
     Register, decode, read_image, read_insns, write_insns,

@@ -1,3 +1,4 @@
+//! What a kernel is told: as many forks as there is room for, and a run that may stop once and goes on.
 use crate::fault::Fault;
 use crate::{ALLOW, FILTERS, FORKS, print_memory};
 use sk_calls::Syscall;

@@ -1,3 +1,4 @@
+//! Images of filters: how they are read, why bytes are none, and how they are written.
 ghost use Rattle.std.specs.Prelude.{◌≡◌, ◌*◌, ◌≤◌, length, IfOk, IfErr, IsErr, IsOk, MatchResult, Ok, Err, vec_len};
 ghost use Rattle.sk_insn.specs.Instructions.{insn_of, instructions_in, image_instructions, instructions_of, image_of, Reads, IsReadingFault};
 

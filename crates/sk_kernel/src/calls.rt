@@ -1,3 +1,4 @@
+//! How the filters of a process judge its call, and what becomes of the call by each verdict.
 ghost use Rattle.std.specs.Prelude.{◌≡◌, ◌&&◌, IsTrue, IfSome, IfOk, OnOk, OnErr, pos, neg_ℤ, min};
 ghost use Rattle.sk_insn.specs.Actions.{performs};
 ghost use Rattle.sk_calls.specs.Syscalls.{syscall_of};

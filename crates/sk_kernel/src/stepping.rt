@@ -1,3 +1,4 @@
+//! What an event does: whether it is possible, and then each kind of event by its own function.
 ghost use Rattle.std.specs.Prelude.{◌≡◌, IsTrue, None, IfSome, IfOk, OnOk, OnErr};
 ghost use Rattle.std.specs.Option.{is_some};
 ghost use Rattle.sk_world.specs.World.{at, is_alive};

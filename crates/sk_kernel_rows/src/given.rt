@@ -1,3 +1,4 @@
+//! The filters and programs of a table, and those that several tables name.
 use sk_asm::assemble;
 use sk_insn::write_insns;
 use sk_kernel::{Images, Mark};

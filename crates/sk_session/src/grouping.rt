@@ -1,3 +1,4 @@
+//! setpgid(2) and setsid(2), with the conditions for each in the order of their errors.
 ghost use Rattle.std.specs.Prelude.{◌≡◌, ◌≤◌, IsTrue};
 ghost use Rattle.std.specs.Option.{is_some};
 ghost use Rattle.std.specs.Result.{result_unwrap_or};

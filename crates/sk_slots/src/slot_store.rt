@@ -1,3 +1,4 @@
+//! The store in slots, with the table that leads from a pid to its slot.
 ghost use Rattle.std.specs.Prelude.{◌≡◌, ℕ, ◌+◌, ◌<◌, ◌≤◌, ◌==◌, if◌then◌else◌, None, Some, IfSome, IsTrue, vec_len, vec_capacity};
 ghost use Rattle.std.specs.Option.{is_some};
 ghost use Rattle.sk_world.specs.declared.process.TheConstants.{LAST_PID, PROCESSES};

@@ -1,3 +1,4 @@
+//! Rows of neighbouring numbers, and which of them are put together.
 ghost use Rattle.std.specs.Prelude.{◌≡◌, ℕ, ◌+◌, ◌-◌, ◌<◌, ◌≤◌, ◌↔◌, List, [], ◌∷◌, length, slice_get, Some, OnOk, IsTrue};
 ghost use Rattle.std.specs.List.{Contains};
 ghost use Rattle.sk_insn.specs.declared.insn.Insn.{Insn};
