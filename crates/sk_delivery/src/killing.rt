@@ -90,7 +90,6 @@ fn kill_each<S: ProcStore>(
     Ok(0)
 }
 
-/// Whether there is a process that is meant.
 fn is_any_meant<S: ProcStore>(store: &S, caller: u32, who: Who) -> bool
     requires rules { IsWorld (S.contents store.now) }
     ensures { result ≡ not (length (meant (S.contents store.now) caller who) == 0) }

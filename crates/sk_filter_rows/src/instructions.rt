@@ -62,7 +62,6 @@ fn images_are_refused(rt: HostRuntime) -> Result<(), Fail> {
     Ok(())
 }
 
-/// The image of so many instructions.
 fn image_of(alloc: Global, instructions: usize) -> Result<Vec<u8>, AllocError> {
     let mut image = Vec::new(alloc);
     for _instruction in 0..instructions {

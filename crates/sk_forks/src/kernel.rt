@@ -101,7 +101,6 @@ fn images(alloc: Global) -> Result<Images, AllocError> {
     })
 }
 
-/// A call with one register.
 fn call(pid: u32, call: Syscall, register: u64) -> Event {
     Event::Call {
         pid,

@@ -83,7 +83,6 @@ pub fn read_image(alloc: Global, image: &[u8]) -> Result<Result<Vec<Insn>, NoIma
     }
 }
 
-// How many instructions an image has.
 fn insn_count(image: &[u8]) -> Result<usize, NoImage>
     ensures exact { Reads (λ count. instructions_in count image.now) result (image_instructions image.now) }
     ensures whole { IfOk result (λ count. 8 * count ≡ length image.now) }

@@ -46,7 +46,6 @@ pub(crate) fn call<S: ProcStore>(
     Ok(Answer::Call { verdict, outcome })
 }
 
-/// The verdict of all filters of a process on a call.
 fn verdict<S: ProcStore>(store: &S, pid: u32, call: &Record) -> u32
     ensures { IfSome (at (S.contents store.now) pid) (λ p. result ≡ verdict_of p.body.chain call.now) }
 {

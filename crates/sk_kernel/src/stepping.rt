@@ -82,7 +82,6 @@ fn happen<S: ProcStore>(
     }
 }
 
-/// Delivers the signal that is due.
 fn deliver_due<S: ProcStore>(store: &mut S, pid: u32) -> Answer
     requires rules { IsWorld (S.contents store.old) }
     requires alive { IsTrue (is_alive (at (S.contents store.old) pid)) }

@@ -183,7 +183,6 @@ impl<S: ProcStore> Course<S> {
         Ok(())
     }
 
-    /// Gives the process its turn.
     fn turn<R: Abort + AllocGlobal>(
         &mut self,
         rt: &R,

@@ -63,7 +63,6 @@ fn may_regroup<S: ProcStore>(store: &S, caller: u32, target: u32, group: u32) ->
     may_join(store, caller, target, group)
 }
 
-/// Whether the process is a child that the caller may put into a group.
 fn may_move_child<S: ProcStore>(store: &S, caller: u32, child: u32) -> Result<(), Errno>
     ensures { result ≡ may_move_child (S.contents store.now) caller child }
 {
@@ -79,7 +78,6 @@ fn may_move_child<S: ProcStore>(store: &S, caller: u32, child: u32) -> Result<()
     Ok(())
 }
 
-/// Whether the process may be put into the group.
 fn may_join<S: ProcStore>(store: &S, caller: u32, target: u32, group: u32) -> Result<(), Errno>
     requires { IsWorld (S.contents store.now) }
     ensures { result ≡ may_join (S.contents store.now) caller target group }

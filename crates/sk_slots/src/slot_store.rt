@@ -46,7 +46,6 @@ impl Model for SlotStore {
     ghost invariant = { IsStore };
 }
 
-// The slot of the pid, if it has one.
 fn slot_in(table: &[Option<usize>], pid: u32) -> Option<usize>
     ensures { result ≡ slot table.now pid }
 {

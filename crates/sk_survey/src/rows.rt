@@ -53,7 +53,6 @@ fn continues(rows: &[Row], alone: &[u32], row: &Row) -> bool
     }
 }
 
-/// Whether the number is one of those.
 fn stands_alone(alone: &[u32], number: u32) -> bool
     ensures { IsTrue result ↔ Contains alone.now number }
 {
