@@ -1,3 +1,4 @@
+//! Logs of strace(1), each with the text and the sums of its replay through one filter.
 use sk_call_names::Architecture;
 use sk_chain::Chain;
 use sk_check::check;

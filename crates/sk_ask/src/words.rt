@@ -481,7 +481,6 @@ fn is_turned(arch: Option<Architecture>) -> bool
     }
 }
 
-// Whether arguments of calls are told of.
 fn tells_arguments(word: Word, examples: bool) -> bool
     ensures tells { result ≡ tells_arguments word examples }
 {

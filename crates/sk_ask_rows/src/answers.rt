@@ -1,3 +1,4 @@
+//! Words of `ask` with their whole answers, the stream that each goes to, and what is told beside it.
 use crate::ends::run;
 use std::test::Fail;
 

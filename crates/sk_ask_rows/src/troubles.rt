@@ -1,3 +1,4 @@
+//! Words of `ask` that get no answer, each with the line that says what is wrong, and ends that fail.
 use crate::ends::{Output, run};
 use sk_ask::misused;
 use sk_ends::Counted;

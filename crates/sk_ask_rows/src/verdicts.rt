@@ -1,3 +1,4 @@
+//! Worked texts of verdicts, and the names of errors by their numbers.
 use sk_verdict::{error_name, push_verdict};
 use std::test::Fail;
 

@@ -1,3 +1,5 @@
+//! The sum that keeps any part of the work from being left out, and the count of the work.
+
 /// What some work came to.
 #[derive(Clone, Copy, Debug, PartialEq, Eq)]
 pub struct Total {

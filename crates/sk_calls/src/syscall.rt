@@ -1,3 +1,4 @@
+//! Each call of the kernel by its number and by its name.
 ghost use Rattle.std.specs.Prelude.{◌≡◌, IfSome};
 ghost use Rattle.sk_calls.specs.Syscalls.{number_of, name_of, syscall_of, syscall_named};
 

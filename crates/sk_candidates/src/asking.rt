@@ -1,3 +1,4 @@
+//! Whose turn is next, where only those that are noted and the waiter are asked.
 ghost use Rattle.std.specs.Prelude.{◌≡◌, ℕ, Bool, ◌&&◌, IfSome, None, find, nat_lt};
 ghost use Rattle.std.specs.Option.{option_map};
 ghost use Rattle.sk_world.specs.Processes.{pids};

@@ -1,3 +1,4 @@
+//! Who is blocked, and which parent hears of the status change of a process.
 ghost use Rattle.std.specs.Prelude.{◌≡◌, ℕ, None, Some, IsTrue};
 ghost use Rattle.std.specs.Option.{is_some};
 ghost use Rattle.sk_world.specs.World.{at};

@@ -1,3 +1,4 @@
+//! The candidates for a turn: how each change of a store notes them, and who of them is next.
 ghost use Rattle.std.specs.Prelude.{◌≡◌, ◌≢◌, ℕ, ◌≤◌, None, Some, IfSome, IsFalse};
 ghost use Rattle.std.specs.Option.{option_map};
 ghost use Rattle.sk_numbers.specs.Numbers.{contains};

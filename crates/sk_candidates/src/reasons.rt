@@ -1,3 +1,4 @@
+//! Why an event is not possible: the reasons in their order, and the halt and the due signal that they look at.
 ghost use Rattle.std.specs.Prelude.{◌≡◌, IfSome};
 ghost use Rattle.sk_signal.specs.SignalSet.{IsSignal};
 ghost use Rattle.sk_world.specs.World.{at};

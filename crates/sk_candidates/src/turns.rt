@@ -1,3 +1,4 @@
+//! Whether a process can run, and what its next event is.
 ghost use Rattle.std.specs.Prelude.{◌≡◌, if◌then◌else◌, IfSome, None};
 ghost use Rattle.std.specs.Option.{is_some};
 ghost use Rattle.sk_world.specs.declared.process.Waiting.TheVariants.{Asks};

@@ -1,3 +1,4 @@
+//! How the filters of a chain hang together: each with those that were there before it, which chains share.
 use sk_check::Checked;
 use std::marker::Model;
 use std::rc::Rc;

@@ -1,3 +1,4 @@
+//! The check of a whole program, and the type of the programs that have passed it.
 ghost use Rattle.std.specs.Prelude.{◌≡◌, ◌↔◌, IsOk, IfOk, IfErr, IfNone, IfSome, MatchResult};
 ghost use Rattle.sk_check.specs.FirstFault.{first_fault};
 ghost use Rattle.sk_check.specs.Valid.{IsValid, IsFirstFault};

@@ -1,3 +1,5 @@
+//! The faults of programs, most of them with the place where they are.
+
 /// Why a program is refused. Places count from 0.
 #[derive(Clone, Copy, Debug, PartialEq, Eq)]
 pub enum CheckFault {

@@ -1,3 +1,4 @@
+//! The pass over a program that follows which scratch words every path has stored.
 ghost use Rattle.std.specs.Prelude.{ℕ, ◌<◌, ◌≤◌, length, IfNone, IfSome};
 ghost use Rattle.sk_insn.specs.Operations.{operation_of};
 ghost use Rattle.sk_check.specs.Paths.{onward, loaded_word, stored_word, Loads};

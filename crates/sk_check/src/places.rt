@@ -1,3 +1,4 @@
+//! The faults of instructions that are looked at one by one, and of a last one that is no return.
 ghost use Rattle.std.specs.Prelude.{◌≡◌, ◌<◌, ◌≤◌, length, IfNone, IfSome};
 ghost use Rattle.sk_insn.specs.Operations.{operation_of};
 ghost use Rattle.sk_check.specs.Valid.{IsFirstFault};

@@ -1,3 +1,4 @@
+//! Sets of scratch words, as the bits of a number.
 ghost use Rattle.std.specs.Prelude.{ℕ, ◌≡◌, ◌<◌, ◌↔◌, length, IsTrue};
 ghost use Rattle.sk_check.specs.Sets.{Lacks, Meets};
 

@@ -91,7 +91,6 @@ fn word_on(path: &Path, index: u8, budget: &mut Budget) -> Sought
     }
 }
 
-/// The record of these words.
 fn record_of(words: &[u32; 16]) -> Record
     ensures words { (index : ℕ) → index < 16 → word_of result (4 * index) ≡ Some (slice_index_or words.now index 0) }
     ensures architecture { result.arch ≡ slice_index_or words.now 1 0 }

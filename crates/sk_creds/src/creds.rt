@@ -1,3 +1,4 @@
+//! The user ids of a process, by the rules of setuid(2), setresuid(2), execve(2) and kill(2).
 ghost use Rattle.std.specs.Prelude.{◌≡◌, ◌≢◌, Result, OnErr, IsTrue};
 ghost use Rattle.std.specs.Result.{result_unwrap_or};
 ghost use Rattle.sk_creds.specs.Errno.{answer_of};

@@ -1,3 +1,4 @@
+//! The errors that calls answer, with their numbers on x86-64.
 ghost use Rattle.std.specs.Prelude.{◌≡◌};
 ghost use Rattle.sk_creds.specs.Errno.{number_of};
 

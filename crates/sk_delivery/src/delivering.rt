@@ -1,3 +1,4 @@
+//! The delivery of a signal: what it does to the body of its process, and then in the world.
 ghost use Rattle.std.specs.Prelude.{◌≡◌, ◌≢◌, IsTrue, IfSome};
 ghost use Rattle.sk_signal.specs.SignalSet.{IsSignal};
 ghost use Rattle.sk_signal.specs.declared.disposition.DefaultAction.TheVariants as action;
@@ -42,7 +43,6 @@ pub fn deliver<S: ProcStore>(store: &mut S, pid: u32, signal: u8) -> Effect
     }
 }
 
-/// Acts on the body of the process.
 fn act_at<S: ProcStore>(store: &mut S, pid: u32, signal: u8) -> Deed
     requires rules { IsWorld (S.contents store.old) }
     requires alive { IsTrue (is_alive (at (S.contents store.old) pid)) }
@@ -113,7 +113,6 @@ fn enter_handler(body: &mut Body, signal: u8, program: u64, mask: SigSet) -> Dee
     })
 }
 
-/// Ends the process by a signal.
 fn terminate<S: ProcStore>(store: &mut S, pid: u32, signal: u8) -> Effect
     requires rules { IsWorld (S.contents store.old) }
     requires alive { IsTrue (is_alive (at (S.contents store.old) pid)) }

@@ -1,3 +1,4 @@
+//! kill(2): whom the caller may signal, and which error it gets where that is nobody.
 ghost use Rattle.std.specs.Prelude.{◌≡◌, ◌||◌, ◌&&◌, ◌==◌, ◌≤◌, not, length, IsTrue};
 ghost use Rattle.std.specs.Option.{is_some};
 ghost use Rattle.std.specs.Result.{result_unwrap_or};
@@ -89,7 +90,6 @@ fn kill_each<S: ProcStore>(
     Ok(0)
 }
 
-/// Whether there is a process that is meant.
 fn is_any_meant<S: ProcStore>(store: &S, caller: u32, who: Who) -> bool
     requires rules { IsWorld (S.contents store.now) }
     ensures { result ≡ not (length (meant (S.contents store.now) caller who) == 0) }

@@ -1,3 +1,4 @@
+//! Whom the argument of kill(2) or wait4(2) means, and the next of them.
 ghost use Rattle.std.specs.Prelude.{◌≡◌, ◌&&◌, ◌==◌, not};
 ghost use Rattle.std.specs.Option.{is_some};
 ghost use Rattle.sk_world.specs.declared.process.TheConstants.{INIT};

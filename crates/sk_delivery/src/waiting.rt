@@ -1,3 +1,4 @@
+//! wait4(2): what its registers ask for, and how a process waits and asks again.
 ghost use Rattle.std.specs.Prelude.{◌≡◌, ◌%◌, ◌^◌, if◌then◌else◌, IsTrue, Some, None, pos, neg_ℤ};
 ghost use Rattle.std.specs.Option.{is_some};
 ghost use Rattle.sk_creds.specs.Errno.{number_of};

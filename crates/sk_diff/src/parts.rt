@@ -184,7 +184,6 @@ fn pair_at(relation: Relation, pairs: &[Verdicts], number: Option<u32>) -> Optio
     Some(*pair)
 }
 
-/// A part for each line.
 fn each_part(
     alloc: Global,
     chains: Comparing<'_>,

@@ -19,7 +19,7 @@ pub struct Asked {
     pub images: Vec<Vec<u8>>,
 }
 
-// What the lines so far have given.
+/// What the lines so far have given: the call, if one of them has told it, and the images of filters, the oldest first.
 #[derive(Drop)]
 pub struct Given {
     pub call: Option<Record>,

@@ -43,7 +43,6 @@ pub fn refusal_reply(number: usize, refusal: Refusal) -> Reply
     Reply::Refused(text)
 }
 
-// Appends why a filter is refused.
 fn push_refusal(text: &mut Line, refusal: Refusal)
     requires room { array_string_len text.old + 78 ≤ 128 }
     ensures text { text.new.bytes ≡ text.old.bytes ++ refusal_text refusal }

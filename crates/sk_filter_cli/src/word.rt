@@ -41,7 +41,6 @@ pub fn word_in(alloc: Global, words: &[String]) -> Result<Option<Word>, AllocErr
     }
 }
 
-// The parser of the words.
 fn parser<'a>(alloc: Global) -> Result<Command<'a>, AllocError>
     ensures words { IfOk result (λ parser. app_of parser ≡ program) }
 {

@@ -1,3 +1,4 @@
+//! Worked programs of the checker: the faults, scratch words on two paths, and the longest program.
 use crate::filters::refuses_getppid;
 use crate::insns::{ALLOW, divx, ja, jeq, ldabs, ldimm, ldmem, ldximm, ret, reta, st, tax, with_k};
 use sk_check::{CheckFault, check};

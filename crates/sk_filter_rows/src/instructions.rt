@@ -1,3 +1,4 @@
+//! Images, records, operations and actions, at bytes and numbers that the manuals give.
 use sk_insn::{
     Action, Arithmetic, Comparison, ImageFault, Insn, NoImage, Operand, Operation, Record,
     Register, decode, read_image, read_insns, write_insns,
@@ -61,7 +62,6 @@ fn images_are_refused(rt: HostRuntime) -> Result<(), Fail> {
     Ok(())
 }
 
-/// The image of so many instructions.
 fn image_of(alloc: Global, instructions: usize) -> Result<Vec<u8>, AllocError> {
     let mut image = Vec::new(alloc);
     for _instruction in 0..instructions {

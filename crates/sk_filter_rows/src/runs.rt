@@ -1,3 +1,4 @@
+//! Worked runs of filters: what they answer and in how many steps, and the walks for always-allowed numbers.
 use crate::filters::{by_architecture, even, filter, refuses_getppid};
 use crate::insns::{
     ALLOW, EPERM, branch, divx, ja, jeq, ldabs, ldimm, ldmem, ldximm, ret, reta, st, tax, txa,

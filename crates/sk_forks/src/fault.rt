@@ -1,3 +1,4 @@
+//! The faults that end the program: their texts, and which fault of a library becomes which of them.
 use sk_insn::ImageFault;
 use sk_kernel::Stopped;
 use std::alloc::AllocError;

@@ -1,3 +1,4 @@
+//! What a kernel is told: as many forks as there is room for, and a run that may stop once and goes on.
 use crate::fault::Fault;
 use crate::{ALLOW, FILTERS, FORKS, print_memory};
 use sk_calls::Syscall;
@@ -100,7 +101,6 @@ fn images(alloc: Global) -> Result<Images, AllocError> {
     })
 }
 
-/// A call with one register.
 fn call(pid: u32, call: Syscall, register: u64) -> Event {
     Event::Call {
         pid,

@@ -1,3 +1,4 @@
+//! What ends a run of random events: a difference that was found, or what kept the run from going on.
 use sk_asm::AsmFault;
 use sk_kernel::Stopped;
 use std::alloc::{AllocError, AllocFailed};

@@ -1,3 +1,4 @@
+//! The filters and programs that both kernels are given.
 use crate::fault::Fault;
 use sk_asm::assemble;
 use sk_insn::write_insns;

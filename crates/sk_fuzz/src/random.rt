@@ -1,3 +1,4 @@
+//! The generator of random numbers, and what is drawn from it.
 ghost use Rattle.std.specs.Prelude.{◌<◌};
 
 /// Random numbers: the xorshift generator of Marsaglia (2003), with the shifts 13, 7 and 17.

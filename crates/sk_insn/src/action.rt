@@ -1,3 +1,4 @@
+//! The actions of seccomp(2), by the values of filters and by their words.
 ghost use Rattle.std.specs.Prelude.{◌≡◌};
 ghost use Rattle.sk_insn.specs.Actions.{action_of, action_name, action_named, value_of, performs};
 

@@ -1,3 +1,4 @@
+//! Images of filters: how they are read, why bytes are none, and how they are written.
 ghost use Rattle.std.specs.Prelude.{◌≡◌, ◌*◌, ◌≤◌, length, IfOk, IfErr, IsErr, IsOk, MatchResult, Ok, Err, vec_len};
 ghost use Rattle.sk_insn.specs.Instructions.{insn_of, instructions_in, image_instructions, instructions_of, image_of, Reads, IsReadingFault};
 
@@ -82,7 +83,6 @@ pub fn read_image(alloc: Global, image: &[u8]) -> Result<Result<Vec<Insn>, NoIma
     }
 }
 
-// How many instructions an image has.
 fn insn_count(image: &[u8]) -> Result<usize, NoImage>
     ensures exact { Reads (λ count. instructions_in count image.now) result (image_instructions image.now) }
     ensures whole { IfOk result (λ count. 8 * count ≡ length image.now) }

@@ -1,3 +1,4 @@
+//! Instructions and their eight bytes.
 use byteorder::{ByteOrder, LittleEndian};
 
 /// One instruction: what `struct sock_filter` of seccomp(2) holds.

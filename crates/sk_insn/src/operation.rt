@@ -1,3 +1,4 @@
+//! The table of the operations: their codes, their names, and the parts that they are made of.
 ghost use Rattle.std.specs.Prelude.{◌≡◌};
 ghost use Rattle.sk_insn.specs.Operations.{operation_of, operation_named, code_of, name_of};
 

@@ -1,3 +1,4 @@
+//! Records of calls, their bytes, and the words that a filter loads from them.
 ghost use Rattle.std.specs.Prelude.{◌≡◌, ℕ, ◌+◌, ◌/◌, ◌%◌, ◌^◌, ◌==◌, ◌<◌, ◌≤◌, ◌↔◌, if◌then◌else◌, length, drop, take, IsSome, IfSome};
 ghost use Rattle.byteorder.specs.Endian.{little_number};
 

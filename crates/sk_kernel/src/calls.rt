@@ -1,3 +1,4 @@
+//! How the filters of a process judge its call, and what becomes of the call by each verdict.
 ghost use Rattle.std.specs.Prelude.{◌≡◌, ◌&&◌, IsTrue, IfSome, IfOk, OnOk, OnErr, pos, neg_ℤ, min};
 ghost use Rattle.sk_insn.specs.Actions.{performs};
 ghost use Rattle.sk_calls.specs.Syscalls.{syscall_of};
@@ -45,7 +46,6 @@ pub(crate) fn call<S: ProcStore>(
     Ok(Answer::Call { verdict, outcome })
 }
 
-/// The verdict of all filters of a process on a call.
 fn verdict<S: ProcStore>(store: &S, pid: u32, call: &Record) -> u32
     ensures { IfSome (at (S.contents store.now) pid) (λ p. result ≡ verdict_of p.body.chain call.now) }
 {

@@ -1,3 +1,4 @@
+//! The kernel: how it does one event or a run of them, and what it tells between events.
 ghost use Rattle.std.specs.Prelude.{◌≡◌, [], ◌∷◌, ◌++◌, ◌<◌, length, IfSome, IfNone, IfOk, IfErr, OnOk, OnErr, None, Some};
 ghost use Rattle.std.specs.Option.{option_map};
 ghost use Rattle.sk_world.specs.World.{at, opening};

@@ -1,3 +1,4 @@
+//! What an event does: whether it is possible, and then each kind of event by its own function.
 ghost use Rattle.std.specs.Prelude.{◌≡◌, IsTrue, None, IfSome, IfOk, OnOk, OnErr};
 ghost use Rattle.std.specs.Option.{is_some};
 ghost use Rattle.sk_world.specs.World.{at, is_alive};
@@ -81,7 +82,6 @@ fn happen<S: ProcStore>(
     }
 }
 
-/// Delivers the signal that is due.
 fn deliver_due<S: ProcStore>(store: &mut S, pid: u32) -> Answer
     requires rules { IsWorld (S.contents store.old) }
     requires alive { IsTrue (is_alive (at (S.contents store.old) pid)) }

@@ -1,3 +1,4 @@
+//! Tables of user ids, of events that are not possible, of the halt, and of as many processes as there can be.
 use crate::given::{Filter, Given, NOTHING, PLAIN, SET_USER_ID};
 use crate::play::Sight::Halted;
 use crate::play::{play, play_and_see};

@@ -1,3 +1,4 @@
+//! Tables of filters: how they are attached, what each verdict does, and how a fork shares them.
 use crate::given::{Filter, Given, NOTHING};
 use crate::play::Sight::Halted;
 use crate::play::{add, play, play_and_keep, play_and_see};

@@ -1,3 +1,4 @@
+//! The filters and programs of a table, and those that several tables name.
 use sk_asm::assemble;
 use sk_insn::write_insns;
 use sk_kernel::{Images, Mark};
@@ -66,7 +67,6 @@ impl Filter {
         "ldabs 0\njeq 110 +0 +1\nret trap/7\nret allow\n",
     );
 
-    /// Its image.
     fn image(self, alloc: Global) -> Result<Vec<u8>, Fail> {
         let text = match self {
             Filter::Text(text) => text.as_bytes().to_vec(alloc)?,

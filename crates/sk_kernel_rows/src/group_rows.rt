@@ -1,3 +1,4 @@
+//! Tables of process groups: whom kill(2) reaches in them, and what setpgid(2) refuses.
 use crate::given::{Given, NOTHING, PLAIN};
 use crate::play::Sight::{Halted, Next};
 use crate::play::{play, play_and_see};

@@ -1,3 +1,4 @@
+//! A table after which the line of each process is known by hand.
 use crate::given::{Given, NOTHING};
 use crate::play::{answers_of, events_of};
 use crate::row::Act::Call;

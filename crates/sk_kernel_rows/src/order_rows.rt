@@ -1,3 +1,4 @@
+//! Scripts in many orders of their turns: processes with the same line get the same verdicts in all of them.
 use crate::given::{Filter, Given, NOTHING, PLAIN, SET_USER_ID};
 use crate::row::Act::Call;
 use crate::row::{Act, NONE};
@@ -182,7 +183,6 @@ impl<S: ProcStore> Course<S> {
         Ok(())
     }
 
-    /// Gives the process its turn.
     fn turn<R: Abort + AllocGlobal>(
         &mut self,
         rt: &R,

@@ -1,3 +1,4 @@
+//! Tables of process groups that an end leaves orphaned, or that are orphaned all along.
 use crate::given::{Filter, Given, NOTHING};
 use crate::play::play;
 use crate::row::Act::{Call, Deliver, Resume};

@@ -1,3 +1,4 @@
+//! Pictures of processes, by which a table tells that they have not changed.
 use sk_creds::Creds;
 use sk_kernel::Kernel;
 use sk_table::{Life, Links, Note, Proc, ProcStore, Waiting};

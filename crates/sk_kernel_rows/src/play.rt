@@ -1,3 +1,4 @@
+//! How a table is played: each answer is compared over each store, and then what the kernel tells.
 use crate::given::Given;
 use crate::picture::{Picture, pictures};
 use crate::row::Row;

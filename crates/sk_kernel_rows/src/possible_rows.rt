@@ -1,3 +1,4 @@
+//! A row of an event that is known to be possible.
 use crate::given::NOTHING;
 use sk_calls::Syscall;
 use sk_kernel::{Answer, Event, Kernel, Outcome};

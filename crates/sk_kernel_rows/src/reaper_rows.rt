@@ -1,3 +1,4 @@
+//! Tables of orphans, which a subreaper gets, or process 1.
 use crate::given::{Given, NOTHING, PLAIN};
 use crate::play::play;
 use crate::row::Act::{Call, Resume};

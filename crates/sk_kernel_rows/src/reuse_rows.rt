@@ -1,3 +1,4 @@
+//! A table in which each pid is given once, and then the first of them again.
 use crate::given::{Filter, Given, NOTHING};
 use crate::play::Sight::Filters;
 use crate::play::{add, play_and_see};

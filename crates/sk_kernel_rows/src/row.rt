@@ -1,3 +1,4 @@
+//! The rows of tables, in short words for events and answers.
 use sk_calls::Syscall;
 use sk_kernel::{Answer, Effect, Event, Outcome, Reason};
 use sk_signal::SigSet;

@@ -1,3 +1,4 @@
+//! Tables of signals: traps, handlers and their frames, masks, stops, and what execve(2) leaves.
 use crate::given::{Filter, Given, NOTHING, PLAIN};
 use crate::play::Sight::{Blocks, Halted, Needs, Next, Runnable};
 use crate::play::{add, play, play_and_see};

@@ -1,3 +1,4 @@
+//! Tables of wait4(2): which status changes a parent is told, and what ends its wait.
 use crate::given::{Filter, Given, NOTHING};
 use crate::play::Sight::{Absent, Needs};
 use crate::play::{play, play_and_keep, play_and_see};

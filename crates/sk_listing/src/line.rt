@@ -67,7 +67,6 @@ fn push_form(text: &mut String, operation: Operation, insn: Insn) -> Result<(), 
     }
 }
 
-// Writes an instruction by its fields.
 fn push_fields(text: &mut String, insn: Insn) -> Result<(), AllocError>
     ensures fields { OnOk result (string_bytes text.new ≡ string_bytes text.old ++ join_with_byte 32 (field_words insn)) }
 {

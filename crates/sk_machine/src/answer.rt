@@ -1,3 +1,4 @@
+//! The answers to events: outcomes of calls, effects of signals, and reasons why an event is not possible.
 ghost use Rattle.std.specs.Prelude.{◌≡◌, pos, neg_ℤ};
 ghost use Rattle.sk_creds.specs.Errno.{number_of as errno_of};
 ghost use Rattle.sk_machine.specs.Events.{number_of};

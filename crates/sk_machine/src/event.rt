@@ -1,3 +1,4 @@
+//! The kinds of events, and which of them a process needs next.
 ghost use Rattle.std.specs.Prelude.{◌≡◌};
 ghost use Rattle.sk_machine.specs.Delivering.{is_waiting};
 ghost use Rattle.sk_machine.specs.Events.{pid_of};

@@ -1,3 +1,4 @@
+//! What the machine is given as the system starts: filters, programs, and whether there are subreapers.
 use std::marker::Model;
 
 /// What execve(2) finds of a program: who owns its file, and whether the set-user-ID bit is set.

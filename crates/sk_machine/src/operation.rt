@@ -1,3 +1,4 @@
+//! The options of prctl(2) and the operations of seccomp(2), by their numbers.
 ghost use Rattle.std.specs.Prelude.{◌≡◌};
 ghost use Rattle.sk_machine.specs.Arguments.{prctl_option_of, seccomp_operation_of};
 

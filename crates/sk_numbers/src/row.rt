@@ -1,3 +1,4 @@
+//! Rows of pairs of numbers, looked up by the first number of each.
 ghost use Rattle.std.specs.Prelude.{◌≡◌, ℕ, ◌+◌, ◌<◌, ◌≤◌, ◌==◌, ◌&&◌, ◌||◌, nat_lt, nat_le, true, false, not, slice_index_or, length, filter, vec_len, IfOk, IsTrue, IsFalse, []};
 ghost use Rattle.sk_numbers.specs.Numbers.{IsLeastAbove};
 ghost use Rattle.sk_numbers.specs.Pairs.{has_pair, is_rising, below};

@@ -1,3 +1,4 @@
+//! Sets of numbers as bits, with two levels of bits above that tell where there are members.
 ghost use Rattle.std.specs.Prelude.{◌≡◌, ℕ, List, [], length, ◌+◌, ◌/◌, ◌^◌, ◌<◌, ◌≤◌, ◌==◌, ◌||◌, ◌&&◌, not, IfSome, IfNone};
 ghost use Rattle.std.specs.Int.{bit_at};
 ghost use Rattle.sk_numbers.specs.Numbers.{contains, has_bit, IsLeast, IsLeastAbove, IsLeastFrom};

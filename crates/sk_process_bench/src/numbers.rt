@@ -1,3 +1,4 @@
+//! Words of a task that are numbers.
 use crate::fault::Fault;
 use sk_text::number_up_to;
 

@@ -1,3 +1,4 @@
+//! Calls by their numbers on x86-64 and by their names.
 use sk_calls::Syscall;
 
 #[test]

@@ -1,3 +1,4 @@
+//! The processes of events, and the numbers of reasons, options and operations.
 use sk_machine::{Event, PrctlOption, Reason, SeccompOperation};
 
 #[test]

@@ -1,3 +1,4 @@
+//! Worked user ids under setuid(2), setresuid(2), execve(2) and kill(2), and the numbers of errors.
 use crate::deliveries::world::{ROOT, USER};
 use sk_creds::{Creds, Errno};
 

@@ -1,3 +1,4 @@
+//! A set of numbers that lie at the edges of its words.
 use sk_numbers::NumberSet;
 
 #[test]

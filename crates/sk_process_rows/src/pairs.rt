@@ -1,3 +1,4 @@
+//! A row of pairs, and what it tells of a first number.
 use sk_numbers::PairRow;
 use std::test::Fail;
 

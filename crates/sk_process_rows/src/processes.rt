@@ -1,3 +1,4 @@
+//! What a child has of its parent, and which bits are options of wait4(2).
 use bitflags::Flags;
 use sk_chain::Chain;
 use sk_creds::Creds;

@@ -1,3 +1,4 @@
+//! Sets of signals, default actions, and how signals pend, are blocked, ignored and handled.
 use sk_signal::number::{SIGCHLD, SIGCONT, SIGHUP, SIGKILL, SIGSYS, SIGTERM, SIGTSTP, SIGUSR1};
 use sk_signal::{DefaultAction, Disposition, SigSet, SigState, default_action, tty_stop};
 use std::process::Abort;

@@ -1,3 +1,4 @@
+//! Numbers that two processes use, and that one of them leaves in use.
 use sk_table::Uses;
 use sk_world::Links;
 use std::test::Fail;

@@ -1,3 +1,4 @@
+//! What a report has a line for: turns, and the ends that a run can come to.
 use sk_machine::{Answer, Event};
 
 /// Why no further turn is made.

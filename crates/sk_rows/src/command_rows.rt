@@ -1,3 +1,4 @@
+//! The filter commands at worked inputs, with their statuses and outputs, and at their limits.
 use crate::Command;
 use std::alloc::{AllocError, Global};
 use std::test::Fail;

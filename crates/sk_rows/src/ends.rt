@@ -1,3 +1,4 @@
+//! Readers and writers in memory that move a few bytes a call, and go wrong at a call of their own.
 use std::alloc::Global;
 use std::cmp::min;
 use std::io;

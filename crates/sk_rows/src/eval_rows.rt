@@ -1,3 +1,4 @@
+//! `skern eval` at worked inputs, at its limits, and at lines that do not fit.
 use crate::Command;
 use std::alloc::{AllocError, Global};
 use std::test::Fail;

@@ -1,3 +1,4 @@
+//! The commands over ends that move one byte a call, fail at each call in turn, or never end.
 use crate::{Command, Reader, Trouble, Writer};
 use sk_ends::{Counted, Sink, Source};
 use sk_engines::CommandFault;

@@ -1,3 +1,4 @@
+//! Scenarios with their reports over each store, and texts with the fault that is told of them.
 use crate::{Reader, Writer};
 use sk_ends::Counted;
 use sk_sched::{End, EngineFault, engine_with};

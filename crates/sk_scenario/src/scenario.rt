@@ -1,3 +1,4 @@
+//! What a text is read as: a scenario, its filters and its programs.
 use sk_setting::ScriptCall;
 use std::marker::Model;
 

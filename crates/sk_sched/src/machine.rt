@@ -100,7 +100,6 @@ impl<S: ProcStore> Machine<S> {
         }
     }
 
-    /// The turn of this process.
     fn turn_by(&mut self, runner: Runner) -> Result<Turn, AllocError>
         requires room { (now_of self.old).used < (setting_of self.old).turns }
         requires runs { IsTrue (is_runnable self.old.kernel.world runner.pid) }

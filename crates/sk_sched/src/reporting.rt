@@ -49,7 +49,6 @@ pub fn engine_with<S: ProcStore, R: Source, W: Sink>(
     report(machine, writer)
 }
 
-/// Writes the report of a scenario.
 fn report<S: ProcStore, W: Sink>(machine: Machine<S>, writer: &mut W) -> Result<End, EngineFault>
     requires opened { now_of machine ≡ opened }
     ensures report { Writes (report_of (setting_of machine)) result (W.contents writer.old) (W.contents writer.new) }

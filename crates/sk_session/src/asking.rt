@@ -1,3 +1,4 @@
+//! getpgid(2) and getsid(2), and how a pid leads to a group and a session.
 ghost use Rattle.std.specs.Prelude.{◌≡◌, IsTrue};
 ghost use Rattle.std.specs.Option.{is_some};
 ghost use Rattle.sk_world.specs.World.{at};

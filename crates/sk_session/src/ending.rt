@@ -1,3 +1,4 @@
+//! The end of a process, and which groups it leaves orphaned and hangs up.
 ghost use Rattle.std.specs.Prelude.{[], ◌≡◌, ◌≢◌, ℕ, ◌&&◌, ◌||◌, false, filter, IsTrue, IsFalse, None, Some};
 ghost use Rattle.sk_numbers.specs.Numbers.{contains};
 ghost use Rattle.sk_signal.specs.SignalSet.{IsSignal};

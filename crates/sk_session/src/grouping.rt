@@ -1,3 +1,4 @@
+//! setpgid(2) and setsid(2), with the conditions for each in the order of their errors.
 ghost use Rattle.std.specs.Prelude.{◌≡◌, ◌≤◌, IsTrue};
 ghost use Rattle.std.specs.Option.{is_some};
 ghost use Rattle.std.specs.Result.{result_unwrap_or};
@@ -62,7 +63,6 @@ fn may_regroup<S: ProcStore>(store: &S, caller: u32, target: u32, group: u32) ->
     may_join(store, caller, target, group)
 }
 
-/// Whether the process is a child that the caller may put into a group.
 fn may_move_child<S: ProcStore>(store: &S, caller: u32, child: u32) -> Result<(), Errno>
     ensures { result ≡ may_move_child (S.contents store.now) caller child }
 {
@@ -78,7 +78,6 @@ fn may_move_child<S: ProcStore>(store: &S, caller: u32, child: u32) -> Result<()
     Ok(())
 }
 
-/// Whether the process may be put into the group.
 fn may_join<S: ProcStore>(store: &S, caller: u32, target: u32, group: u32) -> Result<(), Errno>
     requires { IsWorld (S.contents store.now) }
     ensures { result ≡ may_join (S.contents store.now) caller target group }

@@ -1,3 +1,4 @@
+//! Orphaned process groups, and which processes tie a group to its session.
 ghost use Rattle.std.specs.Prelude.{◌≡◌};
 ghost use Rattle.sk_world.specs.World.{at, is_alive, is_stopped};
 ghost use Rattle.sk_world.specs.Rules.{IsWorld};

@@ -1,3 +1,5 @@
+//! The calls of scripts, and what the names in a scenario stand for.
+
 /// A call with its six registers, and the program that `fork NAME` gives to the child.
 #[derive(Clone, Copy, Debug, PartialEq, Eq)]
 pub struct ScriptCall {

@@ -1,3 +1,5 @@
+//! The faults of a text that is no scenario, each with its line.
+
 /// Why a text is no scenario. Lines are numbered from 1; a text that is too long is line 0.
 #[derive(Clone, Copy, Debug, PartialEq, Eq)]
 pub enum TextFault {

@@ -1,3 +1,4 @@
+//! Dispositions, the default action of each signal, and which signals are ignored.
 ghost use Rattle.std.specs.Prelude.{◌≡◌, ℕ, Bool};
 ghost use Rattle.sk_signal.specs.Actions.{default_action, is_tty_stop, is_handler, is_ignore, is_ignored, disposition_after_exec};
 

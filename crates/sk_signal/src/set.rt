@@ -1,3 +1,4 @@
+//! Sets of signals as the bits of a number.
 ghost use Rattle.std.specs.Prelude.{⊤, ◌≡◌, ◌≢◌, ◌+◌, ◌-◌, ◌*◌, ◌^◌, ◌<◌, ◌≤◌, ◌↔◌, IsSome, IsNone, IfSome, [], ◌∷◌, codes};
 ghost use Rattle.sk_signal.specs.Sets as set;
 ghost use Rattle.sk_signal.specs.SignalSet.{IsSignal, IsLeast, signals_of, number_of, lowest, blockable};

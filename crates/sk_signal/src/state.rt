@@ -1,3 +1,4 @@
+//! The signals of a process on their way: how they come to pend, are taken, and run handlers in frames.
 ghost use Rattle.std.specs.Prelude.{◌≡◌, ◌≢◌, ◌==◌, ◌||◌, ◌↔◌, not, if◌then◌else◌, length, IsTrue, IsFalse, IsNone, IfSome};
 ghost use Rattle.std.specs.Bool.{OnTrue};
 ghost use Rattle.sk_signal.specs.Sets as set;

@@ -1,3 +1,4 @@
+//! Sets of values that a filter can answer, and what two filters can answer together.
 ghost use Rattle.std.specs.Prelude.{◌≡◌, ℕ, ◌⊎◌, IsOk, IfOk, [], ◌∷◌, Some};
 ghost use Rattle.std.specs.Option.{option_eq};
 ghost use Rattle.std.specs.Str.{bytes_eq};

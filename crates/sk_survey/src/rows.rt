@@ -1,3 +1,4 @@
+//! Rows of neighbouring numbers, and which of them are put together.
 ghost use Rattle.std.specs.Prelude.{◌≡◌, ℕ, ◌+◌, ◌-◌, ◌<◌, ◌≤◌, ◌↔◌, List, [], ◌∷◌, length, slice_get, Some, OnOk, IsTrue};
 ghost use Rattle.std.specs.List.{Contains};
 ghost use Rattle.sk_insn.specs.declared.insn.Insn.{Insn};
@@ -52,7 +53,6 @@ fn continues(rows: &[Row], alone: &[u32], row: &Row) -> bool
     }
 }
 
-/// Whether the number is one of those.
 fn stands_alone(alone: &[u32], number: u32) -> bool
     ensures { IsTrue result ↔ Contains alone.now number }
 {

@@ -1,3 +1,4 @@
+//! What programs and chains answer to a range of numbers, and a chain to all numbers, row by row.
 ghost use Rattle.std.specs.Prelude.{◌≡◌, ℕ, ◌≤◌, [], ◌∷◌, Some, length, IfOk, IsTrue};
 ghost use Rattle.sk_survey.specs.Following.{IsUnknown};
 ghost use Rattle.sk_insn.specs.Actions.{allow};

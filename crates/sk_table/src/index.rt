@@ -1,3 +1,4 @@
+//! The index of a store: children beside parents, members beside groups, and the numbers in use.
 ghost use Rattle.std.specs.Prelude.{◌≡◌, ◌<◌, ◌≤◌, None, Some, IfOk, IsTrue};
 ghost use Rattle.sk_world.specs.declared.process.Proc.{Proc};
 ghost use Rattle.sk_world.specs.declared.process.TheConstants.{LAST_PID, PROCESSES};

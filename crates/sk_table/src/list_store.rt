@@ -1,3 +1,4 @@
+//! The store that is a plain list.
 use crate::first::first_process;
 use crate::scan::{Row, Sought, first_free, has_number, least_after, place};
 use sk_world::{Body, INIT, Links, PROCESSES, Proc, ProcStore};

@@ -1,3 +1,4 @@
+//! Which number the next child gets, by the counts of those in use.
 ghost use Rattle.std.specs.Prelude.{◌≡◌};
 ghost use Rattle.sk_world.specs.Numbers.{next_number};
 ghost use Rattle.sk_table.specs.Free.{free_counted};

@@ -1,3 +1,4 @@
+//! Looks through a list of processes: for a place, for the least pid above another, for a free number.
 ghost use Rattle.std.specs.Prelude.{◌≡◌, ◌==◌, position, min};
 ghost use Rattle.std.specs.Option.{option_map_or};
 ghost use Rattle.std.specs.List.{list_any};

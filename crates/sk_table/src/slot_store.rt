@@ -1,3 +1,4 @@
+//! The store in slots, with the table that leads from a pid to its slot.
 ghost use Rattle.std.specs.Prelude.{◌≡◌, ℕ, ◌+◌, ◌<◌, ◌≤◌, ◌==◌, if◌then◌else◌, None, Some, IfSome, IsTrue, vec_len, vec_capacity};
 ghost use Rattle.std.specs.Option.{is_some};
 ghost use Rattle.sk_world.specs.declared.process.TheConstants.{LAST_PID, PROCESSES};
@@ -45,7 +46,6 @@ impl Model for SlotStore {
     ghost invariant = { IsStore };
 }
 
-// The slot of the pid, if it has one.
 fn slot_in(table: &[Option<usize>], pid: u32) -> Option<usize>
     ensures { result ≡ slot table.now pid }
 {

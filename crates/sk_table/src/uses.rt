@@ -1,3 +1,4 @@
+//! Counts of the numbers in use, kept as processes come and go.
 ghost use Rattle.std.specs.Prelude.{◌≡◌, ℕ, ◌+◌, ◌<◌, ◌≤◌, ◌==◌, nat_lt, slice_index, IfOk, IsTrue};
 ghost use Rattle.sk_world.specs.declared.process.TheConstants.{LAST_PID};
 ghost use Rattle.sk_world.specs.Rules.{is_within};

@@ -165,7 +165,6 @@ fn fork(alloc: Global, term: Term, held: Decision, failed: Decision) -> Result<D
     Ok(Decision::Ask(term, Box::new(alloc, held)?, Box::new(alloc, failed)?))
 }
 
-/// Whether two trees are the same.
 fn same(one: &Decision, other: &Decision) -> bool
     ensures same { IsTrue result → (call : Record) → decided one.now call ≡ decided other.now call }
 {

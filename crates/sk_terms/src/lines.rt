@@ -67,7 +67,6 @@ pub fn add_lines(
     }
 }
 
-/// Adds the line of one end.
 fn add_end(
     alloc: Global,
     lines: &mut Vec<Line>,

@@ -15,7 +15,6 @@ pub fn meets(line: &Line, call: &Record) -> bool
     line.choices.iter().all(|choice| holds_one(choice, call))
 }
 
-/// Whether one of the terms holds on a call.
 fn holds_one(choice: &Choice, call: &Record) -> bool
     ensures holds { result ≡ holds_choice choice.now call.now }
 {
@@ -28,7 +27,6 @@ fn holds(term: Term, call: &Record) -> bool
     term.takes(register_in(term.register, call) & term.mask)
 }
 
-/// What a register of a call holds.
 fn register_in(register: Register, call: &Record) -> u64
     ensures held { result ≡ register_of register call.now }
 {

@@ -122,7 +122,6 @@ impl Term {
     }
 }
 
-// Whether a number has one bit alone.
 fn is_one_bit(mask: u64) -> bool
     ensures one { IsTrue result → (place : ℕ) × (mask ≡ 2 ^ place) }
 {

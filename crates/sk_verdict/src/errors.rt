@@ -1,3 +1,4 @@
+//! The name of an error, looked up by its number.
 ghost use Rattle.std.specs.Prelude.{◌≡◌, map, slice_get};
 ghost use Rattle.std.specs.Option.{option_map};
 ghost use Rattle.sk_verdict.specs.Errors.{error_named};

@@ -1,3 +1,4 @@
+//! How a verdict is written: the action, its data, and the name of an error.
 ghost use Rattle.std.specs.Prelude.{◌≡◌, ◌++◌, OnOk, string_bytes};
 ghost use Rattle.sk_verdict.specs.Verdicts.{verdict_text, data_text, error_text};
 ghost use Rattle.sk_verdict.specs.Errors.{error_named};

@@ -1,3 +1,4 @@
+//! exit(2): zombies, children that are handed on, and the halt of the system.
 ghost use Rattle.std.specs.Prelude.{◌≡◌, ◌≤◌, IsTrue};
 ghost use Rattle.std.specs.Option.{is_some, option_and_then};
 ghost use Rattle.sk_world.specs.declared.process.TheConstants.{INIT, LAST_PID};

@@ -1,3 +1,4 @@
+//! Processes, with their links and their bodies, and how many there are at most.
 ghost use Rattle.std.specs.Prelude.{◌≡◌};
 
 use crate::request::Request;

@@ -1,3 +1,4 @@
+//! What wait4(2) can be asked, and what it can find.
 ghost use Rattle.std.specs.Prelude.{⊤, ◌≡◌, ◌^◌, [], ◌∷◌, codes};
 
 use bitflags::{Flag, Flags, bitflag_items};

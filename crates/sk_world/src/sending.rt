@@ -1,3 +1,4 @@
+//! How a signal is sent: it is generated at its process, which SIGCONT continues.
 ghost use Rattle.std.specs.Prelude.{◌≡◌};
 ghost use Rattle.sk_signal.specs.SignalSet.{IsSignal};
 ghost use Rattle.sk_world.specs.Rules.{IsWorld};

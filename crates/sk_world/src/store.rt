@@ -1,3 +1,4 @@
+//! What every store of processes does, with the contract of each of its functions.
 ghost use Rattle.std.specs.Prelude.{◌≡◌, ℕ, ◌<◌, ◌≤◌, None, Some, IfSome, IfNone, OnSome, IfOk, IsTrue, IsFalse};
 ghost use Rattle.std.specs.Option.{is_some};
 ghost use Rattle.std.specs.Borrow.{LendsSo, sem};

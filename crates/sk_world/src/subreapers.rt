@@ -1,3 +1,4 @@
+//! The way up from a process to the one that gets its orphans.
 ghost use Rattle.std.specs.Prelude.{◌≡◌, ◌==◌, ◌&&◌, not};
 ghost use Rattle.sk_world.specs.Subreapers.{new_parent};
 

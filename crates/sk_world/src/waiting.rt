@@ -1,3 +1,4 @@
+//! What a wait4(2) finds and tells, and how a zombie is reaped.
 ghost use Rattle.std.specs.Prelude.{◌≡◌, ◌≢◌, IsTrue, None, Some, if◌then◌else◌};
 ghost use Rattle.std.specs.Option.{is_some, option_map};
 ghost use Rattle.sk_world.specs.declared.process.TheConstants.{INIT};

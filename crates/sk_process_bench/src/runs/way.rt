@@ -1,3 +1,5 @@
+//! The ways in which reports are written, by the words of a task.
+
 /// How the report of a scenario is written.
 #[derive(Clone, Copy, Debug, PartialEq, Eq)]
 pub enum Way {

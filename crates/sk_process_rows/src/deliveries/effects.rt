@@ -1,3 +1,4 @@
+//! What the delivery of signals does: default actions, handlers, and the stop signals of a terminal.
 use crate::deliveries::world::{ROOT, catch, deliver, pending_bits, wait4};
 use crate::sessions::world::lead_group;
 use crate::world::{after_forks, life, waiting};

@@ -1,3 +1,4 @@
+//! Rows of kill(2): the order of its errors, and whom its argument means.
 ghost use Rattle.sk_world.specs.Rules.{IsWorld};
 
 use crate::deliveries::world::{ROOT, USER, pending_bits};

@@ -1,3 +1,4 @@
+//! Rows of wait4(2), and a wait that the end of a child ends.
 ghost use Rattle.sk_world.specs.Rules.{IsWorld};
 
 use crate::deliveries::world::{resume, wait4};

@@ -1,3 +1,4 @@
+//! What the tests of deliveries do with a store and look up in it.
 ghost use Rattle.std.specs.Prelude.{◌≡◌, ◌≢◌};
 ghost use Rattle.sk_signal.specs.SignalSet.{IsSignal};
 ghost use Rattle.sk_signal.specs.declared.number.TheConstants.{SIGKILL, SIGSTOP};

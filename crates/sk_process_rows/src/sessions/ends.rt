@@ -1,3 +1,4 @@
+//! Ends that leave process groups orphaned, and who is hung up then.
 ghost use Rattle.sk_world.specs.Rules.{IsWorld};
 
 use crate::sessions::world::{end, is_hung_up, setpgid, setsid};

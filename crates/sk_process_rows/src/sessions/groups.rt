@@ -1,3 +1,4 @@
+//! Rows of setpgid(2) and setsid(2), and what getpgid(2) and getsid(2) tell, of zombies too.
 ghost use Rattle.sk_world.specs.Rules.{IsWorld};
 
 use crate::sessions::world::{end, execute, group_and_session, setpgid, setsid};

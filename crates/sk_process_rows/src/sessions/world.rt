@@ -1,3 +1,4 @@
+//! What the tests of groups and sessions do with a store and look up in it.
 ghost use Rattle.std.specs.Prelude.{◌≡◌};
 ghost use Rattle.sk_world.specs.Rules.{IsWorld};
 

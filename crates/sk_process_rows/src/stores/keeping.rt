@@ -1,3 +1,4 @@
+//! What each store keeps of the processes that are put in, moved and taken out, and which pids it gives.
 use crate::stores::testing::{has_no_room, insert, is_executed, links, set_executed};
 use crate::world::{fork_of, opening};
 use sk_table::{INIT, LAST_PID, ListStore, ProcStore, SlotStore};

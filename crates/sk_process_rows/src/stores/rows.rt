@@ -1,3 +1,4 @@
+//! Rows of signals, stops, ends and waits that hold over each store.
 use crate::signals::handler;
 use crate::stores::testing::{is_subreaper, mark, on_sigchld, reap_of, reparent_of, wait_of};
 use crate::world::{

@@ -1,3 +1,4 @@
+//! What only the store in slots tells: slots that are used again, and its rows of children and members.
 ghost use Rattle.sk_world.specs.Rules.{IsWorld};
 
 use crate::stores::testing::{insert, is_executed, links, reap_of, set_executed};

@@ -1,3 +1,4 @@
+//! Rows of calls: how each is made, and compared with what it comes to.
 ghost use Rattle.sk_world.specs.Rules.{IsWorld};
 
 use crate::world::assert_alive;

@@ -1,3 +1,4 @@
+//! Rows of seccomp(2) and prctl(2): errors in their order, the path limit, and which actions there are.
 use crate::syscalls::calling::{come_to, nothing_declared};
 use crate::world::opening;
 use sk_machine::Images;

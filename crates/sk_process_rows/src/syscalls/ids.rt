@@ -1,3 +1,4 @@
+//! Rows of the calls that set and tell user ids, and of execve(2).
 use crate::syscalls::calling::{come_to, nothing_declared};
 use crate::world::opening;
 use sk_machine::Outcome::{Executed, Ids, Returned};

@@ -1,3 +1,4 @@
+//! Rows of the calls about processes, their groups and sessions, and subreapers.
 use crate::syscalls::calling::{come_to, nothing_declared};
 use crate::world::{opening, waiting};
 use sk_machine::Outcome::{Ended, Returned, Told, Waits};

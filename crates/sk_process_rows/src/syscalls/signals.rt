@@ -1,3 +1,4 @@
+//! Rows of the calls about signals: dispositions, masks, and what pends.
 use crate::syscalls::calling::{come_to, nothing_declared};
 use crate::world::opening;
 use sk_machine::Outcome::{Returned, Signals};
