@@ -1,8 +1,8 @@
 pub mod Assembly
 pub mod Block
+pub mod Drafts
 pub mod Faults
 pub mod Grammar
-pub mod Kept
 pub mod Labels
 pub mod LineFaults
 pub mod Passes

@@ -10,8 +10,8 @@ use Rattle.sk_asm.specs.declared.statement.Target.TheVariants as targets
 use Rattle.sk_asm.specs.declared.statement.Parsed.TheVariants as parsed
 use Rattle.sk_asm.specs.Grammar.{Destination, Further, Labelled, Statement, Silent, Marks, Plain, Jumps, Branches}
 use Rattle.sk_asm.specs.Labels.{Labels}
-use Rattle.sk_asm.specs.declared.statement.Instruction.{Instruction}
-use Rattle.sk_asm.specs.Kept.{Kept}
+use Rattle.sk_asm.specs.declared.statement.Jump.{Jump}
+use Rattle.sk_asm.specs.Drafts.{Pending}
 
 -- a distance is a number
 abbrev pub destination_by : {N : Type 0} → (N → ℕ) → Target N → Destination
@@ -31,5 +31,5 @@ statement (parsed.Branch code k jt jf) = Branches code k (destination jt) (desti
 abbrev pub labels_in : IndexMap (Bor (List ℕ)) ℕ (BuildHasherDefault FoldHasher) → Labels
 labels_in labels = map (λ entry. (entry.0.now, entry.1)) labels.entries
 
-abbrev pub kept_in : List Instruction → Kept
-kept_in kept = map (λ given. (given.n, statement given.parsed)) kept
+abbrev pub jumps_in : List Jump → List Pending
+jumps_in jumps = map (λ jump. (jump.at, jump.n, statement jump.parsed)) jumps

@@ -7,15 +7,15 @@ ghost use Rattle.sk_asm.specs.Faults.{Answers, IsAsmFault};
 ghost use Rattle.sk_asm.specs.LineFaults.{IsFirstTextFault};
 ghost use Rattle.sk_asm.specs.Labels.{Labels as Places, label_place};
 ghost use Rattle.sk_asm.specs.Passes.{noted, counted, marked, labelled, landed, distance, resolved, emitted, assembled, assembled_lines, in_front};
-ghost use Rattle.sk_asm.specs.Kept.{kept_of, kept_before};
-ghost use Rattle.sk_asm.specs.Views.{destination_by, statement, labels_in, kept_in};
+ghost use Rattle.sk_asm.specs.Drafts.{AreAmong, draft_of, pending_of, completed};
+ghost use Rattle.sk_asm.specs.Views.{destination_by, statement, labels_in, jumps_in};
 ghost use Rattle.sk_text.specs.Lines.{lines_of};
 
 use crate::block::BlockLines;
 use crate::distance::Distance;
 use crate::fault::AsmFault;
 use crate::parse::check_line;
-use crate::statement::{Instruction, Parsed, Target};
+use crate::statement::{Jump, Parsed, Target};
 use indexmap::IndexMap;
 use sk_insn::{Insn, MOST_INSNS};
 use sk_text::Lines;
@@ -64,15 +64,20 @@ fn assemble_lines(
     requires numbers { before + length text.now < 2 ^ 64 }
     ensures exact { Answers (λ insns. insns.items) result (assembled_lines (before + 1) (lines_in is_block text.now)) }
 {
-    let found = find(alloc, before, text, is_block)?;
-    emit(alloc, &found.labels, found.kept.as_slice())
+    let Found {
+        labels,
+        insns,
+        jumps,
+    } = find(alloc, before, text, is_block)?;
+    complete(&labels, jumps.as_slice(), insns)
 }
 
-// The labels of lines, with their places, and their instructions, whose jumps are not resolved yet.
+// The labels of lines, with their places, their instructions, and of these the jumps whose labels are not resolved yet.
 #[derive(Drop)]
 struct Found<'a> {
     labels: Labels<'a>,
-    kept: Vec<Instruction<'a>>,
+    insns: Vec<Insn>,
+    jumps: Vec<Jump<'a>>,
 }
 
 // What the lines say.
@@ -84,32 +89,55 @@ fn find<'a>(
 ) -> Result<Found<'a>, AsmFault>
     requires numbers { before + length text.now < 2 ^ 64 }
     ensures labels { Answers (λ found. labels_in found.labels) result (labelled (before + 1) [] 0 (lines_in is_block text.now)) }
-    ensures kept { IfOk result (λ found. (labels : Places)
-        → kept_before labels 0 (kept_in found.kept.items) (Ok []) ≡ emitted labels (before + 1) 0 (lines_in is_block text.now)) }
+    ensures among { IfOk result (λ found. AreAmong (length found.insns.items) (jumps_in found.jumps.items)) }
+    ensures insns { IfOk result (λ found. (labels : Places)
+        → completed labels found.insns.items (jumps_in found.jumps.items) ≡ emitted labels (before + 1) 0 (lines_in is_block text.now)) }
 {
     let rest = Lines(text);
     let mut labels = IndexMap::new(alloc);
-    let mut kept = Vec::new(alloc);
+    let mut insns = Vec::new(alloc);
+    let mut jumps = Vec::new(alloc);
     let mut at = 0;
     let mut n = before;
     for line in (BlockLines { rest, is_block }) {
         n += 1;
         let parsed = check_line(n, line)?;
-        at = note(&mut labels, n, at, parsed)?;
-        keep(&mut kept, n, parsed)?;
+        let next = note(&mut labels, n, at, &parsed)?;
+        keep_jump(&mut jumps, n, at, &parsed)?;
+        keep_insn(&mut insns, &parsed)?;
+        at = next;
     }
-    Ok(Found { labels, kept })
+    Ok(Found {
+        labels,
+        insns,
+        jumps,
+    })
 }
 
-// Keeps the statement of line `n`, if it is an instruction.
-fn keep<'a>(kept: &mut Vec<Instruction<'a>>, n: usize, parsed: Parsed<'a>) -> Result<(), AllocError>
-    ensures kept { OnOk result (kept_in kept.new.items ≡ kept_in kept.old.items ++ kept_of n (statement parsed.entry)) }
+// Keeps the instruction that a statement is, if it is one.
+#[inline(always)]
+fn keep_insn(insns: &mut Vec<Insn>, parsed: &Parsed<'_>) -> Result<(), AllocError>
+    ensures kept { OnOk result (insns.new.items ≡ insns.old.items ++ in_front (draft_of (statement parsed.now)) []) }
 {
-    match parsed {
-        Parsed::Silent | Parsed::Label(_) => {}
-        Parsed::Plain(_) | Parsed::Jump { .. } | Parsed::Branch { .. } => {
-            kept.push(Instruction { n, parsed })?;
-        }
+    if let Some(insn) = parsed.draft() {
+        insns.push(insn)?;
+    }
+    Ok(())
+}
+
+// Keeps the statement of line `n`, if it is a jump to a label.
+#[inline(always)]
+fn keep_jump<'a>(
+    jumps: &mut Vec<Jump<'a>>,
+    n: usize,
+    at: usize,
+    parsed: &Parsed<'a>,
+) -> Result<(), AllocError>
+    ensures kept { OnOk result (jumps_in jumps.new.items ≡ jumps_in jumps.old.items ++ pending_of at n (statement parsed.now)) }
+{
+    if parsed.has_label() {
+        let parsed = *parsed;
+        jumps.push(Jump { at, n, parsed })?;
     }
     Ok(())
 }
@@ -120,13 +148,13 @@ fn note<'a>(
     labels: &mut Labels<'a>,
     n: usize,
     at: usize,
-    parsed: Parsed<'a>,
+    parsed: &Parsed<'a>,
 ) -> Result<usize, AsmFault>
     ensures exact { MatchResult result
-        (λ next. noted n (labels_in labels.old) at (statement parsed.entry) ≡ Ok (labels_in labels.new, next))
-        (λ fault. IsAsmFault fault (noted n (labels_in labels.old) at (statement parsed.entry))) }
+        (λ next. noted n (labels_in labels.old) at (statement parsed.now) ≡ Ok (labels_in labels.new, next))
+        (λ fault. IsAsmFault fault (noted n (labels_in labels.old) at (statement parsed.now))) }
 {
-    match parsed {
+    match *parsed {
         Parsed::Silent => Ok(at),
         Parsed::Label(name) => mark(labels, n, at, name),
         Parsed::Plain(_) | Parsed::Jump { .. } | Parsed::Branch { .. } => count(n, at),
@@ -157,25 +185,21 @@ fn mark<'a>(labels: &mut Labels<'a>, n: usize, at: usize, name: &'a [u8]) -> Res
     Ok(at)
 }
 
-// The instructions that were kept, with the distances of their jumps.
-fn emit(alloc: Global, labels: &Labels<'_>, kept: &[Instruction<'_>]) -> Result<Vec<Insn>, AsmFault>
-    ensures exact { Answers (λ insns. insns.items) result (kept_before (labels_in labels.now) 0 (kept_in kept.now) (Ok [])) }
+// The instructions, with the distances of these jumps.
+fn complete(
+    labels: &Labels<'_>,
+    jumps: &[Jump<'_>],
+    mut insns: Vec<Insn>,
+) -> Result<Vec<Insn>, AsmFault>
+    requires among { AreAmong (length insns.items) (jumps_in jumps.now) }
+    ensures exact { Answers (λ insns. insns.items) result (completed (labels_in labels.now) insns.items (jumps_in jumps.now)) }
 {
-    let mut insns = Vec::new(alloc);
-    for (at, given) in kept.iter().enumerate() {
-        let insn = resolve(labels, given.n, at, given.parsed)?;
-        push_some(&mut insns, insn)?;
+    for jump in jumps {
+        if let Some(insn) = resolve(labels, jump.n, jump.at, jump.parsed)? {
+            insns[jump.at] = insn;
+        }
     }
     Ok(insns)
-}
-
-fn push_some(insns: &mut Vec<Insn>, given: Option<Insn>) -> Result<(), AllocError>
-    ensures pushed { OnOk result (insns.new.items ≡ insns.old.items ++ in_front given []) }
-{
-    if let Some(insn) = given {
-        insns.push(insn)?;
-    }
-    Ok(())
 }
 
 // The instruction of line `n` at a place, if its statement is one.
