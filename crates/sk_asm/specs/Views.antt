@@ -1,5 +1,5 @@
 -- The code's values as the definitions see them.
-use Rattle.std.specs.Prelude.{ℕ, List, map}
+use Rattle.std.specs.Prelude.{ℕ, List, map, Option, Some, None}
 use Rattle.std.specs.Borrow.{Bor}
 use Rattle.std.specs.declared.hash.FoldHasher.{FoldHasher}
 use Rattle.std.specs.declared.hash.BuildHasherDefault.{BuildHasherDefault}
@@ -18,15 +18,17 @@ abbrev pub destination_by : {N : Type 0} → (N → ℕ) → Target N → Destin
 destination_by number (targets.Further count) = Further (number count)
 destination_by number (targets.Labelled name) = Labelled name.now
 
-abbrev pub destination : Target ℕ → Destination
-destination to = destination_by (λ count. count) to
+-- so many instructions further, or to the label that stands in place of the count
+abbrev pub destination_to : ℕ → Option (Bor (List ℕ)) → Destination
+destination_to count None = Further count
+destination_to count (Some name) = Labelled name.now
 
 abbrev pub statement : Parsed → Statement
 statement parsed.Silent = Silent
 statement (parsed.Label name) = Marks name.now
 statement (parsed.Plain given) = Plain given
-statement (parsed.Jump code to) = Jumps code (destination to)
-statement (parsed.Branch code k jt jf) = Branches code k (destination jt) (destination jf)
+statement (parsed.Jump given to) = Jumps given.code (destination_to given.k to)
+statement (parsed.Branch given jt jf) = Branches given.code given.k (destination_to given.jt jt) (destination_to given.jf jf)
 
 abbrev pub labels_in : IndexMap (Bor (List ℕ)) ℕ (BuildHasherDefault FoldHasher) → Labels
 labels_in labels = map (λ entry. (entry.0.now, entry.1)) labels.entries

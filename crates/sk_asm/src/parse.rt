@@ -2,7 +2,7 @@
 ghost use Rattle.std.specs.Prelude.{◌≡◌, ◌∷◌};
 ghost use Rattle.std.specs.Option.{option_map};
 ghost use Rattle.sk_text.specs.Lines.{words_of};
-ghost use Rattle.sk_asm.specs.Grammar.{Plain, insn, shaped, branching, raw, instruction_said, spoken, statement_of};
+ghost use Rattle.sk_asm.specs.Grammar.{Plain, Jumps, insn, u32_of, destination_of, shaped, branching, raw, instruction_said, spoken, statement_of};
 ghost use Rattle.sk_asm.specs.Passes.{checked};
 ghost use Rattle.sk_asm.specs.Faults.{Answers};
 ghost use Rattle.sk_asm.specs.Views.{statement};
@@ -10,7 +10,7 @@ ghost use Rattle.sk_asm.specs.Views.{statement};
 use crate::fault::AsmFault;
 use crate::names::operation;
 use crate::shape::Shape;
-use crate::statement::Parsed;
+use crate::statement::{Parsed, Target};
 use crate::value::{byte, destination, half, label, returned, word};
 use sk_insn::Insn;
 use sk_text::{
@@ -89,10 +89,7 @@ fn parse_form<'a>(shape: Shape, code: u16, words: Words<'a>) -> Option<Parsed<'a
             let k = returned(one_word(words)?)?;
             Some(plain(code, k))
         }
-        Shape::Target => {
-            let to = destination(one_word(words)?)?;
-            Some(Parsed::Jump { code, to })
-        }
+        Shape::Target => { jump(code, one_word(words)?) }
         Shape::Compare => {
             let (k, jt, jf) = three_words(words)?;
             branch(code, word(k)?, jt, jf)
@@ -115,13 +112,29 @@ fn plain<'a>(code: u16, k: u32) -> Parsed<'a>
     })
 }
 
+fn jump<'a>(code: u16, to: &'a [u8]) -> Option<Parsed<'a>>
+    ensures exact { option_map statement result ≡ option_map (λ to. Jumps code to) (destination_of u32_of to.now) }
+{
+    let to: Target<'a, u32> = destination(to)?;
+    let (k, label) = to.parts();
+    let insn = Insn {
+        code,
+        jt: 0,
+        jf: 0,
+        k,
+    };
+    Some(Parsed::Jump(insn, label))
+}
+
 #[tactic(auto, unfolding(crate::specs::Grammar::branching))]
 fn branch<'a>(code: u16, k: u32, jt: &'a [u8], jf: &'a [u8]) -> Option<Parsed<'a>>
     ensures exact { option_map statement result ≡ branching code k jt.now jf.now }
 {
-    let jt = destination(jt)?;
-    let jf = destination(jf)?;
-    Some(Parsed::Branch { code, k, jt, jf })
+    let jt: Target<'a, u8> = destination(jt)?;
+    let jf: Target<'a, u8> = destination(jf)?;
+    let (jt, first) = jt.parts();
+    let (jf, second) = jf.parts();
+    Some(Parsed::Branch(Insn { code, jt, jf, k }, first, second))
 }
 
 #[tactic(auto, unfolding(crate::specs::Grammar::raw))]

@@ -8,14 +8,14 @@ ghost use Rattle.sk_asm.specs.LineFaults.{IsFirstTextFault};
 ghost use Rattle.sk_asm.specs.Labels.{Labels as Places, label_place};
 ghost use Rattle.sk_asm.specs.Passes.{noted, counted, marked, labelled, landed, distance, resolved, emitted, assembled, assembled_lines, in_front};
 ghost use Rattle.sk_asm.specs.Drafts.{AreAmong, draft_of, pending_of, completed};
-ghost use Rattle.sk_asm.specs.Views.{destination_by, statement, labels_in, jumps_in};
+ghost use Rattle.sk_asm.specs.Views.{destination_to, statement, labels_in, jumps_in};
 ghost use Rattle.sk_text.specs.Lines.{lines_of};
 
 use crate::block::BlockLines;
 use crate::distance::Distance;
 use crate::fault::AsmFault;
 use crate::parse::check_line;
-use crate::statement::{Jump, Parsed, Target};
+use crate::statement::{Jump, Parsed};
 use indexmap::IndexMap;
 use sk_insn::{Insn, MOST_INSNS};
 use sk_text::Lines;
@@ -157,7 +157,7 @@ fn note<'a>(
     match *parsed {
         Parsed::Silent => Ok(at),
         Parsed::Label(name) => mark(labels, n, at, name),
-        Parsed::Plain(_) | Parsed::Jump { .. } | Parsed::Branch { .. } => count(n, at),
+        Parsed::Plain(_) | Parsed::Jump(..) | Parsed::Branch(..) => count(n, at),
     }
 }
 
@@ -215,8 +215,8 @@ fn resolve(
     match parsed {
         Parsed::Silent | Parsed::Label(_) => Ok(None),
         Parsed::Plain(insn) => Ok(Some(insn)),
-        Parsed::Jump { code, to } => {
-            let k = distance(labels, n, at, to)?;
+        Parsed::Jump(Insn { code, k, .. }, to) => {
+            let k = distance(labels, n, at, k, to)?;
             Ok(Some(Insn {
                 code,
                 jt: 0,
@@ -224,27 +224,28 @@ fn resolve(
                 k,
             }))
         }
-        Parsed::Branch { code, k, jt, jf } => {
-            let jt = distance(labels, n, at, jt)?;
-            let jf = distance(labels, n, at, jf)?;
+        Parsed::Branch(Insn { code, jt, jf, k }, first, second) => {
+            let jt = distance(labels, n, at, jt, first)?;
+            let jf = distance(labels, n, at, jf, second)?;
             Ok(Some(Insn { code, jt, jf, k }))
         }
     }
 }
 
-// How many instructions a jump passes over.
+// How many instructions a jump passes over: so many, or those up to a label.
 #[tactic(auto, unfolding(crate::specs::Passes::distance))]
 fn distance<N: Distance>(
     labels: &Labels<'_>,
     n: usize,
     at: usize,
-    to: Target<'_, N>,
+    count: N,
+    label: Option<&[u8]>,
 ) -> Result<N, AsmFault>
-    ensures exact { Answers N.number result (distance (labels_in labels.now) n at N.most (destination_by N.number to.entry)) }
+    ensures exact { Answers N.number result (distance (labels_in labels.now) n at N.most (destination_to (N.number count) label.entry)) }
 {
-    match to {
-        Target::Further(count) => Ok(count),
-        Target::Labelled(name) => Ok(N::of(landing(labels, n, at, N::most(), name)?)),
+    match label {
+        None => Ok(count),
+        Some(name) => Ok(N::of(landing(labels, n, at, N::most(), name)?)),
     }
 }
 

@@ -1,7 +1,8 @@
 //! What a line says, over the bytes of the text.
 ghost use Rattle.std.specs.Prelude.{◌≡◌};
+ghost use Rattle.std.specs.Option.{option_map};
 ghost use Rattle.sk_asm.specs.Drafts.{drafted, draft_of, is_label, has_label};
-ghost use Rattle.sk_asm.specs.Views.{destination_by, statement};
+ghost use Rattle.sk_asm.specs.Views.{destination_by, destination_to, statement};
 
 use crate::distance::Distance;
 use sk_insn::Insn;
@@ -13,30 +14,28 @@ pub(crate) enum Target<'a, N> {
     Labelled(&'a [u8]),
 }
 
-// What a line says. The distances of jumps to labels are not known yet.
+impl<'a, N: Distance> Target<'a, N> {
+    // The distance, as far as it is known, and the label.
+    #[inline(always)]
+    pub(crate) fn parts(self) -> (N, Option<&'a [u8]>)
+        ensures exact { destination_to (N.number result.0) result.1 ≡ destination_by N.number self.entry }
+    {
+        match self {
+            Target::Further(count) => (count, None),
+            Target::Labelled(name) => (N::of(0), Some(name)),
+        }
+    }
+}
+
+// What a line says. The instruction of a jump has its distances, but for those that go to labels. Each instruction stands
+// at the same place of a value, so that no copy of it takes it apart.
 #[derive(Clone, Copy)]
 pub(crate) enum Parsed<'a> {
     Silent,
     Label(&'a [u8]),
     Plain(Insn),
-    Jump {
-        code: u16,
-        to: Target<'a, u32>,
-    },
-    Branch {
-        code: u16,
-        k: u32,
-        jt: Target<'a, u8>,
-        jf: Target<'a, u8>,
-    },
-}
-
-// A jump that has a label: its place among the instructions, and the statement of line `n`.
-#[derive(Clone, Copy)]
-pub(crate) struct Jump<'a> {
-    pub(crate) at: usize,
-    pub(crate) n: usize,
-    pub(crate) parsed: Parsed<'a>,
+    Jump(Insn, Option<&'a [u8]>),
+    Branch(Insn, Option<&'a [u8]>, Option<&'a [u8]>),
 }
 
 impl<'a> Parsed<'a> {
@@ -48,15 +47,15 @@ impl<'a> Parsed<'a> {
         match *self {
             Parsed::Silent | Parsed::Label(_) => None,
             Parsed::Plain(insn) => Some(insn),
-            Parsed::Jump { code, to } => Some(Insn {
+            Parsed::Jump(Insn { code, k, .. }, to) => Some(Insn {
                 code,
                 jt: 0,
                 jf: 0,
-                k: to.drafted(),
+                k: drafted(k, to),
             }),
-            Parsed::Branch { code, k, jt, jf } => {
-                let jt = jt.drafted();
-                let jf = jf.drafted();
+            Parsed::Branch(Insn { code, jt, jf, k }, t, f) => {
+                let jt = drafted(jt, t);
+                let jf = drafted(jf, f);
                 Some(Insn { code, jt, jf, k })
             }
         }
@@ -69,28 +68,27 @@ impl<'a> Parsed<'a> {
     {
         match self {
             Parsed::Silent | Parsed::Label(_) | Parsed::Plain(_) => false,
-            Parsed::Jump { to, .. } => to.is_label(),
-            Parsed::Branch { jt, jf, .. } => jt.is_label() || jf.is_label(),
+            Parsed::Jump(_, to) => to.is_some(),
+            Parsed::Branch(_, jt, jf) => jt.is_some() || jf.is_some(),
         }
     }
 }
 
-impl<'a, N: Distance> Target<'a, N> {
-    // A count, and 0 in place of a label.
-    #[inline(always)]
-    fn drafted(&self) -> N
-        ensures exact { N.number result ≡ drafted (destination_by N.number self.now) }
-    {
-        match *self {
-            Target::Further(count) => count,
-            Target::Labelled(_) => N::of(0),
-        }
+// A count, and 0 in place of a label.
+#[inline(always)]
+fn drafted<N: Distance>(count: N, label: Option<&[u8]>) -> N
+    ensures exact { N.number result ≡ drafted (destination_to (N.number count) label.entry) }
+{
+    match label {
+        None => count,
+        Some(_) => N::of(0),
     }
+}
 
-    #[inline(always)]
-    fn is_label(&self) -> bool
-        ensures exact { result ≡ is_label (destination_by N.number self.now) }
-    {
-        matches!(self, Target::Labelled(_))
-    }
+// A jump that has a label: its place among the instructions, and the statement of line `n`.
+#[derive(Clone, Copy)]
+pub(crate) struct Jump<'a> {
+    pub(crate) at: usize,
+    pub(crate) n: usize,
+    pub(crate) parsed: Parsed<'a>,
 }
