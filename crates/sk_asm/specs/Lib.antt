@@ -1,5 +1,6 @@
 pub mod Assembly
 pub mod Block
+pub mod Clean
 pub mod Drafts
 pub mod Faults
 pub mod Grammar

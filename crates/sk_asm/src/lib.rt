@@ -9,6 +9,7 @@ pub mod laws;
 mod names;
 mod parse;
 mod passes;
+mod printable;
 mod shape;
 mod statement;
 mod value;

@@ -1,7 +1,8 @@
 //! Lines as statements.
-ghost use Rattle.std.specs.Prelude.{◌≡◌, ◌∷◌};
+ghost use Rattle.std.specs.Prelude.{◌≡◌, ◌∷◌, IsTrue};
+ghost use Rattle.std.specs.List.{list_all};
 ghost use Rattle.std.specs.Option.{option_map};
-ghost use Rattle.sk_text.specs.Lines.{words_of};
+ghost use Rattle.sk_text.specs.Lines.{words_of, is_printable_byte};
 ghost use Rattle.sk_asm.specs.Grammar.{Plain, Jumps, insn, u32_of, destination_of, shaped, branching, raw, instruction_said, spoken, statement_of};
 ghost use Rattle.sk_asm.specs.Passes.{checked};
 ghost use Rattle.sk_asm.specs.Faults.{Answers};
@@ -22,13 +23,14 @@ pub(crate) const LONGEST_LINE: usize = 255;
 
 // What line `n` says, if nothing is wrong with it by itself.
 #[tactic(auto, unfolding(crate::specs::Passes::checked))]
-pub(crate) fn check_line(n: usize, line: &[u8]) -> Result<Parsed<'_>, AsmFault>
+pub(crate) fn check_line(n: usize, line: &[u8], is_clean: bool) -> Result<Parsed<'_>, AsmFault>
+    requires clean { IsTrue is_clean → IsTrue (list_all is_printable_byte line.now) }
     ensures exact { Answers statement result (checked n line.now) }
 {
     if line.len() > LONGEST_LINE {
         return Err(AsmFault::TooLong { n });
     }
-    if !is_printable(line) {
+    if !is_clean && !is_printable(line) {
         return Err(AsmFault::Line { n });
     }
     parse_line(line).ok_or(AsmFault::Line { n })

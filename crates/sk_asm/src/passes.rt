@@ -15,6 +15,7 @@ use crate::block::BlockLines;
 use crate::distance::Distance;
 use crate::fault::AsmFault;
 use crate::parse::check_line;
+use crate::printable::clean_bytes;
 use crate::statement::{Jump, Parsed};
 use indexmap::IndexMap;
 use sk_insn::{Insn, MOST_INSNS};
@@ -97,11 +98,13 @@ fn find<'a>(
     let mut labels = IndexMap::new(alloc);
     let mut insns = Vec::new(alloc);
     let mut jumps = Vec::new(alloc);
+    let mut clean = clean_bytes(text, is_block);
     let mut at = 0;
     let mut n = before;
     for line in (BlockLines { rest, is_block }) {
         n += 1;
-        let parsed = check_line(n, line)?;
+        let parsed = check_line(n, line, line.len() <= clean)?;
+        clean = clean.saturating_sub(line.len() + 1);
         let next = note(&mut labels, n, at, &parsed)?;
         keep_jump(&mut jumps, n, at, &parsed)?;
         keep_insn(&mut insns, &parsed)?;

@@ -3,6 +3,7 @@ use Rattle.sk_asm.specs.Block.{lines_in}
 use Rattle.sk_asm.specs.Views.{jumps_in}
 use Rattle.std.proofs.lemmas.Result.{err_from_is_err_and}
 use Rattle.sk_asm.proofs.Blocks.{length-lines_in}
+use Rattle.sk_asm.proofs.Clean.{clean_line, clean_rest}
 use Rattle.sk_asm.proofs.Turns.{labelled-unchecked, labelled-unnoted, labelled-turn, labelled-end, found-start, found-turn, found-among, found-end}
 use Rattle.sk_asm.proofs.passes.find.Goals as goal
 
@@ -13,6 +14,7 @@ loop-line-init c =
     record {
       few = omega (arith, ap length same, lines);
       so_far = rw (c.new-labels.ensures.empty, same) refl;
+      clean = rw same c.clean_bytes-clean.ensures.lines;
       found = found-start _ _ _ _ _ _ c.new-insns.ensures.items (ap jumps_in c.new-jumps.ensures.items) refl same;
     }
 
@@ -38,6 +40,7 @@ pub loop-line-preserved : goal.loop-line-preserved
 loop-line-preserved c = record {
   few = let shorter = ap length c.in-Some.ensures.steps in omega (arith, shorter, c.loop-line.invariant.few);
   so_far = labelled-turn _ _ _ _ _ _ _ c.in-Some.ensures.steps c.loop-line.invariant.so_far _ _ _ c.in_ok-parsed.ensures.exact c.in_ok-next.ensures.exact;
+  clean = clean_rest _ _ _ _ c.in-Some.ensures.steps c.loop-line.invariant.clean _ c.saturating_sub-clean.ensures;
   found = found-turn _ _ _ _ _ _ _ _ _ _ _ _ _ _ _ c.in-Some.ensures.steps c.loop-line.invariant.found c.in_ok-parsed.ensures.exact c.in_ok-next.ensures.exact c.in_ok-keep_insn.ensures.kept c.in_ok-keep_jump.ensures.kept;
 }
 

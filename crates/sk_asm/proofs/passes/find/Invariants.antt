@@ -1,5 +1,6 @@
 use Rattle.std.proofs.Common.{◌≡◌, ◌≤◌, ◌+◌, [], length}
 use Rattle.sk_asm.specs.Block.{lines_in}
+use Rattle.sk_asm.specs.Clean.{AreClean}
 use Rattle.sk_asm.specs.Passes.{labelled}
 use Rattle.sk_asm.specs.Views.{labels_in, jumps_in}
 use Rattle.sk_asm.proofs.Turns.{FoundSoFar}
@@ -10,5 +11,6 @@ abbrev pub invariant-loop-line : goal.invariant-loop-line
 invariant-loop-line l = record {
   few : l.n + length (lines_in l.line-iterator.is_block l.line-iterator.rest.0.now) ≤ l.before + length l.text;
   so_far : labelled (l.n + 1) (labels_in l.labels) l.at (lines_in l.line-iterator.is_block l.line-iterator.rest.0.now) ≡ labelled (l.before + 1) [] 0 (lines_in l.is_block l.text);
+  clean : AreClean l.clean (lines_in l.line-iterator.is_block l.line-iterator.rest.0.now);
   found : FoundSoFar (l.before + 1) (l.n + 1) l.at l.insns.items (jumps_in l.jumps.items) (lines_in l.line-iterator.is_block l.line-iterator.rest.0.now) (lines_in l.is_block l.text);
 }
