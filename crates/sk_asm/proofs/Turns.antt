@@ -1,5 +1,5 @@
 -- The passes, turn by turn: what one line does to what all lines from it on give.
-use Rattle.std.proofs.Common.{◌≡◌, ◌<◌, ◌≤◌, ◌+◌, ◌-◌, ◌^◌, ◌∙◌, ap, arith, refl, sym, ℕ, List, [], ◌∷◌, ◌++◌, Option, Some, None, is_some, Result, Ok, Err, nat_lt, length, append-nil, append_assoc, length-append, inl, inr}
+use Rattle.std.proofs.Common.{◌≡◌, ◌<◌, ◌≤◌, ◌+◌, ◌-◌, ◌^◌, ◌∙◌, ap, arith, refl, sym, ℕ, List, [], ◌∷◌, ◌++◌, Option, Some, None, is_some, Result, Ok, Err, MatchResult, nat_lt, length, append-nil, append_assoc, length-append, inl, inr}
 use Rattle.std.proofs.Math.Seq.{set-append_seam}
 use Rattle.std.proofs.lemmas.List.{length-set, set-append_left}
 use Rattle.std.proofs.lemmas.Bool.{cases_Bool}
@@ -8,10 +8,10 @@ use Rattle.sk_insn.specs.declared.insn.Insn.{Insn}
 use Rattle.sk_asm.specs.declared.fault.AsmFault.{AsmFault}
 use Rattle.sk_asm.specs.declared.fault.AsmFault.TheVariants.{Line, Label, Twice, Far, Back, TooLong, Memory}
 use Rattle.sk_asm.specs.Faults.{◌>>=◌, IsAsmFault}
-use Rattle.sk_asm.specs.Drafts.{Pending, draft_of, pending_of, AreAmong, replaced, completed}
+use Rattle.sk_asm.specs.Drafts.{Pending, draft_of, pending_of, AreAmong, replaced, completed, Seen, Takes, IsUntaken}
 use Rattle.sk_asm.specs.Grammar.{Further, Labelled, Statement, Silent, Marks, Plain, Jumps, Branches, insn}
 use Rattle.sk_asm.specs.Labels.{Labels, label_place}
-use Rattle.sk_asm.specs.Passes.{checked, counted, marked, noted, labelled, distance, resolved, emitted, in_front}
+use Rattle.sk_asm.specs.Passes.{understood, checked, counted, marked, noted, labelled, distance, resolved, emitted, in_front}
 
 -- a fault of a step is one of what goes on from it
 pub IsAsmFault-along : {X Y : Type 0} (fault : AsmFault) (first : Result X AsmFault) (whole : Result Y AsmFault) → (first ≡ Err fault → whole ≡ Err fault) → IsAsmFault fault first → IsAsmFault fault whole
@@ -34,11 +34,23 @@ module _ (n : ℕ) (labels : Labels) (at : ℕ) (line : List ℕ) (lines rest : 
   pub labelled-unchecked : (fault : AsmFault) → IsAsmFault fault (checked n line) → IsAsmFault fault total
   labelled-unchecked fault h = IsAsmFault-along fault (checked n line) total (λ e. opened ∙ rw e refl) h
 
-  pub labelled-unnoted : (statement : Statement) (fault : AsmFault) → checked n line ≡ Ok statement → IsAsmFault fault (noted n labels at statement) → IsAsmFault fault total
+  labelled-unnoted : (statement : Statement) (fault : AsmFault) → checked n line ≡ Ok statement → IsAsmFault fault (noted n labels at statement) → IsAsmFault fault total
   labelled-unnoted statement fault c h = IsAsmFault-along fault (noted n labels at statement) total (λ e. opened ∙ rw (c, e) refl) h
 
-  pub labelled-turn : (statement : Statement) (after : Labels) (next : ℕ) → checked n line ≡ Ok statement → noted n labels at statement ≡ Ok (after, next) → labelled (n + 1) after next rest ≡ total
+  labelled-turn : (statement : Statement) (after : Labels) (next : ℕ) → checked n line ≡ Ok statement → noted n labels at statement ≡ Ok (after, next) → labelled (n + 1) after next rest ≡ total
   labelled-turn statement after next c e = sym (opened ∙ rw (c, e) refl)
+
+module _ (n : ℕ) (at : ℕ) (line : List ℕ) (lines rest : List (List ℕ)) (total : Result Labels AsmFault) (old : Seen)
+    (cut : lines ≡ line ∷ rest) (so_far : labelled n old.labels at lines ≡ total) where
+  pub labelled-untaken : (given : Option Statement) (fault : AsmFault) → checked n line ≡ understood n given → IsUntaken n at given old fault → IsAsmFault fault total
+  labelled-untaken None fault c h =
+      let not_understood : IsAsmFault {X = Statement} fault (Err (Line n)) = IsAsmFault-along {X = Labels × ℕ} fault (Err (Line n)) (Err (Line n)) (λ e. cc) h in
+      labelled-unchecked n old.labels at line lines rest total cut so_far fault (rw c not_understood)
+  labelled-untaken (Some statement) fault c h = labelled-unnoted n old.labels at line lines rest total cut so_far statement fault c h
+
+  pub labelled-taken : (given : Option Statement) (new : Seen) (next : ℕ) → checked n line ≡ understood n given → Takes n at given old new next → labelled (n + 1) new.labels next rest ≡ total
+  labelled-taken None new next c h = absurd h
+  labelled-taken (Some statement) new next c h = labelled-turn n old.labels at line lines rest total cut so_far statement new.labels next c h.0
 
 pub labelled-end : (n : ℕ) (labels : Labels) (at : ℕ) (lines : List (List ℕ)) (total : Result Labels AsmFault) → lines ≡ [] → labelled n labels at lines ≡ total → total ≡ Ok labels
 unfolding labelled
@@ -69,6 +81,21 @@ noted-place n at labels (Marks name) next after h = let e = same_place n at labe
 noted-place n at labels (Plain given) next after h = next_place n at labels next after h
 noted-place n at labels (Jumps code to) next after h = next_place n at labels next after h
 noted-place n at labels (Branches code k jt jf) next after h = next_place n at labels next after h
+
+-- ---- lines that are no instructions
+
+pub takes-silent : (n at : ℕ) (old : Seen) → Takes n at (Some Silent) old old at
+unfolding noted
+takes-silent n at old = (refl, (sym (append-nil old.insns), sym (append-nil old.jumps)))
+
+pub takes-label : (answer : Result ℕ AsmFault) (n at : ℕ) (name : List ℕ) (old : Seen) (after : Labels)
+    → MatchResult answer (λ next. marked n old.labels at name ≡ Ok (after, next)) (λ fault. IsAsmFault fault (marked n old.labels at name))
+    → MatchResult answer
+    (λ next. Takes n at (Some (Marks name)) old (record { labels = after; insns = old.insns; jumps = old.jumps }) next)
+    (λ fault. IsUntaken n at (Some (Marks name)) old fault)
+unfolding noted
+takes-label (Ok next) n at name old after h = (h, (sym (append-nil old.insns), sym (append-nil old.jumps)))
+takes-label (Err fault) n at name old after h = h
 
 -- ---- answers, and what is done with them
 
@@ -228,7 +255,7 @@ found-start number n insns jumps lines all none no_jump start same = record {
   same = λ labels. rw (none, no_jump, start, same) (same_answer (emitted labels number 0 all));
 }
 
-pub found-turn : (number n at : ℕ) (insns : List Insn) (jumps : List Pending) (line : List ℕ) (lines rest all : List (List ℕ)) (statement : Statement)
+found-turn : (number n at : ℕ) (insns : List Insn) (jumps : List Pending) (line : List ℕ) (lines rest all : List (List ℕ)) (statement : Statement)
     (labels after : Labels) (next : ℕ) (more : List Insn) (further : List Pending)
     → lines ≡ line ∷ rest → FoundSoFar number n at insns jumps lines all → checked n line ≡ Ok statement → noted n labels at statement ≡ Ok (after, next)
     → more ≡ insns ++ in_front (draft_of statement) [] → further ≡ jumps ++ pending_of at n statement → FoundSoFar number (n + 1) next more further rest all
@@ -253,6 +280,13 @@ found-turn number n at insns jumps line lines rest all statement labels after ne
           (sym (cut_off ∙ resolved-size labels n at statement (λ place. emitted labels (n + 1) place rest)))
           ∙ so_far.same labels;
     }
+
+pub found-taken : (number n at : ℕ) (line : List ℕ) (lines rest all : List (List ℕ)) (given : Option Statement) (old new : Seen) (next : ℕ)
+    → lines ≡ line ∷ rest → FoundSoFar number n at old.insns old.jumps lines all → checked n line ≡ understood n given → Takes n at given old new next
+    → FoundSoFar number (n + 1) next new.insns new.jumps rest all
+found-taken number n at line lines rest all None old new next cut so_far said h = absurd h
+found-taken number n at line lines rest all (Some statement) old new next cut so_far said h =
+    found-turn number n at old.insns old.jumps line lines rest all statement old.labels new.labels next new.insns new.jumps cut so_far said h.0 h.1.0 h.1.1
 
 pub found-among : (number n at : ℕ) (insns : List Insn) (jumps : List Pending) (lines all : List (List ℕ)) → FoundSoFar number n at insns jumps lines all → AreAmong (length insns) jumps
 found-among number n at insns jumps lines all so_far = rw (sym so_far.place) so_far.among

@@ -1,12 +1,12 @@
 -- What the first pass leaves to the second one: all instructions, and beside them the jumps that have a label, whose
 -- distances are not known yet.
-use Rattle.std.specs.Prelude.{◌<◌, ◌||◌, ℕ, Bool, true, false, if◌then◌else◌, List, [], ◌∷◌, Option, Some, None, Result, Ok, slice_set}
+use Rattle.std.specs.Prelude.{◌≡◌, ◌<◌, ◌++◌, ◌||◌, ℕ, Bool, true, false, if◌then◌else◌, List, [], ◌∷◌, Option, Some, None, Result, Ok, slice_set}
 use Rattle.sk_insn.specs.declared.insn.Insn.{Insn}
 use Rattle.sk_asm.specs.declared.fault.AsmFault.{AsmFault}
-use Rattle.sk_asm.specs.Faults.{◌>>=◌}
+use Rattle.sk_asm.specs.Faults.{◌>>=◌, IsAsmFault}
 use Rattle.sk_asm.specs.Grammar.{Destination, Further, Labelled, Statement, Silent, Marks, Plain, Jumps, Branches, insn}
 use Rattle.sk_asm.specs.Labels.{Labels}
-use Rattle.sk_asm.specs.Passes.{resolved}
+use Rattle.sk_asm.specs.Passes.{understood, noted, resolved, in_front}
 
 -- ---- one statement
 
@@ -59,3 +59,22 @@ abbrev pub completed : Labels → List Insn → List Pending → Result (List In
 completed labels insns [] = Ok insns
 completed labels insns (jump ∷ jumps) =
     resolved labels jump.1 jump.0 jump.2 >>= λ given. completed labels (replaced insns jump.0 given) jumps
+
+-- ---- line by line
+
+-- what was found in the lines before
+pub record Seen : Type 0 where
+  pub labels : Labels
+  pub insns : List Insn
+  pub jumps : List Pending
+
+-- line n says this, and does so to what was found, where the next instruction has a place, and then another one
+abbrev pub Takes : ℕ → ℕ → Option Statement → Seen → Seen → ℕ → Type 0
+Takes n at None old new next = ⊥
+Takes n at (Some statement) old new next =
+    (noted n old.labels at statement ≡ Ok (new.labels, next))
+    × ((new.insns ≡ old.insns ++ in_front (draft_of statement) []) × (new.jumps ≡ old.jumps ++ pending_of at n statement))
+
+-- the fault of a line that is not understood, or not taken
+abbrev pub IsUntaken : ℕ → ℕ → Option Statement → Seen → AsmFault → Type 0
+IsUntaken n at given old fault = IsAsmFault fault (understood n given >>= λ statement. noted n old.labels at statement)

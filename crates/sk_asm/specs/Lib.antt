@@ -7,4 +7,5 @@ pub mod Grammar
 pub mod Labels
 pub mod LineFaults
 pub mod Passes
+pub mod Seeing
 pub mod Views

@@ -5,10 +5,13 @@ use Rattle.std.specs.declared.hash.FoldHasher.{FoldHasher}
 use Rattle.std.specs.declared.hash.BuildHasherDefault.{BuildHasherDefault}
 use Rattle.indexmap.specs.IndexMap.{IndexMap}
 use Rattle.sk_asm.specs.declared.statement.Target.{Target}
-use Rattle.sk_asm.specs.declared.statement.Parsed.{Parsed}
+use Rattle.sk_asm.specs.declared.statement.Begun.{Begun}
 use Rattle.sk_asm.specs.declared.statement.Target.TheVariants as targets
-use Rattle.sk_asm.specs.declared.statement.Parsed.TheVariants as parsed
-use Rattle.sk_asm.specs.Grammar.{Destination, Further, Labelled, Statement, Silent, Marks, Plain, Jumps, Branches}
+use Rattle.sk_asm.specs.declared.statement.Begun.TheVariants as begun
+use Rattle.sk_asm.specs.declared.statement.Jump.TheVariants as jumps
+use Rattle.sk_asm.specs.declared.statement.Pending as waiting
+use Rattle.sk_text.specs.Lines.{words_of}
+use Rattle.sk_asm.specs.Grammar.{Destination, Further, Labelled, Statement, Silent, Marks, Jumps, Branches, raw, shaped}
 use Rattle.sk_asm.specs.Labels.{Labels}
 use Rattle.sk_asm.specs.declared.statement.Jump.{Jump}
 use Rattle.sk_asm.specs.Drafts.{Pending}
@@ -23,15 +26,23 @@ abbrev pub destination_to : ℕ → Option (Bor (List ℕ)) → Destination
 destination_to count None = Further count
 destination_to count (Some name) = Labelled name.now
 
-abbrev pub statement : Parsed → Statement
-statement parsed.Silent = Silent
-statement (parsed.Label name) = Marks name.now
-statement (parsed.Plain given) = Plain given
-statement (parsed.Jump given to) = Jumps given.code (destination_to given.k to)
-statement (parsed.Branch given jt jf) = Branches given.code given.k (destination_to given.jt jt) (destination_to given.jf jf)
+abbrev pub statement : Jump → Statement
+statement (jumps.Always given to) = Jumps given.code (destination_to given.k to)
+statement (jumps.Branch given jt jf) = Branches given.code given.k (destination_to given.jt jt) (destination_to given.jf jf)
+
+-- what a line says, with the words that are not read yet, if they are understood
+abbrev pub said : Begun → Option Statement
+said begun.Silent = Some Silent
+said (begun.Label name) = Some (Marks name.now)
+said (begun.Fields rest) = raw (words_of rest.now)
+said (begun.Form shape code rest) = shaped shape code (words_of rest.now)
+
+abbrev pub said_by : Option Begun → Option Statement
+said_by None = None
+said_by (Some begun) = said begun
 
 abbrev pub labels_in : IndexMap (Bor (List ℕ)) ℕ (BuildHasherDefault FoldHasher) → Labels
 labels_in labels = map (λ entry. (entry.0.now, entry.1)) labels.entries
 
-abbrev pub jumps_in : List Jump → List Pending
-jumps_in jumps = map (λ jump. (jump.at, jump.n, statement jump.parsed)) jumps
+abbrev pub jumps_in : List waiting.Pending → List Pending
+jumps_in jumps = map (λ pending. (pending.at, pending.n, statement pending.jump)) jumps

@@ -5,6 +5,7 @@ mod block;
 mod distance;
 mod examples;
 mod fault;
+mod found;
 pub mod laws;
 mod names;
 mod parse;

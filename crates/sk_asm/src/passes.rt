@@ -1,31 +1,30 @@
 //! The two passes: one over the lines, for their labels and instructions, and one over the instructions, for their jumps.
-ghost use Rattle.std.specs.Prelude.{Err, ◌≡◌, ◌≢◌, ◌+◌, ◌-◌, ◌≤◌, ◌<◌, ◌^◌, ◌++◌, length, IfOk, IfErr, MatchResult, OnOk, Ok, List, []};
+ghost use Rattle.std.specs.Prelude.{Err, ◌≡◌, ◌≢◌, ◌+◌, ◌-◌, ◌≤◌, ◌<◌, ◌^◌, length, IfOk, IfErr, List, [], Some};
 ghost use Rattle.sk_asm.specs.Assembly.{Assembles, AssemblesText, Finds};
 ghost use Rattle.sk_asm.specs.Block.{lines_in, until_end};
 ghost use Rattle.sk_insn.specs.declared.insn.Insn.{Insn};
-ghost use Rattle.sk_asm.specs.Faults.{Answers, IsAsmFault};
+ghost use Rattle.sk_asm.specs.Faults.{Answers};
 ghost use Rattle.sk_asm.specs.LineFaults.{IsFirstTextFault};
 ghost use Rattle.sk_asm.specs.Labels.{Labels as Places, label_place};
-ghost use Rattle.sk_asm.specs.Passes.{noted, counted, marked, labelled, landed, distance, resolved, emitted, assembled, assembled_lines, in_front};
-ghost use Rattle.sk_asm.specs.Drafts.{AreAmong, draft_of, pending_of, completed};
+ghost use Rattle.sk_asm.specs.Passes.{labelled, landed, distance, resolved, emitted, assembled, assembled_lines};
+ghost use Rattle.sk_asm.specs.Drafts.{AreAmong, completed};
 ghost use Rattle.sk_asm.specs.Views.{destination_to, statement, labels_in, jumps_in};
 ghost use Rattle.sk_text.specs.Lines.{lines_of};
 
 use crate::block::BlockLines;
 use crate::distance::Distance;
 use crate::fault::AsmFault;
+use crate::found::{Found, Labels};
 use crate::parse::check_line;
 use crate::printable::clean_bytes;
-use crate::statement::{Jump, Parsed};
+use crate::statement::{Jump, Pending};
 use indexmap::IndexMap;
-use sk_insn::{Insn, MOST_INSNS};
+use sk_insn::Insn;
 use sk_text::Lines;
-use std::alloc::{AllocError, Global};
+use std::alloc::Global;
 
 // The most bytes that a text may have.
 const LONGEST_TEXT: usize = 1_048_576;
-
-type Labels<'a> = IndexMap<&'a [u8], usize>;
 
 /// The instructions that a text stands for, or the first of its faults.
 #[tactic(auto, unfolding(crate::specs::Passes::assembled))]
@@ -73,14 +72,6 @@ fn assemble_lines(
     complete(&labels, jumps.as_slice(), insns)
 }
 
-// The labels of lines, with their places, their instructions, and of these the jumps whose labels are not resolved yet.
-#[derive(Drop)]
-struct Found<'a> {
-    labels: Labels<'a>,
-    insns: Vec<Insn>,
-    jumps: Vec<Jump<'a>>,
-}
-
 // What the lines say.
 fn find<'a>(
     alloc: Global,
@@ -95,142 +86,57 @@ fn find<'a>(
         → completed labels found.insns.items (jumps_in found.jumps.items) ≡ emitted labels (before + 1) 0 (lines_in is_block text.now)) }
 {
     let rest = Lines(text);
-    let mut labels = IndexMap::new(alloc);
-    let mut insns = Vec::new(alloc);
-    let mut jumps = Vec::new(alloc);
+    let mut found = Found {
+        labels: IndexMap::new(alloc),
+        insns: Vec::new(alloc),
+        jumps: Vec::new(alloc),
+    };
     let mut clean = clean_bytes(text, is_block);
     let mut at = 0;
     let mut n = before;
     for line in (BlockLines { rest, is_block }) {
         n += 1;
-        let parsed = check_line(n, line, line.len() <= clean)?;
+        let begun = check_line(n, line, line.len() <= clean)?;
         clean = clean.saturating_sub(line.len() + 1);
-        let next = note(&mut labels, n, at, &parsed)?;
-        keep_jump(&mut jumps, n, at, &parsed)?;
-        keep_insn(&mut insns, &parsed)?;
-        at = next;
+        at = found.take(n, at, begun)?;
     }
-    Ok(Found {
-        labels,
-        insns,
-        jumps,
-    })
-}
-
-// Keeps the instruction that a statement is, if it is one.
-#[inline(always)]
-fn keep_insn(insns: &mut Vec<Insn>, parsed: &Parsed<'_>) -> Result<(), AllocError>
-    ensures kept { OnOk result (insns.new.items ≡ insns.old.items ++ in_front (draft_of (statement parsed.now)) []) }
-{
-    if let Some(insn) = parsed.draft() {
-        insns.push(insn)?;
-    }
-    Ok(())
-}
-
-// Keeps the statement of line `n`, if it is a jump to a label.
-#[inline(always)]
-fn keep_jump<'a>(
-    jumps: &mut Vec<Jump<'a>>,
-    n: usize,
-    at: usize,
-    parsed: &Parsed<'a>,
-) -> Result<(), AllocError>
-    ensures kept { OnOk result (jumps_in jumps.new.items ≡ jumps_in jumps.old.items ++ pending_of at n (statement parsed.now)) }
-{
-    if parsed.has_label() {
-        let parsed = *parsed;
-        jumps.push(Jump { at, n, parsed })?;
-    }
-    Ok(())
-}
-
-// Notes the statement of line `n`, and gives the place of the next instruction.
-#[tactic(auto, unfolding(crate::specs::Passes::noted))]
-fn note<'a>(
-    labels: &mut Labels<'a>,
-    n: usize,
-    at: usize,
-    parsed: &Parsed<'a>,
-) -> Result<usize, AsmFault>
-    ensures exact { MatchResult result
-        (λ next. noted n (labels_in labels.old) at (statement parsed.now) ≡ Ok (labels_in labels.new, next))
-        (λ fault. IsAsmFault fault (noted n (labels_in labels.old) at (statement parsed.now))) }
-{
-    match *parsed {
-        Parsed::Silent => Ok(at),
-        Parsed::Label(name) => mark(labels, n, at, name),
-        Parsed::Plain(_) | Parsed::Jump(..) | Parsed::Branch(..) => count(n, at),
-    }
-}
-
-// The place after one more instruction.
-fn count(n: usize, at: usize) -> Result<usize, AsmFault>
-    ensures exact { (labels : Places) → Answers (λ next. (labels, next)) result (counted n labels at) }
-{
-    if at < MOST_INSNS {
-        Ok(at + 1)
-    } else {
-        Err(AsmFault::TooLong { n })
-    }
-}
-
-// Gives a label the place.
-fn mark<'a>(labels: &mut Labels<'a>, n: usize, at: usize, name: &'a [u8]) -> Result<usize, AsmFault>
-    ensures exact { MatchResult result
-        (λ next. marked n (labels_in labels.old) at name.now ≡ Ok (labels_in labels.new, next))
-        (λ fault. IsAsmFault fault (marked n (labels_in labels.old) at name.now)) }
-{
-    if labels.contains_key(name) {
-        return Err(AsmFault::Twice { n });
-    }
-    labels.insert(name, at)?;
-    Ok(at)
+    Ok(found)
 }
 
 // The instructions, with the distances of these jumps.
 fn complete(
     labels: &Labels<'_>,
-    jumps: &[Jump<'_>],
+    jumps: &[Pending<'_>],
     mut insns: Vec<Insn>,
 ) -> Result<Vec<Insn>, AsmFault>
     requires among { AreAmong (length insns.items) (jumps_in jumps.now) }
     ensures exact { Answers (λ insns. insns.items) result (completed (labels_in labels.now) insns.items (jumps_in jumps.now)) }
 {
-    for jump in jumps {
-        if let Some(insn) = resolve(labels, jump.n, jump.at, jump.parsed)? {
-            insns[jump.at] = insn;
-        }
+    for pending in jumps {
+        insns[pending.at] = resolve(labels, pending.n, pending.at, pending.jump)?;
     }
     Ok(insns)
 }
 
-// The instruction of line `n` at a place, if its statement is one.
+// The jump of line `n` at a place, with its distances.
 #[tactic(auto, unfolding(crate::specs::Passes::resolved))]
-fn resolve(
-    labels: &Labels<'_>,
-    n: usize,
-    at: usize,
-    parsed: Parsed<'_>,
-) -> Result<Option<Insn>, AsmFault>
-    ensures exact { Answers (λ given. given) result (resolved (labels_in labels.now) n at (statement parsed.entry)) }
+fn resolve(labels: &Labels<'_>, n: usize, at: usize, jump: Jump<'_>) -> Result<Insn, AsmFault>
+    ensures exact { Answers (λ given. Some given) result (resolved (labels_in labels.now) n at (statement jump.entry)) }
 {
-    match parsed {
-        Parsed::Silent | Parsed::Label(_) => Ok(None),
-        Parsed::Plain(insn) => Ok(Some(insn)),
-        Parsed::Jump(Insn { code, k, .. }, to) => {
+    match jump {
+        Jump::Always(Insn { code, k, .. }, to) => {
             let k = distance(labels, n, at, k, to)?;
-            Ok(Some(Insn {
+            Ok(Insn {
                 code,
                 jt: 0,
                 jf: 0,
                 k,
-            }))
+            })
         }
-        Parsed::Branch(Insn { code, jt, jf, k }, first, second) => {
+        Jump::Branch(Insn { code, jt, jf, k }, first, second) => {
             let jt = distance(labels, n, at, jt, first)?;
             let jf = distance(labels, n, at, jf, second)?;
-            Ok(Some(Insn { code, jt, jf, k }))
+            Ok(Insn { code, jt, jf, k })
         }
     }
 }

@@ -1,11 +1,20 @@
 //! What a line says, over the bytes of the text.
-ghost use Rattle.std.specs.Prelude.{◌≡◌};
-ghost use Rattle.std.specs.Option.{option_map};
-ghost use Rattle.sk_asm.specs.Drafts.{drafted, draft_of, is_label, has_label};
+ghost use Rattle.std.specs.Prelude.{◌≡◌, Some};
+ghost use Rattle.sk_asm.specs.Drafts.{drafted, draft_of, has_label};
 ghost use Rattle.sk_asm.specs.Views.{destination_by, destination_to, statement};
 
 use crate::distance::Distance;
+use crate::shape::Shape;
 use sk_insn::Insn;
+
+// What the first word of a line says. An instruction's other words are not read yet.
+#[derive(Clone, Copy)]
+pub(crate) enum Begun<'a> {
+    Silent,
+    Label(&'a [u8]),
+    Fields(&'a [u8]),
+    Form(Shape, u16, &'a [u8]),
+}
 
 // Where a jump goes: so many instructions further, or to a label.
 #[derive(Clone, Copy)]
@@ -27,49 +36,41 @@ impl<'a, N: Distance> Target<'a, N> {
     }
 }
 
-// What a line says. The instruction of a jump has its distances, but for those that go to labels. Each instruction stands
-// at the same place of a value, so that no copy of it takes it apart.
+// A jump: its instruction, and the labels that stand in place of its distances.
 #[derive(Clone, Copy)]
-pub(crate) enum Parsed<'a> {
-    Silent,
-    Label(&'a [u8]),
-    Plain(Insn),
-    Jump(Insn, Option<&'a [u8]>),
+pub(crate) enum Jump<'a> {
+    Always(Insn, Option<&'a [u8]>),
     Branch(Insn, Option<&'a [u8]>, Option<&'a [u8]>),
 }
 
-impl<'a> Parsed<'a> {
-    // The instruction, if it is one. A distance to a label is left 0.
+impl<'a> Jump<'a> {
+    // The instruction. A distance to a label is left 0.
     #[inline(always)]
-    pub(crate) fn draft(&self) -> Option<Insn>
-        ensures exact { result ≡ draft_of (statement self.now) }
+    pub(crate) fn draft(&self) -> Insn
+        ensures exact { Some result ≡ draft_of (statement self.now) }
     {
         match *self {
-            Parsed::Silent | Parsed::Label(_) => None,
-            Parsed::Plain(insn) => Some(insn),
-            Parsed::Jump(Insn { code, k, .. }, to) => Some(Insn {
+            Jump::Always(Insn { code, k, .. }, to) => Insn {
                 code,
                 jt: 0,
                 jf: 0,
                 k: drafted(k, to),
-            }),
-            Parsed::Branch(Insn { code, jt, jf, k }, t, f) => {
+            },
+            Jump::Branch(Insn { code, jt, jf, k }, t, f) => {
                 let jt = drafted(jt, t);
                 let jf = drafted(jf, f);
-                Some(Insn { code, jt, jf, k })
+                Insn { code, jt, jf, k }
             }
         }
     }
 
-    // Whether it is a jump to a label.
     #[inline(always)]
     pub(crate) fn has_label(&self) -> bool
         ensures exact { result ≡ has_label (statement self.now) }
     {
         match self {
-            Parsed::Silent | Parsed::Label(_) | Parsed::Plain(_) => false,
-            Parsed::Jump(_, to) => to.is_some(),
-            Parsed::Branch(_, jt, jf) => jt.is_some() || jf.is_some(),
+            Jump::Always(_, to) => to.is_some(),
+            Jump::Branch(_, jt, jf) => jt.is_some() || jf.is_some(),
         }
     }
 }
@@ -85,10 +86,10 @@ fn drafted<N: Distance>(count: N, label: Option<&[u8]>) -> N
     }
 }
 
-// A jump that has a label: its place among the instructions, and the statement of line `n`.
+// A jump of line `n` that has a label, and its place among the instructions.
 #[derive(Clone, Copy)]
-pub(crate) struct Jump<'a> {
+pub(crate) struct Pending<'a> {
     pub(crate) at: usize,
     pub(crate) n: usize,
-    pub(crate) parsed: Parsed<'a>,
+    pub(crate) jump: Jump<'a>,
 }

@@ -10,7 +10,7 @@ use Rattle.sk_asm.proofs.passes.find.Given as goal
 abbrev pub invariant-loop-line : goal.invariant-loop-line
 invariant-loop-line l = record {
   few : l.n + length (lines_in l.line-iterator.is_block l.line-iterator.rest.0.now) ≤ l.before + length l.text;
-  so_far : labelled (l.n + 1) (labels_in l.labels) l.at (lines_in l.line-iterator.is_block l.line-iterator.rest.0.now) ≡ labelled (l.before + 1) [] 0 (lines_in l.is_block l.text);
+  so_far : labelled (l.n + 1) (labels_in l.found.labels) l.at (lines_in l.line-iterator.is_block l.line-iterator.rest.0.now) ≡ labelled (l.before + 1) [] 0 (lines_in l.is_block l.text);
   clean : AreClean l.clean (lines_in l.line-iterator.is_block l.line-iterator.rest.0.now);
-  found : FoundSoFar (l.before + 1) (l.n + 1) l.at l.insns.items (jumps_in l.jumps.items) (lines_in l.line-iterator.is_block l.line-iterator.rest.0.now) (lines_in l.is_block l.text);
+  so_many : FoundSoFar (l.before + 1) (l.n + 1) l.at l.found.insns.items (jumps_in l.found.jumps.items) (lines_in l.line-iterator.is_block l.line-iterator.rest.0.now) (lines_in l.is_block l.text);
 }
