@@ -9,6 +9,7 @@ ghost use Rattle.sk_asm.specs.Passes.{counted, marked};
 ghost use Rattle.sk_asm.specs.Views.{statement, said, labels_in};
 ghost use Rattle.sk_asm.specs.Seeing.{seen};
 ghost use Rattle.sk_text.specs.Lines.{words_of};
+ghost use Rattle.sk_asm.specs.declared.shape.Shape.TheVariants.{Target, Compare, CompareIndex};
 
 use crate::fault::AsmFault;
 use crate::parse::{
@@ -65,9 +66,9 @@ impl<'a> Found<'a> {
             Shape::Bare => self.push(n, at, parse_bare(code, words)),
             Shape::Number => self.push(n, at, parse_number(code, words)),
             Shape::Action => self.push(n, at, parse_action(code, words)),
-            Shape::Target => self.push_jump(n, at, parse_jump(code, words)),
-            Shape::Compare => self.push_jump(n, at, parse_comparison(code, words)),
-            Shape::CompareIndex => self.push_jump(n, at, parse_index_comparison(code, words)),
+            Shape::Target => self.push_always(n, at, code, words),
+            Shape::Compare => self.push_comparison(n, at, code, words),
+            Shape::CompareIndex => self.push_index_comparison(n, at, code, words),
         }
     }
 
@@ -84,6 +85,52 @@ impl<'a> Found<'a> {
         let next = count(n, at)?;
         self.insns.push(insn)?;
         Ok(next)
+    }
+
+    // Jumps are pushed by functions of their own, so that no other line pays for the room that they take.
+    #[inline(never)]
+    fn push_always(
+        &mut self,
+        n: usize,
+        at: usize,
+        code: u16,
+        words: Words<'a>,
+    ) -> Result<usize, AsmFault>
+        ensures taken { MatchResult result
+            (λ next. Takes n at (shaped Target code (words_of words.entry.0.now)) (seen self.old) (seen self.new) next)
+            (λ fault. IsUntaken n at (shaped Target code (words_of words.entry.0.now)) (seen self.old) fault) }
+    {
+        self.push_jump(n, at, parse_jump(code, words))
+    }
+
+    #[inline(never)]
+    fn push_comparison(
+        &mut self,
+        n: usize,
+        at: usize,
+        code: u16,
+        words: Words<'a>,
+    ) -> Result<usize, AsmFault>
+        ensures taken { MatchResult result
+            (λ next. Takes n at (shaped Compare code (words_of words.entry.0.now)) (seen self.old) (seen self.new) next)
+            (λ fault. IsUntaken n at (shaped Compare code (words_of words.entry.0.now)) (seen self.old) fault) }
+    {
+        self.push_jump(n, at, parse_comparison(code, words))
+    }
+
+    #[inline(never)]
+    fn push_index_comparison(
+        &mut self,
+        n: usize,
+        at: usize,
+        code: u16,
+        words: Words<'a>,
+    ) -> Result<usize, AsmFault>
+        ensures taken { MatchResult result
+            (λ next. Takes n at (shaped CompareIndex code (words_of words.entry.0.now)) (seen self.old) (seen self.new) next)
+            (λ fault. IsUntaken n at (shaped CompareIndex code (words_of words.entry.0.now)) (seen self.old) fault) }
+    {
+        self.push_jump(n, at, parse_index_comparison(code, words))
     }
 
     #[tactic(auto, unfolding(crate::specs::Passes::noted))]
