@@ -6,6 +6,9 @@ ghost use Rattle.sk_text.specs.Lines.{lines_of, words_of, is_printable_byte, beg
 
 use memchr::memchr;
 
+// The most bytes of a text in which a byte is found soonest one by one.
+const LONGEST_SHORT: usize = 128;
+
 /// The lines of a text. The last one may lack its end, and an empty rest is no line.
 #[derive(Drop)]
 pub struct Lines<'a>(pub &'a [u8]);
@@ -85,22 +88,23 @@ fn end_of_line(text: &[u8]) -> usize
     if text.first() == Some(&b'\n') {
         return 0;
     }
-    first_line_feed(text)
+    far_place(text, b'\n')
 }
 
-// The same, many bytes at a time.
-fn first_line_feed(text: &[u8]) -> usize
-    ensures within { result ≤ length text.now }
-    ensures first { result ≡ position_or_len (λ b. b == 10) text.now }
-{
-    match memchr(b'\n', text) {
-        Some(at) => at,
-        None => text.len(),
-    }
-}
-
-// The place of the first such byte, or the length where there is none.
+// The place of the first such byte, or the length where there is none. In a short text it is looked for byte by byte.
+#[inline(always)]
 fn place_of(text: &[u8], byte: u8) -> usize
+    ensures within { result ≤ length text.now }
+    ensures first { result ≡ position_or_len (λ b. b == byte) text.now }
+{
+    if text.len() > LONGEST_SHORT {
+        return far_place(text, byte);
+    }
+    near_place(text, byte)
+}
+
+#[inline(always)]
+fn near_place(text: &[u8], byte: u8) -> usize
     ensures within { result ≤ length text.now }
     ensures first { result ≡ position_or_len (λ b. b == byte) text.now }
 {
@@ -110,6 +114,17 @@ fn place_of(text: &[u8], byte: u8) -> usize
         }
     }
     text.len()
+}
+
+// The same, many bytes at a time.
+fn far_place(text: &[u8], byte: u8) -> usize
+    ensures within { result ≤ length text.now }
+    ensures first { result ≡ position_or_len (λ b. b == byte) text.now }
+{
+    match memchr(byte, text) {
+        Some(at) => at,
+        None => text.len(),
+    }
 }
 
 /// Whether a line is made of visible ASCII characters and spaces alone.
