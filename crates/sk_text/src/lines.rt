@@ -6,9 +6,6 @@ ghost use Rattle.sk_text.specs.Lines.{lines_of, words_of, is_printable_byte, beg
 
 use memchr::memchr;
 
-// The most bytes of a text in which a byte is found soonest one by one.
-const LONGEST_SHORT: usize = 128;
-
 /// The lines of a text. The last one may lack its end, and an empty rest is no line.
 #[derive(Drop)]
 pub struct Lines<'a>(pub &'a [u8]);
@@ -65,6 +62,14 @@ pub fn cut(text: &[u8], byte: u8) -> (&[u8], &[u8])
     cut_at(text, place_of(text, byte))
 }
 
+// The same, for what is mostly long.
+pub(crate) fn cut_far(text: &[u8], byte: u8) -> (&[u8], &[u8])
+    ensures front { result.0.now ≡ before_first (λ b. b == byte) text.now }
+    ensures back { result.1.now ≡ after_first (λ b. b == byte) text.now }
+{
+    cut_at(text, far_place(text, byte))
+}
+
 // What stands before this place, and what stands behind the byte there.
 #[inline(always)]
 fn cut_at(text: &[u8], at: usize) -> (&[u8], &[u8])
@@ -91,20 +96,8 @@ fn end_of_line(text: &[u8]) -> usize
     far_place(text, b'\n')
 }
 
-// The place of the first such byte, or the length where there is none. In a short text it is looked for byte by byte.
-#[inline(always)]
+// The place of the first such byte, or the length where there is none.
 fn place_of(text: &[u8], byte: u8) -> usize
-    ensures within { result ≤ length text.now }
-    ensures first { result ≡ position_or_len (λ b. b == byte) text.now }
-{
-    if text.len() > LONGEST_SHORT {
-        return far_place(text, byte);
-    }
-    near_place(text, byte)
-}
-
-#[inline(always)]
-fn near_place(text: &[u8], byte: u8) -> usize
     ensures within { result ≤ length text.now }
     ensures first { result ≡ position_or_len (λ b. b == byte) text.now }
 {
@@ -117,6 +110,7 @@ fn near_place(text: &[u8], byte: u8) -> usize
 }
 
 // The same, many bytes at a time.
+#[inline(always)]
 fn far_place(text: &[u8], byte: u8) -> usize
     ensures within { result ≤ length text.now }
     ensures first { result ≡ position_or_len (λ b. b == byte) text.now }

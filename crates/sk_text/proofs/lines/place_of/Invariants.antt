@@ -1,5 +1,5 @@
 use Rattle.std.proofs.Common.{◌≡◌, ◌<◌, ◌==◌, ℕ, false, get_or}
-use Rattle.sk_text.proofs.lines.near_place.Given as goal
+use Rattle.sk_text.proofs.lines.place_of.Given as goal
 
 -- no such byte stands before
 abbrev pub invariant-loop-at : goal.invariant-loop-at

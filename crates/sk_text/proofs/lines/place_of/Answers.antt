@@ -1,7 +1,7 @@
 use Rattle.std.proofs.Common.{◌≡◌, ◌==◌, ◌<◌, ℕ, false, get_or, length, sym, arith}
 use Rattle.std.proofs.lemmas.List.Sums.{position_or_len_is}
 use Rattle.std.proofs.lemmas.Bool.{eq-eqb}
-use Rattle.sk_text.proofs.lines.near_place.Goals as goal
+use Rattle.sk_text.proofs.lines.place_of.Goals as goal
 
 pub returns-then-b-byte-clause-first : goal.returns-then-b-byte-clause-first
 returns-then-b-byte-clause-first c =
