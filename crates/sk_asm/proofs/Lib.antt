@@ -1,4 +1,5 @@
 pub mod Blocks
+pub mod Clean
 pub mod Ends
 pub mod Distinct
 pub mod FirstFaults

@@ -1,9 +1,11 @@
 pub mod Assembly
 pub mod Block
+pub mod Clean
+pub mod Drafts
 pub mod Faults
 pub mod Grammar
-pub mod Kept
 pub mod Labels
 pub mod LineFaults
 pub mod Passes
+pub mod Seeing
 pub mod Views

@@ -3,22 +3,12 @@ ghost use Rattle.std.specs.Prelude.{◌≡◌};
 ghost use Rattle.sk_insn.specs.Operations.{operation_named};
 
 use sk_insn::{Arithmetic, Comparison, Operand, Operation, Register};
-use sk_text::is_word;
 
-// The operation with this name, if there is one. A name that is one is not compared with the others.
+// The operation with this name, if there is one.
+#[inline(always)]
 pub(crate) fn operation(name: &[u8]) -> Option<Operation>
     ensures operation { result ≡ operation_named name.now }
 {
-    if let Some(likely) = likely(name) {
-        if is_word(likely.name().as_bytes(), name) {
-            return Some(likely);
-        }
-    }
-    Operation::named(name)
-}
-
-// The operation that the bytes lead to. No contract says that it is the right one: who asks compares its name.
-fn likely(name: &[u8]) -> Option<Operation> {
     match name {
         b"ldabs" => Some(Operation::LoadRecord),
         b"ldimm" => Some(Operation::LoadConstant(Register::Accumulator)),
@@ -61,6 +51,6 @@ fn likely(name: &[u8]) -> Option<Operation> {
         b"reta" => Some(Operation::ReturnAccumulator),
         b"tax" => Some(Operation::CopyToIndex),
         b"txa" => Some(Operation::CopyToAccumulator),
-        _ => None,
+        _ => Operation::named(name),
     }
 }

@@ -1,16 +1,18 @@
 //! Lines as statements.
-ghost use Rattle.std.specs.Prelude.{◌≡◌, ◌∷◌};
+ghost use Rattle.std.specs.Prelude.{◌≡◌, ◌∷◌, IsTrue, MatchResult};
+ghost use Rattle.std.specs.List.{list_all};
 ghost use Rattle.std.specs.Option.{option_map};
-ghost use Rattle.sk_text.specs.Lines.{words_of};
+ghost use Rattle.sk_text.specs.Lines.{words_of, is_printable_byte};
 ghost use Rattle.sk_asm.specs.Grammar.{Plain, insn, shaped, branching, raw, instruction_said, spoken, statement_of};
-ghost use Rattle.sk_asm.specs.Passes.{checked};
-ghost use Rattle.sk_asm.specs.Faults.{Answers};
-ghost use Rattle.sk_asm.specs.Views.{statement};
+ghost use Rattle.sk_asm.specs.Passes.{checked, understood};
+ghost use Rattle.sk_asm.specs.Faults.{IsAsmFault};
+ghost use Rattle.sk_asm.specs.Views.{said, said_by, statement};
+ghost use Rattle.sk_asm.specs.declared.shape.Shape.TheVariants.{Bare, Number, Action, Target, Compare, CompareIndex};
 
 use crate::fault::AsmFault;
 use crate::names::operation;
 use crate::shape::Shape;
-use crate::statement::Parsed;
+use crate::statement::{Begun, Jump, Target as Goal};
 use crate::value::{byte, destination, half, label, returned, word};
 use sk_insn::Insn;
 use sk_text::{
@@ -20,118 +22,148 @@ use sk_text::{
 // The most bytes that a line may have.
 pub(crate) const LONGEST_LINE: usize = 255;
 
-// What line `n` says, if nothing is wrong with it by itself.
+// What line `n` says with its first word, if nothing is wrong with it up to there.
+#[inline(always)]
 #[tactic(auto, unfolding(crate::specs::Passes::checked))]
-pub(crate) fn check_line(n: usize, line: &[u8]) -> Result<Parsed<'_>, AsmFault>
-    ensures exact { Answers statement result (checked n line.now) }
+pub(crate) fn check_line(n: usize, line: &[u8], is_clean: bool) -> Result<Begun<'_>, AsmFault>
+    requires clean { IsTrue is_clean → IsTrue (list_all is_printable_byte line.now) }
+    ensures exact { MatchResult result
+        (λ begun. checked n line.now ≡ understood n (said begun))
+        (λ fault. IsAsmFault fault (checked n line.now)) }
 {
     if line.len() > LONGEST_LINE {
         return Err(AsmFault::TooLong { n });
     }
-    if !is_printable(line) {
+    if !is_clean && !is_printable(line) {
         return Err(AsmFault::Line { n });
     }
-    parse_line(line).ok_or(AsmFault::Line { n })
+    begin_line(line).ok_or(AsmFault::Line { n })
 }
 
+#[inline(always)]
 #[tactic(auto, unfolding(crate::specs::Grammar::statement_of))]
-fn parse_line(line: &[u8]) -> Option<Parsed<'_>>
-    ensures exact { option_map statement result ≡ statement_of line.now }
+fn begin_line(line: &[u8]) -> Option<Begun<'_>>
+    ensures exact { said_by result ≡ statement_of line.now }
 {
     let mut words = Words(line);
     let Some(first) = words.next() else {
-        return Some(Parsed::Silent);
+        return Some(Begun::Silent);
     };
     if first.first() == Some(&b';') {
-        return Some(Parsed::Silent);
+        return Some(Begun::Silent);
     }
-    parse_words(first, words)
+    begin_words(first, words)
 }
 
+#[inline(always)]
 #[tactic(auto, unfolding(crate::specs::Grammar::spoken))]
-fn parse_words<'a>(first: &'a [u8], words: Words<'a>) -> Option<Parsed<'a>>
-    ensures exact { option_map statement result ≡ spoken (first.now ∷ words_of words.entry.0.now) }
+fn begin_words<'a>(first: &'a [u8], words: Words<'a>) -> Option<Begun<'a>>
+    ensures exact { said_by result ≡ spoken (first.now ∷ words_of words.entry.0.now) }
 {
     match label(first) {
         Some(name) => {
             no_word(words)?;
-            Some(Parsed::Label(name))
+            Some(Begun::Label(name))
         }
-        None => parse_instruction(first, words),
+        None => begin_instruction(first, words),
     }
 }
 
+#[inline(always)]
 #[tactic(auto, unfolding(crate::specs::Grammar::instruction_said))]
-fn parse_instruction<'a>(first: &'a [u8], words: Words<'a>) -> Option<Parsed<'a>>
-    ensures exact { option_map statement result ≡ instruction_said first.now (words_of words.entry.0.now) }
+fn begin_instruction<'a>(first: &'a [u8], words: Words<'a>) -> Option<Begun<'a>>
+    ensures exact { said_by result ≡ instruction_said first.now (words_of words.entry.0.now) }
 {
     if is_word(first, b".insn") {
-        return parse_fields(words);
+        return Some(Begun::Fields(words.0));
     }
     let operation = operation(first)?;
-    parse_form(Shape::of(operation), operation.code(), words)
+    Some(Begun::Form(Shape::of(operation), operation.code(), words.0))
+}
+
+// An instruction without an operand.
+#[inline(always)]
+#[tactic(auto, unfolding(crate::specs::Grammar::shaped))]
+pub(crate) fn parse_bare(code: u16, words: Words<'_>) -> Option<Insn>
+    ensures exact { option_map Plain result ≡ shaped Bare code (words_of words.entry.0.now) }
+{
+    no_word(words)?;
+    Some(plain(code, 0))
+}
+
+#[inline(always)]
+#[tactic(auto, unfolding(crate::specs::Grammar::shaped))]
+pub(crate) fn parse_number(code: u16, words: Words<'_>) -> Option<Insn>
+    ensures exact { option_map Plain result ≡ shaped Number code (words_of words.entry.0.now) }
+{
+    let k = word(one_word(words)?)?;
+    Some(plain(code, k))
+}
+
+#[inline(always)]
+#[tactic(auto, unfolding(crate::specs::Grammar::shaped))]
+pub(crate) fn parse_action(code: u16, words: Words<'_>) -> Option<Insn>
+    ensures exact { option_map Plain result ≡ shaped Action code (words_of words.entry.0.now) }
+{
+    let k = returned(one_word(words)?)?;
+    Some(plain(code, k))
 }
 
 #[tactic(auto, unfolding(crate::specs::Grammar::shaped))]
-fn parse_form<'a>(shape: Shape, code: u16, words: Words<'a>) -> Option<Parsed<'a>>
-    ensures exact { option_map statement result ≡ shaped shape code (words_of words.entry.0.now) }
+pub(crate) fn parse_jump<'a>(code: u16, words: Words<'a>) -> Option<Jump<'a>>
+    ensures exact { option_map statement result ≡ shaped Target code (words_of words.entry.0.now) }
 {
-    match shape {
-        Shape::Bare => {
-            no_word(words)?;
-            Some(plain(code, 0))
-        }
-        Shape::Number => {
-            let k = word(one_word(words)?)?;
-            Some(plain(code, k))
-        }
-        Shape::Action => {
-            let k = returned(one_word(words)?)?;
-            Some(plain(code, k))
-        }
-        Shape::Target => {
-            let to = destination(one_word(words)?)?;
-            Some(Parsed::Jump { code, to })
-        }
-        Shape::Compare => {
-            let (k, jt, jf) = three_words(words)?;
-            branch(code, word(k)?, jt, jf)
-        }
-        Shape::CompareIndex => {
-            let (jt, jf) = two_words(words)?;
-            branch(code, 0, jt, jf)
-        }
-    }
+    let to: Goal<'a, u32> = destination(one_word(words)?)?;
+    let (k, label) = to.parts();
+    Some(Jump::Always(plain(code, k), label))
 }
 
-fn plain<'a>(code: u16, k: u32) -> Parsed<'a>
-    ensures exact { statement result ≡ Plain (insn code 0 0 k) }
+#[tactic(auto, unfolding(crate::specs::Grammar::shaped))]
+pub(crate) fn parse_comparison<'a>(code: u16, words: Words<'a>) -> Option<Jump<'a>>
+    ensures exact { option_map statement result ≡ shaped Compare code (words_of words.entry.0.now) }
 {
-    Parsed::Plain(Insn {
+    let (k, jt, jf) = three_words(words)?;
+    branch(code, word(k)?, jt, jf)
+}
+
+#[tactic(auto, unfolding(crate::specs::Grammar::shaped))]
+pub(crate) fn parse_index_comparison<'a>(code: u16, words: Words<'a>) -> Option<Jump<'a>>
+    ensures exact { option_map statement result ≡ shaped CompareIndex code (words_of words.entry.0.now) }
+{
+    let (jt, jf) = two_words(words)?;
+    branch(code, 0, jt, jf)
+}
+
+fn plain(code: u16, k: u32) -> Insn
+    ensures exact { result ≡ insn code 0 0 k }
+{
+    Insn {
         code,
         jt: 0,
         jf: 0,
         k,
-    })
+    }
 }
 
 #[tactic(auto, unfolding(crate::specs::Grammar::branching))]
-fn branch<'a>(code: u16, k: u32, jt: &'a [u8], jf: &'a [u8]) -> Option<Parsed<'a>>
+fn branch<'a>(code: u16, k: u32, jt: &'a [u8], jf: &'a [u8]) -> Option<Jump<'a>>
     ensures exact { option_map statement result ≡ branching code k jt.now jf.now }
 {
-    let jt = destination(jt)?;
-    let jf = destination(jf)?;
-    Some(Parsed::Branch { code, k, jt, jf })
+    let jt: Goal<'a, u8> = destination(jt)?;
+    let jf: Goal<'a, u8> = destination(jf)?;
+    let (jt, first) = jt.parts();
+    let (jf, second) = jf.parts();
+    Some(Jump::Branch(Insn { code, jt, jf, k }, first, second))
 }
 
 #[tactic(auto, unfolding(crate::specs::Grammar::raw))]
-fn parse_fields<'a>(words: Words<'a>) -> Option<Parsed<'a>>
-    ensures exact { option_map statement result ≡ raw (words_of words.entry.0.now) }
+pub(crate) fn parse_fields(words: Words<'_>) -> Option<Insn>
+    ensures exact { option_map Plain result ≡ raw (words_of words.entry.0.now) }
 {
     let (code, jt, jf, k) = four_words(words)?;
     let code = half(code)?;
     let jt = byte(jt)?;
     let jf = byte(jf)?;
     let k = word(k)?;
-    Some(Parsed::Plain(Insn { code, jt, jf, k }))
+    Some(Insn { code, jt, jf, k })
 }

@@ -1,30 +1,30 @@
 //! The two passes: one over the lines, for their labels and instructions, and one over the instructions, for their jumps.
-ghost use Rattle.std.specs.Prelude.{Err, ◌≡◌, ◌≢◌, ◌+◌, ◌-◌, ◌≤◌, ◌<◌, ◌^◌, ◌++◌, length, IfOk, IfErr, MatchResult, OnOk, Ok, List, []};
+ghost use Rattle.std.specs.Prelude.{Err, ◌≡◌, ◌≢◌, ◌+◌, ◌-◌, ◌≤◌, ◌<◌, ◌^◌, length, IfOk, IfErr, List, [], Some};
 ghost use Rattle.sk_asm.specs.Assembly.{Assembles, AssemblesText, Finds};
 ghost use Rattle.sk_asm.specs.Block.{lines_in, until_end};
 ghost use Rattle.sk_insn.specs.declared.insn.Insn.{Insn};
-ghost use Rattle.sk_asm.specs.Faults.{Answers, IsAsmFault};
+ghost use Rattle.sk_asm.specs.Faults.{Answers};
 ghost use Rattle.sk_asm.specs.LineFaults.{IsFirstTextFault};
 ghost use Rattle.sk_asm.specs.Labels.{Labels as Places, label_place};
-ghost use Rattle.sk_asm.specs.Passes.{noted, counted, marked, labelled, landed, distance, resolved, emitted, assembled, assembled_lines, in_front};
-ghost use Rattle.sk_asm.specs.Kept.{kept_of, kept_before};
-ghost use Rattle.sk_asm.specs.Views.{destination_by, statement, labels_in, kept_in};
+ghost use Rattle.sk_asm.specs.Passes.{labelled, landed, distance, resolved, emitted, assembled, assembled_lines};
+ghost use Rattle.sk_asm.specs.Drafts.{AreAmong, completed};
+ghost use Rattle.sk_asm.specs.Views.{destination_to, statement, labels_in, jumps_in};
 ghost use Rattle.sk_text.specs.Lines.{lines_of};
 
 use crate::block::BlockLines;
 use crate::distance::Distance;
 use crate::fault::AsmFault;
+use crate::found::{Found, Labels};
 use crate::parse::check_line;
-use crate::statement::{Instruction, Parsed, Target};
+use crate::printable::clean_bytes;
+use crate::statement::{Jump, Pending};
 use indexmap::IndexMap;
-use sk_insn::{Insn, MOST_INSNS};
+use sk_insn::Insn;
 use sk_text::Lines;
-use std::alloc::{AllocError, Global};
+use std::alloc::Global;
 
 // The most bytes that a text may have.
 const LONGEST_TEXT: usize = 1_048_576;
-
-type Labels<'a> = IndexMap<&'a [u8], usize>;
 
 /// The instructions that a text stands for, or the first of its faults.
 #[tactic(auto, unfolding(crate::specs::Passes::assembled))]
@@ -64,15 +64,12 @@ fn assemble_lines(
     requires numbers { before + length text.now < 2 ^ 64 }
     ensures exact { Answers (λ insns. insns.items) result (assembled_lines (before + 1) (lines_in is_block text.now)) }
 {
-    let found = find(alloc, before, text, is_block)?;
-    emit(alloc, &found.labels, found.kept.as_slice())
-}
-
-// The labels of lines, with their places, and their instructions, whose jumps are not resolved yet.
-#[derive(Drop)]
-struct Found<'a> {
-    labels: Labels<'a>,
-    kept: Vec<Instruction<'a>>,
+    let Found {
+        labels,
+        insns,
+        jumps,
+    } = find(alloc, before, text, is_block)?;
+    complete(&labels, jumps.as_slice(), insns)
 }
 
 // What the lines say.
@@ -84,143 +81,80 @@ fn find<'a>(
 ) -> Result<Found<'a>, AsmFault>
     requires numbers { before + length text.now < 2 ^ 64 }
     ensures labels { Answers (λ found. labels_in found.labels) result (labelled (before + 1) [] 0 (lines_in is_block text.now)) }
-    ensures kept { IfOk result (λ found. (labels : Places)
-        → kept_before labels 0 (kept_in found.kept.items) (Ok []) ≡ emitted labels (before + 1) 0 (lines_in is_block text.now)) }
+    ensures among { IfOk result (λ found. AreAmong (length found.insns.items) (jumps_in found.jumps.items)) }
+    ensures insns { IfOk result (λ found. (labels : Places)
+        → completed labels found.insns.items (jumps_in found.jumps.items) ≡ emitted labels (before + 1) 0 (lines_in is_block text.now)) }
 {
     let rest = Lines(text);
-    let mut labels = IndexMap::new(alloc);
-    let mut kept = Vec::new(alloc);
+    let mut found = Found {
+        labels: IndexMap::new(alloc),
+        insns: Vec::new(alloc),
+        jumps: Vec::new(alloc),
+    };
+    let mut clean = clean_bytes(text, is_block);
     let mut at = 0;
     let mut n = before;
     for line in (BlockLines { rest, is_block }) {
         n += 1;
-        let parsed = check_line(n, line)?;
-        at = note(&mut labels, n, at, parsed)?;
-        keep(&mut kept, n, parsed)?;
+        let begun = check_line(n, line, line.len() <= clean)?;
+        clean = clean.saturating_sub(line.len() + 1);
+        at = found.take(n, at, begun)?;
     }
-    Ok(Found { labels, kept })
+    Ok(found)
 }
 
-// Keeps the statement of line `n`, if it is an instruction.
-fn keep<'a>(kept: &mut Vec<Instruction<'a>>, n: usize, parsed: Parsed<'a>) -> Result<(), AllocError>
-    ensures kept { OnOk result (kept_in kept.new.items ≡ kept_in kept.old.items ++ kept_of n (statement parsed.entry)) }
+// The instructions, with the distances of these jumps.
+fn complete(
+    labels: &Labels<'_>,
+    jumps: &[Pending<'_>],
+    mut insns: Vec<Insn>,
+) -> Result<Vec<Insn>, AsmFault>
+    requires among { AreAmong (length insns.items) (jumps_in jumps.now) }
+    ensures exact { Answers (λ insns. insns.items) result (completed (labels_in labels.now) insns.items (jumps_in jumps.now)) }
 {
-    match parsed {
-        Parsed::Silent | Parsed::Label(_) => {}
-        Parsed::Plain(_) | Parsed::Jump { .. } | Parsed::Branch { .. } => {
-            kept.push(Instruction { n, parsed })?;
-        }
-    }
-    Ok(())
-}
-
-// Notes the statement of line `n`, and gives the place of the next instruction.
-#[tactic(auto, unfolding(crate::specs::Passes::noted))]
-fn note<'a>(
-    labels: &mut Labels<'a>,
-    n: usize,
-    at: usize,
-    parsed: Parsed<'a>,
-) -> Result<usize, AsmFault>
-    ensures exact { MatchResult result
-        (λ next. noted n (labels_in labels.old) at (statement parsed.entry) ≡ Ok (labels_in labels.new, next))
-        (λ fault. IsAsmFault fault (noted n (labels_in labels.old) at (statement parsed.entry))) }
-{
-    match parsed {
-        Parsed::Silent => Ok(at),
-        Parsed::Label(name) => mark(labels, n, at, name),
-        Parsed::Plain(_) | Parsed::Jump { .. } | Parsed::Branch { .. } => count(n, at),
-    }
-}
-
-// The place after one more instruction.
-fn count(n: usize, at: usize) -> Result<usize, AsmFault>
-    ensures exact { (labels : Places) → Answers (λ next. (labels, next)) result (counted n labels at) }
-{
-    if at < MOST_INSNS {
-        Ok(at + 1)
-    } else {
-        Err(AsmFault::TooLong { n })
-    }
-}
-
-// Gives a label the place.
-fn mark<'a>(labels: &mut Labels<'a>, n: usize, at: usize, name: &'a [u8]) -> Result<usize, AsmFault>
-    ensures exact { MatchResult result
-        (λ next. marked n (labels_in labels.old) at name.now ≡ Ok (labels_in labels.new, next))
-        (λ fault. IsAsmFault fault (marked n (labels_in labels.old) at name.now)) }
-{
-    if labels.contains_key(name) {
-        return Err(AsmFault::Twice { n });
-    }
-    labels.insert(name, at)?;
-    Ok(at)
-}
-
-// The instructions that were kept, with the distances of their jumps.
-fn emit(alloc: Global, labels: &Labels<'_>, kept: &[Instruction<'_>]) -> Result<Vec<Insn>, AsmFault>
-    ensures exact { Answers (λ insns. insns.items) result (kept_before (labels_in labels.now) 0 (kept_in kept.now) (Ok [])) }
-{
-    let mut insns = Vec::new(alloc);
-    for (at, given) in kept.iter().enumerate() {
-        let insn = resolve(labels, given.n, at, given.parsed)?;
-        push_some(&mut insns, insn)?;
+    for pending in jumps {
+        insns[pending.at] = resolve(labels, pending.n, pending.at, pending.jump)?;
     }
     Ok(insns)
 }
 
-fn push_some(insns: &mut Vec<Insn>, given: Option<Insn>) -> Result<(), AllocError>
-    ensures pushed { OnOk result (insns.new.items ≡ insns.old.items ++ in_front given []) }
-{
-    if let Some(insn) = given {
-        insns.push(insn)?;
-    }
-    Ok(())
-}
-
-// The instruction of line `n` at a place, if its statement is one.
+// The jump of line `n` at a place, with its distances.
 #[tactic(auto, unfolding(crate::specs::Passes::resolved))]
-fn resolve(
-    labels: &Labels<'_>,
-    n: usize,
-    at: usize,
-    parsed: Parsed<'_>,
-) -> Result<Option<Insn>, AsmFault>
-    ensures exact { Answers (λ given. given) result (resolved (labels_in labels.now) n at (statement parsed.entry)) }
+fn resolve(labels: &Labels<'_>, n: usize, at: usize, jump: Jump<'_>) -> Result<Insn, AsmFault>
+    ensures exact { Answers (λ given. Some given) result (resolved (labels_in labels.now) n at (statement jump.entry)) }
 {
-    match parsed {
-        Parsed::Silent | Parsed::Label(_) => Ok(None),
-        Parsed::Plain(insn) => Ok(Some(insn)),
-        Parsed::Jump { code, to } => {
-            let k = distance(labels, n, at, to)?;
-            Ok(Some(Insn {
+    match jump {
+        Jump::Always(Insn { code, k, .. }, to) => {
+            let k = distance(labels, n, at, k, to)?;
+            Ok(Insn {
                 code,
                 jt: 0,
                 jf: 0,
                 k,
-            }))
+            })
         }
-        Parsed::Branch { code, k, jt, jf } => {
-            let jt = distance(labels, n, at, jt)?;
-            let jf = distance(labels, n, at, jf)?;
-            Ok(Some(Insn { code, jt, jf, k }))
+        Jump::Branch(Insn { code, jt, jf, k }, first, second) => {
+            let jt = distance(labels, n, at, jt, first)?;
+            let jf = distance(labels, n, at, jf, second)?;
+            Ok(Insn { code, jt, jf, k })
         }
     }
 }
 
-// How many instructions a jump passes over.
+// How many instructions a jump passes over: so many, or those up to a label.
 #[tactic(auto, unfolding(crate::specs::Passes::distance))]
 fn distance<N: Distance>(
     labels: &Labels<'_>,
     n: usize,
     at: usize,
-    to: Target<'_, N>,
+    count: N,
+    label: Option<&[u8]>,
 ) -> Result<N, AsmFault>
-    ensures exact { Answers N.number result (distance (labels_in labels.now) n at N.most (destination_by N.number to.entry)) }
+    ensures exact { Answers N.number result (distance (labels_in labels.now) n at N.most (destination_to (N.number count) label.entry)) }
 {
-    match to {
-        Target::Further(count) => Ok(count),
-        Target::Labelled(name) => Ok(N::of(landing(labels, n, at, N::most(), name)?)),
+    match label {
+        None => Ok(count),
+        Some(name) => Ok(N::of(landing(labels, n, at, N::most(), name)?)),
     }
 }
 

@@ -23,6 +23,7 @@ pub enum Shape {
 
 impl Shape {
     /// The shape of an operation's form.
+    #[inline(always)]
     pub fn of(operation: Operation) -> Shape
         ensures shape { result ≡ shape_of operation }
     {

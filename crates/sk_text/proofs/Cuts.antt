@@ -1,9 +1,9 @@
 -- A text is its first line, and then the lines of what stands after it; and the same of words.
-use Rattle.std.proofs.Common.{◌≡◌, ◌<◌, ◌≤◌, ◌+◌, ◌==◌, ◌∙◌, ap, arith, sym, refl, suc, ℕ, List, [], ◌∷◌, length, filter, Bool, true, false, cond, inl, inr, take_all}
+use Rattle.std.proofs.Common.{◌≡◌, ◌<◌, ◌≤◌, ◌+◌, ◌==◌, ◌∙◌, ap, arith, sym, refl, suc, ℕ, List, [], ◌∷◌, ◌++◌, length, filter, Bool, true, false, cond, inl, inr, take_all, append_assoc}
 use Rattle.std.proofs.lemmas.List.{drop_all}
 use Rattle.std.proofs.lemmas.Bool.{cases_Bool, cases_lt}
 use Rattle.std.proofs.lemmas.List.Splits.{slice_split_first}
-use Rattle.std.specs.List.{slice_split, onto_first, before_first, after_first, position_or_len}
+use Rattle.std.specs.List.{concat, slice_split, onto_first, before_first, after_first, position_or_len}
 use Rattle.sk_text.specs.Lines.{lines_of, words_of, has_bytes}
 
 one_further : (n : ℕ) → 1 + n ≡ suc n
@@ -82,3 +82,26 @@ words_skip line h = pieces_first (λ b. b == 32) line ∙ rw (bytes_none (before
 -- another one is
 pub words_take : (line : List ℕ) → 0 < length (before_first (λ b. b == 32) line) → words_of line ≡ before_first (λ b. b == 32) line ∷ words_of (after_first (λ b. b == 32) line)
 words_take line h = pieces_first (λ b. b == 32) line ∙ rw (bytes_some (before_first (λ b. b == 32) line) h) refl
+
+-- the words of a line, joined, are those of its first piece and of what stands after it
+pub joined_first : (line : List ℕ) → concat (words_of line) ≡ before_first (λ b. b == 32) line ++ concat (words_of (after_first (λ b. b == 32) line))
+joined_first line = elim (cases_lt 0 (length (before_first (λ b. b == 32) line))) [
+  | inl some ↦ ap concat (words_take line some)
+  | inr none ↦
+      let empty : length (before_first (λ b. b == 32) line) ≡ 0 = omega (arith, none) in
+      ap concat (words_skip line empty) ∙ ap (λ l. l ++ concat (words_of (after_first (λ b. b == 32) line))) (sym (length_zero (before_first (λ b. b == 32) line) empty))
+]
+  where
+    length_zero : (l : List ℕ) → length l ≡ 0 → l ≡ []
+    length_zero [] h = refl
+    length_zero (x ∷ xs) h = absurd (omega (arith, h))
+
+-- one piece more is joined
+pub joined_turn : (digits more front line after whole : List ℕ) → digits ++ concat (words_of line) ≡ whole → more ≡ digits ++ front
+    → front ≡ before_first (λ b. b == 32) line → after ≡ after_first (λ b. b == 32) line → more ++ concat (words_of after) ≡ whole
+joined_turn digits more front line after whole so_far grown cut rest =
+    ap (λ l. l ++ concat (words_of after)) (grown ∙ ap (λ l. digits ++ l) cut)
+    ∙ ap (λ l. (digits ++ before_first (λ b. b == 32) line) ++ concat (words_of l)) rest
+    ∙ append_assoc digits (before_first (λ b. b == 32) line) (concat (words_of (after_first (λ b. b == 32) line)))
+    ∙ ap (λ l. digits ++ l) (sym (joined_first line))
+    ∙ so_far

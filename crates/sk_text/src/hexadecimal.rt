@@ -5,7 +5,7 @@ ghost use Rattle.sk_text.specs.Lines.{words_of};
 ghost use Rattle.sk_text.specs.Hexadecimal.{Decodes, bytes_in, hex_bytes, hex_text_bytes, is_blank};
 ghost use Rattle.sk_text.specs.declared.hexadecimal.HexFault.TheVariants.{Memory};
 
-use crate::lines::Words;
+use crate::lines::{Words, cut_far};
 use hex::FromHexError;
 use std::alloc::{AllocError, Global};
 
@@ -42,12 +42,16 @@ pub fn bytes_of_text(alloc: Global, text: &[u8]) -> Result<Vec<u8>, HexFault>
     decoded(alloc, digits.as_slice())
 }
 
+// A piece between two spaces that is empty is no word, and has no digit.
 fn joined(alloc: Global, words: Words<'_>) -> Result<Vec<u8>, AllocError>
     ensures all { IfOk result (λ digits. digits.items ≡ concat (words_of words.entry.0.now)) }
 {
     let mut digits = Vec::new(alloc);
-    for word in words {
+    let mut rest = words.0;
+    while !rest.is_empty() {
+        let (word, after) = cut_far(rest, b' ');
         digits.extend_from_slice(word)?;
+        rest = after;
     }
     Ok(digits)
 }

@@ -62,6 +62,14 @@ pub fn cut(text: &[u8], byte: u8) -> (&[u8], &[u8])
     cut_at(text, place_of(text, byte))
 }
 
+// The same, for what is mostly long.
+pub(crate) fn cut_far(text: &[u8], byte: u8) -> (&[u8], &[u8])
+    ensures front { result.0.now ≡ before_first (λ b. b == byte) text.now }
+    ensures back { result.1.now ≡ after_first (λ b. b == byte) text.now }
+{
+    cut_at(text, far_place(text, byte))
+}
+
 // What stands before this place, and what stands behind the byte there.
 #[inline(always)]
 fn cut_at(text: &[u8], at: usize) -> (&[u8], &[u8])
@@ -85,18 +93,7 @@ fn end_of_line(text: &[u8]) -> usize
     if text.first() == Some(&b'\n') {
         return 0;
     }
-    first_line_feed(text)
-}
-
-// The same, many bytes at a time.
-fn first_line_feed(text: &[u8]) -> usize
-    ensures within { result ≤ length text.now }
-    ensures first { result ≡ position_or_len (λ b. b == 10) text.now }
-{
-    match memchr(b'\n', text) {
-        Some(at) => at,
-        None => text.len(),
-    }
+    far_place(text, b'\n')
 }
 
 // The place of the first such byte, or the length where there is none.
@@ -110,6 +107,18 @@ fn place_of(text: &[u8], byte: u8) -> usize
         }
     }
     text.len()
+}
+
+// The same, many bytes at a time.
+#[inline(always)]
+fn far_place(text: &[u8], byte: u8) -> usize
+    ensures within { result ≤ length text.now }
+    ensures first { result ≡ position_or_len (λ b. b == byte) text.now }
+{
+    match memchr(byte, text) {
+        Some(at) => at,
+        None => text.len(),
+    }
 }
 
 /// Whether a line is made of visible ASCII characters and spaces alone.

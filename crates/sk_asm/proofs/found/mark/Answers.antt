@@ -1,6 +1,6 @@
 use Rattle.std.proofs.Common.{◌∙◌, sym}
 use Rattle.sk_asm.proofs.Marks.{marked-again, marked-new}
-use Rattle.sk_asm.proofs.passes.mark.Goals as goal
+use Rattle.sk_asm.proofs.found.mark.Goals as goal
 
 pub returns-then-contains_key : goal.returns-then-contains_key
 returns-then-contains_key c = record {
