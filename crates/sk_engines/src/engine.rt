@@ -8,10 +8,8 @@ ghost use Rattle.sk_engines.specs.Reply.{output_of};
 use crate::fault::CommandFault;
 use crate::reply::Reply;
 use sk_ends::{Sink, Source, send, take_up_to};
+use sk_text::MOST_BYTES;
 use std::alloc::{AllocError, Global};
-
-/// The most bytes of an input.
-pub const MOST_BYTES: usize = 1_048_576;
 
 /// What a command answers on a text within the limit.
 pub trait Command {

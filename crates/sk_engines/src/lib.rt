@@ -17,7 +17,7 @@ mod reply;
 
 pub use asm::asm_engine;
 pub use check::check_engine;
-pub use engine::{MOST_BYTES, deliver, input};
+pub use engine::{deliver, input};
 pub use eval::eval_engine;
 pub use fault::CommandFault;
 pub use filters::{MOST_FILTERS, Refusal, bytes_in, chain_of};

@@ -3,22 +3,11 @@ ghost use Rattle.std.specs.Prelude.{◌≡◌};
 ghost use Rattle.sk_calls.specs.Syscalls.{syscall_named};
 
 use sk_calls::Syscall;
-use sk_text::is_word;
 
-// The call with this name, if the kernel has it. A name that is one is not compared with the others.
+// The call with this name, if the kernel has it.
 pub(crate) fn call_named(name: &[u8]) -> Option<Syscall>
     ensures call { result ≡ syscall_named name.now }
 {
-    if let Some(likely) = likely(name) {
-        if is_word(likely.name().as_bytes(), name) {
-            return Some(likely);
-        }
-    }
-    Syscall::named(name)
-}
-
-// The call that the bytes lead to. No contract says that it is the right one: who asks compares its name.
-fn likely(name: &[u8]) -> Option<Syscall> {
     match name {
         b"rt_sigaction" => Some(Syscall::RtSigaction),
         b"rt_sigprocmask" => Some(Syscall::RtSigprocmask),
@@ -46,6 +35,6 @@ fn likely(name: &[u8]) -> Option<Syscall> {
         b"prctl" => Some(Syscall::Prctl),
         b"exit_group" => Some(Syscall::ExitGroup),
         b"seccomp" => Some(Syscall::Seccomp),
-        _ => None,
+        _ => Syscall::named(name),
     }
 }

@@ -15,10 +15,8 @@ use crate::reading::read_lines;
 use crate::scenario::Scenario;
 use crate::state::{Done, Names};
 use sk_setting::TextFault;
+use sk_text::MOST_BYTES;
 use std::alloc::{AllocError, Global};
-
-// The most bytes that an input may have.
-const LONGEST_TEXT: usize = 1_048_576;
 
 /// The scenario that an input is, or the first of its faults.
 #[tactic(auto, unfolding(sk_setting::specs::Reading::scenario))]
@@ -36,7 +34,7 @@ pub fn read(alloc: Global, input: &[u8]) -> Result<Scenario, ScenarioFault>
 fn judge_length(input: &[u8]) -> Result<(), TextFault>
     ensures exact { MatchResult result (λ none. length input.now ≤ 1048576) (λ why. (1048576 < length input.now) × (why ≡ Limit 0)) }
 {
-    if input.len() > LONGEST_TEXT {
+    if input.len() > MOST_BYTES {
         return Err(TextFault::Limit { n: 0 });
     }
     Ok(())

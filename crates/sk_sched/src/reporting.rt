@@ -12,11 +12,9 @@ use sk_ends::{Sink, Source, send, take_up_to};
 use sk_report::{End, Line, Turn, write_line};
 use sk_scenario::read;
 use sk_table::SlotStore;
+use sk_text::MOST_BYTES;
 use sk_world::ProcStore;
 use std::alloc::{AllocError, Global};
-
-/// The most bytes that are read: one more than a scenario may have.
-const MOST_BYTES: usize = 1_048_577;
 
 /// Runs `skern run` over a reader and a writer.
 pub fn engine<R: Source, W: Sink>(
@@ -43,7 +41,8 @@ pub fn engine_with<S: ProcStore, R: Source, W: Sink>(
     ensures reads { CountsReads result (R.failed reader.old) (R.failed reader.new) }
     ensures writes { CountsWrites result (W.failed writer.old) (W.failed writer.new) }
 {
-    let input = take_up_to(alloc, reader, MOST_BYTES)?;
+    // One byte more than a scenario may have decides that it is too long.
+    let input = take_up_to(alloc, reader, MOST_BYTES + 1)?;
     let scenario = read(alloc, input.as_slice())?;
     let machine = Machine::<S>::new(alloc, scenario)?;
     report(machine, writer)

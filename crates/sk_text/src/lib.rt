@@ -15,3 +15,6 @@ pub use hexadecimal::{HexFault, bytes_of, bytes_of_text};
 pub use lines::{Lines, Words, cut, is_passed_over, is_printable};
 pub use numbers::{is_number, number_up_to};
 pub use words::{four_words, is_name, is_word, no_word, one_word, three_words, two_words};
+
+/// The most bytes that an input may have: a mebibyte.
+pub const MOST_BYTES: usize = 1_048_576;
