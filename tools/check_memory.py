@@ -1,7 +1,7 @@
 #!/usr/bin/env python3
-"""Checks that no code makes want of memory up.
+"""Checks that no code makes it up that memory was refused.
 
-No contract can say that want of memory is answered only where an allocation was refused. So it is kept by form:
+No contract can say that a refusal of memory is answered only where an allocation was refused. So it is kept by form:
 outside the crates of tests, the values `AllocError`, `AllocFailed` and `Stopped` and the variants `Memory`, `OutOfMemory`
 and `Fault::Stopped` are written only where they take the place of a refusal that is at hand: in a `fn from` that is given
 one, and in the arm of a match whose pattern names one. All else goes by `?`. Patterns, types and comparisons write no value.
@@ -10,7 +10,7 @@ No such name is given another one, and no value of `Stopped` comes from a functi
 And nothing is asked of the allocator so that it may refuse: room is reserved under no condition but one on the capacity,
 and never for `MAX` or another number that is past what a program here needs.
 
-The crates of tests are those whose names end in `_rows`; no other crate stands on one.
+The crates of tests are those whose names end in `_tests`; no other crate stands on one.
 
 Prints each line that does so, and at last 'N passed, M failed', counted by source files."""
 import os
@@ -28,7 +28,7 @@ RESERVES = re.compile(r"(try_)?reserve(_exact)?|with_capacity")
 # What no list here needs room for: an input has at most 1,048,576 bytes.
 MOST_RESERVED = 1 << 20
 CONSTANT = re.compile(r"\bconst\s+([A-Z]\w*)\s*:\s*\w+\s*=([^;]*);")
-TESTS = re.compile(r"^crates/\w+_rows/")
+TESTS = re.compile(r"^crates/\w+_tests/")
 CLAUSE = re.compile(r"^\s*(ghost|requires|ensures|invariant|decreases)\b")
 TOKEN = re.compile(r"[A-Za-z_]\w*|\d\w*|=>|::|->|==|!=|<=|>=|&&|\|\||[^\sA-Za-z_]")
 
@@ -297,8 +297,8 @@ EXAMPLES = [
 
 
 # Paths that are looked at, and paths of tests.
-LOOKED_AT = ["crates/sk_kernel/src/tests.rt", "crates/sk_kernel/src/test/held.rt", "crates/sk_kernel/src/new_rows/held.rt"]
-PASSED_OVER = ["crates/sk_kernel_rows/src/row.rt"]
+LOOKED_AT = ["crates/sk_kernel/src/tests.rt", "crates/sk_kernel/src/test/held.rt", "crates/sk_kernel/src/new_tests/held.rt"]
+PASSED_OVER = ["crates/sk_kernel_tests/src/row.rt"]
 
 
 def on_tests():
@@ -306,7 +306,7 @@ def on_tests():
     with open(os.path.join(ROOT, "crates.txt"), encoding="utf-8") as file:
         for line in file:
             name, _, uses = line.partition("#")[0].partition(":")
-            if not name.strip().endswith("_rows") and any(use.endswith("_rows") for use in uses.split()):
+            if not name.strip().endswith("_tests") and any(use.endswith("_tests") for use in uses.split()):
                 yield line.strip()
 
 
@@ -337,7 +337,7 @@ def main():
     constants = frozenset().union(*(large_constants(text) for text in texts.values()))
     found = list(problems_of_forms())
     for path, text in texts.items():
-        found.append([f"{path}:{number}: makes want of memory up" for number in sorted(set(made_up(text, constants)))])
+        found.append([f"{path}:{number}: makes it up that memory was refused" for number in sorted(set(made_up(text, constants)))])
     for problem in (it for problems in found for it in problems):
         print(problem)
     failed = sum(bool(problems) for problems in found)

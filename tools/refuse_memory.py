@@ -229,13 +229,13 @@ ATTACHES = {0, 1, 3, 7, 8}
 
 
 def fronts_of(report):
-    """What a report may have before want of memory is told: the lines of its first turns, none to all."""
+    """What a report may have before it tells that it is out of memory: the lines of its first turns, none to all."""
     lines = report.encode().splitlines(keepends=True)
     return {b"".join(lines[:turns]) for turns in range(len(lines))}
 
 
 def front_of(output, status):
-    """What stands before the text that tells of want of memory; None where nothing tells of it."""
+    """What stands before the text that says `out of memory`; None where nothing says it."""
     if status != 3 or not output.endswith(OUT_OF_MEMORY):
         return None
     return output[: -len(OUT_OF_MEMORY)]
@@ -329,7 +329,7 @@ def main():
             passed += 1
         else:
             failed += 1
-            print(f"run: want of memory came behind {sorted(turns)} turns alone")
+            print(f"run: it was out of memory behind {sorted(turns)} turns alone")
     print(f"{passed} passed, {failed} failed")
     return 1 if failed else 0
 

@@ -6,7 +6,7 @@ ghost use Rattle.sk_ask_filters.specs.Shelves.{CountsWhy};
 
 use sk_ask::{command, misused};
 use sk_ask_filters::{Shelf, Unread};
-use sk_ends::{Counted, Source, take_up_to};
+use sk_io::{Counted, Source, take_up_to};
 use std::alloc::Global;
 use std::env::Env;
 use std::fs::{Files, OpenFile};

@@ -1,8 +1,8 @@
 //! The filter commands of `skern`, over the standard streams.
 #![tactic(auto)]
 
-use sk_ends::Counted;
 use sk_filter_cli::{CommandFault, FAILED, command, failed, finish, words_of};
+use sk_io::Counted;
 use std::io;
 use std::io::{BufWriter, ErrorKind};
 use std::process::ExitCode;

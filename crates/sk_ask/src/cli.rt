@@ -20,7 +20,7 @@ use crate::when::when;
 use crate::why::why;
 use crate::words::{Asked, Word, asked_in};
 use sk_ask_filters::{Shelf, Trouble, of_word};
-use sk_ends::Sink;
+use sk_io::Sink;
 use sk_profile_json::Context;
 use sk_text::is_word;
 use std::alloc::{AllocError, Global};

@@ -4,7 +4,7 @@ ghost use Rattle.sk_ask.specs.Endings.{ending_of, written, Answers, Complains, L
 
 use crate::answer::Answer;
 use sk_ask_filters::Trouble;
-use sk_ends::{Sink, WriteFault, send};
+use sk_io::{Sink, WriteFault, send};
 
 /// The exit status where there is no answer.
 const TROUBLE: u8 = 2;

@@ -1,6 +1,6 @@
 -- How many reads failed.
 use Rattle.std.specs.Prelude.{ℕ, ◌≡◌, Result, Ok, Err}
-use Rattle.sk_ends.specs.Failures.{one_more}
+use Rattle.sk_io.specs.Failures.{one_more}
 use Rattle.sk_ask_filters.specs.declared.trouble.Trouble.{Trouble}
 use Rattle.sk_ask_filters.specs.declared.trouble.Trouble.TheVariants.{Reading}
 

@@ -1,9 +1,9 @@
 -- What is known of files that are read by their names.
 use Rattle.std.specs.Prelude.{ℕ, ◌≡◌, ◌⊎◌, ◌<◌, List, [], ◌∷◌, ◌++◌, length, codes, Option, None, IfSome, Result, Ok, Err, ⊤}
 use Rattle.std.specs.Fmt.{decimal}
-use Rattle.sk_ends.specs.Failures.{one_more}
-use Rattle.sk_ends.specs.declared.source.ReadFault.{ReadFault}
-use Rattle.sk_ends.specs.declared.source.ReadFault.TheVariants.{Read, Memory as MemoryRefused}
+use Rattle.sk_io.specs.Failures.{one_more}
+use Rattle.sk_io.specs.declared.source.ReadFault.{ReadFault}
+use Rattle.sk_io.specs.declared.source.ReadFault.TheVariants.{Read, Memory as MemoryRefused}
 use Rattle.sk_ask_filters.specs.declared.shelf.Unread.{Unread}
 use Rattle.sk_ask_filters.specs.declared.shelf.Unread.TheVariants.{Missing, Forbidden, Folder, Unopened, Reading, Memory}
 use Rattle.sk_ask_filters.specs.declared.trouble.Trouble.{Trouble}

@@ -6,7 +6,8 @@ ghost use Rattle.sk_ask_filters.specs.Shelves.{AreHeld, CountsUnread, CountsWhy,
 
 use crate::complaint::about;
 use crate::trouble::Trouble;
-use sk_ends::ReadFault;
+use sk_io::ReadFault;
+use sk_text::MOST_BYTES;
 use std::alloc::{AllocError, Global};
 
 /// Where files are read, each once, by their names.
@@ -59,9 +60,6 @@ impl From<ReadFault> for Unread {
         }
     }
 }
-
-/// The most bytes of a file of filters.
-pub const MOST_BYTES: usize = 1_048_576;
 
 /// The most bytes of a log.
 pub const MOST_LOG_BYTES: usize = 268_435_456;

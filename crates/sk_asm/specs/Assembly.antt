@@ -81,7 +81,7 @@ Assembles lines insns = (statements : List Statement) × AssemblesBy lines insns
 abbrev pub AssemblesText : List ℕ → List Insn → Type 0
 AssemblesText text insns = (length text ≤ 1048576) × Assembles (lines_of text) insns
 
--- the answer is these instructions, but for want of memory
+-- the answer is these instructions, unless memory was refused
 abbrev pub Finds : {T : Type 0} → (T → List Insn) → Result T AsmFault → List Insn → Type 0
 Finds view (Ok value) insns = view value ≡ insns
 Finds view (Err fault) insns = fault ≡ Memory

@@ -9,7 +9,7 @@ abbrev pub ◌>>=◌ : {X Y : Type 0} → Result X AsmFault → (X → Result Y 
 (Ok value) >>= next = next value
 (Err fault) >>= next = Err fault
 
--- the fault is the given one; want of memory may come at any time
+-- the fault is the given one; memory may be refused at any time
 abbrev pub IsAsmFault : {X : Type 0} → AsmFault → Result X AsmFault → Type 0
 IsAsmFault Memory given = Unit {0}
 IsAsmFault fault given = given ≡ Err fault

@@ -20,11 +20,8 @@ use crate::printable::clean_bytes;
 use crate::statement::{Jump, Pending};
 use indexmap::IndexMap;
 use sk_insn::Insn;
-use sk_text::Lines;
+use sk_text::{Lines, MOST_BYTES};
 use std::alloc::Global;
-
-// The most bytes that a text may have.
-const LONGEST_TEXT: usize = 1_048_576;
 
 /// The instructions that a text stands for, or the first of its faults.
 #[tactic(auto, unfolding(crate::specs::Passes::assembled))]
@@ -35,7 +32,7 @@ pub fn assemble(alloc: Global, text: &[u8]) -> Result<Vec<Insn>, AsmFault>
     ensures limit { 1048576 < length text.now → result ≡ Err (AsmFault.TooLong 0) }
     ensures first { IfErr result (λ fault. fault ≢ AsmFault.Memory → IsFirstTextFault text.now fault) }
 {
-    if text.len() > LONGEST_TEXT {
+    if text.len() > MOST_BYTES {
         return Err(AsmFault::TooLong { n: 0 });
     }
     assemble_lines(alloc, 0, text, false)

@@ -1,6 +1,6 @@
 //! The faults that a task ends with: their texts, and which fault of a library becomes which of them.
-use sk_ends::ReadFault;
 use sk_insn::ImageFault;
+use sk_io::ReadFault;
 use sk_text::HexFault;
 use std::alloc::{AllocError, AllocFailed};
 use std::fmt;

@@ -8,7 +8,7 @@ mod total;
 mod work;
 
 use fault::Fault;
-use sk_ends::{Counted, take_up_to};
+use sk_io::{Counted, take_up_to};
 use std::process::ExitCode;
 use task::Task;
 use total::Total;

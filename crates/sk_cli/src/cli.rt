@@ -1,14 +1,14 @@
 //! The program over any reader and writer.
 ghost use Rattle.std.specs.Prelude.{◌≡◌, ◌≢◌, ◌≤◌, Err, IfNone, IfOk, map, string_bytes};
-ghost use Rattle.sk_ends.specs.Reading.{ConsumesUpTo};
+ghost use Rattle.sk_io.specs.Reading.{ConsumesUpTo};
 ghost use Rattle.sk_engines.specs.Engine.{Delivers, CountsWrites};
 ghost use Rattle.sk_engines.specs.Program.{Ends, Works, device};
 ghost use Rattle.sk_filter_cli.specs.Words.{word_of};
 ghost use Rattle.sk_cli.specs.Running.{Does, Runs, scenario_answer};
 
-use sk_ends::{Sink, Source};
 use sk_engines::{CommandFault, Reply, deliver, failed, tell_usage};
 use sk_filter_cli::{Word, filter_command, word_in};
+use sk_io::{Sink, Source};
 use sk_scenario::ScenarioFault;
 use sk_sched::{EngineFault, engine};
 use std::alloc::Global;

@@ -2,15 +2,15 @@
 ghost use Rattle.std.specs.Prelude.{◌≡◌, ◌≤◌, ◌++◌, IfOk, IfSome, OnOk, Err, flat_map, string_bytes};
 ghost use Rattle.sk_asm.specs.Passes.{assembled};
 ghost use Rattle.sk_engines.specs.AsmCommand.{asm_answer, assembled_answer, digits_line};
-ghost use Rattle.sk_ends.specs.Reading.{ConsumesUpTo};
+ghost use Rattle.sk_io.specs.Reading.{ConsumesUpTo};
 ghost use Rattle.sk_engines.specs.Engine.{Delivers, CountsReads, CountsWrites};
 
 use crate::engine::{Command, run};
 use crate::fault::CommandFault;
 use crate::reply::Reply;
 use sk_asm::{AsmFault, assemble};
-use sk_ends::{Sink, Source};
 use sk_insn::Insn;
+use sk_io::{Sink, Source};
 use sk_text::HexDigits;
 use std::alloc::{AllocError, Global};
 use std::fmt::Write;

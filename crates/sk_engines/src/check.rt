@@ -2,7 +2,7 @@
 ghost use Rattle.std.specs.Prelude.{◌≡◌, ◌≤◌, ◌++◌, IfOk, IfSome, codes, length};
 ghost use Rattle.std.specs.Fmt.{decimal};
 ghost use Rattle.sk_check.specs.FirstFault.{first_fault};
-ghost use Rattle.sk_ends.specs.Reading.{ConsumesUpTo};
+ghost use Rattle.sk_io.specs.Reading.{ConsumesUpTo};
 ghost use Rattle.sk_engines.specs.Output.{done, line};
 ghost use Rattle.sk_engines.specs.CheckCommand.{check_answer, program_answer};
 ghost use Rattle.sk_engines.specs.Engine.{Delivers, CountsReads, CountsWrites};
@@ -15,8 +15,8 @@ use crate::on_image::instructions_in;
 use crate::refusal::program_refused;
 use crate::reply::{Line, Reply, push_place};
 use sk_check::check;
-use sk_ends::{Sink, Source};
 use sk_insn::Insn;
+use sk_io::{Sink, Source};
 use std::alloc::{AllocError, Global};
 
 /// Runs `skern check` over a reader and a writer. Nothing goes out before the input was read whole.

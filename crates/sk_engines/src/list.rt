@@ -1,6 +1,6 @@
 //! `skern list`: the text of an image.
 ghost use Rattle.std.specs.Prelude.{◌≡◌, ◌≤◌, IfOk, IfSome};
-ghost use Rattle.sk_ends.specs.Reading.{ConsumesUpTo};
+ghost use Rattle.sk_io.specs.Reading.{ConsumesUpTo};
 ghost use Rattle.sk_engines.specs.Engine.{Delivers, CountsReads, CountsWrites};
 ghost use Rattle.sk_engines.specs.ListCommand.{list_answer, listed_answer};
 ghost use Rattle.sk_engines.specs.OnImage.{on_image};
@@ -9,7 +9,7 @@ use crate::engine::{Command, run};
 use crate::fault::CommandFault;
 use crate::on_image::instructions_in;
 use crate::reply::Reply;
-use sk_ends::{Sink, Source};
+use sk_io::{Sink, Source};
 use sk_listing::list;
 use std::alloc::{AllocError, Global};
 

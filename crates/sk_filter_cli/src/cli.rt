@@ -1,15 +1,15 @@
 //! The filter commands over any reader and writer.
 ghost use Rattle.std.specs.Prelude.{◌≡◌, ◌≤◌, IfNone, IfOk, IfSome, map, string_bytes};
-ghost use Rattle.sk_ends.specs.Reading.{ConsumesUpTo};
+ghost use Rattle.sk_io.specs.Reading.{ConsumesUpTo};
 ghost use Rattle.sk_engines.specs.Engine.{Delivers, CountsReads, CountsWrites};
 ghost use Rattle.sk_engines.specs.Program.{Ends, Works, device};
 ghost use Rattle.sk_filter_cli.specs.Words.{answer_by, answer_to, filter_word_of};
 
 use crate::word::{FilterWord, Word, word_in};
-use sk_ends::{Sink, Source};
 use sk_engines::{
     CommandFault, asm_engine, check_engine, eval_engine, failed, list_engine, tell_usage,
 };
+use sk_io::{Sink, Source};
 use std::alloc::Global;
 
 const USAGE: &str = "usage: skern check|eval|asm|list\n";

@@ -37,7 +37,7 @@ fn fork_process_1<R: Print + AllocGlobal>(
     Ok(())
 }
 
-/// Lets the kernel go on where want of memory stops it once, and compares the answers.
+/// Lets the kernel go on where a refusal of memory stops it once, and compares the answers.
 pub(crate) fn go_on_after_a_stop<R: Print + AllocGlobal>(rt: &R) -> Result<(), Fault> {
     let rows = rows();
     let answers = answers_in_two_runs(rt, &events_of(rt.alloc(), &rows)?)?;

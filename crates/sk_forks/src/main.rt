@@ -1,7 +1,7 @@
 //! Forks a process that has as many filters as it can have: over each store until there is no room, and as many
 //! others once the children are out; or, by the word `kernel`, in a kernel. `tools/refuse_memory.py` runs this with
 //! all memory refused from the first line of output on: the forks take none. By the word `stop` a kernel goes on where
-//! want of memory has stopped it.
+//! a refusal of memory has stopped it.
 #![tactic(auto)]
 
 ghost use Rattle.std.specs.Prelude.{◌≡◌, IfOk};

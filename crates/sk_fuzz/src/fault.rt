@@ -20,7 +20,7 @@ pub(crate) enum Fault {
     Filter,
     /// Memory was refused.
     Memory,
-    /// A kernel has stopped for want of memory.
+    /// A kernel has stopped, out of memory.
     Stopped,
     /// The output could not be written, or the argument not be read.
     Device,
@@ -35,7 +35,7 @@ impl fmt::Display for Fault {
             Fault::Argument => "the argument is no number",
             Fault::Filter => "a filter is not understood",
             Fault::Memory => "out of memory",
-            Fault::Stopped => "stopped for want of memory",
+            Fault::Stopped => "stopped, out of memory",
             Fault::Device => "reading or writing failed",
         })
     }

@@ -54,7 +54,7 @@ abbrev pub Reads : {X Y : Type 0} → (X → Y) → Result X NoImage → Result 
 Reads view (Ok value) given = given ≡ Ok (view value)
 Reads view (Err fault) given = given ≡ Err fault
 
--- a fault is the image's own; want of memory comes only where there are instructions to hold
+-- a fault is the image's own; memory is refused only where there are instructions to hold
 abbrev pub IsReadingFault : {X : Type 0} → ImageFault → Result X ImageFault → Type 0
 IsReadingFault Memory given = IsOk given
 IsReadingFault fault given = given ≡ Err fault

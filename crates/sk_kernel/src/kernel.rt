@@ -23,7 +23,7 @@ pub struct Kernel<S: ProcStore> {
     alloc: Global,
 }
 
-/// A run has stopped for want of memory, after the first `done` of its events.
+/// A run has stopped, out of memory, after the first `done` of its events.
 #[derive(Clone, Copy, PartialEq, Eq, Debug)]
 pub struct Stopped {
     pub done: usize,
@@ -44,7 +44,7 @@ impl<S: ProcStore> Model for Kernel<S> {
 }
 
 impl<S: ProcStore> Kernel<S> {
-    /// The kernel as the system starts, with process 1 alone. Want of memory is the store's.
+    /// The kernel as the system starts, with process 1 alone. What refuses memory is the store.
     pub fn new(alloc: Global, images: Images) -> Result<Kernel<S>, AllocError>
         ensures opening { IfOk result (λ kernel. kernel ≡ record { images = images; world = opening }) }
     {
@@ -83,7 +83,7 @@ impl<S: ProcStore> Kernel<S> {
         answer
     }
 
-    /// Does these events in their order, and puts their answers behind the others. Where it stops for want of memory,
+    /// Does these events in their order, and puts their answers behind the others. Where it stops, out of memory,
     /// the answers and the world are those of the events before.
     pub fn run(&mut self, events: &[Event], answers: &mut Vec<Answer>) -> Result<(), Stopped>
         ensures answers { answers.new.items ≡ answers.old.items ++ answers_of self.old.images self.old.world (done_of events.now result) }

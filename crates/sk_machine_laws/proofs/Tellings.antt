@@ -28,7 +28,7 @@ use Rattle.sk_world.specs.Processes.{pids}
 use Rattle.sk_world.specs.World.{World, at, is_zombie, stored, body_changed, changed}
 use Rattle.sk_world.specs.Forking.{fork_answer}
 use Rattle.sk_world.specs.Waits.{is_no_hang, is_untraced, is_continued, is_match, is_ready, has_match, status_of_note, status_of_body, status_of, ready_of, without_note, told}
-use Rattle.sk_world.proofs.Tidings.{by_first, ready_first}
+use Rattle.sk_world.proofs.StatusChanges.{by_first, ready_first}
 use Rattle.sk_world.proofs.Stored.{everywhere, at_here}
 use Rattle.sk_world.proofs.KeptTold.{match_parent}
 use Rattle.sk_world.proofs.Telling.{ready_lowest}

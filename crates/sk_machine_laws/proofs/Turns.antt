@@ -11,7 +11,7 @@ use Rattle.sk_world.specs.declared.request.Poll.TheVariants as poll
 use Rattle.sk_world.specs.Processes.{pids}
 use Rattle.sk_world.specs.World.{World, at, has_ended, is_halted, is_stopped, is_zombie, is_alive}
 use Rattle.sk_world.specs.Waits.{is_ready, has_match, status_of}
-use Rattle.sk_world.proofs.Tidings.{by_first, ready_first}
+use Rattle.sk_world.proofs.StatusChanges.{by_first, ready_first}
 use Rattle.sk_world.proofs.KeptTold.{found}
 use Rattle.sk_world.proofs.Telling.{least_found, none_found as nobody_found}
 use Rattle.sk_world.proofs.KeptEnd.{alive_is_there}

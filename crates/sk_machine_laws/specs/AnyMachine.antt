@@ -33,7 +33,7 @@ GivesAuthorityByLine step =
     (images : GivenImages) (w : World) (events : List Event) (pid : ℕ) → IsTrue (is_some (at (world_by step images w events) pid))
     → authority_at (world_by step images w events) pid ≡ authority_of_line images w (line_of (history_by step images w events []) pid)
 
--- between two tidings of one pid, the first of which is an end, stands a fork that has given it
+-- between two status changes of one pid, the first of which is an end, stands a fork that has given it
 abbrev pub TellsEndsOnce : Machine → Type 0
 TellsEndsOnce step =
     (images : GivenImages) (w : World) (first : Event) (between : List Event) (later : Event) (child status again : ℕ)

@@ -1,5 +1,5 @@
 //! The faults that a task ends with: their texts, their statuses, and which fault of a library becomes which.
-use sk_ends::ReadFault;
+use sk_io::ReadFault;
 use sk_scenario::ScenarioFault;
 use sk_sched::EngineFault;
 use std::alloc::{AllocError, AllocFailed};

@@ -14,7 +14,7 @@ mod stores;
 
 use fault::Fault;
 use numbers::number_of;
-use sk_ends::{Counted, take_up_to};
+use sk_io::{Counted, take_up_to};
 use sk_text::{Words, cut};
 use std::process::ExitCode;
 

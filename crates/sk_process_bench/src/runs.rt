@@ -4,7 +4,7 @@
 mod way;
 
 use crate::fault::Fault;
-use sk_ends::{Counted, Sink, send};
+use sk_io::{Counted, Sink, send};
 use sk_report::turn_line;
 use sk_scenario::read;
 use sk_sched::{EngineFault, Machine, Turn, engine_with};

@@ -1,6 +1,6 @@
 //! Why nothing is measured.
-use sk_ends::ReadFault;
 use sk_insn::ImageFault;
+use sk_io::ReadFault;
 use sk_profile::ProfileFault;
 use sk_text::HexFault;
 use std::alloc::{AllocError, AllocFailed};

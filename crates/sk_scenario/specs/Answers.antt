@@ -1,4 +1,4 @@
--- Answers of the reader: a value, a fault of the text, or want of memory.
+-- Answers of the reader: a value, a fault of the text, or out of memory.
 use Rattle.std.specs.Prelude.{◌≡◌, ℕ, List, ◌⊎◌, Result, Ok, Err}
 use Rattle.sk_setting.specs.declared.fault.TextFault.{TextFault}
 use Rattle.sk_setting.specs.declared.fault.TextFault.TheVariants as text
@@ -13,7 +13,7 @@ told (text.Line n) = Line n
 told (text.Unresolved n) = Unresolved n
 told (text.Limit n) = Limit n
 
--- the fault is the given one; want of memory may come at any time
+-- the fault is the given one; memory may be refused at any time
 abbrev pub IsFaultOf : {X : Type 0} → ScenarioFault → Result X TextFault → Type 0
 IsFaultOf fault given = (fault ≡ Memory) ⊎ ((why : TextFault) × (fault ≡ told why) × (given ≡ Err why))
 
@@ -27,7 +27,7 @@ abbrev pub Judges : {X Y : Type 0} → (X → Y) → Result X TextFault → Resu
 Judges view (Ok value) given = given ≡ Ok (view value)
 Judges view (Err why) given = given ≡ Err why
 
--- the answer is this setting, but for want of memory
+-- the answer is this setting, unless memory was refused
 abbrev pub Finds : {T : Type 0} → (T → Setting) → Result T ScenarioFault → Setting → Type 0
 Finds view (Ok value) setting = view value ≡ setting
 Finds view (Err fault) setting = fault ≡ Memory
@@ -36,7 +36,7 @@ Finds view (Err fault) setting = fault ≡ Memory
 abbrev pub IsToldOf : List ℕ → ScenarioFault → Type 0
 IsToldOf text fault = (fault ≡ Memory) ⊎ ((why : TextFault) × (fault ≡ told why) × IsFirstFaultOfText text why)
 
--- the answer is this fault, but for want of memory
+-- the answer is this fault, unless memory was refused
 abbrev pub Tells : {T : Type 0} → Result T ScenarioFault → TextFault → Type 0
 Tells (Ok value) why = ⊥
 Tells (Err fault) why = (fault ≡ Memory) ⊎ (fault ≡ told why)

@@ -4,8 +4,8 @@ use Rattle.std.proofs.KnownBytes.{Appends-nil}
 use Rattle.std.proofs.Math.Logic.{⊎_elim}
 use Rattle.std.proofs.lemmas.Bool.{cases_lt}
 use Rattle.std.proofs.lemmas.List.{take_all, length-take}
-use Rattle.sk_ends.specs.declared.source.ReadFault.{ReadFault}
-use Rattle.sk_ends.specs.declared.source.ReadFault.TheVariants as reading
+use Rattle.sk_io.specs.declared.source.ReadFault.{ReadFault}
+use Rattle.sk_io.specs.declared.source.ReadFault.TheVariants as reading
 use Rattle.sk_setting.specs.declared.fault.TextFault.{TextFault}
 use Rattle.sk_setting.specs.declared.fault.TextFault.TheVariants as text
 use Rattle.sk_setting.specs.Faults.{IsFirstFaultOfText}

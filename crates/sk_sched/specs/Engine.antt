@@ -1,16 +1,16 @@
 -- What the engine leaves behind.
 use Rattle.std.specs.Prelude.{◌≡◌, ◌≤◌, ◌⊎◌, ℕ, List, [], length, take, Option, Result, Ok, Err}
 use Rattle.std.specs.Io.KnownBytes.{Appends}
-use Rattle.sk_ends.specs.Failures.{one_more}
-use Rattle.sk_ends.specs.Writing.{AppendsBeginning}
+use Rattle.sk_io.specs.Failures.{one_more}
+use Rattle.sk_io.specs.Writing.{AppendsBeginning}
 use Rattle.sk_setting.specs.declared.fault.TextFault.{TextFault}
 use Rattle.sk_setting.specs.Faults.{IsFirstFaultOfText}
 use Rattle.sk_setting.specs.Scenario.{Setting, IsScenarioText}
 use Rattle.sk_scenario.specs.Answers.{told}
 use Rattle.sk_scenario.specs.declared.fault.ScenarioFault.{ScenarioFault}
 use Rattle.sk_scenario.specs.declared.fault.ScenarioFault.TheVariants.{Memory as ScenarioMemory}
-use Rattle.sk_ends.specs.declared.source.ReadFault.{ReadFault}
-use Rattle.sk_ends.specs.declared.source.ReadFault.TheVariants.{Read as ReadFailed, Memory as MemoryRefused}
+use Rattle.sk_io.specs.declared.source.ReadFault.{ReadFault}
+use Rattle.sk_io.specs.declared.source.ReadFault.TheVariants.{Read as ReadFailed, Memory as MemoryRefused}
 use Rattle.sk_report.specs.declared.turn.End.{End}
 use Rattle.sk_report.specs.Report.{Report, report_of, text_of, turns_text}
 use Rattle.sk_sched.specs.declared.fault.EngineFault.{EngineFault}
@@ -51,7 +51,7 @@ abbrev pub CountsWrites : {X : Type 0} → Result X EngineFault → ℕ → ℕ 
 CountsWrites (Err Write) old new = new ≡ one_more old
 CountsWrites result old new = new ≡ old
 
--- which fault of the engine a fault of its parts is: want of memory comes with the number of turns whose lines are out, none at first
+-- which fault of the engine a fault of its parts is: out of memory comes with the number of turns whose lines are out, none at first
 abbrev pub of_scenario : ScenarioFault → EngineFault
 of_scenario ScenarioMemory = Memory 0
 of_scenario fault = Scenario fault

@@ -1,5 +1,5 @@
 //! The faults that end an engine: their texts, and which fault of a library becomes which of them.
-use sk_ends::{ReadFault, WriteFault};
+use sk_io::{ReadFault, WriteFault};
 use sk_scenario::ScenarioFault;
 use std::alloc::AllocError;
 use thiserror::Error;

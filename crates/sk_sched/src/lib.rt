@@ -12,5 +12,5 @@ mod stacks;
 pub use fault::EngineFault;
 pub use machine::Machine;
 pub use reporting::{engine, engine_with};
-pub use sk_ends::{Counted, Sink, Source};
+pub use sk_io::{Counted, Sink, Source};
 pub use sk_report::{End, Turn};

@@ -1,6 +1,6 @@
 //! The engine: it reads a scenario, and writes its report, each line before the next turn is made.
 ghost use Rattle.std.specs.Prelude.{◌≡◌, IfSome};
-ghost use Rattle.sk_ends.specs.Reading.{ConsumesUpTo};
+ghost use Rattle.sk_io.specs.Reading.{ConsumesUpTo};
 ghost use Rattle.sk_report.specs.Scheduling.{opened};
 ghost use Rattle.sk_report.specs.Report.{report_of};
 ghost use Rattle.sk_sched.specs.views.State.{setting_of, now_of};
@@ -8,7 +8,7 @@ ghost use Rattle.sk_sched.specs.Engine.{Delivers, Writes, CountsReads, CountsWri
 
 use crate::fault::EngineFault;
 use crate::machine::Machine;
-use sk_ends::{Sink, Source, send, take_up_to};
+use sk_io::{Sink, Source, send, take_up_to};
 use sk_report::{End, Line, Turn, write_line};
 use sk_scenario::read;
 use sk_table::SlotStore;

@@ -13,7 +13,7 @@ use Rattle.sk_world.specs.Rules.{IsWorld, is_init}
 use Rattle.sk_world.specs.Waits.{is_asked_for, is_match, is_ready, has_match, status_of, without_note, told}
 use Rattle.sk_world.specs.laws.WorldLaws.{ToldKeepsRules}
 use Rattle.sk_world.proofs.Stored.{kept_changed, kept_removed}
-use Rattle.sk_world.proofs.Tidings.{by_first, ready_first}
+use Rattle.sk_world.proofs.StatusChanges.{by_first, ready_first}
 
 -- what a search finds passes the test
 pub found : (p : ℕ → Bool) (xs : List ℕ) (n : ℕ) → find p xs ≡ Some n → IsTrue (p n)

@@ -6,7 +6,7 @@ pub mod Kept
 pub mod KeptFork
 pub mod Ancestors
 pub mod KeptEnd
-pub mod Tidings
+pub mod StatusChanges
 pub mod KeptTold
 pub mod Telling
 pub mod Bodies

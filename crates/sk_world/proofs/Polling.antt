@@ -10,7 +10,7 @@ use Rattle.sk_world.specs.declared.request.Poll.TheVariants.{Told, NoMatch, NotR
 use Rattle.sk_world.specs.Processes.{pids}
 use Rattle.sk_world.specs.World.{World, at, is_child_of}
 use Rattle.sk_world.specs.Waits.{is_asked_for, is_match, is_ready, has_match, ready_of, status_of}
-use Rattle.sk_world.proofs.Tidings.{by_first, ready_first}
+use Rattle.sk_world.proofs.StatusChanges.{by_first, ready_first}
 use Rattle.sk_world.proofs.Telling.{ready_lowest, no_match, not_ready}
 
 -- what is told of a child

@@ -16,7 +16,7 @@ use Rattle.sk_world.specs.World.{World, at, is_zombie, stored, changed}
 use Rattle.sk_world.specs.Waits.{is_match, is_ready, has_match, ready_of, status_of, without_note, told}
 use Rattle.sk_world.proofs.Maps.{same_number}
 use Rattle.sk_world.proofs.Stored.{at_here}
-use Rattle.sk_world.proofs.Tidings.{by_first, ready_first}
+use Rattle.sk_world.proofs.StatusChanges.{by_first, ready_first}
 use Rattle.sk_world.proofs.KeptTold.{found}
 
 told_pid : Poll → Option ℕ

@@ -69,26 +69,26 @@ is_ready w caller request pid = is_match caller request pid (at w pid) && is_som
 abbrev pub has_match : World → ℕ → Request → Bool
 has_match w caller request = list_any (λ pid. is_match caller request pid (at w pid)) (pids w.procs)
 
--- the tidings with those of this process before them, if it has a status to tell
+-- the status changes with those of this process before them, if it has a status to tell
 abbrev pub with_status : ℕ → Option ℕ → List (ℕ × ℕ) → List (ℕ × ℕ)
 with_status pid (Some status) rest = (pid, status) ∷ rest
 with_status pid None rest = rest
 
 -- what these processes have to tell the caller: the status of each that matches and has one
-abbrev pub tidings : World → ℕ → Request → List ℕ → List (ℕ × ℕ)
-tidings w caller request [] = []
-tidings w caller request (pid ∷ rest) =
-    if is_match caller request pid (at w pid) then with_status pid (status_of request.options (at w pid)) (tidings w caller request rest)
-    else tidings w caller request rest
+abbrev pub status_changes : World → ℕ → Request → List ℕ → List (ℕ × ℕ)
+status_changes w caller request [] = []
+status_changes w caller request (pid ∷ rest) =
+    if is_match caller request pid (at w pid) then with_status pid (status_of request.options (at w pid)) (status_changes w caller request rest)
+    else status_changes w caller request rest
 
--- the first of the tidings is told; where there are none it is this
+-- the first of the status changes is told; where there are none it is this
 abbrev pub first_told : List (ℕ × ℕ) → Poll → Poll
 first_told [] none = none
 first_told (e ∷ rest) none = Told e.0 e.1
 
 -- what is told: the status of the child with the lowest pid that has one; else whether any child matches
 abbrev pub ready_of : World → ℕ → Request → Poll
-ready_of w caller request = first_told (tidings w caller request (pids w.procs)) (if has_match w caller request then NotReady else NoMatch)
+ready_of w caller request = first_told (status_changes w caller request (pids w.procs)) (if has_match w caller request then NotReady else NoMatch)
 
 -- what a process has to tell was told
 abbrev pub without_note : Body → Body

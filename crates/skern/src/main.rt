@@ -2,7 +2,7 @@
 #![tactic(auto)]
 
 use sk_cli::{CommandFault, FAILED, command, failed, finish, words_of};
-use sk_ends::Counted;
+use sk_io::Counted;
 use std::io;
 use std::io::{BufWriter, ErrorKind};
 use std::process::ExitCode;

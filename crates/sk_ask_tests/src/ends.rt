@@ -1,0 +1,172 @@
+//! Files and writers in memory.
+ghost use Rattle.std.specs.Prelude.{None};
+
+use sk_ask::command;
+use sk_ask_filters::{Shelf, Unread};
+use sk_io::Counted;
+use std::alloc::{AllocError, Global};
+use std::io;
+use std::io::{ErrorKind, Write};
+
+/// getpid has errno 1, in digits.
+pub const GETPID: &[u8] = b"200000000000000015000001270000000600000001000500060000000000ff7f\n";
+
+/// Everything is allowed, as raw bytes.
+pub const ALL: &[u8] = &[6, 0, 0, 0, 0, 0, 0xff, 0x7f];
+
+/// The files that each row may name. A read of `fails` fails.
+const FILES: &[(&str, &[u8])] = &[
+    ("getpid", GETPID),
+    ("all", ALL),
+    (
+        "two",
+        b"; two\nfilter 060000000000ff7f\r\nfilter 060000000000ff7f\n",
+    ),
+    (
+        "flag",
+        b"200000001000000045000001010000000600000026000500060000000000ff7f",
+    ),
+    ("argument", b"20000000100000001600000000000000"),
+    (
+        "guarded",
+        b"2000000004000000150001003e0000c00600000000000080200000000000000015000001270000000600000001000500060000000000ff7f",
+    ),
+    (
+        "each",
+        b"2000000008000000200000000c000000200000001000000020000000140000002000000018000000200000001c000000200000002000000020000000240000002000000028000000200000002c000000200000003000000020000000340000002000000038000000200000003c000000060000000000ff7f",
+    ),
+    (
+        "log",
+        b"7 read(0x3, 0x7ffd, 0x40) = 0x40\n7 getpid() = 0x7\n7 read(0x3, 0x7ffd, 0x40) = 0x3\n7 +++ exited with 0 +++\n",
+    ),
+    ("cut", b"7 getpid() = 0x7\n7 read(0x3, 0x7f\n"),
+    ("empty", b""),
+    ("words", b"; one\nhello\n"),
+    ("code", b"# two\nfilter 2100000000000000060000000000ff7f"),
+    (
+        "profile",
+        b" {\"defaultAction\": \"SCMP_ACT_ERRNO\", \"defaultErrnoRet\": 38, \"syscalls\": [
+            {\"names\": [\"getpid\"], \"action\": \"SCMP_ACT_ALLOW\"},
+            {\"names\": [\"read\"], \"action\": \"SCMP_ACT_ALLOW\", \"includes\": {\"caps\": [\"CAP_SYS_ADMIN\", \"CAP_KILL\"]}},
+            {\"names\": [\"ptrace\"], \"action\": \"SCMP_ACT_ALLOW\", \"includes\": {\"minKernel\": \"4.8\"}},
+            {\"names\": [\"mseal\"], \"action\": \"SCMP_ACT_ALLOW\", \"excludes\": {\"minKernel\": \"6.13\"}}]}",
+    ),
+    ("allowing", b"{\"defaultAction\": \"SCMP_ACT_ALLOW\"}"),
+    (
+        "listed",
+        b"{\"defaultAction\": \"SCMP_ACT_ERRNO\", \"architectures\": [\"SCMP_ARCH_X86_64\"], \"syscalls\": [{\"names\": [\"getpid\"], \"action\": \"SCMP_ACT_ALLOW\"}]}",
+    ),
+    (
+        "noted",
+        b"{\"defaultAction\": \"SCMP_ACT_ALLOW\", \"syscalls\": [{\"names\": [\"opennat\"], \"action\": \"SCMP_ACT_LOG\"}]}",
+    ),
+    ("object", b"{}"),
+    ("open", b"\r\n\t{"),
+    (
+        "keys",
+        b"{\"defaultAction\": \"SCMP_ACT_ALLOW\", \"defaultAction\": \"SCMP_ACT_ALLOW\"}",
+    ),
+    ("bytes", b"{\"defaultAction\": \"\xff\"}"),
+    (
+        "marked",
+        b"\xef\xbb\xbf{\"defaultAction\": \"SCMP_ACT_ALLOW\"}",
+    ),
+    (
+        "clash",
+        b"{\"defaultAction\": \"SCMP_ACT_ALLOW\", \"syscalls\": [
+            {\"names\": [\"read\"], \"action\": \"SCMP_ACT_LOG\"},
+            {\"names\": [\"write\"], \"action\": \"SCMP_ACT_LOG\", \"args\": [{\"index\": 0, \"value\": 1, \"op\": \"SCMP_CMP_EQ\"}]},
+            {\"names\": [\"write\"], \"action\": \"SCMP_ACT_KILL\", \"args\": [{\"index\": 1, \"value\": 2, \"op\": \"SCMP_CMP_EQ\"}]}]}",
+    ),
+];
+
+/// A shelf with these files.
+pub struct Files;
+
+impl Shelf for Files {
+    ghost held = { λ _ _. None };
+
+    fn take(
+        &self,
+        alloc: Global,
+        reads: &mut u64,
+        name: &str,
+        most: usize,
+    ) -> Result<Vec<u8>, Unread> {
+        for (known, bytes) in FILES {
+            if known.as_bytes() == name.as_bytes() {
+                return match bytes[..bytes.len().min(most)].to_vec(alloc) {
+                    Ok(bytes) => Ok(bytes),
+                    Err(AllocError) => Err(Unread::Memory),
+                };
+            }
+        }
+        if name.as_bytes() == b"fails".as_slice() {
+            *reads = reads.saturating_add(1);
+            return Err(Unread::Reading);
+        }
+        Err(Unread::Missing)
+    }
+}
+
+/// Keeps the bytes that it takes; the first so many writes fail.
+#[derive(Drop)]
+pub struct Output {
+    pub held: Vec<u8>,
+    pub failing: u64,
+}
+
+impl Write for Output {
+    fn write(&mut self, bytes: &[u8]) -> io::Result<usize> {
+        if self.failing > 0 {
+            self.failing -= 1;
+            return Err(io::Error::from(ErrorKind::StorageFull));
+        }
+        self.held.extend_from_slice(bytes)?;
+        Ok(bytes.len())
+    }
+
+    fn flush(&mut self) -> io::Result<()> {
+        Ok(())
+    }
+}
+
+/// What the program came to: its status, what it wrote, and how many reads failed.
+#[derive(Drop)]
+pub struct Ran {
+    pub status: u8,
+    pub out: Vec<u8>,
+    pub complaints: Vec<u8>,
+    pub reads: u64,
+}
+
+/// A run with these words, of which the first so many writes of answers fail.
+pub fn run(alloc: Global, given: &[&str], failing: u64) -> Result<Ran, AllocError> {
+    let mut words = Vec::new(alloc);
+    for word in given {
+        words.push(String::from_str(alloc, word)?)?;
+    }
+    let mut out = Counted::new(Output {
+        held: Vec::new(alloc),
+        failing,
+    });
+    let mut complaints = Counted::new(Output {
+        held: Vec::new(alloc),
+        failing: 0,
+    });
+    let mut reads = 0;
+    let status = command(
+        alloc,
+        words.as_slice(),
+        &Files,
+        &mut reads,
+        &mut out,
+        &mut complaints,
+    );
+    Ok(Ran {
+        status,
+        out: out.into_inner().held,
+        complaints: complaints.into_inner().held,
+        reads,
+    })
+}
