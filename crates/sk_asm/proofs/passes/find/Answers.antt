@@ -4,7 +4,7 @@ use Rattle.sk_asm.specs.Seeing.{seen}
 use Rattle.sk_asm.specs.Views.{jumps_in}
 use Rattle.std.proofs.lemmas.Result.{err_from_is_err_and}
 use Rattle.sk_asm.proofs.Blocks.{length-lines_in}
-use Rattle.sk_asm.proofs.Clean.{clean_line, clean_rest}
+use Rattle.sk_asm.proofs.Clean.{clean_rest}
 use Rattle.sk_asm.proofs.Turns.{labelled-unchecked, labelled-untaken, labelled-taken, labelled-end, found-start, found-taken, found-among, found-end}
 use Rattle.sk_asm.proofs.passes.find.Goals as goal
 

@@ -1,4 +1,4 @@
-use Rattle.std.proofs.Common.{◌≡◌, ◌++◌, ℕ, length}
+use Rattle.std.proofs.Common.{◌≡◌, ◌++◌, length}
 use Rattle.std.specs.List.{concat}
 use Rattle.sk_text.specs.Lines.{words_of}
 use Rattle.sk_text.proofs.hexadecimal.joined.Given as goal
