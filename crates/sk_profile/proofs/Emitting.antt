@@ -23,7 +23,7 @@ use Rattle.sk_profile.specs.Code.{load, branch, jump, answer, high, high_place, 
 use Rattle.sk_profile.specs.Means.{IsPiece, IsTree, Gives, MeansRows, KnowsRows}
 use Rattle.sk_profile.specs.CodeViews.{arm_of, saying_of, row_of, asked_for, Asks, IsArmOfCode, IsSayingOfCode, IsRowOfCode, AreRising, AreRows, Emits, IsOverlong, PutsPiece, PutsPieces, PutsSaying}
 use Rattle.sk_profile.proofs.Trees.{code_means_tree}
-use Rattle.sk_profile.proofs.Rows.{cuts_say_the_same, asks_nothing}
+use Rattle.sk_profile.proofs.CodeRows.{cuts_say_the_same, asks_nothing}
 use Rattle.sk_profile.proofs.Knowing.{known_tree}
 
 rising_take : (n : ℕ) (rows : List RowOfCode) → AreRising rows → AreRising (take n rows)

@@ -4,7 +4,7 @@ pub mod Halves
 pub mod Conditions
 pub mod Joining
 pub mod Trees
-pub mod Rows
+pub mod CodeRows
 pub mod Emitting
 pub mod Fitting
 pub mod Knowing

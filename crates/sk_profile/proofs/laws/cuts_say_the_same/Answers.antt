@@ -1,4 +1,4 @@
-use Rattle.sk_profile.proofs.Rows.{cuts_say_the_same}
+use Rattle.sk_profile.proofs.CodeRows.{cuts_say_the_same}
 use Rattle.sk_profile.proofs.laws.cuts_say_the_same.Goals as goal
 
 pub returns : goal.returns
