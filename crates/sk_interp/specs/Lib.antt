@@ -4,6 +4,7 @@ pub mod WorkedMeanings
 pub mod Walk
 pub mod Architectures
 pub mod MachineState
+pub mod Steps
 pub mod Strides
 pub mod JointWalk
 pub use Rattle.sk_check.specs.Valid

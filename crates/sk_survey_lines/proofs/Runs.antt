@@ -8,7 +8,8 @@ use Rattle.sk_check.specs.Fits.{TakesConstant}
 use Rattle.sk_check.specs.Valid.{IsValid}
 use Rattle.sk_check.proofs.ValidPrograms.{valid_fits, valid_leads}
 use Rattle.sk_interp.specs.Meaning.{Stuck, State, effect, GoesOn, Fails, start, then_follows, meaning, meaning_of}
-use Rattle.sk_interp.proofs.Meanings.{after_none, after_steps, goes_on, ends, meaning_at}
+use Rattle.sk_interp.specs.Steps.{after_steps}
+use Rattle.sk_interp.proofs.Meanings.{after_none, goes_on, ends, meaning_at}
 use Rattle.sk_interp.proofs.ValidMeanings.{valid_returns}
 use Rattle.sk_interp.proofs.ValidSteps.{leads_to}
 use Rattle.sk_chain.specs.Verdict.{meaning_value}
