@@ -15,19 +15,19 @@ ROOT = os.path.dirname(os.path.dirname(os.path.abspath(__file__)))
 PAGE = os.path.join(ROOT, "docs", "DEFINITIONS.md")
 IMPORT = re.compile(r"^use Rattle\.(sk_\w+)\.specs\.([\w.]+?)(?:\.\{.*| as .*)?$")
 # What each command reads and writes.
-TEXTS = ["sk_asm/Assembly", "sk_listing/Listing", "sk_engines/EvalCommand", "sk_engines/CheckCommand", "sk_engines/AsmCommand", "sk_engines/ListCommand"]
+TEXTS = ["sk_asm/Assembly", "sk_asm/Listing", "sk_engines/EvalCommand", "sk_engines/CheckCommand", "sk_engines/AsmCommand", "sk_engines/ListCommand"]
 # Each promise, and the definitions that it is said in.
 PROMISES = [
-    ("filters", ["sk_chain/Verdict", "sk_check/Valid", "sk_check/FirstFault"]),
+    ("filters", ["sk_filter/Verdict", "sk_filter/Valid", "sk_filter/FirstFault"]),
     ("the texts of filters and their commands", TEXTS),
     ("the kernel, with lines", ["sk_machine/Machine", "sk_machine/Lines"]),
     ("the kernel, with lines, turns and memory", ["sk_machine/Machine", "sk_machine/Lines", "sk_machine/Turns", "sk_machine/Memory"]),
     ("the kernel and the laws on each run", ["sk_machine/Machine", "sk_machine_laws/RunLaws"]),
-    ("scenarios", ["sk_setting/Scenario", "sk_setting/Faults"]),
+    ("scenarios", ["sk_scenario/Scenario", "sk_scenario/Faults"]),
     ("reports", ["sk_report/Report"]),
-    ("'skern run'", ["sk_sched/Engine"]),
-    ("'skern run', and that each report is a lawful run", ["sk_sched/Engine", "sk_sched/laws/ReportLaws"]),
-    ("'skern' by its words", ["sk_cli/Running"]),
+    ("'skern run'", ["sk_run/Reporting"]),
+    ("'skern run', and that each report is a lawful run", ["sk_run/Reporting", "sk_run/laws/ReportLaws"]),
+    ("'skern' by its words", ["sk_run/Running"]),
 ]
 # What `ask` answers to its words.
 ASK = "sk_ask/Telling"

@@ -259,8 +259,10 @@ def main():
         def run(words, text, refused, limits=None):
             env = {"LD_PRELOAD": shim, "REFUSE": str(refused), "LEFT": left_in}
             ran = subprocess.run(words, input=text.encode(), capture_output=True, env=env, timeout=60, preexec_fn=limits)
+            # READS tells what is wrong on standard error, and answers nothing then.
+            output = ran.stderr if words == [reads] and ran.returncode and not ran.stdout else ran.stdout
             with open(left_in, encoding="utf-8") as file:
-                return (ran.stdout, ran.returncode), int(file.read())
+                return (output, ran.returncode), int(file.read())
 
         def small_stack():
             resource.setrlimit(resource.RLIMIT_STACK, (STACK, STACK))

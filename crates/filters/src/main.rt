@@ -1,7 +1,7 @@
 //! The filter commands of `skern`, over the standard streams.
 #![tactic(auto)]
 
-use sk_filter_cli::{CommandFault, FAILED, command, failed, finish, words_of};
+use sk_engines::{CommandFault, FAILED, command, failed, finish, words_of};
 use sk_io::Counted;
 use std::io;
 use std::io::{BufWriter, ErrorKind};

@@ -1,7 +1,6 @@
 //! Logs of strace(1), each with the text and the sums of its replay through one filter.
 use sk_call_names::Architecture;
-use sk_chain::Chain;
-use sk_check::check;
+use sk_filter::{Chain, check};
 use sk_insn::Insn;
 use sk_replay::replay;
 use std::alloc::Global;

@@ -1,7 +1,6 @@
 //! The text of small filters for one call, worked out by hand from their instructions.
 use sk_call_names::Architecture;
-use sk_chain::Chain;
-use sk_check::{Checked, check};
+use sk_filter::{Chain, Checked, check};
 use sk_insn::Insn;
 use sk_when::{dot, when};
 use std::alloc::Global;

@@ -10,11 +10,11 @@ use Rattle.sk_insn.specs.declared.operation.Register.TheVariants.{Accumulator}
 use Rattle.sk_insn.specs.declared.operation.Operation.{Operation}
 use Rattle.sk_insn.specs.declared.operation.Operation.TheVariants.{LoadConstant, LoadRecord}
 use Rattle.sk_insn.specs.Operations.{operation_of}
-use Rattle.sk_check.specs.declared.fault.CheckFault.{CheckFault}
-use Rattle.sk_check.specs.declared.fault.CheckFault.TheVariants.{Empty, TooLong, Code, Load, DivZero, Shift, Word, Jump, NoReturn, Unstored}
-use Rattle.sk_check.specs.Paths.{GoesTo, At, LeadsTo, Loads, Stores, IsPath, NoneStores, IsUnstored, onward, loaded_word, returns, stored_word}
-use Rattle.sk_check.specs.Places.{fault_of}
-use Rattle.sk_check.specs.Valid.{HasByItself, HasFault, IsValid, fault_place}
+use Rattle.sk_filter.specs.declared.fault.CheckFault.{CheckFault}
+use Rattle.sk_filter.specs.declared.fault.CheckFault.TheVariants.{Empty, TooLong, Code, Load, DivZero, Shift, Word, Jump, NoReturn, Unstored}
+use Rattle.sk_filter.specs.Paths.{GoesTo, At, LeadsTo, Loads, Stores, IsPath, NoneStores, IsUnstored, onward, loaded_word, returns, stored_word}
+use Rattle.sk_filter.specs.Places.{fault_of}
+use Rattle.sk_filter.specs.Valid.{HasByItself, HasFault, IsValid, fault_place}
 
 -- it loads a constant, or a word of the record
 abbrev pub IsLoad : Insn → Type 0

@@ -16,13 +16,13 @@ use Rattle.sk_insn.specs.Operations.{operation_of}
 use Rattle.sk_insn.specs.Record.{record_bytes, word_of}
 use Rattle.sk_insn.proofs.LittleEndian.{IsBytes}
 use Rattle.sk_insn.proofs.RecordWords.{number_there, word_of_architecture, word_of_argument, word_of_number, word_of_pointer}
-use Rattle.sk_check.specs.Fits.{TakesConstant}
-use Rattle.sk_check.specs.Valid.{IsValid}
-use Rattle.sk_check.proofs.ValidPrograms.{valid_fits}
-use Rattle.sk_interp.specs.Architectures.{loads_architecture}
-use Rattle.sk_interp.specs.Meaning.{meaning_of}
-use Rattle.sk_chain.specs.Chains.{AllValid}
-use Rattle.sk_chain.specs.Verdict.{first_of, meaning_value, values_of}
+use Rattle.sk_filter.specs.Fits.{TakesConstant}
+use Rattle.sk_filter.specs.Valid.{IsValid}
+use Rattle.sk_filter.proofs.ValidPrograms.{valid_fits}
+use Rattle.sk_filter.specs.Architectures.{loads_architecture}
+use Rattle.sk_filter.specs.Meaning.{meaning_of}
+use Rattle.sk_filter.specs.Chains.{AllValid}
+use Rattle.sk_filter.specs.Verdict.{first_of, meaning_value, values_of}
 use Rattle.sk_arches.specs.ByArchitecture.{ChainsByArchitecture, by_architecture, chain_loads, chain_with_number_at, loads_word, program_loads, with_number_at, with_words}
 use Rattle.sk_arches.proofs.Meanings.{LoadsAlike, same_meaning, word_loaded}
 use Rattle.sk_arches.proofs.Valid.{number_loads}

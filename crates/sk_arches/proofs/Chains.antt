@@ -4,12 +4,12 @@ use Rattle.std.proofs.lemmas.List.{length-map}
 use Rattle.sk_insn.specs.declared.insn.Insn.{Insn}
 use Rattle.sk_insn.specs.declared.record.Record.{Record}
 use Rattle.sk_insn.specs.Record.{IsNative}
-use Rattle.sk_check.specs.Valid.{IsValid}
-use Rattle.sk_interp.specs.Architectures.{as_native, for_architecture}
-use Rattle.sk_interp.specs.Meaning.{meaning_of}
-use Rattle.sk_interp.proofs.Architectures.{architectures_are_constants}
-use Rattle.sk_chain.specs.Chains.{AllValid, IsWithinLimit, cost_of, path_limit}
-use Rattle.sk_chain.specs.Verdict.{first_of, meaning_value, values_of}
+use Rattle.sk_filter.specs.Valid.{IsValid}
+use Rattle.sk_filter.specs.Architectures.{as_native, for_architecture}
+use Rattle.sk_filter.specs.Meaning.{meaning_of}
+use Rattle.sk_filter.proofs.Architectures.{architectures_are_constants}
+use Rattle.sk_filter.specs.Chains.{AllValid, IsWithinLimit, cost_of, path_limit}
+use Rattle.sk_filter.specs.Verdict.{first_of, meaning_value, values_of}
 use Rattle.sk_arches.specs.declared.change.Change.{Change}
 use Rattle.sk_arches.specs.Changes.{all_changed, changed}
 use Rattle.sk_arches.specs.ChainsFor.{chain_for, of_architecture, ChainsForArchitectures}

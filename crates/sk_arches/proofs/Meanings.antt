@@ -9,7 +9,7 @@ use Rattle.sk_insn.specs.declared.operation.Operation.{Operation}
 use Rattle.sk_insn.specs.declared.operation.Operation.TheVariants.{LoadRecord, LoadConstant, LoadScratch, LoadLength, StoreScratch, Compute, Negate, Jump, Branch, ReturnConstant, ReturnAccumulator, CopyToIndex, CopyToAccumulator}
 use Rattle.sk_insn.specs.Operations.{operation_of}
 use Rattle.sk_insn.specs.Record.{word_of}
-use Rattle.sk_interp.specs.Meaning.{State, effect, loaded, meaning, meaning_of, start, then_follows}
+use Rattle.sk_filter.specs.Meaning.{State, effect, loaded, meaning, meaning_of, start, then_follows}
 use Rattle.sk_arches.proofs.Alike.{ChangesLoads, IsLoad, StandsFor}
 
 -- what a load loads

@@ -6,12 +6,12 @@ use Rattle.sk_insn.specs.declared.record.Record.{Record}
 use Rattle.sk_insn.specs.declared.operation.Register.TheVariants.{Accumulator}
 use Rattle.sk_insn.specs.declared.operation.Operation.TheVariants.{LoadConstant}
 use Rattle.sk_insn.specs.Operations.{operation_of, code_of}
-use Rattle.sk_check.specs.Valid.{IsValid}
-use Rattle.sk_interp.specs.Architectures.{as_native, for_architecture, loads_architecture}
-use Rattle.sk_interp.specs.Meaning.{meaning_of}
-use Rattle.sk_interp.proofs.Architectures.{architectures_are_constants}
-use Rattle.sk_chain.specs.Chains.{AllValid}
-use Rattle.sk_chain.specs.Verdict.{first_of, meaning_value, values_of}
+use Rattle.sk_filter.specs.Valid.{IsValid}
+use Rattle.sk_filter.specs.Architectures.{as_native, for_architecture, loads_architecture}
+use Rattle.sk_filter.specs.Meaning.{meaning_of}
+use Rattle.sk_filter.proofs.Architectures.{architectures_are_constants}
+use Rattle.sk_filter.specs.Chains.{AllValid}
+use Rattle.sk_filter.specs.Verdict.{first_of, meaning_value, values_of}
 use Rattle.sk_arches.specs.ChainsFor.{of_architecture}
 use Rattle.sk_arches.specs.Looks.{looks_at_architecture, program_looks, UnseenArchitectures}
 

@@ -6,8 +6,8 @@ use Rattle.sk_insn.specs.declared.operation.Operation.{Operation}
 use Rattle.sk_insn.specs.declared.operation.Operation.TheVariants.{LoadConstant, LoadRecord}
 use Rattle.sk_insn.specs.Operations.{operation_of, code_of}
 use Rattle.sk_insn.proofs.OperationTable.{operation_of-code_of}
-use Rattle.sk_check.specs.Valid.{IsValid}
-use Rattle.sk_interp.specs.Architectures.{loads_architecture, with_architecture}
+use Rattle.sk_filter.specs.Valid.{IsValid}
+use Rattle.sk_filter.specs.Architectures.{loads_architecture, with_architecture}
 use Rattle.sk_arches.specs.declared.change.Change.{Change}
 use Rattle.sk_arches.specs.declared.change.Change.TheVariants.{Constant, NumberAt}
 use Rattle.sk_arches.specs.ByArchitecture.{loads_word, with_number_at}

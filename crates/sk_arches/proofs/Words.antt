@@ -6,7 +6,7 @@ use Rattle.sk_insn.specs.declared.insn.Insn.{Insn}
 use Rattle.sk_insn.specs.declared.operation.Operation.{Operation}
 use Rattle.sk_insn.specs.declared.operation.Operation.TheVariants.{LoadRecord}
 use Rattle.sk_insn.specs.Operations.{operation_of}
-use Rattle.sk_interp.specs.Architectures.{loads_architecture}
+use Rattle.sk_filter.specs.Architectures.{loads_architecture}
 use Rattle.sk_arches.specs.ByArchitecture.{IsFree, chain_loads, free_place, loads_word, program_loads, words_behind}
 
 -- the architecture is the word at 4

@@ -3,8 +3,8 @@ use Rattle.std.specs.Prelude.{ℕ, ◌≡◌, ◌≤◌, List, [], ◌∷◌, ma
 use Rattle.std.specs.List.{All}
 use Rattle.sk_insn.specs.declared.insn.Insn.{Insn}
 use Rattle.sk_insn.specs.declared.record.Record.{Record}
-use Rattle.sk_chain.specs.Chains.{AllValid}
-use Rattle.sk_chain.specs.Verdict.{verdict_of}
+use Rattle.sk_filter.specs.Chains.{AllValid}
+use Rattle.sk_filter.specs.Verdict.{verdict_of}
 use Rattle.sk_survey.specs.Answers.{answers_of}
 use Rattle.sk_survey.specs.Surveys.{Holds}
 use Rattle.sk_call_names.specs.declared.architecture.Architecture.{Architecture}

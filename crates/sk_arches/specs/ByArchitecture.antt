@@ -9,9 +9,9 @@ use Rattle.sk_insn.specs.declared.operation.Operation.{Operation}
 use Rattle.sk_insn.specs.declared.operation.Operation.TheVariants.{LoadRecord}
 use Rattle.sk_insn.specs.Operations.{operation_of}
 use Rattle.sk_insn.specs.Record.{native, word_of}
-use Rattle.sk_chain.specs.Chains.{AllValid}
-use Rattle.sk_chain.specs.Verdict.{verdict_of}
-use Rattle.sk_interp.specs.Architectures.{loads_architecture}
+use Rattle.sk_filter.specs.Chains.{AllValid}
+use Rattle.sk_filter.specs.Verdict.{verdict_of}
+use Rattle.sk_filter.specs.Architectures.{loads_architecture}
 
 -- ---- which word is free
 

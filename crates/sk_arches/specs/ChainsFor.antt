@@ -3,9 +3,9 @@ use Rattle.std.specs.Prelude.{ℕ, ◌≡◌, ◌<◌, ◌^◌, List, map}
 use Rattle.sk_insn.specs.declared.insn.Insn.{Insn}
 use Rattle.sk_insn.specs.declared.record.Record.{Record}
 use Rattle.sk_insn.specs.Record.{IsNative}
-use Rattle.sk_chain.specs.Chains.{AllValid}
-use Rattle.sk_chain.specs.Verdict.{verdict_of}
-use Rattle.sk_interp.specs.Architectures.{for_architecture}
+use Rattle.sk_filter.specs.Chains.{AllValid}
+use Rattle.sk_filter.specs.Verdict.{verdict_of}
+use Rattle.sk_filter.specs.Architectures.{for_architecture}
 
 -- each filter loads this number wherever it loads the architecture
 abbrev pub chain_for : ℕ → List (List Insn) → List (List Insn)

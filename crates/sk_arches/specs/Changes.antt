@@ -1,7 +1,7 @@
 -- The changes of loads as the code has them. No promise speaks of these.
 use Rattle.std.specs.Prelude.{◌≡◌, ◌%◌, ◌<◌, List, map}
 use Rattle.sk_insn.specs.declared.insn.Insn.{Insn}
-use Rattle.sk_interp.specs.Architectures.{with_architecture}
+use Rattle.sk_filter.specs.Architectures.{with_architecture}
 use Rattle.sk_arches.specs.declared.change.Change.{Change}
 use Rattle.sk_arches.specs.declared.change.Change.TheVariants.{Constant, NumberAt}
 use Rattle.sk_arches.specs.ByArchitecture.{with_number_at}

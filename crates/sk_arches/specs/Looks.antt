@@ -4,9 +4,9 @@ use Rattle.std.specs.List.{list_any}
 use Rattle.sk_insn.specs.declared.insn.Insn.{Insn}
 use Rattle.sk_insn.specs.declared.record.Record.{Record}
 use Rattle.sk_insn.specs.Operations.{operation_of}
-use Rattle.sk_interp.specs.Architectures.{loads_architecture}
-use Rattle.sk_chain.specs.Chains.{AllValid}
-use Rattle.sk_chain.specs.Verdict.{verdict_of}
+use Rattle.sk_filter.specs.Architectures.{loads_architecture}
+use Rattle.sk_filter.specs.Chains.{AllValid}
+use Rattle.sk_filter.specs.Verdict.{verdict_of}
 use Rattle.sk_arches.specs.ChainsFor.{of_architecture}
 
 -- an instruction of the filter loads it

@@ -2,7 +2,7 @@
 use Rattle.std.specs.Prelude.{ℕ, ◌++◌, if◌then◌else◌, List, [], codes, flat_map, Option, Some, None}
 use Rattle.std.specs.Fmt.{decimal}
 use Rattle.sk_survey.specs.Answers.{answers_of}
-use Rattle.sk_verdict.specs.Verdicts.{verdict_text}
+use Rattle.sk_filter.specs.VerdictText.{verdict_text}
 use Rattle.sk_call_names.specs.declared.architecture.Architecture.{Architecture}
 use Rattle.sk_call_names.specs.declared.architecture.Architecture.TheVariants as architecture
 use Rattle.sk_call_names.specs.Architectures.{text_of}

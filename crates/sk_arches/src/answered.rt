@@ -1,11 +1,11 @@
 //! What a chain answers to all calls of an architecture.
 ghost use Rattle.std.specs.Prelude.{◌≡◌, ◌≤◌, IfOk};
-ghost use Rattle.sk_chain.specs.Chains.{IsWithinLimit};
+ghost use Rattle.sk_filter.specs.Chains.{IsWithinLimit};
 ghost use Rattle.sk_arches.specs.Answers.{first_of, last_of, AreAnswered, IsAnswered};
 
 use crate::chain::chain_for;
 use sk_call_names::Architecture;
-use sk_chain::Chain;
+use sk_filter::Chain;
 use sk_survey::{Row, Survey};
 use std::alloc::{AllocError, Global};
 

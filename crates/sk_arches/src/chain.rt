@@ -1,6 +1,6 @@
 //! Chains with other loads.
 ghost use Rattle.std.specs.Prelude.{◌≡◌, IfOk};
-ghost use Rattle.sk_chain.specs.Chains.{IsWithinLimit};
+ghost use Rattle.sk_filter.specs.Chains.{IsWithinLimit};
 ghost use Rattle.sk_arches.specs.ByArchitecture.{chain_by_architecture};
 ghost use Rattle.sk_arches.specs.ChainsFor.{chain_for};
 ghost use Rattle.sk_arches.specs.Changes.{all_changed, IsMade};
@@ -8,8 +8,7 @@ ghost use Rattle.sk_arches.specs.Changes.{all_changed, IsMade};
 use crate::change::Change;
 use crate::looks::free_place;
 use crate::program::changed_program;
-use sk_chain::{Chain, ChainFault};
-use sk_check::Checked;
+use sk_filter::{Chain, ChainFault, Checked};
 use std::alloc::{AllocError, Global};
 
 /// The chain in which each filter has this number wherever it loads the architecture.

@@ -1,7 +1,7 @@
 //! Instructions with another load in place of one.
 ghost use Rattle.std.specs.Prelude.{◌≡◌};
 ghost use Rattle.sk_insn.specs.Operations.{operation_of};
-ghost use Rattle.sk_interp.specs.Architectures.{loads_architecture, with_architecture};
+ghost use Rattle.sk_filter.specs.Architectures.{loads_architecture, with_architecture};
 ghost use Rattle.sk_arches.specs.ByArchitecture.{loads_word, with_number_at};
 ghost use Rattle.sk_arches.specs.Changes.{changed};
 

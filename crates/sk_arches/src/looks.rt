@@ -4,8 +4,7 @@ ghost use Rattle.sk_arches.specs.ByArchitecture.{chain_loads, free_place, progra
 ghost use Rattle.sk_arches.specs.Looks.{looks_at_architecture, program_looks};
 
 use crate::change::{loads_architecture, loads_word};
-use sk_chain::Chain;
-use sk_check::Checked;
+use sk_filter::{Chain, Checked};
 
 /// The words of a record behind its number and its architecture.
 const WORDS_BEHIND: [u32; 14] = [8, 12, 16, 20, 24, 28, 32, 36, 40, 44, 48, 52, 56, 60];

@@ -1,13 +1,13 @@
 //! Whether the calls of an architecture are judged by the numbers of x86-64.
 ghost use Rattle.std.specs.Prelude.{IfOk};
-ghost use Rattle.sk_chain.specs.Chains.{IsWithinLimit};
+ghost use Rattle.sk_filter.specs.Chains.{IsWithinLimit};
 ghost use Rattle.sk_call_names.specs.Architectures.{audit_of};
 ghost use Rattle.sk_arches.specs.ChainsFor.{chain_for};
 ghost use Rattle.sk_arches.specs.Alike.{AreAlike, IsAlike};
 
 use crate::chain::chain_for;
 use sk_call_names::Architecture;
-use sk_chain::Chain;
+use sk_filter::Chain;
 use sk_survey::Survey;
 use std::alloc::{AllocError, Global};
 

@@ -2,13 +2,13 @@
 ghost use Rattle.std.specs.Prelude.{◌≡◌, find, not, IfOk, Some};
 ghost use Rattle.std.specs.List.{list_all};
 ghost use Rattle.std.specs.Option.{option_map};
-ghost use Rattle.sk_chain.specs.Chains.{IsWithinLimit};
+ghost use Rattle.sk_filter.specs.Chains.{IsWithinLimit};
 ghost use Rattle.sk_arches.specs.Other.{agrees, audits, is_named, shared_value, verdict_or_several, IsOther, IsOtherOf};
 
 use crate::chain::chain_by_architecture;
 use crate::text::only_value;
 use sk_call_names::Architecture;
-use sk_chain::Chain;
+use sk_filter::Chain;
 use sk_survey::{Row, Survey};
 use std::alloc::{AllocError, Global};
 

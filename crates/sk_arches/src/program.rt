@@ -1,10 +1,10 @@
 //! One filter with other loads.
 ghost use Rattle.std.specs.Prelude.{◌≡◌, IfOk, map};
-ghost use Rattle.sk_interp.specs.Architectures.{for_architecture};
+ghost use Rattle.sk_filter.specs.Architectures.{for_architecture};
 ghost use Rattle.sk_arches.specs.Changes.{changed, IsMade};
 
 use crate::change::Change;
-use sk_check::{Checked, check};
+use sk_filter::{Checked, check};
 use sk_insn::Insn;
 use std::alloc::{AllocError, Global};
 

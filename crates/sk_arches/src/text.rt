@@ -8,8 +8,8 @@ use crate::answered::Answered;
 use crate::other::Other;
 use crate::told::{Told, judges_calls};
 use sk_call_names::{Architecture, number};
+use sk_filter::push_verdict;
 use sk_survey::Answers;
-use sk_verdict::push_verdict;
 use std::alloc::{AllocError, Global};
 use std::fmt::Write;
 

@@ -1,6 +1,6 @@
 //! What is told of the architectures.
 ghost use Rattle.std.specs.Prelude.{◌≡◌, IfOk};
-ghost use Rattle.sk_chain.specs.Chains.{IsWithinLimit};
+ghost use Rattle.sk_filter.specs.Chains.{IsWithinLimit};
 ghost use Rattle.sk_arches.specs.Told.{judges_calls, warns, IsTold};
 
 use crate::answered::{Answered, X32_BIT, answered_all};
@@ -9,7 +9,7 @@ use crate::other::{Other, answered_other};
 use crate::text::only_value;
 use sk_call_names::Architecture;
 use sk_call_names::x86_64::numbers;
-use sk_chain::Chain;
+use sk_filter::Chain;
 use sk_survey::Survey;
 use std::alloc::{AllocError, Global};
 
@@ -52,18 +52,12 @@ pub fn arches(alloc: Global, chain: &Chain) -> Result<Told, AllocError>
     ensures told { IfOk result (IsTold chain.now) }
 {
     let all = answered_all(alloc, chain)?;
-    let named = numbers(alloc)?;
+    let numbers = numbers(alloc)?;
+    let named = numbers.as_slice();
     let mut survey = Survey::new(alloc)?;
     let other = answered_other(alloc, &mut survey, chain)?;
-    let i386 = are_judged_alike(alloc, &mut survey, chain, Architecture::I386, 0, &named)?;
-    let x32 = are_judged_alike(
-        alloc,
-        &mut survey,
-        chain,
-        Architecture::X32,
-        X32_BIT,
-        &named,
-    )?;
+    let i386 = are_judged_alike(alloc, &mut survey, chain, Architecture::I386, 0, named)?;
+    let x32 = are_judged_alike(alloc, &mut survey, chain, Architecture::X32, X32_BIT, named)?;
     Ok(Told {
         all,
         other,

@@ -3,7 +3,7 @@ use Rattle.std.proofs.Common.{◌≡◌, List, refl, sym, ap, ◌∙◌, arith}
 use Rattle.sk_insn.specs.declared.insn.Insn.{Insn}
 use Rattle.sk_insn.specs.declared.record.Record.{Record}
 use Rattle.sk_insn.specs.Record.{architecture, IsNative}
-use Rattle.sk_chain.specs.Verdict.{verdict_of}
+use Rattle.sk_filter.specs.Verdict.{verdict_of}
 use Rattle.sk_call_names.specs.declared.architecture.Architecture.{Architecture}
 use Rattle.sk_call_names.specs.declared.architecture.Architecture.TheVariants as architecture
 use Rattle.sk_call_names.specs.Architectures.{audit_of}

@@ -8,8 +8,8 @@ use Rattle.sk_profile_json.specs.declared.context.Context.{Context}
 use Rattle.sk_ask_filters.specs.declared.trouble.Trouble.{Trouble}
 use Rattle.sk_ask_filters.specs.declared.trouble.Trouble.TheVariants.{Refused, Reading, Memory}
 use Rattle.sk_ask.specs.declared.answer.Answer.{Answer}
-use Rattle.sk_ask.specs.declared.words.Word.{Word}
-use Rattle.sk_ask.specs.declared.words.Word.TheVariants.{Calls, Filter, When, Diff, Replay, Why, Show, Arches}
+use Rattle.sk_ask.specs.declared.word.Word.{Word}
+use Rattle.sk_ask.specs.declared.word.Word.TheVariants.{Calls, Filter, When, Diff, Replay, Why, Show, Arches}
 use Rattle.sk_ask.specs.Arches.{AnswersArches}
 use Rattle.sk_ask.specs.Architectures.{architecture_of}
 use Rattle.sk_ask.specs.Asking.{Question, Asks}

@@ -11,8 +11,8 @@ use Rattle.sk_survey_lines.specs.Lines.{AreLinesOf}
 use Rattle.sk_profile_json.specs.declared.context.Context.{Context}
 use Rattle.sk_ask_filters.specs.Complaints.{of_word}
 use Rattle.sk_ask_filters.specs.Reading.{ReadsFilters, IsRefusedOf}
-use Rattle.sk_ask.specs.declared.words.Word.{Word}
-use Rattle.sk_ask.specs.declared.words.Word.TheVariants as word
+use Rattle.sk_ask.specs.declared.word.Word.{Word}
+use Rattle.sk_ask.specs.declared.word.Word.TheVariants as word
 use Rattle.sk_ask.specs.Asking.{Question, asked_of, nothing_asked, word_named}
 use Rattle.sk_ask.specs.Arches.{AnswersArches}
 use Rattle.sk_ask.specs.Architectures.{architecture_of, chain_on}

@@ -11,10 +11,10 @@ use Rattle.sk_ask_filters.specs.declared.trouble.Trouble.{Trouble}
 use Rattle.sk_ask_filters.specs.declared.trouble.Trouble.TheVariants.{Refused, Reading, Memory}
 use Rattle.sk_ask_filters.specs.Complaints.{of_word}
 use Rattle.sk_ask.specs.declared.words.Asked.{Asked}
-use Rattle.sk_ask.specs.declared.words.Valued.{Valued}
-use Rattle.sk_ask.specs.declared.words.Valued.TheVariants.{Call, Cap, Kernel, Arch}
-use Rattle.sk_ask.specs.declared.words.Word.{Word}
-use Rattle.sk_ask.specs.declared.words.Word.TheVariants.{Calls, Filter, When, Diff, Replay, Why, Show, Arches}
+use Rattle.sk_ask.specs.declared.word.Valued.{Valued}
+use Rattle.sk_ask.specs.declared.word.Valued.TheVariants.{Call, Cap, Kernel, Arch}
+use Rattle.sk_ask.specs.declared.word.Word.{Word}
+use Rattle.sk_ask.specs.declared.word.Word.TheVariants.{Calls, Filter, When, Diff, Replay, Why, Show, Arches}
 
 -- the word behind `--call`, the capabilities behind each `--cap`, the version behind `--kernel`, and the architecture behind
 -- `--arch`; the option whose word is awaited; whether there was `--runc`, `--examples`, `--dot`, `--raw`, `--stricter` or `--help`; and the names of the files

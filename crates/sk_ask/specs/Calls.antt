@@ -1,7 +1,7 @@
 -- The call that is asked for.
 use Rattle.std.specs.Prelude.{ℕ, ◌≡◌, List, codes, Option, Some, None, ⊤}
 use Rattle.sk_call_names.specs.declared.architecture.Architecture.{Architecture}
-use Rattle.sk_call_text.specs.Calls.{IsCall, NoCall}
+use Rattle.sk_replay.specs.WordCalls.{IsCall, NoCall}
 use Rattle.sk_ask_filters.specs.declared.trouble.Trouble.{Trouble}
 use Rattle.sk_ask_filters.specs.declared.trouble.Trouble.TheVariants.{Refused, Reading, Memory}
 use Rattle.sk_ask_filters.specs.Complaints.{of_word}

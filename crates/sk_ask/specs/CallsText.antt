@@ -10,7 +10,7 @@ use Rattle.sk_survey_lines.specs.declared.example.Example.{Example}
 use Rattle.sk_survey_lines.specs.declared.line.Shown.{Shown}
 use Rattle.sk_survey_lines.specs.declared.line.Line.{Line}
 use Rattle.sk_survey_lines.specs.Text.{numbers_text, name_text, answers_text}
-use Rattle.sk_verdict.specs.Verdicts.{verdict_text}
+use Rattle.sk_filter.specs.VerdictText.{verdict_text}
 use Rattle.sk_call_names.specs.declared.architecture.Architecture.{Architecture}
 use Rattle.sk_ask.specs.Architectures.{call_on}
 

@@ -4,9 +4,9 @@ use Rattle.sk_insn.specs.declared.insn.Insn.{Insn}
 use Rattle.sk_call_names.specs.declared.architecture.Architecture.{Architecture}
 use Rattle.sk_conditions.specs.declared.standing.Relation.{Relation}
 use Rattle.sk_conditions.specs.declared.standing.Relation.TheVariants.{Same, AsStrict}
-use Rattle.sk_diff.specs.declared.comparison.Standing.{Standing}
-use Rattle.sk_diff.specs.declared.comparison.Standing.TheVariants.{Everywhere, Apart, Undecided}
-use Rattle.sk_diff.specs.Diffs.{IsComparison}
+use Rattle.sk_when.specs.declared.diff_engine.Standing.{Standing}
+use Rattle.sk_when.specs.declared.diff_engine.Standing.TheVariants.{Everywhere, Apart, Undecided}
+use Rattle.sk_when.specs.Diffs.{IsComparison}
 use Rattle.sk_ask_filters.specs.Filters.{Filters}
 use Rattle.sk_profile_json.specs.declared.context.Context.{Context}
 use Rattle.sk_ask_filters.specs.Reading.{ReadsFilters, IsRefusedOf}

@@ -1,7 +1,7 @@
 -- What `ask --help` and `ask WORD --help` say.
 use Rattle.std.specs.Prelude.{ℕ, List}
-use Rattle.sk_ask.specs.declared.words.Word.{Word}
-use Rattle.sk_ask.specs.declared.words.Word.TheVariants.{Calls, Filter, When, Diff, Replay, Why, Show, Arches}
+use Rattle.sk_ask.specs.declared.word.Word.{Word}
+use Rattle.sk_ask.specs.declared.word.Word.TheVariants.{Calls, Filter, When, Diff, Replay, Why, Show, Arches}
 use Rattle.sk_ask.specs.declared.help.TheConstants.{HELP, CALLS_HELP, FILTER_HELP, WHEN_HELP, DIFF_HELP, REPLAY_HELP, WHY_HELP, SHOW_HELP, ARCHES_HELP}
 
 abbrev pub help_text : List ℕ

@@ -3,11 +3,11 @@ use Rattle.std.specs.Prelude.{ℕ, ◌≡◌, ◌⊎◌, ◌++◌, false, List, 
 use Rattle.sk_insn.specs.declared.insn.Insn.{Insn}
 use Rattle.sk_insn.specs.declared.record.Record.{Record}
 use Rattle.sk_call_names.specs.declared.architecture.Architecture.{Architecture}
-use Rattle.sk_call_text.specs.declared.fault.CallFault.{CallFault}
-use Rattle.sk_call_text.specs.declared.fault.CallFault.TheVariants.{NoCall}
-use Rattle.sk_call_text.specs.CallWords.{call_of, name_part}
-use Rattle.sk_call_text.specs.Faults.{fault_text}
-use Rattle.sk_why.specs.PathText.{TellsWhy}
+use Rattle.sk_replay.specs.declared.fault.CallFault.{CallFault}
+use Rattle.sk_replay.specs.declared.fault.CallFault.TheVariants.{NoCall}
+use Rattle.sk_replay.specs.CallWords.{call_of, name_part}
+use Rattle.sk_replay.specs.Faults.{fault_text}
+use Rattle.sk_show.specs.PathText.{TellsWhy}
 use Rattle.sk_ask_filters.specs.Filters.{Filters}
 use Rattle.sk_profile_json.specs.declared.context.Context.{Context}
 use Rattle.sk_ask_filters.specs.declared.trouble.Trouble.{Trouble}

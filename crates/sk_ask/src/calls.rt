@@ -1,7 +1,7 @@
 //! `ask calls`: what filters can answer to each call.
 ghost use Rattle.std.specs.Prelude.{◌≡◌, IfOk, IfErr, Ok};
 ghost use Rattle.std.specs.Option.{option_map};
-ghost use Rattle.sk_chain.specs.Chains.{IsWithinLimit};
+ghost use Rattle.sk_filter.specs.Chains.{IsWithinLimit};
 ghost use Rattle.sk_ask_filters.specs.Counts.{CountsReads};
 ghost use Rattle.sk_ask.specs.Endings.{ending_of};
 ghost use Rattle.sk_ask.specs.Asking.{question_of};
@@ -17,8 +17,8 @@ use crate::words::Asked;
 use sk_arches::looks_at_architecture;
 use sk_ask_filters::{Filters, Shelf, Trouble, of_word};
 use sk_call_names::Architecture;
-use sk_call_text::call_named;
 use sk_profile_json::Context;
+use sk_replay::call_named;
 use sk_survey_lines::{Line, Options, lines_of};
 use std::alloc::{AllocError, Global};
 

@@ -1,6 +1,6 @@
 //! `ask diff`: where the filters of two files answer otherwise.
 ghost use Rattle.std.specs.Prelude.{◌≡◌, ◌++◌, take, drop, map, string_bytes, IfOk};
-ghost use Rattle.sk_chain.specs.Chains.{IsWithinLimit};
+ghost use Rattle.sk_filter.specs.Chains.{IsWithinLimit};
 ghost use Rattle.sk_ask_filters.specs.Counts.{CountsReads};
 ghost use Rattle.sk_ask.specs.Endings.{ending_of};
 ghost use Rattle.sk_ask.specs.Asking.{question_of};
@@ -11,8 +11,8 @@ use crate::on::{architecture_of, filters_on};
 use crate::words::Asked;
 use sk_ask_filters::{Filters, Shelf, Trouble, filters_in};
 use sk_call_names::Architecture;
-use sk_diff::{Comparison, Relation, Standing};
 use sk_profile_json::Context;
+use sk_when::{Comparison, Relation, Standing};
 use std::alloc::{AllocError, Global};
 
 /// Answers `ask diff`.
@@ -79,7 +79,7 @@ fn compared(
 {
     let (old, mut notes) = filters_on(alloc, architecture, old)?;
     let (new, more) = filters_on(alloc, architecture, new)?;
-    let Comparison { standing, text } = sk_diff::diff(
+    let Comparison { standing, text } = sk_when::diff(
         alloc,
         architecture,
         relation_asked(stricter),

@@ -2,7 +2,7 @@
 ghost use Rattle.std.specs.Prelude.{◌≡◌};
 ghost use Rattle.sk_ask.specs.Helping.{word_help_text};
 
-use crate::words::Word;
+use crate::word::Word;
 
 /// What `ask --help` says.
 pub const HELP: &str = "usage: ask WORD ..

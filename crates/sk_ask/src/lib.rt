@@ -7,6 +7,7 @@ mod arches;
 mod calls;
 mod calls_text;
 mod cli;
+mod complete;
 mod diff;
 mod filter;
 mod filters;
@@ -18,6 +19,7 @@ mod replay;
 mod show;
 mod when;
 mod why;
+mod word;
 mod words;
 
 pub use cli::{command, misused};

@@ -1,12 +1,12 @@
 //! The architecture whose calls are asked of, and chains as they are for it.
 ghost use Rattle.std.specs.Prelude.{◌≡◌, IfOk};
-ghost use Rattle.sk_chain.specs.Chains.{IsWithinLimit};
+ghost use Rattle.sk_filter.specs.Chains.{IsWithinLimit};
 ghost use Rattle.sk_ask.specs.Architectures.{architecture_of, chain_on};
 
 use sk_arches::chain_for;
 use sk_ask_filters::Filters;
 use sk_call_names::Architecture;
-use sk_chain::Chain;
+use sk_filter::Chain;
 use sk_insn::ARCHITECTURE;
 use std::alloc::{AllocError, Global};
 

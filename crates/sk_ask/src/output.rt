@@ -34,7 +34,8 @@ fn put_answer<W: Sink, E: Sink>(answer: &Answer, out: &mut W, complaints: &mut E
     ensures status { result ≤ 2 }
 {
     note(complaints, &answer.notes);
-    match send(out, &answer.text) {
+    let text = answer.text.as_slice();
+    match send(out, text) {
         Ok(()) => u8::from(answer.denies),
         Err(WriteFault) => complain(complaints, b"ask: writing failed\n"),
     }

@@ -7,7 +7,8 @@ ghost use Rattle.sk_ask.specs.Replays.{AnswersReplay, AnswersLog, replayed};
 
 use crate::answer::Answer;
 use crate::on::architecture_of;
-use crate::words::{Asked, Word};
+use crate::word::Word;
+use crate::words::Asked;
 use sk_ask_filters::{Filters, MOST_LOG_BYTES, Shelf, Trouble, about, content, filters_in};
 use sk_call_names::Architecture;
 use sk_profile_json::Context;

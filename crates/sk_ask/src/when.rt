@@ -1,6 +1,6 @@
 //! `ask when`: under which conditions on a call each verdict comes, and with `--dot` the picture of a call's tree.
 ghost use Rattle.std.specs.Prelude.{◌≡◌, true, IfOk, IsSome, string_bytes};
-ghost use Rattle.sk_chain.specs.Chains.{IsWithinLimit};
+ghost use Rattle.sk_filter.specs.Chains.{IsWithinLimit};
 ghost use Rattle.sk_ask_filters.specs.Counts.{CountsReads};
 ghost use Rattle.sk_ask.specs.Endings.{ending_of};
 ghost use Rattle.sk_ask.specs.Asking.{question_of};
@@ -13,7 +13,7 @@ use crate::on::{architecture_of, filters_on};
 use crate::words::Asked;
 use sk_ask_filters::{Filters, Shelf, Trouble};
 use sk_call_names::Architecture;
-use sk_chain::Chain;
+use sk_filter::Chain;
 use sk_profile_json::Context;
 use std::alloc::{AllocError, Global};
 

@@ -1,6 +1,6 @@
 //! `ask why`: the path of a call through the filters.
 ghost use Rattle.std.specs.Prelude.{◌≡◌, ◌≤◌, IfOk, IfErr, length, map, string_bytes};
-ghost use Rattle.sk_call_text.specs.CallWords.{call_of};
+ghost use Rattle.sk_replay.specs.CallWords.{call_of};
 ghost use Rattle.sk_ask_filters.specs.Counts.{CountsReads};
 ghost use Rattle.sk_ask.specs.Endings.{ending_of};
 ghost use Rattle.sk_ask.specs.Asking.{question_of, wanted};
@@ -8,12 +8,13 @@ ghost use Rattle.sk_ask.specs.Whys.{AnswersCall, AnswersWhy, IsFaultOf, TellsWhy
 
 use crate::answer::Answer;
 use crate::on::architecture_of;
-use crate::words::{Asked, Word};
+use crate::word::Word;
+use crate::words::Asked;
 use sk_ask_filters::{Filters, Shelf, Trouble, filters_in, of_word};
 use sk_call_names::Architecture;
-use sk_call_text::{CallFault, call_in, name_part};
 use sk_insn::Record;
 use sk_profile_json::Context;
+use sk_replay::{CallFault, call_in, name_part};
 use std::alloc::{AllocError, Global};
 
 /// Answers `ask why`.
@@ -82,7 +83,7 @@ fn path(
     ensures told { IfOk result (λ answer. TellsWhyOf architecture call.now filters.chain filters.notes.items (ending_of (Ok answer))) }
 {
     Ok(Answer {
-        text: sk_why::why(alloc, architecture, &filters.chain, call)?.into_bytes(),
+        text: sk_show::why(alloc, architecture, &filters.chain, call)?.into_bytes(),
         notes: filters.notes,
         denies: false,
     })

@@ -1,148 +1,17 @@
-//! The words behind `ask WORD`.
-ghost use Rattle.std.specs.Prelude.{◌≡◌, ◌≤◌, ◌∷◌, IfOk, length, string_bytes, map, slice_get};
-ghost use Rattle.std.specs.Option.{option_map};
+//! What is asked by the words behind `ask WORD`.
+ghost use Rattle.std.specs.Prelude.{◌≡◌, ◌≤◌, ◌∷◌, IfOk, length, string_bytes, map};
 ghost use Rattle.sk_call_names.specs.Architectures.{architecture_named};
-ghost use Rattle.sk_profile_json.specs.Contexts.{kernel_of};
 ghost use Rattle.sk_profile_file.specs.Capabilities.{capability};
-ghost use Rattle.sk_ask.specs.Asking.{asked_of, nothing_asked, with_word, with_free, with_option, with_valued, with_value, with_caps, with_kernel, with_architecture, with_flag, with_own_flag, with_name, valued_name, valued_named, value_kind, tells_calls, tells_of_one, tells_arguments, is_turned, is_given, expected_line, ended, complete, understood, named, none_missing, two_named, missing, wanted, is_option, question_of, word_named, word_name, Asks, HasCall, HasNames};
+ghost use Rattle.sk_ask.specs.Asking.{asked_of, nothing_asked, with_word, with_free, with_valued, with_value, with_caps, with_kernel, with_architecture, with_flag, with_own_flag, with_name, is_given, expected_line, is_option, question_of, Asks, HasCall, HasNames};
 
+use crate::complete::ended;
+use crate::word::{Valued, Word};
 use sk_ask_filters::{Trouble, of_word};
 use sk_call_names::Architecture;
 use sk_profile_file::capability;
 use sk_profile_json::{Kernel, kernel_of};
 use sk_text::is_word;
 use std::alloc::{AllocError, Global};
-
-/// What is asked for.
-#[derive(Clone, Copy, Debug, PartialEq, Eq)]
-pub enum Word {
-    /// What filters can answer to each call.
-    Calls,
-    /// The filters in another form.
-    Filter,
-    /// Under which conditions each verdict comes.
-    When,
-    /// Where two chains answer otherwise.
-    Diff,
-    /// The verdicts on the calls of a log.
-    Replay,
-    /// The path of a call through the filters.
-    Why,
-    /// The listing of one filter.
-    Show,
-    /// What the filters answer to each architecture.
-    Arches,
-}
-
-impl Word {
-    /// The one with this name.
-    pub fn named(name: &[u8]) -> Option<Word>
-        ensures word { result ≡ word_named name.now }
-    {
-        if is_word(name, b"calls") {
-            Some(Word::Calls)
-        } else if is_word(name, b"filter") {
-            Some(Word::Filter)
-        } else if is_word(name, b"when") {
-            Some(Word::When)
-        } else if is_word(name, b"diff") {
-            Some(Word::Diff)
-        } else if is_word(name, b"replay") {
-            Some(Word::Replay)
-        } else if is_word(name, b"why") {
-            Some(Word::Why)
-        } else if is_word(name, b"show") {
-            Some(Word::Show)
-        } else if is_word(name, b"arches") {
-            Some(Word::Arches)
-        } else {
-            None
-        }
-    }
-
-    /// Its name.
-    pub fn name(self) -> &'static str
-        ensures name { result.now ≡ word_name self }
-    {
-        match self {
-            Word::Calls => "calls",
-            Word::Filter => "filter",
-            Word::When => "when",
-            Word::Diff => "diff",
-            Word::Replay => "replay",
-            Word::Why => "why",
-            Word::Show => "show",
-            Word::Arches => "arches",
-        }
-    }
-}
-
-/// An option that a word stands behind.
-#[derive(Clone, Copy, Debug, PartialEq, Eq)]
-pub enum Valued {
-    /// The only call that is asked of.
-    Call,
-    /// A capability that is held where profiles are to hold.
-    Cap,
-    /// The version of the kernel there.
-    Kernel,
-    /// The architecture whose calls are asked of.
-    Arch,
-}
-
-impl Valued {
-    fn name(self) -> &'static str
-        ensures name { result.now ≡ valued_name self }
-    {
-        match self {
-            Valued::Call => "--call",
-            Valued::Cap => "--cap",
-            Valued::Kernel => "--kernel",
-            Valued::Arch => "--arch",
-        }
-    }
-
-    // What is expected behind it.
-    fn value_kind(self) -> &'static str
-        ensures kind { result.now ≡ value_kind self }
-    {
-        match self {
-            Valued::Call => "a name or a number",
-            Valued::Cap | Valued::Arch => "a name",
-            Valued::Kernel => "a version as 6.1",
-        }
-    }
-
-    // The one of this word that is named so.
-    fn named(word: Word, name: &[u8]) -> Option<Valued>
-        ensures option { result ≡ valued_named word name.now }
-    {
-        if tells_calls(word) && is_word(name, b"--call") {
-            Some(Valued::Call)
-        } else if is_word(name, b"--cap") {
-            Some(Valued::Cap)
-        } else if is_word(name, b"--kernel") {
-            Some(Valued::Kernel)
-        } else if tells_of_one(word) && is_word(name, b"--arch") {
-            Some(Valued::Arch)
-        } else {
-            None
-        }
-    }
-}
-
-fn tells_calls(word: Word) -> bool
-    ensures tells { result ≡ tells_calls word }
-{
-    matches!(word, Word::Calls | Word::When)
-}
-
-// Whether what it tells is of one architecture.
-fn tells_of_one(word: Word) -> bool
-    ensures tells { result ≡ tells_of_one word }
-{
-    !matches!(word, Word::Filter | Word::Arches)
-}
 
 /// What the words behind it ask.
 #[derive(Drop)]
@@ -418,128 +287,13 @@ fn is_option(word: &[u8]) -> bool
 }
 
 // The line that says what is expected behind an option.
-fn expected_line(alloc: Global, word: Word, option: Valued) -> Result<Vec<u8>, AllocError>
+pub(crate) fn expected_line(
+    alloc: Global,
+    word: Word,
+    option: Valued,
+) -> Result<Vec<u8>, AllocError>
     ensures line { IfOk result (λ line. line.items ≡ expected_line word option) }
 {
     let what = format!(in alloc; "{}: expected {} behind ", word.name(), option.value_kind())?;
     of_word(alloc, &what, option.name().as_bytes())
-}
-
-fn ended<'a>(alloc: Global, word: Word, asked: Asked<'a>) -> Result<Asked<'a>, Trouble>
-    ensures exact { Asks result (ended word (question_of asked.entry)) }
-    ensures named { IfOk result (HasNames word) }
-    ensures called { IfOk result HasCall }
-{
-    match asked.awaits {
-        Some(option) => Err(Trouble::Refused(expected_line(alloc, word, option)?)),
-        None => complete(alloc, word, asked),
-    }
-}
-
-// Whether all is there that is wanted.
-fn complete<'a>(alloc: Global, word: Word, asked: Asked<'a>) -> Result<Asked<'a>, Trouble>
-    ensures exact { Asks result (complete word (question_of asked.entry)) }
-    ensures named { IfOk result (HasNames word) }
-    ensures called { IfOk result HasCall }
-{
-    if asked.help {
-        return Ok(asked);
-    }
-    let asked = named(alloc, word, asked)?;
-    if asked.dot && asked.call.is_none() {
-        let what = format!(in alloc; "{}: expected --call CALL beside ", word.name())?;
-        return Err(Trouble::Refused(of_word(alloc, &what, b"--dot")?));
-    }
-    understood(alloc, word, asked)
-}
-
-// Whether what is told of arguments can be told of the architecture.
-fn understood<'a>(alloc: Global, word: Word, asked: Asked<'a>) -> Result<Asked<'a>, Trouble>
-    requires named { HasNames word asked }
-    requires called { HasCall asked }
-    ensures exact { Asks result (understood word (question_of asked.entry)) }
-    ensures named { IfOk result (HasNames word) }
-    ensures called { IfOk result HasCall }
-{
-    if is_turned(asked.arch) && tells_arguments(word, asked.examples) {
-        let what = format!(in alloc;
-            "{}: arguments with their highest byte first are not followed: ",
-            word.name()
-        )?;
-        return Err(Trouble::Refused(of_word(alloc, &what, b"--arch s390x")?));
-    }
-    Ok(asked)
-}
-
-// Whether its numbers have their highest byte first, where one is named.
-fn is_turned(arch: Option<Architecture>) -> bool
-    ensures turned { result ≡ is_turned arch }
-{
-    match arch {
-        Some(arch) => arch.is_big_endian(),
-        None => false,
-    }
-}
-
-fn tells_arguments(word: Word, examples: bool) -> bool
-    ensures tells { result ≡ tells_arguments word examples }
-{
-    match word {
-        Word::Calls => examples,
-        Word::Show => false,
-        _ => true,
-    }
-}
-
-// Whether there are as many names as the word wants.
-fn named<'a>(alloc: Global, word: Word, asked: Asked<'a>) -> Result<Asked<'a>, Trouble>
-    ensures exact { Asks result (named word (question_of asked.entry)) }
-    ensures named { IfOk result (HasNames word) }
-{
-    match word {
-        Word::Diff => two_named(alloc, asked),
-        Word::Calls
-        | Word::Filter
-        | Word::When
-        | Word::Replay
-        | Word::Why
-        | Word::Show
-        | Word::Arches => none_missing(alloc, word, asked),
-    }
-}
-
-fn two_named<'a>(alloc: Global, asked: Asked<'a>) -> Result<Asked<'a>, Trouble>
-    ensures exact { Asks result (two_named (question_of asked.entry)) }
-    ensures named { IfOk result (HasNames Word.Diff) }
-{
-    if asked.names.len() == 2 {
-        return Ok(asked);
-    }
-    let what = "diff: expected two FILEs, OLD and NEW";
-    Err(Trouble::Refused(of_word(alloc, what, b"")?))
-}
-
-fn none_missing<'a>(alloc: Global, word: Word, asked: Asked<'a>) -> Result<Asked<'a>, Trouble>
-    ensures exact { Asks result (none_missing word (question_of asked.entry) (missing word (question_of asked.entry))) }
-    ensures named { IfOk result (HasNames word) }
-{
-    let Some(kind) = missing(word, asked.names.len()) else {
-        return Ok(asked);
-    };
-    let what = format!(in alloc; "{}: no {kind} is given", word.name())?;
-    Err(Trouble::Refused(of_word(alloc, &what, b"")?))
-}
-
-// What the first name stands for that is wanted behind so many.
-fn missing(word: Word, count: usize) -> Option<&'static str>
-    ensures kind { option_map (λ kind. kind.now) result ≡ slice_get (wanted word) count }
-{
-    match (word, count) {
-        (Word::Diff, 0) => Some("OLD"),
-        (Word::Diff, 1) => Some("NEW"),
-        (Word::Replay, 0) => Some("LOG"),
-        (Word::Why, 0) => Some("CALL"),
-        (Word::Replay | Word::Why, 1) | (_, 0) => Some("FILE"),
-        _ => None,
-    }
 }

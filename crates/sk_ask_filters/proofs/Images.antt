@@ -5,9 +5,9 @@ use Rattle.std.proofs.lemmas.Bool.{cases_lt, le-ltb}
 use Rattle.byteorder.specs.Endian.{little_number}
 use Rattle.sk_insn.specs.declared.insn.Insn.{Insn}
 use Rattle.sk_insn.specs.Instructions.{insn_of, instructions_in, image_instructions}
-use Rattle.sk_check.specs.declared.fault.CheckFault.TheVariants.{TooLong}
-use Rattle.sk_check.specs.FirstFault.{first_fault}
-use Rattle.sk_check.proofs.FirstFaults.{valid-first_fault}
+use Rattle.sk_filter.specs.declared.fault.CheckFault.TheVariants.{TooLong}
+use Rattle.sk_filter.specs.FirstFault.{first_fault}
+use Rattle.sk_filter.proofs.FirstFaults.{valid-first_fault}
 use Rattle.sk_profile.specs.Profiles.{Profile}
 use Rattle.sk_engines.specs.Filters.{chained}
 use Rattle.sk_profile_file.specs.Filters.{IsFilterOf}

@@ -4,9 +4,9 @@ use Rattle.std.proofs.lemmas.Bool.{ltb-false}
 use Rattle.sk_insn.specs.declared.insn.Insn.{Insn}
 use Rattle.sk_insn.specs.declared.image.NoImage.{NoImage}
 use Rattle.sk_insn.specs.Instructions.{image_instructions}
-use Rattle.sk_check.specs.declared.fault.CheckFault.{CheckFault}
-use Rattle.sk_check.specs.FirstFault.{first_fault}
-use Rattle.sk_chain.specs.Chains.{IsWithinLimit, cost_of, path_limit}
+use Rattle.sk_filter.specs.declared.fault.CheckFault.{CheckFault}
+use Rattle.sk_filter.specs.FirstFault.{first_fault}
+use Rattle.sk_filter.specs.Chains.{IsWithinLimit, cost_of, path_limit}
 use Rattle.sk_engines.specs.declared.filters.Refusal.{Refusal}
 use Rattle.sk_engines.specs.Filters.{chained, image_attached, program_attached}
 use Rattle.sk_ask_filters.specs.declared.fault.Refused.{Refused}

@@ -3,8 +3,8 @@ use Rattle.std.specs.Prelude.{ℕ, ◌++◌, List, [], codes, Option, Some, None
 use Rattle.std.specs.Fmt.{decimal}
 use Rattle.sk_insn.specs.declared.image.NoImage.{NoImage}
 use Rattle.sk_insn.specs.declared.image.NoImage.TheVariants.{Ragged, Empty as NoInstruction, TooLong as LongImage}
-use Rattle.sk_check.specs.declared.fault.CheckFault.{CheckFault}
-use Rattle.sk_check.specs.declared.fault.CheckFault.TheVariants.{Empty, TooLong, Code, Load, DivZero, Shift, Word, Jump, NoReturn, Unstored}
+use Rattle.sk_filter.specs.declared.fault.CheckFault.{CheckFault}
+use Rattle.sk_filter.specs.declared.fault.CheckFault.TheVariants.{Empty, TooLong, Code, Load, DivZero, Shift, Word, Jump, NoReturn, Unstored}
 use Rattle.sk_engines.specs.declared.filters.Refusal.{Refusal}
 use Rattle.sk_engines.specs.declared.filters.Refusal.TheVariants.{Image, Program, PathLimit}
 use Rattle.sk_ask_filters.specs.declared.fault.LineFault.{LineFault}

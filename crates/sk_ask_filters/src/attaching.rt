@@ -6,8 +6,8 @@ ghost use Rattle.sk_ask_filters.specs.Given.{ArePlaced, IsGiven};
 
 use crate::fault::{FileFault, Refused};
 use crate::found::{Found, Place};
-use sk_chain::Chain;
 use sk_engines::chain_of;
+use sk_filter::Chain;
 use std::alloc::{AllocError, Global};
 
 /// The chain of the filters that were found, or the file of the first that is refused, and why.

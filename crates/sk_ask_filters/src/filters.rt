@@ -1,8 +1,10 @@
 //! The filters of files that are known by their names.
-ghost use Rattle.std.specs.Prelude.{◌≡◌, ◌<◌, IfOk, IfErr, length, map, string_bytes};
+ghost use Rattle.std.specs.Prelude.{◌≡◌, ◌<◌, ℕ, IfOk, IfErr, length, map, string_bytes};
+ghost use Rattle.sk_ask_filters.specs.Filters.{chain_of};
 ghost use Rattle.sk_ask_filters.specs.Finding.{filters_of};
+ghost use Rattle.sk_ask_filters.specs.Given.{ArePlaced};
 ghost use Rattle.sk_ask_filters.specs.Counts.{CountsReads};
-ghost use Rattle.sk_ask_filters.specs.Reading.{ReadsFilters, IsRefusal, IsRefusedOf, IsReadAs, Judges, judged};
+ghost use Rattle.sk_ask_filters.specs.Reading.{ReadsFilters, IsRefusal, IsRefusedOf, IsReadAs, Judges, judged, with_chain};
 
 use crate::attaching::attach;
 use crate::complaint::about;
@@ -13,7 +15,7 @@ use crate::found::Found;
 use crate::shelf::{Shelf, contents};
 use crate::text::fault_text;
 use crate::trouble::Trouble;
-use sk_chain::Chain;
+use sk_filter::Chain;
 use sk_profile_json::Context;
 use std::alloc::{AllocError, Global};
 
@@ -61,10 +63,18 @@ fn judged(alloc: Global, images: &[Vec<u8>]) -> Result<Result<Filters, Refused>,
     ensures exact { IfOk result (λ said. Judges said (judged (map (λ image. image.items) images.now))) }
     ensures given { IfOk result (λ said. IfErr said (λ refused. refused.file < length images.now)) }
 {
-    let found = match find(alloc, images)? {
-        Ok(found) => found,
-        Err(refused) => return Ok(Err(refused)),
-    };
+    match find(alloc, images)? {
+        Ok(found) => attached(alloc, found),
+        Err(refused) => Ok(Err(refused)),
+    }
+}
+
+// The filters that were found, with their chain.
+fn attached(alloc: Global, found: Found) -> Result<Result<Filters, Refused>, AllocError>
+    requires paired { length (filters_of found).places ≡ length (filters_of found).images }
+    ensures exact { IfOk result (λ said. Judges said (with_chain (filters_of found) (chain_of (filters_of found)))) }
+    ensures given { (count : ℕ) → ArePlaced count (filters_of found) → IfOk result (λ said. IfErr said (λ refused. refused.file < count)) }
+{
     match attach(alloc, &found)? {
         Ok(chain) => Ok(Ok(Filters {
             found,

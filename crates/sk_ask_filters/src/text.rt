@@ -4,8 +4,8 @@ ghost use Rattle.std.specs.Fmt.{decimal};
 ghost use Rattle.sk_ask_filters.specs.Texts.{fault_text, at_line, at_instruction, line_fault_text, refusal_text, no_image_text, check_fault_text};
 
 use crate::fault::{FileFault, LineFault};
-use sk_check::CheckFault;
 use sk_engines::Refusal;
+use sk_filter::CheckFault;
 use sk_insn::NoImage;
 use std::alloc::{AllocError, Global};
 use std::fmt::Write;

@@ -2,8 +2,8 @@
 use sk_ask_filters::{
     FileFault, Form, LineFault, Place, Refused, attach, fault_text, find, form_of,
 };
-use sk_check::CheckFault;
 use sk_engines::Refusal;
+use sk_filter::CheckFault;
 use std::test::Fail;
 
 #[test]

@@ -1,5 +1,5 @@
 //! Worked texts of verdicts, and the names of errors by their numbers.
-use sk_verdict::{error_name, push_verdict};
+use sk_filter::{error_name, push_verdict};
 use std::test::Fail;
 
 /// Values of filters, and their verdicts: the actions of seccomp(2), the errors of errno(3).

@@ -2,9 +2,10 @@
 use Rattle.std.proofs.Common.{◌≡◌, ◌≤◌, ◌+◌, ◌-◌, ◌==◌, ◌||◌, arith, refl, subst, zero, suc, ℕ, List, [], ◌∷◌, length, take, Bool, true, false, IsTrue, inl, inr}
 use Rattle.std.proofs.lemmas.Bool.{cases_Bool, and_parts}
 use Rattle.std.specs.List.{list_all, onto_first}
-use Rattle.sk_text.specs.Lines.{lines_of, is_printable_byte}
+use Rattle.sk_text.specs.Lines.{lines_of, is_clean_byte, is_printable_byte}
+use Rattle.sk_text.proofs.Clean.{or_other}
 use Rattle.sk_asm.specs.Block.{is_end, until_end, lines_in}
-use Rattle.sk_asm.specs.Clean.{is_clean_byte, AreClean}
+use Rattle.sk_asm.specs.Clean.{AreClean}
 
 empty_printable : (line : List ℕ) → length line ≤ 0 → IsTrue (list_all is_printable_byte line)
 empty_printable [] le = refl
@@ -22,10 +23,6 @@ onto_clean byte [] sure good all = ((λ le. rw good refl), tt)
 onto_clean byte (line ∷ lines) sure good all =
     let same : suc sure - (length (byte ∷ line) + 1) ≡ sure - (length line + 1) = omega arith in
     ((λ le. rw good (all.0 (omega (arith, le)))), rw same all.1)
-
-or_other : (a b : Bool) → IsTrue (a || b) → b ≡ false → IsTrue a
-or_other true b h e = refl
-or_other false b h e = let t = rw e at h in cc
 
 pub clean_lines : (text : List ℕ) (sure : ℕ) → IsTrue (list_all is_clean_byte (take sure text)) → AreClean sure (lines_of text)
 clean_lines [] sure h = tt

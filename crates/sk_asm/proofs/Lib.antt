@@ -8,3 +8,8 @@ pub mod Meaning
 pub mod OneFault
 pub mod Relation
 pub mod Turns
+pub mod Words
+pub mod Numerals
+pub mod Lines
+pub mod Listings
+pub mod ListingExamples

@@ -3,10 +3,6 @@ use Rattle.std.specs.Prelude.{ℕ, ◌≤◌, ◌+◌, ◌-◌, ◌==◌, ◌||�
 use Rattle.std.specs.List.{list_all}
 use Rattle.sk_text.specs.Lines.{is_printable_byte}
 
--- a byte that may stand in a printable line, or ends it
-abbrev pub is_clean_byte : ℕ → Bool
-is_clean_byte byte = is_printable_byte byte || byte == 10
-
 -- each line is printable that ends, with its line end, within so many bytes or right behind them
 abbrev pub AreClean : ℕ → List (List ℕ) → Type 0
 AreClean sure [] = Unit {0}

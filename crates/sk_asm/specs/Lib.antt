@@ -9,3 +9,6 @@ pub mod LineFaults
 pub mod Passes
 pub mod Seeing
 pub mod Views
+pub mod Listing
+pub mod RoundTrip
+pub mod WorkedLines

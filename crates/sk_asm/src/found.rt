@@ -1,5 +1,5 @@
 //! What is found in the lines: labels with their places, and instructions.
-ghost use Rattle.std.specs.Prelude.{◌≡◌, MatchResult, Ok, Some};
+ghost use Rattle.std.specs.Prelude.{◌≡◌, [], MatchResult, Ok, Some};
 ghost use Rattle.std.specs.Option.{option_map};
 ghost use Rattle.sk_asm.specs.Drafts.{Takes, IsUntaken};
 ghost use Rattle.sk_asm.specs.Faults.{Answers, IsAsmFault};
@@ -21,6 +21,7 @@ use crate::statement::{Begun, Jump, Pending};
 use indexmap::IndexMap;
 use sk_insn::{Insn, MOST_INSNS};
 use sk_text::Words;
+use std::alloc::Global;
 
 pub(crate) type Labels<'a> = IndexMap<&'a [u8], usize>;
 
@@ -33,6 +34,19 @@ pub(crate) struct Found<'a> {
 }
 
 impl<'a> Found<'a> {
+    // Before the first line.
+    pub(crate) fn new(alloc: Global) -> Found<'a>
+        ensures labels { labels_in result.labels ≡ [] }
+        ensures insns { result.insns.items ≡ [] }
+        ensures jumps { result.jumps.items ≡ [] }
+    {
+        Found {
+            labels: IndexMap::new(alloc),
+            insns: Vec::new(alloc),
+            jumps: Vec::new(alloc),
+        }
+    }
+
     // Takes line `n`, where the next instruction has a place, and gives the place of the one after it.
     #[inline(always)]
     pub(crate) fn take(&mut self, n: usize, at: usize, begun: Begun<'a>) -> Result<usize, AsmFault>

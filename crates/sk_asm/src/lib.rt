@@ -1,4 +1,5 @@
-//! The assembler: texts with one instruction or label a line, as instructions.
+//! The assembler and the lister: texts with one instruction or label a line, as instructions, and instructions as a text that
+//! assembles to them again.
 #![tactic(auto)]
 
 mod block;
@@ -7,6 +8,8 @@ mod examples;
 mod fault;
 mod found;
 pub mod laws;
+mod line;
+mod listing;
 mod names;
 mod parse;
 mod passes;
@@ -18,5 +21,7 @@ mod value;
 pub use block::is_end;
 pub use examples::{example_faults, example_texts};
 pub use fault::AsmFault;
+pub use line::push_words;
+pub use listing::list;
 pub use passes::{assemble, assemble_block};
 pub use shape::Shape;

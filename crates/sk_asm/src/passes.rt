@@ -18,7 +18,6 @@ use crate::found::{Found, Labels};
 use crate::parse::check_line;
 use crate::printable::clean_bytes;
 use crate::statement::{Jump, Pending};
-use indexmap::IndexMap;
 use sk_insn::Insn;
 use sk_text::{Lines, MOST_BYTES};
 use std::alloc::Global;
@@ -83,11 +82,7 @@ fn find<'a>(
         → completed labels found.insns.items (jumps_in found.jumps.items) ≡ emitted labels (before + 1) 0 (lines_in is_block text.now)) }
 {
     let rest = Lines(text);
-    let mut found = Found {
-        labels: IndexMap::new(alloc),
-        insns: Vec::new(alloc),
-        jumps: Vec::new(alloc),
-    };
+    let mut found = Found::new(alloc);
     let mut clean = clean_bytes(text, is_block);
     let mut at = 0;
     let mut n = before;

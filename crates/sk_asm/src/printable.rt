@@ -1,8 +1,9 @@
 //! How far a text is printable, so that its lines need not be asked one by one.
 ghost use Rattle.std.specs.Prelude.{◌≡◌, take};
-ghost use Rattle.std.specs.List.{list_all};
 ghost use Rattle.sk_asm.specs.Block.{lines_in};
-ghost use Rattle.sk_asm.specs.Clean.{AreClean, is_clean_byte};
+ghost use Rattle.sk_asm.specs.Clean.{AreClean};
+
+use sk_text::is_clean;
 
 // How far the text of a block is looked through. What stands behind it is for the most part no line of the block.
 const BLOCK_FRONT: usize = 8_192;
@@ -13,11 +14,7 @@ pub(crate) fn clean_bytes(text: &[u8], is_block: bool) -> usize
     ensures lines { AreClean result (lines_in is_block text.now) }
 {
     let most = if is_block { BLOCK_FRONT } else { text.len() };
-    if has_clean_bytes(front(text, most)) {
-        most
-    } else {
-        0
-    }
+    if is_clean(front(text, most)) { most } else { 0 }
 }
 
 fn front(text: &[u8], most: usize) -> &[u8]
@@ -28,15 +25,4 @@ fn front(text: &[u8], most: usize) -> &[u8]
     } else {
         text
     }
-}
-
-#[tactic(auto, unfolding(sk_text::specs::Lines::is_printable_byte))]
-fn has_clean_bytes(text: &[u8]) -> bool
-    ensures every { result ≡ list_all is_clean_byte text.now }
-{
-    let mut every = true;
-    for byte in text {
-        every &= matches!(*byte, 0x20..=0x7e | b'\n');
-    }
-    every
 }

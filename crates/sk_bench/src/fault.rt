@@ -1,31 +1,55 @@
-//! The faults that a task ends with: their texts, and which fault of a library becomes which of them.
+//! The faults that a task ends with: their texts, their statuses, and which fault of a library becomes which.
 use sk_insn::ImageFault;
 use sk_io::ReadFault;
+use sk_profile::ProfileFault;
+use sk_run::EngineFault;
+use sk_scenario::ScenarioFault;
 use sk_text::HexFault;
 use std::alloc::{AllocError, AllocFailed};
-use std::fmt;
+use std::io;
+use std::io::ErrorKind;
+use thiserror::Error;
 
 /// Why a task is not done.
-#[derive(Clone, Copy, Debug, PartialEq, Eq)]
+#[derive(Clone, Copy, Debug, PartialEq, Eq, Error)]
 pub enum Fault {
     /// Standard input could not be read.
+    #[error("skern: reading failed")]
     Read,
+    /// Standard output could not be written.
+    #[error("skern: writing failed")]
+    Write,
     /// The text is no task.
+    #[error("not understood")]
     NotUnderstood,
     /// A filter is refused.
+    #[error("a filter is refused")]
     Refused,
+    /// The profile has no filter.
+    #[error("the profile has no filter")]
+    Profile,
+    /// There is no room for a process.
+    #[error("no room")]
+    NoRoom,
+    /// What is to be read as a scenario is none.
+    #[error("{0}")]
+    Scenario(ScenarioFault),
+    /// A run did not come to its end.
+    #[error("{0}")]
+    Engine(#[from] EngineFault),
     /// Memory was refused.
+    #[error("skern: out of memory")]
     Memory,
 }
 
-impl fmt::Display for Fault {
-    fn fmt<W: fmt::Write>(&self, f: &mut fmt::Formatter<W>) -> fmt::Result {
-        f.write_str(match self {
-            Fault::Read => "reading failed",
-            Fault::NotUnderstood => "not understood",
-            Fault::Refused => "a filter is refused",
-            Fault::Memory => "out of memory",
-        })
+impl Fault {
+    /// The status that the program ends with, as `skern` has it: 3 where a read, a write or memory failed.
+    pub fn status(self) -> u8 {
+        match self {
+            Fault::NotUnderstood | Fault::Refused | Fault::Profile | Fault::NoRoom => 1,
+            Fault::Scenario(_) | Fault::Engine(EngineFault::Scenario(_)) => 1,
+            Fault::Read | Fault::Write | Fault::Memory | Fault::Engine(_) => 3,
+        }
     }
 }
 
@@ -74,6 +98,35 @@ impl From<ImageFault> for Fault {
         match fault {
             ImageFault::Ragged | ImageFault::Empty | ImageFault::TooLong => Fault::Refused,
             ImageFault::Memory => Fault::Memory,
+        }
+    }
+}
+
+impl From<ProfileFault> for Fault {
+    fn from(fault: ProfileFault) -> Fault {
+        match fault {
+            ProfileFault::Rule(_) | ProfileFault::Clashes(_) | ProfileFault::TooLong => {
+                Fault::Profile
+            }
+            ProfileFault::Memory => Fault::Memory,
+        }
+    }
+}
+
+impl From<ScenarioFault> for Fault {
+    fn from(fault: ScenarioFault) -> Fault {
+        match fault {
+            ScenarioFault::Memory => Fault::Memory,
+            _ => Fault::Scenario(fault),
+        }
+    }
+}
+
+impl From<io::Error> for Fault {
+    fn from(failed: io::Error) -> Fault {
+        match failed.kind() {
+            ErrorKind::OutOfMemory => Fault::Memory,
+            _ => Fault::Write,
         }
     }
 }

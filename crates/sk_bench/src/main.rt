@@ -1,42 +1,93 @@
-//! What `bench/run` measures: a task on standard input, done over and over, and a sum of all that
-//! came out of it, so that nothing of the work can be left out.
+//! What `bench/run` measures, and whether the filter of docker's default profile is as short as wanted: the tasks of
+//! standard input, one after the other. What most of them come to is a sum of all that came out, so that nothing of the
+//! work can be left out. `tools/refuse_memory.py` has scenarios read under refused memory.
+//!
+//! A line begins each task: `filters 502` (`filters`), `profile 6698` (`profile`), `store slots fork 4 3` (`stores`),
+//! `scenario 228` (`reads`) or `report twice 31` (`runs`), where the number at the end is that of the bytes behind the
+//! line which belong to the task; a task of a store has none.
 #![tactic(auto)]
 
 mod fault;
-mod task;
-mod total;
-mod work;
+mod filters;
+mod numbers;
+mod profile;
+mod programs;
+mod reads;
+mod runs;
+mod stores;
 
 use fault::Fault;
+use numbers::number_of;
 use sk_io::{Counted, take_up_to};
+use sk_text::{Words, cut};
 use std::process::ExitCode;
-use task::Task;
-use total::Total;
 
-// The most bytes of a task.
-const MOST_BYTES: usize = 0x10_0000;
+// The most bytes of all tasks: each may be as long as a scenario at most.
+const MOST_BYTES: usize = 0x20_0000;
 
 fn main(rt: HostRuntime) -> ExitCode {
     match done(&rt) {
-        Ok(total) => {
-            let Total { sum, count } = total;
-            match println!(rt; "sum {sum} count {count}") {
-                Ok(()) => ExitCode::SUCCESS,
-                Err(_) => ExitCode::FAILURE,
-            }
-        }
+        Ok(()) => ExitCode::SUCCESS,
         Err(fault) => {
-            let _ = println!(rt; "{fault}");
-            ExitCode::FAILURE
+            let _ = eprintln!(rt; "{fault}");
+            ExitCode::from(fault.status())
         }
     }
 }
 
-// What the task of standard input comes to.
-fn done<R: Input + AllocGlobal>(rt: &R) -> Result<Total, Fault> {
-    let alloc = rt.alloc();
+// Does the tasks of standard input.
+fn done(rt: &HostRuntime) -> Result<(), Fault> {
     let mut reader = Counted::new(rt.reader());
-    let text = take_up_to(alloc, &mut reader, MOST_BYTES)?;
-    let task = Task::of(alloc, &text)?;
-    work::total_of(alloc, task)
+    let text = take_up_to(rt.alloc(), &mut reader, MOST_BYTES)?;
+    let mut rest = text.as_slice();
+    for _task in 0..text.len() {
+        if rest.is_empty() {
+            break;
+        }
+        rest = rest_after(rt, rest)?;
+    }
+    Ok(())
+}
+
+// Does the task at the beginning of a text, and answers what stands behind it.
+fn rest_after<'a>(rt: &HostRuntime, text: &'a [u8]) -> Result<&'a [u8], Fault> {
+    let (line, behind) = cut(text, b'\n');
+    let mut words = Words(line);
+    match words.next() {
+        Some(b"filters") => {
+            let (task, behind) = parted(behind, words.next())?;
+            filters::tell(rt, task)?;
+            Ok(behind)
+        }
+        Some(b"profile") => {
+            let (tree, behind) = parted(behind, words.next())?;
+            profile::tell(rt, tree)?;
+            Ok(behind)
+        }
+        Some(b"store") => {
+            stores::tell(rt, words)?;
+            Ok(behind)
+        }
+        Some(b"scenario") => {
+            let (scenario, behind) = parted(behind, words.next())?;
+            reads::tell(rt, scenario)?;
+            Ok(behind)
+        }
+        Some(b"report") => {
+            let way = words.next();
+            let (scenario, behind) = parted(behind, words.next())?;
+            runs::report(rt, way, scenario)?;
+            Ok(behind)
+        }
+        _ => Err(Fault::NotUnderstood),
+    }
+}
+
+// The first bytes of a text, as many as the word says, and what stands behind them.
+fn parted<'a>(text: &'a [u8], count: Option<&[u8]>) -> Result<(&'a [u8], &'a [u8]), Fault> {
+    let count = number_of(count)? as usize;
+    if count > text.len() {
+        return Err(Fault::NotUnderstood);
+    }
+    Ok(text.split_at(count))
 }

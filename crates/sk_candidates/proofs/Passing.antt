@@ -4,8 +4,7 @@ use Rattle.std.specs.Prelude.{nat_lt}
 use Rattle.std.specs.Option.{is_some, option_and_then, option_or}
 use Rattle.std.specs.List.{find}
 use Rattle.std.proofs.lemmas.Bool.{false≢true, lt-ltb, le-ltb, cases_lt, false_from_ne_true}
-use Rattle.std.proofs.lemmas.Option.{none-some, same_Some}
-use Rattle.sk_numbers.specs.Numbers.{contains, IsLeastAbove}
+use Rattle.sk_numbers.specs.Numbers.{contains}
 use Rattle.sk_world.specs.declared.process.TheConstants.{LAST_PID, INIT}
 use Rattle.sk_world.specs.declared.process.Life.{Life}
 use Rattle.sk_world.specs.declared.process.Life.TheVariants.{Running, Stopped, Zombie}
@@ -16,7 +15,7 @@ use Rattle.sk_world.specs.Rules.{IsWorld}
 use Rattle.sk_world.proofs.Walks.{first_here, none_first}
 use Rattle.sk_machine.specs.Machine.{end_status, halted_of}
 use Rattle.sk_machine.specs.Turns.{goes_on, is_runnable, next_of}
-use Rattle.sk_session.proofs.Walking.{nobody_at_0}
+use Rattle.sk_machine.proofs.Walking.{nobody_at_0}
 use Rattle.sk_machine.specs.Delivering.{signal_due}
 use Rattle.sk_candidates.specs.views.Blocked.{has_change_for}
 use Rattle.sk_candidates.specs.views.Noting.{OthersBlocked, NoOtherPasses, PassesOver}
@@ -66,38 +65,6 @@ module _ (w : World) (rules : IsWorld w) (noted : List ℕ) (touched : ℕ) (oth
 
     pub passed_over : NoOtherPasses (is_runnable w) noted waiter
     passed_over q out other = still q out (not_waiting q other)
-
-module _ (test : ℕ → Bool) (noted : List ℕ) (waiter : Option ℕ) (others : NoOtherPasses test noted waiter) where
-  -- the noted one comes first
-  pub to_noted : (after pid parent : ℕ) → waiter ≡ Some parent → pid < parent → IsLeastAbove (contains noted) after (Some pid) → PassesOver test after (Some pid)
-  to_noted after pid parent is lt least =
-      (least.0, λ q above below. others q (least.2 q above below) (λ same. differs q below (same_Some parent q (sym is ∙ same))))
-    where
-      differs : (q : ℕ) → q < pid → parent ≡ q → ⊥
-      differs q below same = omega (arith, below, same, lt)
-
-  -- the waiter comes first
-  pub to_waiter : (after parent : ℕ) → waiter ≡ Some parent → after < parent → ((q : ℕ) → after < q → q < parent → IsFalse (contains noted q)) → PassesOver test after (Some parent)
-  to_waiter after parent is lt out =
-      (lt, λ q above below. others q (out q above below) (λ same. differs q below (same_Some parent q (sym is ∙ same))))
-    where
-      differs : (q : ℕ) → q < parent → parent ≡ q → ⊥
-      differs q below same = omega (arith, below, same)
-
-  -- nobody above has a status change to wait for
-  pub to_next : (after : ℕ) (next : Option ℕ) → ((q : ℕ) → after < q → waiter ≢ Some q) → IsLeastAbove (contains noted) after next → PassesOver test after next
-  to_next after None other least = λ q above. others q (least q above) (other q above)
-  to_next after (Some next) other least = (least.0, λ q above below. others q (least.2 q above below) (other q above))
-
--- who is behind is not above
-pub behind : (after parent q : ℕ) (waiter : Option ℕ) → waiter ≡ Some parent → parent ≤ after → after < q → waiter ≢ Some q
-behind after parent q waiter is le lt same = differs (same_Some parent q (sym is ∙ same))
-  where
-    differs : parent ≡ q → ⊥
-    differs same = omega (arith, same, le, lt)
-
-pub nobody_waits : (q : ℕ) (waiter : Option ℕ) → waiter ≡ None → waiter ≢ Some q
-nobody_waits q waiter is same = none-some q (sym is ∙ same)
 
 -- ---- the walk from candidate to candidate
 

@@ -17,7 +17,7 @@ use Rattle.sk_candidates.specs.views.OfProcess.{running_reason, reason_by, reaso
 
 -- whether the event may reach a stopped process
 kills : Bool → Event → Bool
-kills due (Call pid ip nr args) = false
+kills due (Call pid ip call) = false
 kills due (Deliver pid) = due
 kills due (Resume pid) = false
 kills due (Fault pid) = false
@@ -33,7 +33,7 @@ told halted o event =
 
 is_told : (w : World) (event : Event) → reason_of w event ≡ told (is_halted w) (at w (pid_of event)) event
 unfolding told kills
-is_told w (Call pid ip nr args) = refl
+is_told w (Call pid ip call) = refl
 is_told w (Deliver pid) = refl
 is_told w (Resume pid) = refl
 is_told w (Fault pid) = refl
@@ -43,7 +43,7 @@ by_life : (l : Life) (waits due : Bool) (event : Event)
 unfolding kills
 by_life (life.Zombie status) waits due event = refl
 by_life life.Running waits due event = refl
-by_life life.Stopped waits due (Call pid ip nr args) = refl
+by_life life.Stopped waits due (Call pid ip call) = refl
 by_life life.Stopped waits true (Deliver pid) = refl
 by_life life.Stopped waits false (Deliver pid) = refl
 by_life life.Stopped waits due (Resume pid) = refl

@@ -88,11 +88,14 @@ fn next_candidate(noted: &NumberSet, waiter: Option<u32>, after: u32) -> Option<
     ensures { (test : ℕ → Bool) → NoOtherPasses test noted.now waiter → PassesOver test after result }
 {
     let next = noted.next(after);
-    match waiter {
-        Some(parent) if parent > after => match next {
-            Some(pid) if pid < parent => Some(pid),
-            _ => Some(parent),
-        },
-        _ => next,
+    let Some(parent) = waiter else {
+        return next;
+    };
+    if parent <= after {
+        return next;
+    }
+    match next {
+        Some(pid) => Some(pid.min(parent)),
+        None => Some(parent),
     }
 }

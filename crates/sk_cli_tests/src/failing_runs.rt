@@ -3,8 +3,8 @@ use crate::failing_ends::Endless;
 use crate::report_rows::{KEPT, KEPT_REPORT, NO_REPORT};
 use crate::{Reader, Trouble, Writer};
 use sk_io::{Counted, Sink, Source};
+use sk_run::{End, EngineFault, engine};
 use sk_scenario::ScenarioFault;
-use sk_sched::{End, EngineFault, engine};
 use std::alloc::Global;
 use std::test::Fail;
 

@@ -1,7 +1,7 @@
 //! Scenarios with their reports over each store, and texts with the fault that is told of them.
 use crate::{Reader, Writer};
 use sk_io::Counted;
-use sk_sched::{End, EngineFault, engine_with};
+use sk_run::{End, EngineFault, engine_with};
 use sk_table::{ListStore, ProcStore, SlotStore};
 use std::alloc::Global;
 use std::test::Fail;

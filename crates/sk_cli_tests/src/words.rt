@@ -1,10 +1,9 @@
 //! What the words of `skern` do, and what is told where its ends fail at first.
 use crate::report_rows::{FAULTS, NO_REPORT};
 use crate::unready::{Input, Output, words};
-use sk_cli::{CommandFault, command, failed, finish};
 use sk_io::Counted;
+use sk_run::{CommandFault, EngineFault, command, failed, finish};
 use sk_scenario::ScenarioFault;
-use sk_sched::EngineFault;
 use std::alloc::{AllocError, Global};
 use std::io;
 use std::io::BufWriter;

@@ -1,7 +1,7 @@
 -- How two trees stand to each other, where their parts stand so on either side of a test.
 use Rattle.std.proofs.Common.{◌≡◌, ℕ, ◌⊎◌, inl, inr, Bool, true, false, if◌then◌else◌, ◌∙◌, subst, refl}
 use Rattle.sk_insn.specs.declared.record.Record.{Record}
-use Rattle.sk_chain.specs.Verdict.{verdict_of}
+use Rattle.sk_filter.specs.Verdict.{verdict_of}
 use Rattle.sk_conditions.specs.declared.standing.Comparing.{Comparing}
 use Rattle.sk_conditions.specs.declared.standing.Found.{Found}
 use Rattle.sk_conditions.specs.declared.standing.Found.TheVariants.{Everywhere, Apart, Undecided}

@@ -5,10 +5,9 @@ use Rattle.std.specs.Option.{unwrap_or}
 use Rattle.sk_insn.specs.declared.insn.Insn.{Insn}
 use Rattle.sk_insn.specs.declared.record.Record.{Record}
 use Rattle.sk_insn.specs.Actions.{allow}
-use Rattle.sk_chain.specs.Choosing.{chosen, chosen_of}
-use Rattle.sk_chain.specs.Precedence.{precedence_of}
-use Rattle.sk_chain.specs.Verdict.{values_of, verdict_of}
-use Rattle.sk_chain.proofs.Verdicts.{chosen_of_none}
+use Rattle.sk_filter.specs.Choosing.{chosen, chosen_of}
+use Rattle.sk_filter.specs.Verdict.{values_of, verdict_of, precedence_of}
+use Rattle.sk_filter.proofs.Verdicts.{chosen_of_none}
 use Rattle.sk_conditions.specs.declared.tree.Tree.{Tree}
 use Rattle.sk_conditions.specs.Conditions.{Agrees, told}
 use Rattle.sk_conditions.specs.Following.{IsFirstTold, TellsFirst}

@@ -1,7 +1,7 @@
 -- What two trees tell together, where their parts tell it of the calls on either side of a test.
 use Rattle.std.proofs.Common.{◌≡◌, ℕ, Bool, true, false, if◌then◌else◌, Option, Some, sym, subst, refl}
 use Rattle.sk_insn.specs.declared.record.Record.{Record}
-use Rattle.sk_chain.specs.Choosing.{chosen}
+use Rattle.sk_filter.specs.Choosing.{chosen}
 use Rattle.sk_conditions.specs.declared.test.Test.{Test}
 use Rattle.sk_conditions.specs.declared.tree.Tree.{Tree}
 use Rattle.sk_conditions.specs.Conditions.{Agrees, holds_on, told}

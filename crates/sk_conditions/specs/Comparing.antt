@@ -1,8 +1,8 @@
 -- How the verdicts of two chains stand to each other on all calls with some numbers.
-use Rattle.std.specs.Prelude.{ℕ, ◌≡◌, ◌==◌, int_le, Bool, true, false}
+use Rattle.std.specs.Prelude.{ℕ, ◌≡◌, ◌==◌, int_le, Bool, true, false, List}
+use Rattle.sk_insn.specs.declared.insn.Insn.{Insn}
 use Rattle.sk_insn.specs.declared.record.Record.{Record}
-use Rattle.sk_chain.specs.Precedence.{precedence_of}
-use Rattle.sk_chain.specs.Verdict.{verdict_of}
+use Rattle.sk_filter.specs.Verdict.{verdict_of, precedence_of}
 use Rattle.sk_survey.specs.Answers.{IsCallOf}
 use Rattle.sk_conditions.specs.declared.standing.Comparing.{Comparing}
 use Rattle.sk_conditions.specs.declared.standing.Found.{Found}
@@ -15,8 +15,12 @@ abbrev pub relates : Relation → ℕ → ℕ → Bool
 relates Same old new = old == new
 relates AsStrict old new = int_le (precedence_of new) (precedence_of old)
 
+-- whether the verdicts of two chains on a call stand so to each other
+abbrev pub stands_on : Relation → List (List Insn) → List (List Insn) → Record → Bool
+stands_on relation old new call = relates relation (verdict_of old call) (verdict_of new call)
+
 abbrev pub relates_on : Comparing → Record → Bool
-relates_on chains call = relates chains.relation (verdict_of chains.old.now call) (verdict_of chains.new.now call)
+relates_on chains call = stands_on chains.relation chains.old.now chains.new.now call
 
 -- a call with one of the numbers on which they do not stand so; of anything else nothing is said
 abbrev pub IsApart : Comparing → Found → Type 0

@@ -1,7 +1,7 @@
 -- How the verdicts of two chains differ: a tree tells of each call whether they stand so to each other, or which verdicts they are.
 use Rattle.std.specs.Prelude.{ℕ, zero, suc, ◌≡◌, true, List, slice_get, Option, Some, None}
 use Rattle.sk_insn.specs.declared.record.Record.{Record}
-use Rattle.sk_chain.specs.Verdict.{verdict_of}
+use Rattle.sk_filter.specs.Verdict.{verdict_of}
 use Rattle.sk_survey.specs.Answers.{IsCallOf}
 use Rattle.sk_conditions.specs.declared.differences.Differences.{Differences}
 use Rattle.sk_conditions.specs.declared.differences.Verdicts.{Verdicts}

@@ -3,9 +3,9 @@ use Rattle.std.specs.Prelude.{ℕ, ◌≡◌, ◌<◌, if◌then◌else◌, bit_
 use Rattle.sk_insn.specs.declared.insn.Insn.{Insn}
 use Rattle.sk_insn.specs.declared.record.Record.{Record}
 use Rattle.sk_insn.specs.Record.{word_of}
-use Rattle.sk_interp.specs.Meaning.{State, Effect, GoesOn, Ends, meaning}
-use Rattle.sk_chain.specs.Choosing.{chosen}
-use Rattle.sk_chain.specs.Verdict.{meaning_value}
+use Rattle.sk_filter.specs.Meaning.{State, Effect, GoesOn, Ends, meaning}
+use Rattle.sk_filter.specs.Choosing.{chosen}
+use Rattle.sk_filter.specs.Verdict.{meaning_value}
 use Rattle.sk_conditions.specs.declared.follow.Held.{Held}
 use Rattle.sk_conditions.specs.declared.follow.Held.TheVariants.{Constant, Bits}
 use Rattle.sk_conditions.specs.declared.follow.Next.{Next}

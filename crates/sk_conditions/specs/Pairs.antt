@@ -10,7 +10,7 @@ use Rattle.sk_conditions.specs.declared.standing.Comparing.{Comparing}
 use Rattle.sk_conditions.specs.declared.standing.Found.{Found}
 use Rattle.sk_conditions.specs.declared.standing.Found.TheVariants.{Everywhere, Apart, Undecided}
 use Rattle.sk_conditions.specs.declared.standing.Relation.{Relation}
-use Rattle.sk_chain.specs.Verdict.{verdict_of}
+use Rattle.sk_filter.specs.Verdict.{verdict_of}
 use Rattle.sk_survey.specs.Answers.{IsCallOf}
 use Rattle.sk_conditions.specs.Comparing.{IsApart, relates, relates_on}
 use Rattle.sk_conditions.specs.Conditions.{Agrees, holds_on, told}

@@ -2,7 +2,7 @@
 ghost use Rattle.std.specs.Prelude.{ℕ, ◌<◌, ◌≤◌, IfOk, IfSome, Option, Some};
 ghost use Rattle.std.specs.List.{All};
 ghost use Rattle.sk_insn.specs.declared.record.Record.{Record};
-ghost use Rattle.sk_chain.specs.Choosing.{chosen};
+ghost use Rattle.sk_filter.specs.Choosing.{chosen};
 ghost use Rattle.sk_conditions.specs.Conditions.{Agrees, TellsVerdict, told};
 ghost use Rattle.sk_conditions.specs.Followed.{AreFollowed, TellsAll};
 ghost use Rattle.sk_conditions.specs.Following.{IsFirstTold};
@@ -11,7 +11,7 @@ use crate::join::joined;
 use crate::pair::Pair;
 use crate::path::Path;
 use crate::{Budget, Numbers, Tree, program_tree};
-use sk_chain::Chain;
+use sk_filter::Chain;
 use sk_insn::ALLOW;
 use std::alloc::{AllocError, Global};
 

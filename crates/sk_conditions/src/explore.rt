@@ -8,7 +8,7 @@ use crate::follow::{Held, Next, distance, follow_on};
 use crate::join::asked;
 use crate::path::Path;
 use crate::{Budget, Numbers, Test, Tree};
-use sk_check::Checked;
+use sk_filter::Checked;
 use sk_insn::Insn;
 use std::alloc::{AllocError, Global};
 

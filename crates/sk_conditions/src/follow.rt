@@ -3,17 +3,17 @@ ghost use Rattle.std.specs.Prelude.{◌≡◌, ◌≤◌, ℕ, bit_and, if◌the
 ghost use Rattle.sk_insn.specs.declared.insn.Insn.{Insn};
 ghost use Rattle.sk_insn.specs.declared.record.Record.{Record};
 ghost use Rattle.sk_insn.specs.Operations.{operation_of};
-ghost use Rattle.sk_check.specs.Fits.{TakesConstant};
+ghost use Rattle.sk_filter.specs.Fits.{TakesConstant};
 ghost use Rattle.sk_insn.specs.declared.operation.Operation.{Operation};
-ghost use Rattle.sk_interp.specs.Meaning.{State, effect, holds};
+ghost use Rattle.sk_filter.specs.Meaning.{State, effect, holds};
 ghost use Rattle.sk_survey.specs.Answers.{IsCallOf};
 ghost use Rattle.sk_conditions.specs.Followed.{HoldsWord, IsStep, is_followed, is_word};
 ghost use Rattle.sk_conditions.specs.Following.{Describes, Leads, MeetsPath};
 
 use crate::path::Path;
 use crate::{Budget, Numbers, Test};
+use sk_filter::holds;
 use sk_insn::{ARCHITECTURE, Arithmetic, Comparison, Insn, Operand, Operation, Register, decode};
-use sk_interp::holds;
 use sk_survey::decide_number;
 
 /// What A holds.

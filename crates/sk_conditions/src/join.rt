@@ -1,7 +1,7 @@
 //! The verdict of two filters, as a tree made of theirs.
 ghost use Rattle.std.specs.Prelude.{◌≡◌, ℕ, ◌<◌, ◌≤◌, if◌then◌else◌, IfOk, IsSome, IsTrue, Some};
 ghost use Rattle.sk_insn.specs.declared.record.Record.{Record};
-ghost use Rattle.sk_chain.specs.Choosing.{chosen};
+ghost use Rattle.sk_filter.specs.Choosing.{chosen};
 ghost use Rattle.sk_conditions.specs.Conditions.{Agrees, told, holds_on};
 ghost use Rattle.sk_conditions.specs.Followed.{TellsAll, is_word};
 ghost use Rattle.sk_conditions.specs.Following.{MeetsPath, TellsFirst};
@@ -10,7 +10,7 @@ use crate::explore::FORK;
 use crate::pair::{Pair, Parts, parts_of};
 use crate::path::Path;
 use crate::{Budget, Test, Tree};
-use sk_chain::sooner;
+use sk_filter::sooner;
 use std::alloc::{AllocError, Global};
 
 /// What comes first of what a newer tree tells, the first of the two, and an older one, for the calls that come out so

@@ -1,13 +1,13 @@
 //! The tests on the way to a place, with their answers, and what follows from them.
 ghost use Rattle.std.specs.Prelude.{◌≡◌, ◌≤◌, true, IfSome};
 ghost use Rattle.sk_insn.specs.declared.record.Record.{Record};
-ghost use Rattle.sk_interp.specs.Meaning.{holds};
+ghost use Rattle.sk_filter.specs.Meaning.{holds};
 ghost use Rattle.sk_conditions.specs.Conditions.{holds_on};
 ghost use Rattle.sk_conditions.specs.Following.{MeetsPath};
 
 use crate::{Budget, Test};
+use sk_filter::holds;
 use sk_insn::Comparison;
-use sk_interp::holds;
 
 /// The tests on the way, the last one first.
 #[derive(Clone, Copy)]
@@ -47,11 +47,9 @@ fn implied(met: Test, answer: bool, test: Test) -> Option<bool>
     if met == test {
         return Some(answer);
     }
-    if answer
-        && met.comparison == Comparison::Equal
-        && met.place == test.place
-        && met.mask & test.mask == test.mask
-    {
+    let is_equality = met.comparison == Comparison::Equal;
+    let tells_its_bits = met.mask & test.mask == test.mask;
+    if answer && is_equality && met.place == test.place && tells_its_bits {
         return Some(holds(test.comparison, met.k & test.mask, test.k));
     }
     if met.comparison == Comparison::CommonBits {
@@ -92,10 +90,9 @@ fn by_common_bits(met: Test, answer: bool, test: Test) -> Option<bool>
 fn excluded(met: Test, test: Test) -> Option<bool>
     ensures told { IfSome result (λ told. (call : Record) → holds_on met call ≡ true → holds_on test call ≡ told) }
 {
-    if met.comparison != Comparison::Equal
-        || test.comparison != Comparison::Equal
-        || met.place != test.place
-    {
+    let is_equality = met.comparison == Comparison::Equal;
+    let wants_equality = test.comparison == Comparison::Equal;
+    if !is_equality || !wants_equality || met.place != test.place {
         return None;
     }
     let bits = met.k & test.mask;

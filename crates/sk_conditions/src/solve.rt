@@ -2,14 +2,14 @@
 //! two words, so each is sought by itself.
 ghost use Rattle.std.specs.Prelude.{ℕ, ◌≡◌, ◌≢◌, ◌<◌, ◌≤◌, ◌^◌, ◌↔◌, bit_and, None, Some, IsTrue, IfSome};
 ghost use Rattle.std.specs.Int.{bit_at};
-ghost use Rattle.sk_interp.specs.Meaning.{holds};
+ghost use Rattle.sk_filter.specs.Meaning.{holds};
 ghost use Rattle.sk_conditions.specs.Solving.{IsAmong, WordMeets, IsSought};
 ghost use Rattle.sk_conditions.specs.declared.some_words.SomeWords.{SomeWords};
 
 use crate::path::Path;
 use crate::some_words::SomeWords;
 use crate::{Budget, Test};
-use sk_interp::holds;
+use sk_filter::holds;
 
 /// What is found of the words at a place.
 #[derive(Clone, Copy, Debug, PartialEq, Eq)]

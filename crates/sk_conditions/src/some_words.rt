@@ -1,11 +1,11 @@
 //! Words of which some bits are known.
 ghost use Rattle.std.specs.Prelude.{ℕ, ◌≡◌, ◌≢◌, ◌<◌, ◌≤◌, ◌^◌, ◌⊎◌, bit_and, false, true, None, IfSome};
 ghost use Rattle.std.specs.Int.{bit_at};
-ghost use Rattle.sk_interp.specs.Meaning.{holds};
+ghost use Rattle.sk_filter.specs.Meaning.{holds};
 ghost use Rattle.sk_conditions.specs.Solving.{IsAmong, looked_at};
 
+use sk_filter::holds;
 use sk_insn::Comparison;
-use sk_interp::holds;
 
 /// The words with these bits, where the bits of `free` may be any.
 #[derive(Clone, Copy, Debug)]

@@ -12,7 +12,7 @@ use crate::pair::{Pair, Parts, parts_of};
 use crate::path::Path;
 use crate::witness::{Missing, call_on};
 use crate::{Budget, Numbers, chain_tree};
-use sk_chain::{Chain, sooner};
+use sk_filter::{Chain, sooner};
 use sk_insn::Record;
 use std::alloc::{AllocError, Global};
 

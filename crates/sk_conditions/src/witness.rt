@@ -29,12 +29,10 @@ pub fn call_on(path: &Path, numbers: Numbers, budget: &mut Budget) -> Result<Rec
     ensures found { 0 < budget.new.steps → result ≢ Err Missing.Unknown }
     ensures left { budget.new.steps ≤ budget.old.steps }
 {
-    let least = Path::Beyond(
-        &*path,
-        on_number(Comparison::GreaterOrEqual, numbers.first),
-        true,
-    );
-    let path = Path::Beyond(&least, on_number(Comparison::Greater, numbers.last), false);
+    let from_first = on_number(Comparison::GreaterOrEqual, numbers.first);
+    let beyond_last = on_number(Comparison::Greater, numbers.last);
+    let least = Path::Beyond(&*path, from_first, true);
+    let path = Path::Beyond(&least, beyond_last, false);
     match words_on(&path, budget) {
         Ok(words) => Ok(record_of(&words)),
         Err(missing) => Err(missing),
@@ -95,18 +93,18 @@ fn record_of(words: &[u32; 16]) -> Record
     ensures words { (index : ℕ) → index < 16 → word_of result (4 * index) ≡ Some (slice_index_or words.now index 0) }
     ensures architecture { result.arch ≡ slice_index_or words.now 1 0 }
 {
+    let ip = joined(words[2], words[3]);
+    let first = joined(words[4], words[5]);
+    let second = joined(words[6], words[7]);
+    let third = joined(words[8], words[9]);
+    let fourth = joined(words[10], words[11]);
+    let fifth = joined(words[12], words[13]);
+    let sixth = joined(words[14], words[15]);
     Record {
         nr: words[0],
         arch: words[1],
-        ip: joined(words[2], words[3]),
-        args: [
-            joined(words[4], words[5]),
-            joined(words[6], words[7]),
-            joined(words[8], words[9]),
-            joined(words[10], words[11]),
-            joined(words[12], words[13]),
-            joined(words[14], words[15]),
-        ],
+        ip,
+        args: [first, second, third, fourth, fifth, sixth],
     }
 }
 

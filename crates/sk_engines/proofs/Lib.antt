@@ -1,3 +1,4 @@
 pub mod LineCount
 pub mod Ending
 pub mod Chaining
+mod Parsing

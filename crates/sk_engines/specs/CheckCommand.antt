@@ -2,8 +2,8 @@
 use Rattle.std.specs.Prelude.{ℕ, ◌++◌, List, length, codes, Option, Some, None}
 use Rattle.std.specs.Fmt.{decimal}
 use Rattle.sk_insn.specs.declared.insn.Insn.{Insn}
-use Rattle.sk_check.specs.declared.fault.CheckFault.{CheckFault}
-use Rattle.sk_check.specs.FirstFault.{first_fault}
+use Rattle.sk_filter.specs.declared.fault.CheckFault.{CheckFault}
+use Rattle.sk_filter.specs.FirstFault.{first_fault}
 use Rattle.sk_engines.specs.Output.{Output, done, refused, line, within_limit}
 use Rattle.sk_engines.specs.Judging.{check_fault_text}
 use Rattle.sk_engines.specs.OnImage.{on_image}

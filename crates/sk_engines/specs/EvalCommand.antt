@@ -4,8 +4,8 @@ use Rattle.std.specs.Fmt.{decimal}
 use Rattle.sk_insn.specs.declared.insn.Insn.{Insn}
 use Rattle.sk_insn.specs.declared.record.Record.{Record}
 use Rattle.sk_insn.specs.Actions.{action_of, action_name, data_part}
-use Rattle.sk_interp.specs.Meaning.{Meaning, Returned, Stuck, meaning_of}
-use Rattle.sk_chain.specs.Verdict.{verdict_of}
+use Rattle.sk_filter.specs.Meaning.{Meaning, Returned, Stuck, meaning_of}
+use Rattle.sk_filter.specs.Verdict.{verdict_of}
 use Rattle.sk_text.specs.Hexadecimal.{hex_word}
 use Rattle.sk_text.specs.Lines.{lines_of}
 use Rattle.sk_engines.specs.declared.filters.Refusal.{Refusal}

@@ -4,9 +4,9 @@ use Rattle.std.specs.Fmt.{decimal}
 use Rattle.sk_insn.specs.declared.insn.Insn.{Insn}
 use Rattle.sk_insn.specs.declared.image.NoImage.{NoImage}
 use Rattle.sk_insn.specs.Instructions.{image_instructions}
-use Rattle.sk_check.specs.declared.fault.CheckFault.{CheckFault}
-use Rattle.sk_check.specs.FirstFault.{first_fault}
-use Rattle.sk_chain.specs.Chains.{path_limit, cost_of}
+use Rattle.sk_filter.specs.declared.fault.CheckFault.{CheckFault}
+use Rattle.sk_filter.specs.FirstFault.{first_fault}
+use Rattle.sk_filter.specs.Chains.{path_limit, cost_of}
 use Rattle.sk_engines.specs.declared.filters.Refusal.{Refusal}
 use Rattle.sk_engines.specs.declared.filters.Refusal.TheVariants.{Image, Program, PathLimit}
 use Rattle.sk_engines.specs.Output.{Output, refused, line}

@@ -13,3 +13,5 @@ pub mod OnImage
 pub mod Program
 pub mod Reading
 pub mod Reply
+pub mod Parser
+pub mod Words

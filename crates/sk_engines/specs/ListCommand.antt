@@ -1,7 +1,7 @@
 -- What `skern list` answers.
 use Rattle.std.specs.Prelude.{ℕ, List}
 use Rattle.sk_insn.specs.declared.insn.Insn.{Insn}
-use Rattle.sk_listing.specs.Listing.{listing_of}
+use Rattle.sk_asm.specs.Listing.{listing_of}
 use Rattle.sk_engines.specs.Output.{Output, done, within_limit}
 use Rattle.sk_engines.specs.OnImage.{on_image}
 

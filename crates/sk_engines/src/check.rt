@@ -1,7 +1,7 @@
 //! `skern check`: whether an image is a valid program, and its first fault where it is not.
 ghost use Rattle.std.specs.Prelude.{◌≡◌, ◌≤◌, ◌++◌, IfOk, IfSome, codes, length};
 ghost use Rattle.std.specs.Fmt.{decimal};
-ghost use Rattle.sk_check.specs.FirstFault.{first_fault};
+ghost use Rattle.sk_filter.specs.FirstFault.{first_fault};
 ghost use Rattle.sk_io.specs.Reading.{ConsumesUpTo};
 ghost use Rattle.sk_engines.specs.Output.{done, line};
 ghost use Rattle.sk_engines.specs.CheckCommand.{check_answer, program_answer};
@@ -13,10 +13,11 @@ use crate::engine::{Command, run};
 use crate::fault::CommandFault;
 use crate::on_image::instructions_in;
 use crate::refusal::program_refused;
-use crate::reply::{Line, Reply, push_place};
-use sk_check::check;
+use crate::reply::{Reply, push_place};
+use sk_filter::check;
 use sk_insn::Insn;
 use sk_io::{Sink, Source};
+use sk_text::Line;
 use std::alloc::{AllocError, Global};
 
 /// Runs `skern check` over a reader and a writer. Nothing goes out before the input was read whole.

@@ -1,6 +1,6 @@
 //! `skern eval`: what filters answer on a call, each by itself and all together.
 ghost use Rattle.std.specs.Prelude.{◌≡◌, ◌≤◌, ◌++◌, IfOk, IfSome, OnOk, [], map, string_bytes};
-ghost use Rattle.sk_interp.specs.Meaning.{Returned};
+ghost use Rattle.sk_filter.specs.Meaning.{Returned};
 ghost use Rattle.sk_text.specs.Lines.{lines_of};
 ghost use Rattle.sk_engines.specs.EvalInput.{gathered, nothing_yet};
 ghost use Rattle.sk_engines.specs.Gathering.{asked_of};
@@ -16,9 +16,8 @@ use crate::fault::CommandFault;
 use crate::filters::chain_of;
 use crate::refusal::refusal_reply;
 use crate::reply::Reply;
-use sk_chain::{Chain, first_of};
+use sk_filter::{Chain, Ran, first_of};
 use sk_insn::{Action, Record};
-use sk_interp::Ran;
 use sk_io::{Sink, Source};
 use sk_text::hex_word;
 use std::alloc::{AllocError, Global};
@@ -69,7 +68,7 @@ fn chain_text(alloc: Global, call: &Record, chain: &Chain) -> Result<String, All
     let mut text = String::new(alloc);
     let mut values = Vec::with_capacity(alloc, chain.len())?;
     for program in chain.programs() {
-        let ran = sk_interp::run(program, call);
+        let ran = sk_filter::run(program, call);
         push_ran(&mut text, ran)?;
         values.push(ran.value)?;
     }

@@ -2,13 +2,12 @@
 ghost use Rattle.std.specs.Prelude.{◌≡◌, IfOk, [], map};
 ghost use Rattle.std.specs.Option.{option_map};
 ghost use Rattle.sk_insn.specs.Instructions.{image_instructions};
-ghost use Rattle.sk_check.specs.FirstFault.{first_fault};
+ghost use Rattle.sk_filter.specs.FirstFault.{first_fault};
 ghost use Rattle.sk_text.specs.Lines.{words_of};
 ghost use Rattle.sk_text.specs.Hexadecimal.{hex_bytes};
 ghost use Rattle.sk_engines.specs.Filters.{chained, image_attached, program_attached};
 
-use sk_chain::{Chain, ChainFault};
-use sk_check::{CheckFault, Checked, check};
+use sk_filter::{Chain, ChainFault, CheckFault, Checked, check};
 use sk_insn::{Insn, NoImage, read_image};
 use sk_text::{HexFault, Words, bytes_of};
 use std::alloc::{AllocError, Global};

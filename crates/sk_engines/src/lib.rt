@@ -1,9 +1,9 @@
-//! The commands as functions from an input to a text and an exit status, and their engines over a
-//! reader and a writer. What reads filters and tells what is wrong with them serves other commands too.
+//! The filter commands of `skern` as a function of their words, a reader and a writer.
 #![tactic(auto)]
 
 mod asm;
 mod check;
+mod cli;
 mod engine;
 mod eval;
 mod eval_input;
@@ -14,9 +14,11 @@ mod on_image;
 mod program;
 mod refusal;
 mod reply;
+mod word;
 
 pub use asm::asm_engine;
 pub use check::check_engine;
+pub use cli::{command, filter_command};
 pub use engine::{deliver, input};
 pub use eval::eval_engine;
 pub use fault::CommandFault;
@@ -24,4 +26,5 @@ pub use filters::{MOST_FILTERS, Refusal, bytes_in, chain_of};
 pub use list::list_engine;
 pub use program::{FAILED, failed, finish, tell_usage, words_of};
 pub use refusal::refusal_reply;
-pub use reply::{Line, Reply};
+pub use reply::Reply;
+pub use word::{FilterWord, Word, word_in};

@@ -9,8 +9,8 @@ use crate::engine::{Command, run};
 use crate::fault::CommandFault;
 use crate::on_image::instructions_in;
 use crate::reply::Reply;
+use sk_asm::list;
 use sk_io::{Sink, Source};
-use sk_listing::list;
 use std::alloc::{AllocError, Global};
 
 /// Runs `skern list` over a reader and a writer. Nothing goes out before the input was read whole.

@@ -7,8 +7,8 @@ ghost use Rattle.sk_engines.specs.Output.{misused};
 ghost use Rattle.sk_engines.specs.Program.{Finishes, Sends, device, fault_line};
 
 use crate::fault::CommandFault;
-use crate::reply::Line;
 use sk_io::{Counted, Sink, send};
+use sk_text::Line;
 use std::env::Env;
 use std::io::{BufWriter, Write};
 use std::{env, io};

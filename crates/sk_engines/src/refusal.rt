@@ -7,9 +7,10 @@ ghost use Rattle.sk_engines.specs.Judging.{no_image_text, check_fault_text};
 ghost use Rattle.sk_engines.specs.Reply.{output_of};
 
 use crate::filters::Refusal;
-use crate::reply::{Line, Reply, push_number, push_place};
-use sk_check::CheckFault;
+use crate::reply::{Reply, push_place};
+use sk_filter::CheckFault;
 use sk_insn::NoImage;
+use sk_text::{Line, push_long};
 
 /// Bytes that are no image are refused.
 pub fn image_refused(why: NoImage) -> Reply
@@ -87,7 +88,7 @@ pub fn push_check_fault(text: &mut Line, fault: CheckFault)
         CheckFault::Unstored { at, word } => {
             push_place(text, "refused 10 unstored at ", at);
             text.push_str(" word ");
-            push_number(text, word as usize);
+            push_long(text, u64::from(word));
         }
     }
 }

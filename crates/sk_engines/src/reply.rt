@@ -5,11 +5,7 @@ ghost use Rattle.arrayvec.specs.ArrayString.{array_string_len};
 ghost use Rattle.sk_engines.specs.Output.{done, refused, line, at_line};
 ghost use Rattle.sk_engines.specs.Reply.{output_of};
 
-use arrayvec::ArrayString;
-use itoa::{Buffer, Integer};
-
-/// A line of text in place.
-pub type Line = ArrayString<128>;
+use sk_text::{Line, push_long};
 
 /// What a command replies: a text, and by it an exit status.
 #[derive(Drop)]
@@ -62,22 +58,12 @@ impl Reply {
     {
         let mut text = Line::new();
         text.push_str("skern: line ");
-        push_number(&mut text, number);
+        push_long(&mut text, number as u64);
         text.push_str(": ");
         text.push_str(what);
         text.push_str("\n");
         Reply::Refused(text)
     }
-}
-
-/// Appends a number in decimal digits.
-pub fn push_number(text: &mut Line, number: usize)
-    requires room { array_string_len text.old + 20 ≤ 128 }
-    ensures bytes { text.new.bytes ≡ text.old.bytes ++ decimal number }
-    ensures growth { array_string_len text.new ≤ array_string_len text.old + 20 }
-{
-    let mut buffer = Buffer::new();
-    text.push_str(buffer.format(number));
 }
 
 /// Appends words and a place behind them.
@@ -87,5 +73,5 @@ pub fn push_place(text: &mut Line, words: &str, at: usize)
     ensures growth { array_string_len text.new ≤ array_string_len text.old + length words.now + 20 }
 {
     text.push_str(words);
-    push_number(text, at);
+    push_long(text, at as u64);
 }

@@ -1,7 +1,7 @@
 //! Worked programs of the checker: the faults, scratch words on two paths, and the longest program.
 use crate::filters::refuses_getppid;
 use crate::insns::{ALLOW, divx, ja, jeq, ldabs, ldimm, ldmem, ldximm, ret, reta, st, tax, with_k};
-use sk_check::{CheckFault, check};
+use sk_filter::{CheckFault, check};
 use sk_insn::Insn;
 use std::alloc::{AllocError, Global};
 use std::test::Fail;

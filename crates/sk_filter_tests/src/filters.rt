@@ -1,7 +1,6 @@
 //! Filters and chains of them, of instructions, and filters that more than one table asks.
 use crate::insns::{ALLOW, EPERM, jeq, ldabs, ret, with_k};
-use sk_chain::Chain;
-use sk_check::{Checked, check};
+use sk_filter::{Chain, Checked, check};
 use sk_insn::Insn;
 use std::alloc::Global;
 use std::test::Fail;

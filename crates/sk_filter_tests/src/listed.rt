@@ -1,8 +1,7 @@
 //! Lines of each form, and texts that assemble to what they list.
 use crate::insns::insn;
-use sk_asm::assemble;
+use sk_asm::{assemble, laws, list};
 use sk_insn::Insn;
-use sk_listing::{laws, list};
 use std::test::Fail;
 
 /// An instruction, and its line.

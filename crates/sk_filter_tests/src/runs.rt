@@ -4,8 +4,8 @@ use crate::insns::{
     ALLOW, EPERM, branch, divx, ja, jeq, ldabs, ldimm, ldmem, ldximm, ret, reta, st, tax, txa,
     with_k,
 };
+use sk_filter::{Ran, calculate, holds, run, walk, walk_together};
 use sk_insn::{Arithmetic, Comparison, Insn, Record};
-use sk_interp::{Ran, calculate, holds, run, walk, walk_together};
 use std::test::Fail;
 
 fn call(nr: u32) -> Record {

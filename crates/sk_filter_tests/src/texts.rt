@@ -1,8 +1,9 @@
 //! Each public function at words and texts whose answers the grammar gives.
 use sk_text::{
-    HexDigits, HexFault, Lines, Words, bytes_of, bytes_of_text, cut, four_words, hex_half,
-    hex_word, is_name, is_number, is_passed_over, is_printable, is_word, no_word, number_up_to,
-    one_word, three_words, two_words,
+    HexDigits, HexFault, Line, Lines, Words, bytes_of, bytes_of_text, cut, four_words, hex_half,
+    hex_word, is_clean, is_name, is_number, is_passed_over, is_printable, is_word, no_word,
+    number_up_to, one_word, push_digit, push_long, push_number, push_signed, three_words,
+    two_words,
 };
 use std::test::Fail;
 
@@ -38,6 +39,30 @@ fn judges_lines(rt: HostRuntime) {
         assert_eq!(rt; is_printable(line), printable);
         assert_eq!(rt; is_passed_over(line), passed_over);
     }
+}
+
+#[test]
+fn judges_texts(rt: HostRuntime) {
+    for (text, clean) in [
+        (b"".as_slice(), true),
+        (b"\n a~\n\n", true),
+        (b"a\n\tb\n", false),
+        (b"a\x7f", false),
+    ] {
+        assert_eq!(rt; is_clean(text), clean);
+    }
+}
+
+#[test]
+fn appends_numbers(rt: HostRuntime) {
+    let mut line = Line::new();
+    push_digit(&mut line, 15);
+    push_number(&mut line, 0);
+    push_number(&mut line, u32::MAX);
+    push_long(&mut line, u64::MAX);
+    push_signed(&mut line, -10);
+    push_signed(&mut line, 9);
+    assert_eq!(rt; line.as_str(), "f0429496729518446744073709551615-109");
 }
 
 #[test]

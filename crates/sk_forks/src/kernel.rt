@@ -1,7 +1,7 @@
 //! What a kernel is told: as many forks as there is room for, and a run that may stop once and goes on.
 use crate::fault::Fault;
 use crate::{ALLOW, FILTERS, FORKS, print_memory};
-use sk_calls::Syscall;
+use sk_calls::{Call, Syscall};
 use sk_kernel::{Answer, Event, Images, Kernel, Outcome, Stopped};
 use sk_table::{INIT, ListStore};
 use std::alloc::{AllocError, Global};
@@ -101,12 +101,14 @@ fn images(alloc: Global) -> Result<Images, AllocError> {
     })
 }
 
-fn call(pid: u32, call: Syscall, register: u64) -> Event {
+fn call(pid: u32, syscall: Syscall, register: u64) -> Event {
     Event::Call {
         pid,
         ip: 0,
-        nr: call.number(),
-        args: [register, 0, 0, 0, 0, 0],
+        call: Call {
+            nr: syscall.number(),
+            args: [register, 0, 0, 0, 0, 0],
+        },
     }
 }
 

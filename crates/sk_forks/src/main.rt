@@ -4,8 +4,7 @@
 //! a refusal of memory has stopped it.
 #![tactic(auto)]
 
-ghost use Rattle.std.specs.Prelude.{◌≡◌, IfOk};
-ghost use Rattle.sk_world.specs.World.{at, is_alive, is_zombie};
+ghost use Rattle.std.specs.Prelude.{IfOk};
 ghost use Rattle.sk_world.specs.Rules.{IsWorld};
 
 mod fault;
@@ -13,10 +12,10 @@ mod kernel;
 
 use fault::Fault;
 use kernel::{fork_in_kernel, go_on_after_a_stop};
-use sk_chain::Chain;
-use sk_check::{Checked, check};
+use sk_filter::{Chain, Checked, check};
 use sk_insn::read_insns;
-use sk_table::{INIT, Life, ListStore, ProcStore, SlotStore, end, fork, laws, reap};
+use sk_table::{ListStore, SlotStore, laws};
+use sk_world::{INIT, ProcStore, end, fork, is_alive, is_zombie, reap};
 use std::alloc::Global;
 use std::env::Env;
 use std::process::ExitCode;
@@ -186,24 +185,6 @@ fn take_out<S: ProcStore>(store: &mut S, pid: u32) -> Result<(), Fault>
     }
     reap(store, pid);
     Ok(())
-}
-
-fn is_alive<S: ProcStore>(store: &S, pid: u32) -> bool
-    ensures { result ≡ is_alive (at (S.contents store.now) pid) }
-{
-    match store.get(pid) {
-        Some(process) => !matches!(process.body.life, Life::Zombie(_)),
-        None => false,
-    }
-}
-
-fn is_zombie<S: ProcStore>(store: &S, pid: u32) -> bool
-    ensures { result ≡ is_zombie (at (S.contents store.now) pid) }
-{
-    match store.get(pid) {
-        Some(process) => matches!(process.body.life, Life::Zombie(_)),
-        None => false,
-    }
 }
 
 // How many children of process 1 have its filters.

@@ -1,6 +1,6 @@
 //! Whether two processes, kept by two kernels, are the same as far as anybody can tell.
 
-use sk_chain::Chain;
+use sk_filter::Chain;
 use sk_signal::SigState;
 use sk_table::{Body, Proc};
 

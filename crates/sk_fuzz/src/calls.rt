@@ -4,7 +4,7 @@ ghost use Rattle.std.specs.Prelude.{◌<◌};
 
 use crate::images::{FILTERS, PROGRAMS};
 use crate::random::Random;
-use sk_calls::Syscall;
+use sk_calls::{Call, Syscall};
 use sk_kernel::Event;
 use sk_table::INIT;
 
@@ -89,7 +89,11 @@ pub(crate) fn call(random: &mut Random, pid: u32, pids: &[u32]) -> Event {
             (which.number(), args_of(random, which, pids))
         }
     };
-    Event::Call { pid, ip, nr, args }
+    Event::Call {
+        pid,
+        ip,
+        call: Call { nr, args },
+    }
 }
 
 // Process 1 seldom ends or pauses: the system would end or stand still.

@@ -5,8 +5,9 @@ use crate::fault::Fault;
 use crate::images::images;
 use crate::pair::Pair;
 use crate::tally::{Kind, Tally};
-use sk_calls::Syscall;
-use sk_kernel::laws::{Call, line};
+use sk_calls::{Call, Syscall};
+use sk_insn::Record;
+use sk_kernel::laws::line;
 use sk_kernel::{Event, Kernel};
 use sk_table::{INIT, ListStore, Proc};
 use std::alloc::Global;
@@ -50,17 +51,19 @@ fn check_line(
     }
 }
 
-fn as_init(call: &Call) -> Event {
+fn as_init(call: &Record) -> Event {
     Event::Call {
         pid: INIT,
         ip: call.ip,
-        nr: call.nr,
-        args: call.args,
+        call: Call {
+            nr: call.nr,
+            args: call.args,
+        },
     }
 }
 
 // By no other call filters, ids or no_new_privs change.
-fn may_change_rights(call: &Call) -> bool {
+fn may_change_rights(call: &Record) -> bool {
     matches!(
         Syscall::of(call.nr),
         Some(

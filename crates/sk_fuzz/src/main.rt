@@ -18,7 +18,7 @@ use images::{LONG_FILTER, filters};
 use lines::check_lines;
 use pair::{Pair, bare_call};
 use random::Random;
-use sk_calls::Syscall;
+use sk_calls::{Call, Syscall};
 use sk_kernel::{Event, Need};
 use sk_table::{INIT, PROCESSES};
 use std::alloc::Global;
@@ -152,8 +152,10 @@ fn attach_of(filter: u64) -> Event {
     Event::Call {
         pid: INIT,
         ip: 0,
-        nr: Syscall::Seccomp.number(),
-        args: [1, 0, filter, 0, 0, 0],
+        call: Call {
+            nr: Syscall::Seccomp.number(),
+            args: [1, 0, filter, 0, 0, 0],
+        },
     }
 }
 

@@ -4,7 +4,7 @@ use crate::alike::are_alike;
 use crate::fault::Fault;
 use crate::images::images;
 use crate::tally::{Kind, Tally};
-use sk_calls::Syscall;
+use sk_calls::{Call, Syscall};
 use sk_kernel::{Answer, Effect, Event, Kernel, Outcome};
 use sk_table::{INIT, LAST_PID, ListStore, ProcStore, SlotStore};
 use std::alloc::Global;
@@ -133,8 +133,10 @@ pub(crate) fn bare_call(pid: u32, which: Syscall) -> Event {
     Event::Call {
         pid,
         ip: 0,
-        nr: which.number(),
-        args: [0; 6],
+        call: Call {
+            nr: which.number(),
+            args: [0; 6],
+        },
     }
 }
 
@@ -142,7 +144,10 @@ pub(crate) fn bare_call(pid: u32, which: Syscall) -> Event {
 fn forked(event: &Event, answer: &Answer) -> Option<u32> {
     match (event, answer) {
         (
-            Event::Call { nr: 57, .. },
+            Event::Call {
+                call: Call { nr: 57, .. },
+                ..
+            },
             Answer::Call {
                 verdict: 0x7ffc_0000..0x8000_0000,
                 outcome: Outcome::Returned(child),

@@ -177,10 +177,10 @@ impl Tally {
     }
 
     fn count_returned(&mut self, event: &Event, number: i64) {
-        let Event::Call { nr, args, .. } = *event else {
+        let Event::Call { call, .. } = *event else {
             return;
         };
-        let kind = match (Syscall::of(nr), args[0], number) {
+        let kind = match (Syscall::of(call.nr), call.args[0], number) {
             (Some(Syscall::Fork), _, -11) => Kind::NoRoom,
             (Some(Syscall::Seccomp), 1, -12) => Kind::PathLimit,
             (Some(Syscall::Seccomp), 1, -13) => Kind::NoPrivilege,

@@ -93,18 +93,20 @@ impl Record {
         ensures numbers { result ≡ record_in bytes.now }
         ensures bytes { record_bytes result ≡ bytes.now }
     {
+        let nr = u32_at(bytes, 0);
+        let arch = u32_at(bytes, 4);
+        let ip = u64_at(bytes, 8);
+        let first = u64_at(bytes, 16);
+        let second = u64_at(bytes, 24);
+        let third = u64_at(bytes, 32);
+        let fourth = u64_at(bytes, 40);
+        let fifth = u64_at(bytes, 48);
+        let sixth = u64_at(bytes, 56);
         Record {
-            nr: u32_at(bytes, 0),
-            arch: u32_at(bytes, 4),
-            ip: u64_at(bytes, 8),
-            args: [
-                u64_at(bytes, 16),
-                u64_at(bytes, 24),
-                u64_at(bytes, 32),
-                u64_at(bytes, 40),
-                u64_at(bytes, 48),
-                u64_at(bytes, 56),
-            ],
+            nr,
+            arch,
+            ip,
+            args: [first, second, third, fourth, fifth, sixth],
         }
     }
 }

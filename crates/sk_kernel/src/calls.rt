@@ -2,7 +2,7 @@
 ghost use Rattle.std.specs.Prelude.{◌≡◌, ◌&&◌, IsTrue, IfSome, IfOk, OnOk, OnErr, pos, neg_ℤ, min};
 ghost use Rattle.sk_insn.specs.Actions.{performs};
 ghost use Rattle.sk_calls.specs.Syscalls.{syscall_of};
-ghost use Rattle.sk_chain.specs.Verdict.{verdict_of};
+ghost use Rattle.sk_filter.specs.Verdict.{verdict_of};
 ghost use Rattle.sk_world.specs.World.{at, is_alive};
 ghost use Rattle.sk_world.specs.Rules.{IsWorld};
 ghost use Rattle.sk_world.specs.Sending.{forced};
@@ -12,14 +12,12 @@ ghost use Rattle.sk_machine.specs.Performing.{end_of_caller};
 ghost use Rattle.sk_machine.specs.Machine.{judged, called};
 ghost use Rattle.sk_signal.specs.declared.number.TheConstants.{SIGSYS};
 
-use sk_chain::Chain;
-use sk_creds::Errno;
+use sk_filter::Chain;
 use sk_insn::{ALLOW, ARCHITECTURE, Action, Record};
-use sk_machine::{Answer, Images, Outcome};
-use sk_session::end;
+use sk_machine::{Answer, Images, Outcome, end};
 use sk_signal::number::SIGSYS;
 use sk_syscalls::perform;
-use sk_world::ProcStore;
+use sk_world::{Errno, ProcStore};
 use std::alloc::{AllocError, Global};
 
 /// The largest number that a filter's errno returns: seccomp(2), SECCOMP_RET_ERRNO.

@@ -5,8 +5,8 @@ ghost use Rattle.std.specs.Option.{option_to_list};
 ghost use Rattle.sk_machine.specs.Lines.{is_performed, has_answered, is_fork_of, line_before, calls_added, performed_call, call_of, line_of, history_of};
 ghost use Rattle.sk_kernel.specs.views.Lineages.{line_in};
 
-use sk_insn::Action;
-pub use sk_insn::Record as Call;
+use crate::stepping::recorded;
+use sk_insn::{Action, Record};
 use sk_machine::{Answer, Event, Outcome, Syscall};
 use std::alloc::{AllocError, Global};
 
@@ -15,7 +15,7 @@ use std::alloc::{AllocError, Global};
 #[derive(Drop)]
 pub struct Lineage {
     pub root: u32,
-    pub calls: Vec<Call>,
+    pub calls: Vec<Record>,
 }
 
 /// The line of a process, by all events that there were and their answers, the oldest first. It takes memory for the calls
@@ -43,7 +43,7 @@ pub fn line(
 }
 
 /// Puts a call behind the others, if there is one.
-fn add(calls: &mut Vec<Call>, call: Option<Call>) -> Result<(), AllocError>
+fn add(calls: &mut Vec<Record>, call: Option<Record>) -> Result<(), AllocError>
     ensures { OnOk result (calls.new.items ≡ calls.old.items ++ option_to_list call) }
 {
     if let Some(call) = call {
@@ -53,7 +53,7 @@ fn add(calls: &mut Vec<Call>, call: Option<Call>) -> Result<(), AllocError>
 }
 
 /// The call that an event adds to the line of a process, if it adds one.
-fn call_added(pid: u32, event: &Event, answer: &Answer) -> Option<Call>
+fn call_added(pid: u32, event: &Event, answer: &Answer) -> Option<Record>
     ensures { option_to_list result ≡ calls_added pid (event.now, answer.now) }
 {
     if event.pid() == pid && !is_fork_of(pid, event, answer) {
@@ -84,7 +84,7 @@ fn is_fork_of(pid: u32, event: &Event, answer: &Answer) -> bool
     }
 }
 
-fn performed_call(event: &Event, answer: &Answer) -> Option<Call>
+fn performed_call(event: &Event, answer: &Answer) -> Option<Record>
     ensures { result ≡ performed_call (event.now, answer.now) }
 {
     if is_performed(answer) {
@@ -94,16 +94,11 @@ fn performed_call(event: &Event, answer: &Answer) -> Option<Call>
     }
 }
 
-fn call_of(event: &Event) -> Option<Call>
+fn call_of(event: &Event) -> Option<Record>
     ensures { result ≡ call_of event.now }
 {
     match *event {
-        Event::Call {
-            pid: _,
-            ip,
-            nr,
-            args,
-        } => Some(Call::native(nr, ip, args)),
+        Event::Call { pid: _, ip, call } => Some(recorded(ip, &call)),
         _ => None,
     }
 }

@@ -3,19 +3,19 @@ ghost use Rattle.std.specs.Prelude.{◌≡◌, IsTrue, None, IfSome, IfOk, OnOk,
 ghost use Rattle.std.specs.Option.{is_some};
 ghost use Rattle.sk_world.specs.World.{at, is_alive};
 ghost use Rattle.sk_world.specs.Rules.{IsWorld};
-ghost use Rattle.sk_machine.specs.Events.{pid_of};
+ghost use Rattle.sk_machine.specs.Events.{pid_of, recorded};
 ghost use Rattle.sk_machine.specs.Delivering.{signal_for, signal_due};
 ghost use Rattle.sk_machine.specs.WaitCalls.{resumed};
 ghost use Rattle.sk_machine.specs.Machine.{reason_of, delivery, happened_to, step_of};
 ghost use Rattle.sk_machine.specs.Memory.{takes_memory};
 
 use crate::calls::call;
+use sk_calls::Call;
 use sk_candidates::{reason, signal_due};
-use sk_delivery::{deliver, resume};
 use sk_insn::Record;
-use sk_machine::{Answer, Event, Images, Outcome};
-use sk_session::end;
+use sk_machine::{Answer, Event, Images, Outcome, end};
 use sk_signal::number::SIGSEGV;
+use sk_syscalls::{deliver, resume};
 use sk_world::ProcStore;
 use std::alloc::{AllocError, Global};
 
@@ -70,9 +70,11 @@ fn happen<S: ProcStore>(
     ensures kept { OnErr result (S.contents store.new ≡ S.contents store.old) }
 {
     match *event {
-        Event::Call { pid, ip, nr, args } => {
-            call(store, images, alloc, pid, &Record::native(nr, ip, args))
-        }
+        Event::Call {
+            pid,
+            ip,
+            call: asked,
+        } => call(store, images, alloc, pid, &recorded(ip, &asked)),
         Event::Deliver { pid } => Ok(deliver_due(store, pid)),
         Event::Resume { pid } => Ok(Answer::Resumed(resume_call(store, pid))),
         Event::Fault { pid } => {
@@ -80,6 +82,14 @@ fn happen<S: ProcStore>(
             Ok(Answer::Crashed)
         }
     }
+}
+
+/// What filters see of a call that stands at this address.
+#[inline(always)]
+pub(crate) fn recorded(ip: u64, call: &Call) -> Record
+    ensures { result ≡ recorded ip call.now }
+{
+    Record::native(call.nr, ip, call.args)
 }
 
 fn deliver_due<S: ProcStore>(store: &mut S, pid: u32) -> Answer

@@ -1,7 +1,7 @@
 //! Pictures of processes, by which a table tells that they have not changed.
-use sk_creds::Creds;
 use sk_kernel::Kernel;
 use sk_table::{Life, Links, Note, Proc, ProcStore, Waiting};
+use sk_world::Creds;
 use std::alloc::Global;
 use std::test::Fail;
 

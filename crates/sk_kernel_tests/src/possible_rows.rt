@@ -1,6 +1,6 @@
 //! A row of an event that is known to be possible.
 use crate::given::NOTHING;
-use sk_calls::Syscall;
+use sk_calls::{Call, Syscall};
 use sk_kernel::{Answer, Event, Kernel, Outcome};
 use sk_table::SlotStore;
 use std::test::Fail;
@@ -12,8 +12,10 @@ fn possible_call_happens(rt: HostRuntime) -> Result<(), Fail> {
     let answer = kernel.happen(&Event::Call {
         pid: 1,
         ip: 0,
-        nr: 39,
-        args: [0; 6],
+        call: Call {
+            nr: 39,
+            args: [0; 6],
+        },
     })?;
     assert_eq!(rt;
         (answer, Syscall::Getpid.number()),

@@ -1,5 +1,5 @@
 //! The rows of tables, in short words for events and answers.
-use sk_calls::Syscall;
+use sk_calls::{Call, Syscall};
 use sk_kernel::{Answer, Effect, Event, Outcome, Reason};
 use sk_signal::SigSet;
 
@@ -78,8 +78,10 @@ pub(crate) fn event_of(pid: u32, nr: u32, registers: &[i64; 3]) -> Event {
     Event::Call {
         pid,
         ip: 0,
-        nr,
-        args: args_of(registers),
+        call: Call {
+            nr,
+            args: args_of(registers),
+        },
     }
 }
 

@@ -6,12 +6,12 @@ use Rattle.sk_insn.specs.declared.insn.Insn.{Insn}
 use Rattle.sk_insn.specs.declared.image.ImageFault.{ImageFault}
 use Rattle.sk_insn.specs.declared.record.Record.{Record}
 use Rattle.sk_insn.specs.Instructions.{instructions_of}
-use Rattle.sk_check.specs.FirstFault.{first_fault}
-use Rattle.sk_chain.specs.Chains.{path_limit, cost_of}
-use Rattle.sk_creds.specs.declared.errno.Errno.{Errno}
-use Rattle.sk_creds.specs.declared.errno.Errno.TheVariants.{Enoent, Enomem, Eacces, Efault, Einval}
-use Rattle.sk_creds.specs.declared.creds.Creds.{Creds}
-use Rattle.sk_creds.specs.Creds.{is_privileged, after_setuid, after_setresuid, after_exec}
+use Rattle.sk_filter.specs.FirstFault.{first_fault}
+use Rattle.sk_filter.specs.Chains.{path_limit, cost_of}
+use Rattle.sk_world.specs.declared.errno.Errno.{Errno}
+use Rattle.sk_world.specs.declared.errno.Errno.TheVariants.{Enoent, Enomem, Eacces, Efault, Einval}
+use Rattle.sk_world.specs.declared.creds.Creds.{Creds}
+use Rattle.sk_world.specs.Creds.{is_privileged, after_setuid, after_setresuid, after_exec}
 use Rattle.sk_world.specs.declared.process.Body.{Body}
 use Rattle.sk_machine.specs.declared.images.Mark.{Mark}
 use Rattle.sk_machine.specs.declared.operation.PrctlOption.{PrctlOption}

@@ -21,8 +21,8 @@ use Rattle.sk_world.specs.declared.process.Body.{Body}
 use Rattle.sk_world.specs.declared.process.Proc.{Proc}
 use Rattle.sk_world.specs.World.{World, at, has_stopped, parent_of, changed}
 use Rattle.sk_world.specs.Sending.{sent}
-use Rattle.sk_session.specs.Sessions.{group_of}
-use Rattle.sk_session.specs.Orphans.{is_orphaned, ended_and_hung_up}
+use Rattle.sk_machine.specs.Sessions.{group_of}
+use Rattle.sk_machine.specs.Orphans.{is_orphaned, ended_and_hung_up}
 use Rattle.sk_machine.specs.declared.answer.Effect.{Effect}
 use Rattle.sk_machine.specs.declared.answer.Effect.TheVariants.{Ignored, Stopped, Ended, Handler}
 

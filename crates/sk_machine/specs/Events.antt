@@ -1,16 +1,23 @@
--- Whose an event is, and the numbers of the reasons for which one is not possible.
+-- Whose an event is, what filters see of its call, and the numbers of the reasons for which one is not possible.
 use Rattle.std.specs.Prelude.{ℕ}
+use Rattle.sk_insn.specs.declared.record.Record.{Record}
+use Rattle.sk_insn.specs.Record.{native}
+use Rattle.sk_calls.specs.declared.call.Call.{Call}
 use Rattle.sk_machine.specs.declared.event.Event.{Event}
-use Rattle.sk_machine.specs.declared.event.Event.TheVariants.{Call, Deliver, Resume, Fault}
+use Rattle.sk_machine.specs.declared.event.Event.TheVariants as event
 use Rattle.sk_machine.specs.declared.answer.Reason.{Reason}
 use Rattle.sk_machine.specs.declared.answer.Reason.TheVariants.{NoProcess, Zombie, Stopped, Waiting, SignalFirst, NothingWaits, Halted}
 
 -- the process whose event it is
 abbrev pub pid_of : Event → ℕ
-pid_of (Call pid ip nr args) = pid
-pid_of (Deliver pid) = pid
-pid_of (Resume pid) = pid
-pid_of (Fault pid) = pid
+pid_of (event.Call pid ip call) = pid
+pid_of (event.Deliver pid) = pid
+pid_of (event.Resume pid) = pid
+pid_of (event.Fault pid) = pid
+
+-- what filters see of a call that stands at this address
+abbrev pub recorded : ℕ → Call → Record
+recorded ip call = native call.nr ip call.args
 
 -- the number of a reason
 abbrev pub number_of : Reason → ℕ

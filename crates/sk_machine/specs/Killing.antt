@@ -2,10 +2,10 @@
 use Rattle.std.specs.Prelude.{ℕ, ℤ, ◌==◌, Bool, false, not, ◌&&◌, ◌||◌, nat_le, if◌then◌else◌, List, filter, length, Option, Result, Ok, Err}
 use Rattle.std.specs.Option.{option_map_or}
 use Rattle.sk_signal.specs.declared.number.TheConstants.{SIGCONT}
-use Rattle.sk_creds.specs.declared.errno.Errno.{Errno}
-use Rattle.sk_creds.specs.declared.errno.Errno.TheVariants.{Eperm, Esrch, Einval}
-use Rattle.sk_creds.specs.declared.creds.Creds.{Creds}
-use Rattle.sk_creds.specs.Creds.{may_signal}
+use Rattle.sk_world.specs.declared.errno.Errno.{Errno}
+use Rattle.sk_world.specs.declared.errno.Errno.TheVariants.{Eperm, Esrch, Einval}
+use Rattle.sk_world.specs.declared.creds.Creds.{Creds}
+use Rattle.sk_world.specs.Creds.{may_signal}
 use Rattle.sk_world.specs.declared.process.TheConstants.{INIT}
 use Rattle.sk_world.specs.declared.process.Proc.{Proc}
 use Rattle.sk_world.specs.declared.request.Who.{Who}
@@ -13,7 +13,7 @@ use Rattle.sk_world.specs.declared.request.Who.TheVariants as who
 use Rattle.sk_world.specs.Processes.{pids}
 use Rattle.sk_world.specs.World.{World, at, is_member_of}
 use Rattle.sk_world.specs.Sending.{sent_to_each}
-use Rattle.sk_session.specs.Sessions.{group_of, session_of}
+use Rattle.sk_machine.specs.Sessions.{group_of, session_of}
 use Rattle.sk_machine.specs.Arguments.{who_meant}
 
 -- the process is one of those that are meant: of all, process 1 and the caller are not. Zombies are meant too

@@ -1,3 +1,7 @@
+pub mod Sessions
+pub mod Orphans
+pub mod views
+pub mod laws
 pub mod Events
 pub mod Given
 pub mod Arguments

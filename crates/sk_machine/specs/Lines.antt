@@ -5,7 +5,6 @@ use Rattle.std.specs.Option.{option_map, option_map_or, option_to_list}
 use Rattle.std.specs.List.{zip}
 use Rattle.std.specs.Result.{result_unwrap_or}
 use Rattle.sk_insn.specs.declared.record.Record.{Record}
-use Rattle.sk_insn.specs.Record.{native}
 use Rattle.sk_insn.specs.Actions.{action_of, performs}
 use Rattle.sk_calls.specs.declared.syscall.Syscall.TheVariants as syscall
 use Rattle.sk_calls.specs.Syscalls.{number_of}
@@ -17,7 +16,7 @@ use Rattle.sk_machine.specs.declared.answer.Answer.TheVariants as answer
 use Rattle.sk_machine.specs.declared.answer.Outcome.{Outcome}
 use Rattle.sk_machine.specs.declared.answer.Outcome.TheVariants.{Returned, Told, Ids, Signals, Waits, Trapped, Ended, Executed}
 use Rattle.sk_machine.specs.Given.{GivenImages}
-use Rattle.sk_machine.specs.Events.{pid_of}
+use Rattle.sk_machine.specs.Events.{pid_of, recorded}
 use Rattle.sk_machine.specs.Authority.{Authority, authority_of, authority_after_call}
 use Rattle.sk_machine.specs.Machine.{step_of}
 
@@ -32,7 +31,7 @@ Happening = Event × Answer
 
 -- the call that an event is, if it is one
 abbrev pub call_of : Event → Option Record
-call_of (Call pid ip nr args) = Some (native nr ip args)
+call_of (Call pid ip call) = Some (recorded ip call)
 call_of (Deliver pid) = None
 call_of (Resume pid) = None
 call_of (Fault pid) = None

@@ -2,12 +2,11 @@
 use Rattle.std.specs.Prelude.{ℕ, Bool, false, not, ◌&&◌, if◌then◌else◌, pos, neg_ℤ, min, List, [], ◌∷◌, Option, None, Some}
 use Rattle.std.specs.Option.{is_some, option_and_then, option_map_or}
 use Rattle.sk_insn.specs.declared.record.Record.{Record}
-use Rattle.sk_insn.specs.Record.{native}
 use Rattle.sk_insn.specs.declared.action.Action.{Action}
 use Rattle.sk_insn.specs.declared.action.Action.TheVariants as action
 use Rattle.sk_insn.specs.Actions.{action_of, data_part}
-use Rattle.sk_chain.specs.Verdict.{verdict_of}
-use Rattle.sk_creds.specs.declared.errno.Errno.TheVariants.{Enosys}
+use Rattle.sk_filter.specs.Verdict.{verdict_of}
+use Rattle.sk_world.specs.declared.errno.Errno.TheVariants.{Enosys}
 use Rattle.sk_signal.specs.declared.number.TheConstants.{SIGSEGV, SIGSYS}
 use Rattle.sk_world.specs.declared.process.TheConstants.{INIT}
 use Rattle.sk_world.specs.declared.process.Life.{Life}
@@ -16,7 +15,7 @@ use Rattle.sk_world.specs.declared.process.Body.{Body}
 use Rattle.sk_world.specs.declared.process.Proc.{Proc}
 use Rattle.sk_world.specs.World.{World, at, is_halted, is_zombie, is_stopped}
 use Rattle.sk_world.specs.Sending.{forced}
-use Rattle.sk_session.specs.Orphans.{ended_and_hung_up}
+use Rattle.sk_machine.specs.Orphans.{ended_and_hung_up}
 use Rattle.sk_machine.specs.declared.event.Event.{Event}
 use Rattle.sk_machine.specs.declared.event.Event.TheVariants.{Call, Deliver, Resume, Fault}
 use Rattle.sk_machine.specs.declared.answer.Answer.{Answer}
@@ -24,7 +23,7 @@ use Rattle.sk_machine.specs.declared.answer.Answer.TheVariants as answer
 use Rattle.sk_machine.specs.declared.answer.Outcome.TheVariants.{Returned, Trapped}
 use Rattle.sk_machine.specs.declared.answer.Reason.{Reason}
 use Rattle.sk_machine.specs.declared.answer.Reason.TheVariants.{NoProcess, Zombie, Stopped, Waiting, SignalFirst, NothingWaits, Halted}
-use Rattle.sk_machine.specs.Events.{pid_of}
+use Rattle.sk_machine.specs.Events.{pid_of, recorded}
 use Rattle.sk_machine.specs.Given.{GivenImages}
 use Rattle.sk_machine.specs.Performed.{Performed, fails}
 use Rattle.sk_machine.specs.Performing.{performed, end_of_caller}
@@ -89,7 +88,7 @@ delivery w pid body o = option_map_or (λ n. signal_answered n (delivered w pid 
 
 -- an event that is possible, of a process with this body
 abbrev pub happened : GivenImages → World → Body → Event → Stepped
-happened images w body (Call pid ip nr args) = called images w pid body (native nr ip args)
+happened images w body (Call pid ip call) = called images w pid body (recorded ip call)
 happened images w body (Deliver pid) = delivery w pid body (signal_for body)
 happened images w body (Resume pid) = resume_answered (resumed w pid body.waiting)
 happened images w body (Fault pid) = record { answer = answer.Crashed; world = ended_and_hung_up w pid SIGSEGV }
@@ -114,7 +113,7 @@ deliver_reason w pid = if is_some (signal_due (at w pid)) then None else Some No
 
 -- why an event of a process that lives is not possible
 abbrev pub own_reason : World → Event → Option Reason
-own_reason w (Call pid ip nr args) = call_reason w pid
+own_reason w (Call pid ip call) = call_reason w pid
 own_reason w (Deliver pid) = deliver_reason w pid
 own_reason w (Resume pid) = resume_reason w pid
 own_reason w (Fault pid) = call_reason w pid
@@ -122,7 +121,7 @@ own_reason w (Fault pid) = call_reason w pid
 -- the event delivers the signal that is due, which to a stopped process is SIGKILL alone
 abbrev pub is_due_delivery : World → Event → Bool
 is_due_delivery w (Deliver pid) = is_some (signal_due (at w pid))
-is_due_delivery w (Call pid ip nr args) = false
+is_due_delivery w (Call pid ip call) = false
 is_due_delivery w (Resume pid) = false
 is_due_delivery w (Fault pid) = false
 

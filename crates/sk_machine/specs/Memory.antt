@@ -3,10 +3,9 @@ use Rattle.std.specs.Prelude.{ℕ, ◌==◌, Bool, false, not, ◌&&◌, if◌th
 use Rattle.std.specs.Option.{is_some, option_map_or}
 use Rattle.std.specs.Result.{is_ok}
 use Rattle.sk_insn.specs.declared.record.Record.{Record}
-use Rattle.sk_insn.specs.Record.{native}
 use Rattle.sk_insn.specs.Actions.{action_of, performs}
 use Rattle.sk_insn.specs.Instructions.{instructions_of}
-use Rattle.sk_chain.specs.Verdict.{verdict_of}
+use Rattle.sk_filter.specs.Verdict.{verdict_of}
 use Rattle.sk_calls.specs.declared.syscall.Syscall.{Syscall}
 use Rattle.sk_calls.specs.declared.syscall.Syscall.TheVariants as syscall
 use Rattle.sk_calls.specs.Syscalls.{syscall_of}
@@ -20,6 +19,7 @@ use Rattle.sk_machine.specs.declared.operation.PrctlOption.TheVariants as option
 use Rattle.sk_machine.specs.declared.operation.SeccompOperation.{SeccompOperation}
 use Rattle.sk_machine.specs.declared.operation.SeccompOperation.TheVariants as operation
 use Rattle.sk_machine.specs.Arguments.{register, low, prctl_option_of, seccomp_operation_of}
+use Rattle.sk_machine.specs.Events.{recorded}
 use Rattle.sk_machine.specs.Given.{GivenImages, filter_image}
 use Rattle.sk_machine.specs.Machine.{reason_of}
 
@@ -55,8 +55,8 @@ call_takes_memory images w pid call =
 
 -- an event may want memory: it is such a call, and possible. No other event ever does
 abbrev pub takes_memory : GivenImages → World → Event → Bool
-takes_memory images w (Call pid ip nr args) =
-    not (is_some (reason_of w (Call pid ip nr args))) && call_takes_memory images w pid (native nr ip args)
+takes_memory images w (Call pid ip call) =
+    not (is_some (reason_of w (Call pid ip call))) && call_takes_memory images w pid (recorded ip call)
 takes_memory images w (Deliver pid) = false
 takes_memory images w (Resume pid) = false
 takes_memory images w (Fault pid) = false

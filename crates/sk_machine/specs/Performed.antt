@@ -1,7 +1,7 @@
 -- What a performed call comes to: its outcome, and the world afterwards.
 use Rattle.std.specs.Prelude.{ℕ, pos, neg_ℤ, Result, Ok, Err}
-use Rattle.sk_creds.specs.declared.errno.Errno.{Errno}
-use Rattle.sk_creds.specs.Errno.{number_of}
+use Rattle.sk_world.specs.declared.errno.Errno.{Errno}
+use Rattle.sk_world.specs.Errno.{number_of}
 use Rattle.sk_world.specs.declared.process.Waiting.{Waiting}
 use Rattle.sk_world.specs.declared.process.Body.{Body}
 use Rattle.sk_world.specs.World.{World, changed}

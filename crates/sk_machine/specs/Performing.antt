@@ -5,17 +5,17 @@ use Rattle.std.specs.Option.{is_some}
 use Rattle.sk_insn.specs.declared.record.Record.{Record}
 use Rattle.sk_insn.specs.declared.insn.Insn.{Insn}
 use Rattle.sk_insn.specs.Actions.{value_of, action_of, data_part}
-use Rattle.sk_creds.specs.declared.errno.Errno.{Errno}
-use Rattle.sk_creds.specs.declared.errno.Errno.TheVariants.{Einval, Enosys, Eopnotsupp}
-use Rattle.sk_creds.specs.declared.creds.Creds.{Creds}
+use Rattle.sk_world.specs.declared.errno.Errno.{Errno}
+use Rattle.sk_world.specs.declared.errno.Errno.TheVariants.{Einval, Enosys, Eopnotsupp}
+use Rattle.sk_world.specs.declared.creds.Creds.{Creds}
 use Rattle.sk_signal.specs.SignalSet.{Signals as SignalMembers}
 use Rattle.sk_signal.specs.Signalling.{after_exec}
 use Rattle.sk_world.specs.declared.process.Waiting.TheVariants as waiting
 use Rattle.sk_world.specs.declared.process.Body.{Body}
 use Rattle.sk_world.specs.World.{World, at, parent_of, changed}
 use Rattle.sk_world.specs.Forking.{fork_answer, forked}
-use Rattle.sk_session.specs.Orphans.{ended_and_hung_up}
-use Rattle.sk_session.specs.Sessions.{group_of, after_setpgid, after_setsid, group_asked, session_asked}
+use Rattle.sk_machine.specs.Orphans.{ended_and_hung_up}
+use Rattle.sk_machine.specs.Sessions.{group_of, after_setpgid, after_setsid, group_asked, session_asked}
 use Rattle.sk_machine.specs.declared.answer.Outcome.TheVariants.{Ids, Signals, Ended, Executed}
 use Rattle.sk_machine.specs.declared.operation.PrctlOption.{PrctlOption}
 use Rattle.sk_machine.specs.declared.operation.PrctlOption.TheVariants as option

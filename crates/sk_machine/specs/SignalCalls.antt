@@ -9,8 +9,8 @@ use Rattle.sk_signal.specs.SignalState.{SignalState}
 use Rattle.sk_signal.specs.Signalling.{with_mask, with_action}
 use Rattle.sk_signal.specs.Delivery.{popped}
 use Rattle.sk_insn.specs.declared.record.Record.{Record}
-use Rattle.sk_creds.specs.declared.errno.Errno.{Errno}
-use Rattle.sk_creds.specs.declared.errno.Errno.TheVariants.{Einval}
+use Rattle.sk_world.specs.declared.errno.Errno.{Errno}
+use Rattle.sk_world.specs.declared.errno.Errno.TheVariants.{Einval}
 use Rattle.sk_world.specs.declared.process.TheConstants.{INIT}
 use Rattle.sk_world.specs.declared.process.Body.{Body}
 use Rattle.sk_world.specs.World.{World, changed}

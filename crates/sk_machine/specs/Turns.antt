@@ -42,7 +42,7 @@ need_of w pid =
 
 -- the need that an event meets: a fault comes in place of a call
 abbrev pub need_met_by : Event → Need
-need_met_by (Call pid ip nr args) = need.Call
+need_met_by (Call pid ip call) = need.Call
 need_met_by (Deliver pid) = need.Deliver
 need_met_by (Resume pid) = need.Resume
 need_met_by (Fault pid) = need.Call

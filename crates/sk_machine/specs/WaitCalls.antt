@@ -1,7 +1,7 @@
 -- wait4(2) as a call: whom its registers ask for, what it comes to, and how a waiting call asks again.
 use Rattle.std.specs.Prelude.{ℕ, ◌^◌, ◌==◌, Bool, not, if◌then◌else◌, bit_and}
 use Rattle.sk_insn.specs.declared.record.Record.{Record}
-use Rattle.sk_creds.specs.declared.errno.Errno.TheVariants.{Esrch, Echild, Einval}
+use Rattle.sk_world.specs.declared.errno.Errno.TheVariants.{Esrch, Echild, Einval}
 use Rattle.sk_world.specs.declared.request.Request.{Request}
 use Rattle.sk_world.specs.declared.request.Poll.{Poll}
 use Rattle.sk_world.specs.declared.request.Poll.TheVariants as poll
@@ -9,7 +9,7 @@ use Rattle.sk_world.specs.declared.process.Waiting.{Waiting}
 use Rattle.sk_world.specs.declared.process.Waiting.TheVariants.{Nothing, Pause, Asks}
 use Rattle.sk_world.specs.World.{World, at, changed}
 use Rattle.sk_world.specs.Waits.{is_no_hang, options_of, ready_of, told}
-use Rattle.sk_session.specs.Sessions.{group_of}
+use Rattle.sk_machine.specs.Sessions.{group_of}
 use Rattle.sk_machine.specs.declared.answer.Outcome.TheVariants.{Told, Waits}
 use Rattle.sk_machine.specs.Arguments.{low, signed, who_meant}
 use Rattle.sk_machine.specs.Performed.{Performed, returns, fails, waits, waiting_in}

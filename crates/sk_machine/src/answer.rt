@@ -1,11 +1,11 @@
 //! The answers to events: outcomes of calls, effects of signals, and reasons why an event is not possible.
 ghost use Rattle.std.specs.Prelude.{◌≡◌, pos, neg_ℤ};
-ghost use Rattle.sk_creds.specs.Errno.{number_of as errno_of};
+ghost use Rattle.sk_world.specs.Errno.{number_of as errno_of};
 ghost use Rattle.sk_machine.specs.Events.{number_of};
 ghost use Rattle.sk_machine.specs.declared.answer.Outcome.TheVariants.{Returned};
 
-use sk_creds::Errno;
 use sk_signal::SigSet;
+use sk_world::Errno;
 
 /// What an event came to.
 #[derive(Clone, Copy, PartialEq, Eq, Debug)]

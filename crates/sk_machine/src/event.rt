@@ -3,30 +3,20 @@ ghost use Rattle.std.specs.Prelude.{◌≡◌};
 ghost use Rattle.sk_machine.specs.Delivering.{is_waiting};
 ghost use Rattle.sk_machine.specs.Events.{pid_of};
 
+use sk_calls::Call;
 use sk_world::Waiting;
 
 /// One event of the kernel, in which it does all that it does at once.
 #[derive(Clone, Copy, PartialEq, Eq, Debug)]
 pub enum Event {
     /// A process makes a call: its filters judge it, and it is performed or not.
-    Call {
-        pid: u32,
-        ip: u64,
-        nr: u32,
-        args: [u64; 6],
-    },
+    Call { pid: u32, ip: u64, call: Call },
     /// A signal is delivered to a process.
-    Deliver {
-        pid: u32,
-    },
+    Deliver { pid: u32 },
     /// A process that waits in a call asks again.
-    Resume {
-        pid: u32,
-    },
+    Resume { pid: u32 },
     /// A process runs into a fault of its own.
-    Fault {
-        pid: u32,
-    },
+    Fault { pid: u32 },
 }
 
 /// What the next event of a process is.

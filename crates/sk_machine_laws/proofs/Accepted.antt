@@ -6,16 +6,16 @@ use Rattle.std.specs.Result.{result_unwrap_or}
 use Rattle.std.proofs.lemmas.Bool.{true≢false, cond_both, ltb-false}
 use Rattle.sk_insn.specs.declared.insn.Insn.{Insn}
 use Rattle.sk_insn.specs.declared.record.Record.{Record}
-use Rattle.sk_check.specs.declared.fault.CheckFault.{CheckFault}
-use Rattle.sk_check.specs.FirstFault.{first_fault}
-use Rattle.sk_check.proofs.FirstFaults.{first_fault-None}
-use Rattle.sk_interp.proofs.ValidMeanings.{valid_returns}
-use Rattle.sk_chain.specs.Chains.{StepsAreBounded, cost_of, AllValid}
-use Rattle.sk_chain.proofs.Bounds.{bounded}
-use Rattle.sk_creds.specs.declared.errno.Errno.{Errno}
-use Rattle.sk_creds.specs.declared.errno.Errno.TheVariants.{Enomem, Eacces, Einval}
-use Rattle.sk_creds.specs.declared.creds.Creds.{Creds}
-use Rattle.sk_creds.specs.Creds.{is_privileged, after_setuid, after_setresuid}
+use Rattle.sk_filter.specs.declared.fault.CheckFault.{CheckFault}
+use Rattle.sk_filter.specs.FirstFault.{first_fault}
+use Rattle.sk_filter.proofs.FirstFaults.{first_fault-None}
+use Rattle.sk_filter.proofs.ValidMeanings.{valid_returns}
+use Rattle.sk_filter.specs.Chains.{StepsAreBounded, cost_of, AllValid}
+use Rattle.sk_filter.proofs.Bounds.{bounded}
+use Rattle.sk_world.specs.declared.errno.Errno.{Errno}
+use Rattle.sk_world.specs.declared.errno.Errno.TheVariants.{Enomem, Eacces, Einval}
+use Rattle.sk_world.specs.declared.creds.Creds.{Creds}
+use Rattle.sk_world.specs.Creds.{is_privileged, after_setuid, after_setresuid}
 use Rattle.sk_world.specs.declared.process.TheConstants.{INIT}
 use Rattle.sk_world.specs.Processes.{none}
 use Rattle.sk_world.specs.World.{first_process, opening, at}

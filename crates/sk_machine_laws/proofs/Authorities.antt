@@ -10,9 +10,9 @@ use Rattle.sk_world.specs.World.{World, at, body_changed, changed, links_changed
 use Rattle.sk_world.specs.Sending.{sent}
 use Rattle.sk_world.specs.Ending.{ended}
 use Rattle.sk_world.specs.Waits.{told}
-use Rattle.sk_world_laws.specs.ChangeLaws.{StaysInRights, KeepsRights}
+use Rattle.sk_machine_laws.specs.ChangeLaws.{StaysInRights, KeepsRights}
 use Rattle.sk_world.proofs.Stored.{everywhere, at_here}
-use Rattle.sk_world_laws.proofs.Rights.{sent_rights, told_rights, ended_rights}
+use Rattle.sk_machine_laws.proofs.Rights.{sent_rights, told_rights, ended_rights}
 use Rattle.sk_machine.specs.Authority.{Authority, authority_of}
 use Rattle.sk_machine_laws.proofs.Carrying.{Carries}
 

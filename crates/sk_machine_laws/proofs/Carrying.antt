@@ -5,8 +5,8 @@ use Rattle.std.specs.Option.{is_some, option_map}
 use Rattle.std.specs.Int.{is_negative}
 use Rattle.std.proofs.lemmas.Bool.{cond_both}
 use Rattle.sk_insn.specs.declared.record.Record.{Record}
-use Rattle.sk_creds.specs.declared.errno.Errno.{Errno}
-use Rattle.sk_creds.specs.declared.errno.Errno.TheVariants.{Eperm, Esrch, Einval}
+use Rattle.sk_world.specs.declared.errno.Errno.{Errno}
+use Rattle.sk_world.specs.declared.errno.Errno.TheVariants.{Eperm, Esrch, Einval}
 use Rattle.sk_signal.specs.declared.number.TheConstants.{SIGHUP, SIGKILL, SIGSEGV, SIGCHLD, SIGCONT, SIGSYS}
 use Rattle.sk_signal.specs.declared.state.TheConstants.{FRAMES}
 use Rattle.sk_signal.specs.declared.disposition.DefaultAction.{DefaultAction}
@@ -31,8 +31,8 @@ use Rattle.sk_world.specs.Sending.{sent, sent_to_each}
 use Rattle.sk_world.specs.Ending.{ended}
 use Rattle.sk_world.specs.Waits.{is_no_hang, ready_of, told}
 use Rattle.sk_world.proofs.Stored.{at_here}
-use Rattle.sk_session.specs.Orphans.{is_living_member, is_orphaned, is_left_orphaned, groups, sent_to_group, hung_up, each_hung_up, ended_and_hung_up}
-use Rattle.sk_session.specs.Sessions.{group_of, pid_named, is_group, links_in_group, links_of_leader, may_regroup, put_into_group, regrouped, after_setpgid, after_setsid}
+use Rattle.sk_machine.specs.Orphans.{is_living_member, is_orphaned, is_left_orphaned, groups, sent_to_group, hung_up, each_hung_up, ended_and_hung_up}
+use Rattle.sk_machine.specs.Sessions.{group_of, pid_named, is_group, links_in_group, links_of_leader, may_regroup, put_into_group, regrouped, after_setpgid, after_setsid}
 use Rattle.sk_machine.specs.Arguments.{low}
 use Rattle.sk_machine.specs.Authority.{authority_of}
 use Rattle.sk_machine.specs.Performed.{Performed, returns, fails, asked, changes, waiting_in, waits}
@@ -40,7 +40,7 @@ use Rattle.sk_machine.specs.SignalCalls.{with_signals, resignals}
 use Rattle.sk_machine.specs.Killing.{targets, permitted, killed, after_kill}
 use Rattle.sk_machine.specs.WaitCalls.{are_wait_options, request_of, polled, wait4, polled_again, resumed}
 use Rattle.sk_machine.specs.Delivering.{Delivered, terminated_by, in_handler, enters_handler, stopping, ignored, acts_by_default, acts_by_disposition, taking, acted_on, delivered, stopped_by}
-use Rattle.sk_creds.specs.declared.creds.Creds.{Creds}
+use Rattle.sk_world.specs.declared.creds.Creds.{Creds}
 
 -- a change of a process that leaves its authority and its mark
 abbrev pub IsOrdinary : (Body → Body) → Type 0

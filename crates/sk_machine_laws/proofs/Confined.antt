@@ -8,13 +8,13 @@ use Rattle.std.specs.Int.{is_negative}
 use Rattle.std.proofs.lemmas.Int.{ints}
 use Rattle.std.proofs.lemmas.Bool.{false≢true, cond_both, eqb-true, eq-eqb, ne_eqb, not-false, and_parts, and_from, eqb-false, false_from_ne_true}
 use Rattle.sk_insn.specs.declared.record.Record.{Record}
-use Rattle.sk_insn.specs.Record.{native, IsNative}
+use Rattle.sk_insn.specs.Record.{IsNative}
 use Rattle.sk_insn.specs.declared.action.Action.{Action}
 use Rattle.sk_insn.specs.declared.action.Action.TheVariants as action
 use Rattle.sk_insn.specs.Actions.{action_of, performs}
-use Rattle.sk_chain.specs.Verdict.{verdict_of}
-use Rattle.sk_creds.specs.declared.errno.Errno.{Errno}
-use Rattle.sk_creds.specs.declared.errno.Errno.TheVariants.{Eperm, Esrch, Eagain, Eacces, Einval}
+use Rattle.sk_filter.specs.Verdict.{verdict_of}
+use Rattle.sk_world.specs.declared.errno.Errno.{Errno}
+use Rattle.sk_world.specs.declared.errno.Errno.TheVariants.{Eperm, Esrch, Eagain, Eacces, Einval}
 use Rattle.sk_signal.specs.declared.number.TheConstants.{SIGHUP, SIGKILL, SIGSEGV, SIGCHLD, SIGCONT, SIGSYS}
 use Rattle.sk_signal.specs.declared.state.TheConstants.{FRAMES}
 use Rattle.sk_signal.specs.declared.disposition.DefaultAction.{DefaultAction}
@@ -43,19 +43,19 @@ use Rattle.sk_world.specs.Waits.{is_no_hang, is_match, status_of, ready_of, told
 use Rattle.sk_world.proofs.Stored.{everywhere, at_here, at_other}
 use Rattle.sk_world.proofs.KeptEnd.{handed_cases, handed_at}
 use Rattle.sk_world.proofs.KeptTold.{match_parent}
-use Rattle.sk_world_laws.proofs.Locality.{forced_touches, told_touches, forked_touches}
+use Rattle.sk_machine_laws.proofs.Locality.{forced_touches, told_touches, forked_touches}
 use Rattle.sk_world.proofs.Telling.{ready_lowest}
 use Rattle.sk_world.proofs.Fresh.{fresh_absent}
 use Rattle.std.proofs.lemmas.Bool.{ltb-true}
 use Rattle.sk_world.specs.declared.process.TheConstants.{PROCESSES}
 use Rattle.sk_world.specs.Processes.{count, pids}
-use Rattle.sk_session.specs.Orphans.{is_living_member, is_orphaned, has_stopped_member, is_left_orphaned, groups, sent_to_group, hung_up, each_hung_up, ended_and_hung_up}
-use Rattle.sk_session.specs.Sessions.{group_of, pid_named, session_of, has_executed, is_group, is_group_of_session, links_in_group, links_of_leader, may_move_child, may_join, put_into_group, regrouped, after_setpgid, after_setsid}
+use Rattle.sk_machine.specs.Orphans.{is_living_member, is_orphaned, has_stopped_member, is_left_orphaned, groups, sent_to_group, hung_up, each_hung_up, ended_and_hung_up}
+use Rattle.sk_machine.specs.Sessions.{group_of, pid_named, session_of, has_executed, is_group, is_group_of_session, links_in_group, links_of_leader, may_move_child, may_join, put_into_group, regrouped, after_setpgid, after_setsid}
 use Rattle.sk_machine.specs.declared.event.Event.{Event}
 use Rattle.sk_machine.specs.declared.event.Event.TheVariants.{Call, Deliver, Resume, Fault}
 use Rattle.sk_calls.specs.declared.syscall.Syscall.{Syscall}
 use Rattle.sk_calls.specs.declared.syscall.Syscall.TheVariants as syscall
-use Rattle.sk_machine.specs.Events.{pid_of}
+use Rattle.sk_machine.specs.Events.{pid_of, recorded}
 use Rattle.sk_machine.specs.Given.{GivenImages}
 use Rattle.sk_calls.specs.Syscalls.{syscall_of}
 use Rattle.sk_calls.proofs.SyscallTable.{number_of-syscall_of}
@@ -68,7 +68,7 @@ use Rattle.sk_machine.specs.Performing.{executing, execve, forks, subreaper_set,
 use Rattle.sk_machine.specs.Delivering.{Delivered, signal_for, terminated_by, in_handler, enters_handler, stopping, ignored, acts_by_default, acts_by_disposition, taking, acted_on, delivered, stopped_by}
 use Rattle.sk_machine.specs.Machine.{Stepped, judged, happened}
 use Rattle.sk_machine_laws.specs.ConfinementLaws.{RefusesKill, after_signals, is_of_stop, is_of_end, becomes_orphaned, IsTold, IsConfined, is_end, is_end_by_signal, is_stop, ends, stops, EventIsConfined}
-use Rattle.sk_session.proofs.HangingUp.{each_hung_up_by}
+use Rattle.sk_machine.proofs.HangingUp.{each_hung_up_by}
 use Rattle.sk_machine_laws.proofs.LeftOrphaned.{AreAlike, alike_still, alike_twice, alike_sent, alike_changed, orphaned_alike, StopsNobody, stopped_group, changed_stops, ended_stops}
 use Rattle.sk_machine_laws.proofs.Growing.{lets_through}
 use Rattle.sk_machine_laws.proofs.EachCall.{is_kill_row, each_call}
@@ -513,8 +513,8 @@ SparesStep w pid q s = Alone w pid q (ends s.answer) (stops s.answer) s.world
 
 spares_happened : (images : GivenImages) (w : World) (body : Body) (event : Event) (q : ℕ) → IsWorld w → IsApart w (pid_of event) q → IsTrue (is_some (at w q))
     → RefusesKill body.chain → SparesStep w (pid_of event) q (happened images w body event)
-spares_happened images w body (Call pid ip nr args) q rules apart there refuses =
-    let call : Record = native nr ip args in
+spares_happened images w body (Call pid ip asked) q rules apart there refuses =
+    let call : Record = recorded ip asked in
     let verdict : ℕ = verdict_of body.chain call in
     spares_judged images w pid q body call verdict (action_of verdict) rules apart there (no_kill body call refl refuses)
 spares_happened images w body (Deliver pid) q rules apart there refuses = at_delivery w pid body (signal_for body) (SparesStep w pid q) (spares_world w pid q) (λ n. spares_delivered w pid body n q apart)

@@ -1,15 +1,15 @@
 -- What a performed call comes to, by what it does, so that a law goes through a dozen cases and not through each call.
 use Rattle.std.specs.Prelude.{ℕ, Bool, true, false, Option, None, Some, Result, Ok, Err}
 use Rattle.sk_insn.specs.declared.record.Record.{Record}
-use Rattle.sk_creds.specs.declared.errno.Errno.{Errno}
-use Rattle.sk_creds.specs.declared.errno.Errno.TheVariants.{Einval, Enosys}
+use Rattle.sk_world.specs.declared.errno.Errno.{Errno}
+use Rattle.sk_world.specs.declared.errno.Errno.TheVariants.{Einval, Enosys}
 use Rattle.sk_signal.specs.SignalSet.{Signals}
 use Rattle.sk_signal.specs.SignalState.{SignalState}
 use Rattle.sk_world.specs.declared.process.Body.{Body}
 use Rattle.sk_world.specs.declared.process.Waiting.TheVariants as waiting
 use Rattle.sk_world.specs.World.{World, at, parent_of}
 use Rattle.sk_world.specs.Forking.{fork_answer}
-use Rattle.sk_session.specs.Sessions.{group_of, after_setpgid, after_setsid, group_asked, session_asked}
+use Rattle.sk_machine.specs.Sessions.{group_of, after_setpgid, after_setsid, group_asked, session_asked}
 use Rattle.sk_machine.specs.declared.operation.PrctlOption.{PrctlOption}
 use Rattle.sk_machine.specs.declared.operation.PrctlOption.TheVariants as option
 use Rattle.sk_machine.specs.declared.operation.SeccompOperation.{SeccompOperation}

@@ -7,23 +7,22 @@ use Rattle.std.specs.Int.{cast_signed, w32}
 use Rattle.std.proofs.lemmas.Bool.{false≢true, cond_both, eqb-true}
 use Rattle.sk_insn.specs.declared.insn.Insn.{Insn}
 use Rattle.sk_insn.specs.declared.record.Record.{Record}
-use Rattle.sk_insn.specs.Record.{native}
 use Rattle.sk_insn.specs.declared.action.Action.{Action}
 use Rattle.sk_insn.specs.declared.action.Action.TheVariants as action
 use Rattle.sk_insn.specs.Actions.{action_of, action_part, performs}
-use Rattle.sk_check.specs.FirstFault.{first_fault}
-use Rattle.sk_chain.specs.Precedence.{precedence_of}
-use Rattle.sk_chain.specs.Verdict.{values_of, first_of, verdict_of, IsAtMost}
-use Rattle.sk_chain.proofs.Verdicts.{first_of-least}
-use Rattle.sk_chain.specs.Chains.{cost_of}
-use Rattle.sk_creds.specs.declared.errno.Errno.{Errno}
-use Rattle.sk_creds.specs.declared.errno.Errno.TheVariants.{Eperm, Enomem, Eacces, Einval}
-use Rattle.sk_creds.specs.declared.creds.Creds.{Creds}
-use Rattle.sk_creds.specs.declared.creds.TheConstants.{NO_ID}
-use Rattle.sk_creds.specs.Creds.{is_privileged, is_real_or_saved, may_take, after_setuid, after_setresuid}
+use Rattle.sk_filter.specs.FirstFault.{first_fault}
+use Rattle.sk_filter.specs.Verdict.{values_of, first_of, verdict_of, IsAtMost, precedence_of}
+use Rattle.sk_filter.proofs.Verdicts.{first_of-least}
+use Rattle.sk_filter.specs.Chains.{cost_of}
+use Rattle.sk_calls.specs.declared.call.Call.{Call}
+use Rattle.sk_world.specs.declared.errno.Errno.{Errno}
+use Rattle.sk_world.specs.declared.errno.Errno.TheVariants.{Eperm, Enomem, Eacces, Einval}
+use Rattle.sk_world.specs.declared.creds.Creds.{Creds}
+use Rattle.sk_world.specs.declared.creds.TheConstants.{NO_ID}
+use Rattle.sk_world.specs.Creds.{is_privileged, is_real_or_saved, may_take, after_setuid, after_setresuid}
 use Rattle.sk_world.specs.World.{World, at}
 use Rattle.sk_world.proofs.KeptEnd.{alive_is_there}
-use Rattle.sk_machine.specs.declared.event.Event.TheVariants.{Call}
+use Rattle.sk_machine.specs.declared.event.Event.TheVariants as event
 use Rattle.sk_machine.specs.declared.answer.Answer.TheVariants as answer
 use Rattle.sk_machine.specs.declared.answer.Outcome.{Outcome}
 use Rattle.sk_machine.specs.declared.images.Mark.{Mark}
@@ -33,6 +32,7 @@ use Rattle.sk_machine.specs.declared.operation.SeccompOperation.{SeccompOperatio
 use Rattle.sk_machine.specs.declared.operation.SeccompOperation.TheVariants as operation
 use Rattle.sk_calls.specs.declared.syscall.Syscall.{Syscall}
 use Rattle.sk_calls.specs.declared.syscall.Syscall.TheVariants as syscall
+use Rattle.sk_machine.specs.Events.{recorded}
 use Rattle.sk_machine.specs.Given.{GivenImages, filter_image, mark_of}
 use Rattle.sk_calls.specs.Syscalls.{syscall_of}
 use Rattle.sk_machine.specs.Arguments.{register, low, prctl_option_of, seccomp_operation_of}
@@ -135,18 +135,18 @@ abbrev JudgedByFilters : World → ℕ → Record → ℕ → Outcome → Steppe
 JudgedByFilters w pid call verdict outcome s =
     s.answer ≡ answer.Call verdict outcome → IsTrue (is_some (at w pid)) × (judged_by call (authority_at w pid) ≡ Some verdict)
 
-pub judged_by_filters : (images : GivenImages) (w : World) (pid ip nr : ℕ) (args : List ℕ) (verdict : ℕ) (outcome : Outcome)
-    → JudgedByFilters w pid (native nr ip args) verdict outcome (step_of images w (Call pid ip nr args))
-judged_by_filters images w pid ip nr args verdict outcome =
-    let call : Record = native nr ip args in
-    at_step images w (Call pid ip nr args) (JudgedByFilters w pid call verdict outcome) (λ _ _ made. cc) (λ p there alive made.
+pub judged_by_filters : (images : GivenImages) (w : World) (pid ip : ℕ) (asked : Call) (verdict : ℕ) (outcome : Outcome)
+    → JudgedByFilters w pid (recorded ip asked) verdict outcome (step_of images w (event.Call pid ip asked))
+judged_by_filters images w pid ip asked verdict outcome =
+    let call : Record = recorded ip asked in
+    at_step images w (event.Call pid ip asked) (JudgedByFilters w pid call verdict outcome) (λ _ _ made. cc) (λ p there alive made.
     let same : verdict_of p.body.chain call ≡ verdict = cc in
     (alive_is_there (at w pid) alive, ap (λ o. judged_by call (authority_in o)) there ∙ ap (λ v. Some v) same))
 
 pub verdict_is_of_line : VerdictIsOfLine
-verdict_is_of_line images w events pid ip nr args verdict outcome made =
-    let judged = judged_by_filters images (world_after images w events) pid ip nr args verdict outcome made in
-    ap (judged_by (native nr ip args)) (sym (authority_is_of_line images w events pid judged.0).1) ∙ judged.1
+verdict_is_of_line images w events pid ip asked verdict outcome made =
+    let judged = judged_by_filters images (world_after images w events) pid ip asked verdict outcome made in
+    ap (judged_by (recorded ip asked)) (sym (authority_is_of_line images w events pid judged.0).1) ∙ judged.1
 
 pub equal_lines_may_do_the_same : EqualLinesMayDoTheSame
 equal_lines_may_do_the_same images v w one other p q equal =
@@ -192,8 +192,8 @@ no_refusal (first ∷ rest) place value performed here =
     (lets_through (first_of (first ∷ rest)) performed) (least.2 place value here)
 
 pub performed_meets_no_refusal : PerformedMeetsNoRefusal
-performed_meets_no_refusal images w events pid ip nr args verdict outcome a place value made performed known here =
-    let call : Record = native nr ip args in
+performed_meets_no_refusal images w events pid ip asked verdict outcome a place value made performed known here =
+    let call : Record = recorded ip asked in
     let same : verdict ≡ verdict_of a.programs call =
-    ap (λ o. unwrap_or o verdict) (sym (verdict_is_of_line images w events pid ip nr args verdict outcome made) ∙ ap (judged_by call) known) in
+    ap (λ o. unwrap_or o verdict) (sym (verdict_is_of_line images w events pid ip asked verdict outcome made) ∙ ap (judged_by call) known) in
     no_refusal (values_of a.programs call) place value (subst (λ v. IsTrue (performs (action_of v))) same performed) here

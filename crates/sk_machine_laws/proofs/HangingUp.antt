@@ -11,11 +11,11 @@ use Rattle.sk_world.specs.Sending.{signalled, generated_at, sent}
 use Rattle.sk_world.specs.Ending.{ended}
 use Rattle.sk_world.proofs.Stored.{everywhere}
 use Rattle.sk_world.proofs.Walks.{none_any, none_left}
-use Rattle.sk_world_laws.specs.ChangeLaws.{unsignalled, KeepsRights}
-use Rattle.sk_world_laws.proofs.Locality.{sent_leaves}
-use Rattle.sk_world_laws.proofs.Rights.{stays, kept_twice, sent_rights, ended_rights}
-use Rattle.sk_session.specs.Orphans.{is_orphaned, is_left_orphaned, groups, each_hung_up, ended_and_hung_up}
-use Rattle.sk_session.proofs.HangingUp.{ended_by, sent_life}
+use Rattle.sk_machine_laws.specs.ChangeLaws.{unsignalled, KeepsRights}
+use Rattle.sk_machine_laws.proofs.Locality.{sent_leaves}
+use Rattle.sk_machine_laws.proofs.Rights.{stays, kept_twice, sent_rights, ended_rights}
+use Rattle.sk_machine.specs.Orphans.{is_orphaned, is_left_orphaned, groups, each_hung_up, ended_and_hung_up}
+use Rattle.sk_machine.proofs.HangingUp.{ended_by, sent_life}
 use Rattle.sk_machine_laws.specs.HangingUpLaws.{EndKeepsRights, HangingUpKeepsAllElse, HangingUpEndsNobody, HangingUpKeepsZombies, EndWithoutStopped}
 
 -- ---- the rights

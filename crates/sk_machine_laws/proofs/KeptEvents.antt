@@ -4,13 +4,12 @@ use Rattle.std.specs.Prelude.{filter}
 use Rattle.std.specs.Option.{option_map}
 use Rattle.std.proofs.lemmas.Bool.{cond_both, eqb-true, eqb-false, not-true, not-false}
 use Rattle.sk_insn.specs.declared.record.Record.{Record}
-use Rattle.sk_insn.specs.Record.{native}
 use Rattle.sk_insn.specs.declared.action.Action.{Action}
 use Rattle.sk_insn.specs.declared.action.Action.TheVariants as action
 use Rattle.sk_insn.specs.Actions.{action_of}
-use Rattle.sk_chain.specs.Verdict.{verdict_of}
-use Rattle.sk_creds.specs.declared.errno.Errno.{Errno}
-use Rattle.sk_creds.specs.declared.errno.Errno.TheVariants.{Eperm, Esrch, Einval}
+use Rattle.sk_filter.specs.Verdict.{verdict_of}
+use Rattle.sk_world.specs.declared.errno.Errno.{Errno}
+use Rattle.sk_world.specs.declared.errno.Errno.TheVariants.{Eperm, Esrch, Einval}
 use Rattle.sk_signal.specs.declared.number.TheConstants.{SIGHUP, SIGKILL, SIGSEGV, SIGCHLD, SIGCONT, SIGSYS}
 use Rattle.sk_signal.specs.declared.state.TheConstants.{FRAMES}
 use Rattle.sk_signal.specs.declared.disposition.DefaultAction.{DefaultAction}
@@ -39,13 +38,13 @@ use Rattle.sk_world.proofs.KeptFork.{kept_forked}
 use Rattle.sk_world.proofs.KeptEnd.{kept_ended, alive_is_there}
 use Rattle.sk_world.proofs.KeptTold.{kept_told}
 use Rattle.sk_world.specs.Ending.{ended}
-use Rattle.sk_session.specs.Orphans.{is_living_member, is_orphaned, is_left_orphaned, groups, sent_to_group, hung_up, each_hung_up, ended_and_hung_up}
-use Rattle.sk_session.specs.Sessions.{group_of}
-use Rattle.sk_session.proofs.KeptLinks.{kept_setpgid, kept_setsid}
+use Rattle.sk_machine.specs.Orphans.{is_living_member, is_orphaned, is_left_orphaned, groups, sent_to_group, hung_up, each_hung_up, ended_and_hung_up}
+use Rattle.sk_machine.specs.Sessions.{group_of}
+use Rattle.sk_machine.proofs.KeptLinks.{kept_setpgid, kept_setsid}
 use Rattle.sk_machine.specs.declared.event.Event.{Event}
 use Rattle.sk_machine.specs.declared.event.Event.TheVariants.{Call, Deliver, Resume, Fault}
 use Rattle.sk_calls.specs.declared.syscall.Syscall.{Syscall}
-use Rattle.sk_machine.specs.Events.{pid_of}
+use Rattle.sk_machine.specs.Events.{pid_of, recorded}
 use Rattle.sk_machine.specs.Given.{GivenImages}
 use Rattle.sk_calls.specs.Syscalls.{syscall_of}
 use Rattle.sk_machine.specs.Arguments.{register, low, signed}
@@ -60,7 +59,7 @@ use Rattle.sk_machine.specs.Machine.{judged, happened, step_of}
 use Rattle.sk_machine_laws.specs.MachineLaws.{CallKeepsRules, DeliveryKeepsRules, ResumptionKeepsRules, EventKeepsRules, RunKeepsRules, ReachedHasRules}
 use Rattle.sk_machine_laws.proofs.Happened.{at_step, at_delivery}
 use Rattle.sk_machine_laws.proofs.EachCall.{each_call}
-use Rattle.sk_creds.specs.declared.creds.Creds.{Creds}
+use Rattle.sk_world.specs.declared.creds.Creds.{Creds}
 
 -- a change that leaves a process running, stopped or ended as it is
 kept_body : (w : World) (pid : ℕ) (f : Body → Body) → IsWorld w → ((body : Body) → (f body).life ≡ body.life) → IsWorld (changed w pid f)
@@ -246,8 +245,8 @@ kept_resumed w pid waiting.Nothing rules alive = rules
 -- ---- events
 pub kept_happened : (images : GivenImages) (w : World) (body : Body) (event : Event) → IsWorld w → IsTrue (is_alive (at w (pid_of event)))
     → IsWorld (happened images w body event).world
-kept_happened images w body (Call pid ip nr args) rules alive =
-    let call : Record = native nr ip args in
+kept_happened images w body (Call pid ip asked) rules alive =
+    let call : Record = recorded ip asked in
     let verdict : ℕ = verdict_of body.chain call in
     kept_judged images w pid body call verdict (action_of verdict) rules alive
 kept_happened images w body (Deliver pid) rules alive = at_delivery w pid body (signal_for body) (λ s. IsWorld s.world) rules (λ n. kept_delivered w pid body n rules alive)

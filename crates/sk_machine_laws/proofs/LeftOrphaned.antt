@@ -20,12 +20,12 @@ use Rattle.sk_world.proofs.Stored.{everywhere}
 use Rattle.sk_world.proofs.KeptEnd.{ended_later, handed_cases, handed_at}
 use Rattle.sk_world.proofs.Telling.{some_passes}
 use Rattle.sk_world.proofs.Walks.{any_here}
-use Rattle.sk_session.specs.Sessions.{session_of}
-use Rattle.sk_session.specs.Orphans.{is_living_member, is_outside, is_tie, is_orphaned, has_stopped_member}
-use Rattle.sk_session.proofs.HangingUp.{sent_life}
-use Rattle.sk_session.proofs.Hanging.{sent_view}
-use Rattle.sk_session.proofs.Ties.{tie_holds}
-use Rattle.sk_session.proofs.Walking.{member_is_there}
+use Rattle.sk_machine.specs.Sessions.{session_of}
+use Rattle.sk_machine.specs.Orphans.{is_living_member, is_outside, is_tie, is_orphaned, has_stopped_member}
+use Rattle.sk_machine.proofs.HangingUp.{sent_life}
+use Rattle.sk_machine.proofs.Hanging.{sent_view}
+use Rattle.sk_machine.proofs.Ties.{tie_holds}
+use Rattle.sk_machine.proofs.Walking.{member_is_there}
 
 -- ---- worlds in which the same processes live, with the same links
 abbrev links_in : Option Proc → Option Links

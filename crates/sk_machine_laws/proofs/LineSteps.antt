@@ -4,13 +4,12 @@ use Rattle.std.specs.Option.{is_some, unwrap_or, option_to_list, option_map}
 use Rattle.std.specs.Result.{result_unwrap_or}
 use Rattle.std.proofs.lemmas.Bool.{false≢true, cond_both, and_parts, eqb-true, eqb-false, false_from_ne_true}
 use Rattle.sk_insn.specs.declared.record.Record.{Record}
-use Rattle.sk_insn.specs.Record.{native}
 use Rattle.sk_insn.specs.declared.action.Action.{Action}
 use Rattle.sk_insn.specs.declared.action.Action.TheVariants as action
 use Rattle.sk_insn.specs.Actions.{action_of, performs}
-use Rattle.sk_chain.specs.Verdict.{verdict_of}
-use Rattle.sk_creds.specs.declared.errno.Errno.{Errno}
-use Rattle.sk_creds.specs.declared.errno.Errno.TheVariants.{Eagain}
+use Rattle.sk_filter.specs.Verdict.{verdict_of}
+use Rattle.sk_world.specs.declared.errno.Errno.{Errno}
+use Rattle.sk_world.specs.declared.errno.Errno.TheVariants.{Eagain}
 use Rattle.sk_signal.specs.declared.number.TheConstants.{SIGSEGV, SIGSYS}
 use Rattle.sk_world.specs.declared.process.TheConstants.{INIT}
 use Rattle.sk_world.specs.declared.process.Body.{Body}
@@ -21,14 +20,14 @@ use Rattle.sk_world.specs.World.{World, at, is_alive, changed, first_process, op
 use Rattle.sk_world.specs.Numbers.{fresh_of}
 use Rattle.sk_world.specs.Forking.{has_room, forked}
 use Rattle.sk_world.proofs.Stored.{everywhere, at_other}
-use Rattle.sk_world_laws.proofs.Rights.{forced_rights, forked_rights}
+use Rattle.sk_machine_laws.proofs.Rights.{forced_rights, forked_rights}
 use Rattle.sk_world.specs.Sending.{forced}
 use Rattle.sk_world.proofs.KeptEnd.{alive_is_there}
 use Rattle.sk_machine.specs.declared.event.Event.{Event}
 use Rattle.sk_machine.specs.declared.event.Event.TheVariants.{Call, Deliver, Resume, Fault}
 use Rattle.sk_calls.specs.declared.syscall.Syscall.{Syscall}
 use Rattle.sk_calls.specs.declared.syscall.Syscall.TheVariants as syscall
-use Rattle.sk_machine.specs.Events.{pid_of}
+use Rattle.sk_machine.specs.Events.{pid_of, recorded}
 use Rattle.sk_machine.specs.Given.{GivenImages}
 use Rattle.sk_calls.specs.Syscalls.{syscall_of}
 use Rattle.sk_calls.proofs.SyscallTable.{number_of-syscall_of}
@@ -199,8 +198,8 @@ EventStep images w event s q =
 
 step_happened : (images : GivenImages) (w : World) (event : Event) (p : Proc) (q : ℕ) → at w (pid_of event) ≡ Some p → IsTrue (is_alive (at w (pid_of event)))
     → EventStep images w event (happened images w p.body event) q
-step_happened images w (Call pid ip nr args) p q there alive =
-    let call : Record = native nr ip args in
+step_happened images w (Call pid ip asked) p q there alive =
+    let call : Record = recorded ip asked in
     let verdict : ℕ = verdict_of p.body.chain call in
     step_judged images w pid q p.body call verdict (action_of verdict) (own_authority w pid p there) alive
 step_happened images w (Deliver pid) p q there alive =

@@ -4,12 +4,11 @@ use Rattle.std.specs.Option.{is_some, option_map, option_map_or, option_and_then
 use Rattle.std.specs.List.{find}
 use Rattle.std.proofs.lemmas.Bool.{false≢true, cond_both}
 use Rattle.sk_insn.specs.declared.record.Record.{Record}
-use Rattle.sk_insn.specs.Record.{native}
 use Rattle.sk_insn.specs.declared.action.Action.{Action}
 use Rattle.sk_insn.specs.declared.action.Action.TheVariants as action
 use Rattle.sk_insn.specs.Actions.{action_of}
-use Rattle.sk_chain.specs.Verdict.{verdict_of}
-use Rattle.sk_creds.specs.declared.errno.Errno.{Errno}
+use Rattle.sk_filter.specs.Verdict.{verdict_of}
+use Rattle.sk_world.specs.declared.errno.Errno.{Errno}
 use Rattle.sk_signal.specs.declared.number.TheConstants.{SIGSEGV, SIGCHLD, SIGSYS}
 use Rattle.sk_signal.specs.Generation.{forced as sigsys_forced}
 use Rattle.sk_calls.specs.declared.syscall.Syscall.{Syscall}
@@ -29,15 +28,15 @@ use Rattle.sk_world.specs.Forking.{has_room, child_of, fork_answer}
 use Rattle.sk_world.specs.Subreapers.{is_subreaper, ancestors, takes_children, new_parent}
 use Rattle.sk_world.specs.Ending.{ignores_children, handed_on, with_children_handed_on, has_zombie_child, reparented, zombie, left_to_parent, ended}
 use Rattle.sk_world.specs.Waits.{without_note, told}
-use Rattle.sk_world_laws.specs.ChangeLaws.{unsignalled}
+use Rattle.sk_machine_laws.specs.ChangeLaws.{unsignalled}
 use Rattle.sk_world.proofs.Maps.{get_store}
 use Rattle.sk_world.proofs.Stored.{everywhere}
 use Rattle.sk_world.proofs.KeptEnd.{handed_cases, handed_at, alive_is_there}
-use Rattle.sk_world_laws.proofs.Locality.{sent_leaves}
+use Rattle.sk_machine_laws.proofs.Locality.{sent_leaves}
 use Rattle.sk_machine.specs.declared.event.Event.{Event}
 use Rattle.sk_machine.specs.declared.event.Event.TheVariants.{Call, Deliver, Resume, Fault}
 use Rattle.sk_machine.specs.Arguments.{low, signed}
-use Rattle.sk_machine.specs.Events.{pid_of}
+use Rattle.sk_machine.specs.Events.{pid_of, recorded}
 use Rattle.sk_machine.specs.Given.{GivenImages}
 use Rattle.sk_machine.specs.Authority.{Authority, with_authority}
 use Rattle.sk_machine.specs.Performed.{Performed, authorises}
@@ -179,8 +178,8 @@ marks_judged images w pid body call verdict action.Unknown is there = over_end M
 
 marks_happened : (images : GivenImages) (w : World) (body : Body) (event : Event) → images.subreapers ≡ false → IsTrue (is_some (at w (pid_of event)))
     → MarksNobody w (happened images w body event).world
-marks_happened images w body (Call pid ip nr args) is there =
-    let call : Record = native nr ip args in
+marks_happened images w body (Call pid ip asked) is there =
+    let call : Record = recorded ip asked in
     let verdict : ℕ = verdict_of body.chain call in
     marks_judged images w pid body call verdict (action_of verdict) is there
 marks_happened images w body (Deliver pid) is there = at_delivery w pid body (signal_for body) (λ s. MarksNobody w s.world) (λ none. none) (λ n. over_delivered MarksNobody marks w pid body n there)

@@ -6,16 +6,14 @@ use Rattle.std.proofs.lemmas.Int.{ints}
 use Rattle.std.proofs.lemmas.Bool.{false≢true, cond_both, cond-true, eqb-true, eqb-false, eq-eqb, ne_eqb, and_parts, ltb-true}
 use Rattle.sk_insn.specs.declared.insn.Insn.{Insn}
 use Rattle.sk_insn.specs.declared.record.Record.{Record}
-use Rattle.sk_insn.specs.Record.{native}
 use Rattle.sk_insn.specs.declared.action.Action.{Action}
 use Rattle.sk_insn.specs.declared.action.Action.TheVariants as action
 use Rattle.sk_insn.specs.Actions.{action_of, performs}
-use Rattle.sk_interp.specs.Meaning.{meaning_of}
-use Rattle.sk_chain.specs.Precedence.{precedence_of}
-use Rattle.sk_chain.specs.Verdict.{meaning_value, values_of, first_of, verdict_of, IsAtMost}
-use Rattle.sk_chain.proofs.Verdicts.{first_of-least}
-use Rattle.sk_creds.specs.declared.errno.Errno.{Errno}
-use Rattle.sk_creds.specs.declared.errno.Errno.TheVariants.{Eagain}
+use Rattle.sk_filter.specs.Meaning.{meaning_of}
+use Rattle.sk_filter.specs.Verdict.{meaning_value, values_of, first_of, verdict_of, IsAtMost, precedence_of}
+use Rattle.sk_filter.proofs.Verdicts.{first_of-least}
+use Rattle.sk_world.specs.declared.errno.Errno.{Errno}
+use Rattle.sk_world.specs.declared.errno.Errno.TheVariants.{Eagain}
 use Rattle.sk_signal.specs.declared.number.TheConstants.{SIGSEGV, SIGCHLD, SIGCONT, SIGSYS}
 use Rattle.sk_signal.specs.Generation.{forced as sigsys_forced}
 use Rattle.sk_world.specs.declared.process.TheConstants.{INIT, PROCESSES}
@@ -37,13 +35,13 @@ use Rattle.sk_world.specs.Waits.{without_note, told}
 use Rattle.sk_world.proofs.Stored.{everywhere}
 use Rattle.sk_world.proofs.Ancestors.{new_parent_by}
 use Rattle.sk_world.proofs.KeptEnd.{handed_cases, handed_at, alive_is_there}
-use Rattle.sk_world_laws.proofs.Locality.{forked_touches, forked_child}
+use Rattle.sk_machine_laws.proofs.Locality.{forked_touches, forked_child}
 use Rattle.sk_world.proofs.Fresh.{fresh_in_range, fresh_absent}
 use Rattle.sk_machine.specs.declared.event.Event.{Event}
 use Rattle.sk_machine.specs.declared.event.Event.TheVariants.{Call, Deliver, Resume, Fault}
 use Rattle.sk_machine.specs.declared.answer.Reason.TheVariants.{Halted}
 use Rattle.sk_calls.specs.declared.syscall.Syscall.{Syscall}
-use Rattle.sk_machine.specs.Events.{pid_of}
+use Rattle.sk_machine.specs.Events.{pid_of, recorded}
 use Rattle.sk_machine.specs.Given.{GivenImages}
 use Rattle.sk_calls.specs.Syscalls.{syscall_of}
 use Rattle.sk_machine.specs.Arguments.{register, low, signed}
@@ -338,8 +336,8 @@ EventComes w event s q = Comes w s.world (pid_of event) q (is_fork_of q (event, 
 
 comes_happened : (images : GivenImages) (w : World) (body : Body) (event : Event) (q : ℕ) → IsWorld w → IsTrue (is_some (at w (pid_of event)))
     → EventComes w event (happened images w body event) q
-comes_happened images w body (Call pid ip nr args) q rules there =
-    let call : Record = native nr ip args in
+comes_happened images w body (Call pid ip asked) q rules there =
+    let call : Record = recorded ip asked in
     let verdict : ℕ = verdict_of body.chain call in
     comes_judged images w pid q body call verdict (action_of verdict) rules there
 comes_happened images w body (Deliver pid) q rules there =

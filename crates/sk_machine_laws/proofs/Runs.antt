@@ -6,11 +6,11 @@ use Rattle.std.specs.Option.{is_some, option_map, unwrap_or}
 use Rattle.std.specs.List.{zip}
 use Rattle.std.proofs.lemmas.List.{reverse-append}
 use Rattle.sk_insn.specs.declared.record.Record.{Record}
-use Rattle.sk_insn.specs.Record.{native}
-use Rattle.sk_chain.specs.Verdict.{values_of, verdict_of, IsLeast}
-use Rattle.sk_chain.proofs.Verdicts.{verdict_of_least}
+use Rattle.sk_filter.specs.Verdict.{values_of, verdict_of, IsLeast}
+use Rattle.sk_filter.proofs.Verdicts.{verdict_of_least}
 use Rattle.sk_world.specs.World.{World, at}
 use Rattle.sk_machine.specs.declared.event.Event.{Event}
+use Rattle.sk_machine.specs.Events.{recorded}
 use Rattle.sk_machine.specs.Given.{GivenImages}
 use Rattle.sk_machine.specs.Machine.{step_of, answers_of, world_after}
 use Rattle.sk_machine.specs.Lines.{Line, Happening, authority_after_calls, history_after, authority_at}
@@ -79,17 +79,17 @@ runs_are_lawful images w events rules accepted = record {
   rules = kept_run images w events rules;
   accepted = λ earlier later split. run_keeps_accepted images w earlier accepted;
   returning = λ earlier later pid call split. each_returns call (authority_at (world_after images w earlier) pid) (run_keeps_accepted images w earlier accepted pid);
-  least = λ earlier later pid ip nr args verdict outcome split is.
-      least_verdict (native nr ip args) verdict (authority_at (world_after images w earlier) pid)
-      (judged_by_filters images (world_after images w earlier) pid ip nr args verdict outcome is).1;
+  least = λ earlier later pid ip call verdict outcome split is.
+      least_verdict (recorded ip call) verdict (authority_at (world_after images w earlier) pid)
+      (judged_by_filters images (world_after images w earlier) pid ip call verdict outcome is).1;
   history = history_is images w events [] ∙ append_none (reverse (zip events (answers_of images w events)));
   authorities = authority_is_of_line images w events;
   filters = λ earlier later pid split there.
       let is : world_after images w events ≡ world_after images (world_after images w earlier) later = ap (world_after images w) split ∙ after_both images w earlier later in
       subst (λ v. HasGrown (authority_at (world_after images w earlier) (line_after images (world_after images w earlier) later pid).root) (authority_at v pid)) (sym is)
       (filters_stay images w earlier later pid (subst (λ v. IsTrue (is_some (at v pid))) is there));
-  verdicts = λ earlier later pid ip nr args verdict outcome split is. verdict_is_of_line images w earlier pid ip nr args verdict outcome is;
-  performed = λ earlier later pid ip nr args verdict outcome a place value split is. performed_meets_no_refusal images w earlier pid ip nr args verdict outcome a place value is;
+  verdicts = λ earlier later pid ip call verdict outcome split is. verdict_is_of_line images w earlier pid ip call verdict outcome is;
+  performed = λ earlier later pid ip call verdict outcome a place value split is. performed_meets_no_refusal images w earlier pid ip call verdict outcome a place value is;
   parents = λ earlier later event child status split is ended. end_is_told_to_parent images (world_after images w earlier) event child status is ended;
   once = λ earlier between rest first later child status again split is ended told.
       end_is_told_once images (world_after images w earlier) first between later child status again is ended told;

@@ -4,13 +4,12 @@ use Rattle.std.specs.Option.{is_some, unwrap_or, option_map, option_map_or}
 use Rattle.std.specs.List.{list_any, find}
 use Rattle.std.proofs.lemmas.Bool.{false≢true, cond_both, or_parts, and_parts}
 use Rattle.sk_insn.specs.declared.record.Record.{Record}
-use Rattle.sk_insn.specs.Record.{native}
 use Rattle.sk_insn.specs.declared.action.Action.{Action}
 use Rattle.sk_insn.specs.declared.action.Action.TheVariants as action
 use Rattle.sk_insn.specs.Actions.{action_of}
-use Rattle.sk_chain.specs.Verdict.{verdict_of}
-use Rattle.sk_creds.specs.declared.errno.Errno.{Errno}
-use Rattle.sk_creds.specs.declared.errno.Errno.TheVariants.{Esrch, Einval}
+use Rattle.sk_filter.specs.Verdict.{verdict_of}
+use Rattle.sk_world.specs.declared.errno.Errno.{Errno}
+use Rattle.sk_world.specs.declared.errno.Errno.TheVariants.{Esrch, Einval}
 use Rattle.sk_signal.specs.SignalState.{SignalState}
 use Rattle.sk_world.specs.declared.process.Life.{Life}
 use Rattle.sk_world.specs.declared.process.Life.TheVariants.{Running, Stopped, Zombie}
@@ -32,11 +31,11 @@ use Rattle.sk_world.proofs.StatusChanges.{by_first, ready_first}
 use Rattle.sk_world.proofs.Stored.{everywhere, at_here}
 use Rattle.sk_world.proofs.KeptTold.{match_parent}
 use Rattle.sk_world.proofs.Telling.{ready_lowest}
-use Rattle.sk_session.specs.Sessions.{after_setpgid, after_setsid}
+use Rattle.sk_machine.specs.Sessions.{after_setpgid, after_setsid}
 use Rattle.sk_machine.specs.declared.event.Event.{Event}
 use Rattle.sk_machine.specs.declared.event.Event.TheVariants.{Call, Deliver, Resume, Fault}
 use Rattle.sk_calls.specs.declared.syscall.Syscall.{Syscall}
-use Rattle.sk_machine.specs.Events.{pid_of}
+use Rattle.sk_machine.specs.Events.{pid_of, recorded}
 use Rattle.sk_machine.specs.Given.{GivenImages}
 use Rattle.sk_calls.specs.Syscalls.{syscall_of}
 use Rattle.sk_machine.specs.Arguments.{low, signed}
@@ -243,8 +242,8 @@ abbrev StepTells : World → ℕ → Stepped → Type 0
 StepTells w pid s = (child status : ℕ) → told_by s.answer ≡ Some (child, status) → IsTold w s.world pid child status
 
 tells_happened : (images : GivenImages) (w : World) (body : Body) (event : Event) → StepTells w (pid_of event) (happened images w body event)
-tells_happened images w body (Call pid ip nr args) child status is =
-    let call : Record = native nr ip args in
+tells_happened images w body (Call pid ip asked) child status is =
+    let call : Record = recorded ip asked in
     let verdict : ℕ = verdict_of body.chain call in
     tells_judged images w pid body call verdict (action_of verdict) child status is
 tells_happened images w body (Deliver pid) child status is =

@@ -116,7 +116,7 @@ delivery_meets false false false end_of_caller runs = (λ is. cc, λ is. cc)
 own_meets : (w : World) (event : Event)
     → IsTrue (is_some (signal_due (at w (pid_of event))) || (not (is_stopped (at w (pid_of event))) && goes_on w (pid_of event) (at w (pid_of event))))
     → (own (is_stopped (at w (pid_of event)) && not (is_due_delivery w event)) (own_reason w event) ≡ None) ↔ (need_met_by event ≡ need_of w (pid_of event))
-own_meets w (Call pid ip nr args) runs = call_meets (is_some (signal_due (at w pid))) (is_stopped (at w pid)) (is_in_call (at w pid)) (goes_on w pid (at w pid)) runs
+own_meets w (Call pid ip call) runs = call_meets (is_some (signal_due (at w pid))) (is_stopped (at w pid)) (is_in_call (at w pid)) (goes_on w pid (at w pid)) runs
 own_meets w (Deliver pid) runs = delivery_meets (is_some (signal_due (at w pid))) (is_stopped (at w pid)) (is_in_call (at w pid)) (goes_on w pid (at w pid)) runs
 own_meets w (Resume pid) runs = resumption_meets (is_some (signal_due (at w pid))) (is_stopped (at w pid)) (is_in_call (at w pid)) (goes_on w pid (at w pid)) runs
 own_meets w (Fault pid) runs = call_meets (is_some (signal_due (at w pid))) (is_stopped (at w pid)) (is_in_call (at w pid)) (goes_on w pid (at w pid)) runs
@@ -190,8 +190,8 @@ asks_again images w pid (Some p) there waits = ap resume_answered (keeps_waiting
 idle_own : (images : GivenImages) (w : World) (event : Event) → IsTrue (is_some (at w (pid_of event)))
     → (is_some (signal_due (at w (pid_of event))) || (not (is_stopped (at w (pid_of event))) && goes_on w (pid_of event) (at w (pid_of event)))) ≡ false
     → (is_stopped (at w (pid_of event)) && not (is_due_delivery w event)) ≡ false → Idles images w event (own_reason w event)
-idle_own images w (Call pid ip nr args) there idle moves =
-    idle_call images w pid (Call pid ip nr args) there (idle_waits (is_some (signal_due (at w pid))) (is_stopped (at w pid)) (goes_on w pid (at w pid)) idle moves)
+idle_own images w (Call pid ip call) there idle moves =
+    idle_call images w pid (Call pid ip call) there (idle_waits (is_some (signal_due (at w pid))) (is_stopped (at w pid)) (goes_on w pid (at w pid)) idle moves)
 idle_own images w (Fault pid) there idle moves =
     idle_call images w pid (Fault pid) there (idle_waits (is_some (signal_due (at w pid))) (is_stopped (at w pid)) (goes_on w pid (at w pid)) idle moves)
 idle_own images w (Deliver pid) there idle moves =

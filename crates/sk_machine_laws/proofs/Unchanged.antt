@@ -3,13 +3,12 @@ use Rattle.std.proofs.Common.{◌≡◌, ◌∙◌, ℕ, negsuc, ◌==◌, ap, s
 use Rattle.std.specs.Option.{is_some, option_and_then}
 use Rattle.std.proofs.lemmas.Bool.{false≢true, cond_both}
 use Rattle.sk_insn.specs.declared.record.Record.{Record}
-use Rattle.sk_insn.specs.Record.{native}
 use Rattle.sk_insn.specs.declared.action.Action.{Action}
 use Rattle.sk_insn.specs.declared.action.Action.TheVariants as action
 use Rattle.sk_insn.specs.Actions.{action_of}
-use Rattle.sk_chain.specs.Verdict.{verdict_of}
-use Rattle.sk_creds.specs.declared.errno.Errno.{Errno}
-use Rattle.sk_creds.specs.declared.errno.Errno.TheVariants.{Esrch, Einval}
+use Rattle.sk_filter.specs.Verdict.{verdict_of}
+use Rattle.sk_world.specs.declared.errno.Errno.{Errno}
+use Rattle.sk_world.specs.declared.errno.Errno.TheVariants.{Esrch, Einval}
 use Rattle.sk_signal.specs.declared.number.TheConstants.{SIGSYS}
 use Rattle.sk_signal.specs.SignalState.{SignalState}
 use Rattle.sk_world.specs.declared.process.TheConstants.{INIT}
@@ -22,10 +21,10 @@ use Rattle.sk_world.specs.declared.request.Poll.{Poll}
 use Rattle.sk_world.specs.declared.request.Poll.TheVariants as poll
 use Rattle.sk_world.specs.World.{World, at, has_ended, is_zombie, is_halted, is_stopped}
 use Rattle.sk_world.specs.Sending.{forced}
-use Rattle.sk_session.specs.Orphans.{ended_and_hung_up}
+use Rattle.sk_machine.specs.Orphans.{ended_and_hung_up}
 use Rattle.sk_world.specs.Forking.{fork_answer}
 use Rattle.sk_world.specs.Waits.{is_no_hang, ready_of}
-use Rattle.sk_session.specs.Sessions.{after_setpgid, after_setsid}
+use Rattle.sk_machine.specs.Sessions.{after_setpgid, after_setsid}
 use Rattle.sk_machine.specs.declared.event.Event.{Event}
 use Rattle.sk_machine.specs.declared.event.Event.TheVariants.{Call, Deliver, Resume, Fault}
 use Rattle.sk_machine.specs.declared.answer.Answer.TheVariants as answer
@@ -33,7 +32,7 @@ use Rattle.sk_machine.specs.declared.answer.Outcome.{Outcome}
 use Rattle.sk_machine.specs.declared.answer.Outcome.TheVariants.{Returned, Trapped, Ended}
 use Rattle.sk_machine.specs.declared.answer.Reason.{Reason}
 use Rattle.sk_calls.specs.declared.syscall.Syscall.{Syscall}
-use Rattle.sk_machine.specs.Events.{pid_of}
+use Rattle.sk_machine.specs.Events.{pid_of, recorded}
 use Rattle.sk_machine.specs.Given.{GivenImages}
 use Rattle.sk_calls.specs.Syscalls.{syscall_of}
 use Rattle.sk_machine.specs.Arguments.{low, signed}
@@ -76,7 +75,7 @@ due_to w pid p there possible =
 
 happens : (images : GivenImages) (w : World) (event : Event) (p : Proc) (reason : Reason) → at w (pid_of event) ≡ Some p → reason_of w event ≡ None
     → (happened images w p.body event).answer ≡ answer.NotNow reason → ⊥
-happens images w (Call pid ip nr args) p reason there possible is = cc
+happens images w (Call pid ip call) p reason there possible is = cc
 happens images w (Deliver pid) p reason there possible is = delivers w pid p.body (signal_for p.body) reason (due_to w pid p there possible) is
 happens images w (Resume pid) p reason there possible is = cc
 happens images w (Fault pid) p reason there possible is = cc
@@ -94,8 +93,8 @@ at_called images w body (Deliver pid) verdict outcome P made is =
     at_delivery w pid body (signal_for body) (λ s. s.answer ≡ answer.Call verdict outcome → P pid s) (λ is. cc) (λ n is. cc) is
 at_called images w body (Resume pid) verdict outcome P made is = cc
 at_called images w body (Fault pid) verdict outcome P made is = cc
-at_called images w body (Call pid ip nr args) verdict outcome P made is =
-    let call : Record = native nr ip args in
+at_called images w body (Call pid ip asked) verdict outcome P made is =
+    let call : Record = recorded ip asked in
     let told : ℕ = verdict_of body.chain call in
     let same : told ≡ verdict = cc in
     let outcome_is : (judged images w pid body call told (action_of told)).outcome ≡ outcome = cc in

@@ -8,8 +8,7 @@ use Rattle.sk_insn.specs.declared.record.Record.{Record}
 use Rattle.sk_insn.specs.Record.{IsNative}
 use Rattle.sk_calls.specs.declared.syscall.Syscall.TheVariants as syscall
 use Rattle.sk_calls.specs.Syscalls.{number_of}
-use Rattle.sk_chain.specs.Precedence.{precedence_of}
-use Rattle.sk_chain.specs.Verdict.{verdict_of}
+use Rattle.sk_filter.specs.Verdict.{verdict_of, precedence_of}
 use Rattle.sk_signal.specs.declared.number.TheConstants.{SIGHUP, SIGCHLD, SIGCONT}
 use Rattle.sk_world.specs.declared.process.TheConstants.{INIT}
 use Rattle.sk_world.specs.declared.process.Body.{Body}
@@ -17,8 +16,8 @@ use Rattle.sk_world.specs.declared.process.Proc.{Proc}
 use Rattle.sk_world.specs.World.{World, at, parent_of, body_changed}
 use Rattle.sk_world.specs.Rules.{IsWorld}
 use Rattle.sk_world.specs.Sending.{signalled}
-use Rattle.sk_session.specs.Sessions.{group_of}
-use Rattle.sk_session.specs.Orphans.{is_orphaned, has_stopped_member}
+use Rattle.sk_machine.specs.Sessions.{group_of}
+use Rattle.sk_machine.specs.Orphans.{is_orphaned, has_stopped_member}
 use Rattle.sk_machine.specs.declared.event.Event.{Event}
 use Rattle.sk_machine.specs.declared.answer.Answer.{Answer}
 use Rattle.sk_machine.specs.declared.answer.Answer.TheVariants as answer

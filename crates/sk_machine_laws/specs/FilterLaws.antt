@@ -2,8 +2,8 @@
 use Rattle.std.specs.Prelude.{ℕ, IfSome, List, [], ◌∷◌}
 use Rattle.sk_insn.specs.declared.insn.Insn.{Insn}
 use Rattle.sk_insn.specs.declared.record.Record.{Record}
-use Rattle.sk_interp.specs.MeaningLaws.{ReturnsWithinLength}
-use Rattle.sk_chain.specs.Chains.{IsWithinLimit, AllValid, StepsAreBounded}
+use Rattle.sk_filter.specs.MeaningLaws.{ReturnsWithinLength}
+use Rattle.sk_filter.specs.Chains.{IsWithinLimit, AllValid, StepsAreBounded}
 use Rattle.sk_world.specs.World.{World, opening}
 use Rattle.sk_machine.specs.declared.event.Event.{Event}
 use Rattle.sk_machine.specs.Given.{GivenImages}

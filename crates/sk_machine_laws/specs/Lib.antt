@@ -1,3 +1,6 @@
+pub mod ChangeLaws
+pub mod ReaperLaws
+pub mod WorkedWorlds
 pub mod MachineLaws
 pub mod TurnLaws
 pub mod LineLaws

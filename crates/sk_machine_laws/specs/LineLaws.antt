@@ -3,17 +3,17 @@ use Rattle.std.specs.Prelude.{ℕ, ◌≡◌, ◌≤ℤ◌, ◌++◌, IsTrue, Li
 use Rattle.std.specs.Option.{is_some, option_map}
 use Rattle.sk_insn.specs.declared.insn.Insn.{Insn}
 use Rattle.sk_insn.specs.declared.record.Record.{Record}
-use Rattle.sk_insn.specs.Record.{native}
 use Rattle.sk_insn.specs.Actions.{action_of, performs}
-use Rattle.sk_chain.specs.Precedence.{precedence_of}
-use Rattle.sk_chain.specs.Verdict.{values_of, verdict_of}
+use Rattle.sk_filter.specs.Verdict.{values_of, verdict_of, precedence_of}
+use Rattle.sk_calls.specs.declared.call.Call.{Call}
 use Rattle.sk_world.specs.declared.process.TheConstants.{INIT}
 use Rattle.sk_world.specs.World.{World, at, opening}
 use Rattle.sk_machine.specs.declared.event.Event.{Event}
-use Rattle.sk_machine.specs.declared.event.Event.TheVariants.{Call}
+use Rattle.sk_machine.specs.declared.event.Event.TheVariants as event
 use Rattle.sk_machine.specs.declared.answer.Answer.TheVariants as answer
 use Rattle.sk_machine.specs.declared.answer.Outcome.{Outcome}
 use Rattle.sk_machine.specs.Authority.{Authority}
+use Rattle.sk_machine.specs.Events.{recorded}
 use Rattle.sk_machine.specs.Given.{GivenImages}
 use Rattle.sk_machine.specs.Machine.{step_of, world_after}
 use Rattle.sk_machine.specs.Lines.{Line, Happening, line_before, calls_added, line_of, authority_after_calls, authority_of_line, history_after, authority_at}
@@ -89,15 +89,15 @@ EqualLinesAreJudgedAlike =
 -- the verdict on a call is that of the filters that the caller's line has attached until then
 abbrev pub VerdictIsOfLine : Type 0
 VerdictIsOfLine =
-    (images : GivenImages) (w : World) (events : List Event) (pid ip nr : ℕ) (args : List ℕ) (verdict : ℕ) (outcome : Outcome)
-    → (step_of images (world_after images w events) (Call pid ip nr args)).answer ≡ answer.Call verdict outcome
-    → judged_by (native nr ip args) (authority_of_line images w (line_after images w events pid)) ≡ Some verdict
+    (images : GivenImages) (w : World) (events : List Event) (pid ip : ℕ) (call : Call) (verdict : ℕ) (outcome : Outcome)
+    → (step_of images (world_after images w events) (event.Call pid ip call)).answer ≡ answer.Call verdict outcome
+    → judged_by (recorded ip call) (authority_of_line images w (line_after images w events pid)) ≡ Some verdict
 
 -- a call that is performed has met no filter of its line whose action has precedence over SECCOMP_RET_LOG
 abbrev pub PerformedMeetsNoRefusal : Type 0
 PerformedMeetsNoRefusal =
-    (images : GivenImages) (w : World) (events : List Event) (pid ip nr : ℕ) (args : List ℕ) (verdict : ℕ) (outcome : Outcome) (a : Authority) (place value : ℕ)
-    → (step_of images (world_after images w events) (Call pid ip nr args)).answer ≡ answer.Call verdict outcome → IsTrue (performs (action_of verdict))
+    (images : GivenImages) (w : World) (events : List Event) (pid ip : ℕ) (call : Call) (verdict : ℕ) (outcome : Outcome) (a : Authority) (place value : ℕ)
+    → (step_of images (world_after images w events) (event.Call pid ip call)).answer ≡ answer.Call verdict outcome → IsTrue (performs (action_of verdict))
     → authority_of_line images w (line_after images w events pid) ≡ Some a
-    → slice_get (values_of a.programs (native nr ip args)) place ≡ Some value
+    → slice_get (values_of a.programs (recorded ip call)) place ≡ Some value
     → precedence_of 0x7ffc0000 ≤ℤ precedence_of value

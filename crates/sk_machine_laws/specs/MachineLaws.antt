@@ -12,7 +12,7 @@ use Rattle.sk_world.specs.World.{World, at, is_alive, is_halted, opening}
 use Rattle.sk_world.specs.Rules.{IsWorld}
 use Rattle.sk_world.specs.Sending.{forced}
 use Rattle.sk_world.specs.Subreapers.{is_subreaper, new_parent}
-use Rattle.sk_session.specs.Orphans.{ended_and_hung_up}
+use Rattle.sk_machine.specs.Orphans.{ended_and_hung_up}
 use Rattle.sk_machine.specs.declared.event.Event.{Event}
 use Rattle.sk_machine.specs.declared.answer.Answer.TheVariants as answer
 use Rattle.sk_machine.specs.declared.answer.Outcome.{Outcome}

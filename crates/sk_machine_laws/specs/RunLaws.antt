@@ -5,21 +5,20 @@ use Rattle.std.specs.Option.{is_some}
 use Rattle.std.specs.List.{list_any}
 use Rattle.sk_insn.specs.declared.insn.Insn.{Insn}
 use Rattle.sk_insn.specs.declared.record.Record.{Record}
-use Rattle.sk_insn.specs.Record.{native}
 use Rattle.sk_insn.specs.Actions.{action_of, performs}
-use Rattle.sk_chain.specs.Precedence.{precedence_of}
-use Rattle.sk_chain.specs.Verdict.{values_of, verdict_of, IsLeast}
+use Rattle.sk_filter.specs.Verdict.{values_of, verdict_of, IsLeast, precedence_of}
+use Rattle.sk_calls.specs.declared.call.Call.{Call}
 use Rattle.sk_world.specs.declared.process.TheConstants.{INIT}
 use Rattle.sk_world.specs.declared.process.Proc.{Proc}
 use Rattle.sk_world.specs.World.{World, at, parent_of}
 use Rattle.sk_world.specs.Rules.{IsWorld}
 use Rattle.sk_world.specs.Subreapers.{is_subreaper, new_parent}
 use Rattle.sk_machine.specs.declared.event.Event.{Event}
-use Rattle.sk_machine.specs.declared.event.Event.TheVariants.{Call}
+use Rattle.sk_machine.specs.declared.event.Event.TheVariants as event
 use Rattle.sk_machine.specs.declared.answer.Answer.TheVariants as answer
 use Rattle.sk_machine.specs.declared.answer.Outcome.{Outcome}
 use Rattle.sk_machine.specs.Authority.{Authority}
-use Rattle.sk_machine.specs.Events.{pid_of}
+use Rattle.sk_machine.specs.Events.{pid_of, recorded}
 use Rattle.sk_machine.specs.Given.{GivenImages}
 use Rattle.sk_machine.specs.Machine.{step_of, answers_of, world_after}
 use Rattle.sk_machine.specs.Lines.{is_fork_of, history_of, history_after, authority_of_line, authority_at}
@@ -51,9 +50,9 @@ pub record IsVerdictOf (programs : List (List Insn)) (call : Record) (verdict : 
 -- the verdict on each call of the run is that of its caller's filters before it
 abbrev pub VerdictsAreLeast : GivenImages → World → List Event → Type 0
 VerdictsAreLeast images w events =
-    (earlier later : List Event) (pid ip nr : ℕ) (args : List ℕ) (verdict : ℕ) (outcome : Outcome) → events ≡ earlier ++ Call pid ip nr args ∷ later
-    → (step_of images (world_after images w earlier) (Call pid ip nr args)).answer ≡ answer.Call verdict outcome
-    → (a : Authority) × (authority_at (world_after images w earlier) pid ≡ Some a) × IsVerdictOf a.programs (native nr ip args) verdict
+    (earlier later : List Event) (pid ip : ℕ) (call : Call) (verdict : ℕ) (outcome : Outcome) → events ≡ earlier ++ event.Call pid ip call ∷ later
+    → (step_of images (world_after images w earlier) (event.Call pid ip call)).answer ≡ answer.Call verdict outcome
+    → (a : Authority) × (authority_at (world_after images w earlier) pid ≡ Some a) × IsVerdictOf a.programs (recorded ip call) verdict
 
 -- each process that is there afterwards comes from one that was there before, and its filters, ids and
 -- no_new_privs are those of its line
@@ -82,19 +81,19 @@ FiltersStay images w events =
 -- the verdict on each call of the run is that of the filters that its caller's line has attached until then
 abbrev pub VerdictsAreOfLines : GivenImages → World → List Event → Type 0
 VerdictsAreOfLines images w events =
-    (earlier later : List Event) (pid ip nr : ℕ) (args : List ℕ) (verdict : ℕ) (outcome : Outcome) → events ≡ earlier ++ Call pid ip nr args ∷ later
-    → (step_of images (world_after images w earlier) (Call pid ip nr args)).answer ≡ answer.Call verdict outcome
-    → judged_by (native nr ip args) (authority_of_line images w (line_after images w earlier pid)) ≡ Some verdict
+    (earlier later : List Event) (pid ip : ℕ) (call : Call) (verdict : ℕ) (outcome : Outcome) → events ≡ earlier ++ event.Call pid ip call ∷ later
+    → (step_of images (world_after images w earlier) (event.Call pid ip call)).answer ≡ answer.Call verdict outcome
+    → judged_by (recorded ip call) (authority_of_line images w (line_after images w earlier pid)) ≡ Some verdict
 
 -- no call of the run that was performed has met a filter of its line whose action has precedence over
 -- SECCOMP_RET_LOG
 abbrev pub PerformedMeetNoRefusal : GivenImages → World → List Event → Type 0
 PerformedMeetNoRefusal images w events =
-    (earlier later : List Event) (pid ip nr : ℕ) (args : List ℕ) (verdict : ℕ) (outcome : Outcome) (a : Authority) (place value : ℕ)
-    → events ≡ earlier ++ Call pid ip nr args ∷ later
-    → (step_of images (world_after images w earlier) (Call pid ip nr args)).answer ≡ answer.Call verdict outcome → IsTrue (performs (action_of verdict))
+    (earlier later : List Event) (pid ip : ℕ) (call : Call) (verdict : ℕ) (outcome : Outcome) (a : Authority) (place value : ℕ)
+    → events ≡ earlier ++ event.Call pid ip call ∷ later
+    → (step_of images (world_after images w earlier) (event.Call pid ip call)).answer ≡ answer.Call verdict outcome → IsTrue (performs (action_of verdict))
     → authority_of_line images w (line_after images w earlier pid) ≡ Some a
-    → slice_get (values_of a.programs (native nr ip args)) place ≡ Some value
+    → slice_get (values_of a.programs (recorded ip call)) place ≡ Some value
     → precedence_of 0x7ffc0000 ≤ℤ precedence_of value
 
 -- each end that the run tells is told to the parent of a zombie, with the zombie's status, and then the zombie

@@ -2,6 +2,8 @@
 //! No program calls these functions: the contract of each is the law, and its statement stands in `specs/`.
 #![tactic(auto)]
 
+pub mod world;
+
 ghost use Rattle.sk_machine_laws.specs.MachineLaws.{ImpossibleChangesNothing, PossibleHappens, RefusedChangesNothing, TrapForcesSigsys, KillEndsCaller, FailedChangesNothing, HaltHasStatus, CallKeepsRules, DeliveryKeepsRules, ResumptionKeepsRules, EventKeepsRules, RunKeepsRules, ReachedHasRules, EventMarksNobody, RunMarksNobody, NobodyIsMarked, InitTakesOrphans, OrphansGoToInit};
 ghost use Rattle.sk_machine_laws.specs.TellingLaws.{EndIsToldToParent, EndIsToldOnce};
 ghost use Rattle.sk_machine_laws.specs.TurnLaws.{NextIsTurn, NobodysTurn, RunnableHasEvent, IdleDoesNothing, EndIsFinal};

@@ -58,7 +58,7 @@ confines_kill = refl
 refuses : (w : World) (pid who : ℕ) → reason_of w (kill pid who 9) ≡ None
     → verdict_by (native 62 0 (who ∷ 9 ∷ 0 ∷ 0 ∷ 0 ∷ 0 ∷ [])) (at w pid) ≡ Some 0x00050001 → (step_of no_kill w (kill pid who 9)).world ≡ w
 unfolding action_of
-refuses w pid who possible is = by_verdict no_kill w pid 0 62 (who ∷ 9 ∷ 0 ∷ 0 ∷ 0 ∷ 0 ∷ []) 0x00050001 (λ s. s.world ≡ w) possible is (λ body. refl)
+refuses w pid who possible is = by_verdict no_kill w pid 0 (record { nr = 62; args = who ∷ 9 ∷ 0 ∷ 0 ∷ 0 ∷ 0 ∷ [] }) 0x00050001 (λ s. s.world ≡ w) possible is (λ body. refl)
 
 -- nor does any of these events
 abbrev EachChangesNothing : World → List Event → Type 0

@@ -92,7 +92,7 @@ exits_alone : (w : World) (code q : ℕ) → q ≢ INIT → reason_of w (exit 1 
     → verdict_by (native 60 0 (code ∷ 0 ∷ 0 ∷ 0 ∷ 0 ∷ 0 ∷ [])) (at w 1) ≡ Some 0x7fff0000 → at (step_of nothing_given w (exit 1 code)).world q ≡ at w q
 unfolding action_of
 exits_alone w code q other possible is =
-    by_verdict nothing_given w 1 0 60 (code ∷ 0 ∷ 0 ∷ 0 ∷ 0 ∷ 0 ∷ []) 0x7fff0000 (λ s. at s.world q ≡ at w q) possible is (λ body. at_other w INIT _ q other)
+    by_verdict nothing_given w 1 0 (record { nr = 60; args = code ∷ 0 ∷ 0 ∷ 0 ∷ 0 ∷ 0 ∷ [] }) 0x7fff0000 (λ s. at s.world q ≡ at w q) possible is (λ body. at_other w INIT _ q other)
 
 halt_hangs_up_nobody : HaltHangsUpNobody
 unfolding worked_runs

@@ -10,8 +10,7 @@ use Rattle.sk_insn.specs.declared.insn.Insn.{Insn}
 use Rattle.sk_insn.specs.declared.record.Record.{Record}
 use Rattle.sk_insn.specs.Record.{architecture}
 use Rattle.sk_insn.specs.Instructions.{image_of}
-use Rattle.sk_chain.specs.Precedence.{precedence_of}
-use Rattle.sk_chain.specs.Verdict.{verdict_of}
+use Rattle.sk_filter.specs.Verdict.{verdict_of, precedence_of}
 use Rattle.sk_signal.specs.Sets.{contains}
 use Rattle.sk_signal.specs.declared.number.TheConstants.{SIGHUP, SIGCHLD}
 use Rattle.sk_world.specs.declared.process.TheConstants.{INIT}

@@ -2,8 +2,8 @@
 -- as lines of an event and its answer.
 use Rattle.std.specs.Prelude.{ℕ, ◌≡◌, ◌+◌, ◌-◌, ◌^◌, neg_ℤ, pos, true, false, List, [], ◌∷◌, map}
 use Rattle.sk_insn.specs.Instructions.{image_of}
-use Rattle.sk_creds.specs.declared.errno.Errno.{Errno}
-use Rattle.sk_creds.specs.Errno.{number_of as errno_number}
+use Rattle.sk_world.specs.declared.errno.Errno.{Errno}
+use Rattle.sk_world.specs.Errno.{number_of as errno_number}
 use Rattle.sk_calls.specs.declared.syscall.Syscall.TheVariants as syscall
 use Rattle.sk_calls.specs.Syscalls.{number_of}
 use Rattle.sk_signal.specs.SignalSet.{signals_of}
@@ -57,8 +57,13 @@ for_number nr value =
     ∷ [])
 
 -- ---- events: calls by their names in the manual, each with the process that makes it
+-- a call by its number, with all six registers
+abbrev pub call_with : ℕ → ℕ → List ℕ → Event
+call_with pid nr args = Call pid 0 (record { nr = nr; args = args })
+
+-- the same with three, where the others are 0
 abbrev pub call : ℕ → ℕ → ℕ → ℕ → ℕ → Event
-call pid nr a b c = Call pid 0 nr (a ∷ b ∷ c ∷ 0 ∷ 0 ∷ 0 ∷ [])
+call pid nr a b c = call_with pid nr (a ∷ b ∷ c ∷ 0 ∷ 0 ∷ 0 ∷ [])
 
 -- a negative number in a register
 abbrev pub minus : ℕ → ℕ

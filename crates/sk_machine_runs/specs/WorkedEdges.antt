@@ -1,6 +1,6 @@
 -- Runs that are worked out by hand: signals, stops and waits where several rules meet.
 use Rattle.std.specs.Prelude.{◌+◌, [], ◌∷◌}
-use Rattle.sk_creds.specs.declared.errno.Errno.TheVariants.{Echild, Einval}
+use Rattle.sk_world.specs.declared.errno.Errno.TheVariants.{Echild, Einval}
 use Rattle.sk_world.specs.World.{opening}
 use Rattle.sk_machine.specs.declared.answer.Answer.TheVariants as answer
 use Rattle.sk_machine.specs.declared.answer.Outcome.TheVariants.{Told, Trapped}

@@ -1,7 +1,7 @@
 -- Runs that are worked out by hand: process groups, sessions, and whom kill(2) means.
 use Rattle.std.specs.Prelude.{◌≡◌, ◌^◌, [], ◌∷◌, List, Some}
 use Rattle.sk_machine.specs.declared.answer.Reason.TheVariants as reason
-use Rattle.sk_creds.specs.declared.errno.Errno.TheVariants.{Eperm, Esrch, Eacces, Einval}
+use Rattle.sk_world.specs.declared.errno.Errno.TheVariants.{Eperm, Esrch, Eacces, Einval}
 use Rattle.sk_world.specs.declared.process.Life.TheVariants.{Zombie}
 use Rattle.sk_world.specs.World.{World, at, first_process, opening}
 use Rattle.sk_machine.specs.Lines.{Happening}

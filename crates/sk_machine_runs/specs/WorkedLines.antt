@@ -2,7 +2,7 @@
 use Rattle.std.specs.Prelude.{Some, ℕ, ◌≡◌, true, [], ◌∷◌, List}
 use Rattle.sk_machine.specs.declared.answer.Reason.TheVariants as reason
 use Rattle.sk_machine.specs.declared.event.Event.TheVariants.{Deliver}
-use Rattle.sk_creds.specs.declared.errno.Errno.TheVariants.{Einval}
+use Rattle.sk_world.specs.declared.errno.Errno.TheVariants.{Einval}
 use Rattle.sk_world.specs.World.{opening}
 use Rattle.sk_machine_runs.specs.Scripts.{nothing_given, given, for_number, getpid, fork, setuid, prctl, seccomp, gives, fails, refused, not_now, events_of}
 use Rattle.sk_insn.specs.declared.record.Record.{Record}

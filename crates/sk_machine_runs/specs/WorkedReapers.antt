@@ -1,14 +1,14 @@
 -- Runs that are worked out by hand: subreapers, prctl(2), PR_SET_CHILD_SUBREAPER.
 use Rattle.std.specs.Prelude.{◌+◌, ◌^◌, [], ◌∷◌, List}
-use Rattle.sk_creds.specs.declared.errno.Errno.TheVariants.{Esrch, Echild, Einval}
+use Rattle.sk_world.specs.declared.errno.Errno.TheVariants.{Esrch, Echild, Einval}
 use Rattle.sk_world.specs.World.{opening}
 use Rattle.sk_machine.specs.declared.answer.Outcome.TheVariants.{Told}
 use Rattle.sk_machine.specs.declared.answer.Effect.TheVariants as effect
 use Rattle.sk_machine.specs.declared.answer.Reason.TheVariants as reason
-use Rattle.sk_machine.specs.declared.event.Event.TheVariants.{Call, Deliver, Resume}
+use Rattle.sk_machine.specs.declared.event.Event.TheVariants.{Deliver, Resume}
 use Rattle.sk_machine.specs.Given.{GivenImages}
 use Rattle.sk_machine.specs.Lines.{Happening}
-use Rattle.sk_machine_runs.specs.Scripts.{given, given_with_subreapers, plain, minus, only, sigaction, sigprocmask, getpid, fork, execve, exit, wait4, kill, setpgid, getppid, setsid, getpgid, sigpending, prctl, exit_group, gives, fails, waits, told, ends, executed, signals, resumes, delivers, not_now, Runs, after}
+use Rattle.sk_machine_runs.specs.Scripts.{given, given_with_subreapers, plain, call_with, minus, only, sigaction, sigprocmask, getpid, fork, execve, exit, wait4, kill, setpgid, getppid, setsid, getpgid, sigpending, prctl, exit_group, gives, fails, waits, told, ends, executed, signals, resumes, delivers, not_now, Runs, after}
 use Rattle.sk_machine_runs.specs.WorkedTurns.{TakesTurns}
 
 -- a server that marks itself gets the orphans of its children, and tells their ends
@@ -91,8 +91,8 @@ abbrev pub SetsAndClearsMark : Type 0
 SetsAndClearsMark =
     Runs with_subreapers opening (
     (prctl 1 36 (2 ^ 32) 9, gives 0)
-    ∷ (Call 1 0 157 (37 ∷ 7 ∷ 7 ∷ 7 ∷ 7 ∷ 7 ∷ []), gives 1)
-    ∷ (Call 1 0 157 (36 ∷ 0 ∷ 7 ∷ 7 ∷ 7 ∷ 7 ∷ []), gives 0)
+    ∷ (call_with 1 157 (37 ∷ 7 ∷ 7 ∷ 7 ∷ 7 ∷ 7 ∷ []), gives 1)
+    ∷ (call_with 1 157 (36 ∷ 0 ∷ 7 ∷ 7 ∷ 7 ∷ 7 ∷ []), gives 0)
     ∷ (prctl 1 37 0 0, gives 0)
     ∷ (prctl 1 (2 ^ 32 + 36) 2 0, gives 0)
     ∷ (prctl 1 37 0 0, gives 1)

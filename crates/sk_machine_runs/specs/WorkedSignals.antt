@@ -7,7 +7,7 @@ use Rattle.sk_machine.specs.declared.answer.Outcome.TheVariants as outcome
 use Rattle.sk_machine.specs.declared.answer.Effect.TheVariants as effect
 use Rattle.sk_machine.specs.declared.answer.Reason.TheVariants as reason
 use Rattle.sk_machine.specs.declared.event.Event.TheVariants.{Deliver, Resume}
-use Rattle.sk_creds.specs.declared.errno.Errno.TheVariants.{Einval}
+use Rattle.sk_world.specs.declared.errno.Errno.TheVariants.{Einval}
 use Rattle.sk_signal.specs.SignalSet.{Signals, signals_of}
 use Rattle.sk_world.specs.declared.process.TheConstants.{INIT}
 use Rattle.sk_world.specs.World.{World, at, opening}

@@ -1,15 +1,15 @@
 -- Runs that are worked out by hand: what a call changes of its process, and what it leaves.
 use Rattle.std.specs.Prelude.{◌≡◌, ◌^◌, [], ◌∷◌, List, Some}
-use Rattle.sk_creds.specs.declared.errno.Errno.TheVariants.{Eperm, Einval}
+use Rattle.sk_world.specs.declared.errno.Errno.TheVariants.{Eperm, Einval}
 use Rattle.sk_signal.specs.declared.disposition.Disposition.TheVariants.{Handler}
 use Rattle.sk_signal.specs.SignalSet.{signals_of}
 use Rattle.sk_signal.specs.SignalState.{disposition_of}
 use Rattle.sk_world.specs.World.{World, at, opening}
 use Rattle.sk_machine.specs.declared.answer.Effect.TheVariants as effect
 use Rattle.sk_machine.specs.declared.answer.Reason.TheVariants as reason
-use Rattle.sk_machine.specs.declared.event.Event.TheVariants.{Call, Deliver}
+use Rattle.sk_machine.specs.declared.event.Event.TheVariants.{Deliver}
 use Rattle.sk_machine.specs.Lines.{Happening}
-use Rattle.sk_machine_runs.specs.Scripts.{nothing_given, given, plain, minus, only, sigaction, sigprocmask, sigreturn, getpid, fork, wait4, kill, getuid, setuid, geteuid, setpgid, getppid, setresuid, sigpending, prctl, gives, fails, told, signals, delivers, handles, not_now, Runs, after}
+use Rattle.sk_machine_runs.specs.Scripts.{nothing_given, given, plain, call_with, minus, only, sigaction, sigprocmask, sigreturn, getpid, fork, wait4, kill, getuid, setuid, geteuid, setpgid, getppid, setresuid, sigpending, prctl, gives, fails, told, signals, delivers, handles, not_now, Runs, after}
 use Rattle.sk_machine_runs.specs.WorkedSignals.{mask_at}
 use Rattle.std.specs.Option.{option_map}
 
@@ -145,8 +145,8 @@ MindsEachArgument =
     Runs nothing_given opening (
     (prctl 1 39 1 0, fails Einval)
     ∷ (prctl 1 39 0 1, fails Einval)
-    ∷ (Call 1 0 157 (39 ∷ 0 ∷ 0 ∷ 1 ∷ 0 ∷ 0 ∷ []), fails Einval)
-    ∷ (Call 1 0 157 (39 ∷ 0 ∷ 0 ∷ 0 ∷ 1 ∷ 0 ∷ []), fails Einval)
+    ∷ (call_with 1 157 (39 ∷ 0 ∷ 0 ∷ 1 ∷ 0 ∷ 0 ∷ []), fails Einval)
+    ∷ (call_with 1 157 (39 ∷ 0 ∷ 0 ∷ 0 ∷ 1 ∷ 0 ∷ []), fails Einval)
     ∷ (prctl 1 39 0 0, gives 0)
     ∷ [])
 

@@ -1,12 +1,12 @@
 -- Runs that are worked out by hand: which arguments a call takes as 32 bits, by its C type in the manual, and
 -- which as a whole register.
 use Rattle.std.specs.Prelude.{◌+◌, ◌-◌, ◌^◌, [], ◌∷◌}
-use Rattle.sk_creds.specs.declared.errno.Errno.TheVariants.{Enoent, Efault, Einval}
+use Rattle.sk_world.specs.declared.errno.Errno.TheVariants.{Enoent, Efault, Einval}
 use Rattle.sk_world.specs.World.{opening}
 use Rattle.sk_machine.specs.declared.answer.Outcome.TheVariants.{Ids}
 use Rattle.sk_machine.specs.declared.answer.Effect.TheVariants as effect
-use Rattle.sk_machine.specs.declared.event.Event.TheVariants.{Call, Deliver}
-use Rattle.sk_machine_runs.specs.Scripts.{nothing_given, given, plain, always, minus, sigaction, sigprocmask, getpid, fork, execve, exit, wait4, kill, setuid, setpgid, setresuid, getresuid, getpgid, getsid, prctl, exit_group, seccomp, allowed, gives, fails, ends, executed, delivers, handles, Runs}
+use Rattle.sk_machine.specs.declared.event.Event.TheVariants.{Deliver}
+use Rattle.sk_machine_runs.specs.Scripts.{nothing_given, given, plain, always, call_with, minus, sigaction, sigprocmask, getpid, fork, execve, exit, wait4, kill, setuid, setpgid, setresuid, getresuid, getpgid, getsid, prctl, exit_group, seccomp, allowed, gives, fails, ends, executed, delivers, handles, Runs}
 
 -- kill(2): the process and the signal are ints
 abbrev pub KillTakesInts : Type 0
@@ -66,15 +66,15 @@ abbrev pub PrctlTakesIntAndWholes : Type 0
 PrctlTakesIntAndWholes =
     Runs (given (always 0x7fff0000 ∷ []) []) opening (
     (prctl 1 38 (2 ^ 32 + 1) 0, fails Einval)
-    ∷ (Call 1 0 157 (38 ∷ 1 ∷ 0 ∷ 0 ∷ 1 ∷ 0 ∷ []), fails Einval)
-    ∷ (Call 1 0 157 (38 ∷ 1 ∷ 0 ∷ 1 ∷ 0 ∷ 0 ∷ []), fails Einval)
+    ∷ (call_with 1 157 (38 ∷ 1 ∷ 0 ∷ 0 ∷ 1 ∷ 0 ∷ []), fails Einval)
+    ∷ (call_with 1 157 (38 ∷ 1 ∷ 0 ∷ 1 ∷ 0 ∷ 0 ∷ []), fails Einval)
     ∷ (prctl 1 (2 ^ 32 + 38) 1 0, gives 0)
-    ∷ (Call 1 0 157 (39 ∷ 0 ∷ 0 ∷ 0 ∷ 2 ^ 32 ∷ 0 ∷ []), fails Einval)
-    ∷ (Call 1 0 157 (39 ∷ 0 ∷ 0 ∷ 0 ∷ 0 ∷ 1 ∷ []), gives 1)
+    ∷ (call_with 1 157 (39 ∷ 0 ∷ 0 ∷ 0 ∷ 2 ^ 32 ∷ 0 ∷ []), fails Einval)
+    ∷ (call_with 1 157 (39 ∷ 0 ∷ 0 ∷ 0 ∷ 0 ∷ 1 ∷ []), gives 1)
     ∷ (prctl 1 22 2 (2 ^ 32), fails Efault)
-    ∷ (Call 1 0 157 (21 ∷ 9 ∷ 9 ∷ 9 ∷ 9 ∷ 9 ∷ []), gives 0)
+    ∷ (call_with 1 157 (21 ∷ 9 ∷ 9 ∷ 9 ∷ 9 ∷ 9 ∷ []), gives 0)
     ∷ (prctl 1 22 2 0, gives 0)
-    ∷ (Call 1 0 157 (21 ∷ 9 ∷ 9 ∷ 9 ∷ 9 ∷ 9 ∷ []), gives 2)
+    ∷ (call_with 1 157 (21 ∷ 9 ∷ 9 ∷ 9 ∷ 9 ∷ 9 ∷ []), gives 2)
     ∷ [])
 
 -- sigprocmask(2): how it is set is an int, the set a whole register

@@ -16,7 +16,7 @@ use Rattle.sk_machine.specs.declared.event.Event.TheVariants.{Call}
 use Rattle.sk_machine.specs.declared.answer.Answer.{Answer}
 use Rattle.sk_machine.specs.declared.answer.Answer.TheVariants as answer
 use Rattle.sk_machine.specs.declared.answer.Outcome.TheVariants.{Returned, Executed, Ended}
-use Rattle.sk_machine.specs.Events.{pid_of}
+use Rattle.sk_machine.specs.Events.{pid_of, recorded}
 use Rattle.sk_machine.specs.Performing.{performed}
 use Rattle.sk_machine.specs.Machine.{step_of}
 use Rattle.sk_machine.specs.Lines.{is_fork_of}
@@ -25,7 +25,6 @@ use Rattle.sk_machine_laws.specs.ConfinementLaws.{ends, stops}
 use Rattle.sk_machine_laws.specs.AnyMachine.{Machine, GivesAuthorityByLine, TellsEndsOnce, KeepsToConfined}
 use Rattle.sk_machine.specs.Given.{GivenImages}
 use Rattle.sk_insn.specs.declared.record.Record.{Record}
-use Rattle.sk_insn.specs.Record.{native}
 
 -- the number that a call has returned
 abbrev pub number_in : Answer → Option ℕ
@@ -100,10 +99,10 @@ world_performed images w pid call = option_map_or (λ p. (performed images w pid
 
 -- a call that a filter answers with an error is performed all the same
 abbrev pub performs_refused : Machine
-performs_refused images w (Call pid ip nr args) =
-    if is_refused (step_of images w (Call pid ip nr args)).answer
-    then record (step_of images w (Call pid ip nr args)) { world = world_performed images w pid (native nr ip args) }
-    else step_of images w (Call pid ip nr args)
+performs_refused images w (Call pid ip call) =
+    if is_refused (step_of images w (Call pid ip call)).answer
+    then record (step_of images w (Call pid ip call)) { world = world_performed images w pid (recorded ip call) }
+    else step_of images w (Call pid ip call)
 performs_refused images w event = step_of images w event
 
 -- a stop sends the parent SIGHUP besides

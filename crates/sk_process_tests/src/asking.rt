@@ -3,14 +3,13 @@
 use crate::sessions::world::setsid;
 use crate::world::{after_forks, end_of, stop};
 use bitflags::Flags;
-use sk_creds::Errno;
 use sk_insn::Record;
-use sk_machine::{Outcome, is_waiting, low, register, signed};
-use sk_session::{group_of, session_of};
+use sk_machine::{Outcome, group_of, is_waiting, low, register, session_of, signed};
 use sk_signal::number::SIGTSTP;
 use sk_table::{INIT, ListStore, ProcStore};
 use sk_world::{
-    Request, WaitOptions, Waiting, Who, is_alive, is_asked_for, is_stopped, is_zombie, parent_of,
+    Errno, Request, WaitOptions, Waiting, Who, is_alive, is_asked_for, is_stopped, is_zombie,
+    parent_of,
 };
 use std::test::Fail;
 

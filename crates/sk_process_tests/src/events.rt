@@ -1,4 +1,5 @@
 //! The processes of events, and the numbers of reasons, options and operations.
+use sk_calls::Call;
 use sk_machine::{Event, PrctlOption, Reason, SeccompOperation};
 
 #[test]
@@ -6,8 +7,10 @@ fn each_event_has_its_process(rt: HostRuntime) {
     let call = Event::Call {
         pid: 2,
         ip: 0,
-        nr: 39,
-        args: [0; 6],
+        call: Call {
+            nr: 39,
+            args: [0; 6],
+        },
     };
     for (event, pid) in [
         (call, 2),

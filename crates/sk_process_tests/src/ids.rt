@@ -1,6 +1,6 @@
 //! Worked user ids under setuid(2), setresuid(2), execve(2) and kill(2), and the numbers of errors.
 use crate::deliveries::world::{ROOT, USER};
-use sk_creds::{Creds, Errno};
+use sk_world::{Creds, Errno};
 
 fn ids(real: u32, effective: u32, saved: u32) -> Creds {
     Creds {

@@ -1,10 +1,9 @@
 //! What a child has of its parent, and which bits are options of wait4(2).
 use bitflags::Flags;
-use sk_chain::Chain;
-use sk_creds::Creds;
+use sk_filter::Chain;
 use sk_signal::number::{SIGTERM, SIGUSR1};
 use sk_signal::{SigSet, SigState};
-use sk_world::{Body, INIT, Life, Links, Note, Proc, WaitOptions, Waiting};
+use sk_world::{Body, Creds, INIT, Life, Links, Note, Proc, WaitOptions, Waiting};
 use std::process::Abort;
 use std::test::Fail;
 

@@ -17,21 +17,21 @@ pub(crate) fn told(alloc: Global, scenario: &Scenario) -> Result<String, AllocEr
 
 fn told_program(alloc: Global, program: &Program) -> Result<String, AllocError> {
     let mut text = format!(in alloc; "; {} {}", program.owner, program.setuid)?;
-    for call in &program.calls {
-        text.push_str(told_call(alloc, call)?.as_str())?;
+    for line in &program.calls {
+        text.push_str(told_line(alloc, line)?.as_str())?;
     }
     Ok(text)
 }
 
 // The number, the arguments down to the last that is not 0, and the program of the child.
-fn told_call(alloc: Global, call: &ScriptCall) -> Result<String, AllocError> {
-    let mut text = format!(in alloc; ", {}", call.nr)?;
-    for (at, argument) in call.args.iter().enumerate() {
-        if call.args[at..].iter().any(|left| *left != 0) {
+fn told_line(alloc: Global, line: &ScriptCall) -> Result<String, AllocError> {
+    let mut text = format!(in alloc; ", {}", line.call.nr)?;
+    for (at, argument) in line.call.args.iter().enumerate() {
+        if line.call.args[at..].iter().any(|left| *left != 0) {
             text.push_str(format!(in alloc; " {argument}")?.as_str())?;
         }
     }
-    if let Some(script) = call.script {
+    if let Some(script) = line.script {
         text.push_str(format!(in alloc; " of {script}")?.as_str())?;
     }
     Ok(text)

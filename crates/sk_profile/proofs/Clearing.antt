@@ -1,7 +1,7 @@
 -- Arms that never clash say the same of each call that they fit.
 use Rattle.std.proofs.Common.{◌≡◌, ℕ, zero, suc, ◌-◌, ◌^◌, ◌<◌, ◌≤◌, nat_lt, bit_and, Bool, true, false, inl, inr, List, [], ◌∷◌, length, Option, Some, None, slice_index_or, refl, sym, ap, ◌∙◌, subst, arith}
 use Rattle.std.specs.List.{Contains, list_any}
-use Rattle.std.proofs.lemmas.Bool.{both_ways, not-true, not-false, ltb-true, leb-true, eqb-true, eqb-false, ne_eqb, lt-leb, cases_lt, cases_Bool, and_parts, and_cases, or_cases}
+use Rattle.std.proofs.lemmas.Bool.{both_ways, not-true, not-false, ltb-true, leb-true, eqb-true, eqb-false, ne_eqb, cases_lt, cases_Bool, and_parts, and_cases, or_cases}
 use Rattle.std.proofs.lemmas.List.{get_or_past}
 use Rattle.std.proofs.lemmas.List.Folds.{list_any_at}
 use Rattle.std.proofs.lemmas.Nat.{and_assoc, and_comm}

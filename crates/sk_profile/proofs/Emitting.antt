@@ -10,8 +10,8 @@ use Rattle.sk_insn.specs.declared.insn.Insn.{Insn}
 use Rattle.sk_insn.specs.declared.record.Record.{Record}
 use Rattle.sk_insn.specs.declared.operation.Comparison.TheVariants.{Equal, GreaterOrEqual}
 use Rattle.sk_insn.specs.Actions.{allow}
-use Rattle.sk_interp.specs.Meaning.{meaning_of}
-use Rattle.sk_interp.specs.Walk.{walks}
+use Rattle.sk_filter.specs.Meaning.{meaning_of}
+use Rattle.sk_filter.specs.Walk.{walks}
 use Rattle.sk_profile.specs.declared.condition.Condition.{Condition}
 use Rattle.sk_profile.specs.declared.condition.Test.TheVariants.{Is}
 use Rattle.sk_profile.specs.declared.saying.Arm.{Arm as ArmOfCode}
@@ -174,7 +174,7 @@ joined_halves index value upper others all =
     All-map (λ number. high number ≡ upper) asked_for others (All-weaker (Asks index value upper) (λ arm. high (asked_for arm) ≡ upper) (λ arm is. is.upper_half) others all)
 
 pub joined_code : (old new : List Insn) (choice : Choice) (n : ℕ) → length choice.others ≡ n
-    → new ≡ ((((old ++ load (high_place choice.index) ∷ []) ++ branch Equal (high choice.first) 0 (3 + n) ∷ []) ++ load (low_place choice.index) ∷ []) ++ lows_code (choice.first ∷ choice.others)) ++ answer choice.value ∷ []
+    → new ≡ ((old ++ load (high_place choice.index) ∷ branch Equal (high choice.first) 0 (3 + n) ∷ load (low_place choice.index) ∷ []) ++ lows_code (choice.first ∷ choice.others)) ++ answer choice.value ∷ []
     → new ≡ old ++ choice_code choice
 joined_code old new choice n as_many is =
     let a = load (high_place choice.index) in
@@ -183,10 +183,8 @@ joined_code old new choice n as_many is =
     let lows = lows_code (choice.first ∷ choice.others) in
     let last = answer choice.value ∷ [] in
     is
-    ∙ append_assoc (((old ++ a ∷ []) ++ b ∷ []) ++ d ∷ []) lows last
-    ∙ append_assoc ((old ++ a ∷ []) ++ b ∷ []) (d ∷ []) (lows ++ last)
-    ∙ append_assoc (old ++ a ∷ []) (b ∷ []) (d ∷ (lows ++ last))
-    ∙ append_assoc old (a ∷ []) (b ∷ d ∷ (lows ++ last))
+    ∙ append_assoc (old ++ a ∷ b ∷ d ∷ []) lows last
+    ∙ append_assoc old (a ∷ b ∷ d ∷ []) (lows ++ last)
     ∙ ap (λ m. old ++ a ∷ branch Equal (high choice.first) 0 (3 + m) ∷ d ∷ (lows ++ last)) (sym as_many)
 
 -- ---- arms at the end that answer what is answered without them

@@ -14,11 +14,11 @@ use Rattle.sk_insn.specs.declared.operation.Operation.TheVariants.{LoadRecord, C
 use Rattle.sk_insn.specs.Operations.{operation_of}
 use Rattle.sk_insn.specs.Record.{architecture}
 use Rattle.sk_insn.proofs.OperationTable.{operation_of-code_of}
-use Rattle.sk_check.specs.declared.fault.CheckFault.{CheckFault}
-use Rattle.sk_check.specs.declared.fault.CheckFault.TheVariants as fault
-use Rattle.sk_check.specs.Paths.{At, Loads, returns}
-use Rattle.sk_check.specs.Places.{fault_of}
-use Rattle.sk_check.specs.Valid.{IsValid}
+use Rattle.sk_filter.specs.declared.fault.CheckFault.{CheckFault}
+use Rattle.sk_filter.specs.declared.fault.CheckFault.TheVariants as fault
+use Rattle.sk_filter.specs.Paths.{At, Loads, returns}
+use Rattle.sk_filter.specs.Places.{fault_of}
+use Rattle.sk_filter.specs.Valid.{IsValid}
 use Rattle.sk_profile.specs.declared.condition.Condition.{Condition}
 use Rattle.sk_profile.specs.declared.condition.Test.{Test}
 use Rattle.sk_profile.specs.declared.condition.Test.TheVariants.{Is, IsNot, Below, AtMost, Above, AtLeast, Masked}

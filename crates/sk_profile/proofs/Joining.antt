@@ -6,7 +6,7 @@ use Rattle.std.proofs.lemmas.List.Elements.{All-head, All-tail, All-cons}
 use Rattle.sk_insn.specs.declared.insn.Insn.{Insn}
 use Rattle.sk_insn.specs.declared.record.Record.{Record}
 use Rattle.sk_insn.specs.declared.operation.Comparison.TheVariants.{Equal}
-use Rattle.sk_interp.specs.Meaning.{State}
+use Rattle.sk_filter.specs.Meaning.{State}
 use Rattle.sk_profile.specs.declared.condition.Condition.{Condition}
 use Rattle.sk_profile.specs.Sayings.{Arm, all_hold, first_held, asks, Choice, Piece, Single, Joined, arms_of}
 use Rattle.sk_profile.specs.Code.{load, answer, high, low, high_place, low_place, conditions_code, single_code, passed_over, lows_code, choice_code, piece_code, saying_code}

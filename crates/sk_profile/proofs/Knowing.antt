@@ -9,8 +9,8 @@ use Rattle.sk_insn.specs.declared.operation.Operation.TheVariants.{LoadRecord, J
 use Rattle.sk_insn.specs.Actions.{allow}
 use Rattle.sk_insn.specs.Record.{architecture}
 use Rattle.sk_insn.proofs.OperationTable.{operation_of-code_of}
-use Rattle.sk_interp.specs.Meaning.{holds}
-use Rattle.sk_interp.specs.Walk.{walks_on, walks_from, walks}
+use Rattle.sk_filter.specs.Meaning.{holds}
+use Rattle.sk_filter.specs.Walk.{walks_on, walks_from, walks}
 use Rattle.sk_profile.specs.Sayings.{Saying, Piece, Single, Joined, arms_of, saying_of_pieces, Tree, Leaf, Fork, saying_at}
 use Rattle.sk_profile.specs.Code.{load, branch, jump, answer, saying_code, fork_code, tree_code, filter_code}
 

@@ -1,7 +1,5 @@
 -- One instruction of the code, and then what follows.
-use Rattle.std.proofs.Common.{◌≡◌, ℕ, suc, ◌+◌, ◌<◌, ◌^◌, Bool, true, false, if◌then◌else◌, List, [], ◌∷◌, ◌++◌, flat_map, length, Some, refl, ap, sym, ◌∙◌, subst, arith, bit_and}
-use Rattle.byteorder.specs.Endian.{little_bytes}
-use Rattle.byteorder.specs.Numbers.{little_number-reads_back}
+use Rattle.std.proofs.Common.{◌≡◌, ℕ, suc, ◌+◌, Bool, true, false, if◌then◌else◌, List, [], ◌∷◌, ◌++◌, length, Some, refl, ap, sym, ◌∙◌, subst, arith, bit_and}
 use Rattle.sk_insn.specs.declared.insn.Insn.{Insn}
 use Rattle.sk_insn.specs.declared.record.Record.{Record}
 use Rattle.sk_insn.specs.declared.operation.Operand.TheVariants.{Constant}
@@ -9,9 +7,9 @@ use Rattle.sk_insn.specs.declared.operation.Arithmetic.TheVariants.{And}
 use Rattle.sk_insn.specs.declared.operation.Comparison.{Comparison}
 use Rattle.sk_insn.specs.declared.operation.Operation.TheVariants.{LoadRecord, Compute, Jump, Branch, ReturnConstant}
 use Rattle.sk_insn.specs.Operations.{operation_of}
-use Rattle.sk_insn.specs.Record.{word_of, architecture, x86_64}
+use Rattle.sk_insn.specs.Record.{word_of}
 use Rattle.sk_insn.proofs.OperationTable.{operation_of-code_of}
-use Rattle.sk_interp.specs.Meaning.{Meaning, Returned, Stuck, State, Effect, GoesOn, Ends, holds, effect, after_step, then_follows, meaning}
+use Rattle.sk_filter.specs.Meaning.{Meaning, Returned, Stuck, State, Effect, GoesOn, Ends, holds, effect, after_step, then_follows, meaning}
 use Rattle.sk_profile.specs.Code.{load, with, branch, jump, answer}
 use Rattle.sk_profile.specs.Means.{Gives}
 
@@ -35,7 +33,7 @@ pub load_on : (k : ℕ) (rest : List Insn) (call : Record) (s : State) (word val
     → Comes rest 0 call (record s { a = word }) value → Comes (load k ∷ rest) 0 call s value
 load_on k rest call s word value is g =
     on (load k) rest call s 0 (record s { a = word }) value
-    (ap (λ o. effect o (load k) call s) (operation_of-code_of LoadRecord) ∙ ap (λ w. Rattle.sk_interp.specs.Meaning.loaded Rattle.sk_insn.specs.declared.operation.Register.TheVariants.Accumulator s w) is) g
+    (ap (λ o. effect o (load k) call s) (operation_of-code_of LoadRecord) ∙ ap (λ w. Rattle.sk_filter.specs.Meaning.loaded Rattle.sk_insn.specs.declared.operation.Register.TheVariants.Accumulator s w) is) g
 
 pub branch_on : (comparison : Comparison) (k jt jf : ℕ) (rest : List Insn) (call : Record) (s : State) (value : ℕ)
     → Comes rest (if holds comparison s.a k then jt else jf) call s value

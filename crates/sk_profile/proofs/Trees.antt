@@ -6,7 +6,7 @@ use Rattle.sk_insn.specs.declared.record.Record.{Record}
 use Rattle.sk_insn.specs.declared.operation.Comparison.TheVariants.{Equal, GreaterOrEqual}
 use Rattle.sk_insn.specs.Record.{architecture}
 use Rattle.sk_insn.proofs.RecordWords.{native_there, number_there, word_of_architecture}
-use Rattle.sk_interp.specs.Meaning.{State, start}
+use Rattle.sk_filter.specs.Meaning.{State, start}
 use Rattle.sk_profile.specs.Sayings.{Saying, Tree, Leaf, Fork, said, saying_at}
 use Rattle.sk_profile.specs.Code.{load, branch, jump, answer, fork_code, tree_code, filter_code}
 use Rattle.sk_profile.specs.Means.{IsCall, IsTree, CodeMeansTree, CodeAnswersOthers}

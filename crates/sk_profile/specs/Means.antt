@@ -4,8 +4,8 @@ use Rattle.sk_insn.specs.declared.insn.Insn.{Insn}
 use Rattle.sk_insn.specs.declared.record.Record.{Record}
 use Rattle.sk_insn.specs.Actions.{allow}
 use Rattle.sk_insn.specs.Record.{architecture, IsNative}
-use Rattle.sk_interp.specs.Meaning.{Returned, Meaning, meaning_of}
-use Rattle.sk_interp.specs.Walk.{walks}
+use Rattle.sk_filter.specs.Meaning.{Returned, Meaning, meaning_of}
+use Rattle.sk_filter.specs.Walk.{walks}
 use Rattle.sk_profile.specs.declared.condition.Condition.{Condition}
 use Rattle.sk_profile.specs.Sayings.{Saying, AlwaysSays, Piece, Single, Joined, Tree, Leaf, Fork, said, saying_at}
 use Rattle.sk_profile.specs.CodeRows.{Row, saying_in}

@@ -4,7 +4,7 @@ use Rattle.std.specs.Prelude.{ℕ, ◌≡◌, List, [], ◌∷◌}
 use Rattle.sk_insn.specs.declared.insn.Insn.{Insn}
 use Rattle.sk_insn.specs.declared.record.Record.{Record}
 use Rattle.sk_insn.specs.Record.{native}
-use Rattle.sk_interp.specs.Meaning.{Returned, meaning_of}
+use Rattle.sk_filter.specs.Meaning.{Returned, meaning_of}
 use Rattle.sk_profile.specs.declared.condition.Test.TheVariants.{Below}
 use Rattle.sk_profile.specs.Sayings.{Piece, Single, Joined}
 use Rattle.sk_profile.specs.Code.{saying_code, fork_code}

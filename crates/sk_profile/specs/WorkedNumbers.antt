@@ -1,7 +1,6 @@
 -- What is said of numbers where runc's stub stands before the filter, worked out by hand; the filters that runc 1.1.5 attached
 -- for such profiles answer so.
 use Rattle.std.specs.Prelude.{ℕ, ◌≡◌, Bool, true, false, List, [], ◌∷◌}
-use Rattle.sk_profile.specs.Sayings.{Saying}
 use Rattle.sk_profile.specs.Profiles.{Rule, Profile, always, saying_for}
 
 -- default ERRNO(1); what is no call of x86-64 is killed

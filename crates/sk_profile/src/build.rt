@@ -1,7 +1,7 @@
 //! The filter of rows.
-ghost use Rattle.std.specs.Prelude.{ℕ, ◌≡◌, ◌<◌, ◌++◌, length, List, map, OnOk, IfOk, IfErr};
+ghost use Rattle.std.specs.Prelude.{ℕ, ◌≡◌, ◌<◌, ◌++◌, [], length, List, map, OnOk, IfOk, IfErr};
 ghost use Rattle.sk_insn.specs.declared.insn.Insn.{Insn};
-ghost use Rattle.sk_check.specs.Valid.{IsValid};
+ghost use Rattle.sk_filter.specs.Valid.{IsValid};
 ghost use Rattle.sk_profile.specs.declared.build.CodeFault.TheVariants.{TooLong};
 ghost use Rattle.sk_profile.specs.Sayings.{Tree};
 ghost use Rattle.sk_profile.specs.Code.{fork_code, tree_code, filter_code};
@@ -84,6 +84,7 @@ fn cut(rows: &[Row], numbers: Numbers) -> usize
 }
 
 // The rows, where this is said below the first of them.
+#[cycle(code)]
 fn push_rows(
     alloc: Global,
     code: &mut Vec<Insn>,
@@ -102,11 +103,27 @@ fn push_rows(
     let at = cut(rows, numbers);
     let middle = &rows[at];
     let (low, high) = numbers.cut_at(middle.start);
-    let mut below = Vec::new(alloc);
-    push_rows(alloc, &mut below, before, &rows[..at], low)?;
+    let below = code_of(alloc, before, &rows[..at], low)?;
     push_head(code, middle.start, below.len())?;
     code.extend_from_slice(&below)?;
     push_rows(alloc, code, &middle.saying, &rows[at + 1..], high)
+}
+
+// The code of the rows by itself.
+#[cycle(code)]
+fn code_of(
+    alloc: Global,
+    before: &Saying,
+    rows: &[Row],
+    numbers: Numbers,
+) -> Result<Vec<Insn>, CodeFault>
+    requires rows { AreRows before.now rows.now }
+    ensures emits { IfOk result (λ code. Emits [] code.items before.now rows.now) }
+    ensures long { IfErr result (λ fault. fault ≡ TooLong → IsOverlong tree_code before.now rows.now) }
+{
+    let mut code = Vec::new(alloc);
+    push_rows(alloc, &mut code, before, rows, numbers)?;
+    Ok(code)
 }
 
 /// The filter that answers to every call what the rows say, and `bad` on every other architecture.

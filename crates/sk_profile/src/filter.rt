@@ -1,11 +1,11 @@
 //! The filter that means a profile.
 ghost use Rattle.std.specs.Prelude.{ℕ, ◌≡◌, ◌<◌, ◌^◌, IsTrue, IfOk, IfErr};
-ghost use Rattle.sk_check.specs.Valid.{IsValid};
+ghost use Rattle.sk_filter.specs.Valid.{IsValid};
 ghost use Rattle.sk_insn.specs.declared.record.Record.{Record};
 ghost use Rattle.sk_insn.specs.Actions.{allow};
 ghost use Rattle.sk_insn.specs.Record.{IsNative};
-ghost use Rattle.sk_interp.specs.Meaning.{meaning_of};
-ghost use Rattle.sk_interp.specs.Walk.{walks};
+ghost use Rattle.sk_filter.specs.Meaning.{meaning_of};
+ghost use Rattle.sk_filter.specs.Walk.{walks};
 ghost use Rattle.sk_profile.specs.Code.{filter_code};
 ghost use Rattle.sk_profile.specs.Means.{IsCall, Gives};
 ghost use Rattle.sk_profile.specs.Sayings.{Tree, AlwaysSays};
@@ -34,7 +34,7 @@ pub fn profile_filter(alloc: Global, profile: &Profile) -> Result<Vec<Insn>, Pro
     ensures long { IfErr result (λ fault. fault ≡ TooLong → HasLongTree (profile_of profile.now)) }
     ensures fault { IfErr result (IsFaultOf (profile_of profile.now)) }
 {
-    if let Some(place) = wrong_rule(&profile.rules) {
+    if let Some(place) = wrong_rule(profile) {
         return Err(ProfileFault::Rule(place));
     }
     let Rows { before, rows } = rows_of(alloc, profile)?;

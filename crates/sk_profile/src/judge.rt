@@ -1,22 +1,22 @@
 //! Which rules a profile may have.
-ghost use Rattle.std.specs.Prelude.{◌≡◌, nat_lt, map, All, IfSome, IfNone};
+ghost use Rattle.std.specs.Prelude.{◌≡◌, nat_lt, IfSome, IfNone};
 ghost use Rattle.std.specs.List.{list_all};
 ghost use Rattle.sk_profile.specs.declared.condition.Condition.{Condition};
 ghost use Rattle.sk_profile.specs.Faults.{is_good, IsWrongAt};
-ghost use Rattle.sk_profile.specs.Rows.{IsGood};
-ghost use Rattle.sk_profile.specs.Views.{rule_of};
+ghost use Rattle.sk_profile.specs.Rows.{AreGood};
+ghost use Rattle.sk_profile.specs.Views.{profile_of, rule_of};
 
 use crate::condition::Condition;
-use crate::profile::Rule;
+use crate::profile::{Profile, Rule};
 use crate::rows::NUMBERS;
 
 /// The place of the first rule that is for no call of x86-64, or has conditions that no call can be asked about.
-pub fn wrong_rule(rules: &[Rule]) -> Option<usize>
-    ensures none { IfNone result (All IsGood rules.now) }
-    ensures place { IfSome result (IsWrongAt (map rule_of rules.now)) }
+pub fn wrong_rule(profile: &Profile) -> Option<usize>
+    ensures none { IfNone result (AreGood profile.now) }
+    ensures place { IfSome result (IsWrongAt (profile_of profile.now).rules) }
 {
     let mut place = 0;
-    let mut left = rules;
+    let mut left: &[Rule] = &profile.rules;
     while let Some((rule, rest)) = left.split_first() {
         if !is_good(rule) {
             return Some(place);

@@ -114,9 +114,10 @@ fn push_joined(code: &mut Vec<Insn>, first: Question, others: &[Arm]) -> Result<
         (asks first.index first.value first.number ∷ map arm_of others.now)) }
 {
     let high = (first.number / 0x1_0000_0000) as u32;
-    code.push(load(20 + 8 * u32::from(first.index)))?;
-    code.push(branch(Comparison::Equal, high, 0, 3 + others.len() as u8))?;
-    code.push(load(16 + 8 * u32::from(first.index)))?;
+    let load_high = load(20 + 8 * u32::from(first.index));
+    let is_high = branch(Comparison::Equal, high, 0, 3 + others.len() as u8);
+    let load_low = load(16 + 8 * u32::from(first.index));
+    code.extend_from_slice(&[load_high, is_high, load_low])?;
     push_lows(code, first.number, others)?;
     code.push(answer(first.value))?;
     Ok(())

@@ -12,8 +12,8 @@ ghost use Rattle.sk_profile.specs.Rows.{said_at, StartBelow, AreGood};
 
 use crate::clash::clash;
 use crate::fault::{Clash, ProfileFault};
+use crate::from_rules::{plain, saying};
 use crate::profile::Profile;
-use crate::said::{plain, saying};
 use crate::saying::{Row, Saying};
 use crate::stub::{NO_CALL, greatest, is_unknown};
 use std::alloc::{AllocError, Global};
@@ -56,40 +56,14 @@ pub fn rows_of(alloc: Global, profile: &Profile) -> Result<Rows, ProfileFault>
     };
     for nr in 1..NUMBERS {
         let said = clear_saying(alloc, profile, top, nr)?;
-        say_from(&mut rows, nr, said)?;
+        rows = said_from(rows, nr, said)?;
     }
     let (default, bad) = (profile.default, profile.bad);
-    say_from(
-        &mut rows,
-        NUMBERS,
-        without_rules(alloc, profile, top, NUMBERS, default),
-    )?;
-    say_from(&mut rows, X32, plain(alloc, bad))?;
-    say_from(
-        &mut rows,
-        NO_X32_BIT,
-        without_rules(alloc, profile, top, NO_X32_BIT, bad),
-    )?;
-    say_from(&mut rows, X32_BIT_AGAIN, plain(alloc, bad))?;
-    say_from(
-        &mut rows,
-        PAST_X32,
-        without_rules(alloc, profile, top, PAST_X32, default),
-    )?;
-    Ok(rows)
-}
-
-// What is said of a number that no rule is for, where this is its value without runc.
-fn without_rules(alloc: Global, profile: &Profile, top: u32, nr: u32, value: u32) -> Saying
-    requires top { top ≡ greatest (profile_of profile.now).rules }
-    ensures saying { saying_of result ≡ always (if is_unknown (profile_of profile.now) nr then no_call else value) }
-    ensures good { IsSayingOfCode result }
-{
-    if is_unknown(profile, top, nr) {
-        plain(alloc, NO_CALL)
-    } else {
-        plain(alloc, value)
-    }
+    let to_x32 = unruled_from(alloc, profile, top, rows, NUMBERS, default)?;
+    let to_no_x32_bit = value_from(alloc, to_x32, X32, bad)?;
+    let to_x32_bit_again = unruled_from(alloc, profile, top, to_no_x32_bit, NO_X32_BIT, bad)?;
+    let to_past_x32 = value_from(alloc, to_x32_bit_again, X32_BIT_AGAIN, bad)?;
+    Ok(unruled_from(alloc, profile, top, to_past_x32, PAST_X32, default)?)
 }
 
 // What is said of the calls with a number, if no two rules may clash there.
@@ -118,20 +92,54 @@ fn clear_saying(alloc: Global, profile: &Profile, top: u32, nr: u32) -> Result<S
     }
 }
 
-// From a number on this is said, which is above those at which something else was said.
-fn say_from(rows: &mut Rows, start: u32, saying: Saying) -> Result<(), AllocError>
-    requires behind { StartBelow start rows.now.rows.items }
-    requires good { IsSayingOfCode saying }
-    ensures says { OnOk result ((nr : ℕ) → said_at rows.new nr ≡ if nat_le start nr then saying_of saying else said_at rows.old nr) }
-    ensures start { OnOk result (StartBelow (start + 1) rows.new.rows.items) }
-    ensures few { OnOk result (length rows.new.rows.items ≤ length rows.old.rows.items + 1) }
-    ensures rows { OnOk result (AreRows rows.old.before rows.old.rows.items → AreRows rows.new.before rows.new.rows.items) }
+// From a number on, where no rule is for it, this value without runc.
+fn unruled_from(
+    alloc: Global,
+    profile: &Profile,
+    top: u32,
+    rows: Rows,
+    start: u32,
+    value: u32,
+) -> Result<Rows, AllocError>
+    requires behind { StartBelow start rows.rows.items }
+    requires top { top ≡ greatest (profile_of profile.now).rules }
+    ensures says { IfOk result (λ more. (nr : ℕ) → said_at more nr ≡ if nat_le start nr then always (if is_unknown (profile_of profile.now) start then no_call else value) else said_at rows nr) }
+    ensures start { IfOk result (λ more. StartBelow (start + 1) more.rows.items) }
+    ensures few { IfOk result (λ more. length more.rows.items ≤ length rows.rows.items + 1) }
+    ensures rows { IfOk result (λ more. AreRows rows.before rows.rows.items → AreRows more.before more.rows.items) }
 {
-    if is_same(last(rows), &saying) {
-        return Ok(());
+    if is_unknown(profile, top, start) {
+        value_from(alloc, rows, start, NO_CALL)
+    } else {
+        value_from(alloc, rows, start, value)
+    }
+}
+
+// From a number on this value.
+fn value_from(alloc: Global, rows: Rows, start: u32, value: u32) -> Result<Rows, AllocError>
+    requires behind { StartBelow start rows.rows.items }
+    ensures says { IfOk result (λ more. (nr : ℕ) → said_at more nr ≡ if nat_le start nr then always value else said_at rows nr) }
+    ensures start { IfOk result (λ more. StartBelow (start + 1) more.rows.items) }
+    ensures few { IfOk result (λ more. length more.rows.items ≤ length rows.rows.items + 1) }
+    ensures rows { IfOk result (λ more. AreRows rows.before rows.rows.items → AreRows more.before more.rows.items) }
+{
+    said_from(rows, start, plain(alloc, value))
+}
+
+// From a number on this is said, which is above those at which something else was said.
+fn said_from(mut rows: Rows, start: u32, saying: Saying) -> Result<Rows, AllocError>
+    requires behind { StartBelow start rows.rows.items }
+    requires good { IsSayingOfCode saying }
+    ensures says { IfOk result (λ more. (nr : ℕ) → said_at more nr ≡ if nat_le start nr then saying_of saying else said_at rows nr) }
+    ensures start { IfOk result (λ more. StartBelow (start + 1) more.rows.items) }
+    ensures few { IfOk result (λ more. length more.rows.items ≤ length rows.rows.items + 1) }
+    ensures rows { IfOk result (λ more. AreRows rows.before rows.rows.items → AreRows more.before more.rows.items) }
+{
+    if is_same(last(&rows), &saying) {
+        return Ok(rows);
     }
     rows.rows.push(Row { start, saying })?;
-    Ok(())
+    Ok(rows)
 }
 
 // What is said behind the last number at which it changes.

@@ -9,8 +9,8 @@ use Rattle.std.proofs.lemmas.Bool.Decides.{eqb_tells}
 use Rattle.byteorder.specs.Endian.{little_bytes, little_number}
 use Rattle.byteorder.specs.Numbers.{little_number-reads_back}
 use Rattle.sk_insn.specs.declared.insn.Insn.{Insn}
-use Rattle.sk_check.specs.Valid.{IsValid}
-use Rattle.sk_check.specs.declared.fault.CheckFault.TheVariants.{Empty, TooLong}
+use Rattle.sk_filter.specs.Valid.{IsValid}
+use Rattle.sk_filter.specs.declared.fault.CheckFault.TheVariants.{Empty, TooLong}
 use Rattle.sk_profile_file.specs.Ranges.{IsInRange}
 use Rattle.sk_insn.specs.Instructions.{insn_of, instructions_in, image_instructions, instruction_bytes, image_of}
 

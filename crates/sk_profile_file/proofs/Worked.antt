@@ -4,7 +4,7 @@ use Rattle.json.proofs.OnLiterals.{json_on_literals}
 use Rattle.sk_text.specs.Numbers.{number_of}
 use Rattle.sk_call_names.specs.X86_64.{name_of, number_named}
 use Rattle.sk_call_names.specs.Elsewhere.{is_elsewhere}
-use Rattle.sk_verdict.specs.Errors.{error_named}
+use Rattle.sk_filter.specs.Errors.{error_named}
 use Rattle.sk_profile_file.specs.Capabilities.{capability}
 use Rattle.sk_profile_file.specs.WorkedFiles.{WorkedFiles}
 

@@ -4,8 +4,8 @@ use Rattle.sk_insn.specs.declared.insn.Insn.{Insn}
 use Rattle.sk_insn.specs.declared.record.Record.{Record}
 use Rattle.sk_insn.specs.Instructions.{image_instructions}
 use Rattle.sk_insn.specs.Record.{IsNative}
-use Rattle.sk_check.specs.Valid.{IsValid}
-use Rattle.sk_interp.specs.Meaning.{meaning_of}
+use Rattle.sk_filter.specs.Valid.{IsValid}
+use Rattle.sk_filter.specs.Meaning.{meaning_of}
 use Rattle.sk_profile.specs.Code.{filter_code}
 use Rattle.sk_profile.specs.Means.{AnswersOthers, IsCall, Gives}
 use Rattle.sk_profile.specs.Sayings.{Tree}

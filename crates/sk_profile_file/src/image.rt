@@ -1,6 +1,6 @@
 //! The image of instructions.
 ghost use Rattle.std.specs.Prelude.{◌≡◌, ◌++◌, IfOk, OnOk, Ok};
-ghost use Rattle.sk_check.specs.Valid.{IsValid};
+ghost use Rattle.sk_filter.specs.Valid.{IsValid};
 ghost use Rattle.sk_insn.specs.Instructions.{image_instructions, instruction_bytes};
 ghost use Rattle.sk_profile_file.specs.Ranges.{IsInRange};
 

@@ -6,7 +6,7 @@ use Rattle.json.specs.Json.{Json}
 use Rattle.sk_insn.specs.declared.action.Action.{Action}
 use Rattle.sk_insn.specs.declared.action.Action.TheVariants.{KillProcess, KillThread, Trap, Errno, UserNotif, Trace, Log, Allow, Unknown}
 use Rattle.sk_insn.specs.Actions.{value_of}
-use Rattle.sk_verdict.specs.Errors.{error_named}
+use Rattle.sk_filter.specs.Errors.{error_named}
 use Rattle.sk_profile_json.specs.declared.fault.Field.{Field}
 use Rattle.sk_profile_json.specs.declared.fault.Wrong.{Wrong}
 use Rattle.sk_profile_json.specs.declared.fault.Wrong.TheVariants.{Contradicts}

@@ -3,13 +3,13 @@ ghost use Rattle.std.specs.Prelude.{◌≡◌, ◌≤◌, IfSome};
 ghost use Rattle.std.specs.Option.{option_map};
 ghost use Rattle.json.specs.Value.{value_view};
 ghost use Rattle.sk_profile_json.specs.Actions.{action_named, takes_number, value_with, greatest_error, action_in, value_in, agree, is_name_of};
-ghost use Rattle.sk_verdict.specs.Errors.{error_named};
+ghost use Rattle.sk_filter.specs.Errors.{error_named};
 
 use crate::fault::{Field, Wrong};
 use crate::fields::{number, text};
 use json::Value;
+use sk_filter::error_name;
 use sk_insn::Action;
-use sk_verdict::error_name;
 
 /// The greatest number of an error that libseccomp takes.
 const GREATEST_ERROR: u64 = 4094;

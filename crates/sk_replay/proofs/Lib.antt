@@ -1,3 +1,5 @@
+pub mod WordExamples
+pub mod Given
 pub mod Arguments
 pub mod Marks
 pub mod Tallies

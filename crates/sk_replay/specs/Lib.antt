@@ -1,3 +1,7 @@
+pub mod WordCalls
+pub mod CallWords
+pub mod Faults
+pub mod WorkedWords
 pub mod Calls
 pub mod Lines
 pub mod Replaying

@@ -10,8 +10,8 @@ use Rattle.std.specs.Cmp.Lexicographic.{pointwise}
 use Rattle.sk_text.specs.Lines.{lines_of}
 use Rattle.sk_insn.specs.declared.insn.Insn.{Insn}
 use Rattle.sk_insn.specs.Actions.{action_of, performs}
-use Rattle.sk_chain.specs.Verdict.{verdict_of}
-use Rattle.sk_verdict.specs.Verdicts.{verdict_text}
+use Rattle.sk_filter.specs.Verdict.{verdict_of}
+use Rattle.sk_filter.specs.VerdictText.{verdict_text}
 use Rattle.sk_call_names.specs.declared.architecture.Architecture.{Architecture}
 use Rattle.sk_call_names.specs.Names.{name_on}
 use Rattle.sk_replay.specs.declared.call.Call.{Call}

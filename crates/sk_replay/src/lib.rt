@@ -1,14 +1,23 @@
-//! `ask replay`: the verdicts of filters on the calls of a log that strace(1) wrote.
+//! Calls as people and programs write them: a word of a command line, and the lines of a log of strace(1), with the verdicts on
+//! those.
 #![tactic(auto)]
 
 mod answer;
+mod argument;
 mod call;
+mod cuts;
+mod fault;
 pub mod laws;
 mod line;
+mod named;
 mod replaying;
 mod row;
 mod tally;
 mod text;
+mod word;
 
 pub use answer::Replay;
+pub use fault::CallFault;
+pub use named::call_named;
 pub use replaying::replay;
+pub use word::{call_in, name_part};

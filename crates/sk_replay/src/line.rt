@@ -143,8 +143,14 @@ fn listed(first: &[u8], mut words: Words<'_>) -> Option<Arguments>
         push(&mut args, given)?;
         word = next;
     }
-    let given = last_argument(word, words)?;
-    push(&mut args, given)?;
+    let last = last_argument(word, words)?;
+    with_last(args, last)
+}
+
+fn with_last(mut args: Arguments, last: u64) -> Option<Arguments>
+    ensures all { option_map (λ args. args.items) result ≡ one_more args.items last }
+{
+    push(&mut args, last)?;
     Some(args)
 }
 

@@ -10,7 +10,7 @@ use crate::tally::Tally;
 use crate::text::replay_text;
 use indexmap::IndexMap;
 use sk_call_names::Architecture;
-use sk_chain::Chain;
+use sk_filter::Chain;
 use std::alloc::{AllocError, Global};
 
 /// The verdicts on the calls of the log of a process of an architecture. No log has the instruction pointer of a call, which

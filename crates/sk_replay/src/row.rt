@@ -4,7 +4,7 @@ ghost use Rattle.sk_replay.specs.Replaying.{row_of, is_performed};
 
 use crate::call::Call;
 use sk_call_names::Architecture;
-use sk_chain::Chain;
+use sk_filter::Chain;
 use sk_insn::Action;
 
 /// A call, how often it was made, and the value that filters give it.

@@ -1,12 +1,12 @@
 //! The text of a replay.
-ghost use Rattle.std.specs.Prelude.{◌≡◌, ◌++◌, IfOk, OnOk, codes, flat_map, string_bytes};
+ghost use Rattle.std.specs.Prelude.{◌≡◌, ◌++◌, IfOk, OnOk, codes, false, flat_map, string_bytes, true};
 ghost use Rattle.sk_call_names.specs.Names.{name_on};
 ghost use Rattle.sk_replay.specs.Replaying.{argument_text, arguments_text, name_text, call_text, row_text, one_text, part_text, count_text, tally_text};
 
 use crate::call::Call;
 use crate::row::Row;
 use sk_call_names::{Architecture, name};
-use sk_verdict::push_verdict;
+use sk_filter::push_verdict;
 use std::alloc::{AllocError, Global};
 use std::fmt::Write;
 
@@ -21,16 +21,50 @@ pub(crate) fn replay_text(
     ensures text { IfOk result (λ text. string_bytes text ≡ tally_text architecture rows.now events unclear) }
 {
     let mut text = String::new(alloc);
-    push_part(&mut text, architecture, rows, false)?;
-    push_part(&mut text, architecture, rows, true)?;
-    push_count(&mut text, events, "line is no call", "lines are no calls")?;
+    push_denied(&mut text, architecture, rows)?;
+    push_performed(&mut text, architecture, rows)?;
+    push_events(&mut text, events)?;
+    push_unclear(&mut text, unclear)?;
+    Ok(text)
+}
+
+fn push_denied(
+    text: &mut String,
+    architecture: Architecture,
+    rows: &[Row],
+) -> Result<(), AllocError>
+    ensures text { OnOk result (string_bytes text.new ≡ string_bytes text.old ++ part_text architecture false rows.now) }
+{
+    push_part(text, architecture, rows, false)
+}
+
+fn push_performed(
+    text: &mut String,
+    architecture: Architecture,
+    rows: &[Row],
+) -> Result<(), AllocError>
+    ensures text { OnOk result (string_bytes text.new ≡ string_bytes text.old ++ part_text architecture true rows.now) }
+{
+    push_part(text, architecture, rows, true)
+}
+
+fn push_events(text: &mut String, count: u64) -> Result<(), AllocError>
+    ensures text { OnOk result (string_bytes text.new ≡
+        string_bytes text.old ++ count_text count (codes "line is no call") (codes "lines are no calls")) }
+{
+    push_count(text, count, "line is no call", "lines are no calls")
+}
+
+fn push_unclear(text: &mut String, count: u64) -> Result<(), AllocError>
+    ensures text { OnOk result (string_bytes text.new ≡
+        string_bytes text.old ++ count_text count (codes "line is not understood") (codes "lines are not understood")) }
+{
     push_count(
-        &mut text,
-        unclear,
+        text,
+        count,
         "line is not understood",
         "lines are not understood",
-    )?;
-    Ok(text)
+    )
 }
 
 // Writes the rows that are performed, or those that are not.

@@ -3,7 +3,7 @@ use Rattle.std.proofs.Common.{refl}
 use Rattle.std.specs.Fmt.{digits}
 use Rattle.sk_insn.specs.Actions.{action_of}
 use Rattle.sk_insn.specs.Operations.{operation_of}
-use Rattle.sk_check.specs.FirstFault.{first_fault}
+use Rattle.sk_filter.specs.FirstFault.{first_fault}
 use Rattle.sk_signal.specs.Sets.{empty, contains, insert, retain, remove, difference, union, from_list}
 use Rattle.sk_signal.specs.SignalSet.{lowest, signals_to, signals_of, number_of as bits_of}
 use Rattle.sk_signal.specs.Signalling.{opening as no_signal}

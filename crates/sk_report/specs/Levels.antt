@@ -1,21 +1,19 @@
 -- How far each process is: a stack of levels, with a level on top for each handler that runs.
-use Rattle.std.specs.Prelude.{ℕ, suc, ◌+◌, ◌==◌, pos, true, false, Bool, ◌&&◌, if◌then◌else◌, List, [], ◌∷◌, Option, None, Some}
+use Rattle.std.specs.Prelude.{ℕ, suc, ◌+◌, ◌==◌, pos, true, false, Bool, ◌&&◌, if◌then◌else◌, List, [], ◌∷◌, slice_index_or, Option, None, Some}
 use Rattle.std.specs.Option.{option_and_then}
 use Rattle.sk_insn.specs.Actions.{action_of, performs}
-use Rattle.sk_insn.specs.declared.record.Record.{Record}
-use Rattle.sk_insn.specs.Record.{native}
+use Rattle.sk_calls.specs.declared.call.Call.{Call}
 use Rattle.sk_calls.specs.declared.syscall.Syscall.TheVariants as syscall
 use Rattle.sk_calls.specs.Syscalls.{number_of}
-use Rattle.sk_setting.specs.declared.call.ScriptCall.{ScriptCall}
+use Rattle.sk_scenario.specs.declared.call.ScriptCall.{ScriptCall}
 use Rattle.sk_machine.specs.declared.event.Event.{Event}
-use Rattle.sk_machine.specs.declared.event.Event.TheVariants.{Call, Deliver}
+use Rattle.sk_machine.specs.declared.event.Event.TheVariants as event
 use Rattle.sk_machine.specs.declared.answer.Answer.{Answer}
 use Rattle.sk_machine.specs.declared.answer.Answer.TheVariants as answer
 use Rattle.sk_machine.specs.declared.answer.Outcome.{Outcome}
 use Rattle.sk_machine.specs.declared.answer.Outcome.TheVariants.{Returned, Executed}
 use Rattle.sk_machine.specs.declared.answer.Effect.{Effect}
 use Rattle.sk_machine.specs.declared.answer.Effect.TheVariants as effect
-use Rattle.sk_machine.specs.Arguments.{register}
 use Rattle.sk_machine.specs.Lines.{has_returned}
 use Rattle.sk_report.specs.declared.level.Level.{Level}
 
@@ -73,13 +71,13 @@ made None false s = marked s
 
 -- what a performed call does to the levels of its caller: execve(2) leaves one level, at the new program's first call, and
 -- rt_sigreturn(2) that gave 0 takes the top level off
-abbrev pub performing : Record → Outcome → Stack → Stack
-performing call Executed s = alone (first_call (register call 0))
+abbrev pub performing : Call → Outcome → Stack → Stack
+performing call Executed s = alone (first_call (slice_index_or call.args 0 0))
 performing call (Returned n) s = if call.nr == number_of syscall.RtSigreturn && has_returned 0 (Returned n) then returned s else s
 performing call other s = s
 
 -- the levels of the caller after a call: this is the line of its script, if it is one
-abbrev pub called : Option ScriptCall → Record → Bool → Outcome → Stack → Stack
+abbrev pub called : Option ScriptCall → Call → Bool → Outcome → Stack → Stack
 called line call true outcome s = performing call outcome (made line true s)
 called line call false outcome s = made line false s
 
@@ -89,7 +87,7 @@ pid_in (Returned (pos (suc n))) = Some (suc n)
 pid_in other = None
 
 -- the child that a call has made, if it has made one: a performed fork(2)
-abbrev pub child_of : Record → Bool → Outcome → Option ℕ
+abbrev pub child_of : Call → Bool → Outcome → Option ℕ
 child_of call performed outcome = if performed && call.nr == number_of syscall.Fork then pid_in outcome else None
 
 -- the process of this pid has these levels, and every other the same as before
@@ -106,7 +104,7 @@ abbrev pub script_of_child : Option ScriptCall → Option ℕ
 script_of_child line = option_and_then (λ line. line.script) line
 
 -- all levels after a call: a child has a copy of its parent's
-abbrev pub after_call : ℕ → Option ScriptCall → Record → Bool → Outcome → Stacks → Stacks
+abbrev pub after_call : ℕ → Option ScriptCall → Call → Bool → Outcome → Stacks → Stacks
 after_call pid line call performed outcome stacks =
     let s = called line call performed outcome (stacks pid) in
     with_child (child_of call performed outcome) (begun (script_of_child line) s) (stacked pid s stacks)
@@ -118,7 +116,7 @@ delivered other s = s
 
 -- all levels after an event with this answer; the line is the next one of its process
 abbrev pub stacks_after : Option ScriptCall → Event → Answer → Stacks → Stacks
-stacks_after line (Call pid ip nr args) (answer.Call verdict outcome) stacks =
-    after_call pid line (native nr ip args) (performs (action_of verdict)) outcome stacks
-stacks_after line (Deliver pid) (answer.Signal n effect) stacks = stacked pid (delivered effect (stacks pid)) stacks
+stacks_after line (event.Call pid ip call) (answer.Call verdict outcome) stacks =
+    after_call pid line call (performs (action_of verdict)) outcome stacks
+stacks_after line (event.Deliver pid) (answer.Signal n effect) stacks = stacked pid (delivered effect (stacks pid)) stacks
 stacks_after line event other stacks = stacks

@@ -2,7 +2,7 @@
 -- engine.
 use Rattle.std.specs.Prelude.{ℕ, zero, suc, ◌++◌, List, [], ◌∷◌, map, Result, Ok, Err}
 use Rattle.std.specs.List.{concat}
-use Rattle.sk_setting.specs.Scenario.{Setting}
+use Rattle.sk_scenario.specs.Scenario.{Setting}
 use Rattle.sk_report.specs.declared.turn.End.{End}
 use Rattle.sk_report.specs.declared.turn.End.TheVariants.{Limit}
 use Rattle.sk_report.specs.declared.turn.Turn.{Turn}

@@ -1,13 +1,14 @@
 -- Round robin: which event is due, what it leads to, and when no further turn is made.
 use Rattle.std.specs.Prelude.{ℕ, ◌+◌, ◌*◌, ◌%◌, ◌^◌, nat_lt, if◌then◌else◌, List, [], ◌∷◌, length, map, replicate, slice_get, Option, None, Some, Result, Ok, Err}
 use Rattle.std.specs.Option.{option_map_or}
+use Rattle.sk_calls.specs.declared.call.Call.{Call}
 use Rattle.sk_calls.specs.declared.syscall.Syscall.TheVariants as syscall
 use Rattle.sk_calls.specs.Syscalls.{number_of}
-use Rattle.sk_setting.specs.declared.call.ScriptCall.{ScriptCall}
-use Rattle.sk_setting.specs.Scenario.{Script, Setting}
+use Rattle.sk_scenario.specs.declared.call.ScriptCall.{ScriptCall}
+use Rattle.sk_scenario.specs.Scenario.{Script, Setting}
 use Rattle.sk_world.specs.World.{World, opening}
 use Rattle.sk_machine.specs.declared.event.Event.{Event}
-use Rattle.sk_machine.specs.declared.event.Event.TheVariants.{Call, Deliver, Resume, Fault}
+use Rattle.sk_machine.specs.declared.event.Event.TheVariants as event
 use Rattle.sk_machine.specs.declared.event.Need.{Need}
 use Rattle.sk_machine.specs.declared.event.Need.TheVariants as need
 use Rattle.sk_machine.specs.declared.images.Mark.{Mark}
@@ -35,23 +36,27 @@ line_due scripts s = slice_get (script_of scripts s.top.program) s.top.position
 abbrev pub address_of : ℕ → ℕ → ℕ
 address_of program position = 65536 * (program % 2 ^ 32) + position
 
+-- a call of this number, whose registers are 0
+abbrev pub bare : ℕ → Call
+bare nr = record { nr = nr; args = replicate 6 0 }
+
 -- the call that ends a script: rt_sigreturn(2) of a handler, exit_group(2) where none runs
-abbrev pub closing : List Level → ℕ
-closing [] = number_of syscall.ExitGroup
-closing (level ∷ below) = number_of syscall.RtSigreturn
+abbrev pub closing : List Level → Call
+closing [] = bare (number_of syscall.ExitGroup)
+closing (level ∷ below) = bare (number_of syscall.RtSigreturn)
 
 -- the event of a process that makes a call of its own: the line that is due; where none is left the call that ends the script, and a
 -- fault where that was refused
 abbrev pub own_event : List Script → ℕ → Stack → Option ScriptCall → Event
-own_event scripts pid s (Some line) = Call pid (address_of s.top.program s.top.position) line.nr line.args
+own_event scripts pid s (Some line) = event.Call pid (address_of s.top.program s.top.position) line.call
 own_event scripts pid s None =
-    if s.top.refused then Fault pid
-    else Call pid (address_of s.top.program (length (script_of scripts s.top.program))) (closing s.below) (replicate 6 0)
+    if s.top.refused then event.Fault pid
+    else event.Call pid (address_of s.top.program (length (script_of scripts s.top.program))) (closing s.below)
 
 -- the event of a process by what it needs
 abbrev pub event_by : List Script → ℕ → Stack → Need → Event
-event_by scripts pid s need.Deliver = Deliver pid
-event_by scripts pid s need.Resume = Resume pid
+event_by scripts pid s need.Deliver = event.Deliver pid
+event_by scripts pid s need.Resume = event.Resume pid
 event_by scripts pid s need.Call = own_event scripts pid s (line_due scripts s)
 
 -- ---- turns

@@ -2,6 +2,7 @@
 use Rattle.std.specs.Prelude.{ℕ, zero, suc, ◌+◌, ◌/◌, ◌%◌, ◌++◌, nat_lt, true, false, if◌then◌else◌, List, [], ◌∷◌, codes}
 use Rattle.std.specs.Option.{option_map_or}
 use Rattle.std.specs.Fmt.{decimal, signed_decimal}
+use Rattle.sk_text.specs.Hexadecimal.{digit_of}
 use Rattle.sk_insn.specs.Actions.{action_of, action_name, data_part}
 use Rattle.sk_calls.specs.Syscalls.{syscall_of, name_of}
 use Rattle.sk_signal.specs.SignalSet.{number_of}
@@ -18,10 +19,6 @@ use Rattle.sk_report.specs.declared.turn.End.{End}
 use Rattle.sk_report.specs.declared.turn.End.TheVariants.{Halt, Idle, Limit}
 use Rattle.sk_report.specs.declared.turn.Turn.{Turn}
 use Rattle.sk_report.specs.declared.turn.Turn.TheVariants as turn
-
--- a hexadecimal digit, in lower case
-abbrev pub digit_of : ℕ → ℕ
-digit_of n = if nat_lt n 10 then 48 + n else 87 + n
 
 -- the last so many hexadecimal digits of a number
 unfoldable pub hex : ℕ → ℕ → List ℕ
@@ -61,7 +58,7 @@ call_name nr = option_map_or name_of (syscall_of nr) (decimal nr)
 
 -- the number of the call that an event is; no other event is a call
 abbrev pub number_in : Event → ℕ
-number_in (Call pid ip nr args) = nr
+number_in (Call pid ip call) = call.nr
 number_in other = 0
 
 -- what happened: an event by its answer. That an event is not possible is never told, since each that is due is possible

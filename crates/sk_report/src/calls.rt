@@ -4,9 +4,8 @@ ghost use Rattle.arrayvec.specs.ArrayString.{array_string_len};
 ghost use Rattle.sk_calls.specs.Syscalls.{name_of};
 ghost use Rattle.sk_report.specs.Text.{call_name};
 
-use crate::numbers::push_number;
-use crate::text::Line;
 use sk_calls::Syscall;
+use sk_text::{Line, push_number};
 
 #[tactic(auto, unfolding(crate::specs::Text::call_name))]
 pub(crate) fn push_call(text: &mut Line, nr: u32)

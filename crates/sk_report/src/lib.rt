@@ -3,12 +3,11 @@
 
 mod calls;
 mod level;
-mod numbers;
 mod rows;
 mod text;
 mod turn;
 
 pub use level::Level;
 pub use rows::worked_reports;
-pub use text::{Line, turn_line, write_line};
+pub use text::{turn_line, write_line};
 pub use turn::{End, Turn};

@@ -6,17 +6,13 @@ ghost use Rattle.sk_report.specs.Report.{line};
 ghost use Rattle.sk_report.specs.declared.turn.Turn.TheVariants as told;
 
 use crate::calls::push_call;
-use crate::numbers::{push_digit, push_long, push_number, push_signed};
 use crate::{End, Turn};
-use arrayvec::ArrayString;
 use sk_insn::Action;
 use sk_machine::{Answer, Effect, Event, Outcome};
+use sk_text::{Line, push_digit, push_long, push_number, push_signed};
 
 /// The verdict of no filter, and of filters that allow a call.
 const ALLOW: u32 = 0x7fff_0000;
-
-/// A line of text in place.
-pub type Line = ArrayString<128>;
 
 /// The line of a turn, with its line feed.
 pub fn turn_line(turn: &Turn) -> Line
@@ -122,7 +118,7 @@ fn number(event: &Event) -> u32
     ensures { result ≡ number_in event.now }
 {
     match *event {
-        Event::Call { nr, .. } => nr,
+        Event::Call { call, .. } => call.nr,
         _ => 0,
     }
 }

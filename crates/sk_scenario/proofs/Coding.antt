@@ -4,9 +4,9 @@ use Rattle.sk_insn.specs.declared.insn.Insn.{Insn}
 use Rattle.sk_asm.specs.declared.fault.AsmFault.{AsmFault}
 use Rattle.sk_asm.specs.declared.fault.AsmFault.TheVariants as asm
 use Rattle.sk_asm.specs.Faults.{IsAsmFault}
-use Rattle.sk_setting.specs.declared.fault.TextFault.{TextFault}
-use Rattle.sk_setting.specs.Scenario.{Names}
-use Rattle.sk_setting.specs.Reading.{Open, coded, held, fault_of}
+use Rattle.sk_scenario.specs.declared.text_fault.TextFault.{TextFault}
+use Rattle.sk_scenario.specs.Scenario.{Names}
+use Rattle.sk_scenario.specs.Reading.{Open, coded, held, fault_of}
 
 -- the fault that the assembler tells decides
 pub coded_by : (known : Option Names) (fault : AsmFault) (given : Result (List Insn) AsmFault) (answer : Result Open TextFault)

@@ -4,8 +4,8 @@ use Rattle.std.proofs.lemmas.Bool.{cases_Bool}
 use Rattle.std.specs.Map.{lookup}
 use Rattle.std.specs.Str.{bytes_eq}
 use Rattle.indexmap.specs.IndexMap.{insert_entry}
-use Rattle.sk_setting.specs.declared.call.Named.{Named}
-use Rattle.sk_setting.specs.Scenario.{Names, named_by}
+use Rattle.sk_scenario.specs.declared.call.Named.{Named}
+use Rattle.sk_scenario.specs.Scenario.{Names, named_by}
 
 abbrev pub entries_in : List (Bor (List ℕ) × Named) → Names
 entries_in entries = map (λ entry. (entry.0.now, entry.1)) entries

@@ -7,9 +7,9 @@ use Rattle.sk_text.specs.Lines.{words_of, has_bytes, begins_comment, is_printabl
 use Rattle.sk_text.specs.Words.{is_letter, is_name_byte, is_name}
 use Rattle.sk_calls.specs.declared.syscall.Syscall.TheVariants as syscall
 use Rattle.sk_calls.specs.Syscalls.{number_of}
-use Rattle.sk_setting.specs.Grammar.{Plain, Asked, asked, asked_in, asked_of}
-use Rattle.sk_setting.specs.Reading.{checked, understood}
-use Rattle.sk_setting.proofs.Steps.{plain-is}
+use Rattle.sk_scenario.specs.Grammar.{Plain, Asked, asked, asked_in, asked_of}
+use Rattle.sk_scenario.specs.Reading.{checked, understood}
+use Rattle.sk_scenario.proofs.Steps.{plain-is}
 
 -- ---- the bytes of a name
 

@@ -1,9 +1,9 @@
 -- Lines that change nothing.
 use Rattle.std.proofs.Common.{◌≡◌, refl, ℕ, List, [], Option, false, Ok}
 use Rattle.sk_asm.specs.Block.{is_end}
-use Rattle.sk_setting.specs.Grammar.{heading_of, asked_of}
-use Rattle.sk_setting.specs.Scenario.{Names, Script}
-use Rattle.sk_setting.specs.Reading.{Gained, Nothing, Undecided, Code, Calls, checked, remarked, started, decided, called, inside, within, stepped}
+use Rattle.sk_scenario.specs.Grammar.{heading_of, asked_of}
+use Rattle.sk_scenario.specs.Scenario.{Names, Script}
+use Rattle.sk_scenario.specs.Reading.{Gained, Nothing, Undecided, Code, Calls, checked, remarked, started, decided, called, inside, within, stepped}
 
 module _ (known : Option Names) (n : ℕ) (d : Gained) (here : List (List ℕ)) where
   pub idle_top : (line : List ℕ) → line ≡ [] → stepped known n d Nothing line here ≡ Ok (d, Nothing)

@@ -1,3 +1,13 @@
+pub mod Blocks
+pub mod CodeLines
+pub mod Judging
+pub mod Least
+pub mod Parts
+pub mod Relation
+pub mod States
+pub mod Steps
+pub mod Told
+pub mod Whole
 pub mod Clean
 pub mod Coding
 pub mod Ends

@@ -1,11 +1,11 @@
 -- One reading, by the names that it finds itself, is what two readings give.
 use Rattle.std.proofs.Common.{◌≡◌, ◌∙◌, arith, refl, sym, subst, suc, ℕ, List, [], ◌∷◌, ◌<◌, Some, None, Ok, length, slice_get}
-use Rattle.sk_setting.specs.Scenario.{Names, names_from}
-use Rattle.sk_setting.specs.Reading.{Gained, Nothing, nothing_yet, reading, setting, scenario_of}
-use Rattle.sk_setting.specs.declared.call.Named.{Named}
+use Rattle.sk_scenario.specs.Scenario.{Names, names_from}
+use Rattle.sk_scenario.specs.Reading.{Gained, Nothing, nothing_yet, reading, setting, scenario_of}
+use Rattle.sk_scenario.specs.declared.call.Named.{Named}
 use Rattle.sk_asm.proofs.Distinct.{given_once-none}
-use Rattle.sk_setting.proofs.Parts.{building, parts_read, reading_parts}
-use Rattle.sk_setting.proofs.Whole.{names_built, found_all, made_all}
+use Rattle.sk_scenario.proofs.Parts.{building, parts_read, reading_parts}
+use Rattle.sk_scenario.proofs.Whole.{names_built, found_all, made_all}
 
 pub once : (lines : List (List ℕ)) (names : Names) (second : Gained) → names ≡ second.names → reading (Some names) 1 nothing_yet Nothing lines ≡ Ok second → scenario_of lines ≡ Ok (setting second)
 unfolding scenario_of

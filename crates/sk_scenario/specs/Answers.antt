@@ -1,9 +1,9 @@
 -- Answers of the reader: a value, a fault of the text, or out of memory.
 use Rattle.std.specs.Prelude.{◌≡◌, ℕ, List, ◌⊎◌, Result, Ok, Err}
-use Rattle.sk_setting.specs.declared.fault.TextFault.{TextFault}
-use Rattle.sk_setting.specs.declared.fault.TextFault.TheVariants as text
-use Rattle.sk_setting.specs.Faults.{IsFirstFaultOfText}
-use Rattle.sk_setting.specs.Scenario.{Setting}
+use Rattle.sk_scenario.specs.declared.text_fault.TextFault.{TextFault}
+use Rattle.sk_scenario.specs.declared.text_fault.TextFault.TheVariants as text
+use Rattle.sk_scenario.specs.Faults.{IsFirstFaultOfText}
+use Rattle.sk_scenario.specs.Scenario.{Setting}
 use Rattle.sk_scenario.specs.declared.fault.ScenarioFault.{ScenarioFault}
 use Rattle.sk_scenario.specs.declared.fault.ScenarioFault.TheVariants.{Line, Unresolved, Limit, Memory}
 

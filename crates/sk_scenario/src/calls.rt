@@ -3,10 +3,10 @@ ghost use Rattle.std.specs.Prelude.{◌≡◌, ◌<◌, ◌≤◌, ℕ, Bool, Is
 ghost use Rattle.std.specs.Option.{option_map};
 ghost use Rattle.std.specs.List.{list_all};
 ghost use Rattle.sk_text.specs.Lines.{is_printable_byte};
-ghost use Rattle.sk_setting.specs.Grammar.{asked_of};
-ghost use Rattle.sk_setting.specs.Scenario.{argument_value, child_of, call_of, named_by, program_number, number_of as number_of_named};
-ghost use Rattle.sk_setting.specs.Reading.{checked, resolved, called};
-ghost use Rattle.sk_setting.specs.declared.fault.TextFault.TheVariants.{Limit};
+ghost use Rattle.sk_scenario.specs.Grammar.{asked_of};
+ghost use Rattle.sk_scenario.specs.Scenario.{argument_value, child_of, call_of, named_by, program_number, number_of as number_of_named};
+ghost use Rattle.sk_scenario.specs.Reading.{checked, resolved, called};
+ghost use Rattle.sk_scenario.specs.declared.text_fault.TextFault.TheVariants.{Limit};
 ghost use Rattle.sk_scenario.specs.Answers.{Answers, Judges};
 ghost use Rattle.sk_scenario.specs.views.ScenarioCode.{argument_seen, call_seen, fork_seen, line_seen, names_seen, known_seen, script_with};
 
@@ -15,14 +15,14 @@ use crate::line::{Argument, Arguments, ProgramLine};
 use crate::parse::{child_alone, program_line};
 use crate::state::Names;
 use crate::top::check_line;
-use sk_calls::Syscall;
-use sk_setting::{Named, ScriptCall, TextFault};
+use crate::{Named, ScriptCall, TextFault};
+use sk_calls::{Call, Syscall};
 
 // The most calls that a program may have.
 const MOST_CALLS: usize = 1000;
 
 // What line `n` says in a program's block.
-#[tactic(auto, unfolding(sk_setting::specs::Reading::checked))]
+#[tactic(auto, unfolding(crate::specs::Reading::checked))]
 pub(crate) fn read_call(n: usize, line: &[u8], is_clean: bool) -> Result<ProgramLine<'_>, TextFault>
     requires clean { IsTrue is_clean → IsTrue (list_all is_printable_byte line.now) }
     ensures exact { Judges line_seen result (checked asked_of n line.now) }
@@ -90,7 +90,7 @@ fn child_of(names: &Names<'_>, child: Option<&[u8]>) -> Option<Option<u32>>
     }
 }
 
-#[tactic(auto, unfolding(sk_setting::specs::Scenario::call_of))]
+#[tactic(auto, unfolding(crate::specs::Scenario::call_of))]
 fn call_of(names: &Names<'_>, nr: u32, arguments: Arguments<'_>) -> Option<ScriptCall>
     ensures exact { result ≡ call_of (names_seen names.now) (call_seen nr arguments.entry) }
 {
@@ -101,21 +101,25 @@ fn call_of(names: &Names<'_>, nr: u32, arguments: Arguments<'_>) -> Option<Scrip
     let e = argument_value(names, arguments.e)?;
     let f = argument_value(names, arguments.f)?;
     Some(ScriptCall {
-        nr,
-        args: [a, b, c, d, e, f],
+        call: Call {
+            nr,
+            args: [a, b, c, d, e, f],
+        },
         script: None,
     })
 }
 
 // Any call, for a line whose names are not known yet.
 const ANY: ScriptCall = ScriptCall {
-    nr: 0,
-    args: [0; 6],
+    call: Call {
+        nr: 0,
+        args: [0; 6],
+    },
     script: None,
 };
 
 // The call that line `n` asks for.
-#[tactic(auto, unfolding(sk_setting::specs::Reading::resolved))]
+#[tactic(auto, unfolding(crate::specs::Reading::resolved))]
 fn resolve(
     known: Option<&Names<'_>>,
     n: usize,
@@ -134,7 +138,7 @@ fn resolve(
 }
 
 // The fork(2) that line `n` asks for.
-#[tactic(auto, unfolding(sk_setting::specs::Reading::resolved, sk_setting::specs::Scenario::call_of))]
+#[tactic(auto, unfolding(crate::specs::Reading::resolved, crate::specs::Scenario::call_of))]
 fn resolve_fork(
     known: Option<&Names<'_>>,
     n: usize,
@@ -147,8 +151,10 @@ fn resolve_fork(
     };
     match child_of(names, child) {
         Some(script) => Ok(ScriptCall {
-            nr: Syscall::Fork.number(),
-            args: [0; 6],
+            call: Call {
+                nr: Syscall::Fork.number(),
+                args: [0; 6],
+            },
             script,
         }),
         None => Err(TextFault::Unresolved { n }),
@@ -166,7 +172,7 @@ fn judge_count(n: usize, count: usize) -> Result<(), TextFault>
 }
 
 // The calls, with the one that line `n` asks for, if it does.
-#[tactic(auto, unfolding(sk_setting::specs::Reading::called))]
+#[tactic(auto, unfolding(crate::specs::Reading::called))]
 pub(crate) fn add_call(
     mut calls: Vec<ScriptCall>,
     known: Option<&Names<'_>>,

@@ -3,7 +3,7 @@ ghost use Rattle.std.specs.Prelude.{◌≡◌};
 ghost use Rattle.sk_scenario.specs.Answers.{told};
 ghost use Rattle.sk_scenario.specs.declared.fault.ScenarioFault.TheVariants.{Memory};
 
-use sk_setting::TextFault;
+use crate::TextFault;
 use std::alloc::{AllocError, AllocFailed};
 use thiserror::Error;
 

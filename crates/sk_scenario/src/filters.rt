@@ -5,17 +5,17 @@ ghost use Rattle.std.specs.List.{list_all};
 ghost use Rattle.sk_asm.specs.Block.{until_end};
 ghost use Rattle.sk_asm.specs.Passes.{assembled_lines};
 ghost use Rattle.sk_asm.specs.declared.fault.AsmFault.TheVariants.{Memory};
-ghost use Rattle.sk_setting.specs.Grammar.{begins_bytes, bytes_of};
-ghost use Rattle.sk_setting.specs.Reading.{Bytes, Code, understood, limited, fault_of, held, coded, decided, grown};
+ghost use Rattle.sk_scenario.specs.Grammar.{begins_bytes, bytes_of};
+ghost use Rattle.sk_scenario.specs.Reading.{Bytes, Code, understood, limited, fault_of, held, coded, decided, grown};
 ghost use Rattle.sk_scenario.specs.Answers.{Answers, Judges};
 ghost use Rattle.sk_scenario.specs.views.ScenarioCode.{known_seen, block_seen};
 
+use crate::TextFault;
 use crate::fault::ScenarioFault;
 use crate::state::{Block, Names};
 use crate::top::check_line;
 use sk_asm::{AsmFault, assemble_block};
 use sk_insn::write_insns;
-use sk_setting::TextFault;
 use sk_text::{HexFault, Words, bytes_of, is_passed_over, is_word};
 use std::alloc::{AllocError, Global};
 
@@ -23,7 +23,7 @@ use std::alloc::{AllocError, Global};
 const LONGEST_IMAGE: usize = 32776;
 
 // The bytes that line `n` adds to an image.
-#[tactic(auto, unfolding(sk_setting::specs::Grammar::bytes_of))]
+#[tactic(auto, unfolding(crate::specs::Grammar::bytes_of))]
 fn image_bytes(
     alloc: Global,
     n: usize,
@@ -90,7 +90,7 @@ fn hold(known: Option<&Names<'_>>, why: TextFault) -> Result<(), TextFault>
 }
 
 // The image of a block of assembler lines, of which the first is line `n`.
-#[tactic(auto, unfolding(sk_setting::specs::Reading::coded))]
+#[tactic(auto, unfolding(crate::specs::Reading::coded))]
 fn code_image(
     alloc: Global,
     known: Option<&Names<'_>>,
@@ -126,7 +126,7 @@ fn begins_bytes(line: &[u8]) -> bool
 // The first line that says something decides what the block is of. All of the assembler is behind it, so that it stays a
 // function of its own: LLVM would take nothing else into the loop over the lines.
 #[inline(never)]
-#[tactic(auto, unfolding(sk_setting::specs::Reading::decided))]
+#[tactic(auto, unfolding(crate::specs::Reading::decided))]
 pub(crate) fn decide(
     alloc: Global,
     known: Option<&Names<'_>>,
@@ -150,7 +150,7 @@ pub(crate) fn decide(
 }
 
 // An image with the bytes of line `n` behind it.
-#[tactic(auto, unfolding(sk_setting::specs::Reading::checked))]
+#[tactic(auto, unfolding(crate::specs::Reading::checked))]
 pub(crate) fn grow(
     alloc: Global,
     n: usize,

@@ -1,10 +1,13 @@
 //! The scenario reader: from the bytes of a scenario to its filters and programs, or to its first fault.
 #![tactic(auto)]
 
+mod call;
 mod call_names;
 mod calls;
+mod examples;
 mod fault;
 mod filters;
+pub mod laws;
 mod line;
 mod names;
 mod parse;
@@ -12,9 +15,12 @@ mod reader;
 mod reading;
 mod scenario;
 mod state;
+mod text_fault;
 mod top;
 
+pub use call::{Named, ScriptCall};
+pub use examples::{example_faults, example_limits, example_scenarios};
 pub use fault::ScenarioFault;
 pub use reader::read;
 pub use scenario::{Program, Scenario};
-pub use sk_setting::ScriptCall;
+pub use text_fault::TextFault;

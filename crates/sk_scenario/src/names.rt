@@ -2,13 +2,13 @@
 ghost use Rattle.std.specs.Prelude.{◌≡◌, IsTrue, slice_get};
 ghost use Rattle.sk_scenario.specs.views.ScenarioCode.{names_seen};
 
+use crate::Named;
 use crate::line::TopLine;
 use crate::parse::top_line;
 use crate::state::Names;
 use memchr::memmem::Finder;
 use memchr::memrchr;
 use sk_asm::is_end;
-use sk_setting::Named;
 use sk_text::{Lines, is_word};
 use std::alloc::{AllocError, Global};
 

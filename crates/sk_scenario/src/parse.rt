@@ -3,9 +3,9 @@ ghost use Rattle.std.specs.Prelude.{◌≡◌, ◌==◌, ◌∷◌, [], ℕ, dro
 ghost use Rattle.std.specs.Option.{option_map};
 ghost use Rattle.sk_text.specs.Lines.{words_of};
 ghost use Rattle.sk_text.specs.Numbers.{up_to};
-ghost use Rattle.sk_setting.specs.Grammar.{Plain, only_if_name, only_name, setuid_with, setuid_of, owned, program_by, program_of, turns_of, headed, heading_in, heading_of, decimal_of, argument_of, next_argument, arguments_of, asked_with, forked, numbered, asked, asked_in, asked_of};
+ghost use Rattle.sk_scenario.specs.Grammar.{Plain, only_if_name, only_name, setuid_with, setuid_of, owned, program_by, program_of, turns_of, headed, heading_in, heading_of, decimal_of, argument_of, next_argument, arguments_of, asked_with, forked, numbered, asked, asked_in, asked_of};
 ghost use Rattle.sk_scenario.specs.views.ScenarioCode.{heading, argument_seen, arguments_seen, fork_seen, line_seen};
-ghost use Rattle.sk_setting.specs.Reading.{checked};
+ghost use Rattle.sk_scenario.specs.Reading.{checked};
 
 use crate::call_names::call_named;
 use crate::line::{Argument, Arguments, ProgramLine, TopLine};
@@ -94,7 +94,7 @@ fn turns<'a>(words: Words<'a>) -> Option<TopLine<'a>>
     }
 }
 
-#[tactic(auto, unfolding(sk_setting::specs::Grammar::headed))]
+#[tactic(auto, unfolding(crate::specs::Grammar::headed))]
 fn headed<'a>(first: &'a [u8], words: Words<'a>) -> Option<TopLine<'a>>
     ensures exact { option_map heading result ≡ headed first.now (words_of words.entry.0.now) }
 {
@@ -117,7 +117,7 @@ fn headed<'a>(first: &'a [u8], words: Words<'a>) -> Option<TopLine<'a>>
 }
 
 // What a line at the top level says.
-#[tactic(auto, unfolding(sk_setting::specs::Grammar::heading_of))]
+#[tactic(auto, unfolding(crate::specs::Grammar::heading_of))]
 pub(crate) fn top_line(line: &[u8]) -> Option<TopLine<'_>>
     ensures exact { option_map heading result ≡ heading_of line.now }
 {
@@ -133,7 +133,7 @@ pub(crate) fn top_line(line: &[u8]) -> Option<TopLine<'_>>
 
 // ---- a program's block
 
-#[tactic(auto, unfolding(sk_setting::specs::Grammar::decimal_of))]
+#[tactic(auto, unfolding(crate::specs::Grammar::decimal_of))]
 fn decimal_up_to(word: &[u8], most: u64) -> Option<u64>
     ensures exact { result ≡ up_to most (decimal_of word.now) }
 {
@@ -143,7 +143,7 @@ fn decimal_up_to(word: &[u8], most: u64) -> Option<u64>
     number_up_to(word, most)
 }
 
-#[tactic(auto, unfolding(sk_setting::specs::Grammar::argument_of))]
+#[tactic(auto, unfolding(crate::specs::Grammar::argument_of))]
 fn argument(word: &[u8]) -> Option<Argument<'_>>
     ensures exact { option_map argument_seen result ≡ argument_of word.now }
 {
@@ -163,7 +163,7 @@ fn argument(word: &[u8]) -> Option<Argument<'_>>
     Some(Argument::Plain(n))
 }
 
-#[tactic(auto, unfolding(sk_setting::specs::Grammar::asked))]
+#[tactic(auto, unfolding(crate::specs::Grammar::asked))]
 fn call_line<'a>(first: &'a [u8], words: Words<'a>) -> Option<ProgramLine<'a>>
     ensures exact { option_map line_seen result ≡ option_map Some (asked first.now (words_of words.entry.0.now)) }
 {
@@ -266,7 +266,7 @@ fn called_with<'a>(nr: u32, mut words: Words<'a>) -> Option<ProgramLine<'a>>
 }
 
 // What a line in a program's block says.
-#[tactic(auto, unfolding(sk_setting::specs::Grammar::asked_of))]
+#[tactic(auto, unfolding(crate::specs::Grammar::asked_of))]
 pub(crate) fn program_line(line: &[u8]) -> Option<ProgramLine<'_>>
     ensures exact { option_map line_seen result ≡ asked_of line.now }
 {

@@ -1,25 +1,25 @@
 //! The scenario reader.
 ghost use Rattle.std.specs.Prelude.{◌≡◌, ◌<◌, ◌≤◌, length, IfOk, IfErr, IfSome, MatchResult, Some, Ok};
 ghost use Rattle.sk_text.specs.Lines.{lines_of};
-ghost use Rattle.sk_setting.specs.Reading.{reading, scenario, scenario_of, nothing_yet, setting, Nothing as NoBlock};
-ghost use Rattle.sk_setting.specs.Scenario.{IsScenarioText, Setting};
-ghost use Rattle.sk_setting.specs.Faults.{IsFirstFaultOfText};
-ghost use Rattle.sk_setting.specs.declared.fault.TextFault.{TextFault};
-ghost use Rattle.sk_setting.specs.declared.fault.TextFault.TheVariants.{Limit};
+ghost use Rattle.sk_scenario.specs.Reading.{reading, scenario, scenario_of, nothing_yet, setting, Nothing as NoBlock};
+ghost use Rattle.sk_scenario.specs.Scenario.{IsScenarioText, Setting};
+ghost use Rattle.sk_scenario.specs.Faults.{IsFirstFaultOfText};
+ghost use Rattle.sk_scenario.specs.declared.text_fault.TextFault.{TextFault};
+ghost use Rattle.sk_scenario.specs.declared.text_fault.TextFault.TheVariants.{Limit};
 ghost use Rattle.sk_scenario.specs.Answers.{Answers, Finds, IsToldOf, Tells};
 ghost use Rattle.sk_scenario.specs.views.ScenarioCode.{gained, names_seen};
 
+use crate::TextFault;
 use crate::fault::ScenarioFault;
 use crate::names::{are_same, find_names};
 use crate::reading::read_lines;
 use crate::scenario::Scenario;
 use crate::state::{Done, Names};
-use sk_setting::TextFault;
 use sk_text::MOST_BYTES;
 use std::alloc::{AllocError, Global};
 
 /// The scenario that an input is, or the first of its faults.
-#[tactic(auto, unfolding(sk_setting::specs::Reading::scenario))]
+#[tactic(auto, unfolding(crate::specs::Reading::scenario))]
 pub fn read(alloc: Global, input: &[u8]) -> Result<Scenario, ScenarioFault>
     ensures exact { Answers (λ read. read) result (scenario input.now) }
     ensures stands { IfOk result (λ read. IsScenarioText input.now read) }
@@ -64,7 +64,7 @@ fn read_once(alloc: Global, names: &Names<'_>, text: &[u8]) -> Result<Option<Sce
     }
 }
 
-#[tactic(auto, unfolding(sk_setting::specs::Reading::scenario_of))]
+#[tactic(auto, unfolding(crate::specs::Reading::scenario_of))]
 fn read_twice(alloc: Global, text: &[u8]) -> Result<Scenario, ScenarioFault>
     requires limit { length text.now ≤ 1048576 }
     ensures exact { Answers (λ read. read) result (scenario_of (lines_of text.now)) }

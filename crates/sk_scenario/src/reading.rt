@@ -3,11 +3,12 @@ ghost use Rattle.std.specs.Prelude.{◌≡◌, ◌+◌, ◌≤◌, ◌<◌, ◌^
 ghost use Rattle.std.specs.List.{list_all};
 ghost use Rattle.sk_text.specs.Lines.{lines_of, is_printable_byte};
 ghost use Rattle.sk_asm.specs.Block.{until_end};
-ghost use Rattle.sk_setting.specs.Scenario.{Names as Known};
-ghost use Rattle.sk_setting.specs.Reading.{Gained, is_open, inside, finished, within, stepped, closed, reading, nothing_yet, Nothing as NoBlock};
+ghost use Rattle.sk_scenario.specs.Scenario.{Names as Known};
+ghost use Rattle.sk_scenario.specs.Reading.{Gained, is_open, inside, finished, within, stepped, closed, reading, nothing_yet, Nothing as NoBlock};
 ghost use Rattle.sk_scenario.specs.Answers.{Answers, IsFaultOf, Judges};
 ghost use Rattle.sk_scenario.specs.views.ScenarioCode.{known_seen, gained, block_seen};
 
+use crate::TextFault;
 use crate::calls::{add_call, read_call};
 use crate::fault::ScenarioFault;
 use crate::filters::{decide, grow};
@@ -16,12 +17,11 @@ use crate::state::{Block, Done, Names};
 use crate::top::{check_line, has_printable_lines, read_top, start};
 use indexmap::IndexMap;
 use sk_asm::is_end;
-use sk_setting::TextFault;
 use sk_text::Lines;
 use std::alloc::{AllocError, Global};
 
 // The block that is open, behind line `n`.
-#[tactic(auto, unfolding(sk_setting::specs::Reading::inside))]
+#[tactic(auto, unfolding(crate::specs::Reading::inside))]
 fn inside(
     alloc: Global,
     known: Option<&Names<'_>>,
@@ -88,7 +88,7 @@ fn is_open(current: &Block) -> bool
 }
 
 // Reads line `n` in the block that is open.
-#[tactic(auto, unfolding(sk_setting::specs::Reading::within))]
+#[tactic(auto, unfolding(crate::specs::Reading::within))]
 fn within(
     alloc: Global,
     known: Option<&Names<'_>>,
@@ -127,7 +127,7 @@ fn is_idle(current: &Block, line: &[u8]) -> bool
 }
 
 // Reads line `n`, with which the text ahead begins.
-#[tactic(auto, unfolding(sk_setting::specs::Reading::stepped))]
+#[tactic(auto, unfolding(crate::specs::Reading::stepped))]
 fn step<'a>(
     alloc: Global,
     known: Option<&Names<'_>>,

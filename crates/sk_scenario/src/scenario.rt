@@ -1,5 +1,5 @@
 //! What a text is read as: a scenario, its filters and its programs.
-use sk_setting::ScriptCall;
+use crate::ScriptCall;
 use std::marker::Model;
 
 /// A program: who owns its file, whether the set-user-ID bit is set, and its calls.
@@ -12,7 +12,7 @@ pub struct Program {
 
 impl Model for Program {
     ghost use Rattle.std.specs.Vec.{vec_items};
-    ghost use Rattle.sk_setting.specs.Scenario.{Script};
+    ghost use Rattle.sk_scenario.specs.Scenario.{Script};
 
     ghost Value = { Script };
 
@@ -32,7 +32,7 @@ pub struct Scenario {
 impl Model for Scenario {
     ghost use Rattle.std.specs.Prelude.{map};
     ghost use Rattle.std.specs.Vec.{vec_items};
-    ghost use Rattle.sk_setting.specs.Scenario.{Setting};
+    ghost use Rattle.sk_scenario.specs.Scenario.{Setting};
 
     ghost Value = { Setting };
 

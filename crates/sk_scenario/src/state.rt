@@ -1,7 +1,7 @@
 //! What was read so far.
 use crate::scenario::Program;
+use crate::{Named, ScriptCall};
 use indexmap::IndexMap;
-use sk_setting::{Named, ScriptCall};
 
 // The names that are given, with what they stand for.
 pub(crate) type Names<'a> = IndexMap<&'a [u8], Named>;

@@ -4,11 +4,10 @@ ghost use Rattle.std.specs.Option.{option_map_or};
 ghost use Rattle.std.specs.List.{list_all};
 ghost use Rattle.sk_text.specs.Lines.{lines_of, is_printable_byte};
 ghost use Rattle.sk_text.specs.Numbers.{number_of};
-ghost use Rattle.sk_scenario.specs.Clean.{is_clean_byte};
-ghost use Rattle.sk_setting.specs.Grammar.{Turns, Subreapers, heading_of};
-ghost use Rattle.sk_setting.specs.Reading.{plain, checked, remarked, given, opened, started};
-ghost use Rattle.sk_setting.specs.Scenario.{named_by};
-ghost use Rattle.sk_setting.specs.declared.call.Named.{Named};
+ghost use Rattle.sk_scenario.specs.Grammar.{Turns, Subreapers, heading_of};
+ghost use Rattle.sk_scenario.specs.Reading.{plain, checked, remarked, given, opened, started};
+ghost use Rattle.sk_scenario.specs.Scenario.{named_by};
+ghost use Rattle.sk_scenario.specs.declared.call.Named.{Named};
 ghost use Rattle.sk_scenario.specs.Answers.{IsFaultOf, Judges};
 ghost use Rattle.sk_scenario.specs.views.ScenarioCode.{heading, gained, block_seen, numbered};
 
@@ -16,8 +15,8 @@ use crate::fault::ScenarioFault;
 use crate::line::TopLine;
 use crate::parse::top_line;
 use crate::state::{Block, Done};
-use sk_setting::{Named, TextFault};
-use sk_text::{is_printable, number_up_to};
+use crate::{Named, TextFault};
+use sk_text::{is_clean, is_printable, number_up_to};
 use std::alloc::Global;
 
 // The most bytes that a line may have.
@@ -30,22 +29,11 @@ const MOST_TURNS: u64 = 100_000;
 const MOST_OF_A_KIND: usize = 256;
 
 // Whether all lines of a text are printable. Of a whole text that is found many bytes at a time.
-#[tactic(auto, using(crate::proofs::Clean::printable_lines))]
+#[tactic(auto, using(sk_text::proofs::Clean::printable_lines))]
 pub(crate) fn has_printable_lines(text: &[u8]) -> bool
     ensures lines { IsTrue result → IsTrue (list_all (list_all is_printable_byte) (lines_of text.now)) }
 {
-    has_clean_bytes(text)
-}
-
-#[tactic(auto, unfolding(sk_text::specs::Lines::is_printable_byte))]
-fn has_clean_bytes(text: &[u8]) -> bool
-    ensures every { result ≡ list_all is_clean_byte text.now }
-{
-    let mut every = true;
-    for byte in text {
-        every &= matches!(*byte, 0x20..=0x7e | b'\n');
-    }
-    every
+    is_clean(text)
 }
 
 // Whether line `n` is short enough and printable.
@@ -64,7 +52,7 @@ pub(crate) fn check_line(n: usize, line: &[u8], is_clean: bool) -> Result<(), Te
 }
 
 // What line `n` says at the top level.
-#[tactic(auto, unfolding(sk_setting::specs::Reading::checked))]
+#[tactic(auto, unfolding(crate::specs::Reading::checked))]
 pub(crate) fn read_top(n: usize, line: &[u8], is_clean: bool) -> Result<TopLine<'_>, TextFault>
     requires clean { IsTrue is_clean → IsTrue (list_all is_printable_byte line.now) }
     ensures exact { Judges heading result (checked heading_of n line.now) }
@@ -76,7 +64,7 @@ pub(crate) fn read_top(n: usize, line: &[u8], is_clean: bool) -> Result<TopLine<
     }
 }
 
-#[tactic(auto, unfolding(sk_setting::specs::Reading::remarked))]
+#[tactic(auto, unfolding(crate::specs::Reading::remarked))]
 fn set_turns(done: &mut Done<'_>, n: usize, word: &[u8]) -> Result<(), TextFault>
     ensures exact { MatchResult result
         (λ none. remarked n (gained done.old) (Turns (option_map_or (λ n. n) (number_of word.now) 0)) ≡ Ok (gained done.new))
@@ -95,7 +83,7 @@ fn set_turns(done: &mut Done<'_>, n: usize, word: &[u8]) -> Result<(), TextFault
     Ok(())
 }
 
-#[tactic(auto, unfolding(sk_setting::specs::Reading::remarked))]
+#[tactic(auto, unfolding(crate::specs::Reading::remarked))]
 fn set_subreapers(done: &mut Done<'_>, n: usize) -> Result<(), TextFault>
     ensures exact { MatchResult result
         (λ none. remarked n (gained done.old) Subreapers ≡ Ok (gained done.new))
@@ -151,7 +139,7 @@ fn numbered(is_program: bool, number: u32) -> Named
 }
 
 // What line `n` changes, and the block that it opens.
-#[tactic(auto, unfolding(sk_setting::specs::Reading::started, sk_setting::specs::Reading::opened))]
+#[tactic(auto, unfolding(crate::specs::Reading::started, crate::specs::Reading::opened))]
 pub(crate) fn start<'a>(
     alloc: Global,
     done: &mut Done<'a>,

@@ -7,9 +7,9 @@ use Rattle.sk_insn.specs.Actions.{action_of}
 use Rattle.sk_insn.specs.Operations.{operation_of}
 use Rattle.sk_call_names.specs.X86_64.{name_of}
 use Rattle.sk_call_names.specs.Names.{name_at, name_in, name_on, runs_of}
-use Rattle.sk_listing.specs.Listing.{words_for}
-use Rattle.sk_verdict.specs.Errors.{error_named}
-use Rattle.sk_verdict.specs.Verdicts.{verdict_text}
+use Rattle.sk_asm.specs.Listing.{words_for}
+use Rattle.sk_filter.specs.Errors.{error_named}
+use Rattle.sk_filter.specs.VerdictText.{verdict_text}
 use Rattle.sk_show.specs.Notes.{argument_text, field_text, note_text}
 use Rattle.sk_show.specs.Holding.{ways_from, ways_to}
 use Rattle.sk_show.specs.Showing.{comment_line, insn_line, lines_from, shown_words, side_word}

@@ -12,9 +12,9 @@ use Rattle.sk_insn.specs.declared.record.Record.{Record}
 use Rattle.sk_insn.specs.declared.operation.Register.TheVariants.{Accumulator, Index}
 use Rattle.sk_insn.specs.declared.operation.Operation.{Operation}
 use Rattle.sk_insn.specs.declared.operation.Operation.TheVariants.{LoadRecord, LoadConstant, LoadScratch, LoadLength, StoreScratch, Compute, Negate, Jump, Branch, ReturnConstant, ReturnAccumulator, CopyToIndex, CopyToAccumulator}
-use Rattle.sk_check.specs.Paths.{Onward, Nowhere, To, Either, GoesTo, goes_to, onward}
-use Rattle.sk_interp.specs.Meaning.{State, GoesOn, Fails, effect, loaded, register, store}
-use Rattle.sk_interp.proofs.ValidSteps.{leads_to}
+use Rattle.sk_filter.specs.Paths.{Onward, Nowhere, To, Either, GoesTo, goes_to, onward}
+use Rattle.sk_filter.specs.Meaning.{State, GoesOn, Fails, effect, loaded, register, store}
+use Rattle.sk_filter.proofs.ValidSteps.{leads_to}
 use Rattle.sk_show.specs.declared.held.Held.{Held}
 use Rattle.sk_show.specs.declared.held.Held.TheVariants.{Number, Architecture, Other}
 use Rattle.sk_show.specs.Holding.{Jumps, Way, held_before, held_behind, held_word, joined, joined_ways, jump_to, jumps_behind, next_behind, ways_from, ways_to}

@@ -2,7 +2,7 @@
 use Rattle.std.proofs.Common.{◌≡◌, ◌≢◌, ◌<◌, ◌+◌, ◌==◌, ◌∙◌, arith, refl, subst, sym, ℕ, length, inl, inr, Option, Some, None, true, length-set, get_or-set_same, get_or-set_other}
 use Rattle.std.proofs.lemmas.Bool.{cases_Bool, eqb-true, eqb-false, ne_eqb}
 use Rattle.std.specs.Prelude.{is_some}
-use Rattle.sk_check.specs.Paths.{Onward, Nowhere, To, Either, GoesTo}
+use Rattle.sk_filter.specs.Paths.{Onward, Nowhere, To, Either, GoesTo}
 use Rattle.sk_show.specs.declared.held.Held.{Held}
 use Rattle.sk_show.specs.Holding.{Jumps, joined_ways, jump_to, jumps_behind, landed, went}
 

@@ -1,3 +1,5 @@
+pub mod Paths
+pub mod PathExamples
 pub mod Examples
 pub mod InRuns
 pub mod Landing

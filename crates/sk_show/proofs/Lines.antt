@@ -14,16 +14,16 @@ use Rattle.sk_insn.specs.declared.operation.Operand.TheVariants.{Constant, Index
 use Rattle.sk_insn.specs.declared.operation.Operation.{Operation}
 use Rattle.sk_insn.specs.declared.operation.Operation.TheVariants.{LoadRecord, LoadConstant, LoadScratch, LoadLength, StoreScratch, Compute, Negate, Jump, Branch, ReturnConstant, ReturnAccumulator, CopyToIndex, CopyToAccumulator}
 use Rattle.sk_insn.proofs.OperationTable.{operation_named-name_of}
-use Rattle.sk_check.specs.Paths.{GoesTo, onward}
+use Rattle.sk_filter.specs.Paths.{GoesTo, onward}
 use Rattle.sk_asm.specs.Assembly.{IsDistance, SaysLine, StandFor}
 use Rattle.sk_asm.specs.Grammar.{Destination, Further, Labelled, Statement, Silent, Marks, Plain, Jumps, Branches, branching, destination_of, insn, instruction_said, label_of, shape_of, shaped, spoken, statement_of, u8_of, u32_of}
 use Rattle.sk_asm.specs.Labels.{Labels, label_place}
 use Rattle.sk_asm.specs.declared.shape.Shape.TheVariants.{Target, Compare, CompareIndex}
-use Rattle.sk_listing.specs.Listing.{distance_word, words_for}
-use Rattle.sk_listing.specs.RoundTrip.{IsInRange}
-use Rattle.sk_listing.proofs.Lines.{length-line, line-says}
-use Rattle.sk_listing.proofs.Numerals.{IsWord-decimal, IsWord-distance, far-distance, near-distance, u32_of-decimal}
-use Rattle.sk_listing.proofs.Words.{AreWords, IsWord, joined-printable, length-joined, words_of-joined}
+use Rattle.sk_asm.specs.Listing.{distance_word, words_for}
+use Rattle.sk_asm.specs.RoundTrip.{IsInRange}
+use Rattle.sk_asm.proofs.Lines.{length-line, line-says}
+use Rattle.sk_asm.proofs.Numerals.{IsWord-decimal, IsWord-distance, far-distance, near-distance, u32_of-decimal}
+use Rattle.sk_asm.proofs.Words.{AreWords, IsWord, joined-printable, length-joined, words_of-joined}
 use Rattle.sk_call_names.specs.declared.architecture.Architecture.{Architecture}
 use Rattle.sk_show.specs.declared.held.Held.{Held}
 use Rattle.sk_show.specs.Notes.{note_text}

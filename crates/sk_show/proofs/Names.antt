@@ -12,7 +12,7 @@ use Rattle.std.specs.List.{ends_with, list_all}
 use Rattle.std.specs.Str.{bytes_eq}
 use Rattle.sk_text.specs.Words.{is_letter, is_name, is_name_byte}
 use Rattle.sk_asm.specs.Grammar.{Labelled, destination_of, label_of}
-use Rattle.sk_listing.proofs.Words.{IsWord, is_visible}
+use Rattle.sk_asm.proofs.Words.{IsWord, is_visible}
 use Rattle.sk_show.specs.Showing.{label_name}
 
 -- ---- digits

@@ -22,11 +22,11 @@ use Rattle.sk_call_names.specs.Architectures.{text_of}
 use Rattle.sk_call_names.specs.Names.{Run, name_at, name_in, name_on, runs_of}
 use Rattle.sk_call_names.specs.X86_64.{name_of}
 use Rattle.sk_call_names.specs.declared.x86_64.names.TheConstants.{EARLY, LATE}
-use Rattle.sk_verdict.specs.Errors.{error_named, if_any}
-use Rattle.sk_verdict.specs.Verdicts.{data_text, error_text, verdict_text}
-use Rattle.sk_verdict.specs.declared.names.TheConstants.{ERRORS}
-use Rattle.sk_listing.proofs.Numerals.{IsWord-decimal}
-use Rattle.sk_listing.proofs.Words.{joined-printable}
+use Rattle.sk_filter.specs.Errors.{error_named, if_any}
+use Rattle.sk_filter.specs.VerdictText.{data_text, error_text, verdict_text}
+use Rattle.sk_filter.specs.declared.errors.TheConstants.{ERRORS}
+use Rattle.sk_asm.proofs.Numerals.{IsWord-decimal}
+use Rattle.sk_asm.proofs.Words.{joined-printable}
 use Rattle.sk_show.specs.declared.held.Held.{Held}
 use Rattle.sk_show.specs.declared.held.Held.TheVariants.{Number, Architecture, Other}
 use Rattle.sk_show.specs.Notes.{architecture_of, architecture_text, argument_text, compared_text, field_text, half_text, named_text, note_text}

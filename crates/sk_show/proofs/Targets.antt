@@ -5,7 +5,7 @@ use Rattle.std.proofs.lemmas.List.{length-replicate}
 use Rattle.std.specs.Prelude.{is_some, slice_get}
 use Rattle.sk_insn.specs.Operations.{operation_of}
 use Rattle.sk_insn.specs.declared.insn.Insn.{Insn}
-use Rattle.sk_check.specs.Paths.{Onward, Nowhere, To, Either, GoesTo, onward}
+use Rattle.sk_filter.specs.Paths.{Onward, Nowhere, To, Either, GoesTo, onward}
 use Rattle.sk_show.specs.declared.held.Held.{Held}
 use Rattle.sk_show.specs.declared.held.Held.TheVariants.{Other}
 use Rattle.sk_show.specs.Holding.{Jumps, Way, held_before, held_behind, joined_ways, jump_to, jumps_behind, landed, next_behind, went, ways_from, ways_to}

@@ -3,11 +3,11 @@ use Rattle.std.proofs.Common.{◌≡◌, ◌+◌, ◌∙◌, ap, arith, subst, s
 use Rattle.std.proofs.lemmas.List.Concat.{flat_map-append}
 use Rattle.std.proofs.lemmas.List.Elements.{All-cons}
 use Rattle.std.specs.List.{All}
-use Rattle.sk_listing.specs.RoundTrip.{IsInRange}
+use Rattle.sk_asm.specs.RoundTrip.{IsInRange}
 use Rattle.sk_insn.specs.Operations.{operation_of}
 use Rattle.sk_insn.specs.declared.insn.Insn.{Insn}
 use Rattle.sk_call_names.specs.declared.architecture.Architecture.{Architecture}
-use Rattle.sk_check.specs.Paths.{onward}
+use Rattle.sk_filter.specs.Paths.{onward}
 use Rattle.sk_show.specs.declared.held.Held.{Held}
 use Rattle.sk_show.specs.Holding.{Jumps, held_before, held_behind, jump_to, jumps_behind, next_behind, ways_from}
 use Rattle.sk_show.specs.Showing.{lines_from, lines_of_insn, text_of}

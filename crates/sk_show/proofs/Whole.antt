@@ -8,12 +8,12 @@ use Rattle.std.specs.Str.{bytes_eq}
 use Rattle.sk_text.specs.Lines.{lines_of}
 use Rattle.sk_insn.specs.Operations.{operation_of}
 use Rattle.sk_insn.specs.declared.insn.Insn.{Insn}
-use Rattle.sk_check.specs.Paths.{onward}
+use Rattle.sk_filter.specs.Paths.{onward}
 use Rattle.sk_asm.specs.Assembly.{AreGivenOnce, AssemblesText, Says, SaysLine, StandFor, labels_from}
 use Rattle.sk_asm.specs.Grammar.{Statement, Silent, Marks, Plain, Jumps as JumpsTo, Branches}
 use Rattle.sk_asm.specs.Labels.{Labels, label_place}
-use Rattle.sk_listing.specs.RoundTrip.{IsInRange}
-use Rattle.sk_listing.proofs.Words.{lines_of-line}
+use Rattle.sk_asm.specs.RoundTrip.{IsInRange}
+use Rattle.sk_asm.proofs.Words.{lines_of-line}
 use Rattle.sk_call_names.specs.declared.architecture.Architecture.{Architecture}
 use Rattle.sk_show.specs.declared.held.Held.{Held}
 use Rattle.sk_show.specs.declared.held.Held.TheVariants.{Other}

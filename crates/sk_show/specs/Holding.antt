@@ -6,7 +6,7 @@ use Rattle.sk_insn.specs.declared.operation.Register.TheVariants.{Index}
 use Rattle.sk_insn.specs.declared.operation.Operation.{Operation}
 use Rattle.sk_insn.specs.declared.operation.Operation.TheVariants.{LoadRecord, LoadConstant, LoadScratch, LoadLength, StoreScratch, Jump, Branch, CopyToIndex}
 use Rattle.sk_insn.specs.Operations.{operation_of}
-use Rattle.sk_check.specs.Paths.{Onward, Nowhere, To, Either, goes_to, onward}
+use Rattle.sk_filter.specs.Paths.{Onward, Nowhere, To, Either, goes_to, onward}
 use Rattle.sk_show.specs.declared.held.Held.{Held}
 use Rattle.sk_show.specs.declared.held.Held.TheVariants.{Number, Architecture, Other}
 

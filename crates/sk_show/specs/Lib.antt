@@ -1,7 +1,10 @@
+pub mod Paths
+pub mod PathLaws
+pub mod PathText
+pub mod WorkedPaths
 pub mod Holding
 pub mod NoteLaws
 pub mod Notes
 pub mod RoundTrip
 pub mod Showing
 pub mod WorkedTexts
-pub use Rattle.sk_asm.specs.Assembly

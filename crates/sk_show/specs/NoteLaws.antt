@@ -2,8 +2,8 @@
 use Rattle.std.specs.Prelude.{ℕ, ◌≡◌, ◌<◌, ◌+◌, ◌^◌, ◌↔◌, ⊤, IsSome, List, Some, slice_get}
 use Rattle.sk_insn.specs.declared.insn.Insn.{Insn}
 use Rattle.sk_insn.specs.declared.record.Record.{Record}
-use Rattle.sk_check.specs.Paths.{At, LeadsTo}
-use Rattle.sk_interp.specs.Meaning.{State}
+use Rattle.sk_filter.specs.Paths.{At, LeadsTo}
+use Rattle.sk_filter.specs.Meaning.{State}
 use Rattle.sk_survey_lines.specs.Runs.{ComesTo}
 use Rattle.sk_show.specs.declared.held.Held.{Held}
 use Rattle.sk_show.specs.declared.held.Held.TheVariants.{Number, Architecture, Other}

@@ -13,7 +13,7 @@ use Rattle.sk_insn.specs.declared.operation.Operation.TheVariants.{LoadRecord, B
 use Rattle.sk_call_names.specs.declared.architecture.Architecture.{Architecture as TheArchitecture}
 use Rattle.sk_call_names.specs.Architectures.{architectures, audit_of, text_of}
 use Rattle.sk_call_names.specs.Names.{name_on}
-use Rattle.sk_verdict.specs.Verdicts.{verdict_text}
+use Rattle.sk_filter.specs.VerdictText.{verdict_text}
 use Rattle.sk_show.specs.declared.held.Held.{Held}
 use Rattle.sk_show.specs.declared.held.Held.TheVariants.{Number, Architecture, Other}
 

@@ -1,4 +1,6 @@
-//! Laws of what is shown. No program calls these functions: the contract of each is the law.
+//! Laws on paths. No program calls these functions: the contract of each is the law.
+ghost use Rattle.sk_show.specs.PathLaws.{PathsAreRuns};
+ghost use Rattle.sk_show.specs.WorkedPaths.{WorkedPaths};
 ghost use Rattle.sk_asm.specs.Assembly.{Finds};
 ghost use Rattle.sk_show.specs.NoteLaws.{LabelsAreTargets, NotesAreRight};
 ghost use Rattle.sk_show.specs.RoundTrip.{ShownAssembles};
@@ -7,9 +9,21 @@ ghost use Rattle.sk_show.specs.WorkedTexts.{WorkedTexts};
 use crate::listing::show;
 use sk_asm::{AsmFault, assemble};
 use sk_call_names::Architecture;
-use sk_check::Checked;
+use sk_filter::Checked;
 use sk_insn::Insn;
 use std::alloc::Global;
+
+/// The path through a filter is its run: it has the run's instructions, in the run's states, and ends with its value.
+#[tactic(auto, using(crate::proofs::Paths::paths_are_runs))]
+pub fn paths_are_runs()
+    ensures law { PathsAreRuns }
+{}
+
+/// The definition gives the texts that were worked out by hand.
+#[tactic(auto, using(crate::proofs::PathExamples::worked_paths))]
+pub fn worked_paths()
+    ensures law { WorkedPaths }
+{}
 
 /// What is shown and assembled again is the same; only memory can be refused.
 pub fn assemble_shown(

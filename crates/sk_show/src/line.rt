@@ -2,14 +2,14 @@
 ghost use Rattle.std.specs.Prelude.{◌≡◌, ◌++◌, ◌<◌, ◌^◌, ◌∷◌, [], OnOk, codes, string_bytes};
 ghost use Rattle.std.specs.List.{join_with_byte};
 ghost use Rattle.sk_insn.specs.Operations.{name_of, operation_of};
-ghost use Rattle.sk_listing.specs.RoundTrip.{IsInRange};
+ghost use Rattle.sk_asm.specs.RoundTrip.{IsInRange};
 ghost use Rattle.sk_show.specs.Showing.{comment_line, insn_line, label_lines, label_name, lines_of_insn, shown_as, shown_words, side_word, text_of};
 
 use crate::held::Held;
 use crate::note::push_note;
+use sk_asm::push_words;
 use sk_call_names::Architecture;
 use sk_insn::{Comparison, Insn, Operand, Operation, decode};
-use sk_listing::push_words;
 use std::alloc::AllocError;
 use std::fmt::Write;
 

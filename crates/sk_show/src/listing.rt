@@ -7,7 +7,7 @@ use crate::held::{Held, held_before, held_behind};
 use crate::line::push_lines;
 use crate::ways::{go_on, jump_to, no_jumps};
 use sk_call_names::Architecture;
-use sk_check::Checked;
+use sk_filter::Checked;
 use sk_insn::Insn;
 use std::alloc::{AllocError, Global};
 

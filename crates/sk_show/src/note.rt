@@ -6,8 +6,8 @@ ghost use Rattle.sk_show.specs.Notes.{argument_text, architecture_of, architectu
 
 use crate::held::Held;
 use sk_call_names::{Architecture, name};
+use sk_filter::push_verdict;
 use sk_insn::{Comparison, Insn, Operand, Operation, decode};
-use sk_verdict::push_verdict;
 use std::alloc::AllocError;
 use std::fmt::Write;
 

@@ -1,7 +1,7 @@
 //! Where control goes on, with what A holds there.
 ghost use Rattle.std.specs.Prelude.{◌≡◌, ◌+◌, ◌<◌, ◌^◌, IfOk, None, replicate, vec_len};
 ghost use Rattle.sk_insn.specs.Operations.{operation_of};
-ghost use Rattle.sk_check.specs.Paths.{onward};
+ghost use Rattle.sk_filter.specs.Paths.{onward};
 ghost use Rattle.sk_show.specs.Holding.{jump_to, jumps_behind, landed, next_behind, went};
 
 use crate::held::{Held, joined_ways};

@@ -1,13 +1,12 @@
--- The first value so far, as the first of values that the newer filters may come to.
-use Rattle.std.proofs.Common.{◌≡◌, ℕ, ◌⊎◌, inl, inr, List, [], ◌∷◌, Option, Some, None, sym, ap, subst, ◌∙◌}
+-- The values so far, as the first of values that the newer filters may come to.
+use Rattle.std.proofs.Common.{◌≡◌, ℕ, ◌⊎◌, inl, inr, List, [], ◌∷◌, Option, Some, None, refl, ap, subst, ◌∙◌}
 use Rattle.std.specs.Option.{unwrap_or}
 use Rattle.sk_insn.specs.declared.insn.Insn.{Insn}
 use Rattle.sk_insn.specs.Actions.{allow}
-use Rattle.sk_chain.specs.Choosing.{chosen_of}
-use Rattle.sk_chain.proofs.Verdicts.{chosen_of_none}
-use Rattle.sk_survey.specs.declared.answers.Answers.{Answers}
-use Rattle.sk_survey.specs.Answers.{IsOneOf, answers_of}
-use Rattle.sk_survey.specs.Ends.{OnlyComing, EachMayCome, AnyMayCome, IsAllowed, IsComingVerdict, OnlyVerdicts, IsFirstOfBoth, OnlyFirsts}
+use Rattle.sk_filter.specs.Choosing.{chosen_of}
+use Rattle.sk_filter.proofs.Verdicts.{chosen_of_none}
+use Rattle.sk_survey.specs.Answers.{IsOneOf}
+use Rattle.sk_survey.specs.Ends.{OnlyComing, EachMayCome, AnyMayCome, OnlyVerdicts, IsFirstOfBoth, OnlyFirsts}
 
 -- with any values of the programs that are left, it comes to what values of all programs come to
 abbrev pub IsReached : List (List Insn) → List (List Insn) → ℕ → ℕ → Option ℕ → Type 0
@@ -20,17 +19,11 @@ OnlyReached programs left first last None = AnyMayCome programs first last
 OnlyReached programs left first last (Some values) =
     (value : ℕ) → IsOneOf value values → IsReached programs left first last (Some value) ⊎ AnyMayCome programs first last
 
-abbrev pub IsReachedSoFar : List (List Insn) → List (List Insn) → ℕ → ℕ → Option Answers → Type 0
-IsReachedSoFar programs left first last None = IsReached programs left first last None
-IsReachedSoFar programs left first last (Some answers) = OnlyReached programs left first last (answers_of answers)
-
--- one program more
-pub reached_alone : (programs left : List (List Insn)) (insns : List Insn) (first last : ℕ) (values : Option (List ℕ))
-    → (AnyMayCome (insns ∷ left) first last → AnyMayCome programs first last) → IsReached programs (insns ∷ left) first last None
-    → OnlyComing insns first last values → OnlyReached programs left first last values
-reached_alone programs left insns first last None anyhow reached only = anyhow (inl (λ value. only value tt))
-reached_alone programs left insns first last (Some values) anyhow reached only =
-    λ value is. inl (λ rest come. reached (value ∷ rest) (only value is, come))
+-- the newest program, and one program more
+pub reached_newest : (left : List (List Insn)) (insns : List Insn) (first last : ℕ) (values : Option (List ℕ)) → OnlyComing insns first last values
+    → OnlyReached (insns ∷ left) left first last values
+reached_newest left insns first last None only = inl (λ value. only value tt)
+reached_newest left insns first last (Some values) only = λ value is. inl (λ rest come. (value ∷ rest, (only value is, come), refl))
 
 pub reached_before : (programs left : List (List Insn)) (insns : List Insn) (first last : ℕ) (newer older values : Option (List ℕ))
     → (AnyMayCome (insns ∷ left) first last → AnyMayCome programs first last) → OnlyReached programs (insns ∷ left) first last newer
@@ -62,15 +55,3 @@ only_verdicts programs first last (Some values) reached = λ value is. elim (rea
       inl (all.0, all.1, ap (λ o. unwrap_or o allow) all.2 ∙ chosen_of_none all.0)
   | inr any ↦ inr (inl any)
 ]
-
-pub allow_alone : (programs : List (List Insn)) (first last : ℕ) (values : Option (List ℕ)) → IsReached programs [] first last None
-    → values ≡ Some (allow ∷ []) → OnlyVerdicts programs first last values
-allow_alone programs first last values reached told =
-    subst (OnlyVerdicts programs first last) (sym told) (λ value is. by_value value is)
-  where
-    by_value : (value : ℕ) → IsOneOf value (allow ∷ [])
-        → IsComingVerdict programs first last value ⊎ (AnyMayCome programs first last ⊎ IsAllowed programs first last value)
-    by_value value (inl same) =
-        let all = reached [] tt in
-        inl (all.0, all.1, same ∙ ap (λ o. unwrap_or o allow) all.2 ∙ chosen_of_none all.0)
-    by_value value (inr is) = absurd is

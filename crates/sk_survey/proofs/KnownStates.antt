@@ -5,7 +5,7 @@ use Rattle.sk_insn.specs.declared.insn.Insn.{Insn}
 use Rattle.sk_insn.specs.declared.record.Record.{Record}
 use Rattle.sk_insn.specs.declared.operation.Register.{Register}
 use Rattle.sk_insn.specs.declared.operation.Register.TheVariants.{Accumulator, Index}
-use Rattle.sk_interp.specs.Meaning.{State, Effect, GoesOn, Ends, Fails, store, register, operand, holds, calculated, effect}
+use Rattle.sk_filter.specs.Meaning.{State, Effect, GoesOn, Ends, Fails, store, register, operand, holds, calculated, effect}
 use Rattle.sk_insn.specs.declared.operation.Operand.{Operand}
 use Rattle.sk_insn.specs.declared.operation.Operand.TheVariants.{Constant, IndexRegister}
 use Rattle.sk_insn.specs.declared.operation.Arithmetic.{Arithmetic}
@@ -89,17 +89,19 @@ branch_leads comparison right insn a knowledge call s is told = by_test (holds c
   by_test true told = (s, inl (refl, record { a = told refl; x = is.x; words = is.words }))
   by_test false told = (s, inr (refl, is))
 
-pub either_spreads : (next : Next) (a : Known) (insn : Insn) (knowledge : Knowledge) (call : Record) (place : ℕ) (slots : List (Option Knowledge))
+-- what is joined on one side of a jump is kept where it is joined on the other side
+pub either_spreads : (next : Next) (a : Known) (insn : Insn) (knowledge : Knowledge) (place : ℕ) (slots both : List (Option Knowledge))
     → next ≡ Either a
-    → ((s : State) → DescribesState (record knowledge { a = a }) call s → DescribedAt slots (place + 1 + insn.jt) call s)
-    → ((s : State) → DescribesState knowledge call s → DescribedAt slots (place + 1 + insn.jf) call s)
-    → (e : Effect) → Leads next insn knowledge call e → Spreads place slots call e
-either_spreads next a insn knowledge call place slots same there otherwise e leads =
+    → ((call : Record) (s : State) → DescribesState knowledge call s → DescribedAt slots (place + 1 + insn.jf) call s)
+    → ((q : ℕ) (call : Record) (s : State) → DescribedAt slots q call s → DescribedAt both q call s)
+    → ((call : Record) (s : State) → DescribesState (record knowledge { a = a }) call s → DescribedAt both (place + 1 + insn.jt) call s)
+    → (call : Record) (e : Effect) → Leads next insn knowledge call e → Spreads place both call e
+either_spreads next a insn knowledge place slots both same otherwise kept there call e leads =
     by_side (subst (λ n. Leads n insn knowledge call e) same leads) where
-      by_side : Leads (Either a) insn knowledge call e → Spreads place slots call e
+      by_side : Leads (Either a) insn knowledge call e → Spreads place both call e
       by_side (s, inl (does, is)) =
           let at : place + 1 + insn.jt ≡ place + (1 + insn.jt) = omega arith in
-          subst (Spreads place slots call) (sym does) (subst (λ q. DescribedAt slots q call s) at (there s is))
+          subst (Spreads place both call) (sym does) (subst (λ q. DescribedAt both q call s) at (there call s is))
       by_side (s, inr (does, is)) =
           let at : place + 1 + insn.jf ≡ place + (1 + insn.jf) = omega arith in
-          subst (Spreads place slots call) (sym does) (subst (λ q. DescribedAt slots q call s) at (otherwise s is))
+          subst (Spreads place both call) (sym does) (subst (λ q. DescribedAt both q call s) at (kept _ call s (otherwise call s is)))

@@ -5,8 +5,8 @@ use Rattle.std.specs.Int.{cast_signed, w32}
 use Rattle.std.proofs.lemmas.Bool.{cases_lt, eqb-true}
 use Rattle.std.specs.Option.{option_eq}
 use Rattle.std.proofs.lemmas.Int.{ints}
-use Rattle.sk_chain.specs.Precedence.{precedence_of}
-use Rattle.sk_chain.specs.Choosing.{chosen}
+use Rattle.sk_filter.specs.Verdict.{precedence_of}
+use Rattle.sk_filter.specs.Choosing.{chosen}
 use Rattle.sk_survey.specs.Answers.{IsOneOf, IsRising}
 use Rattle.sk_survey.proofs.Rising.{one_at}
 

@@ -4,15 +4,15 @@ use Rattle.std.proofs.lemmas.Bool.{cases_eq}
 use Rattle.sk_insn.specs.declared.insn.Insn.{Insn}
 use Rattle.sk_insn.specs.declared.record.Record.{Record}
 use Rattle.sk_insn.specs.Operations.{operation_of}
-use Rattle.sk_check.specs.Paths.{Onward, Nowhere, To, Either as Both, GoesTo, LeadsTo}
-use Rattle.sk_check.specs.Fits.{AreInside}
-use Rattle.sk_check.specs.Valid.{IsValid}
-use Rattle.sk_check.proofs.ValidPrograms.{valid_count, valid_leads}
-use Rattle.sk_interp.specs.Meaning.{Meaning, Returned, Stuck, State, Effect, GoesOn, Ends, Fails, effect, after_step, then_follows, meaning, meaning_of}
-use Rattle.sk_interp.proofs.Meanings.{meaning_at}
-use Rattle.sk_interp.proofs.ScratchWords.{any_words}
-use Rattle.sk_interp.proofs.ValidSteps.{leads_to}
-use Rattle.sk_chain.specs.Verdict.{meaning_value}
+use Rattle.sk_filter.specs.Paths.{Onward, Nowhere, To, Either as Both, GoesTo, LeadsTo}
+use Rattle.sk_filter.specs.Fits.{AreInside}
+use Rattle.sk_filter.specs.Valid.{IsValid}
+use Rattle.sk_filter.proofs.ValidPrograms.{valid_count, valid_leads}
+use Rattle.sk_filter.specs.Meaning.{Meaning, Returned, Stuck, State, Effect, GoesOn, Ends, Fails, effect, after_step, then_follows, meaning, meaning_of}
+use Rattle.sk_filter.proofs.Meanings.{meaning_at}
+use Rattle.sk_filter.proofs.ScratchWords.{any_words}
+use Rattle.sk_filter.proofs.ValidSteps.{leads_to}
+use Rattle.sk_filter.specs.Verdict.{meaning_value}
 use Rattle.sk_survey.specs.declared.known.Knowledge.{Knowledge}
 use Rattle.sk_survey.specs.declared.follow.Next.{Next}
 use Rattle.sk_survey.specs.declared.follow.Next.TheVariants.{Skip, Either, End, FollowingOrZero}

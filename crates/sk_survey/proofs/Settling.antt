@@ -1,30 +1,29 @@
 -- How far the pass has followed a filter that answers a number without its arguments: nothing is known but the one
 -- state of its run.
 use Rattle.std.proofs.Common.{◌≡◌, ◌≢◌, ℕ, zero, suc, ◌+◌, ◌<◌, ◌≤◌, ◌⊎◌, inl, inr, Bool, true, false, if◌then◌else◌, List, [], ◌∷◌, length, Option, Some, None, slice_get, replicate, set, refl, sym, ap, subst, ◌∙◌, arith}
-use Rattle.std.specs.Prelude.{ℤ, int_le, ◌<ℤ◌}
+use Rattle.std.specs.Prelude.{ℤ, ◌<ℤ◌}
 use Rattle.std.specs.Int.{cast_signed, w32}
 use Rattle.std.proofs.lemmas.Bool.{cases_eq}
 use Rattle.std.proofs.lemmas.Int.{ints}
 use Rattle.sk_insn.specs.declared.insn.Insn.{Insn}
 use Rattle.sk_insn.specs.declared.record.Record.{Record}
 use Rattle.sk_insn.specs.Operations.{operation_of}
-use Rattle.sk_check.specs.Paths.{Onward, Nowhere, To, Either as Both, GoesTo, LeadsTo}
-use Rattle.sk_check.specs.Valid.{IsValid}
-use Rattle.sk_check.proofs.ValidPrograms.{valid_count, valid_leads}
-use Rattle.sk_interp.specs.Meaning.{Meaning, Returned, Stuck, State, Effect, effect, after_step, then_follows, meaning, meaning_of}
-use Rattle.sk_interp.proofs.Meanings.{meaning_at}
-use Rattle.sk_interp.proofs.ValidSteps.{leads_to}
-use Rattle.sk_chain.specs.Choosing.{chosen}
-use Rattle.sk_chain.specs.Precedence.{precedence_of}
-use Rattle.sk_survey.specs.declared.answers.Answers.{Answers}
+use Rattle.sk_filter.specs.Paths.{Onward, Nowhere, To, Either as Both, GoesTo, LeadsTo}
+use Rattle.sk_filter.specs.Valid.{IsValid}
+use Rattle.sk_filter.proofs.ValidPrograms.{valid_count, valid_leads}
+use Rattle.sk_filter.specs.Meaning.{Meaning, Returned, Stuck, State, Effect, effect, after_step, then_follows, meaning, meaning_of}
+use Rattle.sk_filter.proofs.Meanings.{meaning_at}
+use Rattle.sk_filter.proofs.ValidSteps.{leads_to}
+use Rattle.sk_filter.specs.Choosing.{chosen}
 use Rattle.sk_survey.specs.declared.known.Known.TheVariants.{Any, Number, Is}
 use Rattle.sk_survey.specs.declared.known.Knowledge.{Knowledge}
 use Rattle.sk_survey.specs.declared.follow.Next.{Next}
 use Rattle.sk_survey.specs.declared.follow.Next.TheVariants.{Skip, Either, End, FollowingOrZero}
-use Rattle.sk_survey.specs.Answers.{IsOneOf, IsAmong, IsRising, AreRising, answers_of}
+use Rattle.sk_survey.specs.Answers.{IsOneOf, IsAmong, IsRising, AreRising}
 use Rattle.sk_survey.specs.Ends.{IsFirstOfBoth, IsCome}
 use Rattle.sk_survey.specs.Following.{DescribesState, Leads, TellsEnd, IsWhole, LeadsOneWay, IsUnknown, led, zeros}
 use Rattle.sk_survey.specs.Settling.{loads_argument, without_argument, without_arguments, TellsOne}
+use Rattle.sk_survey.proofs.Choosing.{some_first}
 use Rattle.sk_survey.proofs.WithoutArguments.{bare, no_operation, here_without, zeros_without}
 
 -- ---- one value
@@ -42,12 +41,6 @@ one_told (Some (x ∷ [])) value other only among rising = (x, refl)
 one_told (Some (x ∷ y ∷ values)) value other only among rising =
     let same : y ≡ x = only y (inr (inl refl)) ∙ sym (only x (inl refl)) in
     absurd (not_below (cast_signed w32 x) (subst (λ v. cast_signed w32 x <ℤ cast_signed w32 v) same rising.0.0))
-
-some_first : (u s : ℕ) → (first : ℕ) × (chosen (Some u) s ≡ Some first)
-some_first u s = by_test (int_le (precedence_of u) (precedence_of s)) where
-  by_test : (b : Bool) → (first : ℕ) × ((if b then Some u else Some s) ≡ Some first)
-  by_test true = (u, refl)
-  by_test false = (s, refl)
 
 -- of two values one comes first
 pub one_of_both : (newer older values : List ℕ) → TellsOne (Some newer) → TellsOne (Some older) → IsRising values
@@ -70,10 +63,6 @@ one_of_both newer older values (u, u_is) (s, s_is) rising firsts only =
         cc
     by_first first e value (u', s', inr u_is, s_is, chooses) = absurd u_is
     by_first first e value (u', s', inl u_is, inr s_is, chooses) = absurd s_is
-
-abbrev pub TellsOneSoFar : Option Answers → Type 0
-TellsOneSoFar None = Unit {0}
-TellsOneSoFar (Some answers) = TellsOne (answers_of answers)
 
 -- ---- places that are known
 

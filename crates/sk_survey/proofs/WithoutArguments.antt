@@ -8,11 +8,11 @@ use Rattle.sk_insn.specs.declared.record.Record.{Record}
 use Rattle.sk_insn.specs.declared.operation.Operation.{Operation}
 use Rattle.sk_insn.specs.declared.operation.Operation.TheVariants.{LoadRecord}
 use Rattle.sk_insn.specs.Operations.{operation_of}
-use Rattle.sk_check.specs.declared.fault.CheckFault.TheVariants.{Unstored}
-use Rattle.sk_check.specs.Paths.{GoesTo, At, LeadsTo, Loads, Stores, IsPath, NoneStores, IsUnstored, onward, loaded_word, stored_word}
-use Rattle.sk_check.specs.Valid.{IsValid}
-use Rattle.sk_interp.specs.Meaning.{meaning, meaning_of}
-use Rattle.sk_interp.proofs.ScratchWords.{same_meaning}
+use Rattle.sk_filter.specs.declared.fault.CheckFault.TheVariants.{Unstored}
+use Rattle.sk_filter.specs.Paths.{GoesTo, At, LeadsTo, Loads, Stores, IsPath, NoneStores, IsUnstored, onward, loaded_word, stored_word}
+use Rattle.sk_filter.specs.Valid.{IsValid}
+use Rattle.sk_filter.specs.Meaning.{meaning, meaning_of}
+use Rattle.sk_filter.proofs.ScratchWords.{same_meaning}
 use Rattle.sk_survey.specs.Following.{zeros}
 use Rattle.sk_survey.specs.Settling.{loads_argument, without_argument, without_arguments}
 

@@ -1,8 +1,8 @@
 -- Each worked end is what the definitions say.
 use Rattle.std.proofs.Common.{◌≡◌, ℕ, zero, suc, inl, inr, [], ◌∷◌, refl, arith}
 use Rattle.sk_insn.specs.Operations.{operation_of}
-use Rattle.sk_check.specs.Paths.{At, LeadsTo}
-use Rattle.sk_interp.specs.WorkedMeanings.{getpid}
+use Rattle.sk_filter.specs.Paths.{At, LeadsTo}
+use Rattle.sk_filter.specs.WorkedMeanings.{getpid}
 use Rattle.sk_survey.specs.Ends.{MayEndWith, IsCome}
 use Rattle.sk_survey.specs.WorkedEnds.{returns_early, WorkedEnds}
 

@@ -6,9 +6,9 @@ use Rattle.sk_insn.specs.declared.operation.Arithmetic.TheVariants.{Divide}
 use Rattle.sk_insn.specs.declared.operation.Operation.{Operation}
 use Rattle.sk_insn.specs.declared.operation.Operation.TheVariants.{Compute, ReturnConstant, ReturnAccumulator}
 use Rattle.sk_insn.specs.Actions.{allow}
-use Rattle.sk_check.specs.Paths.{At, IsPath}
-use Rattle.sk_chain.specs.Choosing.{chosen}
-use Rattle.sk_chain.specs.Verdict.{first_of}
+use Rattle.sk_filter.specs.Paths.{At, IsPath}
+use Rattle.sk_filter.specs.Choosing.{chosen}
+use Rattle.sk_filter.specs.Verdict.{first_of}
 use Rattle.sk_survey.specs.Settling.{SettlesOn}
 use Rattle.sk_survey.specs.Answers.{IsOneOf, IsAmong, ChainAnswersAmong}
 

@@ -6,8 +6,8 @@ use Rattle.sk_insn.specs.declared.operation.Register.{Register}
 use Rattle.sk_insn.specs.declared.operation.Register.TheVariants.{Accumulator, Index}
 use Rattle.sk_insn.specs.declared.operation.Operand.{Operand}
 use Rattle.sk_insn.specs.declared.operation.Operand.TheVariants.{Constant, IndexRegister}
-use Rattle.sk_check.specs.Paths.{Onward, Nowhere, To, Either as Both}
-use Rattle.sk_interp.specs.Meaning.{State, Effect, GoesOn, Ends}
+use Rattle.sk_filter.specs.Paths.{Onward, Nowhere, To, Either as Both}
+use Rattle.sk_filter.specs.Meaning.{State, Effect, GoesOn, Ends}
 use Rattle.sk_survey.specs.declared.known.Known.{Known}
 use Rattle.sk_survey.specs.declared.known.Known.TheVariants.{Any, Number, Is}
 use Rattle.sk_survey.specs.declared.known.Knowledge.{Knowledge}

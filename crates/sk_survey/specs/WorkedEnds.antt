@@ -6,8 +6,8 @@ use Rattle.sk_insn.specs.declared.operation.Operand.TheVariants.{Constant, Index
 use Rattle.sk_insn.specs.declared.operation.Arithmetic.TheVariants.{Divide}
 use Rattle.sk_insn.specs.declared.operation.Comparison.TheVariants.{Equal}
 use Rattle.sk_insn.specs.declared.operation.Operation.TheVariants.{LoadRecord, LoadConstant, Compute, Branch, ReturnConstant, ReturnAccumulator}
-use Rattle.sk_interp.specs.Meaning.{Stuck, meaning_of}
-use Rattle.sk_interp.specs.WorkedMeanings.{does, compares, call_of, getpid}
+use Rattle.sk_filter.specs.Meaning.{Stuck, meaning_of}
+use Rattle.sk_filter.specs.WorkedMeanings.{does, compares, call_of, getpid}
 use Rattle.sk_survey.specs.Ends.{MayEnd, MayCome}
 use Rattle.sk_survey.specs.Settling.{SettlesOn, without_arguments}
 

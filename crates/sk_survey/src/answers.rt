@@ -3,7 +3,7 @@ ghost use Rattle.std.specs.Prelude.{◌≡◌, ℕ, ◌⊎◌, IsOk, IfOk, [], �
 ghost use Rattle.std.specs.Option.{option_eq};
 ghost use Rattle.std.specs.Str.{bytes_eq};
 ghost use Rattle.sk_insn.specs.declared.record.Record.{Record};
-ghost use Rattle.sk_chain.specs.Choosing.{chosen};
+ghost use Rattle.sk_filter.specs.Choosing.{chosen};
 ghost use Rattle.sk_survey.specs.Answers.{answers_of, IsAmong, AreRising};
 ghost use Rattle.sk_survey.specs.Ends.{OnlyFirsts};
 ghost use Rattle.sk_survey.specs.Settling.{TellsOne};

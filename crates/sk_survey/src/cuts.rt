@@ -3,11 +3,11 @@
 ghost use Rattle.std.specs.Prelude.{◌≤◌, ◌+◌, ◌*◌, length, IfOk, OnOk};
 ghost use Rattle.std.specs.List.{All};
 ghost use Rattle.std.specs.List.Sorted.{IsNonDecreasing};
-ghost use Rattle.sk_chain.specs.Chains.{cost_of};
+ghost use Rattle.sk_filter.specs.Chains.{cost_of};
 ghost use Rattle.sk_survey.specs.Cutting.{IsCutRound, AreFew, AreKept};
 
 use crate::numbered::numbered_at;
-use sk_chain::Chain;
+use sk_filter::Chain;
 use sk_insn::{Comparison, Insn, Operand, Operation, decode};
 use std::alloc::{AllocError, Global};
 

@@ -1,13 +1,13 @@
 //! Which side of a conditional jump every call takes, where that is known.
 ghost use Rattle.std.specs.Prelude.{◌≡◌, ℕ, ◌≤◌, IfSome, IsSome};
 ghost use Rattle.sk_insn.specs.declared.record.Record.{Record};
-ghost use Rattle.sk_interp.specs.Meaning.{holds};
+ghost use Rattle.sk_filter.specs.Meaning.{holds};
 ghost use Rattle.sk_survey.specs.Answers.{IsCallOf};
 ghost use Rattle.sk_survey.specs.Following.{Describes, IsExact};
 
 use crate::known::Known;
+use sk_filter::holds;
 use sk_insn::Comparison;
-use sk_interp::holds;
 
 /// The test's answer for each call with a number of the range, where all of them have the same.
 pub(crate) fn decide(

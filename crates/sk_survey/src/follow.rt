@@ -3,9 +3,9 @@ ghost use Rattle.std.specs.Prelude.{◌≡◌, ◌≢◌, ℕ, ◌+◌, ◌≤�
 ghost use Rattle.sk_insn.specs.declared.record.Record.{Record};
 ghost use Rattle.sk_insn.specs.Operations.{operation_of};
 ghost use Rattle.sk_insn.specs.Record.{word_of};
-ghost use Rattle.sk_check.specs.Paths.{GoesTo, LeadsTo};
-ghost use Rattle.sk_check.specs.Fits.{TakesConstant};
-ghost use Rattle.sk_interp.specs.Meaning.{State, effect, calculated, holds};
+ghost use Rattle.sk_filter.specs.Paths.{GoesTo, LeadsTo};
+ghost use Rattle.sk_filter.specs.Fits.{TakesConstant};
+ghost use Rattle.sk_filter.specs.Meaning.{State, effect, calculated, holds};
 ghost use Rattle.sk_survey.specs.Answers.{IsCallOf};
 ghost use Rattle.sk_survey.specs.Ends.{MayEndWith};
 ghost use Rattle.sk_survey.specs.Following.{Describes, DescribesState, Leads, TellsEnd, IsExact, IsWhole, LeadsOneWay, led, known_operand, with_known, with_word};
@@ -13,8 +13,8 @@ ghost use Rattle.sk_survey.specs.Settling.{loads_argument};
 
 use crate::decide::decide;
 use crate::known::{Knowledge, Known};
+use sk_filter::calculate;
 use sk_insn::{ARCHITECTURE, Arithmetic, Comparison, Insn, Operand, Operation, Register, decode};
-use sk_interp::calculate;
 
 /// Where an instruction leads.
 #[derive(Clone, Copy, Debug)]

@@ -1,7 +1,7 @@
 //! What is known of numbers in a filter while nothing is known of a call but the range of its number.
 ghost use Rattle.std.specs.Prelude.{ℕ, ◌<◌, Option};
 ghost use Rattle.sk_insn.specs.declared.record.Record.{Record};
-ghost use Rattle.sk_interp.specs.Meaning.{State};
+ghost use Rattle.sk_filter.specs.Meaning.{State};
 ghost use Rattle.sk_survey.specs.Following.{Describes, DescribesWord, DescribesWords, DescribesState, IsWhole, zeros};
 
 /// What is known of a number.

@@ -1,11 +1,11 @@
 //! The first of a newer and an older value, over all that they can be.
 ghost use Rattle.std.specs.Prelude.{◌≡◌, ℕ, ◌⊎◌, Some, IfOk, IsOk};
-ghost use Rattle.sk_chain.specs.Choosing.{chosen};
+ghost use Rattle.sk_filter.specs.Choosing.{chosen};
 ghost use Rattle.sk_survey.specs.Answers.{IsOneOf, IsRising};
 ghost use Rattle.sk_survey.specs.Ends.{IsFirstOfBoth};
 
 use crate::values::insert;
-use sk_chain::sooner;
+use sk_filter::sooner;
 use std::alloc::{AllocError, Global};
 
 /// What comes first where the newer value is one of these and the older one of those: a newer value stays where an
@@ -21,7 +21,9 @@ pub(crate) fn merge(alloc: Global, newer: &[u32], older: &[u32]) -> Result<Vec<u
         → IsFirstOfBoth newer.now older.now value) }
 {
     let mut values = Vec::new(alloc);
-    if newer.is_empty() || older.is_empty() {
+    let none_newer = newer.is_empty();
+    let none_older = older.is_empty();
+    if none_newer || none_older {
         return Ok(values);
     }
     add_staying(&mut values, newer, older[older.len() - 1])?;

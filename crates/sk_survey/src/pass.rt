@@ -1,9 +1,9 @@
 //! One pass over a program, which follows all paths of all calls with a number of a range.
 ghost use Rattle.std.specs.Prelude.{◌≡◌, ◌≢◌, ℕ, ◌+◌, ◌≤◌, ◌<◌, ◌⊎◌, length, slice_get, Some, IfOk, IsOk};
 ghost use Rattle.sk_insn.specs.declared.record.Record.{Record};
-ghost use Rattle.sk_check.specs.Fits.{AreInside};
-ghost use Rattle.sk_check.specs.Paths.{GoesTo};
-ghost use Rattle.sk_interp.specs.Meaning.{State, Effect, Ends};
+ghost use Rattle.sk_filter.specs.Fits.{AreInside};
+ghost use Rattle.sk_filter.specs.Paths.{GoesTo};
+ghost use Rattle.sk_filter.specs.Meaning.{State, Effect, Ends};
 ghost use Rattle.sk_insn.specs.declared.insn.Insn.{Insn};
 ghost use Rattle.sk_survey.specs.declared.known.Knowledge.{Knowledge};
 ghost use Rattle.sk_survey.specs.Ends.{OnlyComing};
@@ -14,7 +14,7 @@ ghost use Rattle.sk_survey.specs.Answers.{answers_of, AnswersAmong, IsAmong, Are
 use crate::answers::Answers;
 use crate::follow::Next;
 use crate::known::{Knowledge, Known};
-use sk_check::Checked;
+use sk_filter::Checked;
 use sk_insn::Insn;
 use std::alloc::{AllocError, Global};
 
@@ -97,15 +97,34 @@ fn spread(
         Next::Skip(skip) => join_at(slots, place + 1 + skip as usize, knowledge),
         Next::Either(a) => {
             join_at(slots, place + 1 + insn.jf as usize, knowledge);
-            join_at(
-                slots,
-                place + 1 + insn.jt as usize,
-                &Knowledge { a, ..*knowledge },
-            );
+            join_where_it_holds(slots, place, insn, a, knowledge);
         }
         Next::End(_) => {}
         Next::FollowingOrZero => join_at(slots, place + 1, knowledge),
     }
+}
+
+/// Joins what is known after a conditional jump whose test holds to the place where it goes.
+fn join_where_it_holds(
+    slots: &mut [Option<Knowledge>],
+    place: usize,
+    insn: &Insn,
+    a: Known,
+    knowledge: &Knowledge,
+)
+    requires slots { length slots.old ≡ 4096 }
+    requires place { place + 1 + insn.now.jt < 4096 }
+    ensures kept { (q : ℕ) (call : Record) (s : State) → DescribedAt slots.old q call s
+        → DescribedAt slots.new q call s }
+    ensures joined { (call : Record) (s : State) → DescribesState (record knowledge.now { a = a }) call s
+        → DescribedAt slots.new (place + 1 + insn.now.jt) call s }
+    ensures others { (q : ℕ) → q ≢ place + 1 + insn.now.jt → slice_get slots.new q ≡ slice_get slots.old q }
+{
+    join_at(
+        slots,
+        place + 1 + insn.jt as usize,
+        &Knowledge { a, ..*knowledge },
+    );
 }
 
 /// Joins what is known on one more path to a place.

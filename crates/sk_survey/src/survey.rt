@@ -1,16 +1,17 @@
 //! What programs and chains answer to a range of numbers, and a chain to all numbers, row by row.
 ghost use Rattle.std.specs.Prelude.{◌≡◌, ℕ, ◌≤◌, [], ◌∷◌, Some, length, IfOk, IsTrue};
+ghost use Rattle.std.specs.List.{All};
+ghost use Rattle.std.specs.List.Sorted.{IsNonDecreasing};
 ghost use Rattle.sk_survey.specs.Following.{IsUnknown};
 ghost use Rattle.sk_insn.specs.Actions.{allow};
-ghost use Rattle.sk_chain.specs.Chains.{is_always, IsAlwaysAllowed};
+ghost use Rattle.sk_filter.specs.Chains.{is_always, IsAlwaysAllowed};
 
 use crate::answers::Answers;
 use crate::cuts::cuts;
 use crate::known::Knowledge;
 use crate::pass::{clear, program_answers};
 use crate::rows::{Row, add_row};
-use sk_chain::Chain;
-use sk_check::Checked;
+use sk_filter::{Chain, Checked};
 use sk_insn::{ALLOW, MOST_INSNS};
 use std::alloc::{AllocError, Global};
 
@@ -26,7 +27,8 @@ impl Survey {
     ghost use Rattle.sk_survey.specs.Answers.{answers_of, AnswersAmong, ChainAnswersAmong, AreRising};
     ghost use Rattle.sk_survey.specs.Ends.{OnlyComing, OnlyVerdicts};
     ghost use Rattle.sk_survey.specs.Settling.{Settles, AllSettle, TellsOne};
-    ghost use Rattle.sk_survey.specs.Surveys.{IsSurveyFrom, StandAlone};
+    ghost use Rattle.sk_survey.specs.Cutting.{IsCutRound};
+    ghost use Rattle.sk_survey.specs.Surveys.{IsSurveyFrom, StandAlone, Tell};
 
     /// One slot for each place of the longest program.
     pub fn new(alloc: Global) -> Result<Survey, AllocError> {
@@ -97,18 +99,17 @@ impl Survey {
         ensures settled { first ≡ last → AllSettle chain.now first
             → IfOk result (λ answers. TellsOne (answers_of answers)) }
     {
-        let mut newer = None;
-        for program in chain.programs() {
+        let mut programs = chain.programs();
+        let Some(newest) = programs.next() else {
+            return Answers::one(alloc, ALLOW);
+        };
+        let mut answers = self.program(alloc, newest, first, last)?;
+        for program in programs {
             let older = self.program(alloc, program, first, last)?;
-            newer = Some(match newer {
-                Some(newer) => Answers::before(newer, alloc, older)?,
-                None => older,
-            });
+            let both = answers.before(alloc, older)?;
+            answers = both;
         }
-        match newer {
-            Some(answers) => Ok(answers),
-            None => Answers::one(alloc, ALLOW),
-        }
+        Ok(answers)
     }
 
     /// What the chain answers to every call: rows that tell all numbers in order. Each number of `alone` has a row by
@@ -124,22 +125,7 @@ impl Survey {
     {
         let cuts = cuts(alloc, chain, alone)?;
         let mut rows = Vec::new(alloc);
-        let mut first = 0u32;
-        for cut in &cuts {
-            if first < *cut {
-                let answers = self.chain(alloc, chain, first, *cut - 1)?;
-                add_row(
-                    &mut rows,
-                    alone,
-                    Row {
-                        first,
-                        last: *cut - 1,
-                        answers,
-                    },
-                )?;
-                first = *cut;
-            }
-        }
+        let first = self.add_rows(alloc, chain, alone, &cuts, &mut rows)?;
         let answers = self.chain(alloc, chain, first, u32::MAX)?;
         add_row(
             &mut rows,
@@ -151,6 +137,41 @@ impl Survey {
             },
         )?;
         Ok(rows)
+    }
+
+    /// Adds the rows of the numbers below the last of the cuts, and tells the first number behind them.
+    fn add_rows(
+        &mut self,
+        alloc: Global,
+        chain: &Chain,
+        alone: &[u32],
+        cuts: &[u32],
+        rows: &mut Vec<Row>,
+    ) -> Result<u32, AllocError>
+        requires none { rows.old.items ≡ [] }
+        requires rising { IsNonDecreasing cuts.now }
+        requires round { All (IsCutRound cuts.now) alone.now }
+        ensures told { IfOk result (λ first. Tell chain.now 0 first rows.new.items) }
+        ensures alone { IfOk result (λ first. StandAlone alone.now rows.new.items) }
+        ensures passed { IfOk result (λ first. All (λ cut. cut ≤ first) cuts.now) }
+    {
+        let mut first = 0u32;
+        for cut in cuts {
+            if first < *cut {
+                let answers = self.chain(alloc, chain, first, *cut - 1)?;
+                add_row(
+                    rows,
+                    alone,
+                    Row {
+                        first,
+                        last: *cut - 1,
+                        answers,
+                    },
+                )?;
+                first = *cut;
+            }
+        }
+        Ok(first)
     }
 }
 

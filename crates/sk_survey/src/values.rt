@@ -13,8 +13,9 @@ pub(crate) fn insert(values: &mut Vec<u32>, value: u32) -> Result<(), AllocError
     ensures added { IsOk result → IsOneOf value values.new.items }
     ensures only { (other : ℕ) → IsOneOf other values.new.items → IsOneOf other values.old.items ⊎ (other ≡ value) }
 {
-    let place = place_of(values, value);
-    match values.get(place) {
+    let sorted = values.as_slice();
+    let place = place_of(sorted, value);
+    match sorted.get(place) {
         Some(there) if *there == value => {}
         _ => values.insert(place, value)?,
     }

@@ -6,8 +6,8 @@ use Rattle.std.proofs.lemmas.List.{length-drop, drop-drop}
 use Rattle.std.proofs.lemmas.Option.{slice_get-map, slice_get_past}
 use Rattle.sk_insn.specs.declared.insn.Insn.{Insn}
 use Rattle.sk_insn.specs.declared.record.Record.{Record}
-use Rattle.sk_interp.specs.Meaning.{meaning_of}
-use Rattle.sk_chain.specs.Verdict.{meaning_value, values_of}
+use Rattle.sk_filter.specs.Meaning.{meaning_of}
+use Rattle.sk_filter.specs.Verdict.{meaning_value, values_of}
 use Rattle.sk_survey_lines.specs.Runs.{EndsAt}
 use Rattle.sk_survey_lines.proofs.Runs.{ends_with}
 

@@ -4,11 +4,10 @@ use Rattle.std.proofs.lemmas.Bool.{cases_order}
 use Rattle.sk_insn.specs.declared.insn.Insn.{Insn}
 use Rattle.sk_insn.specs.declared.record.Record.{Record}
 use Rattle.sk_insn.specs.Operations.{operation_of}
-use Rattle.sk_interp.specs.Meaning.{Returned, State, effect, GoesOn, meaning_of}
-use Rattle.sk_interp.proofs.Meanings.{ends}
-use Rattle.sk_chain.specs.Precedence.{precedence_of}
-use Rattle.sk_chain.specs.Verdict.{IsAtMost, verdict_of, values_of}
-use Rattle.sk_chain.proofs.Verdicts.{verdict_of_least}
+use Rattle.sk_filter.specs.Meaning.{Returned, State, effect, GoesOn, meaning_of}
+use Rattle.sk_filter.proofs.Meanings.{ends}
+use Rattle.sk_filter.specs.Verdict.{IsAtMost, verdict_of, values_of, precedence_of}
+use Rattle.sk_filter.proofs.Verdicts.{verdict_of_least}
 use Rattle.sk_survey_lines.specs.Runs.{ComesTo, EndsAt}
 use Rattle.sk_survey_lines.specs.Examples.{IsFirstAt}
 use Rattle.sk_survey_lines.specs.ExamplesLaws.{EndsAreMeanings, RunsEndOnce, ValuesComeFromOne, VerdictsComeFromTheLeast}

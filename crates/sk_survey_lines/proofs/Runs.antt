@@ -4,15 +4,15 @@ use Rattle.std.proofs.lemmas.Option.{slice_get-get_or}
 use Rattle.sk_insn.specs.declared.insn.Insn.{Insn}
 use Rattle.sk_insn.specs.declared.record.Record.{Record}
 use Rattle.sk_insn.specs.Operations.{operation_of}
-use Rattle.sk_check.specs.Fits.{TakesConstant}
-use Rattle.sk_check.specs.Valid.{IsValid}
-use Rattle.sk_check.proofs.ValidPrograms.{valid_fits, valid_leads}
-use Rattle.sk_interp.specs.Meaning.{Stuck, State, effect, GoesOn, Fails, start, then_follows, meaning, meaning_of}
-use Rattle.sk_interp.specs.Steps.{after_steps}
-use Rattle.sk_interp.proofs.Meanings.{after_none, goes_on, ends, meaning_at}
-use Rattle.sk_interp.proofs.ValidMeanings.{valid_returns}
-use Rattle.sk_interp.proofs.ValidSteps.{leads_to}
-use Rattle.sk_chain.specs.Verdict.{meaning_value}
+use Rattle.sk_filter.specs.Fits.{TakesConstant}
+use Rattle.sk_filter.specs.Valid.{IsValid}
+use Rattle.sk_filter.proofs.ValidPrograms.{valid_fits, valid_leads}
+use Rattle.sk_filter.specs.Meaning.{Stuck, State, effect, GoesOn, Fails, start, then_follows, meaning, meaning_of}
+use Rattle.sk_filter.specs.MachineState.{after_steps}
+use Rattle.sk_filter.proofs.Meanings.{after_none, goes_on, ends, meaning_at}
+use Rattle.sk_filter.proofs.ValidMeanings.{valid_returns}
+use Rattle.sk_filter.proofs.ValidSteps.{leads_to}
+use Rattle.sk_filter.specs.Verdict.{meaning_value}
 use Rattle.sk_survey_lines.specs.Runs.{ComesTo, EndsAt}
 
 -- the instruction at a place, where there is one

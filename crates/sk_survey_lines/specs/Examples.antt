@@ -3,7 +3,7 @@ use Rattle.std.specs.Prelude.{ℕ, ◌≡◌, ◌≢◌, ◌+◌, ◌<◌, ◌�
 use Rattle.sk_insn.specs.declared.insn.Insn.{Insn}
 use Rattle.sk_insn.specs.declared.record.Record.{Record}
 use Rattle.sk_insn.specs.Record.{IsNative, native}
-use Rattle.sk_chain.specs.Verdict.{verdict_of, values_of}
+use Rattle.sk_filter.specs.Verdict.{verdict_of, values_of}
 use Rattle.sk_survey_lines.specs.declared.example.Example.{Example}
 use Rattle.sk_survey_lines.specs.Runs.{EndsAt}
 

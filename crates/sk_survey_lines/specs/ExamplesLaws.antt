@@ -2,9 +2,8 @@
 use Rattle.std.specs.Prelude.{ℕ, ◌≡◌, ◌+◌, List, length, slice_get, Some}
 use Rattle.sk_insn.specs.declared.insn.Insn.{Insn}
 use Rattle.sk_insn.specs.declared.record.Record.{Record}
-use Rattle.sk_interp.specs.Meaning.{Returned, meaning_of}
-use Rattle.sk_chain.specs.Precedence.{precedence_of}
-use Rattle.sk_chain.specs.Verdict.{IsAtMost, verdict_of, values_of}
+use Rattle.sk_filter.specs.Meaning.{Returned, meaning_of}
+use Rattle.sk_filter.specs.Verdict.{IsAtMost, verdict_of, values_of, precedence_of}
 use Rattle.sk_survey_lines.specs.Runs.{EndsAt}
 use Rattle.sk_survey_lines.specs.Examples.{ComesFrom}
 

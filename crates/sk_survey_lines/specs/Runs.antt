@@ -3,8 +3,8 @@
 use Rattle.std.specs.Prelude.{ℕ, zero, suc, ◌≡◌, ◌+◌, List}
 use Rattle.sk_insn.specs.declared.insn.Insn.{Insn}
 use Rattle.sk_insn.specs.declared.record.Record.{Record}
-use Rattle.sk_check.specs.Paths.{At}
-use Rattle.sk_interp.specs.Meaning.{State, start, effect, GoesOn, Ends}
+use Rattle.sk_filter.specs.Paths.{At}
+use Rattle.sk_filter.specs.Meaning.{State, start, effect, GoesOn, Ends}
 
 -- after so many instructions the run has come to this place, in this state
 abbrev pub ComesTo : List Insn → Record → ℕ → ℕ → State → Type 0

@@ -4,7 +4,7 @@ use Rattle.std.specs.Fmt.{decimal}
 use Rattle.std.specs.Option.{unwrap_or}
 use Rattle.sk_call_names.specs.declared.architecture.Architecture.{Architecture}
 use Rattle.sk_call_names.specs.Names.{name_on}
-use Rattle.sk_verdict.specs.Verdicts.{verdict_text}
+use Rattle.sk_filter.specs.VerdictText.{verdict_text}
 
 -- a number, or a range of them
 abbrev pub numbers_text : ℕ → ℕ → List ℕ

@@ -1,6 +1,6 @@
 -- The registers and scratch words of the code as a state of the definition.
 use Rattle.std.specs.Prelude.{ℕ, Option, Some, None, slice_get}
-use Rattle.sk_interp.specs.Meaning.{State, Effect, GoesOn, Ends, Fails}
+use Rattle.sk_filter.specs.Meaning.{State, Effect, GoesOn, Ends, Fails}
 use Rattle.sk_survey_lines.specs.declared.execution.Held.{Held}
 use Rattle.sk_survey_lines.specs.declared.execution.Next.{Next}
 use Rattle.sk_survey_lines.specs.declared.execution.Next.TheVariants.{Skip, End, Stuck}

@@ -1,10 +1,10 @@
 //! The search for a call on which a value is the verdict, and the filter that answers it.
 ghost use Rattle.std.specs.Prelude.{◌≡◌, ◌≢◌, ℕ, IfOk, IfSome, IfNone, IsSomeAnd, Some, slice_get};
-ghost use Rattle.sk_chain.specs.Verdict.{values_of};
+ghost use Rattle.sk_filter.specs.Verdict.{values_of};
 ghost use Rattle.sk_survey_lines.specs.Examples.{ComesFrom, IsExample, IsShownBy, plain_call};
 
 use crate::tracing::{MOST_CALLS, end_of, push_turns};
-use sk_chain::Chain;
+use sk_filter::Chain;
 use sk_insn::{ARCHITECTURE, Record};
 use std::alloc::{AllocError, Global};
 

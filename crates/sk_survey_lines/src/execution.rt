@@ -2,13 +2,13 @@
 ghost use Rattle.std.specs.Prelude.{◌≡◌, ◌<◌, ◌%◌, ◌==◌, if◌then◌else◌};
 ghost use Rattle.sk_insn.specs.Operations.{operation_of};
 ghost use Rattle.sk_insn.specs.Record.{word_of};
-ghost use Rattle.sk_check.specs.Fits.{TakesConstant};
-ghost use Rattle.sk_interp.specs.Meaning.{State, GoesOn, Ends, effect, calculated, holds, loaded, operand, register, store, with_register};
+ghost use Rattle.sk_filter.specs.Fits.{TakesConstant};
+ghost use Rattle.sk_filter.specs.Meaning.{State, GoesOn, Ends, effect, calculated, holds, loaded, operand, register, store, with_register};
 ghost use Rattle.sk_survey_lines.specs.Tracing.{state_of, effect_of};
 
 use crate::origin::Origin;
+use sk_filter::{calculate, holds};
 use sk_insn::{Arithmetic, Comparison, Insn, Operand, Operation, Record, Register, decode};
-use sk_interp::{calculate, holds};
 
 /// Where an instruction leads.
 #[derive(Clone, Copy)]
@@ -45,7 +45,7 @@ pub struct Run {
 }
 
 impl Run {
-    ghost use Rattle.sk_interp.specs.Meaning.{start};
+    ghost use Rattle.sk_filter.specs.Meaning.{start};
 
     /// As a filter starts.
     pub fn new() -> Run

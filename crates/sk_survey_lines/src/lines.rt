@@ -9,7 +9,7 @@ use crate::example::find;
 use crate::line::{Line, Shown};
 use crate::options::Options;
 use sk_call_names::{Architecture, numbers};
-use sk_chain::Chain;
+use sk_filter::Chain;
 use sk_survey::{Answers, Row, Survey};
 use std::alloc::{AllocError, Global};
 

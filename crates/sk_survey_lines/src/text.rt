@@ -1,12 +1,12 @@
 //! How numbers, names and verdicts are written.
 ghost use Rattle.std.specs.Prelude.{◌≡◌, ◌++◌, OnOk, string_bytes, codes, flat_map};
 ghost use Rattle.sk_survey.specs.Answers.{answers_of};
-ghost use Rattle.sk_verdict.specs.Verdicts.{verdict_text};
+ghost use Rattle.sk_filter.specs.VerdictText.{verdict_text};
 ghost use Rattle.sk_survey_lines.specs.Text.{numbers_text, name_text, values_text, answers_text};
 
 use sk_call_names::{Architecture, name};
+use sk_filter::push_verdict;
 use sk_survey::Answers;
-use sk_verdict::push_verdict;
 use std::alloc::AllocError;
 use std::fmt::Write;
 

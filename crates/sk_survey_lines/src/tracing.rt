@@ -3,7 +3,7 @@ ghost use Rattle.std.specs.Prelude.{◌≤◌, length};
 ghost use Rattle.sk_survey_lines.specs.Runs.{EndsAt};
 
 use crate::execution::{Next, Run};
-use sk_check::Checked;
+use sk_filter::Checked;
 use sk_insn::Record;
 use std::alloc::AllocError;
 

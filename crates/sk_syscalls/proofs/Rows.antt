@@ -2,16 +2,16 @@
 use Rattle.std.proofs.Common.{◌≡◌, ◌∙◌, ℕ, ap, sym, refl, subst, Bool, true, false, cond, None, Some, Result, Ok, Err, IfSome}
 use Rattle.std.specs.Option.{option_map}
 use Rattle.std.specs.Result.{result_unwrap_or}
-use Rattle.sk_creds.specs.declared.errno.Errno.{Errno}
-use Rattle.sk_creds.specs.declared.errno.Errno.TheVariants.{Einval}
-use Rattle.sk_creds.specs.declared.creds.Creds.{Creds}
-use Rattle.sk_creds.specs.Errno.{answer_of}
+use Rattle.sk_world.specs.declared.errno.Errno.{Errno}
+use Rattle.sk_world.specs.declared.errno.Errno.TheVariants.{Einval}
+use Rattle.sk_world.specs.declared.creds.Creds.{Creds}
+use Rattle.sk_world.specs.Errno.{answer_of}
 use Rattle.sk_signal.specs.SignalState.{SignalState}
 use Rattle.sk_world.specs.declared.process.Body.{Body}
 use Rattle.sk_world.specs.declared.process.Proc.{Proc}
 use Rattle.sk_world.specs.World.{World, at, stored, changed, body_changed, with_body}
 use Rattle.sk_world.proofs.Bodies.{kept_at, given_back}
-use Rattle.sk_session.specs.Sessions.{answered}
+use Rattle.sk_machine.specs.Sessions.{answered}
 use Rattle.sk_machine.specs.declared.answer.Outcome.{Outcome}
 use Rattle.sk_machine.specs.Performed.{Performed, returns, changes, authorises}
 use Rattle.sk_machine.specs.Performing.{with_subreaper, where_subreapers}

@@ -1,20 +1,18 @@
 //! How a filter is attached: seccomp(2), SECCOMP_SET_MODE_FILTER.
 
 ghost use Rattle.std.specs.Prelude.{◌≡◌, ◌+◌, ◌∷◌, nat_lt, length, if◌then◌else◌, IsTrue, IfOk, OnOk, OnErr, MatchResult, Ok, Err};
-ghost use Rattle.sk_chain.specs.Chains.{path_limit, cost_of};
-ghost use Rattle.sk_creds.specs.declared.errno.Errno.TheVariants.{Enomem};
-ghost use Rattle.sk_creds.specs.Errno.{answer_of};
+ghost use Rattle.sk_filter.specs.Chains.{path_limit, cost_of};
+ghost use Rattle.sk_world.specs.declared.errno.Errno.TheVariants.{Enomem};
+ghost use Rattle.sk_world.specs.Errno.{answer_of};
 ghost use Rattle.sk_machine.specs.Given.{filter_image};
 ghost use Rattle.sk_machine.specs.Authority.{authority_of, program_of, filtered, after_attach};
 ghost use Rattle.sk_machine.specs.Memory.{is_read};
 ghost use Rattle.sk_syscalls.specs.views.Own.{reauthorised};
 
-use sk_chain::{Chain, ChainFault};
-use sk_check::{Checked, check};
-use sk_creds::Errno;
+use sk_filter::{Chain, ChainFault, Checked, check};
 use sk_insn::{Insn, read_image};
 use sk_machine::Images;
-use sk_world::Body;
+use sk_world::{Body, Errno};
 use std::alloc::{AllocError, Global};
 use std::mem::replace;
 

@@ -1,19 +1,18 @@
 //! The calls that change what a process may do, other than by prctl(2) and seccomp(2).
 
 ghost use Rattle.std.specs.Prelude.{◌≡◌};
-ghost use Rattle.sk_creds.specs.Creds.{after_setuid, after_setresuid, after_exec};
+ghost use Rattle.sk_world.specs.Creds.{after_setuid, after_setresuid, after_exec};
 ghost use Rattle.std.specs.Result.{result_unwrap_or};
-ghost use Rattle.sk_creds.specs.Errno.{answer_of};
+ghost use Rattle.sk_world.specs.Errno.{answer_of};
 ghost use Rattle.sk_machine.specs.Arguments.{register, low};
 ghost use Rattle.sk_machine.specs.Authority.{authority_of, after_execve};
 ghost use Rattle.sk_machine.specs.Given.{mark_of};
 ghost use Rattle.sk_machine.specs.Performing.{executing, execve};
 ghost use Rattle.sk_syscalls.specs.views.Own.{ActsOn};
 
-use sk_creds::{Creds, Errno};
 use sk_insn::Record;
 use sk_machine::{Images, Mark, Outcome, low, register};
-use sk_world::Body;
+use sk_world::{Body, Creds, Errno};
 
 /// setuid(2).
 pub(crate) fn setuid(creds: &mut Creds, call: &Record) -> Result<(), Errno>

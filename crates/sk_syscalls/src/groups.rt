@@ -4,7 +4,7 @@ ghost use Rattle.std.specs.Prelude.{◌≡◌, IsTrue};
 ghost use Rattle.std.specs.Option.{is_some};
 ghost use Rattle.sk_world.specs.World.{at};
 ghost use Rattle.sk_world.specs.Rules.{IsWorld};
-ghost use Rattle.sk_session.specs.Sessions.{group_of, after_setpgid, after_setsid, group_asked, session_asked};
+ghost use Rattle.sk_machine.specs.Sessions.{group_of, after_setpgid, after_setsid, group_asked, session_asked};
 ghost use Rattle.sk_machine.specs.Arguments.{signed};
 ghost use Rattle.sk_machine.specs.Performed.{returns, asked, changes};
 ghost use Rattle.sk_syscalls.specs.Rows.{ComesTo};
@@ -22,7 +22,9 @@ pub(crate) fn setpgid<S: ProcStore>(store: &mut S, pid: u32, call: &Record) -> O
         (λ w body. changes w 0 (after_setpgid w pid (signed call.now 0) (signed call.now 1))) result (S.contents store.new) }
     ensures rules { IsWorld (S.contents store.new) }
 {
-    returned(sk_session::setpgid(store, pid, signed(call, 0), signed(call, 1)))
+    let process = signed(call, 0);
+    let group = signed(call, 1);
+    returned(sk_machine::setpgid(store, pid, process, group))
 }
 
 /// setsid(2).
@@ -32,7 +34,7 @@ pub(crate) fn setsid<S: ProcStore>(store: &mut S, pid: u32) -> Outcome
     ensures performed { ComesTo (S.contents store.old) pid (λ w body. changes w pid (after_setsid w pid)) result (S.contents store.new) }
     ensures rules { IsWorld (S.contents store.new) }
 {
-    returned(sk_session::setsid(store, pid))
+    returned(sk_machine::setsid(store, pid))
 }
 
 /// getpgid(2).
@@ -41,7 +43,7 @@ pub(crate) fn getpgid<S: ProcStore>(store: &S, pid: u32, call: &Record) -> Outco
     requires there { IsTrue (is_some (at (S.contents store.now) pid)) }
     ensures { ComesTo (S.contents store.now) pid (λ w body. asked w (group_asked w pid (signed call.now 0))) result (S.contents store.now) }
 {
-    returned(sk_session::getpgid(store, pid, signed(call, 0)))
+    returned(sk_machine::getpgid(store, pid, signed(call, 0)))
 }
 
 /// getsid(2).
@@ -50,5 +52,5 @@ pub(crate) fn getsid<S: ProcStore>(store: &S, pid: u32, call: &Record) -> Outcom
     requires there { IsTrue (is_some (at (S.contents store.now) pid)) }
     ensures { ComesTo (S.contents store.now) pid (λ w body. asked w (session_asked w pid (signed call.now 0))) result (S.contents store.now) }
 {
-    returned(sk_session::getsid(store, pid, signed(call, 0)))
+    returned(sk_machine::getsid(store, pid, signed(call, 0)))
 }

@@ -4,7 +4,9 @@
 mod attaching;
 mod authority;
 mod caller;
+mod delivering;
 mod groups;
+mod killing;
 mod outcome;
 mod own;
 mod performing;
@@ -12,5 +14,10 @@ mod prctl;
 mod processes;
 mod seccomp;
 mod signals;
+mod targets;
+mod waiting;
 
+pub use delivering::deliver;
+pub use killing::kill;
 pub use performing::perform;
+pub use waiting::{resume, wait4};

@@ -4,8 +4,8 @@ ghost use Rattle.std.specs.Prelude.{◌≡◌};
 ghost use Rattle.sk_machine.specs.declared.answer.Outcome.TheVariants.{Ids};
 ghost use Rattle.sk_syscalls.specs.views.Returned.{returned, done};
 
-use sk_creds::{Creds, Errno};
 use sk_machine::Outcome;
+use sk_world::{Creds, Errno};
 
 /// The call returns a number, or fails.
 pub(crate) fn returned(answer: Result<u32, Errno>) -> Outcome

@@ -13,10 +13,9 @@ use crate::caller::caller;
 use crate::outcome::{ids, returned};
 use crate::own::{OwnCall, perform_own};
 use crate::{groups, prctl, processes, seccomp};
-use sk_creds::Errno;
 use sk_insn::Record;
 use sk_machine::{Images, Outcome, Syscall};
-use sk_world::ProcStore;
+use sk_world::{Errno, ProcStore};
 use std::alloc::{AllocError, Global};
 
 /// Performs a call of a process that lives. Whether its filters let the call through is asked before.
@@ -79,7 +78,7 @@ fn perform_known<S: ProcStore>(
         Syscall::Execve => perform_own(store, images, alloc, pid, OwnCall::Execve, call),
         Syscall::Exit => Ok(processes::exit(store, pid, call)),
         Syscall::ExitGroup => Ok(processes::exit(store, pid, call)),
-        Syscall::Wait4 => Ok(sk_delivery::wait4(store, pid, call)),
+        Syscall::Wait4 => Ok(crate::wait4(store, pid, call)),
         Syscall::Kill => Ok(processes::kill(store, pid, call)),
         Syscall::Getuid => Ok(returned(Ok(caller(store, pid).body.creds.real))),
         Syscall::Geteuid => Ok(returned(Ok(caller(store, pid).body.creds.effective))),

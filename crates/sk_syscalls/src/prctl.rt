@@ -2,8 +2,8 @@
 
 ghost use Rattle.std.specs.Prelude.{◌≡◌, ◌==◌, ◌&&◌, not, false, if◌then◌else◌, IsTrue, IfOk, OnOk, OnErr, Option, Some, None, Ok, Err};
 ghost use Rattle.std.specs.Option.{is_some, option_map_or};
-ghost use Rattle.sk_creds.specs.declared.errno.Errno.TheVariants.{Einval};
-ghost use Rattle.sk_creds.specs.Errno.{answer_of};
+ghost use Rattle.sk_world.specs.declared.errno.Errno.TheVariants.{Einval};
+ghost use Rattle.sk_world.specs.Errno.{answer_of};
 ghost use Rattle.sk_world.specs.World.{World, at};
 ghost use Rattle.sk_world.specs.Rules.{IsWorld};
 ghost use Rattle.sk_machine.specs.Arguments.{register, low, prctl_option_of};
@@ -18,10 +18,9 @@ use crate::attaching::attach;
 use crate::caller::caller;
 use crate::outcome::returned;
 use crate::own::{OwnCall, perform_own};
-use sk_creds::Errno;
 use sk_insn::Record;
 use sk_machine::{Images, Outcome, PrctlOption, low, register};
-use sk_world::{Body, ProcStore};
+use sk_world::{Body, Errno, ProcStore};
 use std::alloc::{AllocError, Global};
 
 const SECCOMP_MODE_FILTER: u32 = 2;

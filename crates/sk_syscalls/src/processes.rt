@@ -40,7 +40,7 @@ pub(crate) fn exit<S: ProcStore>(store: &mut S, pid: u32, call: &Record) -> Outc
     ensures rules { IsWorld (S.contents store.new) }
 {
     let status = exit_status(low(call, 0));
-    sk_session::end(store, pid, status);
+    sk_machine::end(store, pid, status);
     Outcome::Ended(status)
 }
 
@@ -59,5 +59,5 @@ pub(crate) fn kill<S: ProcStore>(store: &mut S, pid: u32, call: &Record) -> Outc
     ensures rules { IsWorld (S.contents store.new) }
 {
     let creds = caller(store, pid).body.creds;
-    returned(sk_delivery::kill(store, pid, creds, signed(call, 0), low(call, 1)))
+    returned(crate::kill(store, pid, creds, signed(call, 0), low(call, 1)))
 }

@@ -2,7 +2,7 @@
 
 ghost use Rattle.std.specs.Prelude.{◌≡◌, false, IsTrue, IfOk, OnOk, OnErr, Option, Some};
 ghost use Rattle.std.specs.Option.{is_some, option_map_or};
-ghost use Rattle.sk_creds.specs.Errno.{answer_of};
+ghost use Rattle.sk_world.specs.Errno.{answer_of};
 ghost use Rattle.sk_world.specs.World.{at};
 ghost use Rattle.sk_world.specs.Rules.{IsWorld};
 ghost use Rattle.sk_machine.specs.Arguments.{low, seccomp_operation_of};
@@ -16,11 +16,9 @@ ghost use Rattle.sk_syscalls.specs.views.Own.{reauthorised};
 use crate::attaching::attach;
 use crate::outcome::returned;
 use crate::own::{OwnCall, perform_own};
-use sk_chain::Action;
-use sk_creds::Errno;
-use sk_insn::Record;
+use sk_insn::{Action, Record};
 use sk_machine::{Images, Outcome, SeccompOperation, low, register};
-use sk_world::{Body, ProcStore};
+use sk_world::{Body, Errno, ProcStore};
 use std::alloc::{AllocError, Global};
 
 /// seccomp(2), by its operation.

@@ -2,18 +2,17 @@
 
 ghost use Rattle.std.specs.Prelude.{◌≡◌, ◌==◌};
 ghost use Rattle.std.specs.Result.{result_unwrap_or};
-ghost use Rattle.sk_creds.specs.Errno.{answer_of};
+ghost use Rattle.sk_world.specs.Errno.{answer_of};
 ghost use Rattle.sk_world.specs.declared.process.Waiting.TheVariants as waiting;
 ghost use Rattle.sk_machine.specs.declared.answer.Outcome.TheVariants.{Waits};
 ghost use Rattle.sk_machine.specs.Performed.{waiting_in};
 ghost use Rattle.sk_machine.specs.SignalCalls.{can_be_caught, disposition_in, after_sigaction, after_sigprocmask, after_sigreturn};
 
-use sk_creds::Errno;
 use sk_insn::Record;
 use sk_machine::{Outcome, low, register};
 use sk_signal::number::{SIGKILL, SIGSTOP};
 use sk_signal::{Disposition, SigSet, SigState};
-use sk_world::{Body, INIT, Waiting};
+use sk_world::{Body, Errno, INIT, Waiting};
 
 const SIG_BLOCK: u32 = 0;
 

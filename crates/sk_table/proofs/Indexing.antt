@@ -12,23 +12,12 @@ use Rattle.sk_world.specs.declared.process.Proc.{Proc}
 use Rattle.sk_world.specs.declared.process.Links.{Links}
 use Rattle.sk_world.specs.Processes.{Processes, none, get, store, count}
 use Rattle.sk_world.specs.Numbers.{has_number}
-use Rattle.sk_world.proofs.Maps.{get_store, same_map, count_put, equal_numbers}
+use Rattle.sk_world.proofs.Maps.{get_store, same_map, store_twice, count_put, equal_numbers}
 use Rattle.sk_numbers.specs.Pairs.{has_pair}
 use Rattle.sk_table.specs.Weights.{one, weight}
 use Rattle.sk_table.specs.Beside.{uses_in, IsRow, IsBeside}
 
 -- ---- the processes
-
--- what was taken out and put in again was only changed
-pub stored_again : (m : Processes) (k : ℕ) (p : Proc) → store (store m k None) k (Some p) ≡ store m k (Some p)
-stored_again m k p =
-    same_map _ _
-    (λ q. get_store (store m k None) k (Some p) q ∙ ap (cond (q == k) (Some p)) (get_store m k None q)
-    ∙ twice (q == k) (get m q) ∙ sym (get_store m k (Some p) q))
-  where
-    twice : (b : Bool) (o : Option Proc) → cond b (Some p) (cond b None o) ≡ cond b (Some p) o
-    twice true o = refl
-    twice false o = refl
 
 pub gone_here : (m : Processes) (k : ℕ) → get (store m k None) k ≡ None
 gone_here m k = get_store m k None k ∙ ap (λ b. cond b None (get m k)) (eq-eqb k k refl)
@@ -60,7 +49,7 @@ count_entered m k p free = count_put m k p ∙ ap (λ o. cond (is_some o) (count
 
 pub count_left : (m : Processes) (k : ℕ) (p : Proc) → get m k ≡ Some p → count (store m k None) + 1 ≡ count m
 count_left m k p is =
-    sym (count_entered (store m k None) k p (gone_here m k)) ∙ ap count (stored_again m k p ∙ put_back m k p is)
+    sym (count_entered (store m k None) k p (gone_here m k)) ∙ ap count (store_twice m k None (Some p) ∙ put_back m k p is)
 
 pub count_kept : (m : Processes) (k : ℕ) (p p' : Proc) → get m k ≡ Some p → count (store m k (Some p')) ≡ count m
 count_kept m k p p' is = count_put m k p' ∙ ap (λ o. cond (is_some o) (count m) (count m + 1)) is
@@ -84,11 +73,11 @@ uses_entered n m k p free = uses_put n k p m.entries free
 
 pub uses_left : (n : ℕ) (m : Processes) (k : ℕ) (p : Proc) → get m k ≡ Some p → weight n k p.links + uses_in n (store m k None).entries ≡ uses_in n m.entries
 uses_left n m k p is =
-    sym (uses_entered n (store m k None) k p (gone_here m k)) ∙ ap (λ (m : Processes). uses_in n m.entries) (stored_again m k p ∙ put_back m k p is)
+    sym (uses_entered n (store m k None) k p (gone_here m k)) ∙ ap (λ (m : Processes). uses_in n m.entries) (store_twice m k None (Some p) ∙ put_back m k p is)
 
 pub uses_kept : (n : ℕ) (m : Processes) (k : ℕ) (p p' : Proc) → get m k ≡ Some p → p'.links ≡ p.links → uses_in n (store m k (Some p')).entries ≡ uses_in n m.entries
 uses_kept n m k p p' is same =
-    ap (λ (m : Processes). uses_in n m.entries) (sym (stored_again m k p'))
+    ap (λ (m : Processes). uses_in n m.entries) (sym (store_twice m k None (Some p')))
     ∙ uses_entered n (store m k None) k p' (gone_here m k)
     ∙ ap (λ l. weight n k l + uses_in n (store m k None).entries) same
     ∙ uses_left n m k p is

@@ -13,29 +13,33 @@ use std::alloc::{AllocError, Global};
 
 /// What leads from the links of processes back to their pids, and to the numbers that they use.
 #[derive(Drop)]
-pub struct Index {
+pub(crate) struct Index {
     /// Each process's parent beside its pid.
-    pub children: PairRow,
+    pub(crate) children: PairRow,
     /// Each process's group beside its pid.
-    pub members: PairRow,
+    pub(crate) members: PairRow,
     /// How often each number is used.
-    pub uses: Uses,
+    pub(crate) uses: Uses,
 }
 
 impl Index {
     /// Of no process.
-    pub fn new(alloc: Global) -> Result<Index, AllocError>
+    #[tactic(auto, using(crate::proofs::Indexing::nothing_beside))]
+    pub(crate) fn new(alloc: Global) -> Result<Index, AllocError>
         ensures { IfOk result (λ index. IsBeside none index.children index.members index.uses) }
     {
+        let children = PairRow::new(alloc)?;
+        let members = PairRow::new(alloc)?;
+        let uses = Uses::new(alloc)?;
         Ok(Index {
-            children: PairRow::new(alloc)?,
-            members: PairRow::new(alloc)?,
-            uses: Uses::new(alloc)?,
+            children,
+            members,
+            uses,
         })
     }
 
     /// A process comes.
-    pub fn enter(&mut self, pid: u32, links: Links)
+    pub(crate) fn enter(&mut self, pid: u32, links: Links)
         requires pid { pid ≤ LAST_PID }
         requires within { IsTrue (is_within links) }
         requires free { (procs : Processes) × IsBeside procs self.old.children self.old.members self.old.uses
@@ -50,7 +54,7 @@ impl Index {
     }
 
     /// A process goes.
-    pub fn leave(&mut self, pid: u32, links: Links)
+    pub(crate) fn leave(&mut self, pid: u32, links: Links)
         requires { (procs : Processes) × (p : Proc) × IsBeside procs self.old.children self.old.members self.old.uses
             × (get procs pid ≡ Some p) × (p.links ≡ links) }
         ensures { (procs : Processes) (p : Proc) → p.links ≡ links → get procs pid ≡ Some p

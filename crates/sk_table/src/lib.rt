@@ -12,7 +12,6 @@ mod slot_store;
 mod uses;
 
 pub use first::first_process;
-pub use index::Index;
 pub use list_store::ListStore;
 pub use numbering::next_number;
 pub use sk_world::{

@@ -127,11 +127,14 @@ impl ProcStore for SlotStore {
     ghost contents = { λ store. store.world };
 
     fn new(alloc: Global) -> Result<Self, AllocError> {
+        let slots = Slab::with_capacity(alloc, PROCESSES)?;
+        let table = Vec::with_capacity(alloc, NUMBERS as usize)?;
+        let index = Index::new(alloc)?;
         let mut store = SlotStore {
-            slots: Slab::with_capacity(alloc, PROCESSES)?,
-            table: Vec::with_capacity(alloc, NUMBERS as usize)?,
+            slots,
+            table,
             present: NumberSet::empty(),
-            index: Index::new(alloc)?,
+            index,
             last: INIT,
         };
         store.put(INIT, first_process(alloc));

@@ -1,7 +1,7 @@
 //! Which verdict gets the line `else`: the one whose lines are the longest to read. Whichever it is, the lines are exact.
 use crate::lines::Line;
 use crate::term::Term;
-use sk_chain::sooner;
+use sk_filter::sooner;
 use std::alloc::{AllocError, Global};
 
 /// How long the lines of one verdict are to read.

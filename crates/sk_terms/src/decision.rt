@@ -103,7 +103,9 @@ fn asked_then(
             return fork(alloc, joined, held, Box::into_inner(failed.failed));
         }
     }
-    if same(&held, &failed.failed) {
+    let end: &Decision = &failed.failed;
+    let ends_as_held = same(&held, end);
+    if ends_as_held {
         if let Some(joined) = either(term, failed.term.negated()) {
             return fork(alloc, joined, held, Box::into_inner(failed.held));
         }
@@ -149,7 +151,9 @@ fn asked_both(
             return fork(alloc, joined, Box::into_inner(held.held), failed);
         }
     }
-    if same(&failed, &held.held) {
+    let beginning: &Decision = &held.held;
+    let begins_as_failed = same(&failed, beginning);
+    if begins_as_failed {
         if let Some(joined) = as_one(term, held.term.negated()) {
             return fork(alloc, joined, Box::into_inner(held.failed), failed);
         }

@@ -63,7 +63,9 @@ pub fn as_one(one: Term, other: Term) -> Option<Term>
 pub fn are_all(one: Term, other: Term) -> bool
     ensures all { IsTrue result → (call : Record) → (holds_term one call || holds_term other call) ≡ true }
 {
-    match both(one.negated(), other.negated()) {
+    let not_one = one.negated();
+    let not_other = other.negated();
+    match both(not_one, not_other) {
         Some(Joined::Never) => true,
         _ => false,
     }
@@ -73,7 +75,9 @@ pub fn are_all(one: Term, other: Term) -> bool
 pub fn either(one: Term, other: Term) -> Option<Term>
     ensures either { IfSome result (λ it. (call : Record) → holds_term it call ≡ (holds_term one call || holds_term other call)) }
 {
-    match both(one.negated(), other.negated()) {
+    let not_one = one.negated();
+    let not_other = other.negated();
+    match both(not_one, not_other) {
         Some(Joined::One(neither)) => Some(neither.negated()),
         _ => None,
     }

@@ -62,7 +62,8 @@ pub fn add_lines(
             let yes = with_other_term(alloc, &terms, *term)?;
             add_lines(alloc, held, yes, left_out, lines)?;
             let no = with_term(terms, term.negated())?;
-            add_lines(alloc, failed, no, left_out, lines)
+            let otherwise: &Decision = failed;
+            add_lines(alloc, otherwise, no, left_out, lines)
         }
     }
 }

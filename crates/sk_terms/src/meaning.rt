@@ -2,15 +2,15 @@
 ghost use Rattle.std.specs.Prelude.{◌≡◌, ℕ, ◌==◌, ◌*◌, ◌%◌, ◌/◌, ◌^◌, nat_le, nat_lt, bit_and, IfSome, IsSome, IsTrue, Some};
 ghost use Rattle.sk_insn.specs.declared.record.Record.{Record};
 ghost use Rattle.sk_insn.specs.Record.{word_of, IsNative};
-ghost use Rattle.sk_interp.specs.Meaning.{holds};
+ghost use Rattle.sk_filter.specs.Meaning.{holds};
 ghost use Rattle.sk_conditions.specs.Conditions.{holds_on};
 ghost use Rattle.sk_conditions.specs.Followed.{is_word};
 ghost use Rattle.sk_terms.specs.Terms.{says, half_of, register_of, register_at, holds_term, holds_meant};
 
 use crate::term::{Register, Term};
 use sk_conditions::Test;
+use sk_filter::holds;
 use sk_insn::{ARCHITECTURE, Comparison};
-use sk_interp::holds;
 
 /// What a comparison asks of some bits of a word.
 #[derive(Clone, Copy, Debug, PartialEq, Eq)]
@@ -131,12 +131,8 @@ fn on_high(register: Register, mask: u32, asked: Asked) -> Meant
     match asked {
         Asked::Always(answer) => Meant::Always(answer),
         Asked::Is(k) => Meant::Term(is(register, bits, upper(k))),
-        Asked::AtLeast(k) if mask == u32::MAX => Meant::Term(at_least(
-            register,
-            u64::MAX,
-            upper(k),
-        )),
-        Asked::AtLeast(k) => Meant::Term(at_least(register, bits, upper(k))),
+        Asked::AtLeast(k) if mask != u32::MAX => Meant::Term(at_least(register, bits, upper(k))),
+        Asked::AtLeast(k) => Meant::Term(at_least(register, u64::MAX, upper(k))),
         Asked::SomeOf(some) => Meant::Term(some_of(register, upper(mask & some))),
     }
 }

@@ -56,10 +56,11 @@ fn together(one: Line, other: Line, at: usize) -> Result<Line, AllocError>
 {
     let Line { value, mut choices } = one;
     let choice = choices.remove(at);
-    if cover_all(&choice.terms, &other.choices[at].terms) {
+    let others = other.choices[at].terms.as_slice();
+    if cover_all(&choice.terms, others) {
         return Ok(Line { value, choices });
     }
-    let both = with_terms(choice, &other.choices[at].terms)?;
+    let both = with_terms(choice, others)?;
     choices.insert(at, both)?;
     Ok(Line { value, choices })
 }
@@ -94,14 +95,16 @@ fn differing(one: &Line, other: &Line) -> Option<usize>
     if !same_value(one.value, other.value) {
         return None;
     }
-    let at = same_from_start(&one.choices, &other.choices);
-    if at >= one.choices.len() || at >= other.choices.len() {
+    let choices = one.choices.as_slice();
+    let others = other.choices.as_slice();
+    let at = same_from_start(choices, others);
+    if at >= choices.len().min(others.len()) {
         return None;
     }
-    if !is_short_with(one, &one.choices[at], &other.choices[at]) {
+    if !is_short_with(one, &choices[at], &others[at]) {
         return None;
     }
-    if same_choices(&one.choices[at + 1..], &other.choices[at + 1..]) {
+    if same_choices(&choices[at + 1..], &others[at + 1..]) {
         Some(at)
     } else {
         None

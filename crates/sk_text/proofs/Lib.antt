@@ -1,3 +1,4 @@
 pub mod Ascii
 pub mod Cuts
 pub mod Reading
+pub mod Clean

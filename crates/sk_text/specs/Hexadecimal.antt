@@ -1,5 +1,5 @@
 -- Hexadecimal digits, in input and in output.
-use Rattle.std.specs.Prelude.{◌≡◌, ℕ, ◌==◌, ◌||◌, Bool, not, List, filter, Option, Some, None, Result, Ok, Err}
+use Rattle.std.specs.Prelude.{◌≡◌, ℕ, ◌+◌, ◌==◌, ◌||◌, nat_lt, if◌then◌else◌, Bool, not, List, filter, Option, Some, None, Result, Ok, Err}
 use Rattle.std.specs.List.{concat}
 use Rattle.std.specs.Result.{result_ok}
 use Rattle.std.specs.Int.{to_be_bytes, w16, w32}
@@ -36,3 +36,7 @@ hex_word value = encode_lower (to_be_bytes w32 value)
 -- a number of 16 bits in 4 lower case digits
 unfoldable pub hex_half : ℕ → List ℕ
 hex_half value = encode_lower (to_be_bytes w16 value)
+
+-- a hexadecimal digit, in lower case
+abbrev pub digit_of : ℕ → ℕ
+digit_of n = if nat_lt n 10 then 48 + n else 87 + n

@@ -1,10 +1,11 @@
 //! Input texts as bytes: their lines and words, and the numbers, names and hexadecimal digits that
-//! a word may be; and the digits that an output text shows.
+//! a word may be; and lines of output, made in place, with the digits that they show.
 #![tactic(auto)]
 
 mod digits;
 mod examples;
 mod hexadecimal;
+mod in_place;
 mod lines;
 mod numbers;
 mod words;
@@ -12,7 +13,8 @@ mod words;
 pub use digits::{HexDigits, hex_half, hex_word};
 pub use examples::{example_cuts, example_digits, example_words};
 pub use hexadecimal::{HexFault, bytes_of, bytes_of_text};
-pub use lines::{Lines, Words, cut, is_passed_over, is_printable};
+pub use in_place::{Line, push_digit, push_long, push_number, push_signed};
+pub use lines::{Lines, Words, cut, is_clean, is_passed_over, is_printable};
 pub use numbers::{is_number, number_up_to};
 pub use words::{four_words, is_name, is_word, no_word, one_word, three_words, two_words};
 

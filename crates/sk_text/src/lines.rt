@@ -2,7 +2,7 @@
 ghost use Rattle.std.specs.Prelude.{◌≡◌, ◌==◌, ◌≤◌, ◌+◌, length, take, drop};
 ghost use Rattle.std.specs.Iterator.{YieldsFirstRef, item_count};
 ghost use Rattle.std.specs.List.{before_first, after_first, list_all, position_or_len};
-ghost use Rattle.sk_text.specs.Lines.{lines_of, words_of, is_printable_byte, begins_comment};
+ghost use Rattle.sk_text.specs.Lines.{lines_of, words_of, is_printable_byte, is_clean_byte, begins_comment};
 
 use memchr::memchr;
 
@@ -129,6 +129,19 @@ pub fn is_printable(line: &[u8]) -> bool
     let mut every = true;
     for byte in line {
         every &= matches!(*byte, 0x20..=0x7e);
+    }
+    every
+}
+
+/// Whether each byte of a text is printable or a line's end, so that all its lines are printable. A whole text is looked
+/// through many bytes at a time.
+#[tactic(auto, unfolding(crate::specs::Lines::is_printable_byte))]
+pub fn is_clean(text: &[u8]) -> bool
+    ensures every { result ≡ list_all is_clean_byte text.now }
+{
+    let mut every = true;
+    for byte in text {
+        every &= matches!(*byte, 0x20..=0x7e | b'\n');
     }
     every
 }

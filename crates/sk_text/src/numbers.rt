@@ -11,6 +11,7 @@ pub fn number_up_to(word: &[u8], most: u64) -> Option<u64>
     ensures bound { IfSome result (λ number. number ≤ most) }
 {
     let (digits, radix) = digits_of(word);
+    // Decimal digits by themselves, with the radix as a constant.
     if radix == 10 {
         return digits_up_to(digits, 10, most);
     }

@@ -1,3 +1,7 @@
 pub mod Elses
 pub mod Rows
 pub mod WorkedRows
+pub mod Everywhere
+pub mod Joined
+pub mod PartsTold
+pub mod WorkedDiffs

@@ -9,10 +9,10 @@ use Rattle.sk_survey_lines.specs.declared.line.Line.{Line}
 use Rattle.sk_survey_lines.specs.Lines.{row_of}
 use Rattle.sk_survey_lines.proofs.Holding.{one_more_holds}
 use Rattle.sk_when.specs.declared.row.Told.{Told}
-use Rattle.sk_when.specs.Telling.{IsToldAmong, row_told}
+use Rattle.sk_when.specs.Telling.{IsSurveyed, row_told}
 
 pub all_among : (programs : List (List Insn)) (from end : ℕ) (lines : List Line) → Tell programs from end (map row_of lines)
-    → All (λ line. IsToldAmong programs line.row) lines
+    → All (λ line. IsSurveyed programs line.row) lines
 all_among programs from end [] told k d less = absurd (omega arith)
 all_among programs from end (line ∷ lines) told zero d less = (told.1, told.3.among)
 all_among programs from end (line ∷ lines) told (suc k) d less = all_among programs (line.row.last + 1) end lines told.4 k d (omega arith)

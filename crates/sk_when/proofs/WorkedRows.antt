@@ -7,14 +7,14 @@ use Rattle.std.proofs.lemmas.Nat.{and_mask}
 use Rattle.sk_insn.specs.declared.record.Record.{Record}
 use Rattle.sk_insn.specs.Actions.{action_of}
 use Rattle.sk_insn.specs.Operations.{operation_of}
-use Rattle.sk_interp.specs.WorkedMeanings.{call_of}
+use Rattle.sk_filter.specs.WorkedMeanings.{call_of}
 use Rattle.sk_call_names.specs.X86_64.{name_of}
 use Rattle.sk_call_names.specs.declared.architecture.Architecture.{Architecture}
 use Rattle.sk_call_names.specs.declared.architecture.Architecture.TheVariants as architecture
 use Rattle.sk_call_names.specs.Names.{name_at, name_in, name_on, runs_of}
-use Rattle.sk_chain.specs.Verdict.{verdict_of}
-use Rattle.sk_verdict.specs.Errors.{error_named}
-use Rattle.sk_verdict.specs.Verdicts.{verdict_text}
+use Rattle.sk_filter.specs.Verdict.{verdict_of}
+use Rattle.sk_filter.specs.Errors.{error_named}
+use Rattle.sk_filter.specs.VerdictText.{verdict_text}
 use Rattle.sk_conditions.specs.Conditions.{holds_on}
 use Rattle.sk_conditions.specs.WorkedPaths as paths
 use Rattle.sk_conditions.specs.WorkedPaths.{compares_again}
@@ -33,7 +33,7 @@ use Rattle.sk_terms.proofs.Halves.{argument_low}
 use Rattle.sk_terms.proofs.WorkedLines.{line_met, met_terms, told_first}
 use Rattle.sk_when.specs.declared.row.Told.{Told}
 use Rattle.sk_when.specs.Lines.{IsTold, IsVerdict, or_else, told_of}
-use Rattle.sk_when.specs.Text.{ends_text, line_text, row_text, value_text}
+use Rattle.sk_when.specs.WhenText.{ends_text, line_text, row_text, value_text}
 use Rattle.sk_when.specs.WorkedRows.{Read, read, IsRow, is_seven, where_seven, RowsWork}
 
 -- the range from 7 to 7 is 7

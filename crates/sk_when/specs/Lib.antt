@@ -1,5 +1,9 @@
 pub mod Lines
-pub mod Text
+pub mod WhenText
 pub mod Telling
 pub mod Picture
 pub mod WorkedRows
+pub mod Diffs
+pub mod DiffText
+pub mod Pieces
+pub mod WorkedDiffs

@@ -2,7 +2,7 @@
 use Rattle.std.specs.Prelude.{ℕ, ◌≡◌, List, [], ◌∷◌, Option, Some, None}
 use Rattle.sk_insn.specs.declared.insn.Insn.{Insn}
 use Rattle.sk_insn.specs.declared.record.Record.{Record}
-use Rattle.sk_chain.specs.Verdict.{verdict_of}
+use Rattle.sk_filter.specs.Verdict.{verdict_of}
 use Rattle.sk_survey.specs.Answers.{IsAmong, IsCallOf, answers_of}
 use Rattle.sk_terms.specs.Lines.{told_by}
 use Rattle.sk_when.specs.declared.row.Told.{Told}

@@ -6,14 +6,14 @@ use Rattle.sk_insn.specs.declared.action.Action.TheVariants.{KillProcess, KillTh
 use Rattle.sk_insn.specs.declared.insn.Insn.{Insn}
 use Rattle.sk_insn.specs.declared.record.Record.{Record}
 use Rattle.sk_insn.specs.Actions.{action_of}
-use Rattle.sk_chain.specs.Verdict.{verdict_of}
+use Rattle.sk_filter.specs.Verdict.{verdict_of}
 use Rattle.sk_conditions.specs.Conditions.{Agrees}
 use Rattle.sk_survey.specs.Answers.{IsCallOf}
 use Rattle.sk_terms.specs.declared.decision.Decision.{Decision}
 use Rattle.sk_terms.specs.declared.decision.Decision.TheVariants.{Is, Untold, Ask'}
 use Rattle.sk_terms.specs.Decisions.{decided}
 use Rattle.sk_terms.specs.Text.{term_text}
-use Rattle.sk_verdict.specs.Verdicts.{verdict_text}
+use Rattle.sk_filter.specs.VerdictText.{verdict_text}
 
 -- green where the call runs, red where it kills, yellow where something else becomes of it
 abbrev pub colour_of : Action → List ℕ

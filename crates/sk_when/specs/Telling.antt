@@ -9,7 +9,7 @@ use Rattle.sk_survey.specs.Surveys.{Tell}
 use Rattle.sk_survey_lines.specs.Lines.{first_told, end_told, TellsNamedAlone}
 use Rattle.sk_when.specs.declared.row.Told.{Told}
 use Rattle.sk_when.specs.Lines.{IsTold}
-use Rattle.sk_when.specs.Text.{when_text}
+use Rattle.sk_when.specs.WhenText.{when_text}
 
 abbrev pub row_told : Told → Row
 row_told told = told.row
@@ -27,5 +27,5 @@ TellsWhen architecture call programs text =
     (rows : List Told) × AreTold architecture call programs rows × (text ≡ when_text architecture rows)
 
 -- a row of a survey has a number, and its verdicts are among those that it tells
-abbrev pub IsToldAmong : List (List Insn) → Row → Type 0
-IsToldAmong programs row = (row.first ≤ row.last) × ChainAnswersAmong programs row.first row.last (answers_of row.answers)
+abbrev pub IsSurveyed : List (List Insn) → Row → Type 0
+IsSurveyed programs row = (row.first ≤ row.last) × ChainAnswersAmong programs row.first row.last (answers_of row.answers)

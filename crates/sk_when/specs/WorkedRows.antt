@@ -10,7 +10,7 @@ use Rattle.sk_terms.specs.declared.term.Term.{Term}
 use Rattle.sk_terms.specs.WorkedLines.{terms_of}
 use Rattle.sk_when.specs.declared.row.Told.{Told}
 use Rattle.sk_when.specs.Lines.{IsTold, told_of}
-use Rattle.sk_when.specs.Text.{row_text}
+use Rattle.sk_when.specs.WhenText.{row_text}
 
 -- a line as it is read: its value, and the terms of its choices
 pub record Read : Type 0 where

@@ -1,12 +1,20 @@
-//! Under which conditions on a call each verdict comes, in expressions of C: what `ask when` answers.
+//! When a verdict comes, in expressions of C; and two chains of filters compared on every call: what `ask when` and `ask diff`
+//! write.
 #![tactic(auto)]
 
-mod engine;
+mod diff_engine;
+mod diff_text;
 pub mod laws;
+mod parts;
 mod picture;
+mod piece;
+mod pieces;
 mod row;
-mod text;
+mod showing;
+mod when_engine;
+mod when_text;
 
-pub use engine::when;
+pub use diff_engine::{Comparison, Standing, diff};
 pub use picture::dot;
-pub use row::{Told, tell};
+pub use sk_conditions::Relation;
+pub use when_engine::when;

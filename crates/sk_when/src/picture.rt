@@ -2,14 +2,13 @@
 ghost use Rattle.std.specs.Prelude.{◌≡◌, ◌++◌, IfOk, OnOk, string_bytes, codes};
 ghost use Rattle.sk_insn.specs.Actions.{action_of};
 ghost use Rattle.sk_terms.specs.Text.{term_text};
-ghost use Rattle.sk_verdict.specs.Verdicts.{verdict_text};
+ghost use Rattle.sk_filter.specs.VerdictText.{verdict_text};
 ghost use Rattle.sk_when.specs.Picture.{colour_of, next_node, node_after, fill_text, leaf_text, inner_text, edge_text, nodes_text, dot_text, IsPicture};
 
-use sk_chain::Chain;
 use sk_conditions::{Budget, Numbers, chain_tree};
+use sk_filter::{Chain, push_verdict};
 use sk_insn::Action;
 use sk_terms::{Decision, Term, decide, push_term};
-use sk_verdict::push_verdict;
 use std::alloc::{AllocError, Global};
 use std::fmt::Write;
 

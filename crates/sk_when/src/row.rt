@@ -3,8 +3,8 @@ ghost use Rattle.std.specs.Prelude.{◌≡◌, ◌≤◌, [], ◌∷◌, IfOk, I
 ghost use Rattle.sk_survey.specs.Answers.{ChainAnswersAmong, answers_of};
 ghost use Rattle.sk_when.specs.Lines.{IsTold};
 
-use sk_chain::Chain;
 use sk_conditions::{Budget, Numbers, chain_tree};
+use sk_filter::Chain;
 use sk_survey::{Answers, Row};
 use sk_terms::{LeftOut, Line, decide, heaviest, lines_of};
 use std::alloc::{AllocError, Global};

@@ -2,7 +2,7 @@
 use Rattle.std.proofs.Common.{◌≡◌, ◌∙◌, ◌<◌, ◌≤◌, ℕ, ap, sym, cond, ◌&&◌, nat_lt, nat_le, IsTrue, Some, Ok, Err}
 use Rattle.std.specs.Option.{is_some, option_map_or}
 use Rattle.std.proofs.lemmas.Bool.{lt-ltb, le-ltb, le-leb, and_parts, and_from}
-use Rattle.sk_creds.specs.declared.errno.Errno.TheVariants.{Eagain}
+use Rattle.sk_world.specs.declared.errno.Errno.TheVariants.{Eagain}
 use Rattle.sk_world.specs.declared.process.TheConstants.{LAST_PID, PROCESSES}
 use Rattle.sk_world.specs.declared.process.Proc.{Proc}
 use Rattle.sk_world.specs.Processes.{count}

@@ -1,3 +1,4 @@
+pub mod WorkedIds
 pub mod Maps
 pub mod Fresh
 pub mod Children

@@ -36,6 +36,17 @@ pub same_map : (m n : Processes) → ((q : ℕ) → get m q ≡ get n q) → m �
 same_map m n is =
     same_processes m n (same_entries nat_cmp nat_cmp_total nat_cmp-IsAntisymmetric m.entries n.entries m.rising n.rising is)
 
+shadowed : {A : Type 0} (b : Bool) (x y z : A) → cond b x (cond b y z) ≡ cond b x z
+shadowed true x y z = refl
+shadowed false x y z = refl
+
+-- the later of two changes of one pid stands
+pub store_twice : (m : Processes) (k : ℕ) (o later : Option Proc) → store (store m k o) k later ≡ store m k later
+store_twice m k o later =
+    same_map _ _
+    (λ q. get_store (store m k o) k later q ∙ ap (cond (q == k) later) (get_store m k o q)
+    ∙ shadowed (q == k) later o (get m q) ∙ sym (get_store m k later q))
+
 -- an entry more
 each_more : (f : ℕ → Proc → Option Proc) (k : ℕ) (p : Proc) (q : ℕ) (rest : Option Proc)
     → cond (q == k) (f k p) (option_and_then (f q) rest) ≡ option_and_then (f q) (cond (q == k) (Some p) rest)

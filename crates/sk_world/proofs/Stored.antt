@@ -10,7 +10,7 @@ use Rattle.sk_world.specs.Processes.{count, store}
 use Rattle.sk_world.specs.World.{World, at, has_ended, has_stopped, is_zombie, is_alive, is_halted, parent_of, stored, body_changed, changed, links_changed}
 use Rattle.sk_world.specs.Rules.{IsWorld, is_init, has_links_within}
 use Rattle.sk_world.specs.laws.WorldLaws.{KeepsGoing, Regroups, ChangeKeepsRules, LinksKeepRules, RemovalKeepsRules}
-use Rattle.sk_world.proofs.Maps.{get_store, count_put, count_gone}
+use Rattle.sk_world.proofs.Maps.{get_store, store_twice, count_put, count_gone}
 
 -- what holds of the process that is put at a pid, and of every other, holds of each
 pub everywhere : (w : World) (pid : ℕ) (o : Option Proc) (P : ℕ → Option Proc → Type 0)
@@ -26,6 +26,22 @@ at_here w pid o = get_store w.procs pid o pid ∙ ap (λ b. cond b o (at w pid))
 
 pub at_other : (w : World) (pid : ℕ) (o : Option Proc) (q : ℕ) → q ≢ pid → at (stored w pid o) q ≡ at w q
 at_other w pid o q ne = get_store w.procs pid o q ∙ ap (λ b. cond b o (at w q)) (ne_eqb q pid ne)
+
+-- the later of two changes of one process stands
+pub stored_twice : (w : World) (pid : ℕ) (o later : Option Proc) → stored (stored w pid o) pid later ≡ stored w pid later
+stored_twice w pid o later = λ i. record { procs = store_twice w.procs pid o later i; last = w.last }
+
+both : (f g : Body → Body) (o : Option Proc) → option_map (body_changed g) (option_map (body_changed f) o) ≡ option_map (body_changed (λ body. g (f body))) o
+both f g None = refl
+both f g (Some p) = refl
+
+-- two changes of one body are one
+pub changed_twice : (w : World) (pid : ℕ) (f g : Body → Body) → changed (changed w pid f) pid g ≡ changed w pid (λ body. g (f body))
+changed_twice w pid f g =
+    let once : Option Proc = option_map (body_changed f) (at w pid) in
+    ap (λ o. stored (stored w pid once) pid (option_map (body_changed g) o)) (at_here w pid once)
+    ∙ stored_twice w pid once (option_map (body_changed g) once)
+    ∙ ap (stored w pid) (both f g (at w pid))
 
 pub fewer : (b : Bool) (n : ℕ) → cond b (n - 1) n ≤ n
 fewer true n = omega arith

@@ -39,7 +39,7 @@ abbrev pub has_zombie_child : World → ℕ → Bool
 has_zombie_child w pid = list_any (λ k. is_child_of pid (at w k) && is_zombie (at w k)) (pids w.procs)
 
 -- the children of a process are handed on, and each zombie among them that has not gone is announced to the new
--- parent: once for all, since a signal that is pending is not queued (sk_world_laws, EachZombieIsAnnounced)
+-- parent: once for all, since a signal that is pending is not queued (sk_machine_laws, EachZombieIsAnnounced)
 abbrev pub reparented : World → ℕ → World
 reparented w pid =
     if has_zombie_child w pid && not (ignores_children (at w (new_parent w pid)))

@@ -1,8 +1,8 @@
 -- How a process is forked: fork(2).
 use Rattle.std.specs.Prelude.{ℕ, ◌==◌, Bool, false, not, nat_lt, if◌then◌else◌, length, Option, Result, Ok, Err}
 use Rattle.std.specs.Option.{option_map_or}
-use Rattle.sk_creds.specs.declared.errno.Errno.{Errno}
-use Rattle.sk_creds.specs.declared.errno.Errno.TheVariants.{Eagain}
+use Rattle.sk_world.specs.declared.errno.Errno.{Errno}
+use Rattle.sk_world.specs.declared.errno.Errno.TheVariants.{Eagain}
 use Rattle.sk_signal.specs.Signalling.{forked as signals_forked}
 use Rattle.sk_world.specs.declared.process.TheConstants.{PROCESSES}
 use Rattle.sk_world.specs.declared.process.Life.TheVariants.{Running}

@@ -1,3 +1,6 @@
+pub mod Errno
+pub mod Creds
+pub mod laws
 pub mod Processes
 pub mod World
 pub mod Rules
@@ -8,4 +11,3 @@ pub mod Subreapers
 pub mod Ending
 pub mod Waits
 pub mod views
-pub mod laws

@@ -1,5 +1,5 @@
 -- The world, what can be asked about a process of it, and the words that its changes are made of.
-use Rattle.std.specs.Prelude.{ℕ, ◌≡◌, ◌<◌, ◌==◌, Bool, true, false, not, IsTrue, Option, None, Some}
+use Rattle.std.specs.Prelude.{ℕ, ◌≡◌, ◌<◌, ◌==◌, Bool, true, false, not, IsTrue, [], Option, None, Some}
 use Rattle.std.specs.Option.{option_map, option_map_or}
 use Rattle.sk_signal.specs.Signalling.{opening as no_signal}
 use Rattle.sk_world.specs.declared.process.TheConstants.{INIT}
@@ -11,7 +11,6 @@ use Rattle.sk_world.specs.declared.process.Links.{Links}
 use Rattle.sk_world.specs.declared.process.Body.{Body}
 use Rattle.sk_world.specs.declared.process.Proc.{Proc}
 use Rattle.sk_world.specs.Processes.{Processes, none, get, store}
-use Rattle.std.specs.Prelude.{[]}
 
 -- every process, zombies too, and the last pid that fork(2) has given
 pub record World : Type 0 where
@@ -34,7 +33,7 @@ has_stopped (Zombie status) = false
 has_stopped Stopped = true
 has_stopped Running = false
 
--- what is asked about the process of a pid is answered with no where there is none
+-- a process is there, and has ended; here and below the answer is no where there is none
 abbrev pub is_zombie : Option Proc → Bool
 is_zombie o = option_map_or (λ p. has_ended p.body.life) o false
 

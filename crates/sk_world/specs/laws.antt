@@ -1,2 +1,3 @@
+pub mod WorkedIds
 pub mod WaitLaws
 pub mod WorldLaws

@@ -1,4 +1,4 @@
-//! What is asked about a process by its pid.
+//! What is asked about a process: by its pid, and whether a wait4(2) asks for it.
 ghost use Rattle.std.specs.Prelude.{◌≡◌};
 ghost use Rattle.sk_world.specs.World.{at, is_alive, is_stopped, is_zombie, parent_of};
 ghost use Rattle.sk_world.specs.Waits.{is_asked_for};

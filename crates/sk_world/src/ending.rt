@@ -79,6 +79,7 @@ pub fn reparent<S: ProcStore>(store: &mut S, pid: u32)
     hand_on_and_announce(store, pid);
 }
 
+// By itself, so that the proof of the rules rests on its contract alone.
 fn hand_on_and_announce<S: ProcStore>(store: &mut S, pid: u32)
     requires { IsWorld (S.contents store.old) }
     ensures { S.contents store.new ≡ reparented (S.contents store.old) pid }

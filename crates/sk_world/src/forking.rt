@@ -4,9 +4,9 @@ ghost use Rattle.sk_world.specs.World.{at, is_alive};
 ghost use Rattle.sk_world.specs.Rules.{IsWorld};
 ghost use Rattle.sk_world.specs.Forking.{fork_answer, forked, has_room, has_filters};
 
+use crate::Errno;
 use crate::process::PROCESSES;
 use crate::store::ProcStore;
-use sk_creds::Errno;
 use std::alloc::AllocError;
 
 /// Forks a process: fork(2). The child shares the filters. The contract lets a refusal through only where there is

@@ -1,9 +1,11 @@
-//! Processes, the world that they make up with the rules of fork(2), kill(2), exit(2) and wait(2) on
-//! it, the trait of a store that keeps them, and the functions that follow those rules over any store.
+//! Processes with their user ids, the errors of calls, the world that processes make up with the rules of fork(2), kill(2),
+//! exit(2) and wait(2) on it, the trait of a store that keeps them, and the functions that follow those rules over any store.
 #![tactic(auto)]
 
 mod asking;
+mod creds;
 mod ending;
+mod errno;
 mod forking;
 pub mod laws;
 mod process;
@@ -14,7 +16,9 @@ mod subreapers;
 mod waiting;
 
 pub use asking::{is_alive, is_asked_for, is_stopped, is_zombie, parent_of};
+pub use creds::{Creds, NO_ID};
 pub use ending::{end, reparent};
+pub use errno::Errno;
 pub use forking::fork;
 pub use process::{Body, INIT, LAST_PID, Life, Links, Note, PROCESSES, Proc, Waiting};
 pub use request::{Poll, Request, WaitOptions, Who};

@@ -1,9 +1,9 @@
 //! Processes, with their links and their bodies, and how many there are at most.
 ghost use Rattle.std.specs.Prelude.{◌≡◌};
 
+use crate::Creds;
 use crate::request::Request;
-use sk_chain::Chain;
-use sk_creds::Creds;
+use sk_filter::Chain;
 use sk_signal::SigState;
 
 /// The process that the system starts with.

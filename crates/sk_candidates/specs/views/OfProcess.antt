@@ -13,14 +13,14 @@ use Rattle.sk_machine.specs.Delivering.{signal_for, is_waiting}
 
 -- of one that runs, by whether it waits in a call and whether a signal is due
 abbrev pub running_reason : Bool → Bool → Event → Option Reason
-running_reason waits due (Call pid ip nr args) = if waits then Some Waiting else if due then Some SignalFirst else None
+running_reason waits due (Call pid ip call) = if waits then Some Waiting else if due then Some SignalFirst else None
 running_reason waits due (Deliver pid) = if due then None else Some NothingWaits
 running_reason waits due (Resume pid) = if not waits then Some NothingWaits else if due then Some SignalFirst else None
 running_reason waits due (Fault pid) = if waits then Some Waiting else if due then Some SignalFirst else None
 
 -- of one that is stopped, by whether SIGKILL is due
 abbrev pub stopped_reason : Bool → Event → Option Reason
-stopped_reason due (Call pid ip nr args) = Some Stopped
+stopped_reason due (Call pid ip call) = Some Stopped
 stopped_reason due (Deliver pid) = if due then None else Some Stopped
 stopped_reason due (Resume pid) = Some Stopped
 stopped_reason due (Fault pid) = Some Stopped

@@ -2,9 +2,9 @@
 use crate::deliveries::world::{ROOT, catch, deliver, pending_bits, wait4};
 use crate::sessions::world::lead_group;
 use crate::world::{after_forks, life, waiting};
-use sk_delivery::kill;
 use sk_machine::{Effect, Outcome};
 use sk_signal::number::{SIGCHLD, SIGKILL, SIGSTOP, SIGTERM, SIGTSTP, SIGUSR1};
+use sk_syscalls::kill;
 use sk_table::{INIT, Life, ListStore, Waiting};
 use std::test::Fail;
 

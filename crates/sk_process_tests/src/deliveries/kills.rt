@@ -4,9 +4,9 @@ ghost use Rattle.sk_world.specs.Rules.{IsWorld};
 use crate::deliveries::world::{ROOT, USER, pending_bits};
 use crate::sessions::world::{end, lead_group};
 use crate::world::{after_forks, forks_of};
-use sk_creds::{Creds, Errno};
-use sk_delivery::kill;
+use sk_syscalls::kill;
 use sk_table::{INIT, ListStore};
+use sk_world::{Creds, Errno};
 use std::process::Abort;
 use std::test::Fail;
 

@@ -5,11 +5,11 @@ ghost use Rattle.sk_signal.specs.declared.number.TheConstants.{SIGKILL, SIGSTOP}
 ghost use Rattle.sk_world.specs.Rules.{IsWorld};
 
 use crate::world::{assert_alive, pending, waiting};
-use sk_creds::Creds;
 use sk_insn::Record;
 use sk_machine::{Effect, Outcome};
 use sk_signal::{Disposition, SigSet};
 use sk_table::{Body, ListStore, ProcStore};
+use sk_world::Creds;
 use std::process::Abort;
 
 /// The ids of the superuser.
@@ -42,7 +42,7 @@ pub(crate) fn wait4(
     assert!(rt; store.get(caller).is_some());
     let pid = u64::from(argument.cast_unsigned());
     let call = Record::native(61, 0, [pid, 0, u64::from(options), 0, 0, 0]);
-    sk_delivery::wait4(store, caller, &call)
+    sk_syscalls::wait4(store, caller, &call)
 }
 
 /// A process that waits asks again.
@@ -53,7 +53,7 @@ pub(crate) fn resume(rt: &impl Abort, store: &mut ListStore, pid: u32) -> Outcom
     match waiting(store, pid) {
         Some(waiting) => {
             assert!(rt; store.get(pid).is_some());
-            sk_delivery::resume(store, pid, waiting)
+            sk_syscalls::resume(store, pid, waiting)
         }
         None => {
             assert!(rt; false);
@@ -69,7 +69,7 @@ pub(crate) fn deliver(rt: &impl Abort, store: &mut ListStore, pid: u32, signal: 
     ensures { IsWorld store.new }
 {
     assert_alive(rt, store, pid);
-    sk_delivery::deliver(store, pid, signal)
+    sk_syscalls::deliver(store, pid, signal)
 }
 
 /// Has a process catch a signal with the handler 7.

@@ -3,7 +3,7 @@ ghost use Rattle.sk_world.specs.Rules.{IsWorld};
 
 use crate::sessions::world::{end, is_hung_up, setpgid, setsid};
 use crate::world::{after_forks, forks_of, life, note, parent, stop};
-use sk_session::orphaned;
+use sk_machine::orphaned;
 use sk_signal::number::SIGTSTP;
 use sk_table::{INIT, Life, ListStore, Note};
 use std::process::Abort;

@@ -3,8 +3,8 @@ ghost use Rattle.sk_world.specs.Rules.{IsWorld};
 
 use crate::sessions::world::{end, execute, group_and_session, setpgid, setsid};
 use crate::world::after_forks;
-use sk_creds::Errno;
 use sk_table::{INIT, ListStore};
+use sk_world::Errno;
 use std::process::Abort;
 use std::test::Fail;
 

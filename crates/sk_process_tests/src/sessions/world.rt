@@ -3,9 +3,9 @@ ghost use Rattle.std.specs.Prelude.{◌≡◌};
 ghost use Rattle.sk_world.specs.Rules.{IsWorld};
 
 use crate::world::{assert_alive, pending};
-use sk_creds::Errno;
 use sk_signal::number::SIGHUP;
 use sk_table::{Body, ListStore, ProcStore};
+use sk_world::Errno;
 use std::process::Abort;
 
 /// setpgid of a process that is there.
@@ -20,7 +20,7 @@ pub(crate) fn setpgid<S: ProcStore>(
     ensures { IsWorld (S.contents store.new) }
 {
     assert!(rt; store.get(caller).is_some());
-    sk_session::setpgid(store, caller, pid, group)
+    sk_machine::setpgid(store, caller, pid, group)
 }
 
 /// Puts a process that is there into a group of its own.
@@ -37,7 +37,7 @@ pub(crate) fn setsid(rt: &impl Abort, store: &mut ListStore, caller: u32) -> Res
     ensures { IsWorld store.new }
 {
     assert!(rt; store.get(caller).is_some());
-    sk_session::setsid(store, caller)
+    sk_machine::setsid(store, caller)
 }
 
 /// The group and the session that getpgid and getsid of a process that is there tell.
@@ -51,8 +51,8 @@ pub(crate) fn group_and_session(
 {
     assert!(rt; store.get(caller).is_some());
     (
-        sk_session::getpgid(store, caller, pid),
-        sk_session::getsid(store, caller, pid),
+        sk_machine::getpgid(store, caller, pid),
+        sk_machine::getsid(store, caller, pid),
     )
 }
 
@@ -62,7 +62,7 @@ pub(crate) fn end(rt: &impl Abort, store: &mut ListStore, pid: u32, status: u32)
     ensures { IsWorld store.new }
 {
     assert_alive(rt, store, pid);
-    sk_session::end(store, pid, status);
+    sk_machine::end(store, pid, status);
 }
 
 /// Lets a process count as one that has called execve since it was forked.

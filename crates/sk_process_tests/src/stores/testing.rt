@@ -4,13 +4,13 @@ ghost use Rattle.std.specs.Prelude.{◌≡◌};
 ghost use Rattle.sk_world.specs.Rules.{IsWorld};
 
 use crate::world::assert_alive;
-use sk_creds::Errno;
 use sk_signal::number::SIGCHLD;
 use sk_signal::{Disposition, SigSet};
 use sk_table::{
     Body, INIT, LAST_PID, Life, Links, PROCESSES, Poll, ProcStore, Request, WaitOptions, Who,
     first_process, fork, reap, reparent, wait_poll,
 };
+use sk_world::Errno;
 use std::alloc::{AllocError, Global};
 use std::process::Abort;
 

@@ -1,13 +1,13 @@
 -- Scenarios that were worked out by hand, and their reports.
-use Rattle.std.specs.Prelude.{ℕ, ◌≡◌, ◌-◌, ◌^◌, ◌++◌, true, false, List, [], ◌∷◌, codes, map, replicate, Some, None}
+use Rattle.std.specs.Prelude.{ℕ, ◌≡◌, ◌-◌, ◌^◌, ◌++◌, true, false, List, [], ◌∷◌, codes, map, Some, None}
 use Rattle.sk_insn.specs.Instructions.{image_of}
 use Rattle.sk_asm.specs.Grammar.{insn}
 use Rattle.sk_calls.specs.declared.syscall.Syscall.{Syscall}
 use Rattle.sk_calls.specs.declared.syscall.Syscall.TheVariants as syscall
 use Rattle.sk_calls.specs.Syscalls.{number_of}
-use Rattle.sk_setting.specs.declared.call.ScriptCall.{ScriptCall}
-use Rattle.sk_setting.specs.Scenario.{Setting}
-use Rattle.sk_setting.specs.laws.WorkedScenarios.{setting_with, script, attaching_setting}
+use Rattle.sk_scenario.specs.declared.call.ScriptCall.{ScriptCall}
+use Rattle.sk_scenario.specs.Scenario.{Setting}
+use Rattle.sk_scenario.specs.laws.WorkedScenarios.{call, none, setting_with, script, attaching_setting}
 use Rattle.sk_report.specs.declared.turn.Turn.TheVariants as turn
 use Rattle.sk_report.specs.Text.{turn_text}
 use Rattle.sk_report.specs.Report.{report_of}
@@ -18,10 +18,10 @@ Reports setting lines = map turn_text ((report_of setting).turns ++ turn.End (re
 
 -- a call with these two, and with these three, registers
 abbrev pub with2 : Syscall → ℕ → ℕ → ScriptCall
-with2 name a b = record { nr = number_of name; args = a ∷ b ∷ 0 ∷ 0 ∷ 0 ∷ 0 ∷ []; script = None }
+with2 name a b = call (number_of name) (a ∷ b ∷ 0 ∷ 0 ∷ 0 ∷ 0 ∷ []) None
 
 abbrev pub with3 : Syscall → ℕ → ℕ → ℕ → ScriptCall
-with3 name a b c = record { nr = number_of name; args = a ∷ b ∷ c ∷ 0 ∷ 0 ∷ 0 ∷ []; script = None }
+with3 name a b c = call (number_of name) (a ∷ b ∷ c ∷ 0 ∷ 0 ∷ 0 ∷ []) None
 
 -- a call with one register, and with none
 abbrev pub with1 : Syscall → ℕ → ScriptCall
@@ -32,7 +32,7 @@ plain name = with2 name 0 0
 
 -- `fork NAME`, by the program's number
 abbrev pub fork_to : ℕ → ScriptCall
-fork_to program = record { nr = number_of syscall.Fork; args = replicate 6 0; script = Some program }
+fork_to program = call (number_of syscall.Fork) none (Some program)
 
 -- the image of a filter that gives this value for the calls of one number, and allows all others
 abbrev pub for_number : ℕ → ℕ → List ℕ
@@ -183,7 +183,7 @@ ReportsStop = Reports (setting_with [] (
 
 -- a call that has no name
 abbrev pub ReportsNumber : Type 0
-ReportsNumber = Reports (setting_with [] (script (record { nr = 999; args = 1 ∷ 0 ∷ 0 ∷ 0 ∷ 0 ∷ 0 ∷ []; script = None } ∷ []) ∷ [])) (
+ReportsNumber = Reports (setting_with [] (script (call 999 (1 ∷ 0 ∷ 0 ∷ 0 ∷ 0 ∷ 0 ∷ []) None ∷ []) ∷ [])) (
     codes "1 1 call 999 allow/0 -38"
     ∷ codes "2 1 call exit_group allow/0 ended 0x0000"
     ∷ codes "end halt 0x0000"

@@ -15,15 +15,15 @@ use Rattle.sk_scenario.specs.declared.line.ProgramLine.TheVariants as program
 use Rattle.std.specs.declared.hash.FoldHasher.{FoldHasher}
 use Rattle.std.specs.declared.hash.BuildHasherDefault.{BuildHasherDefault}
 use Rattle.indexmap.specs.IndexMap.{IndexMap}
-use Rattle.sk_setting.specs.declared.call.ScriptCall.{ScriptCall}
-use Rattle.sk_setting.specs.declared.call.Named.{Named}
-use Rattle.sk_setting.specs.declared.call.Named.TheVariants as named
+use Rattle.sk_scenario.specs.declared.call.ScriptCall.{ScriptCall}
+use Rattle.sk_scenario.specs.declared.call.Named.{Named}
+use Rattle.sk_scenario.specs.declared.call.Named.TheVariants as named
 use Rattle.sk_scenario.specs.declared.state.Done.{Done}
 use Rattle.sk_scenario.specs.declared.state.Block.{Block}
 use Rattle.sk_scenario.specs.declared.state.Block.TheVariants as block
-use Rattle.sk_setting.specs.Scenario.{Script, Names}
-use Rattle.sk_setting.specs.Reading.{Gained, Open, Nothing, Undecided, Bytes, Code, Calls}
-use Rattle.sk_setting.specs.Grammar.{Heading, Alone, Opens, Silent, Turns, Subreapers, Filter, Program, Argument, Plain, NumberOf, HandlerOf, Asked}
+use Rattle.sk_scenario.specs.Scenario.{Script, Names}
+use Rattle.sk_scenario.specs.Reading.{Gained, Open, Nothing, Undecided, Bytes, Code, Calls}
+use Rattle.sk_scenario.specs.Grammar.{Heading, Alone, Opens, Silent, Turns, Subreapers, Filter, Program, Argument, Plain, NumberOf, HandlerOf, Asked}
 
 abbrev pub heading : TopLine → Heading
 heading top.Silent = Alone Silent

@@ -1,7 +1,7 @@
 -- The outcome of a call by what the function that performs it answers.
 use Rattle.std.specs.Prelude.{ℕ, pos, neg_ℤ, Result, Ok, Err}
-use Rattle.sk_creds.specs.declared.errno.Errno.{Errno}
-use Rattle.sk_creds.specs.Errno.{number_of}
+use Rattle.sk_world.specs.declared.errno.Errno.{Errno}
+use Rattle.sk_world.specs.Errno.{number_of}
 use Rattle.sk_machine.specs.declared.answer.Outcome.{Outcome}
 use Rattle.sk_machine.specs.declared.answer.Outcome.TheVariants.{Returned}
 

@@ -1,12 +1,11 @@
 -- How a world is stored.
-use Rattle.std.specs.Prelude.{◌≡◌, ℕ, List, refl}
+use Rattle.std.specs.Prelude.{◌≡◌, ℕ, List, T, refl}
 use Rattle.std.specs.Ordering.{nat_cmp}
 use Rattle.std.specs.FinMap.Entries.{is_sorted}
 use Rattle.std.specs.Coded.{Coded, code_by, coded×, coded_list, coded_ℕ}
 use base.Stored.{coded_via}
 use mathlib.Core.HLevel.{Σ_prop_path}
 use lib.Dec.{T_prop}
-use Rattle.std.specs.Prelude.{T}
 use Rattle.sk_world.specs.contracts.process.Proc.{the_row}
 use Rattle.sk_world.specs.declared.process.Proc.{Proc}
 use Rattle.sk_world.specs.Processes.{Processes}

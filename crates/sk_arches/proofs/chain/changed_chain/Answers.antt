@@ -1,5 +1,5 @@
 use Rattle.std.proofs.Common.{subst, sym, arith}
-use Rattle.sk_chain.specs.Chains.{IsWithinLimit}
+use Rattle.sk_filter.specs.Chains.{IsWithinLimit}
 use Rattle.sk_arches.proofs.Chains.{cost_with}
 use Rattle.sk_arches.proofs.chain.changed_chain.Goals as goal
 

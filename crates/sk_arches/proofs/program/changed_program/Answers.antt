@@ -1,5 +1,5 @@
 use Rattle.std.proofs.Common.{subst, sym}
-use Rattle.sk_check.specs.Valid.{IsValid}
+use Rattle.sk_filter.specs.Valid.{IsValid}
 use Rattle.sk_arches.proofs.Valid.{still_valid_with}
 use Rattle.sk_arches.proofs.program.changed_program.Goals as goal
 

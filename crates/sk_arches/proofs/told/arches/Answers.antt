@@ -7,11 +7,12 @@ use Rattle.sk_arches.proofs.told.arches.Goals as goal
 
 pub returns : goal.returns
 returns c =
-    let programs = c.args.chain.now in record {
+    let programs = c.args.chain.now in
+    let all_named = c.as_slice-named.ensures.value ∙ c.in_ok-numbers.ensures.all in record {
       told = record {
         answered = c.in_ok-all.ensures.each;
         other = c.in_ok-other.ensures.other;
-        i386 = subst (λ named. AreAlike programs (chain_for (audit_of architecture.I386) programs) 0 named c.in_ok-i386.i386) (c.deref.ensures.value ∙ c.in_ok-named.ensures.all) c.in_ok-i386.ensures.alike;
-        x32 = subst (λ named. AreAlike programs (chain_for (audit_of architecture.X32) programs) 0x40000000 named c.in_ok-x32.x32) (c.deref-2.ensures.value ∙ c.in_ok-named.ensures.all) c.in_ok-x32.ensures.alike;
+        i386 = subst (λ named. AreAlike programs (chain_for (audit_of architecture.I386) programs) 0 named c.in_ok-i386.i386) all_named c.in_ok-i386.ensures.alike;
+        x32 = subst (λ named. AreAlike programs (chain_for (audit_of architecture.X32) programs) 0x40000000 named c.in_ok-x32.x32) all_named c.in_ok-x32.ensures.alike;
       };
     }

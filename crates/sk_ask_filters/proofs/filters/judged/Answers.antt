@@ -3,9 +3,8 @@ use Rattle.sk_ask_filters.specs.Finding.{filters_of}
 use Rattle.sk_ask_filters.specs.Given.{ArePlaced}
 use Rattle.sk_ask_filters.proofs.filters.judged.Goals as goal
 
-pub returns-in-Err-2-clause-given : goal.returns-in-Err-2-clause-given
-returns-in-Err-2-clause-given c =
+pub returns-in-Ok-clause-given : goal.returns-in-Ok-clause-given
+returns-in-Ok-clause-given c =
     let all = c.in_ok-found.ensures.given in
     let placed : ArePlaced (length c.args.images.now) (filters_of c.in-Ok.found) = rw c.in-Ok.is at all in
-    let given = c.in_ok-chain.ensures.given (length c.args.images.now) placed in
-    rw c.in-Err-2.is at given
+    c.attached.ensures.given (length c.args.images.now) placed

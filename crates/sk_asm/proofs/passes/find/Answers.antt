@@ -14,9 +14,9 @@ loop-line-init c =
     let lines = length-lines_in c.args.is_block c.args.text.now in
     record {
       few = omega (arith, ap length same, lines);
-      so_far = rw (c.new.ensures.empty, same) refl;
+      so_far = rw (c.new-found.ensures.labels, same) refl;
       clean = rw same c.clean_bytes-clean.ensures.lines;
-      so_many = found-start _ _ _ _ _ _ c.new-2.ensures.items (ap jumps_in c.new-3.ensures.items) refl same;
+      so_many = found-start _ _ _ _ _ _ c.new-found.ensures.insns (ap jumps_in c.new-found.ensures.jumps) refl same;
     }
 
 pub returns-in_err-begun : goal.returns-in_err-begun

@@ -2,8 +2,8 @@ use Rattle.std.proofs.Common.{◌≡◌, ◌<◌, ◌≤◌, ℕ, Option, None}
 use Rattle.std.specs.Prelude.{IfSome}
 use Rattle.std.specs.List.{All}
 use Rattle.sk_insn.specs.declared.record.Record.{Record}
-use Rattle.sk_chain.specs.Choosing.{chosen_of}
-use Rattle.sk_chain.specs.Verdict.{values_of}
+use Rattle.sk_filter.specs.Choosing.{chosen_of}
+use Rattle.sk_filter.specs.Verdict.{values_of}
 use Rattle.sk_survey.specs.Answers.{IsCallOf}
 use Rattle.sk_conditions.specs.Followed.{AreFollowed, TellsAll}
 use Rattle.sk_conditions.specs.Following.{IsFirstTold}

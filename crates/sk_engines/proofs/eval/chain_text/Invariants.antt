@@ -1,6 +1,6 @@
 use Rattle.std.proofs.Common.{◌≡◌, ◌++◌, flat_map, string_bytes}
-use Rattle.sk_interp.specs.Meaning.{meaning_of}
-use Rattle.sk_chain.specs.Verdict.{values_of}
+use Rattle.sk_filter.specs.Meaning.{meaning_of}
+use Rattle.sk_filter.specs.Verdict.{values_of}
 use Rattle.sk_engines.specs.EvalCommand.{meaning_line}
 use Rattle.sk_engines.proofs.eval.chain_text.Given as goal
 

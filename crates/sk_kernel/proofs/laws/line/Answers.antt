@@ -15,11 +15,12 @@ loop-left-preserved c =
     let line : Line = line_of (history_of c.args.events.now c.args.answers.now) c.args.pid in
     let known = subst (λ n. with_calls (reverse c.loop-left.calls.items) (line_of (history_of (take n c.args.events.now) (take n c.args.answers.now)) c.loop-left.root) ≡ line)
     (omega (arith, c.loop-left-test.true)) before.line in
-    let event : Event = get_or c.args.events.now back (Call 0 0 0 []) in
+    let none : Event = Call 0 0 (record { nr = 0; args = [] }) in
+    let event : Event = get_or c.args.events.now back none in
     record {
       within = omega (arith, before.within);
       line = (λ i. with_calls (reverse ((rw c.in_ok-add.was at c.add.ensures) i)) (line_of (history_of (take back c.args.events.now) (take back c.args.answers.now)) ((c.line_before-root.ensures ∙ ap (λ a. line_before c.loop-left.root (event, a)) c.index-answers-left.is) i)))
-          ∙ line_back c.args.events.now c.args.answers.now back (Call 0 0 0 []) answer c.loop-left.root c.loop-left.calls.items c.call_added.result line
+          ∙ line_back c.args.events.now c.args.answers.now back none answer c.loop-left.root c.loop-left.calls.items c.call_added.result line
           (omega (arith, before.within, c.loop-left-test.true)) (omega (arith, before.within, c.loop-left-test.true, c.requires.answered))
           (c.call_added.ensures ∙ ap (λ a. calls_added c.loop-left.root (event, a)) c.index-answers-left.is) known;
     }

@@ -23,5 +23,5 @@ returns-in_err-filter-clause-long c =
       rows = found;
       says = c.in_ok-before.ensures.says;
       few = c.in_ok-before.ensures.few;
-      long = subst (λ (rows : List Row). IsOverlong (filter_code c.args.profile.now.bad) found.before rows) c.deref-2.ensures.value (c.in_err-filter.ensures.long is);
+      long = subst (λ (rows : List Row). IsOverlong (filter_code c.args.profile.now.bad) found.before rows) c.deref.ensures.value (c.in_err-filter.ensures.long is);
     })

@@ -15,7 +15,7 @@ pub loop-rule-preserved : goal.loop-rule-preserved
 loop-rule-preserved c =
     let length = c.in-Some.ensures.cases.1 in
     let whole = c.loop-rule.invariant.place in record {
-      left = drop_more c.loop-rule.place c.args.rules.now _ c.in-Some.rule.now (sym c.loop-rule.invariant.left ∙ c.in-Some.ensures.cases.0);
+      left = drop_more c.loop-rule.place c.args.profile.now.rules.items _ c.in-Some.rule.now (sym c.loop-rule.invariant.left ∙ c.in-Some.ensures.cases.0);
       place = omega (arith, length, whole);
       good = one_good _ _ _ c.in-Some.rule.now c.in-Some.ensures.cases.0 (sym c.if-not-is_good.ensures.good) c.loop-rule.invariant.good;
     }

@@ -5,9 +5,9 @@ use Rattle.sk_profile.proofs.judge.wrong_rule.Given as goal
 
 abbrev pub invariant-loop-rule : goal.invariant-loop-rule
 invariant-loop-rule l = record {
-  left : l.left ≡ drop l.place l.rules;
-  place : l.place + length l.left ≡ length l.rules;
-  good : All IsGood l.left → All IsGood l.rules;
+  left : l.left ≡ drop l.place l.profile.rules.items;
+  place : l.place + length l.left ≡ length l.profile.rules.items;
+  good : All IsGood l.left → All IsGood l.profile.rules.items;
 }
 
 abbrev pub decreases-loop-rule : goal.decreases-loop-rule

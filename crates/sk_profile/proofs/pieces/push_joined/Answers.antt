@@ -15,14 +15,13 @@ returns c =
         code = joined_code c.args.code.now.items _ choice (length others) (length-map others asked_for)
             (grind (
               arith,
-              c.in_ok-push-4.ensures.items,
-              c.in_ok-push_lows.ensures.code,
-              c.in_ok-push-3.ensures.items,
-              c.in_ok-push-2.ensures.items,
               c.in_ok-push.ensures.items,
-              c.load.ensures.insn,
-              c.branch-high.ensures.insn,
-              c.load-2.ensures.insn,
+              c.in_ok-push_lows.ensures.code,
+              c.in_ok-extend_from_slice.ensures.items,
+              c.in_ok-extend_from_slice.was,
+              c.load-load_high.ensures.insn,
+              c.branch-is_high.ensures.insn,
+              c.load-load_low.ensures.insn,
               c.answer.ensures.insn,
             ));
         has = joined_arms first.index first.value _ first.number others c.requires.like;

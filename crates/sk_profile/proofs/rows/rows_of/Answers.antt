@@ -13,36 +13,25 @@ pub returns-clause-says : goal.returns-clause-says
 returns-clause-says c = λ nr fits.
     let p = profile_of c.args.profile.now in
     let bad = c.args.profile.now.bad in
-    let first =
-    c.in_ok-say_from-2.ensures.says nr ∙ ap (λ (said : Saying). if nat_le 1024 nr then said else said_at c.loop-nr.rows nr) c.without_rules.ensures.saying in
-    let second =
-    c.in_ok-say_from-3.ensures.says nr
-    ∙ ap (λ (said : Saying). if nat_le 0x40000000 nr then said else said_at c.say_from-2.new.rows nr) c.plain.ensures.saying
-    ∙ ap (λ (said : Saying). if nat_le 0x40000000 nr then always bad else said) first in
-    let third =
-    c.in_ok-say_from-4.ensures.says nr
-    ∙ ap (λ (said : Saying). if nat_le 0x80000000 nr then said else said_at c.say_from-3.new.rows nr) c.without_rules-2.ensures.saying
-    ∙ ap (λ (said : Saying). if nat_le 0x80000000 nr then always (if is_unknown p 0x80000000 then no_call else bad) else said) second in
-    let fourth =
-    c.in_ok-say_from-5.ensures.says nr
-    ∙ ap (λ (said : Saying). if nat_le 0xc0000000 nr then said else said_at c.say_from-4.new.rows nr) c.plain-2.ensures.saying
-    ∙ ap (λ (said : Saying). if nat_le 0xc0000000 nr then always bad else said) third in
-    let fifth =
-    c.in_ok-say_from-6.ensures.says nr
-    ∙ ap (λ (said : Saying). if nat_le 0xffffffff nr then said else said_at c.say_from-5.new.rows nr) c.without_rules-3.ensures.saying
-    ∙ ap (λ (said : Saying). if nat_le 0xffffffff nr then always (if is_unknown p 0xffffffff then no_call else c.args.profile.now.default) else said) fourth in
-    fifth
+    let default = c.args.profile.now.default in
+    let to_no_x32_bit = c.in_ok-to_no_x32_bit.ensures.says nr ∙ ap (λ (said : Saying). if nat_le 0x40000000 nr then always bad else said) (c.in_ok-to_x32.ensures.says nr) in
+    let to_x32_bit_again =
+    c.in_ok-to_x32_bit_again.ensures.says nr
+    ∙ ap (λ (said : Saying). if nat_le 0x80000000 nr then always (if is_unknown p 0x80000000 then no_call else bad) else said) to_no_x32_bit in
+    let to_past_x32 = c.in_ok-to_past_x32.ensures.says nr ∙ ap (λ (said : Saying). if nat_le 0xc0000000 nr then always bad else said) to_x32_bit_again in
+    let to_end = c.in_ok-unruled_from.ensures.says nr ∙ ap (λ (said : Saying). if nat_le 0xffffffff nr then always (if is_unknown p 0xffffffff then no_call else default) else said) to_past_x32 in
+    to_end
     ∙ all_said c.args.profile.now (said_at c.loop-nr.rows) nr c.requires.good (λ below. c.loop-nr.invariant.says nr (omega (arith, below, c.loop-nr-test.false))) fits
 
 pub loop-nr-preserved : goal.loop-nr-preserved
 loop-nr-preserved c =
     let right = saying_for (profile_of c.args.profile.now) in
     let clear : AreClear (right c.loop-nr.nr).arms = subst (λ (said : Saying). AreClear said.arms) c.in_ok-said.ensures.saying c.in_ok-said.ensures.clear in record {
-      start = c.in_ok-say_from.ensures.start;
-      says = says_more (said_at c.say_from.new.rows) (said_at c.loop-nr.rows) right c.loop-nr.nr (saying_of c.in_ok-said.said) c.in_ok-say_from.ensures.says c.in_ok-said.ensures.saying c.loop-nr.invariant.says;
+      start = c.in_ok-rows.ensures.start;
+      says = says_more (said_at c.in_ok-rows.rows) (said_at c.loop-nr.rows) right c.loop-nr.nr (saying_of c.in_ok-said.said) c.in_ok-rows.ensures.says c.in_ok-said.ensures.saying c.loop-nr.invariant.says;
       clear = holds_more (λ nr. AreClear (right nr).arms) c.loop-nr.nr clear c.loop-nr.invariant.clear;
-      few = omega (arith, c.loop-nr.invariant.few, c.in_ok-say_from.ensures.few);
-      good = c.in_ok-say_from.ensures.rows c.loop-nr.invariant.good;
+      few = omega (arith, c.loop-nr.invariant.few, c.in_ok-rows.ensures.few);
+      good = c.in_ok-rows.ensures.rows c.loop-nr.invariant.good;
     }
 
 pub returns-clause-clear : goal.returns-clause-clear

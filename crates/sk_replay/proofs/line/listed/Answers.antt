@@ -21,17 +21,12 @@ pub loop-words-preserved : goal.loop-words-preserved
 loop-words-preserved c =
     comma_turn _ _ _ _ _ _ c.in_ok-next.ensures.steps (sym c.ends_with.ensures.value ∙ c.loop-words-test.true) c.loop-words.invariant _ _ c.in_ok-given.ensures.argument c.in_ok-push.ensures.pushed
 
-pub returns-in_err-given-2 : goal.returns-in_err-given-2
-returns-in_err-given-2 c = record {
-  all = rw c.from_residual-in_err-given-2.ensures (sym (last_none _ _ _ _ (sym c.ends_with.ensures.value ∙ c.loop-words-test.false) c.loop-words.invariant c.in_err-given-2.ensures.last));
-}
-
-pub returns-in_err-push-2 : goal.returns-in_err-push-2
-returns-in_err-push-2 c = record {
-  all = rw c.from_residual-in_err-push-2.ensures (sym (last_given _ _ _ _ (sym c.ends_with.ensures.value ∙ c.loop-words-test.false) c.loop-words.invariant _ _ c.in_ok-given-2.ensures.last c.in_err-push-2.ensures.pushed));
+pub returns-in_err-last : goal.returns-in_err-last
+returns-in_err-last c = record {
+  all = rw c.from_residual-in_err-last.ensures (sym (last_none _ _ _ _ (sym c.ends_with.ensures.value ∙ c.loop-words-test.false) c.loop-words.invariant c.in_err-last.ensures.last));
 }
 
 pub returns : goal.returns
 returns c = record {
-  all = sym (last_given _ _ _ _ (sym c.ends_with.ensures.value ∙ c.loop-words-test.false) c.loop-words.invariant _ _ c.in_ok-given-2.ensures.last c.in_ok-push-2.ensures.pushed);
+  all = sym (last_given _ _ _ _ (sym c.ends_with.ensures.value ∙ c.loop-words-test.false) c.loop-words.invariant _ _ c.in_ok-last.ensures.last c.with_last.ensures.all);
 }

@@ -3,7 +3,7 @@ use Rattle.std.proofs.lemmas.Result.{err_from_is_err_and}
 use Rattle.sk_text.specs.Lines.{lines_of}
 use Rattle.sk_asm.specs.Block.{until_end}
 use Rattle.sk_asm.specs.Passes.{assembled_lines}
-use Rattle.sk_setting.specs.Reading.{held, coded}
+use Rattle.sk_scenario.specs.Reading.{held, coded}
 use Rattle.sk_scenario.specs.views.ScenarioCode.{known_seen}
 use Rattle.sk_scenario.proofs.Coding.{coded_by}
 use Rattle.sk_scenario.proofs.filters.code_image.Goals as goal

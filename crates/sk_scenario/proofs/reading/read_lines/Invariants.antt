@@ -1,7 +1,7 @@
 use Rattle.std.proofs.Common.{◌≡◌, ◌≤◌, ◌+◌, IsTrue, length}
 use Rattle.std.specs.List.{list_all}
 use Rattle.sk_text.specs.Lines.{lines_of, is_printable_byte}
-use Rattle.sk_setting.specs.Reading.{reading, nothing_yet, Nothing}
+use Rattle.sk_scenario.specs.Reading.{reading, nothing_yet, Nothing}
 use Rattle.sk_scenario.specs.views.ScenarioCode.{gained, known_seen, block_seen}
 use Rattle.sk_scenario.proofs.reading.read_lines.Given as goal
 

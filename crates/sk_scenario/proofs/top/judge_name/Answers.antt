@@ -1,6 +1,6 @@
 use Rattle.std.proofs.Common.{◌∙◌, sym, refl}
 use Rattle.std.proofs.lemmas.Bool.{le-ltb}
-use Rattle.sk_setting.specs.Reading.{given}
+use Rattle.sk_scenario.specs.Reading.{given}
 use Rattle.sk_scenario.proofs.Entries.{named_in_entries}
 use Rattle.sk_scenario.proofs.top.judge_name.Goals as goal
 

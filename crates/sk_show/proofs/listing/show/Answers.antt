@@ -1,6 +1,6 @@
 use Rattle.std.proofs.Common.{length, inl, inr}
 use Rattle.std.proofs.lemmas.Bool.{cases_lt}
-use Rattle.sk_check.specs.declared.fault.CheckFault.TheVariants.{TooLong}
+use Rattle.sk_filter.specs.declared.fault.CheckFault.TheVariants.{TooLong}
 use Rattle.sk_show.proofs.listing.show.Goals as goal
 
 -- a valid program is not too long

@@ -1,6 +1,6 @@
 use Rattle.std.proofs.Common.{◌≡◌, ◌+◌, ◌++◌, length, string_bytes, vec_len}
 use Rattle.std.specs.List.{All}
-use Rattle.sk_listing.specs.RoundTrip.{IsInRange}
+use Rattle.sk_asm.specs.RoundTrip.{IsInRange}
 use Rattle.sk_show.specs.Holding.{ways_from}
 use Rattle.sk_show.specs.Showing.{lines_from, show_text, text_of}
 use Rattle.sk_show.proofs.listing.shown.Given as goal

@@ -1,6 +1,6 @@
 use Rattle.std.proofs.Common.{◌≡◌, ◌==◌, inl, inr, Some, get_or, refl, subst, sym, ap, ◌∙◌, eq-eqb}
 use Rattle.std.specs.Option.{option_eq}
-use Rattle.sk_chain.specs.Choosing.{chosen}
+use Rattle.sk_filter.specs.Choosing.{chosen}
 use Rattle.sk_survey.specs.Answers.{IsOneOf}
 use Rattle.std.proofs.lemmas.Option.{slice_get-get_or}
 use Rattle.sk_survey.proofs.Merging.{one_of_more, same_option, only_added}

@@ -1,5 +1,5 @@
 use Rattle.std.proofs.Common.{◌≡◌, ℕ, ◌⊎◌, Some, take}
-use Rattle.sk_chain.specs.Choosing.{chosen}
+use Rattle.sk_filter.specs.Choosing.{chosen}
 use Rattle.sk_survey.specs.Answers.{IsOneOf, IsRising}
 use Rattle.sk_survey.proofs.merge.add_coming.Given as goal
 

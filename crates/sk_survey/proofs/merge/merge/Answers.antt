@@ -10,8 +10,8 @@ pub returns-clause-first : goal.returns-clause-first
 returns-clause-first c =
     let newer = c.args.newer.now in
     let older = c.args.older.now in
-    let some : length newer ≢ 0 = eqb-false (length newer) 0 (sym c.is_empty.ensures ∙ c.if-is_empty.false) in
-    let some' : length older ≢ 0 = eqb-false (length older) 0 (sym c.is_empty-else-is_empty.ensures ∙ c.if-is_empty-2.false) in
+    let some : length newer ≢ 0 = eqb-false (length newer) 0 (sym c.is_empty-none_newer.ensures ∙ c.if-none_newer.false) in
+    let some' : length older ≢ 0 = eqb-false (length older) 0 (sym c.is_empty-none_older.ensures ∙ c.if-none_older.false) in
     let i = length newer - 1 in
     let j = length older - 1 in
     first_among newer older c.add_coming.new.values.items i j (get_or newer i 0) (get_or older j 0)
@@ -25,8 +25,8 @@ returns-clause-only c =
     λ value is.
     let newer = c.args.newer.now in
     let older = c.args.older.now in
-    let some : length newer ≢ 0 = eqb-false (length newer) 0 (sym c.is_empty.ensures ∙ c.if-is_empty.false) in
-    let some' : length older ≢ 0 = eqb-false (length older) 0 (sym c.is_empty-else-is_empty.ensures ∙ c.if-is_empty-2.false) in
+    let some : length newer ≢ 0 = eqb-false (length newer) 0 (sym c.is_empty-none_newer.ensures ∙ c.if-none_newer.false) in
+    let some' : length older ≢ 0 = eqb-false (length older) 0 (sym c.is_empty-none_older.ensures ∙ c.if-none_older.false) in
     let i = length newer - 1 in
     let j = length older - 1 in
     let latest = one_at newer i (get_or newer i 0) (slice_get-get_or newer i 0 (omega arith)) in

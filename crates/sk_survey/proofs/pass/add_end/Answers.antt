@@ -1,5 +1,5 @@
 use Rattle.std.proofs.Common.{◌≡◌, ◌⊎◌, inl, inr, subst, sym}
-use Rattle.sk_interp.specs.Meaning.{Ends}
+use Rattle.sk_filter.specs.Meaning.{Ends}
 use Rattle.sk_survey.specs.Answers.{IsAmong, answers_of}
 use Rattle.sk_survey.specs.Following.{Leads, TellsEnd}
 use Rattle.sk_survey.proofs.pass.add_end.Goals as goal

@@ -1,7 +1,7 @@
 use Rattle.std.proofs.Common.{◌≡◌, ◌≢◌, ◌+◌, ◌≤◌, ◌<◌, None, Some, length, slice_get, slice_index_or, length-set, set, inl, inr, refl, ap, ◌∙◌, sym, subst, arith}
 use Rattle.std.proofs.lemmas.Option.{slice_get-get_or}
 use Rattle.sk_insn.specs.declared.insn.Insn.{Insn}
-use Rattle.sk_check.proofs.ValidPrograms.{valid_count, valid_fits, valid_leads}
+use Rattle.sk_filter.proofs.ValidPrograms.{valid_count, valid_fits, valid_leads}
 use Rattle.std.proofs.lemmas.Bool.{cases_eq, cases_lt}
 use Rattle.sk_survey.specs.Answers.{IsCallOf, IsOneOf, IsRising, answers_of}
 use Rattle.sk_survey.specs.Following.{IsUnknown, led, zeros}

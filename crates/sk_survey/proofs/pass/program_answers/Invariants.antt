@@ -3,7 +3,7 @@ use Rattle.sk_insn.specs.declared.record.Record.{Record}
 use Rattle.sk_insn.specs.Record.{IsNative}
 use Rattle.sk_survey.specs.Answers.{answers_of, IsAmong, AreRising, IsCallOf}
 use Rattle.sk_survey.specs.Ends.{MayEnd}
-use Rattle.sk_interp.specs.Meaning.{Returned, meaning_of}
+use Rattle.sk_filter.specs.Meaning.{Returned, meaning_of}
 use Rattle.sk_survey.specs.Following.{IsUnknown}
 use Rattle.sk_survey.specs.Settling.{without_arguments}
 use Rattle.sk_survey.proofs.Settling.{IsSettled, AreCome}

@@ -1,5 +1,5 @@
 use Rattle.std.proofs.Common.{◌≡◌, ◌+◌, ◌-◌, length, drop, Some, arith, subst, ap, ◌∙◌}
-use Rattle.sk_chain.specs.Verdict.{values_of}
+use Rattle.sk_filter.specs.Verdict.{values_of}
 use Rattle.sk_survey_lines.specs.Runs.{EndsAt}
 use Rattle.sk_survey_lines.proofs.Newer.{IsNotBefore, is_at, is_within, passed, all_passed, answers_at, nor_here, none_answers}
 use Rattle.sk_survey_lines.proofs.example.answering.Goals as goal

@@ -1,5 +1,5 @@
 use Rattle.std.proofs.Common.{length, drop, ◌≡◌, ◌-◌, ◌≤◌}
-use Rattle.sk_chain.specs.Verdict.{values_of}
+use Rattle.sk_filter.specs.Verdict.{values_of}
 use Rattle.sk_survey_lines.proofs.Newer.{IsNotBefore}
 use Rattle.sk_survey_lines.proofs.example.answering.Given as goal
 

@@ -1,5 +1,5 @@
 use Rattle.std.proofs.Common.{◌≡◌, ◌++◌, take, codes, flat_map, string_bytes}
-use Rattle.sk_verdict.specs.Verdicts.{verdict_text}
+use Rattle.sk_filter.specs.VerdictText.{verdict_text}
 use Rattle.sk_survey_lines.proofs.text.push_others.Given as goal
 
 abbrev pub invariant-loop-value : goal.invariant-loop-value

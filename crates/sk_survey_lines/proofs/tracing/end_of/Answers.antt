@@ -1,6 +1,6 @@
 use Rattle.std.proofs.Common.{suc, refl, subst, ap, ◌∙◌}
-use Rattle.sk_check.specs.Valid.{IsValid}
-use Rattle.sk_check.proofs.ValidPrograms.{valid_count}
+use Rattle.sk_filter.specs.Valid.{IsValid}
+use Rattle.sk_filter.proofs.ValidPrograms.{valid_count}
 use Rattle.sk_survey_lines.specs.Runs.{EndsAt}
 use Rattle.sk_survey_lines.specs.Tracing.{state_of, effect_of}
 use Rattle.sk_survey_lines.proofs.Runs.{insn_at, is_there, takes_constant, stays_inside, comes_further, never_stuck}

@@ -1,4 +1,4 @@
-use Rattle.sk_check.specs.Valid.{IsValid}
+use Rattle.sk_filter.specs.Valid.{IsValid}
 use Rattle.sk_survey_lines.proofs.Runs.{takes_constant}
 use Rattle.sk_survey_lines.proofs.tracing.push_turns.Goals as goal
 

@@ -1,4 +1,4 @@
-use Rattle.sk_session.specs.Sessions.{after_setpgid}
+use Rattle.sk_machine.specs.Sessions.{after_setpgid}
 use Rattle.sk_machine.specs.Arguments.{signed}
 use Rattle.sk_syscalls.proofs.Registers.{handed_on}
 use Rattle.sk_syscalls.proofs.Rows.{has_changed}
@@ -9,5 +9,5 @@ returns-clause-performed g c =
     let w = g.S.ProcStore.contents c.args.store.now in
     let call = c.args.call.now in
     has_changed w c.args.pid 0 (after_setpgid w c.args.pid (signed call 0) (signed call 1)) _ _ _ _
-    (λ i. after_setpgid w c.args.pid (handed_on call 0 c.signed.result c.signed.ensures i) (handed_on call 1 c.signed-2.result c.signed-2.ensures i))
+    (λ i. after_setpgid w c.args.pid (handed_on call 0 c.signed-process.result c.signed-process.ensures i) (handed_on call 1 c.signed-group.result c.signed-group.ensures i))
     c.setpgid.ensures.answer c.setpgid.ensures.world c.returned.ensures

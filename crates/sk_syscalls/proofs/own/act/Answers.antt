@@ -1,5 +1,5 @@
 use Rattle.std.proofs.Common.{◌==◌, not}
-use Rattle.sk_creds.specs.Creds.{after_setuid, after_setresuid}
+use Rattle.sk_world.specs.Creds.{after_setuid, after_setresuid}
 use Rattle.sk_machine.specs.Arguments.{register, low}
 use Rattle.sk_machine.specs.Authority.{after_no_new_privs, after_set_seccomp, after_set_mode_filter}
 use Rattle.sk_machine.specs.SignalCalls.{after_sigaction, after_sigprocmask, after_sigreturn}

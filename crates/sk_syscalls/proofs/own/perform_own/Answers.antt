@@ -4,7 +4,7 @@ use Rattle.sk_world.specs.declared.process.Body.{Body}
 use Rattle.sk_world.specs.World.{World, with_body}
 use Rattle.sk_syscalls.specs.Rows.{ComesTo}
 use Rattle.sk_syscalls.specs.views.Own.{own_row}
-use Rattle.sk_delivery.proofs.Taking.{kept_alike}
+use Rattle.sk_syscalls.proofs.Taking.{kept_alike}
 use Rattle.sk_syscalls.proofs.Rows.{put_back}
 use Rattle.sk_syscalls.proofs.own.perform_own.Goals as goal
 

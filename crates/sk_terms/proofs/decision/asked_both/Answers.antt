@@ -13,4 +13,4 @@ returns-in-Some-as_one-clause-decided c =
     ∙ parted_unless (holds_term c.args.term call) (holds_term c.args.held.term call) (holds_term c.in-Some-as_one.joined call)
     (decided c.args.held.held.value call) (decided c.args.held.failed.value call) (decided c.args.failed call)
     (c.in-Some-as_one.ensures.both call ∙ ap (λ b. holds_term c.args.term call && b) (c.negated.ensures.negated call))
-    (c.if-same-2.ensures.same refl call ∙ ap (λ tree. decided tree call) c.deref-2.ensures)) c.fork-in-Some-as_one.ensures.decided
+    (c.same-begins_as_failed.ensures.same c.if-begins_as_failed.true call ∙ ap (λ tree. decided tree call) c.deref-beginning.ensures)) c.fork-in-Some-as_one.ensures.decided

@@ -13,4 +13,4 @@ returns-in-Some-either-clause-decided c =
     ∙ parted_else (holds_term c.args.term call) (holds_term c.args.failed.term call) (holds_term c.in-Some-either.joined call)
     (decided c.args.failed.held.value call) (decided c.args.failed.failed.value call) (decided c.args.held call)
     (c.in-Some-either.ensures.either call ∙ ap (λ b. holds_term c.args.term call || b) (c.negated.ensures.negated call))
-    (c.if-same-2.ensures.same refl call ∙ ap (λ tree. decided tree call) c.deref-2.ensures)) c.fork-in-Some-either.ensures.decided
+    (c.same-ends_as_held.ensures.same c.if-ends_as_held.true call ∙ ap (λ tree. decided tree call) c.deref-end.ensures)) c.fork-in-Some-either.ensures.decided

@@ -8,6 +8,6 @@ returns-in-Some-Never c = record {
   all = λ _ call.
       or_from_neither (holds_term c.args.one call) (holds_term c.args.other call)
       ((rw c.in-Some-Never.field-0-is at c.in-Some-Never.ensures.both) call
-      ∙ ap (λ b. b && holds_term c.negated-2.result call) (c.negated.ensures.negated call)
-      ∙ ap (λ b. not (holds_term c.args.one call) && b) (c.negated-2.ensures.negated call));
+      ∙ ap (λ b. b && holds_term c.negated-not_other.result call) (c.negated-not_one.ensures.negated call)
+      ∙ ap (λ b. not (holds_term c.args.one call) && b) (c.negated-not_other.ensures.negated call));
 }

@@ -6,9 +6,9 @@ use Rattle.sk_terms.proofs.joining.either.Goals as goal
 pub returns-in-Some-One : goal.returns-in-Some-One
 returns-in-Some-One c = record {
   either = λ call.
-      c.negated-in-Some-One.ensures.negated call
+      c.negated.ensures.negated call
       ∙ ap not ((rw c.in-Some-One.field-0-is at c.in-Some-One.ensures.both) call
-      ∙ ap (λ b. b && holds_term c.negated-2.result call) (c.negated.ensures.negated call)
-      ∙ ap (λ b. not (holds_term c.args.one call) && b) (c.negated-2.ensures.negated call))
+      ∙ ap (λ b. b && holds_term c.negated-not_other.result call) (c.negated-not_one.ensures.negated call)
+      ∙ ap (λ b. not (holds_term c.args.one call) && b) (c.negated-not_other.ensures.negated call))
       ∙ not_neither (holds_term c.args.one call) (holds_term c.args.other call);
 }

@@ -15,7 +15,7 @@ returns-in_ok-no-in-Ask t c = record {
       (c.in_ok-add_lines-in-Ask.ensures.told call
       ∙ ap (λ tree. told_by c.args.lines.now.items call ++ (if meets_clause c.in_ok-yes-in-Ask.yes call then shown c.args.left_out (decided tree call) else [])) c.deref-in-Ask.ensures)
       (h call
-      ∙ ap (λ tree. told_by c.add_lines.new.lines.items call ++ (if meets_clause c.in_ok-no-in-Ask.no call then shown c.args.left_out (decided tree call) else [])) c.deref-in-Ask-2.ensures)
+      ∙ ap (λ tree. told_by c.add_lines.new.lines.items call ++ (if meets_clause c.in_ok-no-in-Ask.no call then shown c.args.left_out (decided tree call) else [])) c.deref-otherwise.ensures)
       (c.in_ok-yes-in-Ask.ensures.meets call ∙ ap (λ terms. meets_all terms call && holds_term c.in-Ask.term call) c.deref.ensures.value)
       (c.in_ok-no-in-Ask.ensures.meets call ∙ ap (λ b. meets_all c.in-All.terms.items call && b) (c.negated.ensures.negated call))
       ∙ ap (λ tree. told_by c.args.lines.now.items call ++ (if meets_all c.in-All.terms.items call then shown c.args.left_out (decided tree call) else [])) (sym c.in-Ask.is)

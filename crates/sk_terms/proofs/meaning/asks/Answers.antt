@@ -1,5 +1,5 @@
 use Rattle.std.proofs.Common.{bit_and, ap, ◌∙◌}
-use Rattle.sk_interp.specs.Meaning.{holds}
+use Rattle.sk_filter.specs.Meaning.{holds}
 use Rattle.sk_terms.proofs.Masks.{no_such_bits, no_bits}
 use Rattle.sk_terms.proofs.meaning.asks.Goals as goal
 

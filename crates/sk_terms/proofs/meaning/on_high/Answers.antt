@@ -12,13 +12,13 @@ returns-in-Is c = record {
       ∙ sym (c.is.ensures.holds call);
 }
 
-pub returns-in-AtLeast-2 : goal.returns-in-AtLeast-2
-returns-in-AtLeast-2 c = record {
+pub returns-in-AtLeast : goal.returns-in-AtLeast
+returns-in-AtLeast c = record {
   meant = λ call.
       let r = register_of c.args.register call in
-      ap (λ a. says a (bit_and (r / 2 ^ 32 % 2 ^ 32) c.args.mask)) c.in-AtLeast-2.is
-      ∙ high_at_least r c.args.mask c.in-AtLeast-2.k _ _ c.ranges.mask.fits c.upper-bits.ensures.upper c.upper-in-AtLeast-2.ensures.upper
-      ∙ sym (c.at_least-in-AtLeast-2.ensures.holds call);
+      ap (λ a. says a (bit_and (r / 2 ^ 32 % 2 ^ 32) c.args.mask)) c.in-AtLeast.is
+      ∙ high_at_least r c.args.mask c.in-AtLeast.k _ _ c.ranges.mask.fits c.upper-bits.ensures.upper c.upper-in-AtLeast.ensures.upper
+      ∙ sym (c.at_least.ensures.holds call);
 }
 
 pub returns-in-SomeOf : goal.returns-in-SomeOf

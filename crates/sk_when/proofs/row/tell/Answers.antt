@@ -1,5 +1,5 @@
 use Rattle.std.proofs.Common.{ap, ◌∙◌}
-use Rattle.sk_chain.specs.Verdict.{verdict_of}
+use Rattle.sk_filter.specs.Verdict.{verdict_of}
 use Rattle.sk_survey.specs.Answers.{answers_of}
 use Rattle.sk_terms.specs.Decisions.{decided}
 use Rattle.sk_when.specs.Lines.{or_else}

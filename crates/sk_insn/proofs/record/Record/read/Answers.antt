@@ -4,4 +4,4 @@ use Rattle.sk_insn.proofs.record.Record.read.Goals as goal
 pub returns-clause-bytes : goal.returns-clause-bytes
 returns-clause-bytes c =
     record_bytes-read c.args.bytes.now _ _ _ _ _ _ _ _ _ c.fits-bytes c.told-bytes
-    c.u32_at.ensures c.u32_at-2.ensures c.u64_at.ensures c.u64_at-2.ensures c.u64_at-3.ensures c.u64_at-4.ensures c.u64_at-5.ensures c.u64_at-6.ensures c.u64_at-7.ensures
+    c.u32_at-nr.ensures c.u32_at-arch.ensures c.u64_at-ip.ensures c.u64_at-first.ensures c.u64_at-second.ensures c.u64_at-third.ensures c.u64_at-fourth.ensures c.u64_at-fifth.ensures c.u64_at-sixth.ensures

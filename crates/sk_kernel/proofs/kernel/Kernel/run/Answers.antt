@@ -10,7 +10,7 @@ pub loop-done-preserved : goal.loop-done-preserved
 loop-done-preserved g c =
     let before = c.loop-done.invariant in
     let now = c.in-Ok.ensures in
-    let both = more c.args.self.now.images c.args.self.now.world c.args.events.now c.loop-done.done (Call 0 0 0 []) c.loop-done.self c.args.answers.now.items c.loop-done.answers.items
+    let both = more c.args.self.now.images c.args.self.now.world c.args.events.now c.loop-done.done (Call 0 0 (record { nr = 0; args = [] })) c.loop-done.self c.args.answers.now.items c.loop-done.answers.items
     c.tell.new.answers.items c.tell.new.self.world c.loop-done-test.true before.told before.world before.images now.answer now.world in
     record { told = both.0; world = both.1; images = now.images ∙ before.images }
 

@@ -1,5 +1,5 @@
 use Rattle.std.proofs.Common.{subst, sym}
-use Rattle.sk_interp.specs.Meaning.{operand}
+use Rattle.sk_filter.specs.Meaning.{operand}
 use Rattle.sk_survey.specs.Following.{Describes}
 use Rattle.sk_survey.proofs.KnownStates.{operand_known, branch_leads}
 use Rattle.sk_survey.proofs.known.Knowledge.branch.Goals as goal

@@ -3,8 +3,8 @@ use Rattle.std.proofs.lemmas.Bool.{ne_eqb}
 use Rattle.sk_insn.specs.declared.operation.Arithmetic.TheVariants.{Divide}
 use Rattle.sk_insn.specs.declared.operation.Operand.TheVariants.{IndexRegister}
 use Rattle.sk_insn.specs.declared.operation.Operation.TheVariants.{Compute}
-use Rattle.sk_check.specs.Fits.{TakesConstant}
-use Rattle.sk_interp.specs.Meaning.{operand}
+use Rattle.sk_filter.specs.Fits.{TakesConstant}
+use Rattle.sk_filter.specs.Meaning.{operand}
 use Rattle.sk_survey.specs.Following.{Describes}
 use Rattle.sk_survey.proofs.KnownStates.{operand_known, compute_leads}
 use Rattle.sk_survey.proofs.known.Knowledge.compute.Goals as goal

@@ -1,7 +1,7 @@
 use Rattle.std.proofs.Common.{◌≡◌, length, Some, ap, subst, sym, ◌∙◌, arith}
 use Rattle.sk_insn.specs.declared.operation.Operation.TheVariants.{StoreScratch, Compute, Branch}
 use Rattle.sk_insn.specs.Operations.{operation_of}
-use Rattle.sk_check.specs.Paths.{LeadsTo}
+use Rattle.sk_filter.specs.Paths.{LeadsTo}
 use Rattle.sk_survey.proofs.KnownStates.{store_leads}
 use Rattle.sk_survey.proofs.known.Knowledge.follow.Goals as goal
 

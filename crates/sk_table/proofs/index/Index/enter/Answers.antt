@@ -1,4 +1,4 @@
-use Rattle.std.proofs.Common.{arith}
+use Rattle.std.proofs.Common.{arith, rules}
 use Rattle.sk_table.proofs.Indexing.{few_uses, beside_entered}
 use Rattle.sk_table.proofs.index.Index.enter.Goals as goal
 
@@ -9,6 +9,4 @@ enter-requires-clause-room c n =
     omega (arith, is.uses n, few_uses n procs, c.requires.free.3)
 
 pub returns : goal.returns
-returns c procs p same free is =
-    beside_entered procs _ _ _ _ _ _ c.args.pid p c.args.links same is free
-    c.insert.ensures.pairs c.insert.ensures.len c.insert-2.ensures.pairs c.insert-2.ensures.len c.enter.ensures
+returns c procs p same free is = search (rules, beside_entered)

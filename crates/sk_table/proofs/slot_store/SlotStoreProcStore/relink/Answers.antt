@@ -2,10 +2,11 @@ use Rattle.std.proofs.Common.{◌≡◌, ◌∙◌, ap, sym, subst, refl, arith,
 use Rattle.std.specs.Option.{is_some, option_map}
 use Rattle.sk_world.specs.Processes.{store, count}
 use Rattle.sk_world.specs.World.{stored, links_changed}
+use Rattle.sk_world.proofs.Maps.{store_twice}
 use Rattle.sk_table.specs.Beside.{IsBeside}
 use Rattle.sk_table.specs.Slots.{Slotted, slot}
 use Rattle.sk_table.specs.SlotView.{procs_of}
-use Rattle.sk_table.proofs.Indexing.{count_left, count_kept, gone_here, stored_again}
+use Rattle.sk_table.proofs.Indexing.{count_left, count_kept, gone_here}
 use Rattle.sk_table.proofs.Writing.{entry_is, absent, nothing_stored, here, found, written, live_written, len_written, links_written}
 use Rattle.sk_table.proofs.slot_store.SlotStoreProcStore.relink.Goals as goal
 
@@ -69,7 +70,7 @@ invariant_of-self c =
       apart = is.apart;
       numbers = is.numbers;
       beside = subst (λ m. IsBeside m c.enter.new.self.children c.enter.new.self.members c.enter.new.self.uses)
-          (stored_again (procs_of old) pid p' ∙ sym changed)
+          (store_twice (procs_of old) pid None (Some p') ∙ sym changed)
           (c.enter.ensures (store (procs_of old) pid None) p' refl (gone_here (procs_of old) pid)
           (c.leave.ensures (procs_of old) c.index.result.now refl was is.beside));
       given = is.given;

@@ -1,0 +1,136 @@
+//! The words of `ask`, and the options that a word stands behind.
+ghost use Rattle.std.specs.Prelude.{◌≡◌};
+ghost use Rattle.sk_ask.specs.Asking.{valued_name, valued_named, value_kind, tells_calls, tells_of_one, word_named, word_name};
+
+use sk_text::is_word;
+
+/// What is asked for.
+#[derive(Clone, Copy, Debug, PartialEq, Eq)]
+pub enum Word {
+    /// What filters can answer to each call.
+    Calls,
+    /// The filters in another form.
+    Filter,
+    /// Under which conditions each verdict comes.
+    When,
+    /// Where two chains answer otherwise.
+    Diff,
+    /// The verdicts on the calls of a log.
+    Replay,
+    /// The path of a call through the filters.
+    Why,
+    /// The listing of one filter.
+    Show,
+    /// What the filters answer to each architecture.
+    Arches,
+}
+
+impl Word {
+    /// The one with this name.
+    pub fn named(name: &[u8]) -> Option<Word>
+        ensures word { result ≡ word_named name.now }
+    {
+        if is_word(name, b"calls") {
+            Some(Word::Calls)
+        } else if is_word(name, b"filter") {
+            Some(Word::Filter)
+        } else if is_word(name, b"when") {
+            Some(Word::When)
+        } else if is_word(name, b"diff") {
+            Some(Word::Diff)
+        } else if is_word(name, b"replay") {
+            Some(Word::Replay)
+        } else if is_word(name, b"why") {
+            Some(Word::Why)
+        } else if is_word(name, b"show") {
+            Some(Word::Show)
+        } else if is_word(name, b"arches") {
+            Some(Word::Arches)
+        } else {
+            None
+        }
+    }
+
+    /// Its name.
+    pub fn name(self) -> &'static str
+        ensures name { result.now ≡ word_name self }
+    {
+        match self {
+            Word::Calls => "calls",
+            Word::Filter => "filter",
+            Word::When => "when",
+            Word::Diff => "diff",
+            Word::Replay => "replay",
+            Word::Why => "why",
+            Word::Show => "show",
+            Word::Arches => "arches",
+        }
+    }
+}
+
+/// An option that a word stands behind.
+#[derive(Clone, Copy, Debug, PartialEq, Eq)]
+pub enum Valued {
+    /// The only call that is asked of.
+    Call,
+    /// A capability that is held where profiles are to hold.
+    Cap,
+    /// The version of the kernel there.
+    Kernel,
+    /// The architecture whose calls are asked of.
+    Arch,
+}
+
+impl Valued {
+    pub(crate) fn name(self) -> &'static str
+        ensures name { result.now ≡ valued_name self }
+    {
+        match self {
+            Valued::Call => "--call",
+            Valued::Cap => "--cap",
+            Valued::Kernel => "--kernel",
+            Valued::Arch => "--arch",
+        }
+    }
+
+    // What is expected behind it.
+    pub(crate) fn value_kind(self) -> &'static str
+        ensures kind { result.now ≡ value_kind self }
+    {
+        match self {
+            Valued::Call => "a name or a number",
+            Valued::Cap | Valued::Arch => "a name",
+            Valued::Kernel => "a version as 6.1",
+        }
+    }
+
+    // The one of this word that is named so.
+    pub(crate) fn named(word: Word, name: &[u8]) -> Option<Valued>
+        ensures option { result ≡ valued_named word name.now }
+    {
+        if tells_calls(word) && is_word(name, b"--call") {
+            Some(Valued::Call)
+        } else if is_word(name, b"--cap") {
+            Some(Valued::Cap)
+        } else if is_word(name, b"--kernel") {
+            Some(Valued::Kernel)
+        } else if tells_of_one(word) && is_word(name, b"--arch") {
+            Some(Valued::Arch)
+        } else {
+            None
+        }
+    }
+}
+
+fn tells_calls(word: Word) -> bool
+    ensures tells { result ≡ tells_calls word }
+{
+    matches!(word, Word::Calls | Word::When)
+}
+
+// Whether what it tells is of one architecture.
+fn tells_of_one(word: Word) -> bool
+    ensures tells { result ≡ tells_of_one word }
+{
+    !matches!(word, Word::Filter | Word::Arches)
+}

@@ -1,4 +1,0 @@
-pub mod Calls
-pub mod CallWords
-pub mod Faults
-pub mod WorkedWords

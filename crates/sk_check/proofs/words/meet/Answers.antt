@@ -1,5 +1,0 @@
-use Rattle.sk_check.proofs.Sets.{lacks_meet}
-use Rattle.sk_check.proofs.words.meet.Goals as goal
-
-pub returns : goal.returns
-returns c = λ j m _. lacks_meet c.args.sets.now c.args.at c.args.set j m c.requires

@@ -1,3 +1,0 @@
-pub mod Errno
-pub mod Creds
-pub mod laws

@@ -1,3 +1,0 @@
-pub mod Targets
-pub mod Requests
-pub mod Deeds

@@ -1,4 +1,0 @@
-pub mod Everywhere
-pub mod Joined
-pub mod PartsTold
-pub mod WorkedDiffs

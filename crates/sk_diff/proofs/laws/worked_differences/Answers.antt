@@ -1,5 +1,0 @@
-use Rattle.sk_diff.proofs.WorkedDiffs.{calls_work, differences_work, parts_work}
-use Rattle.sk_diff.proofs.laws.worked_differences.Goals as goal
-
-pub returns : goal.returns
-returns c = record { calls = calls_work; differences = differences_work; parts = parts_work }

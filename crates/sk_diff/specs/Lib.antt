@@ -1,4 +1,0 @@
-pub mod Diffs
-pub mod DiffText
-pub mod Pieces
-pub mod WorkedDiffs

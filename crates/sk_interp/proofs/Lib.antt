@@ -1,9 +1,0 @@
-pub mod Meanings
-pub mod Rows
-pub mod ScratchWords
-pub mod ValidSteps
-pub mod Walks
-pub mod Marks
-pub mod JointWalks
-pub mod ValidMeanings
-pub mod Architectures

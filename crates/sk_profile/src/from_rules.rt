@@ -1,0 +1,82 @@
+//! What the rules of a profile say of the calls of one number.
+ghost use Rattle.std.specs.Prelude.{◌≡◌, ◌++◌, ◌∷◌, map, All, IfOk, OnOk, []};
+ghost use Rattle.std.specs.Option.{option_map};
+ghost use Rattle.sk_profile.specs.CodeViews.{arm_of, saying_of, IsArmOfCode, IsSayingOfCode};
+ghost use Rattle.sk_profile.specs.Profiles.{plain_rule, arms_for, arm_of_rule, saying_of_rules};
+ghost use Rattle.sk_profile.specs.Rows.{AreGood, IsGood};
+ghost use Rattle.sk_profile.specs.Views.{rule_of, profile_of};
+
+use crate::condition::Condition;
+use crate::profile::{Profile, Rule};
+use crate::saying::{Arm, Saying};
+use std::alloc::{AllocError, Global};
+
+/// What the rules say of the calls with this number, or the default where none of them fits.
+pub fn saying(alloc: Global, profile: &Profile, nr: u32) -> Result<Saying, AllocError>
+    requires good { AreGood profile.now }
+    ensures saying { IfOk result (λ saying. saying_of saying ≡ saying_of_rules (profile_of profile.now) nr) }
+    ensures good { IfOk result IsSayingOfCode }
+{
+    match plain_value(&profile.rules, nr) {
+        Some(value) => Ok(plain(alloc, value)),
+        None => Ok(Saying {
+            arms: arms(alloc, &profile.rules, nr)?,
+            otherwise: profile.default,
+        }),
+    }
+}
+
+/// The same of every call.
+pub fn plain(alloc: Global, value: u32) -> Saying
+    ensures saying { saying_of result ≡ record { arms = []; otherwise = value } }
+    ensures good { IsSayingOfCode result }
+{
+    Saying {
+        arms: Vec::new(alloc),
+        otherwise: value,
+    }
+}
+
+// The value of the first rule for the number that has no conditions.
+fn plain_value(rules: &[Rule], nr: u32) -> Option<u32>
+    ensures value { result ≡ option_map (λ rule. rule.value) (plain_rule (map rule_of rules.now) nr) }
+{
+    let mut left = rules;
+    while let Some((rule, rest)) = left.split_first() {
+        if rule.number == nr && rule.conditions.is_empty() {
+            return Some(rule.value);
+        }
+        left = rest;
+    }
+    None
+}
+
+// The rules for the number.
+fn arms(alloc: Global, rules: &[Rule], nr: u32) -> Result<Vec<Arm>, AllocError>
+    requires good { All IsGood rules.now }
+    ensures good { IfOk result (λ arms. All IsArmOfCode arms.items) }
+    ensures arms { IfOk result (λ arms. map arm_of arms.items ≡ arms_for (map rule_of rules.now) nr) }
+{
+    let mut arms = Vec::new(alloc);
+    let mut left = rules;
+    while let Some((rule, rest)) = left.split_first() {
+        if rule.number == nr {
+            push_arm(alloc, &mut arms, rule)?;
+        }
+        left = rest;
+    }
+    Ok(arms)
+}
+
+fn push_arm(alloc: Global, arms: &mut Vec<Arm>, rule: &Rule) -> Result<(), AllocError>
+    requires good { IsGood rule.now }
+    ensures good { OnOk result (All IsArmOfCode arms.old.items → All IsArmOfCode arms.new.items) }
+    ensures arms { OnOk result (map arm_of arms.new.items ≡ map arm_of arms.old.items ++ arm_of_rule (rule_of rule.now) ∷ []) }
+{
+    let conditions: Vec<Condition> = rule.conditions.to_vec(alloc)?;
+    arms.push(Arm {
+        conditions,
+        value: rule.value,
+    })?;
+    Ok(())
+}

@@ -1,0 +1,67 @@
+-- Each worked word is what the definition computes.
+use Rattle.std.proofs.Common.{refl}
+use Rattle.std.specs.Fmt.{digits}
+use Rattle.sk_text.specs.Numbers.{number_of}
+use Rattle.sk_call_names.specs.X86_64.{number_named}
+use Rattle.sk_call_names.specs.Names.{number_at, number_in, number_on, runs_of}
+use Rattle.sk_replay.specs.WordCalls.{plain_number}
+use Rattle.sk_replay.specs.CallWords.{argument_number, argument_of, arguments_of, call_of, given_in, inside_of, named_by}
+use Rattle.sk_replay.specs.WorkedWords.{WorkedWords}
+
+pub worked_words : WorkedWords
+unfolding digits number_of number_named number_at number_in number_on runs_of plain_number argument_number argument_of arguments_of call_of given_in inside_of named_by
+worked_words = record {
+  arguments = refl;
+  name = refl;
+  no_argument = refl;
+  number = refl;
+  largest_number = refl;
+  six_in_order = refl;
+  spaces = refl;
+  spaces_alone = refl;
+  octal_call = refl;
+  too_large_a_call = refl;
+  call_below_zero = refl;
+  unknown_name = refl;
+  no_name = refl;
+  nothing = refl;
+  two_names = refl;
+  left_open = refl;
+  behind = refl;
+  closed_twice = refl;
+  opened_twice = refl;
+  octal = refl;
+  empty_last = refl;
+  empty_between = refl;
+  empty_both = refl;
+  two_words = refl;
+  sixth = refl;
+  seven = refl;
+  seven_wrong = refl;
+  name_first = refl;
+  parentheses_second = refl;
+  largest = refl;
+  past_the_largest = refl;
+  largest_digits = refl;
+  least = refl;
+  below_the_least = refl;
+  minus_one = refl;
+  minus_digits = refl;
+  minus_zero = refl;
+  minus_octal = refl;
+  minus_twice = refl;
+  minus_alone = refl;
+  plus = refl;
+  zero = refl;
+  zeros = refl;
+  name_of_zero = refl;
+  number_without_a_name = refl;
+  on_i386 = refl;
+  not_on_x86_64 = refl;
+  not_on_aarch64 = refl;
+  on_aarch64 = refl;
+  number_on_arm = refl;
+  on_x32 = refl;
+  number_on_x32 = refl;
+  told = refl;
+}

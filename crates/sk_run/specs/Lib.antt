@@ -1,0 +1,4 @@
+pub mod Reporting
+pub mod views
+pub mod laws
+pub mod Running

@@ -1,0 +1,92 @@
+//! Which event is due.
+ghost use Rattle.std.specs.Prelude.{◌≡◌, ◌<◌, ◌^◌, IfSome};
+ghost use Rattle.std.specs.Option.{option_copied};
+ghost use Rattle.sk_report.specs.Scheduling.{line_due, own_event, event_by, address_of, closing, script_of};
+ghost use Rattle.sk_run.specs.views.Stacks.{stack_of};
+
+use crate::levels::Levels;
+use sk_calls::{Call, Syscall};
+use sk_machine::{Event, Need};
+use sk_report::Level;
+use sk_scenario::{Program, ScriptCall};
+
+/// The script of a program. One that is not declared has the empty script.
+fn script_of(programs: &[Program], program: u64) -> &[ScriptCall]
+    ensures script { result.now ≡ script_of programs.now program }
+{
+    match programs.get(program as usize) {
+        Some(program) => program.calls.as_slice(),
+        None => &[],
+    }
+}
+
+/// The call of the script that is next, if one is left.
+pub(crate) fn line_due<'a>(programs: &'a [Program], levels: &Levels) -> Option<&'a ScriptCall>
+    ensures line { option_copied result ≡ line_due programs.now (stack_of levels.now) }
+    ensures room { IfSome result (λ _. levels.now.top.position < 2 ^ 63) }
+{
+    script_of(programs, levels.top.program).get(levels.top.position)
+}
+
+/// The event of a process by what it needs.
+pub(crate) fn event_by(
+    programs: &[Program],
+    pid: u32,
+    levels: &Levels,
+    need: Need,
+    line: Option<&ScriptCall>,
+) -> Event
+    requires line { option_copied line ≡ line_due programs.now (stack_of levels.now) }
+    requires room { IfSome line (λ _. levels.now.top.position < 2 ^ 63) }
+    ensures event { result ≡ event_by programs.now pid (stack_of levels.now) need }
+{
+    match need {
+        Need::Deliver => Event::Deliver { pid },
+        Need::Resume => Event::Resume { pid },
+        Need::Call => own_event(programs, pid, levels, line),
+    }
+}
+
+/// The event of a process that goes on with its script: a call of it, or what ends it.
+fn own_event(programs: &[Program], pid: u32, levels: &Levels, line: Option<&ScriptCall>) -> Event
+    requires room { IfSome line (λ _. levels.now.top.position < 2 ^ 63) }
+    ensures event { result ≡ own_event programs.now pid (stack_of levels.now) (option_copied line.entry) }
+{
+    let Levels { top, below } = levels;
+    match line {
+        Some(line) => Event::Call {
+            pid,
+            ip: address_of(top.program, top.position),
+            call: line.call,
+        },
+        None if top.refused => Event::Fault { pid },
+        None => Event::Call {
+            pid,
+            ip: address_of(top.program, script_of(programs, top.program).len()),
+            call: closing(below.as_slice()),
+        },
+    }
+}
+
+/// Where a call stands, as filters see it.
+fn address_of(program: u64, position: usize) -> u64
+    requires room { position < 2 ^ 63 }
+    ensures address { result ≡ address_of program position }
+{
+    0x1_0000 * (program % 0x1_0000_0000) + position as u64
+}
+
+/// The call that ends a script.
+fn closing(below: &[Level]) -> Call
+    ensures call { result ≡ closing below.now }
+{
+    let syscall = if below.is_empty() {
+        Syscall::ExitGroup
+    } else {
+        Syscall::RtSigreturn
+    };
+    Call {
+        nr: syscall.number(),
+        args: [0; 6],
+    }
+}

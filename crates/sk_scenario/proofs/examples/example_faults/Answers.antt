@@ -1,0 +1,17 @@
+use Rattle.std.proofs.Common.{refl}
+use Rattle.hex.specs.Hex.{decode_pairs}
+use Rattle.sk_text.specs.Hexadecimal.{bytes_in}
+use Rattle.sk_text.specs.Lines.{is_printable_byte}
+use Rattle.sk_text.specs.Numbers.{number_of}
+use Rattle.sk_text.specs.Words.{is_letter, is_name_byte, is_name}
+use Rattle.sk_asm.specs.Block.{is_end}
+use Rattle.sk_asm.specs.Grammar.{label_of, destination_of, action_with, action_value, returned_value, branching, shaped, raw, instruction_said, spoken, statement_of}
+use Rattle.sk_asm.specs.Passes.{checked as asm_checked, noted, labelled, distance, resolved as resolved_label, emitted, assembled_lines}
+use Rattle.sk_scenario.specs.Grammar.{headed, heading_of, bytes_of, decimal_of, argument_of, asked, asked_of}
+use Rattle.sk_scenario.specs.Scenario.{call_of}
+use Rattle.sk_scenario.specs.Reading.{checked, remarked, given, opened, started, coded, decided, resolved, called, inside, within, stepped, reading, scenario_of}
+use Rattle.sk_scenario.proofs.examples.example_faults.Goals as goal
+
+pub returns : goal.returns
+unfolding decode_pairs is_printable_byte number_of is_letter is_name_byte is_name bytes_in label_of destination_of action_with action_value returned_value branching shaped raw instruction_said spoken statement_of asm_checked noted labelled distance resolved_label emitted assembled_lines is_end headed heading_of bytes_of decimal_of argument_of asked asked_of call_of checked remarked given opened started coded decided resolved called inside within stepped reading scenario_of
+returns c = record { no_end = refl; no_name = refl; no_program = refl; line_first = refl; cut_word = refl; cut_line = refl; subreapers_twice = refl; odd_digits = refl; no_end_of_code = refl; open_code = refl; label_waits = refl; label = refl; fork_of_value = refl; argument_of_65_bits = refl; argument_below_63_bits = refl; negative_hexadecimal = refl; seven_arguments = refl; number_of_33_bits = refl; handler_of_a_filter = refl; owner_of_nobody = refl; word_behind_setuid = refl; word_behind_subreapers = refl }

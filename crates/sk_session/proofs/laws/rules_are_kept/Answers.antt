@@ -1,5 +1,0 @@
-use Rattle.sk_session.proofs.HangingUp.{kept_ended_and_hung_up}
-use Rattle.sk_session.proofs.laws.rules_are_kept.Goals as goal
-
-pub returns-clause-end : goal.returns-clause-end
-returns-clause-end c = kept_ended_and_hung_up

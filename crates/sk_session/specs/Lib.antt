@@ -1,4 +1,0 @@
-pub mod Sessions
-pub mod Orphans
-pub mod views
-pub mod laws

@@ -1,5 +1,0 @@
-pub mod Faults
-pub mod Grammar
-pub mod Reading
-pub mod Scenario
-pub mod laws

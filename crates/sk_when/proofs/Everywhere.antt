@@ -1,0 +1,99 @@
+-- What is said of all pieces holds of every call.
+use Rattle.std.proofs.Common.{ℕ, ◌≡◌, ◌+◌, ◌≤◌, ◌<◌, true, false, Bool, ◌||◌, ◌⊎◌, if◌then◌else◌, inl, inr, List, [], ◌∷◌, Option, Some, None, refl, sym, arith}
+use Rattle.std.specs.List.{All, list_any}
+use Rattle.std.specs.Option.{option_map_or}
+use Rattle.std.proofs.lemmas.Bool.{cases_lt, true≢false}
+use Rattle.std.proofs.lemmas.List.Elements.{All-head, All-tail}
+use Rattle.sk_insn.specs.declared.insn.Insn.{Insn}
+use Rattle.sk_insn.specs.declared.record.Record.{Record}
+use Rattle.sk_insn.specs.Record.{IsNative}
+use Rattle.sk_survey.specs.Answers.{IsCallOf}
+use Rattle.sk_conditions.specs.declared.differences.Verdicts.{Verdicts}
+use Rattle.sk_conditions.specs.declared.numbers.Numbers.{Numbers}
+use Rattle.sk_conditions.specs.declared.standing.Relation.{Relation}
+use Rattle.sk_when.specs.declared.diff_engine.Standing.TheVariants as standing
+use Rattle.sk_when.specs.declared.piece.Calls.{Calls}
+use Rattle.sk_when.specs.declared.piece.Part.{Part}
+use Rattle.sk_when.specs.declared.piece.Piece.{Piece}
+use Rattle.sk_when.specs.Diffs.{EverywhereIsEveryCall, ApartIsACall}
+use Rattle.sk_conditions.specs.Comparing.{stands_on}
+use Rattle.sk_when.specs.Pieces.{AreCompared, Cover, HoldsOf, IsShown, is_apart, is_open, is_shown, has_parts}
+
+neither : (a b : Bool) → (a || b) ≡ false → (a ≡ false) × (b ≡ false)
+neither true b e = cc
+neither false b e = (refl, e)
+
+one : (a b : Bool) → (a || b) ≡ true → (a ≡ true) ⊎ (b ≡ true)
+one true b e = inl refl
+one false b e = inr e
+
+-- a piece without parts stands so on its calls
+stands_here : (relation : Relation) (old new : List (List Insn)) (numbers : Numbers) (parts : List Part) → has_parts parts ≡ false
+    → Cover relation old new numbers parts → (call : Record) → IsCallOf numbers.first numbers.last call → stands_on relation old new call ≡ true
+stands_here relation old new numbers (part ∷ parts) none cover call within = absurd (true≢false none)
+stands_here relation old new numbers [] none cover call within = by_test (stands_on relation old new call) refl where
+  by_test : (b : Bool) → stands_on relation old new call ≡ b → stands_on relation old new call ≡ true
+  by_test true is = is
+  by_test false is = absurd (true≢false (sym (cover call within is)))
+
+covers : (relation : Relation) (old new : List (List Insn)) (pieces : List Piece) (from end : ℕ) → AreCompared relation old new from end pieces
+    → list_any is_open pieces ≡ false → (call : Record) → IsNative call → from ≤ call.nr → call.nr < end → stands_on relation old new call ≡ true
+covers relation old new [] from end compared none call native above below = absurd (omega arith)
+covers relation old new (piece ∷ pieces) from end compared none call native above below =
+    let n = neither (is_open piece) (list_any is_open pieces) none in
+    elim (cases_lt piece.numbers.last call.nr) [
+      | inl behind ↦ covers relation old new pieces (piece.numbers.last + 1) end compared.3 n.1 call native (omega arith) below
+      | inr within ↦
+          stands_here relation old new piece.numbers piece.parts.items n.0 compared.2.1 call (native, (let b = compared.0 in omega arith, within))
+    ]
+
+-- a call that a part shows
+shown_here : (relation : Relation) (old new : List (List Insn)) (numbers : Numbers) (calls : Calls) (verdicts : Option Verdicts) (shown : Option Record)
+    → option_map_or (λ call. true) shown false ≡ true → IsShown relation old new numbers calls verdicts shown
+    → (call : Record) × IsNative call × (call.nr ≤ numbers.last) × (stands_on relation old new call ≡ false)
+shown_here relation old new numbers calls verdicts None some is = absurd (true≢false (sym some))
+shown_here relation old new numbers calls verdicts (Some call) some is = (call, is.0.0, is.0.1.1, is.3)
+
+found_among : (relation : Relation) (old new : List (List Insn)) (numbers : Numbers) (parts : List Part) → list_any is_shown parts ≡ true
+    → All (HoldsOf relation old new numbers) parts → (call : Record) × IsNative call × (call.nr ≤ numbers.last) × (stands_on relation old new call ≡ false)
+found_among relation old new numbers [] apart hold = absurd (true≢false (sym apart))
+found_among relation old new numbers (part ∷ parts) apart hold = elim (one (is_shown part) (list_any is_shown parts) apart) [
+  | inl here ↦ shown_here relation old new numbers part.calls part.verdicts part.shown here (All-head (HoldsOf relation old new numbers) part parts hold).2
+  | inr behind ↦ found_among relation old new numbers parts behind (All-tail (HoldsOf relation old new numbers) part parts hold)
+]
+
+rises : (relation : Relation) (old new : List (List Insn)) (pieces : List Piece) (from end : ℕ) → AreCompared relation old new from end pieces → from ≤ end
+rises relation old new [] from end compared = omega arith
+rises relation old new (piece ∷ pieces) from end compared =
+    let up = compared.1 in let more = rises relation old new pieces (piece.numbers.last + 1) end compared.3 in omega arith
+
+finds : (relation : Relation) (old new : List (List Insn)) (pieces : List Piece) (from end : ℕ) → AreCompared relation old new from end pieces
+    → list_any is_apart pieces ≡ true → (call : Record) × IsNative call × (call.nr < end) × (stands_on relation old new call ≡ false)
+finds relation old new [] from end compared apart = cc
+finds relation old new (piece ∷ pieces) from end compared apart = elim (one (is_apart piece) (list_any is_apart pieces) apart) [
+  | inl here ↦
+      let call = found_among relation old new piece.numbers piece.parts.items here compared.2.0 in
+      let more = rises relation old new pieces (piece.numbers.last + 1) end compared.3 in
+      let last = call.2 in
+      (call.0, call.1, omega arith, call.3)
+  | inr behind ↦ finds relation old new pieces (piece.numbers.last + 1) end compared.3 behind
+]
+
+both_false : (a b : Bool) → standing.Everywhere ≡ (if a then standing.Apart else if b then standing.Undecided else standing.Everywhere) → (a ≡ false) × (b ≡ false)
+both_false true b e = cc
+both_false false true e = cc
+both_false false false e = (refl, refl)
+
+first_true : (a b : Bool) → standing.Apart ≡ (if a then standing.Apart else if b then standing.Undecided else standing.Everywhere) → a ≡ true
+first_true true b e = refl
+first_true false true e = cc
+first_true false false e = cc
+
+pub everywhere_is_every_call : EverywhereIsEveryCall
+everywhere_is_every_call architecture relation old new text it call native below =
+    let none = both_false (list_any is_apart it.pieces) (list_any is_open it.pieces) it.stands in
+    covers relation old new it.pieces 0 4294967296 it.compared none.1 call native (omega arith) below
+
+pub apart_is_a_call : ApartIsACall
+apart_is_a_call architecture relation old new text it =
+    finds relation old new it.pieces 0 4294967296 it.compared (first_true (list_any is_apart it.pieces) (list_any is_open it.pieces) it.stands)

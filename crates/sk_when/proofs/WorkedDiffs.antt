@@ -1,0 +1,33 @@
+-- Each worked example is what the definitions compute.
+use Rattle.std.proofs.Common.{refl}
+use Rattle.std.specs.Fmt.{digits}
+use Rattle.hex.specs.Hex.{encode_with}
+use Rattle.sk_insn.specs.Actions.{action_of}
+use Rattle.sk_insn.specs.Operations.{operation_of}
+use Rattle.sk_call_names.specs.X86_64.{name_of}
+use Rattle.sk_call_names.specs.Names.{name_at, name_in, name_on, runs_of}
+use Rattle.sk_filter.specs.VerdictText.{verdict_text}
+use Rattle.sk_filter.specs.Errors.{error_named}
+use Rattle.sk_when.specs.DiffText.{call_text, record_text, verdicts_text, head_text, argument_text}
+use Rattle.sk_when.specs.WorkedDiffs.{CallsWork, DifferencesWork, PartsWork}
+
+pub calls_work : CallsWork
+unfolding digits encode_with call_text record_text argument_text name_of name_at name_in name_on runs_of
+calls_work = record { named = refl; numbered = refl; elsewhere = refl }
+
+pub differences_work : DifferencesWork
+unfolding digits action_of operation_of verdict_text error_named verdicts_text head_text name_of name_on
+differences_work = record {
+  verdicts = refl;
+  unknown = refl;
+  this_one = refl;
+  stricter = refl;
+  looser = refl;
+  neither = refl;
+  told_apart = refl;
+  single = refl;
+  several = refl;
+}
+
+pub parts_work : PartsWork
+parts_work = record { unseen = refl; seen = refl; undecided = refl; alike = refl; every = refl; others = refl }

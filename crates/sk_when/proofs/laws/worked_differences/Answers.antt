@@ -1,0 +1,5 @@
+use Rattle.sk_when.proofs.WorkedDiffs.{calls_work, differences_work, parts_work}
+use Rattle.sk_when.proofs.laws.worked_differences.Goals as goal
+
+pub returns : goal.returns
+returns c = record { calls = calls_work; differences = differences_work; parts = parts_work }

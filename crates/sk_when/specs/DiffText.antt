@@ -1,0 +1,112 @@
+-- The text of a comparison: each difference with a call that shows it.
+use Rattle.std.specs.Prelude.{ℕ, ◌==◌, ◌++◌, Bool, true, false, if◌then◌else◌, List, [], Option, Some, None, codes, flat_map}
+use Rattle.std.specs.Fmt.{decimal, digits}
+use Rattle.std.specs.Option.{option_map_or}
+use Rattle.hex.specs.Hex.{encode_lower}
+use Rattle.sk_insn.specs.declared.record.Record.{Record}
+use Rattle.sk_insn.specs.Record.{record_bytes}
+use Rattle.sk_call_names.specs.declared.architecture.Architecture.{Architecture}
+use Rattle.sk_call_names.specs.Architectures.{audit_of}
+use Rattle.sk_call_names.specs.Names.{name_on}
+use Rattle.sk_survey_lines.specs.Text.{numbers_text, name_text}
+use Rattle.sk_filter.specs.VerdictText.{verdict_text}
+use Rattle.sk_conditions.specs.declared.differences.Verdicts.{Verdicts}
+use Rattle.sk_conditions.specs.declared.numbers.Numbers.{Numbers}
+use Rattle.sk_conditions.specs.declared.standing.Relation.{Relation}
+use Rattle.sk_conditions.specs.declared.standing.Relation.TheVariants.{Same, AsStrict}
+use Rattle.sk_conditions.specs.Comparing.{relates}
+use Rattle.sk_terms.specs.Text.{condition_text}
+use Rattle.sk_when.specs.declared.piece.Calls.{Calls}
+use Rattle.sk_when.specs.declared.piece.Calls.TheVariants.{Every, Meeting, This}
+use Rattle.sk_when.specs.declared.piece.Part.{Part}
+use Rattle.sk_when.specs.declared.piece.Piece.{Piece}
+use Rattle.sk_when.specs.declared.diff_text.Kind.{Kind}
+use Rattle.sk_when.specs.declared.diff_text.Kind.TheVariants.{Looser, Other, Undecided}
+
+-- a number in hexadecimal, as C has it
+abbrev pub hexadecimal : ℕ → List ℕ
+hexadecimal n = codes "0x" ++ digits 16 false n
+
+-- the number of a call as sys/syscall.h of the architecture names it, where it has a name
+abbrev pub call_name_text : Architecture → ℕ → List ℕ
+call_name_text architecture nr = option_map_or (λ name. codes "SYS_" ++ name) (name_on architecture nr) (decimal nr)
+
+unfoldable pub argument_text : ℕ → List ℕ
+argument_text argument = codes ", " ++ hexadecimal argument
+
+-- where the call stands, which C does not choose
+abbrev pub address_text : ℕ → List ℕ
+address_text ip = if ip == 0 then [] else codes " at " ++ hexadecimal ip
+
+-- the call, as syscall(2) makes it
+unfoldable pub call_text : Architecture → Record → List ℕ
+call_text architecture call =
+    codes "syscall(" ++ (call_name_text architecture call.nr ++ (flat_map argument_text call.args ++ (codes ")" ++ address_text call.ip)))
+
+-- the verdict of the old chain, and that of the new one
+unfoldable pub verdicts_text : Verdicts → List ℕ
+verdicts_text it = verdict_text it.old ++ (codes " -> " ++ verdict_text it.new)
+
+abbrev pub outcome_text : Option Verdicts → List ℕ
+outcome_text None = codes "undecided"
+outcome_text (Some it) = verdicts_text it
+
+-- under which condition of C, where it is not every call
+abbrev pub calls_text : Calls → List ℕ
+calls_text Every = []
+calls_text (Meeting line) = codes " where " ++ condition_text line
+calls_text This = codes " on this call"
+
+-- the same call, of an architecture
+abbrev pub of_architecture : Architecture → Record → Record
+of_architecture architecture call = record call { arch = audit_of architecture }
+
+-- the same call of the architecture by its record, as `eval` takes those of x86-64, and as C
+unfoldable pub record_text : Architecture → Record → List ℕ
+record_text architecture call =
+    codes "  record " ++ (encode_lower (record_bytes (of_architecture architecture call)) ++ (codes "\n  " ++ (call_text architecture call ++ codes "\n")))
+
+abbrev pub shown_text : Architecture → Option Verdicts → Option Record → List ℕ
+shown_text architecture verdicts (Some call) = record_text architecture call
+shown_text architecture (Some it) None = codes "  no call was found\n"
+shown_text architecture None None = []
+
+-- numbers, with the name that a single one has on the architecture
+unfoldable pub head_text : Architecture → Numbers → List ℕ
+head_text architecture numbers =
+    numbers_text numbers.first numbers.last ++ (codes " " ++ name_text architecture numbers.first numbers.last)
+
+-- one difference: the numbers, the verdicts and their condition, and below them a call
+unfoldable pub part_text : Architecture → Numbers → Part → List ℕ
+part_text architecture numbers part =
+    head_text architecture numbers
+    ++ (codes ": " ++ (outcome_text part.verdicts ++ (calls_text part.calls ++ (codes "\n" ++ shown_text architecture part.verdicts part.shown))))
+
+-- the new chain does not answer as strictly as the old one, or it does, or it is undecided
+abbrev pub kind_of : Option Verdicts → Kind
+kind_of None = Undecided
+kind_of (Some it) = if relates AsStrict it.old it.new then Other else Looser
+
+abbrev pub is_kind : Kind → Kind → Bool
+is_kind Looser Looser = true
+is_kind Other Other = true
+is_kind Undecided Undecided = true
+is_kind one it = false
+
+unfoldable pub kind_text : Architecture → Kind → Numbers → Part → List ℕ
+kind_text architecture kind numbers part =
+    if is_kind (kind_of part.verdicts) kind then part_text architecture numbers part else []
+
+unfoldable pub piece_text : Architecture → Kind → Piece → List ℕ
+piece_text architecture kind piece = flat_map (kind_text architecture kind piece.numbers) piece.parts.items
+
+-- the differences where the new chain is looser, the others, and what is undecided
+abbrev pub differences_text : Architecture → List Piece → List ℕ
+differences_text architecture pieces =
+    flat_map (piece_text architecture Looser) pieces
+    ++ (flat_map (piece_text architecture Other) pieces ++ flat_map (piece_text architecture Undecided) pieces)
+
+-- what is said where they stand so on every call
+abbrev pub everywhere_text : Relation → List ℕ
+everywhere_text Same = codes "the same on every call\n"
+everywhere_text AsStrict = codes "as strict on every call\n"

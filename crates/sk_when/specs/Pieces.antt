@@ -1,0 +1,128 @@
+-- Two chains compared on every call: what holds of each piece of the numbers, and of all.
+use Rattle.std.specs.Prelude.{ℕ, ◌≡◌, ◌+◌, ◌≤◌, true, false, if◌then◌else◌, Bool, List, [], ◌∷◌, Option, Some, None}
+use Rattle.std.specs.List.{All, list_any}
+use Rattle.std.specs.Option.{option_map_or}
+use Rattle.sk_insn.specs.declared.insn.Insn.{Insn}
+use Rattle.sk_insn.specs.declared.record.Record.{Record}
+use Rattle.sk_filter.specs.Verdict.{verdict_of}
+use Rattle.sk_survey.specs.Answers.{IsCallOf}
+use Rattle.sk_conditions.specs.declared.differences.Verdicts.{Verdicts}
+use Rattle.sk_conditions.specs.declared.numbers.Numbers.{Numbers}
+use Rattle.sk_conditions.specs.declared.standing.Comparing.{Comparing}
+use Rattle.sk_conditions.specs.declared.standing.Relation.{Relation}
+use Rattle.sk_conditions.specs.Comparing.{relates, stands_on}
+use Rattle.sk_conditions.specs.Differing.{SaysOf}
+use Rattle.sk_terms.specs.declared.lines.Line.{Line}
+use Rattle.sk_terms.specs.Lines.{meets_line}
+use Rattle.sk_when.specs.declared.diff_engine.Standing.{Standing}
+use Rattle.sk_when.specs.declared.diff_engine.Standing.TheVariants as standing
+use Rattle.sk_when.specs.declared.piece.Calls.{Calls}
+use Rattle.sk_when.specs.declared.piece.Calls.TheVariants.{Every, Meeting, This}
+use Rattle.sk_when.specs.declared.piece.Part.{Part}
+use Rattle.sk_when.specs.declared.piece.Piece.{Piece}
+
+-- these are the verdicts on the call
+abbrev pub HasVerdicts : List (List Insn) → List (List Insn) → Verdicts → Record → Type 0
+HasVerdicts old new it call = (verdict_of old call ≡ it.old) × (verdict_of new call ≡ it.new)
+
+-- the calls that a part speaks of; of a single one nothing is said beside itself
+abbrev pub meets_calls : Calls → Record → Bool
+meets_calls Every call = true
+meets_calls (Meeting line) call = meets_line line call
+meets_calls This call = false
+
+abbrev pub part_calls : Part → Calls
+part_calls part = part.calls
+
+abbrev pub meeting : Line → Calls
+meeting line = Meeting line
+
+-- where it is decided, these are the verdicts on the call
+abbrev pub AreVerdicts : List (List Insn) → List (List Insn) → Option Verdicts → Record → Type 0
+AreVerdicts old new None call = Unit {0}
+AreVerdicts old new (Some it) call = HasVerdicts old new it call
+
+-- a pair whose verdicts do not stand so to each other
+abbrev pub AreApart : Relation → Option Verdicts → Type 0
+AreApart relation None = Unit {0}
+AreApart relation (Some it) = relates relation it.old it.new ≡ false
+
+-- a call that is shown is one of those that the part speaks of, and on it they do not stand so
+abbrev pub IsOf : Calls → Record → Type 0
+IsOf This call = Unit {0}
+IsOf calls call = meets_calls calls call ≡ true
+
+abbrev pub IsShown : Relation → List (List Insn) → List (List Insn) → Numbers → Calls → Option Verdicts → Option Record → Type 0
+IsShown relation old new numbers calls verdicts None = Unit {0}
+IsShown relation old new numbers calls verdicts (Some call) =
+    IsCallOf numbers.first numbers.last call × IsOf calls call × AreVerdicts old new verdicts call × (stands_on relation old new call ≡ false)
+
+-- the calls that the part speaks of have these verdicts, which do not stand so, and what it shows is one of them
+abbrev pub HoldsOf : Relation → List (List Insn) → List (List Insn) → Numbers → Part → Type 0
+HoldsOf relation old new numbers part =
+    ((call : Record) → IsCallOf numbers.first numbers.last call → meets_calls part.calls call ≡ true → AreVerdicts old new part.verdicts call)
+    × AreApart relation part.verdicts
+    × IsShown relation old new numbers part.calls part.verdicts part.shown
+
+-- a call on which they do not stand so is one that a part speaks of
+abbrev pub Cover : Relation → List (List Insn) → List (List Insn) → Numbers → List Part → Type 0
+Cover relation old new numbers parts =
+    (call : Record) → IsCallOf numbers.first numbers.last call → stands_on relation old new call ≡ false
+    → list_any (λ part. meets_calls part.calls call) parts ≡ true
+
+abbrev pub HoldsPart : Comparing → Part → Type 0
+HoldsPart chains part = HoldsOf chains.relation chains.old.now chains.new.now chains.numbers part
+
+abbrev pub HoldParts : Comparing → List Part → Type 0
+HoldParts chains parts = All (HoldsPart chains) parts × Cover chains.relation chains.old.now chains.new.now chains.numbers parts
+
+-- so a piece says of its numbers
+abbrev pub Holds : Relation → List (List Insn) → List (List Insn) → Piece → Type 0
+Holds relation old new piece =
+    All (HoldsOf relation old new piece.numbers) piece.parts.items × Cover relation old new piece.numbers piece.parts.items
+
+-- whatever has this number among the pairs is this one, which does not stand so
+abbrev pub IsPairOf : Relation → List Verdicts → Option ℕ → Verdicts → Type 0
+IsPairOf relation pairs number it =
+    ((old new : ℕ) → SaysOf relation pairs old new number → (old ≡ it.old) × (new ≡ it.new)) × (relates relation it.old it.new ≡ false)
+
+-- a line says of the calls that meet it how their verdicts stand
+abbrev pub SaysOfLine : Comparing → List Verdicts → Line → Type 0
+SaysOfLine chains pairs line =
+    (call : Record) → IsCallOf chains.numbers.first chains.numbers.last call → meets_line line call ≡ true
+    → SaysOf chains.relation pairs (verdict_of chains.old.now call) (verdict_of chains.new.now call) line.value
+
+-- pieces that rise from a number on without a gap, to an end, and what each says holds
+abbrev pub AreCompared : Relation → List (List Insn) → List (List Insn) → ℕ → ℕ → List Piece → Type 0
+AreCompared relation old new from end [] = from ≡ end
+AreCompared relation old new from end (piece ∷ pieces) =
+    (piece.numbers.first ≡ from) × (from ≤ piece.numbers.last) × Holds relation old new piece
+    × AreCompared relation old new (piece.numbers.last + 1) end pieces
+
+-- a call is shown on which they do not stand so
+abbrev pub is_shown : Part → Bool
+is_shown part = option_map_or (λ call. true) part.shown false
+
+abbrev pub is_apart : Piece → Bool
+is_apart piece = list_any is_shown piece.parts.items
+
+-- there are calls on which they may not stand so
+abbrev pub has_parts : List Part → Bool
+has_parts [] = false
+has_parts (part ∷ parts) = true
+
+abbrev pub is_open : Piece → Bool
+is_open piece = has_parts piece.parts.items
+
+-- what is said of all pieces
+abbrev pub standing_of : List Piece → Standing
+standing_of pieces =
+    if list_any is_apart pieces then standing.Apart
+    else if list_any is_open pieces then standing.Undecided
+    else standing.Everywhere
+
+-- no part, or one each of every call, with the same verdicts
+abbrev pub ArePartsOfOne : List Part → List Part → Type 0
+ArePartsOfOne [] [] = Unit {0}
+ArePartsOfOne (part ∷ []) (other ∷ []) = (part.calls ≡ Every) × (other.calls ≡ Every) × (part.verdicts ≡ other.verdicts)
+ArePartsOfOne parts others = ⊥

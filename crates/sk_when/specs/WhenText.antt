@@ -1,0 +1,34 @@
+-- The text of `ask when`: rows as those of `ask calls`, and under which condition of C each verdict comes.
+use Rattle.std.specs.Prelude.{ℕ, ◌++◌, List, [], ◌∷◌, codes, flat_map, Option, Some, None}
+use Rattle.sk_call_names.specs.declared.architecture.Architecture.{Architecture}
+use Rattle.sk_engines.specs.Output.{line}
+use Rattle.sk_survey.specs.Answers.{answers_of}
+use Rattle.sk_survey_lines.specs.Text.{numbers_text, name_text, answers_text}
+use Rattle.sk_terms.specs.declared.lines.Line.{Line}
+use Rattle.sk_terms.specs.Text.{condition_text}
+use Rattle.sk_filter.specs.VerdictText.{verdict_text}
+use Rattle.sk_when.specs.declared.row.Told.{Told}
+
+-- a verdict, or those that the survey tells where it is not followed
+abbrev pub value_text : Option (List ℕ) → Option ℕ → List ℕ
+value_text answers (Some value) = verdict_text value
+value_text answers None = answers_text answers
+
+-- a verdict and its condition
+unfoldable pub line_text : Option (List ℕ) → Line → List ℕ
+line_text answers it = codes "  " ++ (value_text answers it.value ++ (codes " where " ++ line (condition_text it)))
+
+-- one verdict behind the numbers and the name, or lines below them, the last one with `else`
+abbrev pub ends_text : Option (List ℕ) → Option ℕ → List Line → List ℕ
+ends_text answers otherwise [] = codes " " ++ line (value_text answers otherwise)
+ends_text answers otherwise (first ∷ lines) =
+    line [] ++ (flat_map (line_text answers) (first ∷ lines) ++ (codes "  " ++ (value_text answers otherwise ++ line (codes " else"))))
+
+-- one row: its numbers, the name that a single one has on the architecture, and the verdicts
+unfoldable pub row_text : Architecture → Told → List ℕ
+row_text architecture told =
+    numbers_text told.row.first told.row.last
+    ++ (codes " " ++ (name_text architecture told.row.first told.row.last ++ ends_text (answers_of told.row.answers) told.otherwise told.lines.items))
+
+abbrev pub when_text : Architecture → List Told → List ℕ
+when_text architecture rows = flat_map (row_text architecture) rows

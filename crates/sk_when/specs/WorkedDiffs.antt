@@ -1,0 +1,56 @@
+-- Worked examples of comparisons: calls as C writes them, and differences with verdicts by seccomp(2).
+use Rattle.std.specs.Prelude.{◌≡◌, ◌++◌, [], ◌∷◌, codes, true, false, Some, None}
+use Rattle.sk_insn.specs.declared.record.Record.{Record}
+use Rattle.sk_insn.specs.Record.{native}
+use Rattle.sk_call_names.specs.declared.architecture.Architecture.TheVariants as architecture
+use Rattle.sk_conditions.specs.declared.differences.Verdicts.{Verdicts}
+use Rattle.sk_when.specs.declared.piece.Calls.TheVariants.{Every, This}
+use Rattle.sk_when.specs.declared.piece.Part.{Part}
+use Rattle.sk_when.specs.declared.diff_text.Kind.TheVariants.{Looser, Other}
+use Rattle.sk_when.specs.DiffText.{call_text, record_text, outcome_text, calls_text, head_text, kind_of, is_kind}
+use Rattle.sk_when.specs.Pieces.{is_shown, has_parts, meets_calls}
+
+abbrev pub clone : Record
+clone = native 56 0 (0x10000011 ∷ 0 ∷ 0 ∷ 0xffffffffffffffff ∷ 0 ∷ 1 ∷ [])
+
+abbrev pub unnamed : Record
+unnamed = native 4000 0x401000 (0 ∷ 0 ∷ 0 ∷ 0 ∷ 0 ∷ 0 ∷ [])
+
+-- a call with a name, and one without, which stands at an address; 56 is openat(2) on aarch64, and its record says aarch64
+pub record CallsWork : Type 0 where
+  pub named : call_text architecture.X86_64 clone ≡ codes "syscall(SYS_clone, 0x10000011, 0x0, 0x0, 0xffffffffffffffff, 0x0, 0x1)"
+  pub numbered : call_text architecture.X86_64 unnamed ≡ codes "syscall(4000, 0x0, 0x0, 0x0, 0x0, 0x0, 0x0) at 0x401000"
+  pub elsewhere : record_text architecture.Aarch64 clone ≡
+      codes "  record 38000000b70000c00000000000000000110000100000000000000000000000000000000000000000ffffffffffffffff00000000000000000100000000000000\n"
+      ++ codes "  syscall(SYS_openat, 0x10000011, 0x0, 0x0, 0xffffffffffffffff, 0x0, 0x1)\n"
+
+abbrev pub refused : Verdicts
+refused = record { old = 0x7fff0000; new = 0x00050001 }
+
+abbrev pub allowed : Verdicts
+allowed = record { old = 0x00050001; new = 0x7fff0000 }
+
+-- what the old chain answers stands first; an error for a call that was allowed is not looser, and the other way round it is;
+-- one error for another is neither
+pub record DifferencesWork : Type 0 where
+  pub verdicts : outcome_text (Some refused) ≡ codes "allow -> errno/1 EPERM"
+  pub unknown : outcome_text None ≡ codes "undecided"
+  pub this_one : calls_text This ≡ codes " on this call"
+  pub stricter : kind_of (Some refused) ≡ Other
+  pub looser : kind_of (Some allowed) ≡ Looser
+  pub neither : kind_of (Some (record refused { old = 0x00050026 })) ≡ Other
+  pub told_apart : is_kind Looser Other ≡ false
+  pub single : head_text architecture.X86_64 (record { first = 56; last = 56 }) ≡ codes "56 clone"
+  pub several : head_text architecture.X86_64 (record { first = 462; last = 4294967295 }) ≡ codes "462-4294967295 -"
+
+abbrev pub part : Part
+part = record { calls = Every; verdicts = Some refused; shown = None }
+
+-- what shows no call is no difference that was found, and leaves it undecided; a single call tells nothing of the others
+pub record PartsWork : Type 0 where
+  pub unseen : is_shown part ≡ false
+  pub seen : is_shown (record part { shown = Some clone }) ≡ true
+  pub undecided : has_parts (part ∷ []) ≡ true
+  pub alike : has_parts [] ≡ false
+  pub every : meets_calls Every clone ≡ true
+  pub others : meets_calls This clone ≡ false

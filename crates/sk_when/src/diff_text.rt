@@ -1,0 +1,274 @@
+//! The text of a comparison.
+ghost use Rattle.std.specs.Prelude.{◌≡◌, ◌++◌, IfOk, OnOk, string_bytes, codes, flat_map};
+ghost use Rattle.sk_when.specs.DiffText.{call_name_text, argument_text, address_text, call_text, differences_text, piece_text, kind_text, kind_of, is_kind, part_text, outcome_text, calls_text, head_text, shown_text, record_text, everywhere_text};
+
+use crate::piece::{Calls, Part, Piece};
+use sk_call_names::{Architecture, name};
+use sk_conditions::{Numbers, Relation, Verdicts, stands};
+use sk_filter::push_verdict;
+use sk_insn::Record;
+use sk_survey_lines::{name_of_numbers, push_numbers};
+use sk_terms::push_condition;
+use sk_text::HexDigits;
+use std::alloc::{AllocError, Global};
+use std::fmt::Write;
+
+/// What is said where two chains stand so to each other on every call.
+pub fn everywhere_text(relation: Relation) -> &'static str
+    ensures text { result.now ≡ everywhere_text relation }
+{
+    match relation {
+        Relation::Same => "the same on every call\n",
+        Relation::AsStrict => "as strict on every call\n",
+    }
+}
+
+/// The kinds of differences, in the order in which they are told.
+#[derive(Clone, Copy, Debug, PartialEq, Eq)]
+pub enum Kind {
+    /// The old chain's action takes precedence over the new one's.
+    Looser,
+    /// It does not.
+    Other,
+    /// It is undecided.
+    Undecided,
+}
+
+/// The differences, those first where the new chain is looser, and behind the others what is undecided. Calls have the names
+/// and the records that they have on the architecture.
+pub fn differences_text(
+    alloc: Global,
+    architecture: Architecture,
+    pieces: &[Piece],
+) -> Result<String, AllocError>
+    ensures text { IfOk result (λ text. string_bytes text ≡ differences_text architecture pieces.now) }
+{
+    let mut text = String::new(alloc);
+    push_all(&mut text, architecture, Kind::Looser, pieces)?;
+    push_all(&mut text, architecture, Kind::Other, pieces)?;
+    push_all(&mut text, architecture, Kind::Undecided, pieces)?;
+    Ok(text)
+}
+
+fn push_all(
+    text: &mut String,
+    architecture: Architecture,
+    kind: Kind,
+    pieces: &[Piece],
+) -> Result<(), AllocError>
+    ensures text { OnOk result (string_bytes text.new ≡ string_bytes text.old ++ flat_map (piece_text architecture kind) pieces.now) }
+{
+    for piece in pieces {
+        push_piece(text, architecture, kind, piece)?;
+    }
+    Ok(())
+}
+
+#[tactic(auto, unfolding(crate::specs::DiffText::piece_text))]
+fn push_piece(
+    text: &mut String,
+    architecture: Architecture,
+    kind: Kind,
+    piece: &Piece,
+) -> Result<(), AllocError>
+    ensures text { OnOk result (string_bytes text.new ≡ string_bytes text.old ++ piece_text architecture kind piece.now) }
+{
+    push_parts(text, architecture, kind, piece.numbers, &piece.parts)
+}
+
+fn push_parts(
+    text: &mut String,
+    architecture: Architecture,
+    kind: Kind,
+    numbers: Numbers,
+    parts: &[Part],
+) -> Result<(), AllocError>
+    ensures text { OnOk result (string_bytes text.new ≡ string_bytes text.old ++ flat_map (kind_text architecture kind numbers) parts.now) }
+{
+    for part in parts {
+        push_if_of(text, architecture, kind, numbers, part)?;
+    }
+    Ok(())
+}
+
+#[tactic(auto, unfolding(crate::specs::DiffText::kind_text))]
+fn push_if_of(
+    text: &mut String,
+    architecture: Architecture,
+    kind: Kind,
+    numbers: Numbers,
+    part: &Part,
+) -> Result<(), AllocError>
+    ensures text { OnOk result (string_bytes text.new ≡ string_bytes text.old ++ kind_text architecture kind numbers part.now) }
+{
+    if !is_kind(kind_of(part.verdicts), kind) {
+        return Ok(());
+    }
+    push_part(text, architecture, numbers, part)
+}
+
+fn kind_of(verdicts: Option<Verdicts>) -> Kind
+    ensures kind { result ≡ kind_of verdicts }
+{
+    match verdicts {
+        None => Kind::Undecided,
+        Some(pair) => {
+            if stands(Relation::AsStrict, pair.old, pair.new) {
+                Kind::Other
+            } else {
+                Kind::Looser
+            }
+        }
+    }
+}
+
+fn is_kind(one: Kind, other: Kind) -> bool
+    ensures same { result ≡ is_kind one other }
+{
+    match one {
+        Kind::Looser => matches!(other, Kind::Looser),
+        Kind::Other => matches!(other, Kind::Other),
+        Kind::Undecided => matches!(other, Kind::Undecided),
+    }
+}
+
+#[tactic(auto, unfolding(crate::specs::DiffText::part_text))]
+fn push_part(
+    text: &mut String,
+    architecture: Architecture,
+    numbers: Numbers,
+    part: &Part,
+) -> Result<(), AllocError>
+    ensures text { OnOk result (string_bytes text.new ≡ string_bytes text.old ++ part_text architecture numbers part.now) }
+{
+    push_head(text, architecture, numbers)?;
+    text.push_str(": ")?;
+    push_outcome(text, part.verdicts)?;
+    push_calls(text, &part.calls)?;
+    text.push_str("\n")?;
+    push_shown(text, architecture, part.verdicts, part.shown)
+}
+
+#[tactic(auto, unfolding(crate::specs::DiffText::verdicts_text))]
+fn push_outcome(text: &mut String, verdicts: Option<Verdicts>) -> Result<(), AllocError>
+    ensures text { OnOk result (string_bytes text.new ≡ string_bytes text.old ++ outcome_text verdicts) }
+{
+    match verdicts {
+        None => text.push_str("undecided"),
+        Some(pair) => {
+            push_verdict(text, pair.old)?;
+            text.push_str(" -> ")?;
+            push_verdict(text, pair.new)
+        }
+    }
+}
+
+fn push_calls(text: &mut String, calls: &Calls) -> Result<(), AllocError>
+    ensures text { OnOk result (string_bytes text.new ≡ string_bytes text.old ++ calls_text calls.now) }
+{
+    match calls {
+        Calls::Every => Ok(()),
+        Calls::Meeting(line) => {
+            text.push_str(" where ")?;
+            push_condition(text, line)
+        }
+        Calls::This => text.push_str(" on this call"),
+    }
+}
+
+fn push_shown(
+    text: &mut String,
+    architecture: Architecture,
+    verdicts: Option<Verdicts>,
+    shown: Option<Record>,
+) -> Result<(), AllocError>
+    ensures text { OnOk result (string_bytes text.new ≡ string_bytes text.old ++ shown_text architecture verdicts shown) }
+{
+    match shown {
+        Some(call) => push_record(text, architecture, call),
+        None => match verdicts {
+            Some(_) => text.push_str("  no call was found\n"),
+            None => Ok(()),
+        },
+    }
+}
+
+#[tactic(auto, unfolding(crate::specs::DiffText::record_text))]
+fn push_record(
+    text: &mut String,
+    architecture: Architecture,
+    call: Record,
+) -> Result<(), AllocError>
+    ensures text { OnOk result (string_bytes text.new ≡ string_bytes text.old ++ record_text architecture call) }
+{
+    let there = Record {
+        arch: architecture.audit(),
+        ..call
+    };
+    let record = HexDigits::<128>::of(&there.bytes());
+    write!(text, "  record {record}\n  ")?;
+    push_call(text, architecture, call)?;
+    text.push_str("\n")
+}
+
+#[tactic(auto, unfolding(crate::specs::DiffText::head_text))]
+fn push_head(
+    text: &mut String,
+    architecture: Architecture,
+    numbers: Numbers,
+) -> Result<(), AllocError>
+    ensures text { OnOk result (string_bytes text.new ≡ string_bytes text.old ++ head_text architecture numbers) }
+{
+    push_numbers(text, numbers.first, numbers.last)?;
+    text.push_str(" ")?;
+    text.push_str(name_of_numbers(architecture, numbers.first, numbers.last))
+}
+
+#[tactic(auto, unfolding(crate::specs::DiffText::call_text))]
+fn push_call(text: &mut String, architecture: Architecture, call: Record) -> Result<(), AllocError>
+    ensures text { OnOk result (string_bytes text.new ≡ string_bytes text.old ++ call_text architecture call) }
+{
+    text.push_str("syscall(")?;
+    push_call_name(text, architecture, call.nr)?;
+    push_arguments(text, &call.args)?;
+    text.push_str(")")?;
+    push_address(text, call.ip)
+}
+
+fn push_call_name(
+    text: &mut String,
+    architecture: Architecture,
+    number: u32,
+) -> Result<(), AllocError>
+    ensures text { OnOk result (string_bytes text.new ≡ string_bytes text.old ++ call_name_text architecture number) }
+{
+    match name(architecture, number) {
+        Some(name) => write!(text, "SYS_{name}"),
+        None => write!(text, "{number}"),
+    }
+}
+
+fn push_arguments(text: &mut String, arguments: &[u64]) -> Result<(), AllocError>
+    ensures text { OnOk result (string_bytes text.new ≡ string_bytes text.old ++ flat_map argument_text arguments.now) }
+{
+    for argument in arguments {
+        push_argument(text, *argument)?;
+    }
+    Ok(())
+}
+
+#[tactic(auto, unfolding(crate::specs::DiffText::argument_text))]
+fn push_argument(text: &mut String, argument: u64) -> Result<(), AllocError>
+    ensures text { OnOk result (string_bytes text.new ≡ string_bytes text.old ++ argument_text argument) }
+{
+    write!(text, ", 0x{argument:x}")
+}
+
+fn push_address(text: &mut String, address: u64) -> Result<(), AllocError>
+    ensures text { OnOk result (string_bytes text.new ≡ string_bytes text.old ++ address_text address) }
+{
+    if address == 0 {
+        return Ok(());
+    }
+    write!(text, " at 0x{address:x}")
+}

@@ -1,3 +1,0 @@
-pub mod ChangeLaws
-pub mod ReaperLaws
-pub mod WorkedWorlds
