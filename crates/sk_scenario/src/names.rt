@@ -112,10 +112,11 @@ pub(crate) fn find_names(alloc: Global, text: &[u8]) -> Result<Names<'_>, AllocE
 pub(crate) fn are_same(names: &Names<'_>, others: &Names<'_>) -> bool
     ensures same { IsTrue result → names_seen names.now ≡ names_seen others.now }
 {
-    if names.len() != others.len() {
+    let count = others.len();
+    if names.len() != count {
         return false;
     }
-    for at in 0..names.len() {
+    for at in 0..count {
         if !is_same_at(names, others, at) {
             return false;
         }

@@ -1,5 +1,5 @@
 //! All numbers of calls, in pieces that are compared one by one.
-ghost use Rattle.std.specs.Prelude.{ℕ, List, ◌≡◌, ◌+◌, ◌≤◌, IfOk, OnOk, IsTrue};
+ghost use Rattle.std.specs.Prelude.{ℕ, List, [], ◌∷◌, ◌++◌, ◌≡◌, ◌+◌, ◌≤◌, IfOk, OnOk, IsTrue};
 ghost use Rattle.sk_insn.specs.declared.insn.Insn.{Insn};
 ghost use Rattle.sk_conditions.specs.declared.standing.Relation.{Relation};
 ghost use Rattle.sk_when.specs.Pieces.{AreCompared, Holds, ArePartsOfOne};
@@ -83,11 +83,28 @@ fn push(pieces: &mut Vec<Piece>, architecture: Architecture, piece: Piece) -> Re
         pieces.push(piece)?;
         return Ok(());
     };
-    if !are_one(architecture, &last, &piece) {
-        pieces.push(last)?;
-        pieces.push(piece)?;
+    if are_one(architecture, &last, &piece) {
+        push_joined(pieces, last, piece)?;
         return Ok(());
     }
+    push_both(pieces, last, piece)?;
+    Ok(())
+}
+
+/// Adds both.
+fn push_both(pieces: &mut Vec<Piece>, last: Piece, piece: Piece) -> Result<(), AllocError>
+    ensures added { OnOk result (pieces.new.items ≡ (pieces.old.items ++ last ∷ []) ++ piece ∷ []) }
+{
+    pieces.push(last)?;
+    pieces.push(piece)?;
+    Ok(())
+}
+
+/// Adds one with the numbers of both, which says what the first one says.
+fn push_joined(pieces: &mut Vec<Piece>, last: Piece, piece: Piece) -> Result<(), AllocError>
+    ensures added { OnOk result (pieces.new.items ≡ pieces.old.items
+        ++ record { numbers = record { first = last.numbers.first; last = piece.numbers.last }; parts = last.parts } ∷ []) }
+{
     pieces.push(Piece {
         numbers: Numbers {
             first: last.numbers.first,

@@ -8,10 +8,11 @@ pub returns : goal.returns
 returns c =
     let size = length-map c.args.names.now.entries (λ entry. (entry.0.now, entry.1)) in
     let other = length-map c.args.others.now.entries (λ entry. (entry.0.now, entry.1)) in
-    let count = c.len-at-end.ensures.len in
+    let len = c.len.ensures.len in
+    let same = c.if-len-count.false in
     let end = c.loop-at-test.false in
     record {
       same = λ t. same_elements (names_seen c.args.names.now) (names_seen c.args.others.now)
-          (size ∙ sym c.len.ensures.len ∙ c.if-len.false ∙ c.len-2.ensures.len ∙ sym other)
-          (λ k below. c.loop-at.invariant k (omega (arith, below, size, count, end)));
+          (size ∙ sym len ∙ same ∙ c.len-count.ensures.len ∙ sym other)
+          (λ k below. c.loop-at.invariant k (omega (arith, below, size, len, same, end)));
     }
