@@ -10,7 +10,6 @@ mod found;
 pub mod laws;
 mod line;
 mod listing;
-mod names;
 mod parse;
 mod passes;
 mod printable;

@@ -10,11 +10,10 @@ ghost use Rattle.sk_asm.specs.Views.{said, said_by, statement};
 ghost use Rattle.sk_asm.specs.declared.shape.Shape.TheVariants.{Bare, Number, Action, Target, Compare, CompareIndex};
 
 use crate::fault::AsmFault;
-use crate::names::operation;
 use crate::shape::Shape;
 use crate::statement::{Begun, Jump, Target as Goal};
 use crate::value::{byte, destination, half, label, returned, word};
-use sk_insn::Insn;
+use sk_insn::{Insn, Operation};
 use sk_text::{
     Words, four_words, is_printable, is_word, no_word, one_word, three_words, two_words,
 };
@@ -77,7 +76,7 @@ fn begin_instruction<'a>(first: &'a [u8], words: Words<'a>) -> Option<Begun<'a>>
     if is_word(first, b".insn") {
         return Some(Begun::Fields(words.0));
     }
-    let operation = operation(first)?;
+    let operation = Operation::named(first)?;
     Some(Begun::Form(Shape::of(operation), operation.code(), words.0))
 }
 

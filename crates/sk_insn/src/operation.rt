@@ -1,6 +1,6 @@
 //! The table of the operations: their codes, their names, and the parts that they are made of.
-ghost use Rattle.std.specs.Prelude.{◌≡◌};
-ghost use Rattle.sk_insn.specs.Operations.{operation_of, operation_named, code_of, name_of};
+ghost use Rattle.std.specs.Prelude.{◌≡◌, ◌<◌, ◌≤◌, length};
+ghost use Rattle.sk_insn.specs.Operations.{operation_of, operation_named, code_of, name_of, load_class, store_class, arithmetic_bits, comparison_bits, source_bit};
 
 /// One of the two registers of the machine.
 #[derive(Clone, Copy, Debug, PartialEq, Eq)]
@@ -75,50 +75,6 @@ pub enum Operation {
     CopyToAccumulator,
 }
 
-const OPERATIONS: [Operation; 41] = [
-    Operation::LoadRecord,
-    Operation::LoadConstant(Register::Accumulator),
-    Operation::LoadConstant(Register::Index),
-    Operation::LoadScratch(Register::Accumulator),
-    Operation::LoadScratch(Register::Index),
-    Operation::LoadLength(Register::Accumulator),
-    Operation::LoadLength(Register::Index),
-    Operation::StoreScratch(Register::Accumulator),
-    Operation::StoreScratch(Register::Index),
-    Operation::Compute(Arithmetic::Add, Operand::Constant),
-    Operation::Compute(Arithmetic::Add, Operand::IndexRegister),
-    Operation::Compute(Arithmetic::Subtract, Operand::Constant),
-    Operation::Compute(Arithmetic::Subtract, Operand::IndexRegister),
-    Operation::Compute(Arithmetic::Multiply, Operand::Constant),
-    Operation::Compute(Arithmetic::Multiply, Operand::IndexRegister),
-    Operation::Compute(Arithmetic::Divide, Operand::Constant),
-    Operation::Compute(Arithmetic::Divide, Operand::IndexRegister),
-    Operation::Compute(Arithmetic::Or, Operand::Constant),
-    Operation::Compute(Arithmetic::Or, Operand::IndexRegister),
-    Operation::Compute(Arithmetic::And, Operand::Constant),
-    Operation::Compute(Arithmetic::And, Operand::IndexRegister),
-    Operation::Compute(Arithmetic::ShiftLeft, Operand::Constant),
-    Operation::Compute(Arithmetic::ShiftLeft, Operand::IndexRegister),
-    Operation::Compute(Arithmetic::ShiftRight, Operand::Constant),
-    Operation::Compute(Arithmetic::ShiftRight, Operand::IndexRegister),
-    Operation::Compute(Arithmetic::ExclusiveOr, Operand::Constant),
-    Operation::Compute(Arithmetic::ExclusiveOr, Operand::IndexRegister),
-    Operation::Negate,
-    Operation::Jump,
-    Operation::Branch(Comparison::Equal, Operand::Constant),
-    Operation::Branch(Comparison::Equal, Operand::IndexRegister),
-    Operation::Branch(Comparison::Greater, Operand::Constant),
-    Operation::Branch(Comparison::Greater, Operand::IndexRegister),
-    Operation::Branch(Comparison::GreaterOrEqual, Operand::Constant),
-    Operation::Branch(Comparison::GreaterOrEqual, Operand::IndexRegister),
-    Operation::Branch(Comparison::CommonBits, Operand::Constant),
-    Operation::Branch(Comparison::CommonBits, Operand::IndexRegister),
-    Operation::ReturnConstant,
-    Operation::ReturnAccumulator,
-    Operation::CopyToIndex,
-    Operation::CopyToAccumulator,
-];
-
 /// The operation with this code, if there is one.
 #[tactic(auto, unfolding(crate::specs::Operations::operation_of))]
 #[inline(always)]
@@ -171,49 +127,84 @@ pub fn decode(code: u16) -> Option<Operation>
     }
 }
 
+impl Register {
+    fn load_class(self) -> u16
+        ensures class { result ≡ load_class self }
+    {
+        match self {
+            Register::Accumulator => 0x00,
+            Register::Index => 0x01,
+        }
+    }
+
+    fn store_class(self) -> u16
+        ensures class { result ≡ store_class self }
+    {
+        match self {
+            Register::Accumulator => 0x02,
+            Register::Index => 0x03,
+        }
+    }
+}
+
+impl Operand {
+    fn bit(self) -> u16
+        ensures bit { result ≡ source_bit self }
+    {
+        match self {
+            Operand::Constant => 0x00,
+            Operand::IndexRegister => 0x08,
+        }
+    }
+}
+
+impl Arithmetic {
+    fn bits(self) -> u16
+        ensures bits { result ≡ arithmetic_bits self }
+    {
+        match self {
+            Arithmetic::Add => 0x00,
+            Arithmetic::Subtract => 0x10,
+            Arithmetic::Multiply => 0x20,
+            Arithmetic::Divide => 0x30,
+            Arithmetic::Or => 0x40,
+            Arithmetic::And => 0x50,
+            Arithmetic::ShiftLeft => 0x60,
+            Arithmetic::ShiftRight => 0x70,
+            Arithmetic::ExclusiveOr => 0xa0,
+        }
+    }
+}
+
+impl Comparison {
+    fn bits(self) -> u16
+        ensures bits { result ≡ comparison_bits self }
+    {
+        match self {
+            Comparison::Equal => 0x10,
+            Comparison::Greater => 0x20,
+            Comparison::GreaterOrEqual => 0x30,
+            Comparison::CommonBits => 0x40,
+        }
+    }
+}
+
 impl Operation {
-    /// Its code.
+    /// Its code: the class with the operation and the source.
+    #[inline]
     pub fn code(self) -> u16
         ensures code { result ≡ code_of self }
     {
         match self {
             Operation::LoadRecord => 0x20,
-            Operation::LoadConstant(Register::Accumulator) => 0x00,
-            Operation::LoadConstant(Register::Index) => 0x01,
-            Operation::LoadScratch(Register::Accumulator) => 0x60,
-            Operation::LoadScratch(Register::Index) => 0x61,
-            Operation::LoadLength(Register::Accumulator) => 0x80,
-            Operation::LoadLength(Register::Index) => 0x81,
-            Operation::StoreScratch(Register::Accumulator) => 0x02,
-            Operation::StoreScratch(Register::Index) => 0x03,
-            Operation::Compute(Arithmetic::Add, Operand::Constant) => 0x04,
-            Operation::Compute(Arithmetic::Add, Operand::IndexRegister) => 0x0c,
-            Operation::Compute(Arithmetic::Subtract, Operand::Constant) => 0x14,
-            Operation::Compute(Arithmetic::Subtract, Operand::IndexRegister) => 0x1c,
-            Operation::Compute(Arithmetic::Multiply, Operand::Constant) => 0x24,
-            Operation::Compute(Arithmetic::Multiply, Operand::IndexRegister) => 0x2c,
-            Operation::Compute(Arithmetic::Divide, Operand::Constant) => 0x34,
-            Operation::Compute(Arithmetic::Divide, Operand::IndexRegister) => 0x3c,
-            Operation::Compute(Arithmetic::Or, Operand::Constant) => 0x44,
-            Operation::Compute(Arithmetic::Or, Operand::IndexRegister) => 0x4c,
-            Operation::Compute(Arithmetic::And, Operand::Constant) => 0x54,
-            Operation::Compute(Arithmetic::And, Operand::IndexRegister) => 0x5c,
-            Operation::Compute(Arithmetic::ShiftLeft, Operand::Constant) => 0x64,
-            Operation::Compute(Arithmetic::ShiftLeft, Operand::IndexRegister) => 0x6c,
-            Operation::Compute(Arithmetic::ShiftRight, Operand::Constant) => 0x74,
-            Operation::Compute(Arithmetic::ShiftRight, Operand::IndexRegister) => 0x7c,
-            Operation::Compute(Arithmetic::ExclusiveOr, Operand::Constant) => 0xa4,
-            Operation::Compute(Arithmetic::ExclusiveOr, Operand::IndexRegister) => 0xac,
+            Operation::LoadConstant(register) => register.load_class(),
+            Operation::LoadScratch(register) => register.load_class() + 0x60,
+            Operation::LoadLength(register) => register.load_class() + 0x80,
+            Operation::StoreScratch(register) => register.store_class(),
+            Operation::Compute(arithmetic, operand) => 0x04 + arithmetic.bits() + operand.bit(),
             Operation::Negate => 0x84,
             Operation::Jump => 0x05,
-            Operation::Branch(Comparison::Equal, Operand::Constant) => 0x15,
-            Operation::Branch(Comparison::Equal, Operand::IndexRegister) => 0x1d,
-            Operation::Branch(Comparison::Greater, Operand::Constant) => 0x25,
-            Operation::Branch(Comparison::Greater, Operand::IndexRegister) => 0x2d,
-            Operation::Branch(Comparison::GreaterOrEqual, Operand::Constant) => 0x35,
-            Operation::Branch(Comparison::GreaterOrEqual, Operand::IndexRegister) => 0x3d,
-            Operation::Branch(Comparison::CommonBits, Operand::Constant) => 0x45,
-            Operation::Branch(Comparison::CommonBits, Operand::IndexRegister) => 0x4d,
+            Operation::Branch(comparison, operand) => 0x05 + comparison.bits() + operand.bit(),
             Operation::ReturnConstant => 0x06,
             Operation::ReturnAccumulator => 0x16,
             Operation::CopyToIndex => 0x07,
@@ -271,12 +262,80 @@ impl Operation {
     }
 
     /// The operation with this name, if there is one.
+    #[inline(always)]
     pub fn named(name: &[u8]) -> Option<Operation>
         ensures operation { result ≡ operation_named name.now }
     {
-        OPERATIONS
-            .iter()
-            .copied()
-            .find(|operation| operation.name().as_bytes() == name)
+        if name.len() < 6 {
+            Operation::short_named(name)
+        } else {
+            Operation::long_named(name)
+        }
+    }
+
+    #[inline(always)]
+    fn short_named(name: &[u8]) -> Option<Operation>
+        requires short { length name.now < 6 }
+        ensures operation { result ≡ operation_named name.now }
+    {
+        match name {
+            b"ldabs" => Some(Operation::LoadRecord),
+            b"ldimm" => Some(Operation::LoadConstant(Register::Accumulator)),
+            b"ldmem" => Some(Operation::LoadScratch(Register::Accumulator)),
+            b"ldlen" => Some(Operation::LoadLength(Register::Accumulator)),
+            b"st" => Some(Operation::StoreScratch(Register::Accumulator)),
+            b"stx" => Some(Operation::StoreScratch(Register::Index)),
+            b"add" => Some(Operation::Compute(Arithmetic::Add, Operand::Constant)),
+            b"addx" => Some(Operation::Compute(Arithmetic::Add, Operand::IndexRegister)),
+            b"sub" => Some(Operation::Compute(Arithmetic::Subtract, Operand::Constant)),
+            b"subx" => Some(Operation::Compute(Arithmetic::Subtract, Operand::IndexRegister)),
+            b"mul" => Some(Operation::Compute(Arithmetic::Multiply, Operand::Constant)),
+            b"mulx" => Some(Operation::Compute(Arithmetic::Multiply, Operand::IndexRegister)),
+            b"div" => Some(Operation::Compute(Arithmetic::Divide, Operand::Constant)),
+            b"divx" => Some(Operation::Compute(Arithmetic::Divide, Operand::IndexRegister)),
+            b"or" => Some(Operation::Compute(Arithmetic::Or, Operand::Constant)),
+            b"orx" => Some(Operation::Compute(Arithmetic::Or, Operand::IndexRegister)),
+            b"and" => Some(Operation::Compute(Arithmetic::And, Operand::Constant)),
+            b"andx" => Some(Operation::Compute(Arithmetic::And, Operand::IndexRegister)),
+            b"lsh" => Some(Operation::Compute(Arithmetic::ShiftLeft, Operand::Constant)),
+            b"lshx" => Some(Operation::Compute(Arithmetic::ShiftLeft, Operand::IndexRegister)),
+            b"rsh" => Some(Operation::Compute(Arithmetic::ShiftRight, Operand::Constant)),
+            b"rshx" => Some(Operation::Compute(Arithmetic::ShiftRight, Operand::IndexRegister)),
+            b"xor" => Some(Operation::Compute(Arithmetic::ExclusiveOr, Operand::Constant)),
+            b"xorx" => Some(Operation::Compute(Arithmetic::ExclusiveOr, Operand::IndexRegister)),
+            b"neg" => Some(Operation::Negate),
+            b"ja" => Some(Operation::Jump),
+            b"jeq" => Some(Operation::Branch(Comparison::Equal, Operand::Constant)),
+            b"jeqx" => Some(Operation::Branch(Comparison::Equal, Operand::IndexRegister)),
+            b"jgt" => Some(Operation::Branch(Comparison::Greater, Operand::Constant)),
+            b"jgtx" => Some(Operation::Branch(Comparison::Greater, Operand::IndexRegister)),
+            b"jge" => Some(Operation::Branch(Comparison::GreaterOrEqual, Operand::Constant)),
+            b"jgex" => Some(Operation::Branch(Comparison::GreaterOrEqual, Operand::IndexRegister)),
+            b"jset" => Some(Operation::Branch(Comparison::CommonBits, Operand::Constant)),
+            b"jsetx" => Some(Operation::Branch(Comparison::CommonBits, Operand::IndexRegister)),
+            b"ret" => Some(Operation::ReturnConstant),
+            b"reta" => Some(Operation::ReturnAccumulator),
+            b"tax" => Some(Operation::CopyToIndex),
+            b"txa" => Some(Operation::CopyToAccumulator),
+            _ => None,
+        }
+    }
+
+    fn long_named(name: &[u8]) -> Option<Operation>
+        requires long { 6 ≤ length name.now }
+        ensures operation { result ≡ operation_named name.now }
+    {
+        let is_constant = b"ldximm".as_slice() == name;
+        let is_scratch = b"ldxmem".as_slice() == name;
+        let is_length = b"ldxlen".as_slice() == name;
+        if is_constant {
+            Some(Operation::LoadConstant(Register::Index))
+        } else if is_scratch {
+            Some(Operation::LoadScratch(Register::Index))
+        } else if is_length {
+            Some(Operation::LoadLength(Register::Index))
+        } else {
+            None
+        }
     }
 }
