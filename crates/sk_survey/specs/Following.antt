@@ -1,13 +1,14 @@
 -- What the pass knows of the states of a machine, while it follows every call with one of some numbers.
-use Rattle.std.specs.Prelude.{ℕ, ◌≡◌, ◌+◌, ◌<◌, ◌⊎◌, List, Option, Some, None, slice_get, slice_set}
+use Rattle.std.specs.Prelude.{ℕ, ◌≡◌, ◌+◌, ◌<◌, ◌≤◌, ◌⊎◌, true, false, List, Option, Some, None, slice_get, slice_set}
 use Rattle.sk_insn.specs.declared.insn.Insn.{Insn}
 use Rattle.sk_insn.specs.declared.record.Record.{Record}
 use Rattle.sk_insn.specs.declared.operation.Register.{Register}
 use Rattle.sk_insn.specs.declared.operation.Register.TheVariants.{Accumulator, Index}
+use Rattle.sk_insn.specs.declared.operation.Comparison.{Comparison}
 use Rattle.sk_insn.specs.declared.operation.Operand.{Operand}
 use Rattle.sk_insn.specs.declared.operation.Operand.TheVariants.{Constant, IndexRegister}
 use Rattle.sk_filter.specs.Paths.{Onward, Nowhere, To, Either as Both}
-use Rattle.sk_filter.specs.Meaning.{State, Effect, GoesOn, Ends}
+use Rattle.sk_filter.specs.Meaning.{State, Effect, GoesOn, Ends, holds}
 use Rattle.sk_survey.specs.declared.known.Known.{Known}
 use Rattle.sk_survey.specs.declared.known.Known.TheVariants.{Any, Number, Is}
 use Rattle.sk_survey.specs.declared.known.Knowledge.{Knowledge}
@@ -77,6 +78,15 @@ abbrev pub TellsEnd : Next → ℕ → Type 0
 TellsEnd (End known) value = StandsFor known value
 TellsEnd FollowingOrZero value = value ≡ 0
 TellsEnd next value = ⊥
+
+-- one number of the range passes the test, and one does not
+pub record IsParted (comparison : Comparison) (k first last : ℕ) : Type 0 where
+  pub passing : ℕ
+  pub failing : ℕ
+  pub passing_is_in : (first ≤ passing) × (passing ≤ last)
+  pub failing_is_in : (first ≤ failing) × (failing ≤ last)
+  pub passes : holds comparison passing k ≡ true
+  pub fails : holds comparison failing k ≡ false
 
 -- what is known of a number is which one it is
 abbrev pub IsExact : Known → Type 0

@@ -1,15 +1,15 @@
 //! Which side of a conditional jump every call takes, where that is known.
-ghost use Rattle.std.specs.Prelude.{◌≡◌, ℕ, ◌≤◌, IfSome, IsSome};
+ghost use Rattle.std.specs.Prelude.{◌≡◌, ◌≢◌, ℕ, ◌≤◌, None, IfSome, IsSome};
 ghost use Rattle.sk_insn.specs.declared.record.Record.{Record};
 ghost use Rattle.sk_filter.specs.Meaning.{holds};
 ghost use Rattle.sk_survey.specs.Answers.{IsCallOf};
-ghost use Rattle.sk_survey.specs.Following.{Describes, IsExact};
+ghost use Rattle.sk_survey.specs.Following.{Describes, IsExact, IsParted};
 
 use crate::known::Known;
 use sk_filter::holds;
 use sk_insn::Comparison;
 
-/// The test's answer for each call with a number of the range, where all of them have the same.
+/// The test's answer for each call with a number of the range, where it is seen to be the same for all.
 pub(crate) fn decide(
     comparison: Comparison,
     a: Known,
@@ -29,14 +29,16 @@ pub(crate) fn decide(
     }
 }
 
-/// The same for the call's number and a constant.
+/// The test's answer for each number of the range and a constant, where it is seen to be the same for all: always of one
+/// number, and of an order wherever it is.
 pub fn decide_number(comparison: Comparison, k: u32, first: u32, last: u32) -> Option<bool>
     requires range { first ≤ last }
-    ensures { IfSome result (λ answer. (nr : ℕ) → first ≤ nr → nr ≤ last → holds comparison nr k ≡ answer) }
+    ensures answer { IfSome result (λ answer. (nr : ℕ) → first ≤ nr → nr ≤ last → holds comparison nr k ≡ answer) }
+    ensures alone { first ≡ last → IsSome result }
+    ensures parted { result ≡ None → comparison ≢ Comparison.CommonBits → IsParted comparison k first last }
 {
     match comparison {
-        Comparison::Equal if k < first || last < k => Some(false),
-        Comparison::Equal => None,
+        Comparison::Equal => decide_equal(k, first, last),
         Comparison::Greater if k < first => Some(true),
         Comparison::Greater if last <= k => Some(false),
         Comparison::Greater => None,
@@ -47,12 +49,30 @@ pub fn decide_number(comparison: Comparison, k: u32, first: u32, last: u32) -> O
     }
 }
 
+/// Whether all numbers of the range are the constant, or none is.
+fn decide_equal(k: u32, first: u32, last: u32) -> Option<bool>
+    requires range { first ≤ last }
+    ensures answer { IfSome result (λ answer. (nr : ℕ) → first ≤ nr → nr ≤ last
+        → holds Comparison.Equal nr k ≡ answer) }
+    ensures alone { first ≡ last → IsSome result }
+    ensures parted { result ≡ None → IsParted Comparison.Equal k first last }
+{
+    if k < first || last < k {
+        Some(false)
+    } else if first == last {
+        Some(true)
+    } else {
+        None
+    }
+}
+
 /// Whether all numbers of the range have bits in common with a constant, or none has. It depends on what stands from
 /// the constant's lowest bit on.
 fn common_bits(k: u32, first: u32, last: u32) -> Option<bool>
     requires range { first ≤ last }
-    ensures { IfSome result (λ answer. (nr : ℕ) → first ≤ nr → nr ≤ last
+    ensures answer { IfSome result (λ answer. (nr : ℕ) → first ≤ nr → nr ≤ last
         → holds Comparison.CommonBits nr k ≡ answer) }
+    ensures alone { first ≡ last → IsSome result }
 {
     if k == 0 {
         return Some(false);

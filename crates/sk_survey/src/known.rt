@@ -1,5 +1,5 @@
 //! What is known of numbers in a filter while nothing is known of a call but the range of its number.
-ghost use Rattle.std.specs.Prelude.{ℕ, ◌<◌, Option};
+ghost use Rattle.std.specs.Prelude.{◌≡◌, ℕ, ◌<◌, Option};
 ghost use Rattle.sk_insn.specs.declared.record.Record.{Record};
 ghost use Rattle.sk_filter.specs.Meaning.{State};
 ghost use Rattle.sk_survey.specs.Following.{Describes, DescribesWord, DescribesWords, DescribesState, IsWhole, zeros};
@@ -20,6 +20,7 @@ impl Known {
     pub fn join(self, other: Known) -> Known
         ensures one { (call : Record) (n : ℕ) → Describes self call n → Describes result call n }
         ensures other { (call : Record) (n : ℕ) → Describes other call n → Describes result call n }
+        ensures same { self ≡ other → result ≡ self }
     {
         if self == other { self } else { Known::Any }
     }
@@ -50,6 +51,7 @@ impl Knowledge {
     pub fn join(&mut self, other: &Knowledge)
         ensures one { (call : Record) (s : State) → DescribesState self.old call s → DescribesState self.new call s }
         ensures other { (call : Record) (s : State) → DescribesState other.now call s → DescribesState self.new call s }
+        ensures same { self.old ≡ other.now → self.new ≡ self.old }
     {
         self.a = self.a.join(other.a);
         self.x = self.x.join(other.x);
@@ -62,6 +64,7 @@ fn join_words(words: &mut [Known; 16], others: &[Known; 16])
         → DescribesWords words.new call stored }
     ensures other { (call : Record) (stored : ℕ → Option ℕ) → DescribesWords others.now call stored
         → DescribesWords words.new call stored }
+    ensures same { words.old ≡ others.now → words.new ≡ words.old }
 {
     for k in 0..16 {
         words[k] = words[k].join(others[k]);

@@ -1,5 +1,6 @@
-use Rattle.std.proofs.Common.{◌≡◌, ℕ, ◌<◌, inl, inr, Option, length, slice_get, set, length-set, subst, sym, ◌∙◌, arith}
+use Rattle.std.proofs.Common.{◌≡◌, ℕ, ◌<◌, inl, inr, Option, refl, length, slice_get, ap, set, length-set, subst, sym, ◌∙◌, arith}
 use Rattle.std.proofs.lemmas.Bool.{cases_eq}
+use Rattle.std.proofs.lemmas.List.{set-get_or}
 use Rattle.sk_insn.specs.declared.record.Record.{Record}
 use Rattle.sk_survey.specs.Following.{DescribesWord}
 use Rattle.sk_survey.proofs.KnownWords.{word_joined, word_set, word_known}
@@ -27,4 +28,8 @@ loop-k-preserved c =
             (subst (λ i. DescribesWord (slice_get others i) call word) same is)))
         | inr other ↦ kept j call word (c.loop-k.invariant.other j (omega arith) call word is)
       ];
+      same = λ e.
+          let unchanged = c.loop-k.invariant.same e in
+          let alike = c.join.ensures.same (rw (unchanged ∙ e) refl) in
+          ap (λ word. set words k word) alike ∙ set-get_or words k _ ∙ unchanged;
     }

@@ -8,4 +8,5 @@ invariant-loop-k l = record {
   sized : length l.words ≡ 16;
   one : (j : ℕ) → j < 16 → (call : Record) (word : Option ℕ) → DescribesWord (slice_get l.initial.words j) call word → DescribesWord (slice_get l.words j) call word;
   other : (j : ℕ) → j < l.k → (call : Record) (word : Option ℕ) → DescribesWord (slice_get l.others j) call word → DescribesWord (slice_get l.words j) call word;
+  same : l.initial.words ≡ l.others → l.words ≡ l.initial.words;
 }
