@@ -14,7 +14,7 @@ use Rattle.sk_machine.specs.declared.answer.Outcome.TheVariants.{Told, Waits}
 use Rattle.sk_machine.specs.Arguments.{low, signed, who_meant}
 use Rattle.sk_machine.specs.Performed.{Performed, returns, fails, waits, waiting_in}
 
--- WNOHANG is 1, WUNTRACED 2, WCONTINUED 8; there is no other option
+-- WNOHANG is 1, WUNTRACED 2, WCONTINUED 8. The others of wait(2), __WNOTHREAD, __WALL and __WCLONE, are of threads, and none is taken
 abbrev pub are_wait_options : ℕ → Bool
 are_wait_options bits = bit_and bits 11 == bits
 
