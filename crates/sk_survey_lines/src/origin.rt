@@ -1,4 +1,5 @@
 //! Which word of a call a number was made from, and calls with another word.
+ghost use Rattle.std.specs.Prelude.{◌≡◌};
 
 use sk_insn::{Comparison, Record};
 
@@ -12,7 +13,9 @@ pub struct Origin {
 
 impl Origin {
     /// The call with these bits of the word.
-    pub fn with(self, call: &Record, bits: u32) -> Record {
+    pub fn with(self, call: &Record, bits: u32) -> Record
+        ensures architecture { result.arch ≡ call.now.arch }
+    {
         let word = word_at(call, self.place);
         with_word(call, self.place, word & !self.bits | bits & self.bits)
     }
@@ -26,7 +29,9 @@ impl Origin {
         a: u32,
         b: u32,
         held: bool,
-    ) -> Record {
+    ) -> Record
+        ensures architecture { result.arch ≡ call.now.arch }
+    {
         let lowest = self.bits & self.bits.wrapping_neg();
         let bits = match (comparison, held) {
             (Comparison::Equal | Comparison::GreaterOrEqual, false) | (Comparison::Greater, true) =>
@@ -49,8 +54,9 @@ fn word_at(call: &Record, place: u8) -> u32 {
     }
 }
 
-// The architecture is the same for all calls, and stays.
-fn with_word(call: &Record, place: u8, word: u32) -> Record {
+fn with_word(call: &Record, place: u8, word: u32) -> Record
+    ensures architecture { result.arch ≡ call.now.arch }
+{
     let mut other = *call;
     match place {
         0 => other.nr = word,
