@@ -6,7 +6,7 @@ ghost use Rattle.sk_ask_filters.specs.Given.{ArePlaced, IsGiven};
 
 use crate::fault::{FileFault, Refused};
 use crate::found::{Found, Place};
-use sk_engines::chain_of;
+use sk_engines::attach_images;
 use sk_filter::Chain;
 use std::alloc::{AllocError, Global};
 
@@ -16,8 +16,8 @@ pub fn attach(alloc: Global, found: &Found) -> Result<Result<Chain, Refused>, Al
     ensures exact { IfOk result (λ chain. chain ≡ chain_of (filters_of found.now)) }
     ensures given { (count : ℕ) → ArePlaced count (filters_of found.now) → IfOk result (IsGiven count) }
 {
-    match chain_of(alloc, &found.images)? {
-        Ok(chain) => Ok(Ok(chain)),
+    match attach_images(alloc, &found.images)? {
+        Ok(filters) => Ok(Ok(Chain::over(filters))),
         Err((number, why)) => {
             let place = place_at(&found.places, number);
             Ok(Err(Refused {

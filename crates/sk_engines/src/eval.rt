@@ -13,10 +13,10 @@ ghost use Rattle.sk_engines.specs.Reply.{output_of};
 use crate::engine::{Command, run};
 use crate::eval_input::{Asked, gather};
 use crate::fault::CommandFault;
-use crate::filters::chain_of;
+use crate::filters::attach_images;
 use crate::refusal::refusal_reply;
 use crate::reply::Reply;
-use sk_filter::{Chain, Ran, first_of};
+use sk_filter::{Filters, Ran, first_of};
 use sk_insn::{Action, Record};
 use sk_io::{Sink, Source};
 use sk_text::hex_word;
@@ -56,18 +56,18 @@ fn asked_reply(alloc: Global, asked: &Asked) -> Result<Reply, AllocError>
     ensures answer { IfOk result (λ reply.
         output_of reply ≡ chained_answer asked.now.call (chained 0 [] (map (λ image. image.items) asked.now.images.items))) }
 {
-    match chain_of(alloc, &asked.images)? {
-        Ok(chain) => Ok(Reply::Done(chain_text(alloc, &asked.call, &chain)?)),
+    match attach_images(alloc, &asked.images)? {
+        Ok(filters) => Ok(Reply::Done(chain_text(alloc, &asked.call, &filters)?)),
         Err((number, refusal)) => Ok(refusal_reply(number, refusal)),
     }
 }
 
-fn chain_text(alloc: Global, call: &Record, chain: &Chain) -> Result<String, AllocError>
-    ensures text { IfOk result (λ text. string_bytes text ≡ chain_text call.now chain.now) }
+fn chain_text(alloc: Global, call: &Record, filters: &Filters) -> Result<String, AllocError>
+    ensures text { IfOk result (λ text. string_bytes text ≡ chain_text call.now filters.now) }
 {
     let mut text = String::new(alloc);
-    let mut values = Vec::with_capacity(alloc, chain.len())?;
-    for program in chain.programs() {
+    let mut values = Vec::with_capacity(alloc, filters.len())?;
+    for program in filters.programs() {
         let ran = sk_filter::run(program, call);
         push_ran(&mut text, ran)?;
         values.push(ran.value)?;

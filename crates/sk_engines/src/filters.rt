@@ -1,4 +1,4 @@
-//! The filters that a command is given: their bytes, and the chain that they make.
+//! The filters that a command is given: their bytes, and how they are attached.
 ghost use Rattle.std.specs.Prelude.{◌≡◌, IfOk, [], map};
 ghost use Rattle.std.specs.Option.{option_map};
 ghost use Rattle.sk_insn.specs.Instructions.{image_instructions};
@@ -7,7 +7,7 @@ ghost use Rattle.sk_text.specs.Lines.{words_of};
 ghost use Rattle.sk_text.specs.Hexadecimal.{hex_bytes};
 ghost use Rattle.sk_engines.specs.Filters.{chained, image_attached, program_attached};
 
-use sk_filter::{Chain, ChainFault, CheckFault, Checked, check};
+use sk_filter::{ChainFault, CheckFault, Checked, Filters, check};
 use sk_insn::{Insn, NoImage, read_image};
 use sk_text::{HexFault, Words, bytes_of};
 use std::alloc::{AllocError, Global};
@@ -22,7 +22,7 @@ pub enum Refusal {
     Image(NoImage),
     /// Its program is not valid.
     Program(CheckFault),
-    /// The chain has no room for it.
+    /// The filters before it leave no room for it.
     PathLimit,
 }
 
@@ -37,51 +37,54 @@ pub fn bytes_in(alloc: Global, digits: Words<'_>) -> Result<Option<Vec<u8>>, All
     }
 }
 
-/// The chain of the filters with these images, the oldest first. The first one that is refused is told by its number,
+/// Attaches the filters with these images, the oldest first. The first one that is refused is told by its number,
 /// from 0 on.
-pub fn chain_of(
+pub fn attach_images(
     alloc: Global,
     images: &[Vec<u8>],
-) -> Result<Result<Chain, (usize, Refusal)>, AllocError>
-    ensures chain { IfOk result (λ chain. chain ≡ chained 0 [] (map (λ image. image.items) images.now)) }
+) -> Result<Result<Filters, (usize, Refusal)>, AllocError>
+    ensures chain { IfOk result (λ filters. filters ≡ chained 0 [] (map (λ image. image.items) images.now)) }
 {
-    let mut chain = Chain::empty(alloc);
+    let mut filters = Filters::empty(alloc);
     for (number, image) in images.iter().enumerate() {
-        chain = match attach_image(alloc, chain, image.as_slice())? {
-            Ok(chain) => chain,
+        filters = match attach_image(alloc, filters, image.as_slice())? {
+            Ok(filters) => filters,
             Err(refusal) => return Ok(Err((number, refusal))),
         };
     }
-    Ok(Ok(chain))
+    Ok(Ok(filters))
 }
 
 fn attach_image(
     alloc: Global,
-    chain: Chain,
+    filters: Filters,
     image: &[u8],
-) -> Result<Result<Chain, Refusal>, AllocError>
-    ensures chain { IfOk result (λ attached. attached ≡ image_attached chain (image_instructions image.now)) }
+) -> Result<Result<Filters, Refusal>, AllocError>
+    ensures chain { IfOk result (λ attached. attached ≡ image_attached filters (image_instructions image.now)) }
 {
     match read_image(alloc, image)? {
-        Ok(insns) => attach_program(chain, insns),
+        Ok(insns) => attach_program(filters, insns),
         Err(why) => Ok(Err(Refusal::Image(why))),
     }
 }
 
-fn attach_program(chain: Chain, insns: Vec<Insn>) -> Result<Result<Chain, Refusal>, AllocError>
-    ensures chain { IfOk result (λ attached. attached ≡ program_attached chain insns.items (first_fault insns.items)) }
+fn attach_program(
+    filters: Filters,
+    insns: Vec<Insn>,
+) -> Result<Result<Filters, Refusal>, AllocError>
+    ensures chain { IfOk result (λ attached. attached ≡ program_attached filters insns.items (first_fault insns.items)) }
 {
     match check(insns) {
-        Ok(program) => attach(chain, program),
+        Ok(program) => attach(filters, program),
         Err((_, fault)) => Ok(Err(Refusal::Program(fault))),
     }
 }
 
-fn attach(chain: Chain, program: Checked) -> Result<Result<Chain, Refusal>, AllocError>
-    ensures chain { IfOk result (λ attached. attached ≡ program_attached chain program None) }
+fn attach(filters: Filters, program: Checked) -> Result<Result<Filters, Refusal>, AllocError>
+    ensures chain { IfOk result (λ attached. attached ≡ program_attached filters program None) }
 {
-    match chain.attach(program) {
-        Ok(chain) => Ok(Ok(chain)),
+    match filters.attach(program) {
+        Ok(filters) => Ok(Ok(filters)),
         Err((_, _, ChainFault::PathLimit)) => Ok(Err(Refusal::PathLimit)),
         Err((_, _, ChainFault::Memory)) => Err(AllocError),
     }

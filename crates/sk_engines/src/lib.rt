@@ -22,7 +22,7 @@ pub use cli::{command, filter_command};
 pub use engine::{deliver, input};
 pub use eval::eval_engine;
 pub use fault::CommandFault;
-pub use filters::{MOST_FILTERS, Refusal, bytes_in, chain_of};
+pub use filters::{MOST_FILTERS, Refusal, attach_images, bytes_in};
 pub use list::list_engine;
 pub use program::{FAILED, failed, finish, tell_usage, words_of};
 pub use refusal::refusal_reply;

@@ -1,6 +1,6 @@
 -- A text is its first line, and then the lines of what stands after it; and the same of words.
 use Rattle.std.proofs.Common.{◌≡◌, ◌<◌, ◌≤◌, ◌+◌, ◌==◌, ◌∙◌, ap, arith, sym, refl, suc, ℕ, List, [], ◌∷◌, ◌++◌, length, filter, Bool, true, false, cond, inl, inr, take_all, append_assoc}
-use Rattle.std.proofs.lemmas.List.{drop_all}
+use Rattle.std.proofs.lemmas.List.{append-nil, drop_all}
 use Rattle.std.proofs.lemmas.Bool.{cases_Bool, cases_lt}
 use Rattle.std.proofs.lemmas.List.Splits.{slice_split_first}
 use Rattle.std.specs.List.{concat, slice_split, onto_first, before_first, after_first, position_or_len}
@@ -105,3 +105,10 @@ joined_turn digits more front line after whole so_far grown cut rest =
     ∙ append_assoc digits (before_first (λ b. b == 32) line) (concat (words_of (after_first (λ b. b == 32) line)))
     ∙ ap (λ l. digits ++ l) (sym (joined_first line))
     ∙ so_far
+
+-- a line that is its first piece has no other digits
+pub joined_alone : (line : List ℕ) → length (after_first (λ b. b == 32) line) ≡ 0 → concat (words_of line) ≡ before_first (λ b. b == 32) line
+joined_alone line none =
+    joined_first line
+    ∙ ap (λ words. before_first (λ b. b == 32) line ++ concat words) (words_none (after_first (λ b. b == 32) line) none)
+    ∙ append-nil (before_first (λ b. b == 32) line)

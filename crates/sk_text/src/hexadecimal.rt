@@ -26,10 +26,15 @@ impl From<AllocError> for HexFault {
     }
 }
 
-/// The bytes that the digits of these words are, joined.
+/// The bytes that the digits of these words are, joined. One word alone is read where it stands.
+#[tactic(auto, using(crate::proofs::Cuts::joined_alone))]
 pub fn bytes_of(alloc: Global, words: Words<'_>) -> Result<Vec<u8>, HexFault>
     ensures exact { Decodes (λ bytes. bytes.items) result (hex_bytes (words_of words.entry.0.now)) }
 {
+    let (word, rest) = cut_far(words.0, b' ');
+    if rest.is_empty() {
+        return decoded(alloc, word);
+    }
     let digits = joined(alloc, words)?;
     decoded(alloc, digits.as_slice())
 }

@@ -1,7 +1,0 @@
-use Rattle.std.proofs.Common.{◌≡◌, [], map, drop}
-use Rattle.sk_engines.specs.Filters.{chained}
-use Rattle.sk_engines.proofs.filters.chain_of.Given as goal
-
-abbrev pub invariant-loop-number : goal.invariant-loop-number
-invariant-loop-number l =
-    chained l.number l.chain (drop l.number (map (λ image. image.items) l.images)) ≡ chained 0 [] (map (λ image. image.items) l.images)
