@@ -12,14 +12,7 @@ use Rattle.sk_call_names.proofs.Lookups.{none≢some}
 apart_of : (a : Architecture) → IsTrue (are_apart 0 (runs_of a))
 unfolding runs_of
 apart_of architecture.X86_64 = refl
-apart_of architecture.X32 = refl
-apart_of architecture.I386 = refl
-apart_of architecture.Aarch64 = refl
-apart_of architecture.Arm = refl
-apart_of architecture.Riscv64 = refl
-apart_of architecture.Ppc64le = refl
-apart_of architecture.S390x = refl
-apart_of architecture.Loongarch64 = refl
+apart_of other = refl
 
 pub table_is_apart : (runs : List Run) (a : Architecture) → runs ≡ runs_of a → IsTrue (are_apart 0 runs)
 table_is_apart runs a e = ap (are_apart 0) e ∙ apart_of a
@@ -113,25 +106,13 @@ plain_name : (a : Architecture) (nr : ℕ) → a ≢ architecture.X86_64 → a �
 unfolding name_on
 plain_name architecture.X86_64 nr p q = absurd (p refl)
 plain_name architecture.X32 nr p q = absurd (q refl)
-plain_name architecture.I386 nr p q = refl
-plain_name architecture.Aarch64 nr p q = refl
-plain_name architecture.Arm nr p q = refl
-plain_name architecture.Riscv64 nr p q = refl
-plain_name architecture.Ppc64le nr p q = refl
-plain_name architecture.S390x nr p q = refl
-plain_name architecture.Loongarch64 nr p q = refl
+plain_name other nr p q = refl
 
 plain_number : (a : Architecture) (wanted : List ℕ) → a ≢ architecture.X86_64 → a ≢ architecture.X32 → number_on a wanted ≡ number_in (runs_of a) wanted
 unfolding number_on
 plain_number architecture.X86_64 wanted p q = absurd (p refl)
 plain_number architecture.X32 wanted p q = absurd (q refl)
-plain_number architecture.I386 wanted p q = refl
-plain_number architecture.Aarch64 wanted p q = refl
-plain_number architecture.Arm wanted p q = refl
-plain_number architecture.Riscv64 wanted p q = refl
-plain_number architecture.Ppc64le wanted p q = refl
-plain_number architecture.S390x wanted p q = refl
-plain_number architecture.Loongarch64 wanted p q = refl
+plain_number other wanted p q = refl
 
 pub name_of_other : (a : Architecture) (runs : List Run) (nr : ℕ) → a ≢ architecture.X86_64 → a ≢ architecture.X32 → runs ≡ runs_of a → name_on a nr ≡ name_in runs nr
 name_of_other a runs nr p q same = plain_name a nr p q ∙ ap (λ runs. name_in runs nr) (sym same)

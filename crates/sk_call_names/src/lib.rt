@@ -5,6 +5,7 @@
 mod architecture;
 mod elsewhere;
 pub mod laws;
+mod lists;
 mod names;
 mod runs;
 mod tables;

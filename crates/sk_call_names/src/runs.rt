@@ -1,9 +1,9 @@
 //! Tables of names: runs of numbers that follow each other, with their names.
-ghost use Rattle.std.specs.Prelude.{◌≡◌, ◌≢◌, ℕ, ◌+◌, ◌^◌, ◌<◌, ◌≤◌, ◌++◌, length, map, position, slice_get, IfNone, IfOk, IfSome, IsTrue, OnOk};
+ghost use Rattle.std.specs.Prelude.{◌≡◌, ◌≢◌, ℕ, ◌+◌, ◌^◌, ◌<◌, ◌≤◌, ◌++◌, length, map, IfNone, IfOk, IfSome, IsTrue, OnOk};
 ghost use Rattle.std.specs.Option.{option_map};
-ghost use Rattle.std.specs.Str.{bytes_eq};
 ghost use Rattle.sk_call_names.specs.Names.{plain, end_of, name_at, name_in, number_at, number_in, numbers_at, numbers_in, are_apart};
 
+use crate::lists::{nth, place_of};
 use std::alloc::{AllocError, Global};
 
 /// The first of some numbers that follow each other, and the names of all of them.
@@ -72,29 +72,9 @@ fn name_at(run: &Run, nr: u32) -> Option<&'static str>
     }
 }
 
-fn nth(names: &[&'static str], place: usize) -> Option<&'static str>
-    ensures name { option_map (λ name. name.now) result ≡ slice_get (map (λ name. name.now) names.now) place }
-{
-    names.get(place).copied()
-}
-
 fn number_at(run: &Run, wanted: &[u8]) -> Option<u32>
     requires within { end_of (plain run.now) ≤ 2 ^ 30 }
     ensures first { result ≡ number_at (plain run.now) wanted.now }
 {
     Some(run.0 + place_of(run.1, wanted)? as u32)
-}
-
-fn place_of(names: &[&'static str], wanted: &[u8]) -> Option<usize>
-    ensures first { result ≡ position (λ name. bytes_eq name wanted.now) (map (λ name. name.now) names.now) }
-    ensures within { IfSome result (λ place. place < length names.now) }
-{
-    place_in(names, wanted)
-}
-
-fn place_in(names: &[&'static str], wanted: &[u8]) -> Option<usize>
-    ensures first { result ≡ position (λ name. bytes_eq name.now wanted.now) names.now }
-    ensures within { IfSome result (λ place. place < length names.now) }
-{
-    names.iter().position(|name| name.as_bytes() == wanted)
 }

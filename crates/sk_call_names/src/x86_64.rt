@@ -1,11 +1,11 @@
 //! The names and numbers of the calls of x86-64, which are two tables: numbers from 424 on are those of all architectures.
-ghost use Rattle.std.specs.Prelude.{◌≡◌, ◌≢◌, ℕ, ◌<◌, ◌++◌, length, map, position, slice_get, is_some, if◌then◌else◌, [], ◌∷◌, Some, IfOk, OnOk, IfNone, IfSome};
+ghost use Rattle.std.specs.Prelude.{◌≡◌, ◌≢◌, ℕ, ◌++◌, is_some, if◌then◌else◌, [], ◌∷◌, Some, IfOk, OnOk, IfNone, IfSome};
 ghost use Rattle.std.specs.Option.{option_map};
-ghost use Rattle.std.specs.Str.{bytes_eq};
 ghost use Rattle.sk_call_names.specs.X86_64.{name_of, named_from, names_end, number_named};
 
 mod names;
 
+use crate::lists::{nth, place_of};
 use crate::x86_64::names::{EARLY, LATE};
 use std::alloc::{AllocError, Global};
 
@@ -21,9 +21,9 @@ pub fn name(nr: u32) -> Option<&'static str>
     ensures name { option_map (λ name. name.now) result ≡ name_of nr }
 {
     if nr < FIRST_LATE {
-        name_at(&EARLY, nr as usize)
+        nth(&EARLY, nr as usize)
     } else {
-        name_at(&LATE, (nr - FIRST_LATE) as usize)
+        nth(&LATE, (nr - FIRST_LATE) as usize)
     }
 }
 
@@ -63,24 +63,4 @@ fn push_named(numbers: &mut Vec<u32>, nr: u32) -> Result<(), AllocError>
         numbers.push(nr)?;
     }
     Ok(())
-}
-
-fn name_at(names: &[&'static str], place: usize) -> Option<&'static str>
-    ensures name { option_map (λ name. name.now) result ≡ slice_get (map (λ name. name.now) names.now) place }
-{
-    names.get(place).copied()
-}
-
-fn place_of(names: &[&'static str], wanted: &[u8]) -> Option<usize>
-    ensures first { result ≡ position (λ name. bytes_eq name wanted.now) (map (λ name. name.now) names.now) }
-    ensures within { IfSome result (λ place. place < length names.now) }
-{
-    place_in(names, wanted)
-}
-
-fn place_in(names: &[&'static str], wanted: &[u8]) -> Option<usize>
-    ensures first { result ≡ position (λ name. bytes_eq name.now wanted.now) names.now }
-    ensures within { IfSome result (λ place. place < length names.now) }
-{
-    names.iter().position(|name| name.as_bytes() == wanted)
 }

@@ -1,9 +1,8 @@
 -- Every filter in force was accepted by the rules.
-use Rattle.std.proofs.Common.{◌≡◌, ℕ, ◌+◌, ◌==◌, ◌&&◌, arith, sym, refl, subst, cond, not, Bool, true, false, nat_lt, length, IsTrue, IfOk, List, [], ◌∷◌, Option, None, Some, Result, Ok, Err, IfSome}
+use Rattle.std.proofs.Common.{◌≡◌, ℕ, ◌+◌, ◌==◌, arith, sym, refl, subst, cond, Bool, true, false, nat_lt, length, IsTrue, List, [], ◌∷◌, Option, None, Some, IfSome}
 use Rattle.sk_world.specs.declared.process.Proc.{Proc}
 use Rattle.std.specs.Option.{is_some, option_map}
-use Rattle.std.specs.Result.{result_unwrap_or}
-use Rattle.std.proofs.lemmas.Bool.{true≢false, cond_both, ltb-false}
+use Rattle.std.proofs.lemmas.Bool.{true≢false, ltb-false}
 use Rattle.sk_insn.specs.declared.insn.Insn.{Insn}
 use Rattle.sk_insn.specs.declared.record.Record.{Record}
 use Rattle.sk_filter.specs.declared.fault.CheckFault.{CheckFault}
@@ -12,29 +11,17 @@ use Rattle.sk_filter.proofs.FirstFaults.{first_fault-None}
 use Rattle.sk_filter.proofs.ValidMeanings.{valid_returns}
 use Rattle.sk_filter.specs.Chains.{StepsAreBounded, cost_of, AllValid}
 use Rattle.sk_filter.proofs.Bounds.{bounded}
-use Rattle.sk_world.specs.declared.errno.Errno.{Errno}
-use Rattle.sk_world.specs.declared.errno.Errno.TheVariants.{Enomem, Eacces, Einval}
-use Rattle.sk_world.specs.declared.creds.Creds.{Creds}
-use Rattle.sk_world.specs.Creds.{is_privileged, after_setuid, after_setresuid}
 use Rattle.sk_world.specs.declared.process.TheConstants.{INIT}
 use Rattle.sk_world.specs.Processes.{none}
 use Rattle.sk_world.specs.World.{first_process, opening, at}
 use Rattle.sk_world.proofs.Maps.{get_store}
-use Rattle.sk_machine.specs.declared.images.Mark.{Mark}
-use Rattle.sk_machine.specs.declared.operation.PrctlOption.{PrctlOption}
-use Rattle.sk_machine.specs.declared.operation.PrctlOption.TheVariants as option
-use Rattle.sk_machine.specs.declared.operation.SeccompOperation.{SeccompOperation}
-use Rattle.sk_machine.specs.declared.operation.SeccompOperation.TheVariants as operation
-use Rattle.sk_calls.specs.declared.syscall.Syscall.{Syscall}
-use Rattle.sk_calls.specs.declared.syscall.Syscall.TheVariants as syscall
-use Rattle.sk_machine.specs.Given.{GivenImages, filter_image, mark_of}
-use Rattle.sk_calls.specs.Syscalls.{syscall_of}
-use Rattle.sk_machine.specs.Arguments.{register, low, prctl_option_of, seccomp_operation_of}
-use Rattle.sk_machine.specs.Authority.{Authority, program_of, filtered, after_attach, with_creds, after_execve, after_no_new_privs, after_set_seccomp, after_prctl, after_seccomp, authority_after, authority_after_call}
+use Rattle.sk_machine.specs.Given.{GivenImages}
+use Rattle.sk_machine.specs.Authority.{Authority}
 use Rattle.sk_machine.specs.Machine.{step_of, world_after}
 use Rattle.sk_machine.specs.Lines.{line_before, calls_added, authority_after_calls, authority_at}
 use Rattle.sk_machine_laws.specs.LineLaws.{happening}
 use Rattle.sk_machine_laws.specs.FilterLaws.{AreAccepted, HasAccepted, EventKeepsAccepted, RunKeepsAccepted, AllReturn, AcceptedReturn, AcceptedAreBounded, FiltersInForceAreAccepted, StepsInForceAreBounded}
+use Rattle.sk_machine_laws.proofs.EachChange.{Changes, after_calls}
 use Rattle.sk_machine_laws.proofs.LineSteps.{event_changes_authority, authority_in}
 
 -- accepted filters stay so
@@ -54,61 +41,14 @@ with_newest a insns sound fits accepted =
       limited = omega arith;
     }
 
-keeps_creds : (a : Authority) (r : Result Creds Errno) → IfOk (with_creds a r) (Keeps a)
-keeps_creds a (Ok c) = λ accepted. accepted
-keeps_creds a (Err e) = tt
-
-keeps_filtered : (a : Authority) (r : Result (List Insn) Errno) → IfOk (filtered a r) (Keeps a)
-keeps_filtered a (Ok insns) =
-    cond_both (not (is_privileged a.creds) && not a.creds.no_new_privs) (Err Eacces) _ (λ r. IfOk r (Keeps a)) (λ _. tt)
-    (λ _. cond_both (is_some (first_fault insns)) (Err Einval) _ (λ r. IfOk r (Keeps a)) (λ _. tt)
-    (λ sound. cond_both (nat_lt 32768 (length insns + cost_of a.programs)) (Err Enomem) (Ok (record a { programs = insns ∷ a.programs })) (λ r. IfOk r (Keeps a)) (λ _. tt)
-    (λ fits. with_newest a insns sound fits)))
-keeps_filtered a (Err e) = tt
-
-keeps_attach : (images : GivenImages) (flags image : ℕ) (a : Authority) → IfOk (after_attach images flags image a) (Keeps a)
-keeps_attach images flags image a =
-    cond_both (not (flags == 0)) (Err Einval) _ (λ r. IfOk r (Keeps a)) (λ _. tt) (λ _. keeps_filtered a (program_of (filter_image images image)))
-
-keeps_execve : (a : Authority) (o : Option Mark) → IfOk (after_execve a o) (Keeps a)
-keeps_execve a None = tt
-keeps_execve a (Some mark) = λ accepted. accepted
-
-keeps_no_new_privs : (call : Record) (a : Authority) → IfOk (after_no_new_privs call a) (Keeps a)
-keeps_no_new_privs call a =
-    cond_both ((register call 1 == 1) && (register call 2 == 0) && (register call 3 == 0) && (register call 4 == 0)) (Ok (record a { creds = record a.creds { no_new_privs = true } })) (Err Einval) (λ r. IfOk r (Keeps a))
-    (λ _ accepted. accepted) (λ _. tt)
-
-keeps_set_seccomp : (images : GivenImages) (call : Record) (a : Authority) → IfOk (after_set_seccomp images call a) (Keeps a)
-keeps_set_seccomp images call a =
-    cond_both (register call 1 == 2) (after_attach images 0 (register call 2) a) (Err Einval) (λ r. IfOk r (Keeps a)) (λ _. keeps_attach images 0 (register call 2) a) (λ _. tt)
-
-keeps_prctl : (images : GivenImages) (which : Option PrctlOption) (call : Record) (a : Authority) → IfOk (after_prctl images which call a) (Keeps a)
-keeps_prctl images (Some option.SetNoNewPrivs) call a = keeps_no_new_privs call a
-keeps_prctl images (Some option.SetSeccomp) call a = keeps_set_seccomp images call a
-keeps_prctl images other call a = λ accepted. accepted
-
-keeps_seccomp : (images : GivenImages) (which : Option SeccompOperation) (call : Record) (a : Authority) → IfOk (after_seccomp images which call a) (Keeps a)
-keeps_seccomp images (Some operation.SetModeFilter) call a = keeps_attach images (low call 1) (register call 2) a
-keeps_seccomp images other call a = λ accepted. accepted
-
-keeps_row : (images : GivenImages) (which : Option Syscall) (call : Record) (a : Authority) → IfOk (authority_after images which call a) (Keeps a)
-keeps_row images (Some syscall.Setuid) call a = keeps_creds a (after_setuid (low call 0) a.creds)
-keeps_row images (Some syscall.Setresuid) call a = keeps_creds a (after_setresuid (low call 0) (low call 1) (low call 2) a.creds)
-keeps_row images (Some syscall.Execve) call a = keeps_execve a (mark_of images (register call 0))
-keeps_row images (Some syscall.Prctl) call a = keeps_prctl images (prctl_option_of (low call 0)) call a
-keeps_row images (Some syscall.Seccomp) call a = keeps_seccomp images (seccomp_operation_of (low call 0)) call a
-keeps_row images other call a = λ accepted. accepted
-
-keeps_or_stays : (a : Authority) (r : Result Authority Errno) → IfOk r (Keeps a) → Keeps a (result_unwrap_or r a)
-keeps_or_stays a (Ok b) keeps = keeps
-keeps_or_stays a (Err e) keeps = λ accepted. accepted
-
-keeps_calls : (images : GivenImages) (calls : List Record) (a : Authority) → Keeps a (authority_after_calls images calls a)
-keeps_calls images [] a accepted = accepted
-keeps_calls images (call ∷ calls) a accepted =
-    let next : Authority = result_unwrap_or (authority_after_call images call a) a in
-    keeps_calls images calls next (keeps_or_stays a (authority_after_call images call a) (keeps_row images (syscall_of call.nr) call a) accepted)
+accepted_each : Changes Keeps
+accepted_each = record {
+  stays = λ a accepted. accepted;
+  ids = λ a creds _ accepted. accepted;
+  marks = λ a accepted. accepted;
+  attaches = with_newest;
+  follows = λ a b c first later accepted. later (first accepted);
+}
 
 of_those_there : (o : Option Proc) → (IsTrue (is_some o) → IfSome (authority_in o) (λ a. AreAccepted a.programs)) → IfSome (authority_in o) (λ a. AreAccepted a.programs)
 of_those_there None is = tt
@@ -116,7 +56,7 @@ of_those_there (Some p) is = is refl
 
 accepted_later : (images : GivenImages) (calls : List Record) (o : Option Authority) → IfSome o (λ a. AreAccepted a.programs) → IfSome (option_map (authority_after_calls images calls) o) (λ a. AreAccepted a.programs)
 accepted_later images calls None accepted = tt
-accepted_later images calls (Some a) accepted = keeps_calls images calls a accepted
+accepted_later images calls (Some a) accepted = after_calls Keeps accepted_each images calls a accepted
 
 pub event_keeps_accepted : EventKeepsAccepted
 event_keeps_accepted images w event accepted pid =

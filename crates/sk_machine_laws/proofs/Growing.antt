@@ -1,50 +1,30 @@
 -- A line keeps its filters, and its verdicts are theirs.
-use Rattle.std.proofs.Common.{◌≡◌, ◌∙◌, ℕ, ◌+◌, ◌==◌, ◌&&◌, ℤ, ◌≤ℤ◌, inl, inr, arith, slice_get, ap, sym, refl, subst, not, true, nat_lt, append_assoc, length, IsTrue, IfOk, List, [], ◌∷◌, ◌++◌, Option, None, Some, Result, Ok, Err}
+use Rattle.std.proofs.Common.{◌≡◌, ◌∙◌, ℕ, ◌==◌, ℤ, ◌≤ℤ◌, inl, inr, arith, slice_get, ap, sym, refl, subst, true, append_assoc, IsTrue, List, [], ◌∷◌, ◌++◌, Option, None, Some}
 use Rattle.std.specs.Option.{is_some, unwrap_or, option_map}
-use Rattle.std.specs.Result.{result_unwrap_or}
 use Rattle.std.proofs.lemmas.Int.{ints}
 use Rattle.std.specs.Int.{cast_signed, w32}
 use Rattle.std.proofs.lemmas.Bool.{false≢true, cond_both, eqb-true}
-use Rattle.sk_insn.specs.declared.insn.Insn.{Insn}
 use Rattle.sk_insn.specs.declared.record.Record.{Record}
 use Rattle.sk_insn.specs.declared.action.Action.{Action}
 use Rattle.sk_insn.specs.declared.action.Action.TheVariants as action
 use Rattle.sk_insn.specs.Actions.{action_of, action_part, performs}
-use Rattle.sk_filter.specs.FirstFault.{first_fault}
 use Rattle.sk_filter.specs.Verdict.{values_of, first_of, verdict_of, IsAtMost, precedence_of}
 use Rattle.sk_filter.proofs.Verdicts.{first_of-least}
-use Rattle.sk_filter.specs.Chains.{cost_of}
 use Rattle.sk_calls.specs.declared.call.Call.{Call}
-use Rattle.sk_world.specs.declared.errno.Errno.{Errno}
-use Rattle.sk_world.specs.declared.errno.Errno.TheVariants.{Eperm, Enomem, Eacces, Einval}
-use Rattle.sk_world.specs.declared.creds.Creds.{Creds}
-use Rattle.sk_world.specs.declared.creds.TheConstants.{NO_ID}
-use Rattle.sk_world.specs.Creds.{is_privileged, is_real_or_saved, may_take, after_setuid, after_setresuid}
 use Rattle.sk_world.specs.World.{World, at}
 use Rattle.sk_world.proofs.KeptEnd.{alive_is_there}
 use Rattle.sk_machine.specs.declared.event.Event.TheVariants as event
 use Rattle.sk_machine.specs.declared.answer.Answer.TheVariants as answer
 use Rattle.sk_machine.specs.declared.answer.Outcome.{Outcome}
-use Rattle.sk_machine.specs.declared.images.Mark.{Mark}
-use Rattle.sk_machine.specs.declared.operation.PrctlOption.{PrctlOption}
-use Rattle.sk_machine.specs.declared.operation.PrctlOption.TheVariants as option
-use Rattle.sk_machine.specs.declared.operation.SeccompOperation.{SeccompOperation}
-use Rattle.sk_machine.specs.declared.operation.SeccompOperation.TheVariants as operation
-use Rattle.sk_calls.specs.declared.syscall.Syscall.{Syscall}
-use Rattle.sk_calls.specs.declared.syscall.Syscall.TheVariants as syscall
 use Rattle.sk_machine.specs.Events.{recorded}
-use Rattle.sk_machine.specs.Given.{GivenImages, filter_image, mark_of}
-use Rattle.sk_calls.specs.Syscalls.{syscall_of}
-use Rattle.sk_machine.specs.Arguments.{register, low, prctl_option_of, seccomp_operation_of}
-use Rattle.sk_machine.specs.Authority.{Authority, program_of, filtered, after_attach, with_creds, after_execve, after_no_new_privs, after_set_seccomp, after_prctl, after_seccomp, authority_after, authority_after_call}
+use Rattle.sk_machine.specs.Given.{GivenImages}
+use Rattle.sk_machine.specs.Authority.{Authority}
 use Rattle.sk_machine.specs.Machine.{step_of, world_after, Stepped}
 use Rattle.sk_machine.specs.Lines.{Line, authority_after_calls, authority_of_line, authority_at}
 use Rattle.sk_machine_laws.specs.LineLaws.{line_after, judged_by, GrowsFrom, LineKeepsFilters, EqualLinesMayDoTheSame, EqualLinesAreJudgedAlike, VerdictIsOfLine, PerformedMeetsNoRefusal}
+use Rattle.sk_machine_laws.proofs.EachChange.{Changes, after_calls}
 use Rattle.sk_machine_laws.proofs.LineSteps.{after_more, authority_is_of_line, authority_in}
 use Rattle.sk_machine_laws.proofs.Happened.{at_step}
-
-grows_still : (a : Authority) → GrowsFrom a a
-grows_still a = record { newer = []; programs = refl; no_new_privs = λ set. set }
 
 grows_twice : (a b c : Authority) → GrowsFrom a b → GrowsFrom b c → GrowsFrom a c
 grows_twice a b c first later = record {
@@ -53,77 +33,17 @@ grows_twice a b c first later = record {
   no_new_privs = λ set. later.no_new_privs (first.no_new_privs set);
 }
 
--- ids change, and no_new_privs does not
-abbrev KeepsMark : Creds → Creds → Type 0
-KeepsMark old new = new.no_new_privs ≡ old.no_new_privs
-
-setuid_keeps : (id : ℕ) (c : Creds) → IfOk (after_setuid id c) (KeepsMark c)
-setuid_keeps id c =
-    cond_both (id == NO_ID) (Err Einval) _ (λ r. IfOk r (KeepsMark c)) (λ _. tt)
-    (λ _. cond_both (is_privileged c) (Ok (record c { real = id; effective = id; saved = id })) _ (λ r. IfOk r (KeepsMark c)) (λ _. refl)
-    (λ _. cond_both (is_real_or_saved id c) (Ok (record c { effective = id })) (Err Eperm) (λ r. IfOk r (KeepsMark c)) (λ _. refl) (λ _. tt)))
-
-setresuid_keeps : (real effective saved : ℕ) (c : Creds) → IfOk (after_setresuid real effective saved c) (KeepsMark c)
-setresuid_keeps real effective saved c =
-    cond_both (may_take real c && may_take effective c && may_take saved c) _ (Err Eperm) (λ r. IfOk r (KeepsMark c)) (λ _. refl) (λ _. tt)
-
-grows_creds : (a : Authority) (r : Result Creds Errno) → IfOk r (KeepsMark a.creds) → IfOk (with_creds a r) (GrowsFrom a)
-grows_creds a (Ok c) kept = record { newer = []; programs = refl; no_new_privs = λ set. kept ∙ set }
-grows_creds a (Err e) kept = tt
-
-grows_filtered : (a : Authority) (r : Result (List Insn) Errno) → IfOk (filtered a r) (GrowsFrom a)
-grows_filtered a (Ok insns) =
-    cond_both (not (is_privileged a.creds) && not a.creds.no_new_privs) (Err Eacces) _ (λ r. IfOk r (GrowsFrom a)) (λ _. tt)
-    (λ _. cond_both (is_some (first_fault insns)) (Err Einval) _ (λ r. IfOk r (GrowsFrom a)) (λ _. tt)
-    (λ _. cond_both (nat_lt 32768 (length insns + cost_of a.programs)) (Err Enomem) (Ok (record a { programs = insns ∷ a.programs })) (λ r. IfOk r (GrowsFrom a)) (λ _. tt)
-    (λ _. record { newer = insns ∷ []; programs = refl; no_new_privs = λ set. set })))
-grows_filtered a (Err e) = tt
-
-grows_attach : (images : GivenImages) (flags image : ℕ) (a : Authority) → IfOk (after_attach images flags image a) (GrowsFrom a)
-grows_attach images flags image a =
-    cond_both (not (flags == 0)) (Err Einval) _ (λ r. IfOk r (GrowsFrom a)) (λ _. tt) (λ _. grows_filtered a (program_of (filter_image images image)))
-
-grows_execve : (a : Authority) (o : Option Mark) → IfOk (after_execve a o) (GrowsFrom a)
-grows_execve a None = tt
-grows_execve a (Some mark) = record { newer = []; programs = refl; no_new_privs = λ set. set }
-
-grows_no_new_privs : (call : Record) (a : Authority) → IfOk (after_no_new_privs call a) (GrowsFrom a)
-grows_no_new_privs call a =
-    cond_both ((register call 1 == 1) && (register call 2 == 0) && (register call 3 == 0) && (register call 4 == 0)) (Ok (record a { creds = record a.creds { no_new_privs = true } })) (Err Einval) (λ r. IfOk r (GrowsFrom a))
-    (λ _. record { newer = []; programs = refl; no_new_privs = λ _. refl }) (λ _. tt)
-
-grows_set_seccomp : (images : GivenImages) (call : Record) (a : Authority) → IfOk (after_set_seccomp images call a) (GrowsFrom a)
-grows_set_seccomp images call a =
-    cond_both (register call 1 == 2) (after_attach images 0 (register call 2) a) (Err Einval) (λ r. IfOk r (GrowsFrom a)) (λ _. grows_attach images 0 (register call 2) a) (λ _. tt)
-
-grows_prctl : (images : GivenImages) (which : Option PrctlOption) (call : Record) (a : Authority) → IfOk (after_prctl images which call a) (GrowsFrom a)
-grows_prctl images (Some option.SetNoNewPrivs) call a = grows_no_new_privs call a
-grows_prctl images (Some option.SetSeccomp) call a = grows_set_seccomp images call a
-grows_prctl images other call a = grows_still a
-
-grows_seccomp : (images : GivenImages) (which : Option SeccompOperation) (call : Record) (a : Authority) → IfOk (after_seccomp images which call a) (GrowsFrom a)
-grows_seccomp images (Some operation.SetModeFilter) call a = grows_attach images (low call 1) (register call 2) a
-grows_seccomp images other call a = grows_still a
-
-grows_row : (images : GivenImages) (which : Option Syscall) (call : Record) (a : Authority) → IfOk (authority_after images which call a) (GrowsFrom a)
-grows_row images (Some syscall.Setuid) call a = grows_creds a (after_setuid (low call 0) a.creds) (setuid_keeps (low call 0) a.creds)
-grows_row images (Some syscall.Setresuid) call a =
-    grows_creds a (after_setresuid (low call 0) (low call 1) (low call 2) a.creds) (setresuid_keeps (low call 0) (low call 1) (low call 2) a.creds)
-grows_row images (Some syscall.Execve) call a = grows_execve a (mark_of images (register call 0))
-grows_row images (Some syscall.Prctl) call a = grows_prctl images (prctl_option_of (low call 0)) call a
-grows_row images (Some syscall.Seccomp) call a = grows_seccomp images (seccomp_operation_of (low call 0)) call a
-grows_row images other call a = grows_still a
-
-grows_or_stays : (a : Authority) (r : Result Authority Errno) → IfOk r (GrowsFrom a) → GrowsFrom a (result_unwrap_or r a)
-grows_or_stays a (Ok b) grows = grows
-grows_or_stays a (Err e) grows = grows_still a
+grows_each : Changes GrowsFrom
+grows_each = record {
+  stays = λ a. record { newer = []; programs = refl; no_new_privs = λ set. set };
+  ids = λ a creds kept. record { newer = []; programs = refl; no_new_privs = λ set. kept ∙ set };
+  marks = λ a. record { newer = []; programs = refl; no_new_privs = λ _. refl };
+  attaches = λ a insns _ _. record { newer = insns ∷ []; programs = refl; no_new_privs = λ set. set };
+  follows = grows_twice;
+}
 
 pub grows_calls : (images : GivenImages) (calls : List Record) (a : Authority) → GrowsFrom a (authority_after_calls images calls a)
-grows_calls images [] a = grows_still a
-grows_calls images (call ∷ calls) a =
-    let next : Authority = result_unwrap_or (authority_after_call images call a) a in
-    grows_twice a next (authority_after_calls images calls next)
-    (grows_or_stays a (authority_after_call images call a) (grows_row images (syscall_of call.nr) call a)) (grows_calls images calls next)
+grows_calls = after_calls GrowsFrom grows_each
 
 pub line_keeps_filters : LineKeepsFilters
 line_keeps_filters images calls more a =

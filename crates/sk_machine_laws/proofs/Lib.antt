@@ -6,6 +6,7 @@ pub mod Announcing
 pub mod Ancestry
 pub mod WorkedWorlds
 mod EachCall
+mod EachChange
 pub mod Happened
 pub mod Unchanged
 pub mod KeptEvents

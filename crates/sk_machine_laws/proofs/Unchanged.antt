@@ -114,12 +114,7 @@ refused_world : (images : GivenImages) (w : World) (pid : ℕ) (body : Body) (ca
 refused_world images w pid body call errno action.Errno refuses = refl
 refused_world images w pid body call errno action.UserNotif refuses = refl
 refused_world images w pid body call errno action.Trace refuses = refl
-refused_world images w pid body call errno action.KillProcess refuses = absurd (false≢true refuses)
-refused_world images w pid body call errno action.KillThread refuses = absurd (false≢true refuses)
-refused_world images w pid body call errno action.Trap refuses = absurd (false≢true refuses)
-refused_world images w pid body call errno action.Log refuses = absurd (false≢true refuses)
-refused_world images w pid body call errno action.Allow refuses = absurd (false≢true refuses)
-refused_world images w pid body call errno action.Unknown refuses = absurd (false≢true refuses)
+refused_world images w pid body call errno other refuses = absurd (false≢true refuses)
 
 pub refused_changes_nothing : RefusedChangesNothing
 refused_changes_nothing images w event verdict outcome is refuses =
@@ -136,12 +131,7 @@ ended_by_filter : (images : GivenImages) (w : World) (pid : ℕ) (body : Body) (
 ended_by_filter images w pid body call errno action.KillProcess kills = refl
 ended_by_filter images w pid body call errno action.KillThread kills = refl
 ended_by_filter images w pid body call errno action.Unknown kills = refl
-ended_by_filter images w pid body call errno action.Errno kills = absurd (false≢true kills)
-ended_by_filter images w pid body call errno action.UserNotif kills = absurd (false≢true kills)
-ended_by_filter images w pid body call errno action.Trace kills = absurd (false≢true kills)
-ended_by_filter images w pid body call errno action.Trap kills = absurd (false≢true kills)
-ended_by_filter images w pid body call errno action.Log kills = absurd (false≢true kills)
-ended_by_filter images w pid body call errno action.Allow kills = absurd (false≢true kills)
+ended_by_filter images w pid body call errno other kills = absurd (false≢true kills)
 
 pub kill_ends_caller : KillEndsCaller
 kill_ends_caller images w event verdict outcome is kills =
@@ -219,13 +209,7 @@ clean_judged : (images : GivenImages) (w : World) (pid : ℕ) (body : Body) (cal
     → FailsClean w (judged images w pid body call verdict a)
 clean_judged images w pid body call verdict action.Allow = clean_row images w pid body (syscall_of call.nr) call
 clean_judged images w pid body call verdict action.Log = clean_row images w pid body (syscall_of call.nr) call
-clean_judged images w pid body call verdict action.Trap = λ n is. cc
-clean_judged images w pid body call verdict action.Errno = λ n is. refl
-clean_judged images w pid body call verdict action.UserNotif = λ n is. refl
-clean_judged images w pid body call verdict action.Trace = λ n is. refl
-clean_judged images w pid body call verdict action.KillProcess = λ n is. cc
-clean_judged images w pid body call verdict action.KillThread = λ n is. cc
-clean_judged images w pid body call verdict action.Unknown = λ n is. cc
+clean_judged images w pid body call verdict other = λ n is. cc
 
 pub failed_changes_nothing : FailedChangesNothing
 failed_changes_nothing images w event verdict n is =

@@ -1,12 +1,12 @@
 -- The bits of one word that say which words of a list have a bit.
-use Rattle.std.proofs.Common.{◌≡◌, ◌≢◌, ◌∙◌, ◌+◌, ◌*◌, ◌/◌, ◌%◌, ◌^◌, ◌<◌, ◌≤◌, ◌==◌, ℕ, arith, ap, sym, false, not, List, length, get_or, set, inl, inr, bit_and, bit_or, w64, replicate, get_or-set_same, get_or-set_other}
+use Rattle.std.proofs.Common.{◌≡◌, ◌≢◌, ◌∙◌, ◌+◌, ◌*◌, ◌/◌, ◌%◌, ◌^◌, ◌<◌, ◌≤◌, ◌==◌, ℕ, arith, ap, sym, false, not, List, length, get_or, set, inl, inr, bit_and, bit_or, w64, replicate}
 use Rattle.std.specs.Int.{bit_at, bit_not}
-use Rattle.std.proofs.lemmas.Bool.{cases_eq, cases_lt}
+use Rattle.std.proofs.lemmas.Bool.{cases_lt}
 use Rattle.std.proofs.lemmas.List.{get_or_past}
 use Rattle.std.proofs.lemmas.Nat.Bits.{bit_at-zero, bit_at_set_same, bit_at_set_other, bit_at_clear_same, bit_at_clear_other}
 use Rattle.sk_numbers.specs.Numbers.{has_bit}
 use Rattle.sk_numbers.specs.Summary.{IsMarked}
-use Rattle.sk_numbers.proofs.Summing.{is_zero, is_some, not_zero, zeros, no_bit_between, no_bit_past}
+use Rattle.sk_numbers.proofs.Summing.{is_zero, is_some, not_zero, zeros, no_bit_between, no_bit_past, tells-written, tells-kept}
 
 pub marked-empty : IsMarked (replicate 8 0) 0
 marked-empty i low =
@@ -31,56 +31,21 @@ module _ (words : List ℕ) (marks : ℕ) (marked : IsMarked words marks) where
   -- ---- one word is written
 
   module _ (i written : ℕ) (low : i < 64) (there : i < length words) where
-    written_there : get_or (set words i written) i 0 ≡ written
-    written_there = get_or-set_same words i written 0 there
-
-    kept_elsewhere : (j : ℕ) → j ≢ i → get_or (set words i written) j 0 ≡ get_or words j 0
-    kept_elsewhere j apart = get_or-set_other words i j written 0 apart
-
     pub marked-insert : written ≢ 0 → IsMarked (set words i written) (bit_or marks (1 * 2 ^ i % 2 ^ 64))
-    marked-insert some j below =
-        let after = bit_or marks (1 * 2 ^ i % 2 ^ 64) in
-        elim (cases_eq j i) [
-          | inl e ↦
-              ap (λ k. bit_at after k == 1) e
-              ∙ ap (λ x. x == 1) (bit_at_set_same w64 marks i low)
-              ∙ sym (not_zero written some)
-              ∙ ap (λ w. not (w == 0)) (sym written_there)
-              ∙ ap (λ k. not (get_or (set words i written) k 0 == 0)) (sym e)
-          | inr apart ↦
-              ap (λ x. x == 1) (bit_at_set_other w64 marks i low j apart)
-              ∙ marked j below
-              ∙ ap (λ w. not (w == 0)) (sym (kept_elsewhere j apart))
-        ]
+    marked-insert some =
+        tells-written (λ j. bit_at marks j == 1) (λ j. bit_at (bit_or marks (1 * 2 ^ i % 2 ^ 64)) j == 1) words 64 i written marked there
+        (ap (λ x. x == 1) (bit_at_set_same w64 marks i low) ∙ sym (not_zero written some))
+        (λ j _ apart. ap (λ x. x == 1) (bit_at_set_other w64 marks i low j apart))
 
     pub marked-clear : written ≡ 0 → IsMarked (set words i written) (bit_and marks (bit_not w64 (1 * 2 ^ i % 2 ^ 64)))
-    marked-clear none j below =
-        let after = bit_and marks (bit_not w64 (1 * 2 ^ i % 2 ^ 64)) in
-        elim (cases_eq j i) [
-          | inl e ↦
-              ap (λ k. bit_at after k == 1) e
-              ∙ ap (λ x. x == 1) (bit_at_clear_same w64 marks i low)
-              ∙ ap (λ w. not (w == 0)) (sym (written_there ∙ none))
-              ∙ ap (λ k. not (get_or (set words i written) k 0 == 0)) (sym e)
-          | inr apart ↦
-              ap (λ x. x == 1) (bit_at_clear_other w64 marks i low j below apart)
-              ∙ marked j below
-              ∙ ap (λ w. not (w == 0)) (sym (kept_elsewhere j apart))
-        ]
+    marked-clear none =
+        tells-written (λ j. bit_at marks j == 1) (λ j. bit_at (bit_and marks (bit_not w64 (1 * 2 ^ i % 2 ^ 64))) j == 1) words 64 i written marked there
+        (ap (λ x. x == 1) (bit_at_clear_same w64 marks i low) ∙ ap (λ w. not (w == 0)) (sym none))
+        (λ j below apart. ap (λ x. x == 1) (bit_at_clear_other w64 marks i low j below apart))
 
     -- neither word was nor is 0
     pub marked-kept : get_or words i 0 ≢ 0 → written ≢ 0 → IsMarked (set words i written) marks
-    marked-kept was some j below =
-        elim (cases_eq j i) [
-          | inl e ↦
-              marked j below
-              ∙ ap (λ k. not (get_or words k 0 == 0)) e
-              ∙ not_zero (get_or words i 0) was
-              ∙ sym (not_zero written some)
-              ∙ ap (λ w. not (w == 0)) (sym written_there)
-              ∙ ap (λ k. not (get_or (set words i written) k 0 == 0)) (sym e)
-          | inr apart ↦ marked j below ∙ ap (λ w. not (w == 0)) (sym (kept_elsewhere j apart))
-        ]
+    marked-kept = tells-kept (λ j. bit_at marks j == 1) words 64 i written marked there low
 
   -- ---- the least bit from a number on
 

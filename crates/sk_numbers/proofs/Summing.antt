@@ -38,6 +38,31 @@ is_some w b is some = grind (arith, nat_tests, is, some)
 pub not_zero : (w : ℕ) → w ≢ 0 → not (w == 0) ≡ true
 not_zero w some = grind (arith, nat_tests, some)
 
+-- ---- bits that say which words are not 0
+
+-- those below this number
+abbrev Tells : (ℕ → Bool) → List ℕ → ℕ → Type 0
+Tells has words size = (i : ℕ) → i < size → has i ≡ not (get_or words i 0 == 0)
+
+-- where a word is written, its bit tells of it, and the others are as before
+pub tells-written : (has after : ℕ → Bool) (words : List ℕ) (size i written : ℕ) → Tells has words size → i < length words → after i ≡ not (written == 0)
+    → ((j : ℕ) → j < size → j ≢ i → after j ≡ has j) → Tells after (set words i written) size
+tells-written has after words size i written tells there here others j below =
+    elim (cases_eq j i) [
+      | inl e ↦
+          ap after e
+          ∙ here
+          ∙ ap (λ w. not (w == 0)) (sym (get_or-set_same words i written 0 there))
+          ∙ ap (λ k. not (get_or (set words i written) k 0 == 0)) (sym e)
+      | inr apart ↦ others j below apart ∙ tells j below ∙ ap (λ w. not (w == 0)) (sym (get_or-set_other words i j written 0 apart))
+    ]
+
+-- neither word was nor is 0
+pub tells-kept : (has : ℕ → Bool) (words : List ℕ) (size i written : ℕ) → Tells has words size → i < length words → i < size → get_or words i 0 ≢ 0 → written ≢ 0
+    → Tells has (set words i written) size
+tells-kept has words size i written tells there low was some =
+    tells-written has has words size i written tells there (tells i low ∙ not_zero (get_or words i 0) was ∙ sym (not_zero written some)) (λ j _ _. refl)
+
 module _ (words inhabited : List ℕ) (summed : IsSummed words inhabited) where
   pub word_is_zero : (i : ℕ) → i < 512 → has_bit inhabited i ≡ false → get_or words i 0 ≡ 0
   word_is_zero i low none = is_zero (get_or words i 0) (has_bit inhabited i) (summed.sum i low) none
@@ -54,78 +79,41 @@ module _ (words inhabited : List ℕ) (summed : IsSummed words inhabited) where
   -- ---- one word is written
 
   module _ (i written : ℕ) (low : i < 512) where
-    written_there : get_or (set words i written) i 0 ≡ written
-    written_there = get_or-set_same words i written 0 (omega (arith, low, summed.long))
+    there : i < length words
+    there = omega (arith, low, summed.long)
 
-    kept_elsewhere : (j : ℕ) → j ≢ i → get_or (set words i written) j 0 ≡ get_or words j 0
-    kept_elsewhere j apart = get_or-set_other words i j written 0 apart
-
-    pub long_still : length (set words i written) ≡ 512
+    long_still : length (set words i written) ≡ 512
     long_still = length-set words i written ∙ summed.long
 
-    group_within : i / 64 < length inhabited
-    group_within = omega (arith, low, summed.short)
+    summed-written : (group : ℕ) → (bit_at group (i % 64) == 1) ≡ not (written == 0)
+        → ((k : ℕ) → k < 64 → k ≢ i % 64 → bit_at group k ≡ bit_at (get_or inhabited (i / 64) 0) k) → IsSummed (set words i written) (set inhabited (i / 64) group)
+    summed-written group here others =
+        let within : i / 64 < length inhabited = omega (arith, low, summed.short) in
+        record {
+          long = long_still;
+          short = length-set inhabited (i / 64) group ∙ summed.short;
+          sum = tells-written (has_bit inhabited) (has_bit (set inhabited (i / 64) group)) words 512 i written summed.sum there
+              (has_bit-set_same inhabited i group within ∙ here) (λ j _. has_bit-set_other inhabited i group within others j);
+        }
 
     -- the bit of the word is set
     pub summed-insert : written ≢ 0 → IsSummed (set words i written) (set inhabited (i / 64) (bit_or (get_or inhabited (i / 64) 0) (1 * 2 ^ (i % 64) % 2 ^ 64)))
     summed-insert some =
         let group = get_or inhabited (i / 64) 0 in
-        let marked = bit_or group (1 * 2 ^ (i % 64) % 2 ^ 64) in
-        record {
-          long = long_still;
-          short = length-set inhabited (i / 64) marked ∙ summed.short;
-          sum = λ j below. elim (cases_eq j i) [
-            | inl e ↦
-                ap (has_bit (set inhabited (i / 64) marked)) e
-                ∙ has_bit-set_same inhabited i marked group_within
-                ∙ ap (λ x. x == 1) (bit_at_set_same w64 group (i % 64) (omega arith))
-                ∙ sym (not_zero written some)
-                ∙ ap (λ w. not (w == 0)) (sym written_there)
-                ∙ ap (λ k. not (get_or (set words i written) k 0 == 0)) (sym e)
-            | inr apart ↦
-                has_bit-set_other inhabited i marked group_within (λ k _ differs. bit_at_set_other w64 group (i % 64) (omega arith) k differs) j apart
-                ∙ summed.sum j below
-                ∙ ap (λ w. not (w == 0)) (sym (kept_elsewhere j apart))
-          ];
-        }
+        summed-written _ (ap (λ x. x == 1) (bit_at_set_same w64 group (i % 64) (omega arith)) ∙ sym (not_zero written some)) (λ k _. bit_at_set_other w64 group (i % 64) (omega arith) k)
 
     -- the bit of the word is cleared
     pub summed-clear : written ≡ 0 → IsSummed (set words i written) (set inhabited (i / 64) (bit_and (get_or inhabited (i / 64) 0) (bit_not w64 (1 * 2 ^ (i % 64) % 2 ^ 64))))
     summed-clear none =
         let group = get_or inhabited (i / 64) 0 in
-        let marked = bit_and group (bit_not w64 (1 * 2 ^ (i % 64) % 2 ^ 64)) in
-        record {
-          long = long_still;
-          short = length-set inhabited (i / 64) marked ∙ summed.short;
-          sum = λ j below. elim (cases_eq j i) [
-            | inl e ↦
-                ap (has_bit (set inhabited (i / 64) marked)) e
-                ∙ has_bit-set_same inhabited i marked group_within
-                ∙ ap (λ x. x == 1) (bit_at_clear_same w64 group (i % 64) (omega arith))
-                ∙ ap (λ w. not (w == 0)) (sym (written_there ∙ none))
-                ∙ ap (λ k. not (get_or (set words i written) k 0 == 0)) (sym e)
-            | inr apart ↦
-                has_bit-set_other inhabited i marked group_within (λ k bound differs. bit_at_clear_other w64 group (i % 64) (omega arith) k bound differs) j apart
-                ∙ summed.sum j below
-                ∙ ap (λ w. not (w == 0)) (sym (kept_elsewhere j apart))
-          ];
-        }
+        summed-written _ (ap (λ x. x == 1) (bit_at_clear_same w64 group (i % 64) (omega arith)) ∙ ap (λ w. not (w == 0)) (sym none)) (bit_at_clear_other w64 group (i % 64) (omega arith))
 
     -- neither word was nor is 0
     pub summed-kept : get_or words i 0 ≢ 0 → written ≢ 0 → IsSummed (set words i written) inhabited
     summed-kept was some = record {
       long = long_still;
       short = summed.short;
-      sum = λ j below. elim (cases_eq j i) [
-        | inl e ↦
-            summed.sum j below
-            ∙ ap (λ k. not (get_or words k 0 == 0)) e
-            ∙ not_zero (get_or words i 0) was
-            ∙ sym (not_zero written some)
-            ∙ ap (λ w. not (w == 0)) (sym written_there)
-            ∙ ap (λ k. not (get_or (set words i written) k 0 == 0)) (sym e)
-        | inr apart ↦ summed.sum j below ∙ ap (λ w. not (w == 0)) (sym (kept_elsewhere j apart))
-      ];
+      sum = tells-kept (has_bit inhabited) words 512 i written summed.sum there low was some;
     }
 
 -- a bit that was set leaves no word of zeros

@@ -1,53 +1,69 @@
 -- The code of a condition falls through where it holds, and else goes away.
-use Rattle.std.proofs.Common.{◌≡◌, ℕ, ◌+◌, ◌==◌, ◌&&◌, ◌<◌, ◌≤◌, Bool, true, false, if◌then◌else◌, nat_lt, nat_le, not, bit_and, List, [], ◌∷◌, ◌++◌, length, refl, ap, sym, ◌∙◌, subst, arith, append_assoc}
+use Rattle.std.proofs.Common.{◌≡◌, ℕ, ◌+◌, ◌==◌, ◌&&◌, ◌<◌, Bool, true, false, if◌then◌else◌, nat_lt, nat_le, not, bit_and, List, [], ◌∷◌, ◌++◌, length, refl, ap, sym, ◌∙◌, subst, arith, append_assoc}
 use Rattle.std.specs.Prelude.{All}
-use Rattle.std.proofs.lemmas.Bool.{eqb-true, eqb-false, eq-eqb, ne_eqb, ltb-true, ltb-false, lt-ltb, le-ltb, leb-true, leb-false, le-leb, lt-leb, not_from_true, not_from_false}
+use Rattle.std.proofs.lemmas.Bool.{eqb-true, eqb-false, eq-eqb, ne_eqb}
+use Rattle.std.proofs.lemmas.Bool.Decides.{nat_tests}
 use Rattle.std.proofs.lemmas.List.Elements.{All-head, All-tail}
 use Rattle.std.proofs.lemmas.Nat.{and_shr, and_mod}
 use Rattle.sk_insn.specs.declared.insn.Insn.{Insn}
 use Rattle.sk_insn.specs.declared.record.Record.{Record}
+use Rattle.sk_insn.specs.declared.operation.Comparison.{Comparison}
 use Rattle.sk_insn.specs.declared.operation.Comparison.TheVariants.{Equal, Greater, GreaterOrEqual}
-use Rattle.sk_filter.specs.Meaning.{State}
+use Rattle.sk_filter.specs.Meaning.{State, holds}
 use Rattle.sk_profile.specs.declared.condition.Condition.{Condition}
 use Rattle.sk_profile.specs.declared.condition.Test.{Test}
 use Rattle.sk_profile.specs.declared.condition.Test.TheVariants.{Is, IsNot, Below, AtMost, Above, AtLeast, Masked}
 use Rattle.sk_profile.specs.Sayings.{compares, holds_of, all_hold}
-use Rattle.sk_profile.specs.Code.{load, with, branch, high, low, high_place, low_place, test_code, conditions_code}
+use Rattle.sk_profile.specs.Code.{load, with, branch, high, low, high_place, low_place, order_code, test_code, conditions_code}
 use Rattle.sk_profile.specs.Means.{IsCall}
 use Rattle.sk_profile.proofs.Steps.{Comes, load_on, with_on, branch_two, past}
 use Rattle.sk_profile.proofs.Halves.{argument, high_word, low_word}
 
--- what follows gives the value, from its beginning where the answer is yes, and else from so far on
+-- what follows gives the value, from so far on where the answer is yes, and else from so far on
+abbrev pub Goes : Bool → ℕ → ℕ → List Insn → Record → ℕ → Type 0
+Goes answer held failed rest call value = (s : State) → Comes rest (if answer then held else failed) call s value
+
+-- from its beginning where the answer is yes
 abbrev pub Follows : Bool → List Insn → ℕ → Record → ℕ → Type 0
-Follows answer rest away call value = (s : State) → Comes rest (if answer then 0 else away) call s value
+Follows answer rest away call value = Goes answer 0 away rest call value
+
+-- the other answer, the other way
+turned : (b c : Bool) (held failed : ℕ) (rest : List Insn) (call : Record) (value : ℕ) → c ≡ not b → Goes b held failed rest call value → Goes c failed held rest call value
+turned true c held failed rest call value e goes s = subst (λ c. Comes rest (if c then failed else held) call s value) (sym e) (goes s)
+turned false c held failed rest call value e goes s = subst (λ c. Comes rest (if c then failed else held) call s value) (sym e) (goes s)
 
 halves_same : (a b : ℕ) → high a ≡ high b → low a ≡ low b → a ≡ b
 halves_same a b h l = omega (arith, h, l)
 
--- orders, by the halves t and u of the first number
-higher : (a n t : ℕ) → t ≡ high a → high n < t → n ≤ a
-higher a n t at g = omega (arith, at, g)
+-- an order goes by the upper halves, and where they are the same by the lower ones
+record Splits (comparison : Comparison) (a n : ℕ) : Type 0 where
+  greater : nat_lt (high n) (high a) ≡ true → holds comparison a n ≡ true
+  less : nat_lt (high n) (high a) ≡ false → (high a == high n) ≡ false → holds comparison a n ≡ false
+  same : (high a == high n) ≡ true → holds comparison (low a) (low n) ≡ holds comparison a n
 
-above_it : (a n t : ℕ) → t ≡ high a → high n < t → n < a
-above_it a n t at g = omega (arith, at, g)
+greater_splits : (a n : ℕ) → Splits Greater a n
+greater_splits a n = record {
+  greater = λ g. grind (arith, nat_tests, g);
+  less = λ g h. grind (arith, nat_tests, g, h);
+  same = λ h. grind (arith, nat_tests, h);
+}
 
-lower : (a n t : ℕ) → t ≡ high a → t ≤ high n → (t ≡ high n → ⊥) → a < n
-lower a n t at g h = omega (arith, at, g, h)
+at_least_splits : (a n : ℕ) → Splits GreaterOrEqual a n
+at_least_splits a n = record {
+  greater = λ g. grind (arith, nat_tests, g);
+  less = λ g h. grind (arith, nat_tests, g, h);
+  same = λ h. grind (arith, nat_tests, h);
+}
 
-at_or_below : (a n t : ℕ) → t ≡ high a → t ≤ high n → (t ≡ high n → ⊥) → a ≤ n
-at_or_below a n t at g h = omega (arith, at, g, h)
+not_at_least : (a n : ℕ) → nat_le n a ≡ not (nat_lt a n)
+not_at_least a n = grind (arith, nat_tests)
 
-same_lower : (a n t u : ℕ) → t ≡ high a → t ≡ high n → u ≡ low a → u < low n → a < n
-same_lower a n t u at h au l = omega (arith, at, h, au, l)
+not_above : (a n : ℕ) → nat_lt n a ≡ not (nat_le a n)
+not_above a n = grind (arith, nat_tests)
 
-same_higher : (a n t u : ℕ) → t ≡ high a → t ≡ high n → u ≡ low a → low n < u → n < a
-same_higher a n t u at h au l = omega (arith, at, h, au, l)
-
-same_or_lower : (a n t u : ℕ) → t ≡ high a → t ≡ high n → u ≡ low a → u ≤ low n → a ≤ n
-same_or_lower a n t u at h au l = omega (arith, at, h, au, l)
-
-same_or_higher : (a n t u : ℕ) → t ≡ high a → t ≡ high n → u ≡ low a → low n ≤ u → n ≤ a
-same_or_higher a n t u at h au l = omega (arith, at, h, au, l)
+not_not : (b : Bool) → b ≡ not (not b)
+not_not true = refl
+not_not false = refl
 
 -- a load of each half, and a conditional jump behind it
 module _ (i away : ℕ) (rest : List Insn) (call : Record) (value : ℕ) (ok : IsCall call) (inside : i < 6) where
@@ -60,30 +76,40 @@ module _ (i away : ℕ) (rest : List Insn) (call : Record) (value : ℕ) (ok : I
   low_next follows s g = load_on (low_place i) follows call s (low (argument call i)) value (low_word call i ok inside) (g _ refl)
 
   -- the answer is known
-  known : (b c : Bool) (s : State) → Follows b rest away call value → b ≡ c → Comes rest (if c then 0 else away) call s value
-  known b c s follows e = subst (λ b. Comes rest (if b then 0 else away) call s value) e (follows s)
+  known : (b c : Bool) (held failed : ℕ) (s : State) → Goes b held failed rest call value → b ≡ c → Comes rest (if c then held else failed) call s value
+  known b c held failed s goes e = subst (λ b. Comes rest (if b then held else failed) call s value) e (goes s)
 
-  is_on : (n : ℕ) (s : State) → Follows (argument call i == n) rest away call value → Comes (test_code Is i n away ++ rest) 0 call s value
-  is_on n s follows =
+  equal_on : (n held failed : ℕ) (s : State) → Goes (argument call i == n) held failed rest call value
+      → Comes (load (high_place i) ∷ branch Equal (high n) 0 (2 + failed) ∷ load (low_place i) ∷ branch Equal (low n) held failed ∷ rest) 0 call s value
+  equal_on n held failed s goes =
       high_first _ s (λ t at.
-      branch_two Equal (high n) 0 (2 + away) _ call t value
+      branch_two Equal (high n) 0 (2 + failed) _ call t value
       (λ h. low_next _ t (λ u au.
-      branch_two Equal (low n) 0 away rest call u value
-      (λ l. known (argument call i == n) true u follows (eq-eqb _ n (halves_same _ n (sym at ∙ eqb-true t.a (high n) h) (sym au ∙ eqb-true u.a (low n) l))))
-      (λ l. known (argument call i == n) false u follows (ne_eqb _ n (λ e. eqb-false u.a (low n) l (au ∙ ap low e))))))
-      (λ h. past (load (low_place i) ∷ branch Equal (low n) 0 away ∷ []) rest away call t value
-      (known (argument call i == n) false t follows (ne_eqb _ n (λ e. eqb-false t.a (high n) h (at ∙ ap high e))))))
+      branch_two Equal (low n) held failed rest call u value
+      (λ l. known (argument call i == n) true held failed u goes (eq-eqb _ n (halves_same _ n (sym at ∙ eqb-true t.a (high n) h) (sym au ∙ eqb-true u.a (low n) l))))
+      (λ l. known (argument call i == n) false held failed u goes (ne_eqb _ n (λ e. eqb-false u.a (low n) l (au ∙ ap low e))))))
+      (λ h. past (load (low_place i) ∷ branch Equal (low n) held failed ∷ []) rest failed call t value
+      (known (argument call i == n) false held failed t goes (ne_eqb _ n (λ e. eqb-false t.a (high n) h (at ∙ ap high e))))))
 
-  is_not_on : (n : ℕ) (s : State) → Follows (not (argument call i == n)) rest away call value → Comes (test_code IsNot i n away ++ rest) 0 call s value
-  is_not_on n s follows =
+  order_on : (comparison : Comparison) (n greater less : ℕ) (s : State) → Splits comparison (argument call i) n
+      → Goes (holds comparison (argument call i) n) greater less rest call value
+      → Comes (load (high_place i) ∷ (order_code (high n) greater less ++ (load (low_place i) ∷ branch comparison (low n) greater less ∷ rest))) 0 call s value
+  order_on comparison n greater less s splits goes =
+      let answer = holds comparison (argument call i) n in
       high_first _ s (λ t at.
-      branch_two Equal (high n) 0 2 _ call t value
+      let above = ap (nat_lt (high n)) (sym at) in
+      let level = ap (λ x. x == high n) (sym at) in
+      branch_two Greater (high n) (3 + greater) 0 _ call t value
+      (λ g. past (branch Equal (high n) 0 (2 + less) ∷ load (low_place i) ∷ branch comparison (low n) greater less ∷ []) rest greater call t value
+      (known answer true greater less t goes (splits.greater (above ∙ g))))
+      (λ g. branch_two Equal (high n) 0 (2 + less) _ call t value
       (λ h. low_next _ t (λ u au.
-      branch_two Equal (low n) away 0 rest call u value
-      (λ l. known (not (argument call i == n)) false u follows (not_from_true _ (eq-eqb _ n (halves_same _ n (sym at ∙ eqb-true t.a (high n) h) (sym au ∙ eqb-true u.a (low n) l)))))
-      (λ l. known (not (argument call i == n)) true u follows (not_from_false _ (ne_eqb _ n (λ e. eqb-false u.a (low n) l (au ∙ ap low e)))))))
-      (λ h. past (load (low_place i) ∷ branch Equal (low n) away 0 ∷ []) rest 0 call t value
-      (known (not (argument call i == n)) true t follows (not_from_false _ (ne_eqb _ n (λ e. eqb-false t.a (high n) h (at ∙ ap high e)))))))
+      let lower = sym (splits.same (level ∙ h)) ∙ ap (λ x. holds comparison x (low n)) (sym au) in
+      branch_two comparison (low n) greater less rest call u value
+      (λ l. known answer true greater less u goes (lower ∙ l))
+      (λ l. known answer false greater less u goes (lower ∙ l))))
+      (λ h. past (load (low_place i) ∷ branch comparison (low n) greater less ∷ []) rest less call t value
+      (known answer false greater less t goes (splits.less (above ∙ g) (level ∙ h))))))
 
   masked_on : (mask n : ℕ) (s : State) → Follows (bit_and (argument call i) mask == n) rest away call value
       → Comes (test_code (Masked mask) i n away ++ rest) 0 call s value
@@ -96,80 +122,31 @@ module _ (i away : ℕ) (rest : List Insn) (call : Record) (value : ℕ) (ok : I
       (λ h. low_next _ _ (λ u au.
       with_on (low mask) _ call u value
       (branch_two Equal (low n) 0 away rest call _ value
-      (λ l. known (bit_and (argument call i) mask == n) true _ follows
+      (λ l. known (bit_and (argument call i) mask == n) true 0 away _ follows
       (eq-eqb _ n (halves_same _ n (upper ∙ ap (λ x. bit_and x (high mask)) (sym at) ∙ eqb-true _ (high n) h) (lower ∙ ap (λ x. bit_and x (low mask)) (sym au) ∙ eqb-true _ (low n) l))))
-      (λ l. known (bit_and (argument call i) mask == n) false _ follows
+      (λ l. known (bit_and (argument call i) mask == n) false 0 away _ follows
       (ne_eqb _ n (λ e. eqb-false _ (low n) l (ap (λ x. bit_and x (low mask)) au ∙ sym lower ∙ ap low e)))))))
       (λ h. past (load (low_place i) ∷ with (low mask) ∷ branch Equal (low n) 0 away ∷ []) rest away call _ value
-      (known (bit_and (argument call i) mask == n) false _ follows
+      (known (bit_and (argument call i) mask == n) false 0 away _ follows
       (ne_eqb _ n (λ e. eqb-false _ (high n) h (ap (λ x. bit_and x (high mask)) at ∙ sym upper ∙ ap high e)))))))
-
-  -- the four orders: the high half decides, and where it is the same the low one
-  below_on : (n : ℕ) (s : State) → Follows (nat_lt (argument call i) n) rest away call value → Comes (test_code Below i n away ++ rest) 0 call s value
-  below_on n s follows =
-      high_first _ s (λ t at.
-      branch_two Greater (high n) (3 + away) 0 _ call t value
-      (λ g. past (branch Equal (high n) 0 2 ∷ load (low_place i) ∷ branch GreaterOrEqual (low n) away 0 ∷ []) rest away call t value
-      (known (nat_lt (argument call i) n) false t follows (le-ltb _ n (higher _ n t.a at (ltb-true (high n) t.a g)))))
-      (λ g. branch_two Equal (high n) 0 2 _ call t value
-      (λ h. low_next _ t (λ u au.
-      branch_two GreaterOrEqual (low n) away 0 rest call u value
-      (λ l. known (nat_lt (argument call i) n) false u follows (le-ltb _ n (same_or_higher _ n t.a u.a at (eqb-true t.a (high n) h) au (leb-true (low n) u.a l))))
-      (λ l. known (nat_lt (argument call i) n) true u follows (lt-ltb _ n (same_lower _ n t.a u.a at (eqb-true t.a (high n) h) au (leb-false (low n) u.a l))))))
-      (λ h. past (load (low_place i) ∷ branch GreaterOrEqual (low n) away 0 ∷ []) rest 0 call t value
-      (known (nat_lt (argument call i) n) true t follows (lt-ltb _ n (lower _ n t.a at (ltb-false (high n) t.a g) (eqb-false t.a (high n) h)))))))
-
-  at_most_on : (n : ℕ) (s : State) → Follows (nat_le (argument call i) n) rest away call value → Comes (test_code AtMost i n away ++ rest) 0 call s value
-  at_most_on n s follows =
-      high_first _ s (λ t at.
-      branch_two Greater (high n) (3 + away) 0 _ call t value
-      (λ g. past (branch Equal (high n) 0 2 ∷ load (low_place i) ∷ branch Greater (low n) away 0 ∷ []) rest away call t value
-      (known (nat_le (argument call i) n) false t follows (lt-leb _ n (above_it _ n t.a at (ltb-true (high n) t.a g)))))
-      (λ g. branch_two Equal (high n) 0 2 _ call t value
-      (λ h. low_next _ t (λ u au.
-      branch_two Greater (low n) away 0 rest call u value
-      (λ l. known (nat_le (argument call i) n) false u follows (lt-leb _ n (same_higher _ n t.a u.a at (eqb-true t.a (high n) h) au (ltb-true (low n) u.a l))))
-      (λ l. known (nat_le (argument call i) n) true u follows (le-leb _ n (same_or_lower _ n t.a u.a at (eqb-true t.a (high n) h) au (ltb-false (low n) u.a l))))))
-      (λ h. past (load (low_place i) ∷ branch Greater (low n) away 0 ∷ []) rest 0 call t value
-      (known (nat_le (argument call i) n) true t follows (le-leb _ n (at_or_below _ n t.a at (ltb-false (high n) t.a g) (eqb-false t.a (high n) h)))))))
-
-  above_on : (n : ℕ) (s : State) → Follows (nat_lt n (argument call i)) rest away call value → Comes (test_code Above i n away ++ rest) 0 call s value
-  above_on n s follows =
-      high_first _ s (λ t at.
-      branch_two Greater (high n) 3 0 _ call t value
-      (λ g. past (branch Equal (high n) 0 (2 + away) ∷ load (low_place i) ∷ branch Greater (low n) 0 away ∷ []) rest 0 call t value
-      (known (nat_lt n (argument call i)) true t follows (lt-ltb n _ (above_it _ n t.a at (ltb-true (high n) t.a g)))))
-      (λ g. branch_two Equal (high n) 0 (2 + away) _ call t value
-      (λ h. low_next _ t (λ u au.
-      branch_two Greater (low n) 0 away rest call u value
-      (λ l. known (nat_lt n (argument call i)) true u follows (lt-ltb n _ (same_higher _ n t.a u.a at (eqb-true t.a (high n) h) au (ltb-true (low n) u.a l))))
-      (λ l. known (nat_lt n (argument call i)) false u follows (le-ltb n _ (same_or_lower _ n t.a u.a at (eqb-true t.a (high n) h) au (ltb-false (low n) u.a l))))))
-      (λ h. past (load (low_place i) ∷ branch Greater (low n) 0 away ∷ []) rest away call t value
-      (known (nat_lt n (argument call i)) false t follows (le-ltb n _ (at_or_below _ n t.a at (ltb-false (high n) t.a g) (eqb-false t.a (high n) h)))))))
-
-  at_least_on : (n : ℕ) (s : State) → Follows (nat_le n (argument call i)) rest away call value → Comes (test_code AtLeast i n away ++ rest) 0 call s value
-  at_least_on n s follows =
-      high_first _ s (λ t at.
-      branch_two Greater (high n) 3 0 _ call t value
-      (λ g. past (branch Equal (high n) 0 (2 + away) ∷ load (low_place i) ∷ branch GreaterOrEqual (low n) 0 away ∷ []) rest 0 call t value
-      (known (nat_le n (argument call i)) true t follows (le-leb n _ (higher _ n t.a at (ltb-true (high n) t.a g)))))
-      (λ g. branch_two Equal (high n) 0 (2 + away) _ call t value
-      (λ h. low_next _ t (λ u au.
-      branch_two GreaterOrEqual (low n) 0 away rest call u value
-      (λ l. known (nat_le n (argument call i)) true u follows (le-leb n _ (same_or_higher _ n t.a u.a at (eqb-true t.a (high n) h) au (leb-true (low n) u.a l))))
-      (λ l. known (nat_le n (argument call i)) false u follows (lt-leb n _ (same_lower _ n t.a u.a at (eqb-true t.a (high n) h) au (leb-false (low n) u.a l))))))
-      (λ h. past (load (low_place i) ∷ branch GreaterOrEqual (low n) 0 away ∷ []) rest away call t value
-      (known (nat_le n (argument call i)) false t follows (lt-leb n _ (lower _ n t.a at (ltb-false (high n) t.a g) (eqb-false t.a (high n) h)))))))
 
 -- the code of a test falls through where it holds, and else goes away
 pub test_on : (t : Test) (i n away : ℕ) (rest : List Insn) (call : Record) (s : State) (value : ℕ) → IsCall call → i < 6
     → Follows (compares t (argument call i) n) rest away call value → Comes (test_code t i n away ++ rest) 0 call s value
-test_on Is i n away rest call s value ok inside follows = is_on i away rest call value ok inside n s follows
-test_on IsNot i n away rest call s value ok inside follows = is_not_on i away rest call value ok inside n s follows
-test_on Below i n away rest call s value ok inside follows = below_on i away rest call value ok inside n s follows
-test_on AtMost i n away rest call s value ok inside follows = at_most_on i away rest call value ok inside n s follows
-test_on Above i n away rest call s value ok inside follows = above_on i away rest call value ok inside n s follows
-test_on AtLeast i n away rest call s value ok inside follows = at_least_on i away rest call value ok inside n s follows
+test_on Is i n away rest call s value ok inside follows = equal_on i away rest call value ok inside n 0 away s follows
+test_on IsNot i n away rest call s value ok inside follows =
+    let a = argument call i in
+    equal_on i away rest call value ok inside n away 0 s (turned (not (a == n)) (a == n) 0 away rest call value (not_not (a == n)) follows)
+test_on Below i n away rest call s value ok inside follows =
+    let a = argument call i in
+    order_on i away rest call value ok inside GreaterOrEqual n away 0 s (at_least_splits a n) (turned (nat_lt a n) (nat_le n a) 0 away rest call value (not_at_least a n) follows)
+test_on AtMost i n away rest call s value ok inside follows =
+    let a = argument call i in
+    order_on i away rest call value ok inside Greater n away 0 s (greater_splits a n) (turned (nat_le a n) (nat_lt n a) 0 away rest call value (not_above a n) follows)
+test_on Above i n away rest call s value ok inside follows =
+    order_on i away rest call value ok inside Greater n 0 away s (greater_splits (argument call i) n) follows
+test_on AtLeast i n away rest call s value ok inside follows =
+    order_on i away rest call value ok inside GreaterOrEqual n 0 away s (at_least_splits (argument call i) n) follows
 test_on (Masked mask) i n away rest call s value ok inside follows = masked_on i away rest call value ok inside mask n s follows
 
 -- behind a condition stands the code of the others

@@ -23,7 +23,7 @@ use Rattle.sk_profile.specs.declared.condition.Condition.{Condition}
 use Rattle.sk_profile.specs.declared.condition.Test.{Test}
 use Rattle.sk_profile.specs.declared.condition.Test.TheVariants.{Is, IsNot, Below, AtMost, Above, AtLeast, Masked}
 use Rattle.sk_profile.specs.Sayings.{Piece, Single, Joined, Tree, Leaf, Fork}
-use Rattle.sk_profile.specs.Code.{load, with, branch, jump, answer, high_place, low_place, test_code, conditions_code, passed_over, lows_code, piece_code, fork_code, tree_code, filter_code}
+use Rattle.sk_profile.specs.Code.{load, with, branch, jump, answer, high, low, high_place, low_place, order_code, test_code, conditions_code, passed_over, lows_code, piece_code, fork_code, tree_code, filter_code}
 use Rattle.sk_profile.specs.Means.{IsPiece, IsTree}
 use Rattle.sk_profile.proofs.Joining.{as_many}
 
@@ -71,79 +71,42 @@ high_load i behind inside = load_fits (high_place i) behind (omega arith) (omega
 low_load : (i behind : ℕ) → i < 6 → FitsBefore behind (operation_of (load (low_place i)).code) (load (low_place i))
 low_load i behind inside = load_fits (low_place i) behind (omega arith) (omega (arith, inside))
 
+equal_fits : (i n held failed behind : ℕ) → i < 6 → held < behind → failed < behind
+    → Fit behind (load (high_place i) ∷ branch Equal (high n) 0 (2 + failed) ∷ load (low_place i) ∷ branch Equal (low n) held failed ∷ [])
+equal_fits i n held failed behind inside near near' = (
+  high_load i _ inside,
+  (
+    branch_fits Equal _ _ _ _ (omega arith) (omega (arith, near')),
+    (
+      low_load i _ inside,
+      (branch_fits Equal _ _ _ _ (omega (arith, near)) (omega (arith, near')), tt),
+    ),
+  ),
+)
+
+order_fits : (comparison : Comparison) (i n greater less behind : ℕ) → i < 6 → greater < behind → less < behind
+    → Fit behind (load (high_place i) ∷ (order_code (high n) greater less ++ (load (low_place i) ∷ branch comparison (low n) greater less ∷ [])))
+order_fits comparison i n greater less behind inside near near' = (
+  high_load i _ inside,
+  (
+    branch_fits Greater _ _ _ _ (omega (arith, near)) (omega arith),
+    (
+      branch_fits Equal _ _ _ _ (omega arith) (omega (arith, near')),
+      (
+        low_load i _ inside,
+        (branch_fits comparison _ _ _ _ (omega (arith, near)) (omega (arith, near')), tt),
+      ),
+    ),
+  ),
+)
+
 test_fits : (t : Test) (i n away behind : ℕ) → i < 6 → away < behind → Fit behind (test_code t i n away)
-test_fits Is i n away behind inside near = (
-  high_load i _ inside,
-  (
-    branch_fits Equal _ _ _ _ (omega arith) (omega (arith, near)),
-    (
-      low_load i _ inside,
-      (branch_fits Equal _ _ _ _ (omega (arith, near)) (omega (arith, near)), tt),
-    ),
-  ),
-)
-test_fits IsNot i n away behind inside near = (
-  high_load i _ inside,
-  (
-    branch_fits Equal _ _ _ _ (omega arith) (omega (arith, near)),
-    (
-      low_load i _ inside,
-      (branch_fits Equal _ _ _ _ (omega (arith, near)) (omega (arith, near)), tt),
-    ),
-  ),
-)
-test_fits Below i n away behind inside near = (
-  high_load i _ inside,
-  (
-    branch_fits Greater _ _ _ _ (omega (arith, near)) (omega arith),
-    (
-      branch_fits Equal _ _ _ _ (omega arith) (omega (arith, near)),
-      (
-        low_load i _ inside,
-        (branch_fits GreaterOrEqual _ _ _ _ (omega (arith, near)) (omega (arith, near)), tt),
-      ),
-    ),
-  ),
-)
-test_fits AtMost i n away behind inside near = (
-  high_load i _ inside,
-  (
-    branch_fits Greater _ _ _ _ (omega (arith, near)) (omega arith),
-    (
-      branch_fits Equal _ _ _ _ (omega arith) (omega (arith, near)),
-      (
-        low_load i _ inside,
-        (branch_fits Greater _ _ _ _ (omega (arith, near)) (omega (arith, near)), tt),
-      ),
-    ),
-  ),
-)
-test_fits Above i n away behind inside near = (
-  high_load i _ inside,
-  (
-    branch_fits Greater _ _ _ _ (omega (arith, near)) (omega arith),
-    (
-      branch_fits Equal _ _ _ _ (omega arith) (omega (arith, near)),
-      (
-        low_load i _ inside,
-        (branch_fits Greater _ _ _ _ (omega (arith, near)) (omega (arith, near)), tt),
-      ),
-    ),
-  ),
-)
-test_fits AtLeast i n away behind inside near = (
-  high_load i _ inside,
-  (
-    branch_fits Greater _ _ _ _ (omega (arith, near)) (omega arith),
-    (
-      branch_fits Equal _ _ _ _ (omega arith) (omega (arith, near)),
-      (
-        low_load i _ inside,
-        (branch_fits GreaterOrEqual _ _ _ _ (omega (arith, near)) (omega (arith, near)), tt),
-      ),
-    ),
-  ),
-)
+test_fits Is i n away behind inside near = equal_fits i n 0 away behind inside (omega arith) near
+test_fits IsNot i n away behind inside near = equal_fits i n away 0 behind inside near (omega arith)
+test_fits Below i n away behind inside near = order_fits GreaterOrEqual i n away 0 behind inside near (omega arith)
+test_fits AtMost i n away behind inside near = order_fits Greater i n away 0 behind inside near (omega arith)
+test_fits Above i n away behind inside near = order_fits Greater i n 0 away behind inside (omega arith) near
+test_fits AtLeast i n away behind inside near = order_fits GreaterOrEqual i n 0 away behind inside (omega arith) near
 test_fits (Masked mask) i n away behind inside near = (
   high_load i _ inside,
   (

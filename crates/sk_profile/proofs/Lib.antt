@@ -1,4 +1,3 @@
-pub mod Asking
 pub mod Steps
 pub mod Halves
 pub mod Conditions

@@ -42,27 +42,35 @@ low_place index = 16 + 8 * index
 abbrev pub high_place : ℕ → ℕ
 high_place index = 20 + 8 * index
 
+-- what is asked of an upper half for an order: so many are passed over behind the comparison where it is greater than this
+-- number, and so many where it is less
+abbrev pub order_code : ℕ → ℕ → ℕ → List Insn
+order_code n greater less = branch Greater n (3 + greater) 0 ∷ branch Equal n 0 (2 + less) ∷ []
+
+-- behind the load of the upper half, which is compared with this number: up to three more pass over the lower half
+abbrev pub high_code : Test → ℕ → ℕ → List Insn
+high_code Is n away = branch Equal n 0 (2 + away) ∷ []
+high_code IsNot n away = branch Equal n 0 2 ∷ []
+high_code Below n away = order_code n away 0
+high_code AtMost n away = order_code n away 0
+high_code Above n away = order_code n 0 away
+high_code AtLeast n away = order_code n 0 away
+high_code (Masked mask) n away = with (high mask) ∷ branch Equal n 0 (3 + away) ∷ []
+
+-- behind that of the lower half
+abbrev pub low_code : Test → ℕ → ℕ → List Insn
+low_code Is n away = branch Equal n 0 away ∷ []
+low_code IsNot n away = branch Equal n away 0 ∷ []
+low_code Below n away = branch GreaterOrEqual n away 0 ∷ []
+low_code AtMost n away = branch Greater n away 0 ∷ []
+low_code Above n away = branch Greater n 0 away ∷ []
+low_code AtLeast n away = branch GreaterOrEqual n 0 away ∷ []
+low_code (Masked mask) n away = with (low mask) ∷ branch Equal n 0 away ∷ []
+
 -- a comparison of the argument with this index: falls through where it holds, and else passes over so many
 abbrev pub test_code : Test → ℕ → ℕ → ℕ → List Insn
-test_code Is i n away =
-    load (high_place i) ∷ branch Equal (high n) 0 (2 + away) ∷ load (low_place i) ∷ branch Equal (low n) 0 away ∷ []
-test_code IsNot i n away =
-    load (high_place i) ∷ branch Equal (high n) 0 2 ∷ load (low_place i) ∷ branch Equal (low n) away 0 ∷ []
-test_code Below i n away =
-    load (high_place i) ∷ branch Greater (high n) (3 + away) 0 ∷ branch Equal (high n) 0 2
-    ∷ load (low_place i) ∷ branch GreaterOrEqual (low n) away 0 ∷ []
-test_code AtMost i n away =
-    load (high_place i) ∷ branch Greater (high n) (3 + away) 0 ∷ branch Equal (high n) 0 2
-    ∷ load (low_place i) ∷ branch Greater (low n) away 0 ∷ []
-test_code Above i n away =
-    load (high_place i) ∷ branch Greater (high n) 3 0 ∷ branch Equal (high n) 0 (2 + away)
-    ∷ load (low_place i) ∷ branch Greater (low n) 0 away ∷ []
-test_code AtLeast i n away =
-    load (high_place i) ∷ branch Greater (high n) 3 0 ∷ branch Equal (high n) 0 (2 + away)
-    ∷ load (low_place i) ∷ branch GreaterOrEqual (low n) 0 away ∷ []
-test_code (Masked mask) i n away =
-    load (high_place i) ∷ with (high mask) ∷ branch Equal (high n) 0 (3 + away)
-    ∷ load (low_place i) ∷ with (low mask) ∷ branch Equal (low n) 0 away ∷ []
+test_code test i n away =
+    load (high_place i) ∷ (high_code test (high n) away ++ (load (low_place i) ∷ low_code test (low n) away))
 
 -- all conditions: the same
 abbrev pub conditions_code : List Condition → ℕ → List Insn

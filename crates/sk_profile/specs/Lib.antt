@@ -1,6 +1,5 @@
 pub mod Sayings
 pub mod Code
-pub mod Asking
 pub mod Means
 pub mod CodeRows
 pub mod CodeViews

@@ -1,8 +1,7 @@
 //! The instructions of conditions.
 ghost use Rattle.std.specs.Prelude.{ℕ, ◌≡◌, ◌+◌, ◌*◌, ◌<◌, ◌≤◌, ◌++◌, length, OnOk, All};
 ghost use Rattle.sk_profile.specs.declared.condition.Condition.{Condition};
-ghost use Rattle.sk_profile.specs.Asking.{high_code, low_code};
-ghost use Rattle.sk_profile.specs.Code.{test_code, conditions_code};
+ghost use Rattle.sk_profile.specs.Code.{high_code, low_code, test_code, conditions_code};
 
 use crate::condition::{Condition, Test};
 use crate::instructions::{branch, load, with};
@@ -64,7 +63,6 @@ fn push_low(code: &mut Vec<Insn>, test: Test, low: u32, away: u8) -> Result<(), 
 }
 
 // Compares an argument, and goes on where the test holds.
-#[tactic(auto, using(crate::proofs::Asking::test_by_halves))]
 fn push_test(code: &mut Vec<Insn>, condition: Condition, away: u8) -> Result<(), AllocError>
     requires index { condition.index < 6 }
     requires near { away ≤ 200 }

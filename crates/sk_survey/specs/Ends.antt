@@ -9,6 +9,8 @@ use Rattle.sk_insn.specs.Actions.{allow}
 use Rattle.sk_filter.specs.Paths.{At, IsPath}
 use Rattle.sk_filter.specs.Choosing.{chosen}
 use Rattle.sk_filter.specs.Verdict.{first_of}
+use Rattle.sk_survey.specs.declared.merge.Side.{Side}
+use Rattle.sk_survey.specs.declared.merge.Side.TheVariants.{Newer, Older}
 use Rattle.sk_survey.specs.Settling.{SettlesOn}
 use Rattle.sk_survey.specs.Answers.{IsOneOf, IsAmong, ChainAnswersAmong}
 
@@ -65,6 +67,11 @@ abbrev pub OnlyVerdicts : List (List Insn) → ℕ → ℕ → Option (List ℕ)
 OnlyVerdicts programs first last values =
     (value : ℕ) → IsAmong value values
     → IsComingVerdict programs first last value ⊎ (AnyMayCome programs first last ⊎ IsAllowed programs first last value)
+
+-- which comes first of a value of this side and one of the other
+abbrev pub first_beside : Side → ℕ → ℕ → Option ℕ
+first_beside Newer value other = chosen (Some value) other
+first_beside Older value other = chosen (Some other) value
 
 -- the value is the first of one of these, of a newer filter, and one of those, of an older filter
 abbrev pub IsFirstOfBoth : List ℕ → List ℕ → ℕ → Type 0

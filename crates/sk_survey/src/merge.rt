@@ -1,12 +1,19 @@
 //! The first of a newer and an older value, over all that they can be.
-ghost use Rattle.std.specs.Prelude.{◌≡◌, ℕ, ◌⊎◌, Some, IfOk, IsOk};
+ghost use Rattle.std.specs.Prelude.{◌≡◌, ℕ, ◌⊎◌, Some, IfOk};
 ghost use Rattle.sk_filter.specs.Choosing.{chosen};
 ghost use Rattle.sk_survey.specs.Answers.{IsOneOf, IsRising};
-ghost use Rattle.sk_survey.specs.Ends.{IsFirstOfBoth};
+ghost use Rattle.sk_survey.specs.Ends.{IsFirstOfBoth, first_beside};
 
 use crate::values::insert;
 use sk_filter::sooner;
 use std::alloc::{AllocError, Global};
+
+/// Whose value it is: the newer filter's, or an older one's.
+#[derive(Clone, Copy)]
+enum Side {
+    Newer,
+    Older,
+}
 
 /// What comes first where the newer value is one of these and the older one of those: a newer value stays where an
 /// older one has no sooner action, and an older one comes in where a newer one has a later action. As the values
@@ -20,49 +27,45 @@ pub(crate) fn merge(alloc: Global, newer: &[u32], older: &[u32]) -> Result<Vec<u
     ensures only { IfOk result (λ values. (value : ℕ) → IsOneOf value values.items
         → IsFirstOfBoth newer.now older.now value) }
 {
-    let mut values = Vec::new(alloc);
+    let none = Vec::new(alloc);
     let none_newer = newer.is_empty();
     let none_older = older.is_empty();
     if none_newer || none_older {
-        return Ok(values);
+        return Ok(none);
     }
-    add_staying(&mut values, newer, older[older.len() - 1])?;
-    add_coming(&mut values, older, newer[newer.len() - 1])?;
+    let staying = with_firsts(none, Side::Newer, newer, older[older.len() - 1])?;
+    let values = with_firsts(staying, Side::Older, older, newer[newer.len() - 1])?;
     Ok(values)
 }
 
-/// Adds those that stay where this older one comes.
-fn add_staying(values: &mut Vec<u32>, newer: &[u32], older: u32) -> Result<(), AllocError>
-    requires rising { IsRising values.old.items }
-    ensures rising { IsRising values.new.items }
-    ensures kept { (other : ℕ) → IsOneOf other values.old.items → IsOneOf other values.new.items }
-    ensures added { IsOk result → (value : ℕ) → IsOneOf value newer.now → chosen (Some value) older ≡ Some value
-        → IsOneOf value values.new.items }
-    ensures only { (value : ℕ) → IsOneOf value values.new.items → IsOneOf value values.old.items
-        ⊎ (IsOneOf value newer.now × (chosen (Some value) older ≡ Some value)) }
+/// Adds those of one side that come first beside this value of the other.
+fn with_firsts(
+    mut values: Vec<u32>,
+    side: Side,
+    these: &[u32],
+    other: u32,
+) -> Result<Vec<u32>, AllocError>
+    requires rising { IsRising values.items }
+    ensures rising { IfOk result (λ after. IsRising after.items) }
+    ensures kept { IfOk result (λ after. (value : ℕ) → IsOneOf value values.items → IsOneOf value after.items) }
+    ensures added { IfOk result (λ after. (value : ℕ) → IsOneOf value these.now → first_beside side value other ≡ Some value
+        → IsOneOf value after.items) }
+    ensures only { IfOk result (λ after. (value : ℕ) → IsOneOf value after.items → IsOneOf value values.items
+        ⊎ (IsOneOf value these.now × (first_beside side value other ≡ Some value))) }
 {
-    for value in newer {
-        if sooner(Some(*value), older) == Some(*value) {
-            insert(values, *value)?;
+    for value in these {
+        if first_beside(side, *value, other) == Some(*value) {
+            insert(&mut values, *value)?;
         }
     }
-    Ok(())
+    Ok(values)
 }
 
-/// Adds those that come before this newer one.
-fn add_coming(values: &mut Vec<u32>, older: &[u32], newer: u32) -> Result<(), AllocError>
-    requires rising { IsRising values.old.items }
-    ensures rising { IsRising values.new.items }
-    ensures kept { (other : ℕ) → IsOneOf other values.old.items → IsOneOf other values.new.items }
-    ensures added { IsOk result → (value : ℕ) → IsOneOf value older.now → chosen (Some newer) value ≡ Some value
-        → IsOneOf value values.new.items }
-    ensures only { (value : ℕ) → IsOneOf value values.new.items → IsOneOf value values.old.items
-        ⊎ (IsOneOf value older.now × (chosen (Some newer) value ≡ Some value)) }
+fn first_beside(side: Side, value: u32, other: u32) -> Option<u32>
+    ensures { result ≡ first_beside side value other }
 {
-    for value in older {
-        if sooner(Some(newer), *value) == Some(*value) {
-            insert(values, *value)?;
-        }
+    match side {
+        Side::Newer => sooner(Some(value), other),
+        Side::Older => sooner(Some(other), value),
     }
-    Ok(())
 }

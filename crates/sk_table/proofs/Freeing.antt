@@ -1,16 +1,14 @@
 -- The numbers that the rows use.
-use Rattle.std.proofs.Common.{◌≡◌, ◌∙◌, ℕ, zero, suc, ap, sym, refl, Bool, true, false, cond, ◌||◌, List, [], ◌∷◌, None, Some}
+use Rattle.std.proofs.Common.{◌≡◌, ◌∙◌, ℕ, ap, sym, refl, Bool, true, false, cond, ◌||◌, List, [], ◌∷◌, None, Some}
 use Rattle.std.specs.List.{list_any}
 use Rattle.std.specs.Ordering.{nat_cmp, is_eq}
 use Rattle.std.specs.declared.cmp.Ordering.TheVariants.{Less, Equal, Greater}
 use Rattle.std.specs.FinMap.Entries.{find, put, by_order}
 use Rattle.sk_world.specs.declared.process.Proc.{Proc}
-use Rattle.sk_world.specs.World.{World}
-use Rattle.sk_world.specs.Numbers.{has_number, is_used, next_number, free_from, fresh_of}
+use Rattle.sk_world.specs.Numbers.{has_number}
 use Rattle.sk_table.specs.declared.scan.Row.{Row}
-use Rattle.sk_table.specs.declared.scan.TheConstants.{NUMBERS}
-use Rattle.sk_table.specs.Rows.{processes_of, Distinct, row_has_number, free_row}
-use Rattle.sk_table.proofs.Keeping.{world, get_rows}
+use Rattle.sk_table.specs.Rows.{processes_of, Distinct, row_has_number}
+use Rattle.sk_table.proofs.Keeping.{get_rows}
 
 later : (a b r : Bool) → (b || (a || r)) ≡ (a || (b || r))
 later true true r = refl
@@ -32,34 +30,3 @@ used_rows n [] h = refl
 used_rows n (row ∷ rows) h =
     ap (λ b. row_has_number n row || b) (used_rows n rows h.1)
     ∙ sym (any_put (has_number n) row.pid row.proc (processes_of rows).entries (get_rows row.pid rows ∙ h.0))
-
--- one number is asked
-pub free_here : (more : ℕ) (rows : List Row) (n : ℕ) → list_any (row_has_number n) rows ≡ false → free_row more rows n ≡ n
-unfolding free_row
-free_here zero rows n e = refl
-free_here (suc more) rows n e = ap (λ b. cond b (free_row more rows (next_number n)) n) e
-
-pub free_later : (more rest : ℕ) (rows : List Row) (n : ℕ) → more ≡ suc rest → list_any (row_has_number n) rows ≡ true → free_row more rows n ≡ free_row rest rows (next_number n)
-unfolding free_row
-free_later more rest rows n is e =
-    ap (λ m. free_row m rows n) is ∙ ap (λ b. cond b (free_row rest rows (next_number n)) n) e
-
-pub free_last : (rows : List Row) (n : ℕ) → free_row 0 rows n ≡ n
-unfolding free_row
-free_last rows n = refl
-
-pub free_rows : (more : ℕ) (rows : List Row) (last n : ℕ) → Distinct rows → free_row more rows n ≡ free_from more (world rows last) n
-unfolding free_row
-free_rows zero rows last n h = refl
-free_rows (suc more) rows last n h =
-    ap (λ b. cond b (free_row more rows (next_number n)) n) (used_rows n rows h)
-    ∙ ap (λ m. cond (is_used (world rows last) n) m n) (free_rows more rows last (next_number n) h)
-
--- the number that a scan of the rows answers
-pub fresh_of_rows : (rows seen : List Row) (last : ℕ) (w : World) (n : ℕ) → n ≡ free_row NUMBERS seen (next_number last) → seen ≡ rows → world rows last ≡ w → Distinct rows → n ≡ fresh_of w
-unfolding fresh_of
-fresh_of_rows rows seen last w n e these is h =
-    e
-    ∙ ap (λ rs. free_row NUMBERS rs (next_number last)) these
-    ∙ free_rows NUMBERS rows last (next_number last) h
-    ∙ ap (λ (v : World). fresh_of v) is

@@ -1,10 +1,9 @@
 -- What a list of rows, each a pid and its process, says of the world.
-use Rattle.std.specs.Prelude.{ℕ, zero, suc, ◌==◌, ◌≡◌, Bool, true, false, if◌then◌else◌, List, [], ◌∷◌, Option, None, Some}
+use Rattle.std.specs.Prelude.{ℕ, ◌==◌, ◌≡◌, Bool, true, false, if◌then◌else◌, List, [], ◌∷◌, Option, None, Some}
 use Rattle.std.specs.Option.{option_map_or}
-use Rattle.std.specs.List.{list_any}
 use Rattle.sk_world.specs.declared.process.Proc.{Proc}
 use Rattle.sk_world.specs.Processes.{Processes, none, store}
-use Rattle.sk_world.specs.Numbers.{has_number, next_number}
+use Rattle.sk_world.specs.Numbers.{has_number}
 use Rattle.sk_table.specs.declared.scan.Row.{Row}
 use Rattle.sk_table.specs.declared.scan.Sought.{Sought}
 use Rattle.sk_table.specs.declared.scan.Sought.TheVariants.{ChildOf, MemberOf, Anyone}
@@ -27,11 +26,6 @@ Distinct (row ∷ rows) = (proc_of row.pid rows ≡ None) × Distinct rows
 -- the number is the pid, the group or the session of the row's process
 abbrev pub row_has_number : ℕ → Row → Bool
 row_has_number n row = has_number n (row.pid, row.proc)
-
--- the first number that no row has, from n on, where at most so many are asked
-unfoldable pub free_row : ℕ → List Row → ℕ → ℕ
-free_row zero rows n = n
-free_row (suc more) rows n = if list_any (row_has_number n) rows then free_row more rows (next_number n) else n
 
 -- the process is one of those that are sought
 abbrev pub is_sought : Sought → Proc → Bool

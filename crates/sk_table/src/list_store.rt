@@ -1,6 +1,7 @@
 //! The store that is a plain list.
 use crate::first::first_process;
-use crate::scan::{Row, Sought, first_free, has_number, least_after, place};
+use crate::numbering::{Numbers, first_free};
+use crate::scan::{Row, Sought, least_after, place};
 use sk_world::{Body, INIT, Links, PROCESSES, Proc, ProcStore};
 use std::alloc::{AllocError, Global};
 use std::marker::Model;
@@ -89,7 +90,7 @@ impl ProcStore for ListStore {
     }
 
     fn used(&self, number: u32) -> bool {
-        has_number(&self.rows, number)
+        self.rows.is_used(number)
     }
 
     fn count(&self) -> usize {

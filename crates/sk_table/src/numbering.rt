@@ -1,13 +1,21 @@
-//! Which number the next child gets, by the counts of those in use.
-ghost use Rattle.std.specs.Prelude.{◌≡◌};
-ghost use Rattle.sk_world.specs.Numbers.{next_number};
-ghost use Rattle.sk_table.specs.Free.{free_counted};
+//! Which number the next child gets.
+ghost use Rattle.std.specs.Prelude.{◌≡◌, ℕ, Bool};
+ghost use Rattle.sk_world.specs.Numbers.{fresh_of, is_used, next_number};
+ghost use Rattle.sk_world.specs.World.{World};
 
-use crate::uses::Uses;
 use sk_world::LAST_PID;
 
 // How many numbers there are to be given, from 2 to the last.
 const NUMBERS: u32 = LAST_PID - 1;
+
+/// What tells which numbers are in use.
+pub trait Numbers {
+    ghost used: { Self → ℕ → Bool };
+
+    /// Whether the number is in use.
+    fn is_used(&self, number: u32) -> bool
+        ensures { result ≡ used self.now number };
+}
 
 /// The number after this one.
 pub fn next_number(number: u32) -> u32
@@ -16,13 +24,13 @@ pub fn next_number(number: u32) -> u32
     if number < LAST_PID { number + 1 } else { 2 }
 }
 
-/// The first number after the last one given that is not used.
-pub fn first_free(uses: &Uses, last: u32) -> u32
-    ensures { result ≡ free_counted NUMBERS uses.now (next_number last) }
+/// The first number after the last one given that is not in use, in each world that has these in use.
+pub fn first_free<N: Numbers>(numbers: &N, last: u32) -> u32
+    ensures { (w : World) → w.last ≡ last → ((n : ℕ) → N.used numbers.now n ≡ is_used w n) → result ≡ fresh_of w }
 {
     let mut number = next_number(last);
     for _tried in 0..NUMBERS {
-        if !uses.has(number) {
+        if !numbers.is_used(number) {
             return number;
         }
         number = next_number(number);

@@ -1,16 +1,12 @@
-//! Looks through a list of processes: for a place, for the least pid above another, for a free number.
+//! Looks through a list of processes: for a place, for a number, for the least pid above another.
 ghost use Rattle.std.specs.Prelude.{◌≡◌, ◌==◌, position, min};
 ghost use Rattle.std.specs.Option.{option_map_or};
 ghost use Rattle.std.specs.List.{list_any};
-ghost use Rattle.sk_world.specs.Numbers.{next_number};
 ghost use Rattle.sk_world.specs.World.{IsNext};
-ghost use Rattle.sk_table.specs.Rows.{Distinct, row_has_number, free_row, is_sought, is_sought_pid};
+ghost use Rattle.sk_table.specs.Rows.{Distinct, row_has_number, is_sought, is_sought_pid};
 
-use crate::numbering::next_number;
-use sk_world::{LAST_PID, Proc};
-
-// How many numbers there are to be given, from 2 to the last.
-const NUMBERS: u32 = LAST_PID - 1;
+use crate::numbering::Numbers;
+use sk_world::Proc;
 
 /// A process in the list, and its pid.
 #[derive(Drop)]
@@ -26,27 +22,18 @@ pub fn place(rows: &[Row], pid: u32) -> Option<usize>
     rows.iter().position(|row| row.pid == pid)
 }
 
-/// Whether a process has the number.
-pub fn has_number(rows: &[Row], number: u32) -> bool
-    ensures { result ≡ list_any (row_has_number number) rows.now }
-{
-    rows.iter().any(|row| {
-        row.pid == number || row.proc.links.group == number || row.proc.links.session == number
-    })
-}
+/// The numbers that a process has.
+impl Numbers for Vec<Row> {
+    ghost use Rattle.std.specs.List.{list_any};
+    ghost use Rattle.sk_table.specs.Rows.{row_has_number};
 
-/// The first number after the last one given that no process has.
-pub fn first_free(rows: &[Row], last: u32) -> u32
-    ensures { result ≡ free_row NUMBERS rows.now (next_number last) }
-{
-    let mut number = next_number(last);
-    for _tried in 0..NUMBERS {
-        if !has_number(rows, number) {
-            return number;
-        }
-        number = next_number(number);
+    ghost used = { λ rows n. list_any (row_has_number n) rows.items };
+
+    fn is_used(&self, number: u32) -> bool {
+        self.iter().any(|row| {
+            row.pid == number || row.proc.links.group == number || row.proc.links.session == number
+        })
     }
-    number
 }
 
 /// Which processes are sought.

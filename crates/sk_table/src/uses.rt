@@ -4,6 +4,7 @@ ghost use Rattle.sk_world.specs.declared.process.TheConstants.{LAST_PID};
 ghost use Rattle.sk_world.specs.Rules.{is_within};
 ghost use Rattle.sk_table.specs.Weights.{one, weight};
 
+use crate::numbering::Numbers;
 use sk_numbers::NUMBERS;
 use sk_world::Links;
 use std::alloc::{AllocError, Global};
@@ -82,5 +83,16 @@ impl Uses {
         self.take(pid);
         self.take(links.group);
         self.take(links.session);
+    }
+}
+
+/// The numbers with a count.
+impl Numbers for Uses {
+    ghost use Rattle.std.specs.Prelude.{nat_lt, slice_index};
+
+    ghost used = { λ uses n. nat_lt 0 (slice_index uses n) };
+
+    fn is_used(&self, number: u32) -> bool {
+        self.has(number)
     }
 }

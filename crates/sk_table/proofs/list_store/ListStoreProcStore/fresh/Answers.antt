@@ -1,14 +1,15 @@
-use Rattle.std.proofs.Common.{◌≡◌, ◌≤◌, IsFalse, None, subst, sym}
+use Rattle.std.proofs.Common.{◌≡◌, ◌∙◌, ◌≤◌, IsFalse, None, ap, subst, sym}
 use Rattle.sk_world.specs.declared.process.TheConstants.{LAST_PID}
 use Rattle.sk_world.specs.World.{World, at}
 use Rattle.sk_world.specs.Numbers.{is_used}
 use Rattle.sk_world.proofs.Fresh.{fresh_unused, fresh_absent, fresh_in_range}
-use Rattle.sk_table.proofs.Freeing.{fresh_of_rows}
+use Rattle.sk_table.proofs.Freeing.{used_rows}
 use Rattle.sk_table.proofs.list_store.ListStoreProcStore.fresh.Goals as goal
 
 pub returns-clause-fresh : goal.returns-clause-fresh
 returns-clause-fresh c =
-    fresh_of_rows c.self.inside.rows.items _ c.self.inside.last _ _ c.first_free.ensures c.deref.ensures.value c.self.view_is c.self.invariant.distinct
+    c.first_free.ensures c.args.self.now (ap (λ (w : World). w.last) (sym c.self.view_is))
+    (λ n. used_rows n c.self.inside.rows.items c.self.invariant.distinct ∙ ap (λ (w : World). is_used w n) c.self.view_is)
 
 pub returns-clause-free : goal.returns-clause-free
 returns-clause-free c room =

@@ -1,17 +1,17 @@
-use Rattle.std.proofs.Common.{◌≡◌, ◌∙◌, ◌≤◌, IsFalse, None, ap, subst, sym}
+use Rattle.std.proofs.Common.{◌≡◌, ◌∙◌, ◌≤◌, IsFalse, None, ap, refl, subst, sym}
 use Rattle.sk_world.specs.declared.process.TheConstants.{LAST_PID}
 use Rattle.sk_world.specs.Numbers.{is_used, fresh_of}
 use Rattle.sk_world.specs.World.{at}
 use Rattle.sk_world.proofs.Fresh.{fresh_unused, fresh_absent, fresh_in_range}
 use Rattle.sk_table.specs.Slots.{Slotted}
 use Rattle.sk_table.specs.SlotView.{slotted_of}
-use Rattle.sk_table.proofs.Freely.{fresh_is}
+use Rattle.sk_table.proofs.Freely.{used_is}
 use Rattle.sk_table.proofs.slot_store.SlotStoreProcStore.fresh.Goals as goal
 
 pub returns-clause-fresh : goal.returns-clause-fresh
 returns-clause-fresh c =
-    c.first_free.ensures ∙ fresh_is (slotted_of c.self.inside).world _ c.self.invariant.beside.uses
-    ∙ ap (λ (s : Slotted). fresh_of s.world) c.self.view_is
+    let w = (slotted_of c.self.inside).world in
+    c.first_free.ensures w refl (used_is w _ c.self.invariant.beside.uses) ∙ ap (λ (s : Slotted). fresh_of s.world) c.self.view_is
 
 given : (s s' : Slotted) → s ≡ s' → 1 ≤ s.world.last → 1 ≤ s'.world.last
 given s s' = subst (λ (s : Slotted). 1 ≤ s.world.last)

@@ -1,7 +1,7 @@
 use Rattle.std.proofs.Common.{sym, ◌∙◌}
 use Rattle.std.specs.Str.{bytes_eq}
 use Rattle.sk_call_names.proofs.Places.{position_texts}
-use Rattle.sk_call_names.proofs.runs.place_of.Goals as goal
+use Rattle.sk_call_names.proofs.lists.place_of.Goals as goal
 
 pub returns-clause-first : goal.returns-clause-first
 returns-clause-first c =
