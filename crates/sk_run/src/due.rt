@@ -1,5 +1,5 @@
 //! Which event is due.
-ghost use Rattle.std.specs.Prelude.{◌≡◌, ◌<◌, ◌^◌, IfSome};
+ghost use Rattle.std.specs.Prelude.{◌≡◌, ◌<◌, ◌≤◌, ◌^◌, IfSome, length};
 ghost use Rattle.std.specs.Option.{option_copied};
 ghost use Rattle.sk_report.specs.Scheduling.{line_due, own_event, event_by, address_of, closing, script_of};
 ghost use Rattle.sk_run.specs.views.Stacks.{stack_of};
@@ -10,22 +10,26 @@ use sk_machine::{Event, Need};
 use sk_report::Level;
 use sk_scenario::{Program, ScriptCall};
 
-/// The script of a program. One that is not declared has the empty script.
-fn script_of(programs: &[Program], program: u64) -> &[ScriptCall]
-    ensures script { result.now ≡ script_of programs.now program }
+/// How many calls the script of a program has. One that is not declared has the empty script.
+fn length_of(programs: &[Program], program: u64) -> usize
+    ensures length { result ≡ length (script_of programs.now program) }
+    ensures few { result ≤ 1000 }
 {
     match programs.get(program as usize) {
-        Some(program) => program.calls.as_slice(),
-        None => &[],
+        Some(program) => program.calls.len(),
+        None => 0,
     }
 }
 
 /// The call of the script that is next, if one is left.
-pub(crate) fn line_due<'a>(programs: &'a [Program], levels: &Levels) -> Option<&'a ScriptCall>
-    ensures line { option_copied result ≡ line_due programs.now (stack_of levels.now) }
+pub(crate) fn line_due(programs: &[Program], levels: &Levels) -> Option<ScriptCall>
+    ensures line { result ≡ line_due programs.now (stack_of levels.now) }
     ensures room { IfSome result (λ _. levels.now.top.position < 2 ^ 63) }
 {
-    script_of(programs, levels.top.program).get(levels.top.position)
+    match programs.get(levels.top.program as usize) {
+        Some(program) => program.calls.get(levels.top.position),
+        None => None,
+    }
 }
 
 /// The event of a process by what it needs.
@@ -62,7 +66,7 @@ fn own_event(programs: &[Program], pid: u32, levels: &Levels, line: Option<&Scri
         None if top.refused => Event::Fault { pid },
         None => Event::Call {
             pid,
-            ip: address_of(top.program, script_of(programs, top.program).len()),
+            ip: address_of(top.program, length_of(programs, top.program)),
             call: closing(below.as_slice()),
         },
     }

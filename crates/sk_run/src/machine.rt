@@ -117,7 +117,8 @@ impl<S: ProcStore> Machine<S> {
         reach(&mut self.stacks, self.alloc, pid)?;
         let levels = levels_at(&self.stacks, pid as usize);
         let programs = self.programs.as_slice();
-        let line = line_due(programs, levels);
+        let due = line_due(programs, levels);
+        let line = due.as_ref();
         let event = event_by(programs, pid, levels, need, line);
         let answer = make(&mut self.kernel, &mut self.stacks, self.alloc, line, &event)?;
         self.last = pid;

@@ -13,7 +13,7 @@ use Rattle.sk_scenario.specs.Grammar.{Silent, Turns, Subreapers, Filter, Program
 use Rattle.sk_scenario.specs.Scenario.{Script, Names, named_by, call_of}
 use Rattle.sk_scenario.specs.Reading.{◌>>=◌, with_call, plain, understood, checked, Gained, Open, Nothing, Undecided, Bytes, Code, Calls, remarked, given, opened, started, limited, coded, grown, decided, resolved, called, inside, within, stepped}
 use Rattle.sk_scenario.proofs.Steps.{kind}
-use Rattle.sk_scenario.specs.Faults.{Wrong, Excess, Malformed, Beyond, Nameless, Place, AtTop, InFilter, InBytes, InCode, InCalls, bytes_given, is_turns, is_subreapers, is_filter, is_program, gives, repeats, exceeds, is_too_long, is_wrong_at_top, is_wrong_in_bytes, is_code, is_nameless, is_wrong_in_calls, is_wrong, begins_code}
+use Rattle.sk_scenario.specs.Faults.{Wrong, Excess, Malformed, Beyond, Nameless, Place, AtTop, InFilter, InBytes, InCode, InCalls, is_turns, is_subreapers, is_filter, is_program, gives, repeats, exceeds, is_too_long, is_wrong_at_top, is_wrong_in_bytes, is_code, is_nameless, is_wrong_in_calls, is_wrong, begins_code}
 
 -- the fault of a step, if it has one
 abbrev pub fault_in : {X : Type 0} → Result X TextFault → Option TextFault

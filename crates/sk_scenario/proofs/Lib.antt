@@ -1,6 +1,7 @@
 pub mod Blocks
 pub mod CodeLines
 pub mod Judging
+pub mod Keeping
 pub mod Least
 pub mod Parts
 pub mod Relation

@@ -1,1 +1,3 @@
 pub mod ScenarioCode
+pub mod Script
+pub mod Kept

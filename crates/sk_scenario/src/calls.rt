@@ -15,7 +15,7 @@ use crate::line::{Argument, Arguments, ProgramLine};
 use crate::parse::{child_alone, program_line};
 use crate::state::Names;
 use crate::top::check_line;
-use crate::{Named, ScriptCall, TextFault};
+use crate::{Calls, Named, ScriptCall, TextFault};
 use sk_calls::{Call, Syscall};
 
 // The most calls that a program may have.
@@ -171,30 +171,30 @@ fn judge_count(n: usize, count: usize) -> Result<(), TextFault>
     Ok(())
 }
 
-// The calls, with the one that line `n` asks for, if it does.
+// Adds the call that line `n` asks for, if it does.
 #[tactic(auto, unfolding(crate::specs::Reading::called))]
 pub(crate) fn add_call(
-    mut calls: Vec<ScriptCall>,
+    calls: &mut Calls,
     known: Option<&Names<'_>>,
     n: usize,
     line: ProgramLine<'_>,
-) -> Result<Vec<ScriptCall>, ScenarioFault>
-    ensures exact { (owner : ℕ) (setuid : Bool) → Answers (λ added. script_with owner setuid added.items) result
-        (called (known_seen known.entry) n (script_with owner setuid calls.items) (line_seen line.entry)) }
+) -> Result<(), ScenarioFault>
+    ensures exact { (owner : ℕ) (setuid : Bool) → Answers (λ added. script_with owner setuid calls.new) result
+        (called (known_seen known.entry) n (script_with owner setuid calls.old) (line_seen line.entry)) }
 {
     match line {
-        ProgramLine::Silent => Ok(calls),
+        ProgramLine::Silent => Ok(()),
         ProgramLine::Fork(child) => {
             judge_count(n, calls.len())?;
             let made = resolve_fork(known, n, child)?;
             calls.push(made)?;
-            Ok(calls)
+            Ok(())
         }
         ProgramLine::Call(nr, arguments) => {
             judge_count(n, calls.len())?;
             let made = resolve(known, n, nr, arguments)?;
             calls.push(made)?;
-            Ok(calls)
+            Ok(())
         }
     }
 }

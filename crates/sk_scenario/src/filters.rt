@@ -154,16 +154,16 @@ pub(crate) fn decide(
 pub(crate) fn grow(
     alloc: Global,
     n: usize,
-    mut image: Vec<u8>,
+    image: &mut Vec<u8>,
     line: &[u8],
     is_clean: bool,
-) -> Result<Block, ScenarioFault>
+) -> Result<(), ScenarioFault>
     requires clean { IsTrue is_clean → IsTrue (list_all is_printable_byte line.now) }
-    ensures exact { Answers block_seen result (grown n image.items line.now) }
+    ensures exact { Answers (λ none. Bytes image.new.items) result (grown n image.old.items line.now) }
 {
     check_line(n, line, is_clean)?;
     let bytes = image_bytes(alloc, n, line)??;
     image.extend_from_slice(bytes.as_slice())?;
     judge_image(n, image.as_slice())?;
-    Ok(Block::Bytes(image))
+    Ok(())
 }

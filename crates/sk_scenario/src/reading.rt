@@ -19,6 +19,7 @@ use indexmap::IndexMap;
 use sk_asm::is_end;
 use sk_text::Lines;
 use std::alloc::{AllocError, Global};
+use std::mem;
 
 // The block that is open, behind line `n`.
 #[tactic(auto, unfolding(crate::specs::Reading::inside))]
@@ -26,36 +27,28 @@ fn inside(
     alloc: Global,
     known: Option<&Names<'_>>,
     n: usize,
-    current: Block,
+    current: &mut Block,
     line: &[u8],
     is_clean: bool,
     ahead: &[u8],
-) -> Result<Block, ScenarioFault>
+) -> Result<(), ScenarioFault>
     requires clean { IsTrue is_clean → IsTrue (list_all is_printable_byte line.now) }
     requires first { 1 ≤ n }
     requires numbers { n < 2 ^ 63 }
-    ensures exact { Answers block_seen result (inside (known_seen known.entry) n (block_seen current) line.now (until_end (lines_of ahead.now))) }
+    ensures exact { Answers (λ none. block_seen current.new) result (inside (known_seen known.entry) n (block_seen current.old) line.now (until_end (lines_of ahead.now))) }
 {
     match current {
-        Block::Nothing => Ok(Block::Nothing),
+        Block::Nothing => Ok(()),
         Block::Undecided => {
             check_line(n, line, is_clean)?;
-            decide(alloc, known, n, line, ahead)
+            *current = decide(alloc, known, n, line, ahead)?;
+            Ok(())
         }
         Block::Bytes(image) => grow(alloc, n, image, line, is_clean),
-        Block::Code(image) => Ok(Block::Code(image)),
-        Block::Calls {
-            owner,
-            setuid,
-            calls,
-        } => {
+        Block::Code(_) => Ok(()),
+        Block::Calls { calls, .. } => {
             let said = read_call(n, line, is_clean)?;
-            let calls = add_call(calls, known, n, said)?;
-            Ok(Block::Calls {
-                owner,
-                setuid,
-                calls,
-            })
+            add_call(calls, known, n, said)
         }
     }
 }
@@ -94,21 +87,21 @@ fn within(
     known: Option<&Names<'_>>,
     done: &mut Done<'_>,
     n: usize,
-    current: Block,
+    current: &mut Block,
     line: &[u8],
     is_clean: bool,
     ahead: &[u8],
-) -> Result<Block, ScenarioFault>
+) -> Result<(), ScenarioFault>
     requires clean { IsTrue is_clean → IsTrue (list_all is_printable_byte line.now) }
     requires first { 1 ≤ n }
     requires numbers { n < 2 ^ 63 }
     ensures exact { MatchResult result
-        (λ next. within (known_seen known.entry) n (gained done.old) (block_seen current) line.now (lines_of ahead.now) ≡ Ok (gained done.new, block_seen next))
-        (λ fault. IsFaultOf fault (within (known_seen known.entry) n (gained done.old) (block_seen current) line.now (lines_of ahead.now))) }
+        (λ none. within (known_seen known.entry) n (gained done.old) (block_seen current.old) line.now (lines_of ahead.now) ≡ Ok (gained done.new, block_seen current.new))
+        (λ fault. IsFaultOf fault (within (known_seen known.entry) n (gained done.old) (block_seen current.old) line.now (lines_of ahead.now))) }
 {
     if is_end(line) {
-        finish(alloc, done, current)?;
-        return Ok(Block::Nothing);
+        finish(alloc, done, mem::replace(current, Block::Nothing))?;
+        return Ok(());
     }
     inside(alloc, known, n, current, line, is_clean, ahead)
 }
@@ -133,23 +126,24 @@ fn step<'a>(
     known: Option<&Names<'_>>,
     done: &mut Done<'a>,
     n: usize,
-    current: Block,
+    current: &mut Block,
     line: &'a [u8],
     is_clean: bool,
     ahead: &[u8],
-) -> Result<Block, ScenarioFault>
+) -> Result<(), ScenarioFault>
     requires clean { IsTrue is_clean → IsTrue (list_all is_printable_byte line.now) }
     requires first { 1 ≤ n }
     requires numbers { n < 2 ^ 63 }
     ensures exact { MatchResult result
-        (λ next. stepped (known_seen known.entry) n (gained done.old) (block_seen current) line.now (lines_of ahead.now) ≡ Ok (gained done.new, block_seen next))
-        (λ fault. IsFaultOf fault (stepped (known_seen known.entry) n (gained done.old) (block_seen current) line.now (lines_of ahead.now))) }
+        (λ none. stepped (known_seen known.entry) n (gained done.old) (block_seen current.old) line.now (lines_of ahead.now) ≡ Ok (gained done.new, block_seen current.new))
+        (λ fault. IsFaultOf fault (stepped (known_seen known.entry) n (gained done.old) (block_seen current.old) line.now (lines_of ahead.now))) }
 {
-    if is_open(&current) {
+    if is_open(current) {
         return within(alloc, known, done, n, current, line, is_clean, ahead);
     }
     let said = read_top(n, line, is_clean)?;
-    start(alloc, done, n, said)
+    *current = start(alloc, done, n, said)?;
+    Ok(())
 }
 
 // Whether all blocks are closed behind the last line, which line `n` would follow.
@@ -188,7 +182,16 @@ pub(crate) fn read_lines<'a>(
     while let Some(line) = lines.next() {
         n += 1;
         if !is_idle(&current, line) {
-            current = step(alloc, known, &mut done, n, current, line, is_clean, ahead)?;
+            step(
+                alloc,
+                known,
+                &mut done,
+                n,
+                &mut current,
+                line,
+                is_clean,
+                ahead,
+            )?;
         }
         ahead = lines.0;
     }

@@ -1,6 +1,6 @@
 //! What was read so far.
 use crate::scenario::Program;
-use crate::{Named, ScriptCall};
+use crate::{Calls, Named};
 use indexmap::IndexMap;
 
 // The names that are given, with what they stand for.
@@ -28,6 +28,6 @@ pub(crate) enum Block {
     Calls {
         owner: u32,
         setuid: bool,
-        calls: Vec<ScriptCall>,
+        calls: Calls,
     },
 }

@@ -15,7 +15,7 @@ use crate::fault::ScenarioFault;
 use crate::line::TopLine;
 use crate::parse::top_line;
 use crate::state::{Block, Done};
-use crate::{Named, TextFault};
+use crate::{Calls, Named, TextFault};
 use sk_text::{is_clean, is_printable, number_up_to};
 use std::alloc::Global;
 
@@ -171,7 +171,7 @@ pub(crate) fn start<'a>(
             Ok(Block::Calls {
                 owner,
                 setuid,
-                calls: Vec::new(alloc),
+                calls: Calls::new(alloc),
             })
         }
     }

@@ -80,4 +80,4 @@ block_seen block.Nothing = Nothing
 block_seen block.Undecided = Undecided
 block_seen (block.Bytes image) = Bytes image.items
 block_seen (block.Code image) = Code image.items
-block_seen (block.Calls owner setuid calls) = Calls (script_with owner setuid calls.items)
+block_seen (block.Calls owner setuid calls) = Calls (script_with owner setuid calls)

@@ -30,11 +30,11 @@ returns-clause-turn g c =
 
 pub returns-clause-after : goal.returns-clause-after
 returns-clause-after g c =
-    follows (setting_of c.args.self.now) (now_of c.args.self.now) c.args.runner.pid c.args.self.now.kernel.images (stacks_of c.reach.new.stacks.items) (stack_of c.levels_at-levels.result.now) (option_copied c.line_due-line.result) c.event_by-event.result c.in_ok-answer.answer _ _
+    follows (setting_of c.args.self.now) (now_of c.args.self.now) c.args.runner.pid c.args.self.now.kernel.images (stacks_of c.reach.new.stacks.items) (stack_of c.levels_at-levels.result.now) (option_copied c.as_ref-line.result) c.event_by-event.result c.in_ok-answer.answer _ _
     (same_images c.args.self.now.kernel.images c.args.self.now.programs.items c.args.self.now.declared)
     c.reach.ensures.stacks
     c.levels_at-levels.ensures.stack
-    (rw c.as_slice-programs.ensures.value at c.line_due-line.ensures.line)
+    (c.as_ref-line.ensures.value ∙ rw c.as_slice-programs.ensures.value at c.line_due-due.ensures.line)
     (rw (c.as_slice-programs.ensures.value, c.requires.need) at c.event_by-event.ensures.event)
     c.in_ok-answer.ensures.answer
     c.in_ok-answer.ensures.world

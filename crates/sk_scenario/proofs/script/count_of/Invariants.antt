@@ -1,0 +1,12 @@
+use Rattle.std.proofs.Common.{◌≡◌, ◌≤◌, ℕ, slice_index}
+use Rattle.sk_scenario.proofs.script.count_of.Given as goal
+
+-- what stands behind is 0
+abbrev pub invariant-loop-count : goal.invariant-loop-count
+invariant-loop-count l = record {
+  few : l.count ≤ 6;
+  rest : (k : ℕ) → l.count ≤ k → slice_index l.args k ≡ 0;
+}
+
+abbrev pub decreases-loop-count : goal.decreases-loop-count
+decreases-loop-count l = l.count

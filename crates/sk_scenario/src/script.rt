@@ -1,0 +1,196 @@
+//! The calls of a program, kept closely: most of their registers are 0.
+ghost use Rattle.std.specs.Prelude.{◌≡◌, ◌+◌, ◌<◌, ◌≤◌, ◌^◌, ℕ, [], ◌∷◌, ◌++◌, IfSome, OnOk, OnErr, length, slice_get, slice_index, take, vec_len, vec_capacity};
+ghost use Rattle.sk_scenario.specs.views.Script.{arguments_kept, script_kept, call_kept, words_of_script, IsWithin, Grows};
+
+use crate::ScriptCall;
+use sk_calls::Call;
+use std::alloc::{AllocError, Global};
+use std::marker::Model;
+
+// The most words that a call has: its arguments, and the program of the child.
+const MOST_WORDS: usize = 7;
+
+// A call but for its words: its arguments down to the last that is not 0, and behind them the program of the child.
+#[derive(Clone, Copy)]
+pub(crate) struct Head {
+    nr: u32,
+    // the place of the first word
+    first: u16,
+    // how many arguments there are
+    count: u8,
+    // whether there is a program of the child
+    has_script: bool,
+}
+
+/// The calls of a program, in their order.
+#[derive(Drop)]
+pub struct Calls {
+    heads: Vec<Head>,
+    words: Vec<u64>,
+}
+
+impl Model for Calls {
+    ghost use Rattle.std.specs.Prelude.{List};
+    ghost use Rattle.sk_scenario.specs.declared.call.ScriptCall.{ScriptCall};
+
+    ghost Value = { List ScriptCall };
+
+    ghost use Rattle.sk_scenario.specs.views.Kept.{calls_kept, AreKept};
+
+    ghost view = { calls_kept };
+
+    ghost invariant = { AreKept };
+}
+
+impl Calls {
+    /// No calls. It takes no memory.
+    pub fn new(alloc: Global) -> Calls
+        ensures { result ≡ [] }
+    {
+        Calls {
+            heads: Vec::new(alloc),
+            words: Vec::new(alloc),
+        }
+    }
+
+    /// How many calls there are, at most 1000.
+    pub fn len(&self) -> usize
+        ensures count { result ≡ length self.now }
+        ensures few { result ≤ 1000 }
+    {
+        self.heads.len()
+    }
+
+    /// The call at this place, if there is one. There are at most 1000.
+    #[inline(always)]
+    pub fn get(&self, at: usize) -> Option<ScriptCall>
+        ensures call { result ≡ slice_get self.now at }
+        ensures few { IfSome result (λ _. at < 1000) }
+    {
+        match self.heads.as_slice().get(at) {
+            None => None,
+            Some(head) => Some(call_kept(self.words.as_slice(), *head)),
+        }
+    }
+
+    /// Puts a call behind the others. Where memory is refused nothing is changed.
+    pub fn push(&mut self, made: ScriptCall) -> Result<(), AllocError>
+        requires few { length self.old < 1000 }
+        ensures pushed { OnOk result (self.new ≡ self.old ++ made ∷ []) }
+        ensures kept { OnErr result (self.new ≡ self.old) }
+    {
+        self.heads.reserve(1)?;
+        self.words.reserve(MOST_WORDS)?;
+        let head = keep(&mut self.words, made);
+        self.heads.push_reserved(head);
+        Ok(())
+    }
+}
+
+fn call_kept(words: &[u64], head: Head) -> ScriptCall
+    requires within { IsWithin words.now head }
+    ensures { result ≡ call_kept words.now head }
+{
+    let first = head.first as usize;
+    let args = arguments_kept(words, first, head.count);
+    let script = if head.has_script {
+        Some(words[first + head.count as usize] as u32)
+    } else {
+        None
+    };
+    ScriptCall {
+        call: Call { nr: head.nr, args },
+        script,
+    }
+}
+
+fn arguments_kept(words: &[u64], first: usize, count: u8) -> [u64; 6]
+    requires few { count ≤ 6 }
+    requires within { first + count ≤ length words.now }
+    ensures { result ≡ arguments_kept words.now first count }
+{
+    match count {
+        0 => [0; 6],
+        1 => [words[first], 0, 0, 0, 0, 0],
+        2 => [words[first], words[first + 1], 0, 0, 0, 0],
+        3 => [words[first], words[first + 1], words[first + 2], 0, 0, 0],
+        4 => [
+            words[first],
+            words[first + 1],
+            words[first + 2],
+            words[first + 3],
+            0,
+            0,
+        ],
+        5 => [
+            words[first],
+            words[first + 1],
+            words[first + 2],
+            words[first + 3],
+            words[first + 4],
+            0,
+        ],
+        _ => [
+            words[first],
+            words[first + 1],
+            words[first + 2],
+            words[first + 3],
+            words[first + 4],
+            words[first + 5],
+        ],
+    }
+}
+
+// Puts the words of a call behind the others, and answers what else it is.
+fn keep(words: &mut Vec<u64>, made: ScriptCall) -> Head
+    requires room { vec_len words.old + 7 ≤ vec_capacity words.old }
+    requires low { vec_len words.old < 2 ^ 16 }
+    ensures grows { Grows words.old.items words.new.items }
+    ensures within { IsWithin words.new.items result }
+    ensures same { call_kept words.new.items result ≡ made }
+{
+    let first = words.len() as u16;
+    let count = count_of(&made.call.args);
+    keep_arguments(words, &made.call.args, count);
+    keep_script(words, made.script);
+    Head {
+        nr: made.call.nr,
+        first,
+        count: count as u8,
+        has_script: made.script.is_some(),
+    }
+}
+
+// How many arguments there are down to the last that is not 0.
+fn count_of(args: &[u64; 6]) -> usize
+    ensures few { result ≤ 6 }
+    ensures six { length args.now ≡ 6 }
+    ensures rest { (k : ℕ) → result ≤ k → slice_index args.now k ≡ 0 }
+{
+    let mut count = 6;
+    while count > 0 && args[count - 1] == 0 {
+        count -= 1;
+    }
+    count
+}
+
+fn keep_arguments(words: &mut Vec<u64>, args: &[u64; 6], count: usize)
+    requires few { count ≤ 6 }
+    requires room { vec_len words.old + count ≤ vec_capacity words.old }
+    ensures items { words.new.items ≡ words.old.items ++ take count args.now }
+    ensures len { vec_len words.new ≡ vec_len words.old + count }
+    ensures capacity { vec_capacity words.new ≡ vec_capacity words.old }
+{
+    for at in 0..count {
+        words.push_reserved(args[at]);
+    }
+}
+
+fn keep_script(words: &mut Vec<u64>, script: Option<u32>)
+    requires room { vec_len words.old < vec_capacity words.old }
+    ensures items { words.new.items ≡ words.old.items ++ words_of_script script }
+{
+    if let Some(script) = script {
+        words.push_reserved(u64::from(script));
+    }
+}
