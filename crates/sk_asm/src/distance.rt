@@ -3,7 +3,7 @@ ghost use Rattle.std.specs.Prelude.{◌≡◌, ◌≤◌, ◌-◌, ◌^◌, ℕ}
 ghost use Rattle.std.specs.Option.{option_map};
 ghost use Rattle.sk_text.specs.Numbers.{number_of, up_to};
 
-use crate::value::{byte, word};
+use crate::value::{u8_of, u32_of};
 
 // How many instructions a jump passes over, as wide as its field.
 pub(crate) trait Distance: Copy {
@@ -38,7 +38,7 @@ impl Distance for u8 {
     }
 
     fn read(digits: &[u8]) -> Option<u8> {
-        byte(digits)
+        u8_of(digits)
     }
 }
 
@@ -57,6 +57,6 @@ impl Distance for u32 {
     }
 
     fn read(digits: &[u8]) -> Option<u32> {
-        word(digits)
+        u32_of(digits)
     }
 }

@@ -80,7 +80,7 @@ impl<'a> Found<'a> {
             Shape::Bare => self.push(n, at, parse_bare(code, words)),
             Shape::Number => self.push(n, at, parse_number(code, words)),
             Shape::Action => self.push(n, at, parse_action(code, words)),
-            Shape::Target => self.push_always(n, at, code, words),
+            Shape::Target => self.push_ja(n, at, code, words),
             Shape::Compare => self.push_comparison(n, at, code, words),
             Shape::CompareIndex => self.push_index_comparison(n, at, code, words),
         }
@@ -103,7 +103,7 @@ impl<'a> Found<'a> {
 
     // Jumps are pushed by functions of their own, so that no other line pays for the room that they take.
     #[inline(never)]
-    fn push_always(
+    fn push_ja(
         &mut self,
         n: usize,
         at: usize,

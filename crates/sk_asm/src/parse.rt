@@ -12,7 +12,7 @@ ghost use Rattle.sk_asm.specs.declared.shape.Shape.TheVariants.{Bare, Number, Ac
 use crate::fault::AsmFault;
 use crate::shape::Shape;
 use crate::statement::{Begun, Jump, Target as Goal};
-use crate::value::{byte, destination, half, label, returned, word};
+use crate::value::{destination, label, returned, u8_of, u16_of, u32_of};
 use sk_insn::{Insn, Operation};
 use sk_text::{
     Words, four_words, is_printable, is_word, no_word, one_word, three_words, two_words,
@@ -95,7 +95,7 @@ pub(crate) fn parse_bare(code: u16, words: Words<'_>) -> Option<Insn>
 pub(crate) fn parse_number(code: u16, words: Words<'_>) -> Option<Insn>
     ensures exact { option_map Plain result ≡ shaped Number code (words_of words.entry.0.now) }
 {
-    let k = word(one_word(words)?)?;
+    let k = u32_of(one_word(words)?)?;
     Some(plain(code, k))
 }
 
@@ -122,7 +122,7 @@ pub(crate) fn parse_comparison<'a>(code: u16, words: Words<'a>) -> Option<Jump<'
     ensures exact { option_map statement result ≡ shaped Compare code (words_of words.entry.0.now) }
 {
     let (k, jt, jf) = three_words(words)?;
-    branch(code, word(k)?, jt, jf)
+    branch(code, u32_of(k)?, jt, jf)
 }
 
 #[tactic(auto, unfolding(crate::specs::Grammar::shaped))]
@@ -160,9 +160,9 @@ pub(crate) fn parse_fields(words: Words<'_>) -> Option<Insn>
     ensures exact { option_map Plain result ≡ raw (words_of words.entry.0.now) }
 {
     let (code, jt, jf, k) = four_words(words)?;
-    let code = half(code)?;
-    let jt = byte(jt)?;
-    let jf = byte(jf)?;
-    let k = word(k)?;
+    let code = u16_of(code)?;
+    let jt = u8_of(jt)?;
+    let jf = u8_of(jf)?;
+    let k = u32_of(k)?;
     Some(Insn { code, jt, jf, k })
 }

@@ -10,21 +10,21 @@ use crate::statement::Target;
 use sk_insn::Action;
 use sk_text::{cut, is_name, number_up_to};
 
-pub(crate) fn byte(word: &[u8]) -> Option<u8>
+pub(crate) fn u8_of(word: &[u8]) -> Option<u8>
     ensures value { result ≡ u8_of word.now }
 {
     let number = number_up_to(word, 0xff)?;
     Some(number as u8)
 }
 
-pub(crate) fn half(word: &[u8]) -> Option<u16>
+pub(crate) fn u16_of(word: &[u8]) -> Option<u16>
     ensures value { result ≡ u16_of word.now }
 {
     let number = number_up_to(word, 0xffff)?;
     Some(number as u16)
 }
 
-pub(crate) fn word(word: &[u8]) -> Option<u32>
+pub(crate) fn u32_of(word: &[u8]) -> Option<u32>
     ensures value { result ≡ u32_of word.now }
 {
     let number = number_up_to(word, 0xffff_ffff)?;
@@ -61,7 +61,7 @@ fn action_with(name: &[u8], data: &[u8]) -> Option<u32>
 {
     let action = Action::named(name)?;
     let value = action.value()?;
-    let given = half(data)?;
+    let given = u16_of(data)?;
     Some(value + u32::from(given))
 }
 
@@ -81,5 +81,5 @@ fn action_value(word: &[u8]) -> Option<u32>
 pub(crate) fn returned(text: &[u8]) -> Option<u32>
     ensures value { result ≡ returned_value text.now }
 {
-    word(text).or_else(|| action_value(text))
+    u32_of(text).or_else(|| action_value(text))
 }
