@@ -6,7 +6,7 @@ mod way;
 use crate::fault::Fault;
 use sk_io::{Counted, Sink, send};
 use sk_report::turn_line;
-use sk_run::{EngineFault, Machine, Turn, engine_with};
+use sk_run::{EngineFault, Machine, ReportLine, engine_with};
 use sk_scenario::read;
 use sk_table::{ListStore, SlotStore};
 use std::alloc::Global;
@@ -48,7 +48,7 @@ fn written_twice<W: Sink>(alloc: Global, text: &[u8], writer: &mut W) -> Result<
         for _ in 0..2 {
             send(writer, turn_line(&turn).as_bytes())?;
         }
-        if matches!(turn, Turn::End(_)) {
+        if matches!(turn, ReportLine::End(_)) {
             break;
         }
     }

@@ -5,14 +5,14 @@ use Rattle.std.specs.List.{concat}
 use Rattle.sk_scenario.specs.Scenario.{Setting}
 use Rattle.sk_report.specs.declared.turn.End.{End}
 use Rattle.sk_report.specs.declared.turn.End.TheVariants.{Limit}
-use Rattle.sk_report.specs.declared.turn.Turn.{Turn}
-use Rattle.sk_report.specs.declared.turn.Turn.TheVariants as turn
+use Rattle.sk_report.specs.declared.turn.ReportLine.{ReportLine}
+use Rattle.sk_report.specs.declared.turn.ReportLine.TheVariants as turn
 use Rattle.sk_report.specs.Scheduling.{Scheduled, opened, runner_of, turn_by, after_turn_by}
 use Rattle.sk_report.specs.Text.{turn_text}
 
 -- the turns, and the end
 pub record Report : Type 0 where
-  pub turns : List Turn
+  pub turns : List ReportLine
   pub end : End
 
 -- no turn, and this end
@@ -20,7 +20,7 @@ abbrev pub ended : End → Report
 ended end = record { turns = []; end = end }
 
 -- this turn first
-abbrev pub onto : Turn → Report → Report
+abbrev pub onto : ReportLine → Report → Report
 onto turn report = record report { turns = turn ∷ report.turns }
 
 -- where no turn is left it is the end, by this reason if there is no other
@@ -38,7 +38,7 @@ abbrev pub report_of : Setting → Report
 report_of setting = report_from setting.turns setting opened
 
 -- its lines, each with the line feed that ends it
-abbrev pub line : Turn → List ℕ
+abbrev pub line : ReportLine → List ℕ
 line turn = turn_text turn ++ 10 ∷ []
 
 abbrev pub lines_of : Report → List (List ℕ)
@@ -49,5 +49,5 @@ abbrev pub text_of : Report → List ℕ
 text_of report = concat (lines_of report)
 
 -- the lines of the first so many turns
-abbrev pub turns_text : List Turn → List ℕ
+abbrev pub turns_text : List ReportLine → List ℕ
 turns_text turns = concat (map line turns)

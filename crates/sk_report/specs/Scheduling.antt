@@ -18,8 +18,8 @@ use Rattle.sk_machine.specs.Turns.{need_of, next_of}
 use Rattle.sk_report.specs.declared.level.Level.{Level}
 use Rattle.sk_report.specs.declared.turn.End.{End}
 use Rattle.sk_report.specs.declared.turn.End.TheVariants.{Halt, Idle, Limit}
-use Rattle.sk_report.specs.declared.turn.Turn.{Turn}
-use Rattle.sk_report.specs.declared.turn.Turn.TheVariants as turn
+use Rattle.sk_report.specs.declared.turn.ReportLine.{ReportLine}
+use Rattle.sk_report.specs.declared.turn.ReportLine.TheVariants as turn
 use Rattle.sk_report.specs.Levels.{Stack, Stacks, first_call, alone, stacks_after}
 
 -- ---- the event that is due
@@ -102,8 +102,8 @@ abbrev pub stepped_by : Setting → Scheduled → ℕ → Stepped
 stepped_by setting s pid = step_of (images_of setting) s.world (event_of setting s pid)
 
 -- the turn of this process, and what it leads to
-abbrev pub turn_by : Setting → Scheduled → ℕ → Turn
-turn_by setting s pid = turn.Line (s.used + 1) (event_of setting s pid) (stepped_by setting s pid).answer
+abbrev pub turn_by : Setting → Scheduled → ℕ → ReportLine
+turn_by setting s pid = turn.Turn (s.used + 1) (event_of setting s pid) (stepped_by setting s pid).answer
 
 abbrev pub after_turn_by : Setting → Scheduled → ℕ → Scheduled
 after_turn_by setting s pid = followed setting s pid (event_of setting s pid) (stepped_by setting s pid)
@@ -122,11 +122,11 @@ abbrev pub runner_of : Scheduled → Result ℕ End
 runner_of s = runner_by (halted_of s.world) (next_of s.world s.last)
 
 -- the next turn: a line of the process whose turn it is, if turns are left
-abbrev pub turn_for : Setting → Scheduled → Result ℕ End → Turn
+abbrev pub turn_for : Setting → Scheduled → Result ℕ End → ReportLine
 turn_for setting s (Err end) = turn.End end
 turn_for setting s (Ok pid) = if nat_lt s.used setting.turns then turn_by setting s pid else turn.End Limit
 
-unfoldable pub turn_of : Setting → Scheduled → Turn
+unfoldable pub turn_of : Setting → Scheduled → ReportLine
 turn_of setting s = turn_for setting s (runner_of s)
 
 -- what it leads to; the end leads nowhere

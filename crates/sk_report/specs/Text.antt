@@ -17,8 +17,8 @@ use Rattle.sk_machine.specs.declared.answer.Effect.TheVariants as effect
 use Rattle.sk_machine.specs.Events.{pid_of}
 use Rattle.sk_report.specs.declared.turn.End.{End}
 use Rattle.sk_report.specs.declared.turn.End.TheVariants.{Halt, Idle, Limit}
-use Rattle.sk_report.specs.declared.turn.Turn.{Turn}
-use Rattle.sk_report.specs.declared.turn.Turn.TheVariants as turn
+use Rattle.sk_report.specs.declared.turn.ReportLine.{ReportLine}
+use Rattle.sk_report.specs.declared.turn.ReportLine.TheVariants as turn
 
 -- the last so many hexadecimal digits of a number
 unfoldable pub hex : ℕ → ℕ → List ℕ
@@ -77,6 +77,6 @@ end_text Idle = codes "idle"
 end_text Limit = codes "limit"
 
 -- the line of a turn, or of the end
-unfoldable pub turn_text : Turn → List ℕ
-turn_text (turn.Line n event answer) = decimal n ++ (codes " " ++ (decimal (pid_of event) ++ (codes " " ++ happening_text event answer)))
+unfoldable pub turn_text : ReportLine → List ℕ
+turn_text (turn.Turn n event answer) = decimal n ++ (codes " " ++ (decimal (pid_of event) ++ (codes " " ++ happening_text event answer)))
 turn_text (turn.End end) = codes "end " ++ end_text end

@@ -10,4 +10,4 @@ mod turn;
 pub use level::Level;
 pub use rows::worked_reports;
 pub use text::{turn_line, write_line};
-pub use turn::{End, Turn};
+pub use turn::{End, ReportLine};

@@ -3,10 +3,10 @@ ghost use Rattle.std.specs.Prelude.{◌≡◌, ◌≤◌, ◌+◌, ◌++◌, ◌
 ghost use Rattle.arrayvec.specs.ArrayString.{array_string_len};
 ghost use Rattle.sk_report.specs.Text.{hex, number_in, status_text, verdict_text, outcome_text, effect_text, happening_text, end_text, turn_text};
 ghost use Rattle.sk_report.specs.Report.{line};
-ghost use Rattle.sk_report.specs.declared.turn.Turn.TheVariants as told;
+ghost use Rattle.sk_report.specs.declared.turn.ReportLine.TheVariants as told;
 
 use crate::calls::push_call;
-use crate::{End, Turn};
+use crate::{End, ReportLine};
 use sk_insn::Action;
 use sk_machine::{Answer, Effect, Event, Outcome};
 use sk_text::{Line, push_digit, push_long, push_number, push_signed};
@@ -15,7 +15,7 @@ use sk_text::{Line, push_digit, push_long, push_number, push_signed};
 const ALLOW: u32 = 0x7fff_0000;
 
 /// The line of a turn, with its line feed.
-pub fn turn_line(turn: &Turn) -> Line
+pub fn turn_line(turn: &ReportLine) -> Line
     ensures text { result.bytes ≡ line turn.now }
 {
     let mut text = Line::new();
@@ -25,23 +25,23 @@ pub fn turn_line(turn: &Turn) -> Line
 
 /// The same, in the place of what was written there.
 #[inline(always)]
-pub fn write_line(text: &mut Line, turn: &Turn)
+pub fn write_line(text: &mut Line, turn: &ReportLine)
     ensures text { text.new.bytes ≡ line turn.now }
 {
     match turn {
-        Turn::Line {
+        ReportLine::Turn {
             turn,
             event,
             answer,
         } => write_happening(text, *turn, event, answer),
-        Turn::End(end) => write_end(text, *end),
+        ReportLine::End(end) => write_end(text, *end),
     }
 }
 
 /// The line of a turn with this number, event and answer, in the place of what was written there.
 #[tactic(auto, unfolding(crate::specs::Text::turn_text))]
 fn write_happening(text: &mut Line, turn: u32, event: &Event, answer: &Answer)
-    ensures text { text.new.bytes ≡ line (told.Line turn event.now answer.now) }
+    ensures text { text.new.bytes ≡ line (told.Turn turn event.now answer.now) }
 {
     text.clear();
     push_number(text, turn);

@@ -12,10 +12,10 @@ pub enum End {
     Limit,
 }
 
-/// A turn: the event of a process with its answer, or the end.
+/// A turn, which is the event of a process with its answer, or the end.
 #[derive(Clone, Copy, PartialEq, Eq, Debug)]
-pub enum Turn {
-    Line {
+pub enum ReportLine {
+    Turn {
         turn: u32,
         event: Event,
         answer: Answer,

@@ -9,7 +9,7 @@ use Rattle.sk_machine.specs.Given.{GivenImages}
 use Rattle.sk_machine.specs.Machine.{step_of}
 use Rattle.sk_machine.specs.Turns.{need_of}
 use Rattle.sk_report.specs.Levels.{Stack, Stacks, stacks_after}
-use Rattle.sk_report.specs.declared.turn.Turn.TheVariants as turn
+use Rattle.sk_report.specs.declared.turn.ReportLine.TheVariants as turn
 use Rattle.sk_report.specs.Scheduling.{Scheduled, mark_of_script, images_of, line_due, event_by, turn_by, after_turn_by}
 
 -- a fact that holds anyway
@@ -38,5 +38,5 @@ follows setting s pid images reserved stack line event answer world stacks i r k
 -- the line of the turn is that of its event and its answer
 pub tells : (setting : Setting) (s : Scheduled) (pid : ℕ) (images : GivenImages) (reached : Stacks) (stack : Stack) (event : Event) (answer : Answer)
     → images ≡ images_of setting → reached ≡ s.stacks → stack ≡ reached pid
-    → event ≡ event_by setting.programs pid stack (need_of s.world pid) → answer ≡ (step_of images s.world event).answer → turn.Line (s.used + 1) event answer ≡ turn_by setting s pid
+    → event ≡ event_by setting.programs pid stack (need_of s.world pid) → answer ≡ (step_of images s.world event).answer → turn.Turn (s.used + 1) event answer ≡ turn_by setting s pid
 tells setting s pid images reached stack event answer i r k e a = rw (a, e, k, r, i) refl

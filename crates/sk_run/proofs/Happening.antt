@@ -20,7 +20,7 @@ use Rattle.sk_machine.specs.Turns.{is_runnable, need_of, need_met_by, next_of}
 use Rattle.sk_machine_laws.proofs.Turns.{next_is_turn, runnable_has_event}
 use Rattle.sk_machine_laws.proofs.Unchanged.{possible_happens}
 use Rattle.sk_report.specs.declared.turn.End.{End}
-use Rattle.sk_report.specs.declared.turn.Turn.TheVariants as turn
+use Rattle.sk_report.specs.declared.turn.ReportLine.TheVariants as turn
 use Rattle.sk_report.specs.Levels.{Stack}
 use Rattle.sk_report.specs.Scheduling.{Scheduled, opened, line_due, own_event, event_by, event_of, images_of, runner_by, runner_of, stepped_by, turn_by, after_turn_by}
 use Rattle.sk_report.specs.Report.{Report, onto, ended, report_from}
@@ -78,7 +78,7 @@ has_the_turn None (Some first) pid is = cc
 has_the_turn None None pid is = cc
 
 happens_now : (setting : Setting) (s : Scheduled) (pid n : ℕ) (event : Event) (reason : Reason) → runner_of s ≡ Ok pid
-    → turn_by setting s pid ≡ turn.Line n event (answer.NotNow reason) → ⊥
+    → turn_by setting s pid ≡ turn.Turn n event (answer.NotNow reason) → ⊥
 happens_now setting s pid n event reason runner is =
     let runs = (next_is_turn s.world s.last pid (has_the_turn (halted_of s.world) (next_of s.world s.last) pid runner)).runs in
     let not_now : (stepped_by setting s pid).answer ≡ answer.NotNow reason = cc in
@@ -97,10 +97,10 @@ nothing_stands (suc place) x is = cc
 abbrev Happens : Setting → ℕ → Type 0
 Happens setting left =
     (s : Scheduled) (place n : ℕ) (event : Event) (reason : Reason)
-    → slice_get (report_from left setting s).turns place ≡ Some (turn.Line n event (answer.NotNow reason)) → ⊥
+    → slice_get (report_from left setting s).turns place ≡ Some (turn.Turn n event (answer.NotNow reason)) → ⊥
 
 happens_by : (setting : Setting) (left : ℕ) → Happens setting left → (s : Scheduled) (r : Result ℕ End) (place n : ℕ) (event : Event) (reason : Reason) → runner_of s ≡ r
-    → slice_get (by_runner setting s left r).turns place ≡ Some (turn.Line n event (answer.NotNow reason)) → ⊥
+    → slice_get (by_runner setting s left r).turns place ≡ Some (turn.Turn n event (answer.NotNow reason)) → ⊥
 happens_by setting left rest s (Err end) place n event reason runner is = nothing_stands place _ is
 happens_by setting left rest s (Ok pid) zero n event reason runner is = happens_now setting s pid n event reason runner cc
 happens_by setting left rest s (Ok pid) (suc place) n event reason runner is = rest (after_turn_by setting s pid) place n event reason is

@@ -12,8 +12,8 @@ use Rattle.sk_scenario.specs.Scenario.{Setting}
 use Rattle.sk_machine.specs.declared.event.Event.{Event}
 use Rattle.sk_machine.specs.declared.answer.Answer.{Answer}
 use Rattle.sk_report.specs.declared.turn.End.{End}
-use Rattle.sk_report.specs.declared.turn.Turn.{Turn}
-use Rattle.sk_report.specs.declared.turn.Turn.TheVariants as turn
+use Rattle.sk_report.specs.declared.turn.ReportLine.{ReportLine}
+use Rattle.sk_report.specs.declared.turn.ReportLine.TheVariants as turn
 use Rattle.sk_report.specs.Scheduling.{Scheduled, opened, runner_of, turn_by, after_turn_by, turn_for, turn_of, after_turn_for, after_turn}
 use Rattle.sk_report.specs.Report.{Report, ended, onto, all_used, report_from, report_of, line, text_of, turns_text}
 
@@ -24,9 +24,9 @@ abbrev pub rest_of : Setting → Scheduled → Report
 rest_of setting s = report_from (setting.turns - s.used) setting s
 
 -- this turn first, if it is not the end
-abbrev pub by_turn : Turn → Report → Report
+abbrev pub by_turn : ReportLine → Report → Report
 by_turn (turn.End end) rest = ended end
-by_turn (turn.Line n event answer) rest = onto (turn.Line n event answer) rest
+by_turn (turn.Turn n event answer) rest = onto (turn.Turn n event answer) rest
 
 -- the report where so many turns are left, by whose turn it is
 abbrev pub by_runner : Setting → Scheduled → ℕ → Result ℕ End → Report
@@ -64,7 +64,7 @@ pub record Used (setting : Setting) (s next : Scheduled) (n : ℕ) : Type 0 wher
   pub number : n ≡ s.used + 1
   pub used : next.used ≡ s.used + 1
 
-uses_by : (setting : Setting) (s : Scheduled) (r : Result ℕ End) (n : ℕ) (event : Event) (answer : Answer) → turn_for setting s r ≡ turn.Line n event answer → Used setting s (after_turn_for setting s r) n
+uses_by : (setting : Setting) (s : Scheduled) (r : Result ℕ End) (n : ℕ) (event : Event) (answer : Answer) → turn_for setting s r ≡ turn.Turn n event answer → Used setting s (after_turn_for setting s r) n
 uses_by setting s (Err end) n event answer e = cc
 uses_by setting s (Ok pid) n event answer e =
     ⊎_elim
@@ -78,34 +78,34 @@ uses_by setting s (Ok pid) n event answer e =
     cc)
     (cases_lt s.used setting.turns)
 
-pub uses : (setting : Setting) (s : Scheduled) (n : ℕ) (event : Event) (answer : Answer) → turn_of setting s ≡ turn.Line n event answer → Used setting s (after_turn setting s) n
+pub uses : (setting : Setting) (s : Scheduled) (n : ℕ) (event : Event) (answer : Answer) → turn_of setting s ≡ turn.Turn n event answer → Used setting s (after_turn setting s) n
 unfolding turn_of after_turn
 uses setting s n event answer e = uses_by setting s (runner_of s) n event answer e
 
 -- ---- texts
 
-lines_join : (xs ys : List Turn) → concat (map line (xs ++ ys)) ≡ concat (map line xs) ++ concat (map line ys)
+lines_join : (xs ys : List ReportLine) → concat (map line (xs ++ ys)) ≡ concat (map line xs) ++ concat (map line ys)
 lines_join [] ys = refl
 lines_join (x ∷ xs) ys = ap (λ t. line x ++ t) (lines_join xs ys) ∙ sym (append_assoc (line x) (concat (map line xs)) (concat (map line ys)))
 
 -- one more line
-lines_more : (xs : List Turn) (t : Turn) → turns_text (xs ++ t ∷ []) ≡ turns_text xs ++ line t
+lines_more : (xs : List ReportLine) (t : ReportLine) → turns_text (xs ++ t ∷ []) ≡ turns_text xs ++ line t
 lines_more xs t = lines_join xs (t ∷ []) ∙ ap (λ l. turns_text xs ++ l) (append-nil (line t))
 
 -- what is behind a turn's line
-abbrev pub behind : Turn → Report → List ℕ
+abbrev pub behind : ReportLine → Report → List ℕ
 behind (turn.End end) rest = []
-behind (turn.Line n event answer) rest = text_of rest
+behind (turn.Turn n event answer) rest = text_of rest
 
-text_by_turn : (t : Turn) (rest : Report) → text_of (by_turn t rest) ≡ line t ++ behind t rest
+text_by_turn : (t : ReportLine) (rest : Report) → text_of (by_turn t rest) ≡ line t ++ behind t rest
 text_by_turn (turn.End end) rest = refl
-text_by_turn (turn.Line n event answer) rest = refl
+text_by_turn (turn.Turn n event answer) rest = refl
 
 -- ---- how far it is
 
 -- the lines of these turns are out, and the rest is to come
 pub record Underway (report : Report) (setting : Setting) (s : Scheduled) (old now : Option (List ℕ)) : Type 0 where
-  pub out : List Turn
+  pub out : List ReportLine
   pub turns : report.turns ≡ out ++ (rest_of setting s).turns
   pub end : report.end ≡ (rest_of setting s).end
   pub count : length out ≡ s.used
@@ -130,7 +130,7 @@ text_underway report setting s old now h =
     in
     ap (λ ts. concat (map line ts)) all ∙ lines_join h.out ((rest_of setting s).turns ++ turn.End (rest_of setting s).end ∷ [])
 
-text_next : (report : Report) (setting : Setting) (s : Scheduled) (old now : Option (List ℕ)) (t : Turn) (h : Underway report setting s old now) → turn_of setting s ≡ t
+text_next : (report : Report) (setting : Setting) (s : Scheduled) (old now : Option (List ℕ)) (t : ReportLine) (h : Underway report setting s old now) → turn_of setting s ≡ t
     → text_of report ≡ turns_text h.out ++ (line t ++ behind t (rest_of setting (after_turn setting s)))
 text_next report setting s old now t h is =
     text_underway report setting s old now h
@@ -139,9 +139,9 @@ text_next report setting s old now t h is =
 
 -- a turn's line goes out
 pub goes : (report : Report) (setting : Setting) (s : Scheduled) (old now new : Option (List ℕ)) (n : ℕ) (event : Event) (answer : Answer)
-    → Underway report setting s old now → turn_of setting s ≡ turn.Line n event answer → Appends now new (line (turn.Line n event answer)) → Underway report setting (after_turn setting s) old new
+    → Underway report setting s old now → turn_of setting s ≡ turn.Turn n event answer → Appends now new (line (turn.Turn n event answer)) → Underway report setting (after_turn setting s) old new
 goes report setting s old now new n event answer h is sent =
-    let t : Turn = turn.Line n event answer in
+    let t : ReportLine = turn.Turn n event answer in
     let after : Report = rest_of setting (after_turn setting s) in
     let from : rest_of setting s ≡ onto t after = next setting s ∙ ap (λ t. by_turn t after) is in
     record {
@@ -163,7 +163,7 @@ ends report setting s old now new end h is sent =
     (sym (h.end ∙ ap (λ r. r.end) from), subst (λ l. Appends old new l) (sym text) (Appends-trans old now new (turns_text h.out) (line (turn.End end)) h.sent sent))
 
 -- a beginning of a turn's line goes out
-pub begins : (report : Report) (setting : Setting) (s : Scheduled) (old now new : Option (List ℕ)) (t : Turn)
+pub begins : (report : Report) (setting : Setting) (s : Scheduled) (old now new : Option (List ℕ)) (t : ReportLine)
     → Underway report setting s old now → turn_of setting s ≡ t → AppendsBeginning now new (line t) → AppendsBeginning old new (text_of report)
 begins report setting s old now new t h is sent =
     let more : List ℕ = behind t (rest_of setting (after_turn setting s)) in
@@ -192,18 +192,18 @@ rests report setting s old now done h is =
 
 -- ---- the same of a text that is a line
 
-pub begins_text : (report : Report) (setting : Setting) (s : Scheduled) (old now new : Option (List ℕ)) (t : Turn) (bytes : List ℕ)
+pub begins_text : (report : Report) (setting : Setting) (s : Scheduled) (old now new : Option (List ℕ)) (t : ReportLine) (bytes : List ℕ)
     → Underway report setting s old now → t ≡ turn_of setting s → bytes ≡ line t → AppendsBeginning now new bytes → AppendsBeginning old new (text_of report)
 begins_text report setting s old now new t bytes h is text sent =
     begins report setting s old now new t h (sym is) (subst (λ l. AppendsBeginning now new l) text sent)
 
-pub ends_text : (report : Report) (setting : Setting) (s : Scheduled) (old now new : Option (List ℕ)) (t : Turn) (end : End) (bytes : List ℕ)
+pub ends_text : (report : Report) (setting : Setting) (s : Scheduled) (old now new : Option (List ℕ)) (t : ReportLine) (end : End) (bytes : List ℕ)
     → Underway report setting s old now → t ≡ turn_of setting s → t ≡ turn.End end → bytes ≡ line t → Appends now new bytes → (end ≡ report.end) × Appends old new (text_of report)
 ends_text report setting s old now new t end bytes h is found text sent =
     ends report setting s old now new end h (sym is ∙ found) (subst (λ l. Appends now new l) (text ∙ ap line found) sent)
 
-pub goes_text : (report : Report) (setting setting' : Setting) (s s' : Scheduled) (old now new : Option (List ℕ)) (t : Turn) (n : ℕ) (event : Event) (answer : Answer) (bytes : List ℕ)
-    → Underway report setting s old now → t ≡ turn_of setting s → t ≡ turn.Line n event answer → s' ≡ after_turn setting s → setting' ≡ setting → bytes ≡ line t → Appends now new bytes
+pub goes_text : (report : Report) (setting setting' : Setting) (s s' : Scheduled) (old now new : Option (List ℕ)) (t : ReportLine) (n : ℕ) (event : Event) (answer : Answer) (bytes : List ℕ)
+    → Underway report setting s old now → t ≡ turn_of setting s → t ≡ turn.Turn n event answer → s' ≡ after_turn setting s → setting' ≡ setting → bytes ≡ line t → Appends now new bytes
     → Underway report setting' s' old new
 goes_text report setting setting' s s' old now new t n event answer bytes h is found after same text sent =
     subst (λ x. Underway report x s' old new) (sym same)
@@ -215,8 +215,8 @@ pub record Fewer (setting setting' : Setting) (s s' : Scheduled) (n : ℕ) : Typ
   pub number : n ≡ s'.used
   pub fewer : setting'.turns - s'.used < setting.turns - s.used
 
-pub fewer : (setting setting' : Setting) (s s' : Scheduled) (t : Turn) (n : ℕ) (event : Event) (answer : Answer)
-    → t ≡ turn_of setting s → t ≡ turn.Line n event answer → s' ≡ after_turn setting s → setting' ≡ setting → Fewer setting setting' s s' n
+pub fewer : (setting setting' : Setting) (s s' : Scheduled) (t : ReportLine) (n : ℕ) (event : Event) (answer : Answer)
+    → t ≡ turn_of setting s → t ≡ turn.Turn n event answer → s' ≡ after_turn setting s → setting' ≡ setting → Fewer setting setting' s s' n
 fewer setting setting' s s' t n event answer is found after same =
     let u : Used setting s (after_turn setting s) n = uses setting s n event answer (sym is ∙ found) in
     let used : s'.used ≡ s.used + 1 = ap (λ x. x.used) after ∙ u.used in

@@ -18,4 +18,4 @@ pub use machine::Machine;
 pub use reporting::{engine, engine_with};
 pub use sk_engines::{CommandFault, FAILED, failed, finish, words_of};
 pub use sk_io::{Counted, Sink, Source};
-pub use sk_report::{End, Turn};
+pub use sk_report::{End, ReportLine};

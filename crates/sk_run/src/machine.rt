@@ -7,7 +7,7 @@ use crate::due::{event_by, line_due};
 use crate::making::make;
 use crate::stacks::{Stacks, levels_at, reach};
 use sk_kernel::{Images, Kernel, Mark, Runner};
-use sk_report::{End, Turn};
+use sk_report::{End, ReportLine};
 use sk_scenario::{Program, Scenario};
 use sk_world::ProcStore;
 use std::alloc::{AllocError, Global};
@@ -62,19 +62,19 @@ impl<S: ProcStore> Machine<S> {
     /// The next turn. Once it is the end it is the same end at each later call. Where memory is refused nothing is
     /// changed.
     #[tactic(auto, unfolding(sk_report::specs::Scheduling::turn_of, sk_report::specs::Scheduling::after_turn))]
-    pub fn turn(&mut self) -> Result<Turn, AllocError>
+    pub fn turn(&mut self) -> Result<ReportLine, AllocError>
         ensures turn { IfOk result (λ turn. turn ≡ turn_of (setting_of self.old) (now_of self.old)) }
         ensures after { OnOk result ((now_of self.new) ≡ after_turn (setting_of self.old) (now_of self.old)) }
         ensures kept { OnErr result ((now_of self.new) ≡ (now_of self.old)) }
         ensures setting { (setting_of self.new) ≡ (setting_of self.old) }
     {
         match self.runner() {
-            Err(end) => Ok(Turn::End(end)),
+            Err(end) => Ok(ReportLine::End(end)),
             Ok(runner) => {
                 if self.used < self.turns {
                     self.turn_by(runner)
                 } else {
-                    Ok(Turn::End(End::Limit))
+                    Ok(ReportLine::End(End::Limit))
                 }
             }
         }
@@ -104,7 +104,7 @@ impl<S: ProcStore> Machine<S> {
         }
     }
 
-    fn turn_by(&mut self, runner: Runner) -> Result<Turn, AllocError>
+    fn turn_by(&mut self, runner: Runner) -> Result<ReportLine, AllocError>
         requires room { (now_of self.old).used < (setting_of self.old).turns }
         requires runs { IsTrue (is_runnable self.old.kernel.world runner.pid) }
         requires need { runner.need ≡ need_of self.old.kernel.world runner.pid }
@@ -123,7 +123,7 @@ impl<S: ProcStore> Machine<S> {
         let answer = make(&mut self.kernel, &mut self.stacks, self.alloc, line, &event)?;
         self.last = pid;
         self.used += 1;
-        Ok(Turn::Line {
+        Ok(ReportLine::Turn {
             turn: self.used,
             event,
             answer,

@@ -9,7 +9,7 @@ ghost use Rattle.sk_run.specs.Reporting.{LeavesReport, Writes, ReportCountsReads
 use crate::fault::EngineFault;
 use crate::machine::Machine;
 use sk_io::{Sink, Source, send, take_up_to};
-use sk_report::{End, Turn, write_line};
+use sk_report::{End, ReportLine, write_line};
 use sk_scenario::read;
 use sk_table::SlotStore;
 use sk_text::{Line, MOST_BYTES};
@@ -66,8 +66,8 @@ fn report<S: ProcStore, W: Sink>(machine: Machine<S>, writer: &mut W) -> Result<
             return Err(EngineFault::Write);
         };
         match turn {
-            Turn::Line { turn, .. } => done = turn,
-            Turn::End(end) => return Ok(end),
+            ReportLine::Turn { turn, .. } => done = turn,
+            ReportLine::End(end) => return Ok(end),
         }
     }
 }

@@ -8,7 +8,7 @@ use Rattle.sk_calls.specs.Syscalls.{number_of}
 use Rattle.sk_scenario.specs.declared.call.ScriptCall.{ScriptCall}
 use Rattle.sk_scenario.specs.Scenario.{Setting}
 use Rattle.sk_scenario.specs.laws.WorkedScenarios.{call, none, setting_with, script, attaching_setting}
-use Rattle.sk_report.specs.declared.turn.Turn.TheVariants as turn
+use Rattle.sk_report.specs.declared.turn.ReportLine.TheVariants as turn
 use Rattle.sk_report.specs.Text.{turn_text}
 use Rattle.sk_report.specs.Report.{report_of}
 

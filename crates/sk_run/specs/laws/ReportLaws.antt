@@ -12,8 +12,8 @@ use Rattle.sk_machine.specs.Turns.{is_runnable}
 use Rattle.sk_machine_laws.specs.RunLaws.{RunIsLawful}
 use Rattle.sk_report.specs.declared.turn.End.{End}
 use Rattle.sk_report.specs.declared.turn.End.TheVariants.{Halt, Idle, Limit}
-use Rattle.sk_report.specs.declared.turn.Turn.{Turn}
-use Rattle.sk_report.specs.declared.turn.Turn.TheVariants as turn
+use Rattle.sk_report.specs.declared.turn.ReportLine.{ReportLine}
+use Rattle.sk_report.specs.declared.turn.ReportLine.TheVariants as turn
 use Rattle.sk_report.specs.Scheduling.{Scheduled, images_of, event_of}
 use Rattle.sk_report.specs.Report.{Report, report_of}
 
@@ -25,13 +25,13 @@ DueIsPossible = (setting : Setting) (s : Scheduled) (pid : ℕ) → IsTrue (is_r
 abbrev pub EachTurnHappens : Type 0
 EachTurnHappens =
     (setting : Setting) (place n : ℕ) (event : Event) (reason : Reason)
-    → slice_get (report_of setting).turns place ≢ Some (turn.Line n event (answer.NotNow reason))
+    → slice_get (report_of setting).turns place ≢ Some (turn.Turn n event (answer.NotNow reason))
 
 -- events with their answers as turns, of which the first has this number
-abbrev pub numbered : ℕ → List Event → List Answer → List Turn
+abbrev pub numbered : ℕ → List Event → List Answer → List ReportLine
 numbered n [] answers = []
 numbered n (event ∷ events) [] = []
-numbered n (event ∷ events) (answer ∷ answers) = turn.Line n event answer ∷ numbered (n + 1) events answers
+numbered n (event ∷ events) (answer ∷ answers) = turn.Turn n event answer ∷ numbered (n + 1) events answers
 
 -- the end tells how the world is left behind so many turns: it has halted with this status, or nobody can run, or all turns are used
 abbrev pub LeavesSo : Setting → World → ℕ → End → Type 0

@@ -19,20 +19,20 @@ returns-in_default-clause-report g c =
 
 pub loop-turn-smaller : goal.loop-turn-smaller
 loop-turn-smaller g c =
-    (fewer (setting_of c.loop-turn.machine) (setting_of c.turn.new.self) (now_of c.loop-turn.machine) (now_of c.turn.new.self) c.in-Ok.turn c.in-Line.turn c.in-Line.event c.in-Line.answer
-    c.in-Ok.ensures.turn c.in-Line.is c.in-Ok.ensures.after c.turn.ensures.setting).fewer
+    (fewer (setting_of c.loop-turn.machine) (setting_of c.turn.new.self) (now_of c.loop-turn.machine) (now_of c.turn.new.self) c.in-Ok.turn c.in-Turn.turn c.in-Turn.event c.in-Turn.answer
+    c.in-Ok.ensures.turn c.in-Turn.is c.in-Ok.ensures.after c.turn.ensures.setting).fewer
 
 pub loop-turn-preserved : goal.loop-turn-preserved
 loop-turn-preserved g c = record {
   underway =
       goes_text (report_of (setting_of c.args.machine)) (setting_of c.loop-turn.machine) (setting_of c.turn.new.self) (now_of c.loop-turn.machine) (now_of c.turn.new.self) _ _ _
-      c.in-Ok.turn c.in-Line.turn c.in-Line.event c.in-Line.answer c.as_bytes.result.now
-      c.loop-turn.invariant.underway c.in-Ok.ensures.turn c.in-Line.is c.in-Ok.ensures.after c.turn.ensures.setting
+      c.in-Ok.turn c.in-Turn.turn c.in-Turn.event c.in-Turn.answer c.as_bytes.result.now
+      c.loop-turn.invariant.underway c.in-Ok.ensures.turn c.in-Turn.is c.in-Ok.ensures.after c.turn.ensures.setting
       (c.as_bytes.ensures.value ∙ c.deref.ensures.0 ∙ c.write_line.ensures.text) c.in-Ok-send.ensures.whole;
   same = c.turn.ensures.setting ∙ c.loop-turn.invariant.same;
   done =
-      (fewer (setting_of c.loop-turn.machine) (setting_of c.turn.new.self) (now_of c.loop-turn.machine) (now_of c.turn.new.self) c.in-Ok.turn c.in-Line.turn c.in-Line.event c.in-Line.answer
-      c.in-Ok.ensures.turn c.in-Line.is c.in-Ok.ensures.after c.turn.ensures.setting).number;
+      (fewer (setting_of c.loop-turn.machine) (setting_of c.turn.new.self) (now_of c.loop-turn.machine) (now_of c.turn.new.self) c.in-Ok.turn c.in-Turn.turn c.in-Turn.event c.in-Turn.answer
+      c.in-Ok.ensures.turn c.in-Turn.is c.in-Ok.ensures.after c.turn.ensures.setting).number;
   count = c.in-Ok-send.ensures.fault ∙ c.loop-turn.invariant.count;
 }
 
