@@ -6,18 +6,35 @@ use Rattle.sk_world.specs.Numbers.{is_used, next_number, free_from, fresh_of}
 use Rattle.sk_world.specs.World.{World, IsNext}
 use Rattle.sk_numbers.specs.Numbers.{IsLeastAbove}
 use Rattle.sk_table.specs.Beside.{uses_in}
+use Rattle.sk_table.specs.Free.{first_unused}
+use Rattle.sk_table.specs.declared.numbering.TheConstants.{NUMBERS}
 use Rattle.sk_table.proofs.Indexing.{used_counts}
 
-pub free_here : (more : ℕ) (w : World) (n : ℕ) → is_used w n ≡ false → free_from more w n ≡ n
-free_here zero w n e = refl
-free_here (suc more) w n e = ap (λ b. cond b (free_from more w (next_number n)) n) e
+pub free_here : (used : ℕ → Bool) (more n : ℕ) → used n ≡ false → first_unused used more n ≡ n
+unfolding first_unused
+free_here used zero n e = refl
+free_here used (suc more) n e = ap (λ b. cond b (first_unused used more (next_number n)) n) e
 
-pub free_later : (more : ℕ) (w : World) (n : ℕ) → is_used w n ≡ true → free_from (suc more) w n ≡ free_from more w (next_number n)
-free_later more w n e = ap (λ b. cond b (free_from more w (next_number n)) n) e
+pub free_later : (used : ℕ → Bool) (more rest n : ℕ) → more ≡ suc rest → used n ≡ true → first_unused used more n ≡ first_unused used rest (next_number n)
+unfolding first_unused
+free_later used more rest n is e =
+    ap (λ (m : ℕ). first_unused used m n) is ∙ ap (λ b. cond b (first_unused used rest (next_number n)) n) e
 
-pub free_all : (all : ℕ) (w : World) → all ≡ LAST_PID - 1 → free_from all w (next_number w.last) ≡ fresh_of w
+pub free_last : (used : ℕ → Bool) (n : ℕ) → first_unused used 0 n ≡ n
+unfolding first_unused
+free_last used n = refl
+
+unused_is : (used : ℕ → Bool) (w : World) → ((n : ℕ) → used n ≡ is_used w n) → (more n : ℕ) → first_unused used more n ≡ free_from more w n
+unfolding first_unused
+unused_is used w same zero n = refl
+unused_is used w same (suc more) n =
+    ap (λ b. cond b (first_unused used more (next_number n)) n) (same n)
+    ∙ ap (λ (m : ℕ). cond (is_used w n) m n) (unused_is used w same more (next_number n))
+
+-- in a world where these are in use it is the next pid
+pub fresh_is : (used : ℕ → Bool) (w : World) (last : ℕ) → last ≡ w.last → ((n : ℕ) → used n ≡ is_used w n) → first_unused used NUMBERS (next_number last) ≡ fresh_of w
 unfolding fresh_of
-free_all all w e = ap (λ (m : ℕ). free_from m w (next_number w.last)) e
+fresh_is used w last is same = ap (λ (n : ℕ). first_unused used NUMBERS (next_number n)) is ∙ unused_is used w same NUMBERS (next_number w.last)
 
 -- the counts of uses tell which are used
 pub used_is : (w : World) (counts : List ℕ) → ((n : ℕ) → get_or counts n 0 ≡ uses_in n w.procs.entries) → (n : ℕ) → nat_lt 0 (get_or counts n 0) ≡ is_used w n

@@ -1,5 +1,6 @@
 pub mod Weights
 pub mod Beside
+pub mod Free
 pub mod Slots
 pub mod SlotView
 pub mod Rows

@@ -1,7 +1,7 @@
 //! Which number the next child gets.
 ghost use Rattle.std.specs.Prelude.{◌≡◌, ℕ, Bool};
-ghost use Rattle.sk_world.specs.Numbers.{fresh_of, is_used, next_number};
-ghost use Rattle.sk_world.specs.World.{World};
+ghost use Rattle.sk_world.specs.Numbers.{next_number};
+ghost use Rattle.sk_table.specs.Free.{first_unused};
 
 use sk_world::LAST_PID;
 
@@ -24,9 +24,9 @@ pub fn next_number(number: u32) -> u32
     if number < LAST_PID { number + 1 } else { 2 }
 }
 
-/// The first number after the last one given that is not in use, in each world that has these in use.
+/// The first number after the last one given that is not in use.
 pub fn first_free<N: Numbers>(numbers: &N, last: u32) -> u32
-    ensures { (w : World) → w.last ≡ last → ((n : ℕ) → N.used numbers.now n ≡ is_used w n) → result ≡ fresh_of w }
+    ensures { result ≡ first_unused (N.used numbers.now) NUMBERS (next_number last) }
 {
     let mut number = next_number(last);
     for _tried in 0..NUMBERS {

@@ -1,24 +1,28 @@
-use Rattle.std.proofs.Common.{◌∙◌, ◌-◌, ℕ, suc, arith, ap, sym}
-use Rattle.sk_world.specs.Numbers.{free_from, next_number}
+use Rattle.std.proofs.Common.{◌≡◌, ◌∙◌, ◌-◌, ◌+◌, ℕ, Bool, suc, arith, ap, sym}
 use Rattle.sk_table.specs.declared.numbering.TheConstants.{NUMBERS}
-use Rattle.sk_table.proofs.Freely.{free_here, free_later, free_all}
+use Rattle.sk_table.specs.Free.{first_unused}
+use Rattle.sk_table.proofs.Freely.{free_here, free_later, free_last}
 use Rattle.sk_table.proofs.numbering.first_free.Goals as goal
 
 pub loop-tried-init : goal.loop-tried-init
-loop-tried-init g c w last used left all =
-    ap (free_from left w) (c.next_number-number.ensures ∙ ap next_number (sym last)) ∙ free_all left w (omega arith)
+loop-tried-init g c = ap (first_unused (g.N.Numbers.used c.args.numbers.now) NUMBERS) c.next_number-number.ensures
 
 pub returns-then-not-is_used : goal.returns-then-not-is_used
-returns-then-not-is_used g c w last used =
-    let left : ℕ = NUMBERS - c.loop-tried._tried in
-    sym (free_here left w c.loop-tried.number (sym (used c.loop-tried.number) ∙ sym c.is_used.ensures ∙ c.if-not-is_used.true))
-    ∙ c.loop-tried.invariant w last used left (omega arith)
+returns-then-not-is_used g c =
+    sym (free_here _ (NUMBERS - c.loop-tried._tried) c.loop-tried.number (sym c.is_used.ensures ∙ c.if-not-is_used.true))
+    ∙ c.loop-tried.invariant
 
 pub loop-tried-preserved : goal.loop-tried-preserved
-loop-tried-preserved g c w last used left all =
-    ap (free_from left w) c.next_number-number-in-loop-tried.ensures
-    ∙ sym (free_later left w c.loop-tried.number (sym (used c.loop-tried.number) ∙ sym c.is_used.ensures ∙ c.if-not-is_used.false))
-    ∙ c.loop-tried.invariant w last used (suc left) (omega arith)
+loop-tried-preserved g c =
+    let used : ℕ → Bool = g.N.Numbers.used c.args.numbers.now in
+    let one : NUMBERS - c.loop-tried._tried ≡ suc (NUMBERS - (c.loop-tried._tried + 1)) = omega arith in
+    ap (first_unused used (NUMBERS - (c.loop-tried._tried + 1))) c.next_number-number-in-loop-tried.ensures
+    ∙ sym (free_later used (NUMBERS - c.loop-tried._tried) _ c.loop-tried.number one (sym c.is_used.ensures ∙ c.if-not-is_used.false))
+    ∙ c.loop-tried.invariant
 
 pub returns : goal.returns
-returns g c w last used = c.loop-tried.invariant w last used 0 (omega arith)
+returns g c =
+    let used : ℕ → Bool = g.N.Numbers.used c.args.numbers.now in
+    let none_left : NUMBERS - c.loop-tried._tried ≡ 0 = omega arith in
+    sym (ap (λ (more : ℕ). first_unused used more c.loop-tried.number) none_left ∙ free_last used c.loop-tried.number)
+    ∙ c.loop-tried.invariant

@@ -4,11 +4,13 @@ use Rattle.sk_world.specs.World.{World, at}
 use Rattle.sk_world.specs.Numbers.{is_used}
 use Rattle.sk_world.proofs.Fresh.{fresh_unused, fresh_absent, fresh_in_range}
 use Rattle.sk_table.proofs.Freeing.{used_rows}
+use Rattle.sk_table.proofs.Freely.{fresh_is}
 use Rattle.sk_table.proofs.list_store.ListStoreProcStore.fresh.Goals as goal
 
 pub returns-clause-fresh : goal.returns-clause-fresh
 returns-clause-fresh c =
-    c.first_free.ensures c.args.self.now (ap (λ (w : World). w.last) (sym c.self.view_is))
+    c.first_free.ensures
+    ∙ fresh_is _ c.args.self.now _ (ap (λ (w : World). w.last) c.self.view_is)
     (λ n. used_rows n c.self.inside.rows.items c.self.invariant.distinct ∙ ap (λ (w : World). is_used w n) c.self.view_is)
 
 pub returns-clause-free : goal.returns-clause-free

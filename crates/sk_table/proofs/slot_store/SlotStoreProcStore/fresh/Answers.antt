@@ -5,13 +5,13 @@ use Rattle.sk_world.specs.World.{at}
 use Rattle.sk_world.proofs.Fresh.{fresh_unused, fresh_absent, fresh_in_range}
 use Rattle.sk_table.specs.Slots.{Slotted}
 use Rattle.sk_table.specs.SlotView.{slotted_of}
-use Rattle.sk_table.proofs.Freely.{used_is}
+use Rattle.sk_table.proofs.Freely.{fresh_is, used_is}
 use Rattle.sk_table.proofs.slot_store.SlotStoreProcStore.fresh.Goals as goal
 
 pub returns-clause-fresh : goal.returns-clause-fresh
 returns-clause-fresh c =
     let w = (slotted_of c.self.inside).world in
-    c.first_free.ensures w refl (used_is w _ c.self.invariant.beside.uses) ∙ ap (λ (s : Slotted). fresh_of s.world) c.self.view_is
+    c.first_free.ensures ∙ fresh_is _ w _ refl (used_is w _ c.self.invariant.beside.uses) ∙ ap (λ (s : Slotted). fresh_of s.world) c.self.view_is
 
 given : (s s' : Slotted) → s ≡ s' → 1 ≤ s.world.last → 1 ≤ s'.world.last
 given s s' = subst (λ (s : Slotted). 1 ≤ s.world.last)
