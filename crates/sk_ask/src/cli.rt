@@ -23,7 +23,7 @@ use crate::words::{Asked, asked_in};
 use sk_ask_filters::{Shelf, Trouble, of_word};
 use sk_io::Sink;
 use sk_profile_json::Context;
-use sk_text::is_word;
+use sk_text::is_same;
 use std::alloc::{AllocError, Global};
 
 /// Does what the words ask, which leave out the program's name, and gives the exit status: 0 where they are answered, 1
@@ -69,7 +69,7 @@ fn answer<S: Shelf>(
     let Some((first, rest)) = words.split_first() else {
         return Err(Trouble::Refused(bytes_of(alloc, "ask: no word is given; see ask --help\n")?));
     };
-    if is_word(first.as_bytes(), b"--help") {
+    if is_same(first.as_bytes(), b"--help") {
         return Ok(said(alloc, HELP)?);
     }
     match Word::named(first.as_bytes()) {

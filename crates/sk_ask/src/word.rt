@@ -2,7 +2,7 @@
 ghost use Rattle.std.specs.Prelude.{◌≡◌};
 ghost use Rattle.sk_ask.specs.Asking.{valued_name, valued_named, value_kind, tells_calls, tells_of_one, word_named, word_name};
 
-use sk_text::is_word;
+use sk_text::is_same;
 
 /// What is asked for.
 #[derive(Clone, Copy, Debug, PartialEq, Eq)]
@@ -30,21 +30,21 @@ impl Word {
     pub fn named(name: &[u8]) -> Option<Word>
         ensures word { result ≡ word_named name.now }
     {
-        if is_word(name, b"calls") {
+        if is_same(name, b"calls") {
             Some(Word::Calls)
-        } else if is_word(name, b"filter") {
+        } else if is_same(name, b"filter") {
             Some(Word::Filter)
-        } else if is_word(name, b"when") {
+        } else if is_same(name, b"when") {
             Some(Word::When)
-        } else if is_word(name, b"diff") {
+        } else if is_same(name, b"diff") {
             Some(Word::Diff)
-        } else if is_word(name, b"replay") {
+        } else if is_same(name, b"replay") {
             Some(Word::Replay)
-        } else if is_word(name, b"why") {
+        } else if is_same(name, b"why") {
             Some(Word::Why)
-        } else if is_word(name, b"show") {
+        } else if is_same(name, b"show") {
             Some(Word::Show)
-        } else if is_word(name, b"arches") {
+        } else if is_same(name, b"arches") {
             Some(Word::Arches)
         } else {
             None
@@ -108,13 +108,13 @@ impl Valued {
     pub(crate) fn named(word: Word, name: &[u8]) -> Option<Valued>
         ensures option { result ≡ valued_named word name.now }
     {
-        if tells_calls(word) && is_word(name, b"--call") {
+        if tells_calls(word) && is_same(name, b"--call") {
             Some(Valued::Call)
-        } else if is_word(name, b"--cap") {
+        } else if is_same(name, b"--cap") {
             Some(Valued::Cap)
-        } else if is_word(name, b"--kernel") {
+        } else if is_same(name, b"--kernel") {
             Some(Valued::Kernel)
-        } else if tells_of_one(word) && is_word(name, b"--arch") {
+        } else if tells_of_one(word) && is_same(name, b"--arch") {
             Some(Valued::Arch)
         } else {
             None

@@ -10,7 +10,7 @@ use sk_ask_filters::{Trouble, of_word};
 use sk_call_names::Architecture;
 use sk_profile_file::capability;
 use sk_profile_json::{Kernel, kernel_of};
-use sk_text::is_word;
+use sk_text::is_same;
 use std::alloc::{AllocError, Global};
 
 /// What the words behind it ask.
@@ -179,7 +179,7 @@ fn with_free<'a>(
     ensures exact { Asks result (with_free word (question_of asked.entry) (string_bytes text.now)) }
 {
     let bytes = text.as_bytes();
-    if is_word(bytes, b"--help") {
+    if is_same(bytes, b"--help") {
         return Ok(Asked {
             help: true,
             ..asked
@@ -229,7 +229,7 @@ fn with_flag<'a>(
 ) -> Result<Asked<'a>, Trouble>
     ensures exact { Asks result (with_flag word (question_of asked.entry) (string_bytes text.now)) }
 {
-    if is_word(text.as_bytes(), b"--runc") {
+    if is_same(text.as_bytes(), b"--runc") {
         return Ok(Asked {
             runc: true,
             ..asked
@@ -248,13 +248,13 @@ fn with_own_flag<'a>(
 {
     let bytes = text.as_bytes();
     match word {
-        Word::Calls if is_word(bytes, b"--examples") => Ok(Asked {
+        Word::Calls if is_same(bytes, b"--examples") => Ok(Asked {
             examples: true,
             ..asked
         }),
-        Word::When if is_word(bytes, b"--dot") => Ok(Asked { dot: true, ..asked }),
-        Word::Filter if is_word(bytes, b"--raw") => Ok(Asked { raw: true, ..asked }),
-        Word::Diff if is_word(bytes, b"--stricter") => Ok(Asked {
+        Word::When if is_same(bytes, b"--dot") => Ok(Asked { dot: true, ..asked }),
+        Word::Filter if is_same(bytes, b"--raw") => Ok(Asked { raw: true, ..asked }),
+        Word::Diff if is_same(bytes, b"--stricter") => Ok(Asked {
             stricter: true,
             ..asked
         }),

@@ -9,7 +9,7 @@ ghost use Rattle.sk_ask_filters.specs.Finding.{filters_of, Finds, Says};
 use crate::fault::{FileFault, LineFault, Refused};
 use crate::found::{Found, Place, with_filter};
 use sk_engines::bytes_in;
-use sk_text::{Lines, Words, is_word};
+use sk_text::{Lines, Words, is_same};
 use std::alloc::{AllocError, Global};
 
 /// The filters that the lines of a file add to those that were found before.
@@ -70,7 +70,7 @@ fn said(
     };
     if matches!(word.first(), Some(b';' | b'#')) {
         Ok(Ok(None))
-    } else if is_word(word, b"filter") {
+    } else if is_same(word, b"filter") {
         filter_said(alloc, words)
     } else {
         Ok(Err(LineFault::UnknownWord))

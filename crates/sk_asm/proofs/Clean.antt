@@ -1,5 +1,5 @@
 -- The lines of a text whose beginning is clean.
-use Rattle.std.proofs.Common.{◌≡◌, ◌≤◌, ◌+◌, ◌-◌, ◌==◌, ◌||◌, arith, refl, subst, zero, suc, ℕ, List, [], ◌∷◌, length, take, Bool, true, false, IsTrue, inl, inr}
+use Rattle.std.proofs.Common.{◌≡◌, ◌≤◌, ◌+◌, ◌-◌, ◌==◌, arith, refl, subst, zero, suc, ℕ, List, [], ◌∷◌, length, take, Bool, true, false, IsTrue, inl, inr}
 use Rattle.std.proofs.lemmas.Bool.{cases_Bool, and_parts}
 use Rattle.std.specs.List.{list_all, onto_first}
 use Rattle.sk_text.specs.Lines.{lines_of, is_clean_byte, is_printable_byte}

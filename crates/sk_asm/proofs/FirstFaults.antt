@@ -250,7 +250,26 @@ abbrev AllSay : List (List ℕ) → Type 0
 AllSay [] = Unit {0}
 AllSay (line ∷ lines) = ((s : Statement) × SaysLine line s) × AllSay lines
 
+-- the fault of a line behind these lines, of which all have the given labels
+abbrev pub Behind : Labels → List (List ℕ) → List ℕ → AsmFault → Type 0
+Behind labels before line (Line n) = (length line ≤ 255) × (said line ≡ None)
+Behind labels before line (TooLong n) = (255 < length line) ⊎ ((size (said line) ≡ 1) × (4096 ≤ instructions_said before))
+Behind labels before line (Twice n) = (name : List ℕ) × (said line ≡ Some (Marks name)) × IsTrue (is_some (label_place (labels_said 0 before) name))
+Behind labels before line (Label n) = FirstJumpFault labels n (instructions_said before) (destinations (said line)) (Label n)
+Behind labels before line (Back n) = FirstJumpFault labels n (instructions_said before) (destinations (said line)) (Back n)
+Behind labels before line (Far n) = FirstJumpFault labels n (instructions_said before) (destinations (said line)) (Far n)
+Behind labels before line Memory = ⊥
+
 module _ (first : ℕ) (lines : List (List ℕ)) where
+  pub at_line : (f : AsmFault) → HasFault first lines f → AtLine first lines (line_of f) (λ before line. Behind (labels_said 0 lines) before line f)
+  at_line (Line n) h = h
+  at_line (TooLong n) h = h
+  at_line (Twice n) h = h
+  at_line (Label n) h = h
+  at_line (Back n) h = h
+  at_line (Far n) h = h
+  at_line Memory h = absurd h
+
   -- none of the first so many lines has a fault of a stage
   abbrev Clean : ℕ → ℕ → Type 0
   Clean stage k = (other : AsmFault) → stage_of other ≡ stage → line_of other < first + k → HasFault first lines other → ⊥
@@ -496,15 +515,9 @@ module _ (first : ℕ) (lines : List (List ℕ)) where
       omega (arith, long, place)
 
   within : (f : AsmFault) → HasFault first lines f → line_of f < first + length lines
-  within (Line n) h = at_a_line n _ h
-  within (TooLong n) h = at_a_line n _ h
-  within (Twice n) h = at_a_line n _ h
-  within (Label n) h = at_a_line n _ h
-  within (Back n) h = at_a_line n _ h
-  within (Far n) h = at_a_line n _ h
-  within Memory h = absurd h
+  within f h = at_a_line (line_of f) _ (at_line f h)
 
-  staged : (f : AsmFault) → HasFault first lines f → (stage_of f ≡ 1) ⊎ (stage_of f ≡ 2)
+  pub staged : (f : AsmFault) → HasFault first lines f → (stage_of f ≡ 1) ⊎ (stage_of f ≡ 2)
   staged (Line n) h = inl refl
   staged (TooLong n) h = inl refl
   staged (Twice n) h = inl refl
@@ -520,13 +533,7 @@ module _ (first : ℕ) (lines : List (List ℕ)) where
       from n P h = let place = h.1.1.2 in omega (arith, place)
 
       at_least : (f : AsmFault) → HasFault first lines f → first ≤ line_of f
-      at_least (Line n) h = from n _ h
-      at_least (TooLong n) h = from n _ h
-      at_least (Twice n) h = from n _ h
-      at_least (Label n) h = from n _ h
-      at_least (Back n) h = from n _ h
-      at_least (Far n) h = from n _ h
-      at_least Memory h = absurd h
+      at_least f h = from (line_of f) _ (at_line f h)
 
   first_pass : (result : Result Labels AsmFault) → labelled first [] 0 lines ≡ result → Scanned lines result
   first_pass result h =

@@ -1,6 +1,5 @@
 -- Lines have at most one first fault.
-use Rattle.std.proofs.Common.{◌≡◌, ◌≤◌, ◌<◌, ◌-◌, ◌⊎◌, ◌∙◌, ap, arith, refl, sym, subst, ℕ, List, [], ◌∷◌, Some, None, is_some, Result, Ok, Err, length, inl, inr}
-use Rattle.std.specs.Prelude.{IsTrue}
+use Rattle.std.proofs.Common.{◌≡◌, ◌≤◌, ◌<◌, ◌-◌, ◌⊎◌, ◌∙◌, ap, arith, refl, sym, subst, ℕ, List, [], ◌∷◌, Some, None, Result, Ok, Err, length, inl, inr}
 use Rattle.std.proofs.lemmas.Bool.{cases_lt, lt-ltb, le-leb, lt-leb}
 use Rattle.sk_insn.specs.declared.insn.Insn.{Insn}
 use Rattle.sk_text.specs.Lines.{lines_of}
@@ -10,7 +9,7 @@ use Rattle.sk_asm.specs.Grammar.{Destination, Further, Labelled, Marks}
 use Rattle.sk_asm.specs.Labels.{Labels, label_place}
 use Rattle.sk_asm.specs.LineFaults.{said, size, destinations, instructions_said, labels_said, HasJumpFault, FirstJumpFault, AtLine, HasFault, stage_of, line_of, IsFirstFault, IsFirstTextFault}
 use Rattle.sk_asm.specs.Passes.{landed, assembled_lines}
-use Rattle.sk_asm.proofs.FirstFaults.{cut_once, err_is, passes_find_the_first, no_fault_where_assembled}
+use Rattle.sk_asm.proofs.FirstFaults.{Behind, at_line, staged, cut_once, err_is, passes_find_the_first, no_fault_where_assembled}
 
 -- ---- faults of jumps
 
@@ -40,16 +39,6 @@ jumps_once labels n at (to ∷ others) f g h k = elim h [
 ]
 
 -- ---- faults of a line by itself
-
--- the fault of a line behind these lines, of which all have the given labels
-abbrev Behind : Labels → List (List ℕ) → List ℕ → AsmFault → Type 0
-Behind labels before line (Line n) = (length line ≤ 255) × (said line ≡ None)
-Behind labels before line (TooLong n) = (255 < length line) ⊎ ((size (said line) ≡ 1) × (4096 ≤ instructions_said before))
-Behind labels before line (Twice n) = (name : List ℕ) × (said line ≡ Some (Marks name)) × IsTrue (is_some (label_place (labels_said 0 before) name))
-Behind labels before line (Label n) = FirstJumpFault labels n (instructions_said before) (destinations (said line)) (Label n)
-Behind labels before line (Back n) = FirstJumpFault labels n (instructions_said before) (destinations (said line)) (Back n)
-Behind labels before line (Far n) = FirstJumpFault labels n (instructions_said before) (destinations (said line)) (Far n)
-Behind labels before line Memory = ⊥
 
 says_nothing : (line : List ℕ) → 255 < length line → said line ≡ None
 unfolding said
@@ -103,15 +92,6 @@ jumps_behind labels before line Memory s h = absurd h
 -- ---- faults of lines
 
 module _ (first : ℕ) (lines : List (List ℕ)) where
-  at_line : (f : AsmFault) → HasFault first lines f → AtLine first lines (line_of f) (λ before line. Behind (labels_said 0 lines) before line f)
-  at_line (Line n) h = h
-  at_line (TooLong n) h = h
-  at_line (Twice n) h = h
-  at_line (Label n) h = h
-  at_line (Back n) h = h
-  at_line (Far n) h = h
-  at_line Memory h = absurd h
-
   same_line : (n : ℕ) (P Q : List (List ℕ) → List ℕ → Type 0) → AtLine first lines n P → AtLine first lines n Q → (before : List (List ℕ)) × ((line : List ℕ) × (P before line × Q before line))
   same_line n P Q h k =
       let a = h.1.1.2 in
@@ -119,19 +99,10 @@ module _ (first : ℕ) (lines : List (List ℕ)) where
       let one = cut_once k.0 h.0 k.1.1.0 h.1.1.0 k.1.0 h.1.0 (sym k.1.1.1 ∙ h.1.1.1) (omega (arith, a, b)) in
       (h.0, (h.1.0, (h.1.1.3, subst (λ before. Q before h.1.0) one.0 (subst (Q k.0) one.1 k.1.1.3))))
 
-  stage : (f : AsmFault) → HasFault first lines f → (stage_of f ≡ 1) ⊎ (stage_of f ≡ 2)
-  stage (Line n) h = inl refl
-  stage (TooLong n) h = inl refl
-  stage (Twice n) h = inl refl
-  stage (Label n) h = inr refl
-  stage (Back n) h = inr refl
-  stage (Far n) h = inr refl
-  stage Memory h = absurd h
-
   one_of_a_line : (f g : AsmFault) → stage_of f ≡ stage_of g → line_of f ≡ line_of g → HasFault first lines f → HasFault first lines g → f ≡ g
   one_of_a_line f g s e h k =
-      let both = same_line (line_of f) _ _ (at_line f h) (subst (λ n. AtLine first lines n (λ before line. Behind (labels_said 0 lines) before line g)) (sym e) (at_line g k)) in
-      elim (stage f h) [
+      let both = same_line (line_of f) _ _ (at_line first lines f h) (subst (λ n. AtLine first lines n (λ before line. Behind (labels_said 0 lines) before line g)) (sym e) (at_line first lines g k)) in
+      elim (staged first lines f h) [
         | inl one ↦ own_once (labels_said 0 lines) both.0 both.1.0 f g one (sym s ∙ one) e both.1.1.0 both.1.1.1
         | inr two ↦
             let jump = jumps_behind (labels_said 0 lines) both.0 both.1.0 g (sym s ∙ two) both.1.1.1 in

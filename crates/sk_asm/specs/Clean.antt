@@ -1,5 +1,5 @@
 -- Lines that are known to be printable by where they stand in a text.
-use Rattle.std.specs.Prelude.{ℕ, ◌≤◌, ◌+◌, ◌-◌, ◌==◌, ◌||◌, Bool, IsTrue, List, [], ◌∷◌, length}
+use Rattle.std.specs.Prelude.{ℕ, ◌≤◌, ◌+◌, ◌-◌, IsTrue, List, [], ◌∷◌, length}
 use Rattle.std.specs.List.{list_all}
 use Rattle.sk_text.specs.Lines.{is_printable_byte}
 

@@ -5,7 +5,7 @@ ghost use Rattle.sk_asm.specs.Block.{are_end, is_end, lines_in};
 ghost use Rattle.sk_text.specs.Lines.{words_of};
 
 use crate::parse::LONGEST_LINE;
-use sk_text::{Lines, Words, is_word};
+use sk_text::{Lines, Words, is_same};
 
 // The lines of a block, or of a whole text.
 #[derive(Drop)]
@@ -53,7 +53,7 @@ fn are_end(mut words: Words<'_>) -> bool
     ensures end { result ≡ are_end (words_of words.entry.0.now) }
 {
     match words.next() {
-        Some(word) => words.next().is_none() && is_word(word, b"end"),
+        Some(word) => words.next().is_none() && is_same(word, b"end"),
         None => false,
     }
 }

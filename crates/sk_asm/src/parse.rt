@@ -15,7 +15,7 @@ use crate::statement::{Begun, Jump, Target as Goal};
 use crate::value::{destination, label, returned, u8_of, u16_of, u32_of};
 use sk_insn::{Insn, Operation};
 use sk_text::{
-    Words, four_words, is_printable, is_word, no_word, one_word, three_words, two_words,
+    Words, four_words, is_printable, is_same, no_word, one_word, three_words, two_words,
 };
 
 // The most bytes that a line may have.
@@ -73,7 +73,7 @@ fn begin_words<'a>(first: &'a [u8], words: Words<'a>) -> Option<Begun<'a>>
 fn begin_instruction<'a>(first: &'a [u8], words: Words<'a>) -> Option<Begun<'a>>
     ensures exact { said_by result ≡ instruction_said first.now (words_of words.entry.0.now) }
 {
-    if is_word(first, b".insn") {
+    if is_same(first, b".insn") {
         return Some(Begun::Fields(words.0));
     }
     let operation = Operation::named(first)?;

@@ -12,7 +12,7 @@ use crate::pair::{Pair, Parts, parts_of};
 use crate::path::Path;
 use crate::witness::{Missing, call_on};
 use crate::{Budget, Numbers, chain_tree};
-use sk_filter::{Chain, sooner};
+use sk_filter::{Chain, preceding};
 use sk_insn::Record;
 use std::alloc::{AllocError, Global};
 
@@ -174,6 +174,6 @@ pub fn stands(relation: Relation, old: u32, new: u32) -> bool
 {
     match relation {
         Relation::Same => old == new,
-        Relation::AsStrict => sooner(Some(new), old) == Some(new),
+        Relation::AsStrict => preceding(Some(new), old) == Some(new),
     }
 }

@@ -12,7 +12,7 @@ pub mod Walk
 pub mod Architectures
 pub mod MachineState
 pub mod JointWalk
-pub mod Choosing
+pub mod Preceding
 pub mod Verdict
 pub mod Chains
 pub mod Nodes

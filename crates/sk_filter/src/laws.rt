@@ -67,7 +67,7 @@ pub fn limit_bounds_steps()
 {}
 
 /// To go through the values once, the newest first, finds the first of them.
-#[tactic(auto, using(crate::proofs::Verdicts::chosen_of_none))]
+#[tactic(auto, using(crate::proofs::Verdicts::preceding_of_none))]
 pub fn one_pass_finds_the_first()
     ensures law { OnePassFindsTheFirst }
 {}

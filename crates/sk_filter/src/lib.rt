@@ -28,7 +28,7 @@ pub use filters::{ChainFault, Filters};
 pub use interpreter::{Ran, run};
 pub use machine::{calculate, holds};
 pub use node::Programs;
-pub use precedence::{first_of, sooner};
+pub use precedence::{first_of, preceding};
 pub use together::walk_together;
 pub use verdict_text::push_verdict;
 pub use walker::walk;

@@ -1,6 +1,6 @@
 //! Which of several values takes precedence: seccomp(2), "If multiple filters exist".
 ghost use Rattle.std.specs.Prelude.{◌≡◌};
-ghost use Rattle.sk_filter.specs.Choosing.{chosen};
+ghost use Rattle.sk_filter.specs.Preceding.{preceding};
 ghost use Rattle.sk_filter.specs.Verdict.{first_of, precedence_of};
 
 use sk_insn::ALLOW;
@@ -12,14 +12,14 @@ pub fn first_of(values: &[u32]) -> u32
 {
     let mut first = None;
     for value in values {
-        first = sooner(first, *value);
+        first = preceding(first, *value);
     }
     first.unwrap_or(ALLOW)
 }
 
 /// The first value so far, when another one comes behind it: of equal actions the earlier one stays.
-pub fn sooner(first: Option<u32>, value: u32) -> Option<u32>
-    ensures chosen { result ≡ chosen first value }
+pub fn preceding(first: Option<u32>, value: u32) -> Option<u32>
+    ensures preceding { result ≡ preceding first value }
 {
     match first {
         Some(least) if precedence(least) <= precedence(value) => Some(least),

@@ -1,7 +1,7 @@
 //! Each public function at words and texts whose answers the grammar gives.
 use sk_text::{
     HexDigits, HexFault, Line, Lines, Words, bytes_of, bytes_of_text, cut, four_words, hex_half,
-    hex_word, is_clean, is_name, is_number, is_passed_over, is_printable, is_word, no_word,
+    hex_word, is_clean, is_name, is_number, is_passed_over, is_printable, is_same, no_word,
     number_up_to, one_word, push_digit, push_long, push_number, push_signed, three_words,
     two_words,
 };
@@ -111,8 +111,8 @@ fn knows_names_and_words(rt: HostRuntime) {
     ] {
         assert_eq!(rt; is_name(word), name);
     }
-    assert!(rt; is_word(b"end", b"end"));
-    assert!(rt; !is_word(b"ends", b"end"));
+    assert!(rt; is_same(b"end", b"end"));
+    assert!(rt; !is_same(b"ends", b"end"));
 }
 
 #[test]

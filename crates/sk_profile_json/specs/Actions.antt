@@ -4,7 +4,7 @@ use Rattle.std.specs.Prelude.{ℕ, ◌+◌, ◌&&◌, not, Bool, true, false, if
 use Rattle.std.specs.Str.{bytes_eq}
 use Rattle.json.specs.Json.{Json}
 use Rattle.sk_insn.specs.declared.action.Action.{Action}
-use Rattle.sk_insn.specs.declared.action.Action.TheVariants.{KillProcess, KillThread, Trap, Errno, UserNotif, Trace, Log, Allow, Unknown}
+use Rattle.sk_insn.specs.declared.action.Action.TheVariants.{KillProcess, KillThread, Trap, Errno, UserNotif, Trace, Log, Allow}
 use Rattle.sk_insn.specs.Actions.{value_of}
 use Rattle.sk_filter.specs.Errors.{error_named}
 use Rattle.sk_profile_json.specs.declared.fault.Field.{Field}
@@ -28,15 +28,9 @@ action_named name =
 
 -- the actions that give an error's number on: it is EPERM where none stands
 abbrev pub takes_number : Action → Bool
-takes_number KillProcess = false
-takes_number KillThread = false
-takes_number Trap = false
 takes_number Errno = true
-takes_number UserNotif = false
 takes_number Trace = true
-takes_number Log = false
-takes_number Allow = false
-takes_number Unknown = false
+takes_number other = false
 
 abbrev pub eperm : ℕ
 eperm = 1

@@ -7,7 +7,7 @@ use Rattle.json.specs.Json.{Json}
 use Rattle.json.specs.Find.{as_str}
 use Rattle.sk_call_names.specs.X86_64.{number_named}
 use Rattle.sk_insn.specs.declared.action.Action.{Action}
-use Rattle.sk_insn.specs.declared.action.Action.TheVariants.{KillProcess, KillThread, Trap, Errno, UserNotif, Trace, Log, Allow, Unknown}
+use Rattle.sk_insn.specs.declared.action.Action.TheVariants.{UserNotif}
 use Rattle.sk_profile.specs.declared.condition.Condition.{Condition}
 use Rattle.sk_profile.specs.Profiles.{Rule}
 use Rattle.sk_profile_json.specs.declared.fault.Field.{Field}
@@ -32,15 +32,8 @@ names_in j = result_then (λ items. names_or items (given field.Name j)) (list_i
 
 -- who listens for calls is told of them by write(2), so a runtime refuses to have that one told
 abbrev pub is_told : Action → Bool
-is_told KillProcess = false
-is_told KillThread = false
-is_told Trap = false
-is_told Errno = false
 is_told UserNotif = true
-is_told Trace = false
-is_told Log = false
-is_told Allow = false
-is_told Unknown = false
+is_told other = false
 
 abbrev pub value_unless_told : List Json → Json → Action → Result ℕ Wrong
 value_unless_told names j action =

@@ -1,5 +1,5 @@
 -- Where runc has instructions of its own stand before a filter: generatePatch of libcontainer/seccomp/patchbpf/enosys_linux.go.
-use Rattle.std.specs.Prelude.{◌&&◌, ◌||◌, not, Bool, true, false, List, codes, Result, Ok, Err}
+use Rattle.std.specs.Prelude.{◌&&◌, ◌||◌, not, Bool, true, false, List, codes, Result, Ok}
 use Rattle.std.specs.List.{list_any}
 use Rattle.json.specs.Json.{Json}
 use Rattle.sk_insn.specs.declared.action.Action.{Action}

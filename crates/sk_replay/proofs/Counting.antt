@@ -1,5 +1,5 @@
 -- The lines of a log, counted one after the other.
-use Rattle.std.proofs.Common.{◌≡◌, ◌<◌, ◌≤◌, ◌+◌, ◌-◌, ◌^◌, ◌∙◌, ap, arith, refl, sym, ℕ, List, [], ◌∷◌, ◌++◌, length, length-append, append-nil, append_assoc, Bool, true, false, cond}
+use Rattle.std.proofs.Common.{◌≡◌, ◌<◌, ◌≤◌, ◌+◌, ◌-◌, ◌^◌, ◌∙◌, ap, arith, refl, sym, ℕ, List, [], ◌∷◌, ◌++◌, length, length-append, append-nil, append_assoc, count_by, Bool, true, false, cond}
 use Rattle.std.proofs.lemmas.List.Sums.{sum_by-append, count_by-le-length}
 use Rattle.sk_text.specs.Lines.{lines_of}
 use Rattle.sk_asm.proofs.Blocks.{length-lines_in}
@@ -68,19 +68,17 @@ module _ (by : Architecture) (entries : List (Call × ℕ)) (events unclear : �
       let fewer = few in
       omega (arith, times, most, made, fewer)
 
-  pub few_events : events < 2 ^ 64 - 1
-  few_events =
-      let most = count_by-le-length (λ line. is_event (line_of by line)) counted.done in
-      let same = counted.ended in
+  few_of : (test : Line → Bool) (n : ℕ) → n ≡ count_by (λ line. test (line_of by line)) counted.done → n < 2 ^ 64 - 1
+  few_of test n same =
+      let most = count_by-le-length (λ line. test (line_of by line)) counted.done in
       let fewer = few in
       omega (arith, most, same, fewer)
 
+  pub few_events : events < 2 ^ 64 - 1
+  few_events = few_of is_event events counted.ended
+
   pub few_unclear : unclear < 2 ^ 64 - 1
-  few_unclear =
-      let most = count_by-le-length (λ line. is_unclear (line_of by line)) counted.done in
-      let same = counted.missed in
-      let fewer = few in
-      omega (arith, most, same, fewer)
+  few_unclear = few_of is_unclear unclear counted.missed
 
   pub turned : (said : Line) (after : List (Call × ℕ)) (e u : ℕ) → said ≡ line_of by line → after ≡ with_line said entries → e ≡ cond (is_event said) 1 0 → u ≡ cond (is_unclear said) 1 0
       → Counted by after (events + e) (unclear + u) rest (lines_of log)

@@ -8,7 +8,7 @@ ghost use Rattle.sk_replay.specs.Lines.{is_mark_byte, is_mark, is_event, argumen
 use crate::call::Call;
 use arrayvec::ArrayVec;
 use sk_call_names::{Architecture, number};
-use sk_text::{Words, cut, is_word, number_up_to, two_words};
+use sk_text::{Words, cut, is_same, number_up_to, two_words};
 
 /// What a line says.
 #[derive(Clone, Copy, Debug, PartialEq, Eq)]
@@ -59,7 +59,7 @@ fn said_at(architecture: Architecture, word: &[u8], words: Words<'_>) -> Line
 fn is_mark(word: &[u8]) -> bool
     ensures mark { result ≡ is_mark word.now }
 {
-    is_word(word, b"[pid") || are_mark_bytes(word)
+    is_same(word, b"[pid") || are_mark_bytes(word)
 }
 
 fn are_mark_bytes(word: &[u8]) -> bool
@@ -80,10 +80,10 @@ fn is_mark_byte(byte: u8) -> bool
 fn is_event(word: &[u8]) -> bool
     ensures event { result ≡ is_event word.now }
 {
-    is_word(word, b"+++")
-        || is_word(word, b"---")
-        || is_word(word, b"<...")
-        || is_word(word, b"strace:")
+    is_same(word, b"+++")
+        || is_same(word, b"---")
+        || is_same(word, b"<...")
+        || is_same(word, b"strace:")
 }
 
 #[tactic(auto, unfolding(crate::specs::Lines::call_in))]
@@ -165,7 +165,7 @@ fn push(args: &mut Arguments, given: u64) -> Option<()>
 fn argument(word: &[u8]) -> Option<u64>
     ensures argument { result ≡ argument_of word.now }
 {
-    if is_word(word, b"0") || word.starts_with(b"0x") {
+    if is_same(word, b"0") || word.starts_with(b"0x") {
         number_up_to(word, u64::MAX)
     } else {
         None
@@ -196,8 +196,8 @@ fn is_bare(word: &[u8], words: Words<'_>) -> bool
     ensures bare { result ≡ is_bare word.now (words_of words.entry.0.now) }
 {
     let rest = words.0;
-    (is_word(word, b")") && is_answer(Words(rest)))
-        || (is_word(word, b"") && is_unfinished(Words(rest)))
+    (is_same(word, b")") && is_answer(Words(rest)))
+        || (is_same(word, b"") && is_unfinished(Words(rest)))
 }
 
 // Whether these words are a call's result.
@@ -205,7 +205,7 @@ fn is_answer(mut words: Words<'_>) -> bool
     ensures answer { result ≡ is_answer (words_of words.entry.0.now) }
 {
     match words.next() {
-        Some(first) => words.next().is_some() && is_word(first, b"="),
+        Some(first) => words.next().is_some() && is_same(first, b"="),
         None => false,
     }
 }
@@ -215,7 +215,7 @@ fn is_unfinished(words: Words<'_>) -> bool
     ensures unfinished { result ≡ is_unfinished (words_of words.entry.0.now) }
 {
     match two_words(words) {
-        Some((first, second)) => is_word(first, b"<unfinished") && is_word(second, b"...>"),
+        Some((first, second)) => is_same(first, b"<unfinished") && is_same(second, b"...>"),
         None => false,
     }
 }

@@ -1,13 +1,13 @@
 -- Calls that are kept say what was put in, also with words behind theirs.
-use Rattle.std.proofs.Common.{◌≡◌, ◌∙◌, ◌≤◌, ◌<◌, ◌+◌, ◌*◌, ap, arith, refl, sym, subst, ℕ, zero, suc, List, [], ◌∷◌, ◌++◌, Option, Some, None, length, map, take, inl, inr, slice_get, slice_index}
+use Rattle.std.proofs.Common.{◌≡◌, ◌∙◌, ◌≤◌, ◌<◌, ◌+◌, ◌*◌, ap, arith, refl, sym, ℕ, zero, suc, List, [], ◌∷◌, ◌++◌, Option, Some, None, length, map, take, inl, inr, slice_get, slice_index}
 use Rattle.std.specs.Option.{is_some}
 use Rattle.std.proofs.lemmas.Bool.{cases_Bool, cases_lt, lt-ltb, le-ltb}
-use Rattle.std.proofs.lemmas.List.{get_or-append-add, get_or-take, length-append, length-take-le, map-append}
+use Rattle.std.proofs.lemmas.List.{get_or-append-add, get_or-take, get_or_past, length-append, length-take-le, map-append}
 use Rattle.std.proofs.Math.ListN.{get_or, get_or-append}
 use Rattle.std.proofs.Math.Seq.{get_or-append_seam}
 use Rattle.sk_scenario.specs.declared.call.ScriptCall.{ScriptCall}
 use Rattle.sk_scenario.specs.declared.script.Head.{Head}
-use Rattle.sk_scenario.specs.views.Script.{word_kept, arguments_kept, script_kept, call_kept, words_of_script, IsWithin, AreWithin, Grows}
+use Rattle.sk_scenario.specs.views.Script.{word_kept, arguments_kept, script_kept, call_kept, call_with, words_of_script, IsWithin, AreWithin, Grows}
 
 -- ---- calls by their parts
 
@@ -84,33 +84,37 @@ args_are (a ∷ (b ∷ (c ∷ (d ∷ (e ∷ []))))) h = absurd (omega (arith, h)
 args_are (a ∷ (b ∷ (c ∷ (d ∷ (e ∷ (f ∷ [])))))) h = refl
 args_are (a ∷ (b ∷ (c ∷ (d ∷ (e ∷ (f ∷ (g ∷ more))))))) h = absurd (omega (arith, h))
 
-module _ (old args : List ℕ) (count : ℕ) (few : count ≤ 6) (len : length args ≡ 6) (rest : (k : ℕ) → count ≤ k → slice_index args k ≡ 0) where
+module _ (old args : List ℕ) where
+  word_is : (more : List ℕ) (at : ℕ) → word_kept (old ++ (args ++ more)) (length old) (length args) at ≡ slice_index args at
+  word_is more at = elim (cases_lt at (length args)) [
+    | inl lt ↦ let t = lt-ltb at (length args) lt in rw t (get_or-append-add old (args ++ more) at 0 ∙ get_or-append args more 0 at lt)
+    | inr le ↦ let f = le-ltb at (length args) le in rw f (sym (get_or_past args at 0 le))
+  ]
+
+  script_word : (script : ℕ) → slice_index (old ++ (args ++ script ∷ [])) (length old + length args) ≡ script
+  script_word script = get_or-append-add old (args ++ script ∷ []) (length args) 0 ∙ get_or-append_seam args script [] 0
+
+  arguments_are : (more : List ℕ) → arguments_kept (old ++ (args ++ more)) (length old) (length args) ≡ (call_with 0 args None).call.args
+  arguments_are more =
+      six _ _ _ _ _ _ _ _ _ _ _ _ (word_is more 0) (word_is more 1) (word_is more 2) (word_is more 3) (word_is more 4) (word_is more 5)
+
+  pub kept_is : (nr : ℕ) (script : Option ℕ) → call_kept (old ++ (args ++ words_of_script script)) (record { nr = nr; first = length old; count = length args; has_script = is_some script }) ≡ call_with nr args script
+  kept_is nr None = same_parts nr _ _ _ _ (arguments_are []) refl
+  kept_is nr (Some script) = same_parts nr _ _ _ _ (arguments_are (script ∷ [])) (ap Some (script_word script))
+
+-- what is left out behind the last that is not 0 is 0
+module _ (args : List ℕ) (count : ℕ) (few : count ≤ 6) (len : length args ≡ 6) (rest : (k : ℕ) → count ≤ k → slice_index args k ≡ 0) where
   taken : length (take count args) ≡ count
   taken = length-take-le count args (omega (arith, few, len))
 
-  word_is : (more : List ℕ) (at : ℕ) → word_kept (old ++ (take count args ++ more)) (length old) count at ≡ slice_index args at
-  word_is more at = elim (cases_lt at count) [
-    | inl lt ↦
-        let t = lt-ltb at count lt in
-        let there = get_or-append-add old (take count args ++ more) at 0 in
-        let first = get_or-append (take count args) more 0 at (omega (arith, lt, taken)) in
-        rw t (there ∙ first ∙ get_or-take count args at 0 lt)
-    | inr le ↦ let f = le-ltb at count le in rw f (sym (rest at le))
+  left_out : (at : ℕ) → slice_index (take count args) at ≡ slice_index args at
+  left_out at = elim (cases_lt at count) [
+    | inl lt ↦ get_or-take count args at 0 lt
+    | inr le ↦ get_or_past (take count args) at 0 (omega (arith, le, taken)) ∙ sym (rest at le)
   ]
 
-  arguments_are : (more : List ℕ) → arguments_kept (old ++ (take count args ++ more)) (length old) count ≡ args
-  arguments_are more =
-      six _ _ _ _ _ _ _ _ _ _ _ _ (word_is more 0) (word_is more 1) (word_is more 2) (word_is more 3) (word_is more 4) (word_is more 5) ∙ args_are args len
-
-  script_word : (script : ℕ) → slice_index (old ++ (take count args ++ script ∷ [])) (length old + count) ≡ script
-  script_word script =
-      get_or-append-add old (take count args ++ script ∷ []) count 0
-      ∙ subst (λ n. slice_index (take count args ++ script ∷ []) n ≡ script) taken (get_or-append_seam (take count args) script [] 0)
-
-  module _ (nr : ℕ) where
-    pub kept_is : (script : Option ℕ) → call_kept (old ++ (take count args ++ words_of_script script)) (record { nr = nr; first = length old; count = count; has_script = is_some script }) ≡ record { call = record { nr = nr; args = args }; script = script }
-    kept_is None = same_parts nr _ _ _ _ (arguments_are []) refl
-    kept_is (Some script) = same_parts nr _ _ _ _ (arguments_are (script ∷ [])) (ap Some (script_word script))
+  pub shortened : (nr : ℕ) (script : Option ℕ) → call_with nr (take count args) script ≡ record { call = record { nr = nr; args = args }; script = script }
+  shortened nr script = same_parts nr _ _ _ _ (six _ _ _ _ _ _ _ _ _ _ _ _ (left_out 0) (left_out 1) (left_out 2) (left_out 3) (left_out 4) (left_out 5) ∙ args_are args len) refl
 
 -- ---- one call more
 

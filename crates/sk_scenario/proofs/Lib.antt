@@ -9,6 +9,7 @@ pub mod States
 pub mod Steps
 pub mod Told
 pub mod Whole
+pub mod Zeros
 pub mod Clean
 pub mod Coding
 pub mod Ends

@@ -1,5 +1,5 @@
 //! Lines in a program's block.
-ghost use Rattle.std.specs.Prelude.{◌≡◌, ◌<◌, ◌≤◌, ℕ, Bool, IsTrue, MatchResult};
+ghost use Rattle.std.specs.Prelude.{◌≡◌, ◌<◌, ◌≤◌, ℕ, [], ◌∷◌, ◌++◌, length, Bool, IsTrue, MatchResult, OnOk, OnErr};
 ghost use Rattle.std.specs.Option.{option_map};
 ghost use Rattle.std.specs.List.{list_all};
 ghost use Rattle.sk_text.specs.Lines.{is_printable_byte};
@@ -8,7 +8,8 @@ ghost use Rattle.sk_scenario.specs.Scenario.{argument_value, child_of, call_of, 
 ghost use Rattle.sk_scenario.specs.Reading.{checked, resolved, called};
 ghost use Rattle.sk_scenario.specs.declared.text_fault.TextFault.TheVariants.{Limit};
 ghost use Rattle.sk_scenario.specs.Answers.{Answers, Judges};
-ghost use Rattle.sk_scenario.specs.views.ScenarioCode.{argument_seen, call_seen, fork_seen, line_seen, names_seen, known_seen, script_with};
+ghost use Rattle.sk_scenario.specs.views.Script.{call_with};
+ghost use Rattle.sk_scenario.specs.views.ScenarioCode.{argument_seen, few_seen, few_made, call_seen, fork_seen, line_seen, names_seen, known_seen, script_with};
 
 use crate::fault::ScenarioFault;
 use crate::line::{Argument, Arguments, ProgramLine};
@@ -17,6 +18,7 @@ use crate::state::Names;
 use crate::top::check_line;
 use crate::{Calls, Named, ScriptCall, TextFault};
 use sk_calls::{Call, Syscall};
+use std::alloc::AllocError;
 
 // The most calls that a program may have.
 const MOST_CALLS: usize = 1000;
@@ -109,6 +111,25 @@ fn call_of(names: &Names<'_>, nr: u32, arguments: Arguments<'_>) -> Option<Scrip
     })
 }
 
+// A call that names two arguments at most.
+#[derive(Clone, Copy)]
+pub(crate) struct FewCall {
+    nr: u32,
+    a: u64,
+    b: u64,
+}
+
+// The same of a call that names two arguments at most.
+#[inline(always)]
+#[tactic(auto, unfolding(crate::specs::Scenario::call_of))]
+fn few_call_of(names: &Names<'_>, nr: u32, a: Argument<'_>, b: Argument<'_>) -> Option<FewCall>
+    ensures exact { option_map few_made result ≡ call_of (names_seen names.now) (few_seen nr a.entry b.entry) }
+{
+    let a = argument_value(names, a)?;
+    let b = argument_value(names, b)?;
+    Some(FewCall { nr, a, b })
+}
+
 // Any call, for a line whose names are not known yet.
 const ANY: ScriptCall = ScriptCall {
     call: Call {
@@ -137,28 +158,60 @@ fn resolve(
     }
 }
 
-// The fork(2) that line `n` asks for.
+// The call that line `n` asks for, which names two arguments at most.
+#[inline(always)]
+#[tactic(auto, unfolding(crate::specs::Reading::resolved))]
+fn resolve_few(
+    known: Option<&Names<'_>>,
+    n: usize,
+    nr: u32,
+    a: Argument<'_>,
+    b: Argument<'_>,
+) -> Result<FewCall, TextFault>
+    ensures exact { Judges few_made result (resolved (known_seen known.entry) n (few_seen nr a.entry b.entry)) }
+{
+    match known {
+        None => Ok(FewCall { nr: 0, a: 0, b: 0 }),
+        Some(names) => match few_call_of(names, nr, a, b) {
+            Some(made) => Ok(made),
+            None => Err(TextFault::Unresolved { n }),
+        },
+    }
+}
+
+// The number of the fork(2) that line `n` asks for, and the program of its child.
 #[tactic(auto, unfolding(crate::specs::Reading::resolved, crate::specs::Scenario::call_of))]
 fn resolve_fork(
     known: Option<&Names<'_>>,
     n: usize,
     child: Option<&[u8]>,
-) -> Result<ScriptCall, TextFault>
-    ensures exact { Judges (λ made. made) result (resolved (known_seen known.entry) n (fork_seen child.entry)) }
+) -> Result<(u32, Option<u32>), TextFault>
+    ensures exact { Judges (λ made. call_with made.0 [] made.1) result (resolved (known_seen known.entry) n (fork_seen child.entry)) }
 {
     let Some(names) = known else {
-        return Ok(ANY);
+        return Ok((0, None));
     };
     match child_of(names, child) {
-        Some(script) => Ok(ScriptCall {
-            call: Call {
-                nr: Syscall::Fork.number(),
-                args: [0; 6],
-            },
-            script,
-        }),
+        Some(script) => Ok((Syscall::Fork.number(), script)),
         None => Err(TextFault::Unresolved { n }),
     }
+}
+
+// Puts a call that names two arguments at most behind the others.
+#[inline(always)]
+fn put_few(calls: &mut Calls, made: FewCall) -> Result<(), AllocError>
+    requires few { length calls.old < 1000 }
+    ensures pushed { OnOk result (calls.new ≡ calls.old ++ few_made made ∷ []) }
+    ensures kept { OnErr result (calls.new ≡ calls.old) }
+{
+    let FewCall { nr, a, b } = made;
+    if b != 0 {
+        return calls.put(nr, &[a, b], None);
+    }
+    if a != 0 {
+        return calls.put(nr, &[a], None);
+    }
+    calls.put(nr, &[], None)
 }
 
 // Whether line `n` may ask for a call, behind so many calls.
@@ -186,8 +239,14 @@ pub(crate) fn add_call(
         ProgramLine::Silent => Ok(()),
         ProgramLine::Fork(child) => {
             judge_count(n, calls.len())?;
-            let made = resolve_fork(known, n, child)?;
-            calls.push(made)?;
+            let (nr, script) = resolve_fork(known, n, child)?;
+            calls.put(nr, &[], script)?;
+            Ok(())
+        }
+        ProgramLine::Few(nr, a, b) => {
+            judge_count(n, calls.len())?;
+            let made = resolve_few(known, n, nr, a, b)?;
+            put_few(calls, made)?;
             Ok(())
         }
         ProgramLine::Call(nr, arguments) => {

@@ -16,7 +16,7 @@ use crate::state::{Block, Names};
 use crate::top::check_line;
 use sk_asm::{AsmFault, assemble_block};
 use sk_insn::write_insns;
-use sk_text::{HexFault, Words, bytes_of, is_passed_over, is_word};
+use sk_text::{HexFault, Words, bytes_of, is_passed_over, is_same};
 use std::alloc::{AllocError, Global};
 
 // The most bytes that a filter's image may have.
@@ -38,7 +38,7 @@ fn image_bytes(
     let Some(first) = words.next() else {
         return Ok(Err(TextFault::Line { n }));
     };
-    if !is_word(first, b"bytes") {
+    if !is_same(first, b"bytes") {
         return Ok(Err(TextFault::Line { n }));
     }
     match bytes_of(alloc, words) {
@@ -118,7 +118,7 @@ fn begins_bytes(line: &[u8]) -> bool
     ensures exact { result ≡ begins_bytes (words_of line.now) }
 {
     match Words(line).next() {
-        Some(word) => is_word(word, b"bytes"),
+        Some(word) => is_same(word, b"bytes"),
         None => false,
     }
 }

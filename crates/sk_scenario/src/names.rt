@@ -9,7 +9,7 @@ use crate::state::Names;
 use memchr::memmem::Finder;
 use memchr::memrchr;
 use sk_asm::is_end;
-use sk_text::{Lines, is_word};
+use sk_text::{Lines, is_same};
 use std::alloc::{AllocError, Global};
 
 // The most names that a scenario gives: 256 of filters, and 256 of programs.
@@ -128,13 +128,13 @@ fn is_same_at(names: &Names<'_>, others: &Names<'_>, at: usize) -> bool
     ensures same { IsTrue result → slice_get (names_seen names.now) at ≡ slice_get (names_seen others.now) at }
 {
     match (names.get_index(at), others.get_index(at)) {
-        (Some((name, what)), Some((other, that))) => is_word(*name, *other)
-            && is_same(*what, *that),
+        (Some((name, what)), Some((other, that))) => is_same(*name, *other)
+            && is_same_block(*what, *that),
         _ => false,
     }
 }
 
-fn is_same(what: Named, that: Named) -> bool
+fn is_same_block(what: Named, that: Named) -> bool
     ensures same { IsTrue result → what ≡ that }
 {
     match (what, that) {

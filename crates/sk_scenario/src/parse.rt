@@ -1,16 +1,16 @@
 //! Lines as what they say.
-ghost use Rattle.std.specs.Prelude.{◌≡◌, ◌==◌, ◌∷◌, [], ℕ, drop, Some, Ok, IfSome, slice_index};
+ghost use Rattle.std.specs.Prelude.{◌≡◌, ◌==◌, ℕ, drop, Some, Ok, IfSome, slice_index};
 ghost use Rattle.std.specs.Option.{option_map};
 ghost use Rattle.sk_text.specs.Lines.{words_of};
 ghost use Rattle.sk_text.specs.Numbers.{up_to};
-ghost use Rattle.sk_scenario.specs.Grammar.{Plain, only_if_name, only_name, setuid_with, setuid_of, owned, program_by, program_of, turns_of, headed, heading_in, heading_of, decimal_of, argument_of, next_argument, arguments_of, asked_with, forked, numbered, asked, asked_in, asked_of};
-ghost use Rattle.sk_scenario.specs.views.ScenarioCode.{heading, argument_seen, arguments_seen, fork_seen, line_seen};
+ghost use Rattle.sk_scenario.specs.Grammar.{only_if_name, only_name, setuid_with, setuid_of, owned, program_by, program_of, turns_of, headed, heading_in, heading_of, decimal_of, argument_of, next_argument, arguments_of, asked_with, forked, numbered, asked, asked_in, asked_of};
+ghost use Rattle.sk_scenario.specs.views.ScenarioCode.{heading, argument_seen, fork_seen, line_seen};
 ghost use Rattle.sk_scenario.specs.Reading.{checked};
 
 use crate::call_names::call_named;
 use crate::line::{Argument, Arguments, ProgramLine, TopLine};
 use sk_calls::Syscall;
-use sk_text::{Words, is_name, is_number, is_word, no_word, number_up_to, one_word};
+use sk_text::{Words, is_name, is_number, is_same, no_word, number_up_to, one_word};
 
 // Whether a comment begins with the word.
 fn is_comment(word: &[u8]) -> bool
@@ -37,7 +37,7 @@ fn only_name<'a>(words: Words<'a>) -> Option<&'a [u8]>
 fn setuid_with(word: &[u8], words: Words<'_>) -> Option<bool>
     ensures exact { result ≡ setuid_with word.now (words_of words.entry.0.now) }
 {
-    if !is_word(word, b"setuid") {
+    if !is_same(word, b"setuid") {
         return None;
     }
     no_word(words)?;
@@ -68,7 +68,7 @@ fn program_by<'a>(name: &'a [u8], mut words: Words<'a>) -> Option<TopLine<'a>>
     let Some(word) = words.next() else {
         return Some(TopLine::Program(name, 0, false));
     };
-    if is_word(word, b"owner") {
+    if is_same(word, b"owner") {
         return owned(name, words);
     }
     let setuid = setuid_with(word, words)?;
@@ -98,18 +98,18 @@ fn turns<'a>(words: Words<'a>) -> Option<TopLine<'a>>
 fn headed<'a>(first: &'a [u8], words: Words<'a>) -> Option<TopLine<'a>>
     ensures exact { option_map heading result ≡ headed first.now (words_of words.entry.0.now) }
 {
-    if is_word(first, b"turns") {
+    if is_same(first, b"turns") {
         return turns(words);
     }
-    if is_word(first, b"subreapers") {
+    if is_same(first, b"subreapers") {
         no_word(words)?;
         return Some(TopLine::Subreapers);
     }
-    if is_word(first, b"filter") {
+    if is_same(first, b"filter") {
         let name = only_name(words)?;
         return Some(TopLine::Filter(name));
     }
-    if is_word(first, b"program") {
+    if is_same(first, b"program") {
         program(words)
     } else {
         None
@@ -167,10 +167,10 @@ fn argument(word: &[u8]) -> Option<Argument<'_>>
 fn call_line<'a>(first: &'a [u8], words: Words<'a>) -> Option<ProgramLine<'a>>
     ensures exact { option_map line_seen result ≡ option_map Some (asked first.now (words_of words.entry.0.now)) }
 {
-    if is_word(first, b"call") {
+    if is_same(first, b"call") {
         return numbered(words);
     }
-    if is_word(first, Syscall::Fork.name().as_bytes()) {
+    if is_same(first, Syscall::Fork.name().as_bytes()) {
         return forked(words);
     }
     let call = call_named(first)?;
@@ -217,45 +217,20 @@ fn next_argument<'a>(words: &mut Words<'a>) -> Option<Argument<'a>>
     }
 }
 
-// Those of a call that names none.
-const NONE: Arguments<'static> = Arguments {
-    a: Argument::Plain(0),
-    b: Argument::Plain(0),
-    c: Argument::Plain(0),
-    d: Argument::Plain(0),
-    e: Argument::Plain(0),
-    f: Argument::Plain(0),
-};
-
-// Those of a call that names two at most.
-#[inline(always)]
-fn two_arguments<'a>(a: Argument<'a>, b: Argument<'a>) -> Arguments<'a>
-    ensures exact { arguments_seen result ≡ argument_seen a.entry ∷ argument_seen b.entry ∷ Plain 0 ∷ Plain 0 ∷ Plain 0 ∷ Plain 0 ∷ [] }
-{
-    Arguments {
-        a,
-        b,
-        c: Argument::Plain(0),
-        d: Argument::Plain(0),
-        e: Argument::Plain(0),
-        f: Argument::Plain(0),
-    }
-}
-
 #[tactic(auto, using(sk_text::proofs::Cuts::words_none))]
 fn called_with<'a>(nr: u32, mut words: Words<'a>) -> Option<ProgramLine<'a>>
     ensures exact { option_map line_seen result ≡ option_map Some (asked_with nr (words_of words.entry.0.now)) }
 {
     if words.0.is_empty() {
-        return Some(ProgramLine::Call(nr, NONE));
+        return Some(ProgramLine::Few(nr, Argument::Plain(0), Argument::Plain(0)));
     }
     let a = next_argument(&mut words)?;
     if words.0.is_empty() {
-        return Some(ProgramLine::Call(nr, two_arguments(a, Argument::Plain(0))));
+        return Some(ProgramLine::Few(nr, a, Argument::Plain(0)));
     }
     let b = next_argument(&mut words)?;
     if words.0.is_empty() {
-        return Some(ProgramLine::Call(nr, two_arguments(a, b)));
+        return Some(ProgramLine::Few(nr, a, b));
     }
     let c = next_argument(&mut words)?;
     let d = next_argument(&mut words)?;

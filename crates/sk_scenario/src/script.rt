@@ -1,6 +1,6 @@
 //! The calls of a program, kept closely: most of their registers are 0.
-ghost use Rattle.std.specs.Prelude.{◌≡◌, ◌+◌, ◌<◌, ◌≤◌, ◌^◌, ℕ, [], ◌∷◌, ◌++◌, IfSome, OnOk, OnErr, length, slice_get, slice_index, take, vec_len, vec_capacity};
-ghost use Rattle.sk_scenario.specs.views.Script.{arguments_kept, script_kept, call_kept, words_of_script, IsWithin, Grows};
+ghost use Rattle.std.specs.Prelude.{◌≡◌, ◌+◌, ◌<◌, ◌≤◌, ◌^◌, ℕ, [], ◌∷◌, ◌++◌, IfSome, IsTrue, OnOk, OnErr, length, slice_get, slice_index, vec_len, vec_capacity};
+ghost use Rattle.sk_scenario.specs.views.Script.{arguments_kept, script_kept, call_kept, call_with, words_of_script, IsWithin, Grows};
 
 use crate::ScriptCall;
 use sk_calls::Call;
@@ -69,7 +69,7 @@ impl Calls {
     {
         match self.heads.as_slice().get(at) {
             None => None,
-            Some(head) => Some(call_kept(self.words.as_slice(), *head)),
+            Some(head) => Some(call_kept(self.words.as_slice(), head)),
         }
     }
 
@@ -79,38 +79,88 @@ impl Calls {
         ensures pushed { OnOk result (self.new ≡ self.old ++ made ∷ []) }
         ensures kept { OnErr result (self.new ≡ self.old) }
     {
+        let args = made.call.args;
+        let count = count_of(&args);
+        self.put(made.call.nr, &args[..count], made.script)
+    }
+
+    /// The same of a call whose other arguments are 0.
+    #[inline(always)]
+    pub(crate) fn put(
+        &mut self,
+        nr: u32,
+        arguments: &[u64],
+        script: Option<u32>,
+    ) -> Result<(), AllocError>
+        requires few { length self.old < 1000 }
+        requires six { length arguments.now ≤ 6 }
+        ensures pushed { OnOk result (self.new ≡ self.old ++ call_with nr arguments.now script ∷ []) }
+        ensures kept { OnErr result (self.new ≡ self.old) }
+    {
         self.heads.reserve(1)?;
         self.words.reserve(MOST_WORDS)?;
-        let head = keep(&mut self.words, made);
+        let head = keep(&mut self.words, nr, arguments, script);
         self.heads.push_reserved(head);
         Ok(())
     }
 }
 
-fn call_kept(words: &[u64], head: Head) -> ScriptCall
-    requires within { IsWithin words.now head }
-    ensures { result ≡ call_kept words.now head }
+// Most calls have no word at all, so that is asked first.
+#[inline(always)]
+fn call_kept(words: &[u64], head: &Head) -> ScriptCall
+    requires within { IsWithin words.now head.now }
+    ensures { result ≡ call_kept words.now head.now }
 {
-    let first = head.first as usize;
-    let args = arguments_kept(words, first, head.count);
-    let script = if head.has_script {
-        Some(words[first + head.count as usize] as u32)
-    } else {
-        None
-    };
+    if head.count == 0 && !head.has_script {
+        return ScriptCall {
+            call: Call {
+                nr: head.nr,
+                args: [0; 6],
+            },
+            script: None,
+        };
+    }
     ScriptCall {
-        call: Call { nr: head.nr, args },
-        script,
+        call: Call {
+            nr: head.nr,
+            args: arguments_kept(words, head),
+        },
+        script: script_kept(words, head),
     }
 }
 
-fn arguments_kept(words: &[u64], first: usize, count: u8) -> [u64; 6]
+#[inline(always)]
+fn script_kept(words: &[u64], head: &Head) -> Option<u32>
+    requires within { IsWithin words.now head.now }
+    ensures { result ≡ script_kept words.now head.now }
+{
+    if head.has_script {
+        Some(words[head.first as usize + head.count as usize] as u32)
+    } else {
+        None
+    }
+}
+
+#[inline(always)]
+fn arguments_kept(words: &[u64], head: &Head) -> [u64; 6]
+    requires within { IsWithin words.now head.now }
+    ensures { result ≡ arguments_kept words.now head.now.first head.now.count }
+{
+    if head.count == 0 {
+        [0; 6]
+    } else {
+        some_arguments(words, head.first as usize, head.count)
+    }
+}
+
+#[inline(always)]
+fn some_arguments(words: &[u64], first: usize, count: u8) -> [u64; 6]
+    requires some { 1 ≤ count }
     requires few { count ≤ 6 }
     requires within { first + count ≤ length words.now }
     ensures { result ≡ arguments_kept words.now first count }
 {
     match count {
-        0 => [0; 6],
         1 => [words[first], 0, 0, 0, 0, 0],
         2 => [words[first], words[first + 1], 0, 0, 0, 0],
         3 => [words[first], words[first + 1], words[first + 2], 0, 0, 0],
@@ -142,29 +192,54 @@ fn arguments_kept(words: &[u64], first: usize, count: u8) -> [u64; 6]
 }
 
 // Puts the words of a call behind the others, and answers what else it is.
-fn keep(words: &mut Vec<u64>, made: ScriptCall) -> Head
+#[inline(always)]
+fn keep(words: &mut Vec<u64>, nr: u32, arguments: &[u64], script: Option<u32>) -> Head
+    requires six { length arguments.now ≤ 6 }
     requires room { vec_len words.old + 7 ≤ vec_capacity words.old }
     requires low { vec_len words.old < 2 ^ 16 }
     ensures grows { Grows words.old.items words.new.items }
     ensures within { IsWithin words.new.items result }
-    ensures same { call_kept words.new.items result ≡ made }
+    ensures same { call_kept words.new.items result ≡ call_with nr arguments.now script }
 {
     let first = words.len() as u16;
-    let count = count_of(&made.call.args);
-    keep_arguments(words, &made.call.args, count);
-    keep_script(words, made.script);
+    let count = arguments.len() as u8;
+    keep_arguments(words, arguments);
+    keep_script(words, script);
     Head {
-        nr: made.call.nr,
+        nr,
         first,
-        count: count as u8,
-        has_script: made.script.is_some(),
+        count,
+        has_script: script.is_some(),
     }
 }
 
-// How many arguments there are down to the last that is not 0.
+// How many arguments there are down to the last that is not 0. Most calls have two at most.
+#[inline(always)]
+#[tactic(auto, using(crate::proofs::Zeros::zero_before))]
 fn count_of(args: &[u64; 6]) -> usize
     ensures few { result ≤ 6 }
     ensures six { length args.now ≡ 6 }
+    ensures rest { (k : ℕ) → result ≤ k → slice_index args.now k ≡ 0 }
+{
+    if !are_two_at_most(args) {
+        return count_of_many(args);
+    }
+    if args[1] != 0 {
+        return 2;
+    }
+    if args[0] != 0 { 1 } else { 0 }
+}
+
+#[inline(always)]
+#[tactic(auto, using(crate::proofs::Zeros::zero_from_two))]
+fn are_two_at_most(args: &[u64; 6]) -> bool
+    ensures rest { IsTrue result → (k : ℕ) → 2 ≤ k → slice_index args.now k ≡ 0 }
+{
+    args[2] == 0 && args[3] == 0 && args[4] == 0 && args[5] == 0
+}
+
+fn count_of_many(args: &[u64; 6]) -> usize
+    ensures few { result ≤ 6 }
     ensures rest { (k : ℕ) → result ≤ k → slice_index args.now k ≡ 0 }
 {
     let mut count = 6;
@@ -174,15 +249,14 @@ fn count_of(args: &[u64; 6]) -> usize
     count
 }
 
-fn keep_arguments(words: &mut Vec<u64>, args: &[u64; 6], count: usize)
-    requires few { count ≤ 6 }
-    requires room { vec_len words.old + count ≤ vec_capacity words.old }
-    ensures items { words.new.items ≡ words.old.items ++ take count args.now }
-    ensures len { vec_len words.new ≡ vec_len words.old + count }
+fn keep_arguments(words: &mut Vec<u64>, arguments: &[u64])
+    requires room { vec_len words.old + length arguments.now ≤ vec_capacity words.old }
+    ensures items { words.new.items ≡ words.old.items ++ arguments.now }
+    ensures len { vec_len words.new ≡ vec_len words.old + length arguments.now }
     ensures capacity { vec_capacity words.new ≡ vec_capacity words.old }
 {
-    for at in 0..count {
-        words.push_reserved(args[at]);
+    for at in 0..arguments.len() {
+        words.push_reserved(arguments[at]);
     }
 }
 

@@ -97,27 +97,12 @@ weaker-further : (weak one held : Held) → Weaker weak one → Weaker one held 
 weaker-further weak one held (inl same) h = subst (λ x. Weaker x held) (sym same) h
 weaker-further weak one held (inr none) h = inr none
 
-joined-one : (one second : Held) → Weaker (joined one second) one
-joined-one Number Number = inl refl
-joined-one Number Architecture = inr refl
-joined-one Number Other = inr refl
-joined-one Architecture Number = inr refl
-joined-one Architecture Architecture = inl refl
-joined-one Architecture Other = inr refl
-joined-one Other Number = inr refl
-joined-one Other Architecture = inr refl
-joined-one Other Other = inr refl
-
-joined-second : (one second : Held) → Weaker (joined one second) second
-joined-second Number Number = inl refl
-joined-second Number Architecture = inr refl
-joined-second Number Other = inr refl
-joined-second Architecture Number = inr refl
-joined-second Architecture Architecture = inl refl
-joined-second Architecture Other = inr refl
-joined-second Other Number = inr refl
-joined-second Other Architecture = inr refl
-joined-second Other Other = inr refl
+joined-both : (one second : Held) → Weaker (joined one second) one × Weaker (joined one second) second
+joined-both Number Number = (inl refl, inl refl)
+joined-both Architecture Architecture = (inl refl, inl refl)
+joined-both Number second = (inr refl, inr refl)
+joined-both Architecture second = (inr refl, inr refl)
+joined-both Other second = (inr refl, inr refl)
 
 -- a way is there, and on it no more is known
 abbrev AtMost : Held → Option Held → Type 0
@@ -126,20 +111,20 @@ AtMost held (Some way) = Weaker way held
 
 keeps-way : (held : Held) (way : Option Held) (second : Held) → AtMost held way → AtMost held (joined_ways way (Some second))
 keeps-way held None second h = absurd h
-keeps-way held (Some way) second h = weaker-further (joined way second) way held (joined-one way second) h
+keeps-way held (Some way) second h = weaker-further (joined way second) way held (joined-both way second).0 h
 
 brings-way : (held : Held) (way : Option Held) → AtMost held (joined_ways way (Some held))
 brings-way held None = inl refl
-brings-way held (Some way) = joined-second way held
+brings-way held (Some way) = (joined-both way held).1
 
 before-jump : (held : Held) (jump next : Option Held) → AtMost held jump → Weaker (held_before jump next) held
 before-jump held None next h = absurd h
 before-jump held (Some way) None h = h
-before-jump held (Some way) (Some second) h = weaker-further (joined way second) way held (joined-one way second) h
+before-jump held (Some way) (Some second) h = weaker-further (joined way second) way held (joined-both way second).0 h
 
 before-next : (held : Held) (jump : Option Held) → Weaker (held_before jump (Some held)) held
 before-next held None = inl refl
-before-next held (Some way) = joined-second way held
+before-next held (Some way) = (joined-both way held).1
 
 -- ---- a whole filter
 
@@ -158,25 +143,37 @@ way-within at n jumps next insns way e =
     omega arith
 
 -- what is noted of a jump to a place is not lost until there
+module _ (P : Option Held → Type 0) (keeps : (way : Option Held) (held : Held) → P way → P (joined_ways way (Some held)))
+    (R : Way → Type 0) (meets : (jump next : Option Held) → P jump → R (record { jump = jump; held = held_before jump next })) where
+  pub stays-there : (at n : ℕ) (jumps : Jumps) (next : Option Held) (insns : List Insn) (way : Way) → at + length insns ≡ length jumps → P (jump_to jumps (at + n))
+      → slice_get (ways_from at jumps next insns) n ≡ Some way → R way
+  unfolding ways_from
+  stays-there at n jumps next [] way len h e = cc
+  stays-there at zero jumps next (given ∷ insns) way len h e =
+      let here : at + zero ≡ at = omega arith in
+      let there : P (jump_to jumps at) = rw here at h in
+      subst R (some-same (record { jump = jump_to jumps at; held = held_before (jump_to jumps at) next }) way e) (meets (jump_to jumps at) next there)
+  stays-there at (suc n) jumps next (given ∷ insns) way len h e =
+      let goes = onward at (operation_of given.code) given in
+      let behind = held_behind (operation_of given.code) given (held_before (jump_to jumps at) next) in
+      let place : at + suc n ≡ at + 1 + n = omega arith in
+      let within = way-within (at + 1) n (jumps_behind at goes behind jumps) (next_behind at goes behind) insns way e in
+      let there : P (jump_to jumps (at + 1 + n)) = rw place at h in
+      let size = jumps-length at goes behind jumps in
+      let inside : at + 1 + n < length jumps = omega arith in
+      stays-there (at + 1) n (jumps_behind at goes behind jumps) (next_behind at goes behind) insns way (omega (arith, size))
+      (kept-jump P keeps at (at + 1 + n) goes behind jumps inside there) e
+
 kept-there : (at n : ℕ) (jumps : Jumps) (next : Option Held) (insns : List Insn) (way : Way) (held : Held) → at + length insns ≡ length jumps
     → AtMost held (jump_to jumps (at + n)) → slice_get (ways_from at jumps next insns) n ≡ Some way → Weaker way.held held
-unfolding ways_from
-kept-there at n jumps next [] way held len h e = cc
-kept-there at zero jumps next (given ∷ insns) way held len h e =
-    let here : at + zero ≡ at = omega arith in
-    let there : AtMost held (jump_to jumps at) = rw here at h in
-    let same = some-same (record { jump = jump_to jumps at; held = held_before (jump_to jumps at) next }) way e in
-    subst (λ (w : Way). Weaker w.held held) same (before-jump held (jump_to jumps at) next there)
-kept-there at (suc n) jumps next (given ∷ insns) way held len h e =
-    let goes = onward at (operation_of given.code) given in
-    let behind = held_behind (operation_of given.code) given (held_before (jump_to jumps at) next) in
-    let place : at + suc n ≡ at + 1 + n = omega arith in
-    let within = way-within (at + 1) n (jumps_behind at goes behind jumps) (next_behind at goes behind) insns way e in
-    let there : AtMost held (jump_to jumps (at + 1 + n)) = rw place at h in
-    let size = jumps-length at goes behind jumps in
-    let inside : at + 1 + n < length jumps = omega arith in
-    kept-there (at + 1) n (jumps_behind at goes behind jumps) (next_behind at goes behind) insns way held (omega (arith, size))
-    (kept-jump (AtMost held) (keeps-way held) at (at + 1 + n) goes behind jumps inside there) e
+kept-there at n jumps next insns way held = stays-there (AtMost held) (keeps-way held) (λ way. Weaker way.held held) (before-jump held) at n jumps next insns way
+
+-- the same instruction, places and aims by other terms
+pub goes-at : (to to' from from' : ℕ) (one other : Insn) → to ≡ to' → from ≡ from' → one ≡ other → GoesTo to (onward from (operation_of one.code) one)
+    → GoesTo to' (onward from' (operation_of other.code) other)
+goes-at to to' from from' one other e f same goes =
+    subst (λ (i : Insn). GoesTo to' (onward from' (operation_of i.code) i)) same
+    (subst (λ (p : ℕ). GoesTo to' (onward p (operation_of one.code) one)) f (subst (λ (p : ℕ). GoesTo p (onward from (operation_of one.code) one)) e goes))
 
 goes-true : (place : ℕ) (goes : Onward) → GoesTo place goes → goes_to place goes ≡ true
 goes-true place Nowhere h = absurd h
@@ -219,12 +216,7 @@ led-there at n zero jumps next (first ∷ insns) given way there len before is e
 led-there at zero (suc m) jumps next (first ∷ insns) given way there len before is e goes f =
     let this = some-same first given is in
     let same = some-same (record { jump = jump_to jumps at; held = held_before (jump_to jumps at) next }) way e in
-    let here : at + zero ≡ at = omega arith in
-    let place : at + suc m ≡ at + 1 + m = omega arith in
-    let to : GoesTo (at + 1 + m) (onward at (operation_of first.code) first) =
-    subst (λ (i : Insn). GoesTo (at + 1 + m) (onward at (operation_of i.code) i)) (sym this)
-    (subst (λ (p : ℕ). GoesTo p (onward at (operation_of given.code) given)) place (subst (λ (q : ℕ). GoesTo (at + suc m) (onward q (operation_of given.code) given)) here goes))
-    in
+    let to = goes-at (at + suc m) (at + 1 + m) (at + zero) at given first (omega arith) (omega arith) (sym this) goes in
     subst (λ (w : Way). Weaker there.held (held_behind (operation_of given.code) given w.held)) same
     (subst (λ (i : Insn). Weaker there.held (held_behind (operation_of i.code) i (held_before (jump_to jumps at) next))) this
     (leads-there at m jumps next first insns there len to f))
@@ -232,12 +224,7 @@ led-there at (suc n) (suc m) jumps next (first ∷ insns) given way there len be
     let on = onward at (operation_of first.code) first in
     let behind = held_behind (operation_of first.code) first (held_before (jump_to jumps at) next) in
     let size = jumps-length at on behind jumps in
-    let from : at + suc n ≡ at + 1 + n = omega arith in
-    let place : at + suc m ≡ at + 1 + m = omega arith in
-    let to : GoesTo (at + 1 + m) (onward (at + 1 + n) (operation_of given.code) given) =
-    subst (λ (p : ℕ). GoesTo p (onward (at + 1 + n) (operation_of given.code) given)) place
-    (subst (λ (q : ℕ). GoesTo (at + suc m) (onward q (operation_of given.code) given)) from goes)
-    in
+    let to = goes-at (at + suc m) (at + 1 + m) (at + suc n) (at + 1 + n) given given (omega arith) (omega arith) refl goes in
     led-there (at + 1) n m (jumps_behind at on behind jumps) (next_behind at on behind) insns given way there (omega (arith, size)) (omega arith) is e to f
 
 -- nothing is known at the first
@@ -263,15 +250,8 @@ notes_are_right insns call (suc steps) place s there small (before, earlier, com
     let way = way-there (ways_to insns) before (omega arith) in
     let held_so = notes_are_right insns call steps before earlier way.0 small comes way.1 in
     let next = behind-held (operation_of given.code) given call earlier s skip way.0.held small does held_so in
-    let place_is : before + (1 + skip) ≡ place = omega arith in
-    let goes : GoesTo place (onward before (operation_of given.code) given) =
-    subst (λ (p : ℕ). GoesTo p (onward before (operation_of given.code) given)) place_is (leads_to before (operation_of given.code) given call earlier skip s does)
-    in
-    let from : before ≡ 0 + before = omega arith in
-    let at : place ≡ 0 + place = omega arith in
-    let goes_from : GoesTo (0 + place) (onward (0 + before) (operation_of given.code) given) =
-    subst (λ (p : ℕ). GoesTo p (onward (0 + before) (operation_of given.code) given)) at
-    (subst (λ (q : ℕ). GoesTo place (onward q (operation_of given.code) given)) from goes)
+    let goes_from =
+    goes-at (before + (1 + skip)) (0 + place) before (0 + before) given given (omega arith) (omega arith) refl (leads_to before (operation_of given.code) given call earlier skip s does)
     in
     let none : length (replicate {A = Option Held} (length insns) None) ≡ length insns = length-replicate (length insns) None in
     let weaker =

@@ -68,7 +68,7 @@ module _ (P : Option Held → Type 0) (keeps : (way : Option Held) (held : Held)
 abbrev pub HasJump : Jumps → ℕ → Type 0
 HasJump jumps place = is_some (jump_to jumps place) ≡ true
 
-joined-some : (way : Option Held) (held : Held) → is_some (joined_ways way (Some held)) ≡ true
+pub joined-some : (way : Option Held) (held : Held) → is_some (joined_ways way (Some held)) ≡ true
 joined-some None held = refl
 joined-some (Some one) held = refl
 

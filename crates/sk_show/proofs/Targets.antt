@@ -10,31 +10,15 @@ use Rattle.sk_show.specs.declared.held.Held.{Held}
 use Rattle.sk_show.specs.declared.held.Held.TheVariants.{Other}
 use Rattle.sk_show.specs.Holding.{Jumps, Way, held_before, held_behind, joined_ways, jump_to, jumps_behind, landed, next_behind, went, ways_from, ways_to}
 use Rattle.sk_show.specs.NoteLaws.{LabelsAreTargets}
-use Rattle.sk_show.proofs.InRuns.{some-same, way-within}
-use Rattle.sk_show.proofs.Landing.{HasJump, has-jump, jumps-length, still-jump}
+use Rattle.sk_show.proofs.InRuns.{goes-at, some-same, stays-there, way-within}
+use Rattle.sk_show.proofs.Landing.{HasJump, has-jump, joined-some, jumps-length}
 
 -- ---- each jump has its label
 
 -- a jump that is noted is so until its place
 noted-there : (at n : ℕ) (jumps : Jumps) (next : Option Held) (insns : List Insn) (way : Way) → at + length insns ≡ length jumps → HasJump jumps (at + n)
     → slice_get (ways_from at jumps next insns) n ≡ Some way → is_some way.jump ≡ true
-unfolding ways_from
-noted-there at n jumps next [] way len h e = cc
-noted-there at zero jumps next (given ∷ insns) way len h e =
-    let here : at + zero ≡ at = omega arith in
-    let there : HasJump jumps at = rw here at h in
-    let same = some-same (record { jump = jump_to jumps at; held = held_before (jump_to jumps at) next }) way e in
-    subst (λ (w : Way). is_some w.jump ≡ true) same there
-noted-there at (suc n) jumps next (given ∷ insns) way len h e =
-    let goes = onward at (operation_of given.code) given in
-    let behind = held_behind (operation_of given.code) given (held_before (jump_to jumps at) next) in
-    let place : at + suc n ≡ at + 1 + n = omega arith in
-    let within = way-within (at + 1) n (jumps_behind at goes behind jumps) (next_behind at goes behind) insns way e in
-    let there : HasJump jumps (at + 1 + n) = rw place at h in
-    let size = jumps-length at goes behind jumps in
-    let inside : at + 1 + n < length jumps = omega arith in
-    noted-there (at + 1) n (jumps_behind at goes behind jumps) (next_behind at goes behind) insns way (omega (arith, size))
-    (still-jump at (at + 1 + n) goes behind jumps inside there) e
+noted-there = stays-there (λ way. is_some way ≡ true) (λ way held h. joined-some way held) (λ way. is_some way.jump ≡ true) (λ jump next h. h)
 
 target-noted : (at n m : ℕ) (jumps : Jumps) (next : Option Held) (insns : List Insn) (given : Insn) (there : Way) → at + length insns ≡ length jumps → n + 1 < m
     → slice_get insns n ≡ Some given → GoesTo (at + m) (onward (at + n) (operation_of given.code) given)
@@ -46,12 +30,7 @@ target-noted at zero (suc m) jumps next (first ∷ insns) given there len before
     let on = onward at (operation_of first.code) first in
     let behind = held_behind (operation_of first.code) first (held_before (jump_to jumps at) next) in
     let same = some-same first given is in
-    let here : at + zero ≡ at = omega arith in
-    let place : at + suc m ≡ at + 1 + m = omega arith in
-    let to : GoesTo (at + 1 + m) on =
-    subst (λ (i : Insn). GoesTo (at + 1 + m) (onward at (operation_of i.code) i)) (sym same)
-    (subst (λ (p : ℕ). GoesTo p (onward at (operation_of given.code) given)) place (subst (λ (q : ℕ). GoesTo (at + suc m) (onward q (operation_of given.code) given)) here goes))
-    in
+    let to = goes-at (at + suc m) (at + 1 + m) (at + zero) at given first (omega arith) (omega arith) (sym same) goes in
     let within = way-within (at + 1) m (jumps_behind at on behind jumps) (next_behind at on behind) insns there e in
     let size = jumps-length at on behind jumps in
     noted-there (at + 1) m (jumps_behind at on behind jumps) (next_behind at on behind) insns there (omega (arith, size))
@@ -60,12 +39,7 @@ target-noted at (suc n) (suc m) jumps next (first ∷ insns) given there len bef
     let on = onward at (operation_of first.code) first in
     let behind = held_behind (operation_of first.code) first (held_before (jump_to jumps at) next) in
     let size = jumps-length at on behind jumps in
-    let from : at + suc n ≡ at + 1 + n = omega arith in
-    let place : at + suc m ≡ at + 1 + m = omega arith in
-    let to : GoesTo (at + 1 + m) (onward (at + 1 + n) (operation_of given.code) given) =
-    subst (λ (p : ℕ). GoesTo p (onward (at + 1 + n) (operation_of given.code) given)) place
-    (subst (λ (q : ℕ). GoesTo (at + suc m) (onward q (operation_of given.code) given)) from goes)
-    in
+    let to = goes-at (at + suc m) (at + 1 + m) (at + suc n) (at + 1 + n) given given (omega arith) (omega arith) refl goes in
     target-noted (at + 1) n m (jumps_behind at on behind jumps) (next_behind at on behind) insns given there (omega (arith, size)) (omega arith) is to e
 
 -- ---- each label has its jump
@@ -121,19 +95,12 @@ label-from at (suc m) jumps next (given ∷ insns) way e h =
       | inl noted ↦ elim (behind-from at (at + 1 + m) on behind jumps noted) [
         | inl earlier ↦ inl (subst (λ (p : ℕ). HasJump jumps p) place earlier)
         | inr this ↦
-            let here : at ≡ at + zero = omega arith in
             let other = this.1 in
-            let to : GoesTo (at + suc m) (onward (at + zero) (operation_of given.code) given) =
-            subst (λ (q : ℕ). GoesTo (at + suc m) (onward q (operation_of given.code) given)) here (subst (λ (p : ℕ). GoesTo p on) place this.0)
-            in
+            let to = goes-at (at + 1 + m) (at + suc m) at (at + zero) given given (omega arith) (omega arith) refl this.0 in
             inr (zero, (given, omega arith, refl, to))
       ]
       | inr (n, (first, before, is, goes)) ↦
-          let from : at + 1 + n ≡ at + suc n = omega arith in
-          let to : GoesTo (at + suc m) (onward (at + suc n) (operation_of first.code) first) =
-          subst (λ (q : ℕ). GoesTo (at + suc m) (onward q (operation_of first.code) first)) from
-          (subst (λ (p : ℕ). GoesTo p (onward (at + 1 + n) (operation_of first.code) first)) place goes)
-          in
+          let to = goes-at (at + 1 + m) (at + suc m) (at + 1 + n) (at + suc n) first first (omega arith) (omega arith) refl goes in
           inr (suc n, (first, omega arith, is, to))
     ]
 
@@ -145,23 +112,14 @@ none-yet (suc n) (suc place) = none-yet n place
 pub labels_are_targets : LabelsAreTargets
 unfolding ways_to
 labels_are_targets insns place way e =
-    let size : length (replicate {A = Option Held} (length insns) None) ≡ length insns = length-replicate (length insns) None in
-    let there : 0 + place ≡ place = omega arith in (
+    let size : length (replicate {A = Option Held} (length insns) None) ≡ length insns = length-replicate (length insns) None in (
       λ h. elim (label-from 0 place (replicate (length insns) None) (Some Other) insns way e h) [
         | inl noted ↦ absurd (false≢true (sym (ap is_some (none-yet (length insns) (0 + place))) ∙ noted))
         | inr (n, (given, before, is, goes)) ↦
-            let from : 0 + n ≡ n = omega arith in
-            let to : GoesTo place (onward n (operation_of given.code) given) =
-            subst (λ (q : ℕ). GoesTo place (onward q (operation_of given.code) given)) from
-            (subst (λ (p : ℕ). GoesTo p (onward (0 + n) (operation_of given.code) given)) there goes)
-            in
+            let to = goes-at (0 + place) place (0 + n) n given given (omega arith) (omega arith) refl goes in
             (n, before, (given, is, to))
       ],
       λ target.
-          let from : target.0 ≡ 0 + target.0 = omega arith in
-          let goes : GoesTo (0 + place) (onward (0 + target.0) (operation_of target.2.0.code) target.2.0) =
-          subst (λ (p : ℕ). GoesTo p (onward (0 + target.0) (operation_of target.2.0.code) target.2.0)) (sym there)
-          (subst (λ (q : ℕ). GoesTo place (onward q (operation_of target.2.0.code) target.2.0)) from target.2.2)
-          in
+          let goes = goes-at place (0 + place) target.0 (0 + target.0) target.2.0 target.2.0 (omega arith) (omega arith) refl target.2.2 in
           target-noted 0 target.0 place (replicate (length insns) None) (Some Other) insns target.2.0 way (omega arith) target.1 target.2.1 goes e,
     )

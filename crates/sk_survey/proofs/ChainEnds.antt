@@ -3,8 +3,8 @@ use Rattle.std.proofs.Common.{◌≡◌, ℕ, ◌⊎◌, inl, inr, List, [], ◌
 use Rattle.std.specs.Option.{unwrap_or}
 use Rattle.sk_insn.specs.declared.insn.Insn.{Insn}
 use Rattle.sk_insn.specs.Actions.{allow}
-use Rattle.sk_filter.specs.Choosing.{chosen_of}
-use Rattle.sk_filter.proofs.Verdicts.{chosen_of_none}
+use Rattle.sk_filter.specs.Preceding.{preceding_of}
+use Rattle.sk_filter.proofs.Verdicts.{preceding_of_none}
 use Rattle.sk_survey.specs.Answers.{IsOneOf}
 use Rattle.sk_survey.specs.Ends.{OnlyComing, EachMayCome, AnyMayCome, OnlyVerdicts, IsFirstOfBoth, OnlyFirsts}
 
@@ -12,7 +12,7 @@ use Rattle.sk_survey.specs.Ends.{OnlyComing, EachMayCome, AnyMayCome, OnlyVerdic
 abbrev pub IsReached : List (List Insn) → List (List Insn) → ℕ → ℕ → Option ℕ → Type 0
 IsReached programs left first last so_far =
     (values : List ℕ) → EachMayCome left first last values
-    → (all : List ℕ) × EachMayCome programs first last all × (chosen_of so_far values ≡ chosen_of None all)
+    → (all : List ℕ) × EachMayCome programs first last all × (preceding_of so_far values ≡ preceding_of None all)
 
 abbrev pub OnlyReached : List (List Insn) → List (List Insn) → ℕ → ℕ → Option (List ℕ) → Type 0
 OnlyReached programs left first last None = AnyMayCome programs first last
@@ -40,7 +40,7 @@ reached_before programs left insns first last (Some newer) (Some older) (Some va
     by_first : (value : ℕ) → IsFirstOfBoth newer older value → IsReached programs left first last (Some value) ⊎ AnyMayCome programs first last
     by_first value (u, s, u_is, s_is, chooses) = elim (reached u u_is) [
       | inl so_far ↦ inl (λ rest come.
-          subst (λ o. (all : List ℕ) × EachMayCome programs first last all × (chosen_of o rest ≡ chosen_of None all)) chooses
+          subst (λ o. (all : List ℕ) × EachMayCome programs first last all × (preceding_of o rest ≡ preceding_of None all)) chooses
           (so_far (s ∷ rest) (only s s_is, come)))
       | inr any ↦ inr any
     ]
@@ -52,6 +52,6 @@ only_verdicts programs first last None reached = λ value among. inr (inl reache
 only_verdicts programs first last (Some values) reached = λ value is. elim (reached value is) [
   | inl so_far ↦
       let all = so_far [] tt in
-      inl (all.0, all.1, ap (λ o. unwrap_or o allow) all.2 ∙ chosen_of_none all.0)
+      inl (all.0, all.1, ap (λ o. unwrap_or o allow) all.2 ∙ preceding_of_none all.0)
   | inr any ↦ inr (inl any)
 ]

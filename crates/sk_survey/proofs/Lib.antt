@@ -7,7 +7,7 @@ pub mod WithoutArguments
 pub mod Settling
 pub mod Telling
 pub mod Merging
-pub mod Choosing
+pub mod Preceding
 pub mod ChainEnds
 pub mod WorkedRows
 pub mod Cutting

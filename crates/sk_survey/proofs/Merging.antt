@@ -6,7 +6,7 @@ use Rattle.std.proofs.lemmas.Bool.{cases_lt, eqb-true}
 use Rattle.std.specs.Option.{option_eq}
 use Rattle.std.proofs.lemmas.Int.{ints}
 use Rattle.sk_filter.specs.Verdict.{precedence_of}
-use Rattle.sk_filter.specs.Choosing.{chosen}
+use Rattle.sk_filter.specs.Preceding.{preceding}
 use Rattle.sk_survey.specs.Answers.{IsOneOf, IsRising}
 use Rattle.sk_survey.proofs.Rising.{one_at}
 
@@ -94,9 +94,9 @@ latest_is (first ∷ second ∷ values) (suc n) value latest fit rising long las
 pub first_among : (newer older values : List ℕ) (i j latest_newer latest_older : ℕ)
     → ((k : ℕ) → get_or newer k 0 < 2 ^ 32) → ((k : ℕ) → get_or older k 0 < 2 ^ 32) → IsRising newer → IsRising older
     → i + 1 ≡ length newer → slice_get newer i ≡ Some latest_newer → j + 1 ≡ length older → slice_get older j ≡ Some latest_older
-    → ((value : ℕ) → IsOneOf value newer → chosen (Some value) latest_older ≡ Some value → IsOneOf value values)
-    → ((value : ℕ) → IsOneOf value older → chosen (Some latest_newer) value ≡ Some value → IsOneOf value values)
-    → (u s first : ℕ) → IsOneOf u newer → IsOneOf s older → chosen (Some u) s ≡ Some first → IsOneOf first values
+    → ((value : ℕ) → IsOneOf value newer → preceding (Some value) latest_older ≡ Some value → IsOneOf value values)
+    → ((value : ℕ) → IsOneOf value older → preceding (Some latest_newer) value ≡ Some value → IsOneOf value values)
+    → (u s first : ℕ) → IsOneOf u newer → IsOneOf s older → preceding (Some u) s ≡ Some first → IsOneOf first values
 first_among newer older values i j latest_newer latest_older fit fit' rising rising' long last long' last' stays comes u s first is is' chooses =
     by_test (int_le (precedence_of u) (precedence_of s)) refl chooses where
       by_test : (b : Bool) → int_le (precedence_of u) (precedence_of s) ≡ b → (if b then Some u else Some s) ≡ Some first → IsOneOf first values

@@ -14,7 +14,7 @@ use Rattle.sk_filter.proofs.ValidPrograms.{valid_count, valid_leads}
 use Rattle.sk_filter.specs.Meaning.{Meaning, Returned, Stuck, State, Effect, effect, after_step, then_follows, meaning, meaning_of}
 use Rattle.sk_filter.proofs.Meanings.{meaning_at}
 use Rattle.sk_filter.proofs.ValidSteps.{leads_to}
-use Rattle.sk_filter.specs.Choosing.{chosen}
+use Rattle.sk_filter.specs.Preceding.{preceding}
 use Rattle.sk_survey.specs.declared.known.Known.TheVariants.{Any, Number, Is}
 use Rattle.sk_survey.specs.declared.known.Knowledge.{Knowledge}
 use Rattle.sk_survey.specs.declared.follow.Next.{Next}
@@ -23,7 +23,7 @@ use Rattle.sk_survey.specs.Answers.{IsOneOf, IsAmong, IsRising, AreRising}
 use Rattle.sk_survey.specs.Ends.{IsFirstOfBoth, IsCome}
 use Rattle.sk_survey.specs.Following.{DescribesState, Leads, TellsEnd, IsWhole, LeadsOneWay, IsUnknown, led, zeros}
 use Rattle.sk_survey.specs.Settling.{loads_argument, without_argument, without_arguments, TellsOne}
-use Rattle.sk_survey.proofs.Choosing.{some_first}
+use Rattle.sk_survey.proofs.Preceding.{some_first}
 use Rattle.sk_survey.proofs.WithoutArguments.{bare, no_operation, here_without, zeros_without}
 
 -- ---- one value
@@ -44,7 +44,7 @@ one_told (Some (x ∷ y ∷ values)) value other only among rising =
 
 -- of two values one comes first
 pub one_of_both : (newer older values : List ℕ) → TellsOne (Some newer) → TellsOne (Some older) → IsRising values
-    → ((u s first : ℕ) → IsOneOf u newer → IsOneOf s older → chosen (Some u) s ≡ Some first → IsOneOf first values)
+    → ((u s first : ℕ) → IsOneOf u newer → IsOneOf s older → preceding (Some u) s ≡ Some first → IsOneOf first values)
     → ((value : ℕ) → IsOneOf value values → IsFirstOfBoth newer older value)
     → TellsOne (Some values)
 one_of_both newer older values (u, u_is) (s, s_is) rising firsts only =
@@ -56,9 +56,9 @@ one_of_both newer older values (u, u_is) (s, s_is) rising firsts only =
     (firsts u s first.0 (subst (IsOneOf u) (sym newer_is) (inl refl)) (subst (IsOneOf s) (sym older_is) (inl refl)) first.1)
     rising
   where
-    by_first : (first : ℕ) → chosen (Some u) s ≡ Some first → (value : ℕ) → IsFirstOfBoth (u ∷ []) (s ∷ []) value → value ≡ first
+    by_first : (first : ℕ) → preceding (Some u) s ≡ Some first → (value : ℕ) → IsFirstOfBoth (u ∷ []) (s ∷ []) value → value ≡ first
     by_first first e value (u', s', inl u_same, inl s_same, chooses) =
-        let both : chosen (Some u) s ≡ Some value = subst (λ s. chosen (Some u) s ≡ Some value) s_same (subst (λ u. chosen (Some u) s' ≡ Some value) u_same chooses) in
+        let both : preceding (Some u) s ≡ Some value = subst (λ s. preceding (Some u) s ≡ Some value) s_same (subst (λ u. preceding (Some u) s' ≡ Some value) u_same chooses) in
         let same : Some value ≡ Some first = sym both ∙ e in
         cc
     by_first first e value (u', s', inr u_is, s_is, chooses) = absurd u_is

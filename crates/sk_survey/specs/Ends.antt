@@ -7,7 +7,7 @@ use Rattle.sk_insn.specs.declared.operation.Operation.{Operation}
 use Rattle.sk_insn.specs.declared.operation.Operation.TheVariants.{Compute, ReturnConstant, ReturnAccumulator}
 use Rattle.sk_insn.specs.Actions.{allow}
 use Rattle.sk_filter.specs.Paths.{At, IsPath}
-use Rattle.sk_filter.specs.Choosing.{chosen}
+use Rattle.sk_filter.specs.Preceding.{preceding}
 use Rattle.sk_filter.specs.Verdict.{first_of}
 use Rattle.sk_survey.specs.declared.merge.Side.{Side}
 use Rattle.sk_survey.specs.declared.merge.Side.TheVariants.{Newer, Older}
@@ -70,12 +70,12 @@ OnlyVerdicts programs first last values =
 
 -- which comes first of a value of this side and one of the other
 abbrev pub first_beside : Side → ℕ → ℕ → Option ℕ
-first_beside Newer value other = chosen (Some value) other
-first_beside Older value other = chosen (Some other) value
+first_beside Newer value other = preceding (Some value) other
+first_beside Older value other = preceding (Some other) value
 
 -- the value is the first of one of these, of a newer filter, and one of those, of an older filter
 abbrev pub IsFirstOfBoth : List ℕ → List ℕ → ℕ → Type 0
-IsFirstOfBoth newer older value = (u : ℕ) × (s : ℕ) × IsOneOf u newer × IsOneOf s older × (chosen (Some u) s ≡ Some value)
+IsFirstOfBoth newer older value = (u : ℕ) × (s : ℕ) × IsOneOf u newer × IsOneOf s older × (preceding (Some u) s ≡ Some value)
 
 -- where values are told of both, no value is told but such a one
 abbrev pub OnlyFirsts : Option (List ℕ) → Option (List ℕ) → Option (List ℕ) → Type 0

@@ -3,7 +3,7 @@ ghost use Rattle.std.specs.Prelude.{◌≡◌, ℕ, ◌⊎◌, IsOk, IfOk, [], �
 ghost use Rattle.std.specs.Option.{option_eq};
 ghost use Rattle.std.specs.Str.{bytes_eq};
 ghost use Rattle.sk_insn.specs.declared.record.Record.{Record};
-ghost use Rattle.sk_filter.specs.Choosing.{chosen};
+ghost use Rattle.sk_filter.specs.Preceding.{preceding};
 ghost use Rattle.sk_survey.specs.Answers.{answers_of, IsAmong, AreRising};
 ghost use Rattle.sk_survey.specs.Ends.{OnlyFirsts};
 ghost use Rattle.sk_survey.specs.Settling.{TellsOne};
@@ -70,7 +70,7 @@ impl Answers {
         requires older { AreRising (answers_of older) }
         ensures rising { IfOk result (λ answers. AreRising (answers_of answers)) }
         ensures first { IfOk result (λ answers. (u s first : ℕ) → IsAmong u (answers_of self)
-            → IsAmong s (answers_of older) → chosen (Some u) s ≡ Some first → IsAmong first (answers_of answers)) }
+            → IsAmong s (answers_of older) → preceding (Some u) s ≡ Some first → IsAmong first (answers_of answers)) }
         ensures only { IfOk result (λ answers. OnlyFirsts (answers_of self) (answers_of older) (answers_of answers)) }
         ensures settled { TellsOne (answers_of self) → TellsOne (answers_of older)
             → IfOk result (λ answers. TellsOne (answers_of answers)) }

@@ -1,11 +1,11 @@
 //! The first of a newer and an older value, over all that they can be.
 ghost use Rattle.std.specs.Prelude.{◌≡◌, ℕ, ◌⊎◌, Some, IfOk};
-ghost use Rattle.sk_filter.specs.Choosing.{chosen};
+ghost use Rattle.sk_filter.specs.Preceding.{preceding};
 ghost use Rattle.sk_survey.specs.Answers.{IsOneOf, IsRising};
 ghost use Rattle.sk_survey.specs.Ends.{IsFirstOfBoth, first_beside};
 
 use crate::values::insert;
-use sk_filter::sooner;
+use sk_filter::preceding;
 use std::alloc::{AllocError, Global};
 
 /// Whose value it is: the newer filter's, or an older one's.
@@ -15,15 +15,15 @@ enum Side {
     Older,
 }
 
-/// What comes first where the newer value is one of these and the older one of those: a newer value stays where an
-/// older one has no sooner action, and an older one comes in where a newer one has a later action. As the values
-/// rise, the last one of the other set tells.
+/// What takes precedence where the newer value is one of these and the older one of those: a newer value stays where
+/// it has precedence over some older one, or an equal action, and an older one comes in where it has precedence over
+/// some newer one. As the values rise, the last one of the other set tells.
 pub(crate) fn merge(alloc: Global, newer: &[u32], older: &[u32]) -> Result<Vec<u32>, AllocError>
     requires newer { IsRising newer.now }
     requires older { IsRising older.now }
     ensures rising { IfOk result (λ values. IsRising values.items) }
     ensures first { IfOk result (λ values. (u s first : ℕ) → IsOneOf u newer.now → IsOneOf s older.now
-        → chosen (Some u) s ≡ Some first → IsOneOf first values.items) }
+        → preceding (Some u) s ≡ Some first → IsOneOf first values.items) }
     ensures only { IfOk result (λ values. (value : ℕ) → IsOneOf value values.items
         → IsFirstOfBoth newer.now older.now value) }
 {
@@ -65,7 +65,7 @@ fn first_beside(side: Side, value: u32, other: u32) -> Option<u32>
     ensures { result ≡ first_beside side value other }
 {
     match side {
-        Side::Newer => sooner(Some(value), other),
-        Side::Older => sooner(Some(other), value),
+        Side::Newer => preceding(Some(value), other),
+        Side::Older => preceding(Some(other), value),
     }
 }

@@ -1,7 +1,7 @@
 //! Which verdict gets the line `else`: the one whose lines are the longest to read. Whichever it is, the lines are exact.
 use crate::lines::Line;
 use crate::term::Term;
-use sk_filter::sooner;
+use sk_filter::preceding;
 use std::alloc::{AllocError, Global};
 
 /// How long the lines of one verdict are to read.
@@ -70,7 +70,7 @@ fn heavier(one: Weight, other: Weight) -> Weight {
 
 fn precedes(one: Weight, other: Weight) -> bool {
     match (one.value, other.value) {
-        (Some(value), Some(another)) => sooner(Some(another), value) == Some(value),
+        (Some(value), Some(another)) => preceding(Some(another), value) == Some(value),
         _ => false,
     }
 }

@@ -2,7 +2,6 @@
 //! a word may be; and lines of output, made in place, with the digits that they show.
 #![tactic(auto)]
 
-mod digits;
 mod examples;
 mod hexadecimal;
 mod in_place;
@@ -10,13 +9,12 @@ mod lines;
 mod numbers;
 mod words;
 
-pub use digits::{HexDigits, hex_half, hex_word};
 pub use examples::{example_cuts, example_digits, example_words};
-pub use hexadecimal::{HexFault, bytes_of, bytes_of_text};
+pub use hexadecimal::{HexDigits, HexFault, bytes_of, bytes_of_text, hex_half, hex_word};
 pub use in_place::{Line, push_digit, push_long, push_number, push_signed};
 pub use lines::{Lines, Words, cut, is_clean, is_passed_over, is_printable};
 pub use numbers::{is_number, number_up_to};
-pub use words::{four_words, is_name, is_word, no_word, one_word, three_words, two_words};
+pub use words::{four_words, is_name, is_same, no_word, one_word, three_words, two_words};
 
 /// The most bytes that an input may have: a mebibyte.
 pub const MOST_BYTES: usize = 1_048_576;

@@ -8,11 +8,11 @@ ghost use Rattle.sk_text.specs.Words.{is_name, is_name_byte, is_letter, none_of,
 
 use crate::lines::Words;
 
-/// Whether a word is this one.
-pub fn is_word(word: &[u8], wanted: &[u8]) -> bool
-    ensures same { result ≡ bytes_eq word.now wanted.now }
+/// Whether the bytes are the others.
+pub fn is_same(bytes: &[u8], others: &[u8]) -> bool
+    ensures same { result ≡ bytes_eq bytes.now others.now }
 {
-    word == wanted
+    bytes == others
 }
 
 /// Whether a word is a name.

@@ -16,6 +16,7 @@ use Rattle.std.specs.declared.hash.FoldHasher.{FoldHasher}
 use Rattle.std.specs.declared.hash.BuildHasherDefault.{BuildHasherDefault}
 use Rattle.indexmap.specs.IndexMap.{IndexMap}
 use Rattle.sk_scenario.specs.declared.call.ScriptCall.{ScriptCall}
+use Rattle.sk_scenario.specs.declared.calls.FewCall.{FewCall}
 use Rattle.sk_scenario.specs.declared.call.Named.{Named}
 use Rattle.sk_scenario.specs.declared.call.Named.TheVariants as named
 use Rattle.sk_scenario.specs.declared.state.Done.{Done}
@@ -47,9 +48,17 @@ fork_seen child = record { nr = number_of syscall.Fork; arguments = replicate 6 
 abbrev pub call_seen : ℕ → Arguments → Asked
 call_seen nr arguments = record { nr = nr; arguments = arguments_seen arguments; child = None }
 
+abbrev pub few_seen : ℕ → CodeArgument → CodeArgument → Asked
+few_seen nr a b =
+    record { nr = nr; arguments = argument_seen a ∷ argument_seen b ∷ Plain 0 ∷ Plain 0 ∷ Plain 0 ∷ Plain 0 ∷ []; child = None }
+
+abbrev pub few_made : FewCall → ScriptCall
+few_made made = record { call = record { nr = made.nr; args = made.a ∷ made.b ∷ 0 ∷ 0 ∷ 0 ∷ 0 ∷ [] }; script = None }
+
 abbrev pub line_seen : ProgramLine → Option Asked
 line_seen program.Silent = None
 line_seen (program.Fork child) = Some (fork_seen child)
+line_seen (program.Few nr a b) = Some (few_seen nr a b)
 line_seen (program.Call nr arguments) = Some (call_seen nr arguments)
 
 -- ---- what was read

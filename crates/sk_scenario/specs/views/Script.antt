@@ -18,6 +18,18 @@ script_kept words head = if head.has_script then Some (slice_index words (head.f
 abbrev pub call_kept : List ℕ → Head → ScriptCall
 call_kept words head = record { call = record { nr = head.nr; args = arguments_kept words head.first head.count }; script = script_kept words head }
 
+-- the call of this number, whose arguments behind the given ones are 0
+abbrev pub call_with : ℕ → List ℕ → Option ℕ → ScriptCall
+call_with nr arguments script = record {
+  call = record {
+    nr = nr;
+    args =
+        slice_index arguments 0 ∷ slice_index arguments 1 ∷ slice_index arguments 2 ∷ slice_index arguments 3 ∷ slice_index arguments 4
+        ∷ slice_index arguments 5 ∷ [];
+  };
+  script = script;
+}
+
 abbrev pub words_of_script : Option ℕ → List ℕ
 words_of_script None = []
 words_of_script (Some script) = script ∷ []

@@ -7,7 +7,5 @@ use Rattle.sk_scenario.proofs.script.keep.Goals as goal
 pub returns-clause-same : goal.returns-clause-same
 returns-clause-same c =
     let old = c.args.words.now in
-    let made = c.args.made in
-    let items = c.keep_script.ensures.items ∙ ap (λ words. words ++ words_of_script made.script) c.keep_arguments.ensures.items ∙ append_assoc old.items _ _ in
-    rw (items, c.len-first.ensures, old.ok.0, c.is_some.ensures)
-    (kept_is old.items made.call.args c.count_of-count.result c.count_of-count.ensures.few c.count_of-count.ensures.six c.count_of-count.ensures.rest made.call.nr made.script)
+    let items = c.keep_script.ensures.items ∙ ap (λ words. words ++ words_of_script c.args.script) c.keep_arguments.ensures.items ∙ append_assoc old.items _ _ in
+    rw (items, c.len-first.ensures, old.ok.0, c.is_some.ensures) (kept_is old.items c.args.arguments.now c.args.nr c.args.script)

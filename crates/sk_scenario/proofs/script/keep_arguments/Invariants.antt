@@ -4,7 +4,7 @@ use Rattle.sk_scenario.proofs.script.keep_arguments.Given as goal
 -- the arguments so far stand behind the words that were there
 abbrev pub invariant-loop-at : goal.invariant-loop-at
 invariant-loop-at l = record {
-  items : l.words.items ≡ l.initial.words.items ++ take l.at l.args;
+  items : l.words.items ≡ l.initial.words.items ++ take l.at l.arguments;
   len : vec_len l.words ≡ vec_len l.initial.words + l.at;
   capacity : vec_capacity l.words ≡ vec_capacity l.initial.words;
 }

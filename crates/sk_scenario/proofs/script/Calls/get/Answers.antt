@@ -7,7 +7,7 @@ use Rattle.sk_scenario.specs.views.Script.{call_kept}
 use Rattle.sk_scenario.proofs.Keeping.{found, within_at}
 use Rattle.sk_scenario.proofs.script.Calls.get.Goals as goal
 
-there : (c : goal.After-call_kept-arg-1) → slice_get c.self.inside.heads.items c.args.at ≡ Some c.in-Some.head.now
+there : (c : goal.After-as_slice-in-Some) → slice_get c.self.inside.heads.items c.args.at ≡ Some c.in-Some.head.now
 there c =
     rw (sym c.as_slice.ensures.value) (found c.as_slice.result.now c.args.at c.in-Some.head.now (ltb-true _ _ (sym c.in-Some.ensures.lookup.0)) c.in-Some.ensures.lookup.1)
 

@@ -5,7 +5,7 @@ use Rattle.sk_survey.specs.Answers.{answers_of}
 use Rattle.sk_survey.specs.Ends.{AnyMayCome}
 use Rattle.sk_survey.specs.Settling.{AllSettle, TellsOne}
 use Rattle.sk_survey.proofs.ChainEnds.{OnlyReached, reached_newest, reached_before, only_verdicts}
-use Rattle.sk_survey.proofs.Choosing.{ComesTo, comes_newest, comes_before, verdict_among}
+use Rattle.sk_survey.proofs.Preceding.{ComesTo, comes_newest, comes_before, verdict_among}
 use Rattle.sk_survey.proofs.survey.Survey.follow_chain.Goals as goal
 
 pub loop-program-init : goal.loop-program-init

@@ -5,7 +5,7 @@ use Rattle.sk_survey.specs.Answers.{answers_of, AreRising, IsCallOf}
 use Rattle.sk_survey.specs.Ends.{AnyMayCome}
 use Rattle.sk_survey.specs.Settling.{AllSettle, TellsOne}
 use Rattle.sk_survey.proofs.ChainEnds.{OnlyReached}
-use Rattle.sk_survey.proofs.Choosing.{ComesTo}
+use Rattle.sk_survey.proofs.Preceding.{ComesTo}
 use Rattle.sk_survey.proofs.survey.Survey.follow_chain.Given as goal
 
 abbrev pub invariant-loop-program : goal.invariant-loop-program

@@ -1,7 +1,7 @@
 use Rattle.std.proofs.Common.{ℕ, List, sym, subst}
 use Rattle.std.specs.Str.{IsAscii}
 use Rattle.sk_text.proofs.Ascii.{IsAscii-encode_lower}
-use Rattle.sk_text.proofs.digits.HexDigits.of.Goals as goal
+use Rattle.sk_text.proofs.hexadecimal.HexDigits.of.Goals as goal
 
 pub invariant_of-result : goal.invariant_of-result
 invariant_of-result g c =
