@@ -2,7 +2,7 @@
 use sk_call_names::Architecture;
 use sk_filter::{Chain, Checked, check};
 use sk_insn::Insn;
-use sk_when::{dot, when};
+use sk_when::{Budget, Budgets, dot, when};
 use std::alloc::Global;
 use std::test::Fail;
 
@@ -183,7 +183,8 @@ fn small_filters(rt: HostRuntime) -> Result<(), Fail> {
     let alloc = rt.alloc();
     for (program, nr, wanted) in &rows(alloc)? {
         let chain = chain_of(alloc, program)?;
-        let text = when(alloc, Architecture::X86_64, &chain, Some(*nr))?;
+        let budgets = &mut Budgets::of_rows(1);
+        let text = when(alloc, Architecture::X86_64, &chain, Some(*nr), budgets)?;
         assert_eq!(rt; text.as_str(), *wanted, "at {wanted:?}");
     }
     Ok(())
@@ -204,7 +205,8 @@ fn names(rt: HostRuntime) -> Result<(), Fail> {
     let alloc = rt.alloc();
     let chain = chain_of(alloc, &[ret(ALLOW)])?;
     for (architecture, nr, wanted) in NAMES {
-        let text = when(alloc, *architecture, &chain, Some(*nr))?;
+        let budgets = &mut Budgets::of_rows(1);
+        let text = when(alloc, *architecture, &chain, Some(*nr), budgets)?;
         assert_eq!(rt; text.as_str(), *wanted, "at {wanted:?}");
     }
     Ok(())
@@ -221,7 +223,7 @@ fn picture(rt: HostRuntime) -> Result<(), Fail> {
         ret(ALLOW),
     ]?;
     let chain = chain_of(alloc, &program)?;
-    let text = dot(alloc, &chain, 56)?;
+    let text = dot(alloc, &chain, 56, &mut Budget::whole())?;
     let wanted =
         "digraph {\n  n0 [label=\"(args[0] & 0x7e020000) != 0\"];\n  n0 -> n1 [label=yes];\n  n1 [label=\"errno/1 EPERM\", style=filled, fillcolor=khaki];\n  n0 -> n2 [label=no];\n  n2 [label=\"allow\", style=filled, fillcolor=palegreen];\n}\n";
     assert_eq!(rt; text.as_str(), wanted);

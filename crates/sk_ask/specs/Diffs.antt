@@ -4,8 +4,8 @@ use Rattle.sk_insn.specs.declared.insn.Insn.{Insn}
 use Rattle.sk_call_names.specs.declared.architecture.Architecture.{Architecture}
 use Rattle.sk_conditions.specs.declared.standing.Relation.{Relation}
 use Rattle.sk_conditions.specs.declared.standing.Relation.TheVariants.{Same, AsStrict}
-use Rattle.sk_when.specs.declared.diff_engine.Standing.{Standing}
-use Rattle.sk_when.specs.declared.diff_engine.Standing.TheVariants.{Everywhere, Apart, Undecided}
+use Rattle.sk_when.specs.declared.diff_engine.Finding.{Finding}
+use Rattle.sk_when.specs.declared.diff_engine.Finding.TheVariants.{Holds, Fails, Undecided}
 use Rattle.sk_when.specs.Diffs.{IsComparison}
 use Rattle.sk_ask_filters.specs.Filters.{Filters}
 use Rattle.sk_profile_json.specs.declared.context.Context.{Context}
@@ -23,18 +23,18 @@ relation_asked true = AsStrict
 abbrev pub undecided_text : List ℕ → List ℕ
 undecided_text lines = codes "ask: diff: the filters could not be compared on all calls:\n" ++ lines
 
--- yes where they stand so on every call, no where there is a call on which they do not; and else there is no answer
-abbrev pub EndsAs : Standing → List ℕ → List ℕ → Ending → Type 0
-EndsAs Everywhere notes text ending = ending ≡ answered notes text false
-EndsAs Apart notes text ending = ending ≡ answered notes text true
+-- yes where the relation holds on every call, no where there is a call on which it fails; and else there is no answer
+abbrev pub EndsAs : Finding → List ℕ → List ℕ → Ending → Type 0
+EndsAs Holds notes text ending = ending ≡ answered notes text false
+EndsAs Fails notes text ending = ending ≡ answered notes text true
 EndsAs Undecided notes text ending = ComesTo (refused (undecided_text text)) ending
 
 -- two chains were compared as they are for an architecture, or memory was refused
 abbrev pub IsDiff : Architecture → Bool → List (List Insn) → List (List Insn) → List ℕ → Ending → Type 0
 IsDiff by stricter old new notes ending =
-    ((standing : Standing) × (text : List ℕ)
-    × IsComparison by (relation_asked stricter) (chain_on by old) (chain_on by new) standing text
-    × EndsAs standing notes text ending)
+    ((is_spent : Bool) × (finding : Finding) × (text : List ℕ)
+    × IsComparison by (relation_asked stricter) (chain_on by old) (chain_on by new) is_spent finding text
+    × EndsAs finding notes text ending)
     ⊎ (ending ≡ no_memory)
 
 -- the chains of files with these names, and of files with those, are compared; or one of them is refused or not read

@@ -15,9 +15,9 @@ use Rattle.sk_ask.specs.Troubles.{IsTrouble}
 
 -- a text is the picture of the call's tree where `--dot` asks for one, and else it tells the conditions of the chain's verdicts
 abbrev pub IsWhenText : Architecture → Bool → Option ℕ → List (List Insn) → List ℕ → Type 0
-IsWhenText by true (Some nr) chain text = IsPicture chain nr text
+IsWhenText by true (Some nr) chain text = (steps_left : ℕ) × IsPicture chain nr steps_left text
 IsWhenText by true None chain text = ⊥
-IsWhenText by false call chain text = TellsWhen by call chain text
+IsWhenText by false call chain text = (is_spent : Bool) × TellsWhen by call chain is_spent text
 
 -- that of the chain as it is for the architecture
 abbrev pub TellsWhenOf : Architecture → Bool → Option ℕ → List (List Insn) → List ℕ → Ending → Type 0

@@ -12,8 +12,11 @@ use crate::words::Asked;
 use sk_ask_filters::{Filters, Shelf, Trouble, filters_in};
 use sk_call_names::Architecture;
 use sk_profile_json::Context;
-use sk_when::{Comparison, Relation, Standing};
+use sk_when::{Budgets, Comparison, Finding, Relation};
 use std::alloc::{AllocError, Global};
+
+/// How many rows a comparison may take that need all the steps of a row.
+const MOST_ROWS: u32 = 64;
 
 /// Answers `ask diff`.
 pub fn diff<S: Shelf>(
@@ -79,26 +82,28 @@ fn compared(
 {
     let (old, mut notes) = filters_on(alloc, architecture, old)?;
     let (new, more) = filters_on(alloc, architecture, new)?;
-    let Comparison { standing, text } = sk_when::diff(
+    let mut budgets = Budgets::of_rows(MOST_ROWS);
+    let Comparison { finding, text } = sk_when::diff(
         alloc,
         architecture,
         relation_asked(stricter),
         &old,
         &new,
+        &mut budgets,
     )?;
     notes.extend_from_slice(&more)?;
-    match standing {
-        Standing::Everywhere => Ok(Answer {
+    match finding {
+        Finding::Holds => Ok(Answer {
             text: text.into_bytes(),
             notes,
             denies: false,
         }),
-        Standing::Apart => Ok(Answer {
+        Finding::Fails => Ok(Answer {
             text: text.into_bytes(),
             notes,
             denies: true,
         }),
-        Standing::Undecided => Err(Trouble::Refused(undecided(alloc, &text)?)),
+        Finding::Undecided => Err(Trouble::Refused(undecided(alloc, &text)?)),
     }
 }
 

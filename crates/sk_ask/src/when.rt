@@ -15,7 +15,11 @@ use sk_ask_filters::{Filters, Shelf, Trouble};
 use sk_call_names::Architecture;
 use sk_filter::Chain;
 use sk_profile_json::Context;
+use sk_when::{Budget, Budgets};
 use std::alloc::{AllocError, Global};
+
+/// How many rows may take all the steps of a row: fewer than in a comparison, since here the survey's verdicts are told beyond.
+const MOST_ROWS: u32 = 4;
 
 /// Answers `ask when`.
 pub fn when<S: Shelf>(
@@ -64,8 +68,9 @@ fn text_of(
     requires called { dot ≡ true → IsSome call }
     ensures text { IfOk result (λ text. IsWhenText architecture dot call chain.now (string_bytes text)) }
 {
+    let budgets = &mut Budgets::of_rows(MOST_ROWS);
     match call {
-        Some(nr) if dot => sk_when::dot(alloc, chain, nr),
-        _ => sk_when::when(alloc, architecture, chain, call),
+        Some(nr) if dot => sk_when::dot(alloc, chain, nr, &mut Budget::whole()),
+        _ => sk_when::when(alloc, architecture, chain, call, budgets),
     }
 }

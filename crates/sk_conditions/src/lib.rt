@@ -18,7 +18,7 @@ mod test;
 mod tree;
 mod witness;
 
-pub use budget::{Budget, MOST_OF_A_ROW, MOST_STEPS};
+pub use budget::{Budget, Budgets};
 pub use chains::chain_tree;
 pub use differences::{Differences, Verdicts, differ};
 pub use explore::program_tree;

@@ -23,6 +23,8 @@ mod processes;
 #[cfg(test)]
 mod scenarios;
 #[cfg(test)]
+mod scripts;
+#[cfg(test)]
 mod sessions;
 #[cfg(test)]
 mod signals;

@@ -41,6 +41,9 @@ due_meets scripts pid s need.Deliver = record { of_it = refl; met = refl }
 due_meets scripts pid s need.Resume = record { of_it = refl; met = refl }
 due_meets scripts pid s need.Call = own_meets scripts pid s (line_due scripts s)
 
+pub due_of_it : (scripts : List Script) (pid : ℕ) (s : Stack) (what : Need) (event : Event) → event ≡ event_by scripts pid s what → pid_of event ≡ pid
+due_of_it scripts pid s what event is = ap pid_of is ∙ (due_meets scripts pid s what).of_it
+
 pub due_is_possible : DueIsPossible
 due_is_possible setting s pid runs =
     let meets = due_meets setting.programs pid (s.stacks pid) (need_of s.world pid) in

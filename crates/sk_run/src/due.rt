@@ -1,6 +1,5 @@
 //! Which event is due.
 ghost use Rattle.std.specs.Prelude.{◌≡◌, ◌<◌, ◌≤◌, ◌^◌, IfSome, length};
-ghost use Rattle.std.specs.Option.{option_copied};
 ghost use Rattle.sk_report.specs.Scheduling.{line_due, own_event, event_by, address_of, closing, script_of};
 ghost use Rattle.sk_run.specs.views.Stacks.{stack_of};
 
@@ -38,9 +37,9 @@ pub(crate) fn event_by(
     pid: u32,
     levels: &Levels,
     need: Need,
-    line: Option<&ScriptCall>,
+    line: Option<ScriptCall>,
 ) -> Event
-    requires line { option_copied line ≡ line_due programs.now (stack_of levels.now) }
+    requires line { line ≡ line_due programs.now (stack_of levels.now) }
     requires room { IfSome line (λ _. levels.now.top.position < 2 ^ 63) }
     ensures event { result ≡ event_by programs.now pid (stack_of levels.now) need }
 {
@@ -52,9 +51,9 @@ pub(crate) fn event_by(
 }
 
 /// The event of a process that goes on with its script: a call of it, or what ends it.
-fn own_event(programs: &[Program], pid: u32, levels: &Levels, line: Option<&ScriptCall>) -> Event
+fn own_event(programs: &[Program], pid: u32, levels: &Levels, line: Option<ScriptCall>) -> Event
     requires room { IfSome line (λ _. levels.now.top.position < 2 ^ 63) }
-    ensures event { result ≡ own_event programs.now pid (stack_of levels.now) (option_copied line.entry) }
+    ensures event { result ≡ own_event programs.now pid (stack_of levels.now) line }
 {
     let Levels { top, below } = levels;
     match line {

@@ -1,13 +1,13 @@
 //! The levels of one process.
-ghost use Rattle.std.specs.Prelude.{◌≡◌, ◌<◌, ◌+◌, ◌^◌, IfOk, IfSome, OnOk};
-ghost use Rattle.std.specs.Option.{option_copied};
+ghost use Rattle.std.specs.Prelude.{◌≡◌, ◌<◌, ◌+◌, ◌^◌, IfOk, IsTrue, OnOk, Option};
+ghost use Rattle.std.specs.Option.{is_some};
+ghost use Rattle.sk_scenario.specs.declared.call.ScriptCall.{ScriptCall};
 ghost use Rattle.sk_report.specs.Levels.{first_call, alone, delivered, returned, begun, made, performing, called};
 ghost use Rattle.sk_run.specs.views.Stacks.{stack_of, HasRoom};
 
 use sk_calls::{Call, Syscall};
 use sk_machine::{Effect, Outcome};
 use sk_report::Level;
-use sk_scenario::ScriptCall;
 use std::alloc::{AllocError, Global};
 
 /// The levels of a process: the one that runs, and those below it, the lowest first.
@@ -98,18 +98,15 @@ impl Levels {
         }
     }
 
-    /// A call was made: this line of the script, or the call that ends it.
-    pub(crate) fn advance(&mut self, line: Option<&ScriptCall>, performed: bool)
-        requires room { IfSome line (λ _. self.old.top.position < 2 ^ 63) }
-        ensures stack { stack_of self.new ≡ made (option_copied line.entry) performed (stack_of self.old) }
+    /// A call was made: a line of the script, if it has one left, or the call that ends it.
+    pub(crate) fn advance(&mut self, has_line: bool, performed: bool)
+        requires room { IsTrue has_line → self.old.top.position < 2 ^ 63 }
+        ensures stack { (line : Option ScriptCall) → is_some line ≡ has_line → stack_of self.new ≡ made line performed (stack_of self.old) }
     {
-        match line {
-            Some(_) => self.top.position += 1,
-            None => {
-                if !performed {
-                    self.top.refused = true;
-                }
-            }
+        if has_line {
+            self.top.position += 1;
+        } else if !performed {
+            self.top.refused = true;
         }
     }
 
@@ -132,17 +129,11 @@ impl Levels {
     }
 
     /// The levels of the caller after a call.
-    pub(crate) fn call(
-        &mut self,
-        line: Option<&ScriptCall>,
-        call: &Call,
-        performed: bool,
-        outcome: Outcome,
-    )
-        requires room { IfSome line (λ _. self.old.top.position < 2 ^ 63) }
-        ensures stack { stack_of self.new ≡ called (option_copied line.entry) call.now performed outcome (stack_of self.old) }
+    pub(crate) fn call(&mut self, has_line: bool, call: &Call, performed: bool, outcome: Outcome)
+        requires room { IsTrue has_line → self.old.top.position < 2 ^ 63 }
+        ensures stack { (line : Option ScriptCall) → is_some line ≡ has_line → stack_of self.new ≡ called line call.now performed outcome (stack_of self.old) }
     {
-        self.advance(line, performed);
+        self.advance(has_line, performed);
         if performed {
             self.perform(call, outcome);
         }

@@ -117,10 +117,17 @@ impl<S: ProcStore> Machine<S> {
         reach(&mut self.stacks, self.alloc, pid)?;
         let levels = levels_at(&self.stacks, pid as usize);
         let programs = self.programs.as_slice();
-        let due = line_due(programs, levels);
-        let line = due.as_ref();
+        let line = line_due(programs, levels);
+        let has_line = line.is_some();
         let event = event_by(programs, pid, levels, need, line);
-        let answer = make(&mut self.kernel, &mut self.stacks, self.alloc, line, &event)?;
+        let answer = make(
+            &mut self.kernel,
+            &mut self.stacks,
+            self.alloc,
+            programs,
+            has_line,
+            &event,
+        )?;
         self.last = pid;
         self.used += 1;
         Ok(ReportLine::Turn {

@@ -1,6 +1,7 @@
 //! What an event leads to.
 ghost use Rattle.std.specs.Prelude.{◌≡◌, ◌<◌, ◌≤◌, ◌^◌, IfOk, OnOk, OnErr, IfSome, IsTrue, None, true, slice_get, vec_len, vec_capacity};
-ghost use Rattle.std.specs.Option.{option_copied};
+ghost use Rattle.std.specs.Option.{is_some};
+ghost use Rattle.sk_report.specs.Scheduling.{line_due};
 ghost use Rattle.sk_world.specs.declared.process.TheConstants.{LAST_PID};
 ghost use Rattle.sk_machine.specs.Machine.{reason_of, step_of};
 ghost use Rattle.sk_machine.specs.Events.{pid_of};
@@ -8,6 +9,7 @@ ghost use Rattle.sk_report.specs.Levels.{begun, made, stacks_after, with_child, 
 ghost use Rattle.sk_run.specs.views.Stacks.{is_fork, stack_of, stacks_of, HasRoom, ChildIsLow, IsReady};
 ghost use Rattle.sk_machine.specs.declared.event.Event.TheVariants as event;
 
+use crate::due::line_due;
 use crate::levels::Levels;
 use crate::stacks::{
     Stacks, call_at, deliver_at, levels_at, make_room_for_handler, make_room_for_pids, put,
@@ -16,7 +18,7 @@ use sk_calls::Syscall;
 use sk_insn::Action;
 use sk_kernel::Kernel;
 use sk_machine::{Answer, Event, Outcome};
-use sk_scenario::ScriptCall;
+use sk_scenario::{Program, ScriptCall};
 use sk_world::ProcStore;
 use std::alloc::{AllocError, Global};
 
@@ -26,22 +28,24 @@ pub(crate) fn make<S: ProcStore>(
     kernel: &mut Kernel<S>,
     stacks: &mut Stacks,
     alloc: Global,
-    line: Option<&ScriptCall>,
+    programs: &[Program],
+    has_line: bool,
     event: &Event,
 ) -> Result<Answer, AllocError>
     requires possible { reason_of kernel.old.world event.now ≡ None }
     requires there { pid_of event.now < vec_len stacks.old }
-    requires room { IfSome line (λ _. (stacks_of stacks.old.items (pid_of event.now)).top.position < 2 ^ 63) }
+    requires line { is_some (line_due programs.now (stacks_of stacks.old.items (pid_of event.now))) ≡ has_line }
+    requires room { IsTrue has_line → (stacks_of stacks.old.items (pid_of event.now)).top.position < 2 ^ 63 }
     ensures answer { IfOk result (λ answer. answer ≡ (step_of kernel.old.images kernel.old.world event.now).answer) }
     ensures world { OnOk result (kernel.new.world ≡ (step_of kernel.old.images kernel.old.world event.now).world) }
-    ensures stacks { IfOk result (λ answer. stacks_of stacks.new.items ≡ stacks_after (option_copied line.entry) event.now answer (stacks_of stacks.old.items)) }
+    ensures stacks { IfOk result (λ answer. stacks_of stacks.new.items ≡ stacks_after (line_due programs.now (stacks_of stacks.old.items (pid_of event.now))) event.now answer (stacks_of stacks.old.items)) }
     ensures kept { OnErr result (kernel.new.world ≡ kernel.old.world) }
     ensures kept_stacks { OnErr result (stacks_of stacks.new.items ≡ stacks_of stacks.old.items) }
     ensures images { kernel.new.images ≡ kernel.old.images }
 {
     let copy = prepare(stacks, alloc, event)?;
     let answer = kernel.happen(event)?;
-    follow_event(stacks, alloc, copy, line, event, &answer);
+    follow_event(stacks, alloc, copy, programs, has_line, event, &answer);
     Ok(answer)
 }
 
@@ -73,24 +77,26 @@ fn follow_event(
     stacks: &mut Stacks,
     alloc: Global,
     copy: Option<Levels>,
-    line: Option<&ScriptCall>,
+    programs: &[Program],
+    has_line: bool,
     event: &Event,
     answer: &Answer,
 )
     requires there { pid_of event.now < vec_len stacks.old }
-    requires room { IfSome line (λ _. (stacks_of stacks.old.items (pid_of event.now)).top.position < 2 ^ 63) }
+    requires line { is_some (line_due programs.now (stacks_of stacks.old.items (pid_of event.now))) ≡ has_line }
+    requires room { IsTrue has_line → (stacks_of stacks.old.items (pid_of event.now)).top.position < 2 ^ 63 }
     requires ready { IsReady stacks.old.items (vec_capacity stacks.old) event.now copy }
     requires child { IsTrue (is_fork event.now) → ChildIsLow answer.now }
-    ensures stacks { stacks_of stacks.new.items ≡ stacks_after (option_copied line.entry) event.now answer.now (stacks_of stacks.old.items) }
+    ensures stacks { stacks_of stacks.new.items ≡ stacks_after (line_due programs.now (stacks_of stacks.old.items (pid_of event.now))) event.now answer.now (stacks_of stacks.old.items) }
 {
     match event {
         Event::Call { pid, call, .. } => {
             if let Answer::Call { verdict, outcome } = *answer {
                 let performed = Action::of(verdict).performs();
-                call_at(stacks, *pid, line, call, performed, outcome);
+                call_at(stacks, *pid, has_line, call, performed, outcome);
                 if performed {
                     if let Some(copy) = copy {
-                        follow_child(stacks, alloc, copy, line, pid_in(&outcome));
+                        follow_child(stacks, alloc, copy, programs, pid_in(&outcome));
                     }
                 }
             }
@@ -127,25 +133,25 @@ fn follow_child(
     stacks: &mut Stacks,
     alloc: Global,
     copy: Levels,
-    line: Option<&ScriptCall>,
+    programs: &[Program],
     child: Option<u64>,
 )
-    requires room { IfSome line (λ _. copy.top.position < 2 ^ 63) }
     requires places { LAST_PID < vec_capacity stacks.old }
     requires low { IfSome child (λ pid. pid ≤ LAST_PID) }
-    ensures stacks { stacks_of stacks.new.items ≡ with_child child (begun (script_of_child (option_copied line.entry)) (made (option_copied line.entry) true (stack_of copy))) (stacks_of stacks.old.items) }
+    ensures stacks { stacks_of stacks.new.items ≡ with_child child (begun (script_of_child (line_due programs.now (stack_of copy))) (made (line_due programs.now (stack_of copy)) true (stack_of copy))) (stacks_of stacks.old.items) }
 {
     if let Some(child) = child {
+        let line = line_due(programs, &copy);
         let mut levels = copy;
-        levels.advance(line, true);
+        levels.advance(line.is_some(), true);
         let program = script_of_child(line);
         put(stacks, alloc, child as usize, levels.begun(program));
     }
 }
 
 /// The program that a child begins with, where the line names one.
-fn script_of_child(line: Option<&ScriptCall>) -> Option<u32>
-    ensures program { result ≡ script_of_child (option_copied line.entry) }
+fn script_of_child(line: Option<ScriptCall>) -> Option<u32>
+    ensures program { result ≡ script_of_child line }
 {
     line.and_then(|line| line.script)
 }

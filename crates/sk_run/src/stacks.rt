@@ -1,6 +1,7 @@
 //! The levels of all processes, at the places of their pids.
-ghost use Rattle.std.specs.Prelude.{◌≡◌, ◌<◌, ◌^◌, OnOk, IfSome, slice_get, vec_len, vec_capacity};
-ghost use Rattle.std.specs.Option.{option_copied};
+ghost use Rattle.std.specs.Prelude.{◌≡◌, ◌<◌, ◌^◌, OnOk, IfSome, IsTrue, Option, slice_get, vec_len, vec_capacity};
+ghost use Rattle.std.specs.Option.{is_some};
+ghost use Rattle.sk_scenario.specs.declared.call.ScriptCall.{ScriptCall};
 ghost use Rattle.sk_world.specs.declared.process.TheConstants.{LAST_PID};
 ghost use Rattle.sk_report.specs.Levels.{called, delivered, stacked};
 ghost use Rattle.sk_run.specs.views.Stacks.{stack_of, stacks_of, HasRoom};
@@ -8,7 +9,6 @@ ghost use Rattle.sk_run.specs.views.Stacks.{stack_of, stacks_of, HasRoom};
 use crate::levels::{Levels, at_program};
 use sk_calls::Call;
 use sk_machine::{Effect, Outcome};
-use sk_scenario::ScriptCall;
 use sk_world::LAST_PID;
 use std::alloc::{AllocError, Global};
 
@@ -74,17 +74,18 @@ pub(crate) fn levels_at(stacks: &Stacks, place: usize) -> &Levels
 pub(crate) fn call_at(
     stacks: &mut Stacks,
     pid: u32,
-    line: Option<&ScriptCall>,
+    has_line: bool,
     call: &Call,
     performed: bool,
     outcome: Outcome,
 )
     requires there { pid < vec_len stacks.old }
-    requires room { IfSome line (λ _. (stacks_of stacks.old.items pid).top.position < 2 ^ 63) }
-    ensures stacks { stacks_of stacks.new.items ≡ stacked pid (called (option_copied line.entry) call.now performed outcome (stacks_of stacks.old.items pid)) (stacks_of stacks.old.items) }
+    requires room { IsTrue has_line → (stacks_of stacks.old.items pid).top.position < 2 ^ 63 }
+    ensures stacks { (line : Option ScriptCall) → is_some line ≡ has_line
+        → stacks_of stacks.new.items ≡ stacked pid (called line call.now performed outcome (stacks_of stacks.old.items pid)) (stacks_of stacks.old.items) }
     ensures places { vec_capacity stacks.new ≡ vec_capacity stacks.old }
 {
-    stacks[pid as usize].call(line, call, performed, outcome);
+    stacks[pid as usize].call(has_line, call, performed, outcome);
 }
 
 /// Makes room for the level of a handler. The levels of all processes stay as they are.

@@ -105,21 +105,11 @@ impl Calls {
     }
 }
 
-// Most calls have no word at all, so that is asked first.
 #[inline(always)]
 fn call_kept(words: &[u64], head: &Head) -> ScriptCall
     requires within { IsWithin words.now head.now }
     ensures { result ≡ call_kept words.now head.now }
 {
-    if head.count == 0 && !head.has_script {
-        return ScriptCall {
-            call: Call {
-                nr: head.nr,
-                args: [0; 6],
-            },
-            script: None,
-        };
-    }
     ScriptCall {
         call: Call {
             nr: head.nr,
@@ -141,6 +131,7 @@ fn script_kept(words: &[u64], head: &Head) -> Option<u32>
     }
 }
 
+// Most calls have no argument, so that is asked first.
 #[inline(always)]
 fn arguments_kept(words: &[u64], head: &Head) -> [u64; 6]
     requires within { IsWithin words.now head.now }

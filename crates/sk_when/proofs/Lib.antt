@@ -1,7 +1,8 @@
 pub mod Elses
 pub mod Rows
 pub mod WorkedRows
-pub mod Everywhere
+pub mod EveryCall
 pub mod Joined
+pub mod Alone
 pub mod PartsTold
 pub mod WorkedDiffs

@@ -8,7 +8,7 @@ use Rattle.sk_survey.specs.Surveys.{Tell}
 use Rattle.sk_survey_lines.specs.declared.line.Line.{Line}
 use Rattle.sk_survey_lines.specs.Lines.{row_of}
 use Rattle.sk_survey_lines.proofs.Holding.{one_more_holds}
-use Rattle.sk_when.specs.declared.row.Told.{Told}
+use Rattle.sk_when.specs.declared.row.ConditionalRow.{ConditionalRow}
 use Rattle.sk_when.specs.Telling.{IsSurveyed, row_told}
 
 pub all_among : (programs : List (List Insn)) (from end : ℕ) (lines : List Line) → Tell programs from end (map row_of lines)
@@ -17,7 +17,7 @@ all_among programs from end [] told k d less = absurd (omega arith)
 all_among programs from end (line ∷ lines) told zero d less = (told.1, told.3.among)
 all_among programs from end (line ∷ lines) told (suc k) d less = all_among programs (line.row.last + 1) end lines told.4 k d (omega arith)
 
-pub one_row_more : (rows next : List Told) (told : Told) (line : Line) (left rest : List Line) (all : List Row) → next ≡ rows ++ told ∷ [] → told.row ≡ line.row
+pub one_row_more : (rows next : List ConditionalRow) (told : ConditionalRow) (line : Line) (left rest : List Line) (all : List Row) → next ≡ rows ++ told ∷ [] → told.row ≡ line.row
     → left ≡ line ∷ rest → map row_told rows ++ map row_of left ≡ all → map row_told next ++ map row_of rest ≡ all
 one_row_more rows next told line left rest all is same steps so_far =
     ap (λ xs. map row_told xs ++ map row_of rest) is
@@ -27,7 +27,7 @@ one_row_more rows next told line left rest all is same steps so_far =
     ∙ ap (λ xs. map row_told rows ++ map row_of xs) (sym steps)
     ∙ so_far
 
-pub still_told : (P : Told → Type 0) (rows next : List Told) (told : Told) → next ≡ rows ++ told ∷ [] → All P rows → P told → All P next
+pub still_told : (P : ConditionalRow → Type 0) (rows next : List ConditionalRow) (told : ConditionalRow) → next ≡ rows ++ told ∷ [] → All P rows → P told → All P next
 still_told P rows next told is all h = subst (All P) (sym is) (one_more_holds P rows told all h)
 
 pub rest_holds : (P : Line → Type 0) (left rest : List Line) (line : Line) → left ≡ line ∷ rest → All P left → All P rest

@@ -30,4 +30,12 @@ differences_work = record {
 }
 
 pub parts_work : PartsWork
-parts_work = record { unseen = refl; seen = refl; undecided = refl; alike = refl; every = refl; others = refl }
+parts_work = record {
+  unseen = refl;
+  seen = refl;
+  undecided = refl;
+  alike = refl;
+  every = refl;
+  others = refl;
+  single = λ relation old new numbers holds. holds.2;
+}

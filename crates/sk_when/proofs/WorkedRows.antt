@@ -31,7 +31,7 @@ use Rattle.sk_terms.specs.Text.{choices_text, condition_text, terms_text}
 use Rattle.sk_terms.specs.WorkedLines.{terms_of}
 use Rattle.sk_terms.proofs.Halves.{argument_low}
 use Rattle.sk_terms.proofs.WorkedLines.{line_met, met_terms, told_first}
-use Rattle.sk_when.specs.declared.row.Told.{Told}
+use Rattle.sk_when.specs.declared.row.ConditionalRow.{ConditionalRow}
 use Rattle.sk_when.specs.Lines.{IsTold, IsVerdict, or_else, told_of}
 use Rattle.sk_when.specs.WhenText.{ends_text, line_text, row_text, value_text}
 use Rattle.sk_when.specs.WorkedRows.{Read, read, IsRow, is_seven, where_seven, RowsWork}
@@ -78,7 +78,7 @@ told_read (line ∷ lines) call =
     told_first line lines call (met_terms (terms_of line) call) (line_met line call (terms_of line) refl)
     ∙ ap (λ r. (if met_terms (terms_of line) call then line.value ∷ [] else []) ++ r) (told_read lines call)
 
-told_row : (told : Told) (lines : List Read) → IsRow lines told → (call : Record) → told_of told call ≡ or_else (read_by lines call) (Some 0x00050001)
+told_row : (told : ConditionalRow) (lines : List Read) → IsRow lines told → (call : Record) → told_of told call ≡ or_else (read_by lines call) (Some 0x00050001)
 told_row told lines is call =
     ap (λ values. or_else values told.otherwise) (told_read told.lines.items call ∙ ap (λ r. read_by r call) is.lines)
     ∙ ap (λ o. or_else (read_by lines call) o) is.otherwise
@@ -91,7 +91,7 @@ is_verdict : (answers : Option (List ℕ)) (b : Bool) (v : ℕ) → v ≡ allowe
 is_verdict answers true v e = sym e
 is_verdict answers false v e = sym e
 
-one_line : (told : Told) → IsRow (where_seven 0x7fff0000 ∷ []) told → IsTold (compares_again ∷ []) told
+one_line : (told : ConditionalRow) → IsRow (where_seven 0x7fff0000 ∷ []) told → IsTold (compares_again ∷ []) told
 one_line told is call within =
     let b = holds_term is_seven call in (
       (if b then Some 0x7fff0000 else Some 0x00050001),
@@ -100,7 +100,7 @@ one_line told is call within =
     )
 
 -- what is told alone is the verdict
-told_verdict : (told : Told) → IsTold (compares_again ∷ []) told → (call : Record) → IsCallOf told.row.first told.row.last call
+told_verdict : (told : ConditionalRow) → IsTold (compares_again ∷ []) told → (call : Record) → IsCallOf told.row.first told.row.last call
     → (v : ℕ) → told_of told call ≡ Some v ∷ [] → v ≡ verdict_of (compares_again ∷ []) call
 told_verdict told is call within v e =
     let it = is call within in
@@ -110,15 +110,15 @@ told_verdict told is call within v e =
 abbrev with_seven : Record
 with_seven = call_of 39 0 7
 
-of_the_row : (told : Told) (lines : List Read) → IsRow lines told → IsCallOf told.row.first told.row.last with_seven
+of_the_row : (told : ConditionalRow) (lines : List Read) → IsRow lines told → IsCallOf told.row.first told.row.last with_seven
 of_the_row told lines is = let first = is.first in let last = is.last in (refl, (omega (arith, first), omega (arith, last)))
 
-wrong_value : (told : Told) (lines : List Read) (v : ℕ) → IsRow lines told → or_else (read_by lines with_seven) (Some 0x00050001) ≡ Some v ∷ []
+wrong_value : (told : ConditionalRow) (lines : List Read) (v : ℕ) → IsRow lines told → or_else (read_by lines with_seven) (Some 0x00050001) ≡ Some v ∷ []
     → IsTold (compares_again ∷ []) told → v ≡ 0x7fff0000
 wrong_value told lines v is e wrong =
     told_verdict told wrong with_seven (of_the_row told lines is) v (told_row told lines is with_seven ∙ e) ∙ verdict with_seven
 
-twice : (told : Told) → IsRow (where_seven 0x7fff0000 ∷ where_seven 0x7fff0000 ∷ []) told → IsTold (compares_again ∷ []) told → ⊥
+twice : (told : ConditionalRow) → IsRow (where_seven 0x7fff0000 ∷ where_seven 0x7fff0000 ∷ []) told → IsTold (compares_again ∷ []) told → ⊥
 twice told is wrong =
     let it = wrong with_seven (of_the_row told _ is) in
     let both : told_of told with_seven ≡ Some 0x7fff0000 ∷ Some 0x7fff0000 ∷ [] = told_row told _ is with_seven in
@@ -150,11 +150,11 @@ lines_read (line ∷ []) e answers =
     ap (λ t. codes "\n" ++ ((t ++ []) ++ codes "  errno/1 EPERM else\n")) (line_read line same answers)
 lines_read (line ∷ other ∷ lines) e answers = cc
 
-abbrev head_of : Architecture → ℕ → ℕ → Told → List ℕ
+abbrev head_of : Architecture → ℕ → ℕ → ConditionalRow → List ℕ
 head_of a first last told =
     numbers_text first last ++ (codes " " ++ (name_text a first last ++ ends_text (answers_of told.row.answers) told.otherwise told.lines.items))
 
-text_on : (a : Architecture) (told : Told) → IsRow (where_seven 0x7fff0000 ∷ []) told
+text_on : (a : Architecture) (told : ConditionalRow) → IsRow (where_seven 0x7fff0000 ∷ []) told
     → row_text a told ≡ codes "39 " ++ (name_text a 39 39 ++ codes "\n  allow where (args[0] & 0xffffffff) == 0x7\n  errno/1 EPERM else\n")
 unfolding digits row_text
 text_on a told is =
@@ -163,12 +163,12 @@ text_on a told is =
     ∙ ap (λ o. codes "39 " ++ (name_text a 39 39 ++ ends_text (answers_of told.row.answers) o told.lines.items)) is.otherwise
     ∙ ap (λ t. codes "39 " ++ (name_text a 39 39 ++ t)) (lines_read told.lines.items is.lines (answers_of told.row.answers))
 
-text : (told : Told) → IsRow (where_seven 0x7fff0000 ∷ []) told
+text : (told : ConditionalRow) → IsRow (where_seven 0x7fff0000 ∷ []) told
     → row_text architecture.X86_64 told ≡ codes "39 getpid\n  allow where (args[0] & 0xffffffff) == 0x7\n  errno/1 EPERM else\n"
 unfolding name_of name_on
 text told is = text_on architecture.X86_64 told is
 
-elsewhere : (told : Told) → IsRow (where_seven 0x7fff0000 ∷ []) told
+elsewhere : (told : ConditionalRow) → IsRow (where_seven 0x7fff0000 ∷ []) told
     → row_text architecture.I386 told ≡ codes "39 mkdir\n  allow where (args[0] & 0xffffffff) == 0x7\n  errno/1 EPERM else\n"
 unfolding name_at name_in name_on runs_of
 elsewhere told is = text_on architecture.I386 told is

@@ -106,7 +106,7 @@ differences_text architecture pieces =
     flat_map (piece_text architecture Looser) pieces
     ++ (flat_map (piece_text architecture Other) pieces ++ flat_map (piece_text architecture Undecided) pieces)
 
--- what is said where they stand so on every call
+-- what is said where the relation holds on every call
 abbrev pub everywhere_text : Relation → List ℕ
 everywhere_text Same = codes "the same on every call\n"
 everywhere_text AsStrict = codes "as strict on every call\n"

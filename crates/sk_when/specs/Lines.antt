@@ -5,14 +5,14 @@ use Rattle.sk_insn.specs.declared.record.Record.{Record}
 use Rattle.sk_filter.specs.Verdict.{verdict_of}
 use Rattle.sk_survey.specs.Answers.{IsAmong, IsCallOf, answers_of}
 use Rattle.sk_terms.specs.Lines.{told_by}
-use Rattle.sk_when.specs.declared.row.Told.{Told}
+use Rattle.sk_when.specs.declared.row.ConditionalRow.{ConditionalRow}
 
 -- the values of the lines that a call meets, or of the line `else` where it meets none
 abbrev pub or_else : List (Option ℕ) → Option ℕ → List (Option ℕ)
 or_else [] otherwise = otherwise ∷ []
 or_else (value ∷ values) otherwise = value ∷ values
 
-abbrev pub told_of : Told → Record → List (Option ℕ)
+abbrev pub told_of : ConditionalRow → Record → List (Option ℕ)
 told_of told call = or_else (told_by told.lines.items call) told.otherwise
 
 -- a line's value is the verdict; a line without one tells those of the survey, and the verdict is among these
@@ -21,7 +21,12 @@ IsVerdict answers verdict (Some value) = value ≡ verdict
 IsVerdict answers verdict None = IsAmong verdict answers
 
 -- every call with one of the row's numbers meets just one line, else that with `else`; it tells the chain's verdict
-abbrev pub IsTold : List (List Insn) → Told → Type 0
+abbrev pub IsTold : List (List Insn) → ConditionalRow → Type 0
 IsTold programs told =
     (call : Record) → IsCallOf told.row.first told.row.last call
     → (value : Option ℕ) × (told_of told call ≡ value ∷ []) × IsVerdict (answers_of told.row.answers) (verdict_of programs call) value
+
+-- so it does where no verdicts are told in place of the verdict
+abbrev pub IsExact : List (List Insn) → ConditionalRow → Type 0
+IsExact programs told =
+    (call : Record) → IsCallOf told.row.first told.row.last call → told_of told call ≡ Some (verdict_of programs call) ∷ []

@@ -1,5 +1,6 @@
 -- The tree of one call as text for Graphviz, in its language DOT: https://graphviz.org/doc/info/lang.html.
-use Rattle.std.specs.Prelude.{ℕ, ◌≡◌, ◌+◌, ◌-◌, ◌^◌, ◌++◌, List, codes, min}
+use Rattle.std.specs.Prelude.{ℕ, ◌≡◌, ◌+◌, ◌-◌, ◌^◌, ◌<◌, ◌++◌, List, codes, min}
+use Rattle.std.specs.List.{All}
 use Rattle.std.specs.Fmt.{decimal}
 use Rattle.sk_insn.specs.declared.action.Action.{Action}
 use Rattle.sk_insn.specs.declared.action.Action.TheVariants.{KillProcess, KillThread, Unknown, Allow, Log}
@@ -8,10 +9,11 @@ use Rattle.sk_insn.specs.declared.record.Record.{Record}
 use Rattle.sk_insn.specs.Actions.{action_of}
 use Rattle.sk_filter.specs.Verdict.{verdict_of}
 use Rattle.sk_conditions.specs.Conditions.{Agrees}
+use Rattle.sk_conditions.specs.Followed.{AreFollowed}
 use Rattle.sk_survey.specs.Answers.{IsCallOf}
 use Rattle.sk_terms.specs.declared.decision.Decision.{Decision}
 use Rattle.sk_terms.specs.declared.decision.Decision.TheVariants.{Is, Untold, Ask'}
-use Rattle.sk_terms.specs.Decisions.{decided}
+use Rattle.sk_terms.specs.Decisions.{DecidesAll, decided}
 use Rattle.sk_terms.specs.Text.{term_text}
 use Rattle.sk_filter.specs.VerdictText.{verdict_text}
 
@@ -60,8 +62,9 @@ nodes_text node (Ask' term p held q failed) =
 abbrev pub dot_text : Decision → List ℕ
 dot_text decision = codes "digraph {\n" ++ (nodes_text 0 decision ++ codes "}\n")
 
--- the text is that of a tree that tells of each call with the number the chain's verdict, or nothing
-abbrev pub IsPicture : List (List Insn) → ℕ → List ℕ → Type 0
-IsPicture programs nr text =
+-- the text is that of a tree that tells of each call with the number the chain's verdict, or nothing; where the filters are
+-- followed, and some steps were left, the tree has a verdict at each end
+abbrev pub IsPicture : List (List Insn) → ℕ → ℕ → List ℕ → Type 0
+IsPicture programs nr steps_left text =
     (decision : Decision) × ((call : Record) → IsCallOf nr nr call → Agrees (decided decision call) (verdict_of programs call))
-    × (text ≡ dot_text decision)
+    × (All AreFollowed programs → 0 < steps_left → DecidesAll decision) × (text ≡ dot_text decision)

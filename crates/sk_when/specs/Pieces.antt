@@ -1,7 +1,9 @@
 -- Two chains compared on every call: what holds of each piece of the numbers, and of all.
-use Rattle.std.specs.Prelude.{ℕ, ◌≡◌, ◌+◌, ◌≤◌, true, false, if◌then◌else◌, Bool, List, [], ◌∷◌, Option, Some, None}
+use Rattle.std.specs.Prelude.{ℕ, ◌≡◌, ◌+◌, ◌≤◌, true, false, if◌then◌else◌, Bool, is_some, IsTrue, List, [], ◌∷◌, Option, Some, None}
 use Rattle.std.specs.List.{All, list_any}
 use Rattle.std.specs.Option.{option_map_or}
+use Rattle.sk_call_names.specs.declared.architecture.Architecture.{Architecture}
+use Rattle.sk_call_names.specs.Names.{name_on}
 use Rattle.sk_insn.specs.declared.insn.Insn.{Insn}
 use Rattle.sk_insn.specs.declared.record.Record.{Record}
 use Rattle.sk_filter.specs.Verdict.{verdict_of}
@@ -14,8 +16,8 @@ use Rattle.sk_conditions.specs.Comparing.{relates, stands_on}
 use Rattle.sk_conditions.specs.Differing.{SaysOf}
 use Rattle.sk_terms.specs.declared.lines.Line.{Line}
 use Rattle.sk_terms.specs.Lines.{meets_line}
-use Rattle.sk_when.specs.declared.diff_engine.Standing.{Standing}
-use Rattle.sk_when.specs.declared.diff_engine.Standing.TheVariants as standing
+use Rattle.sk_when.specs.declared.diff_engine.Finding.{Finding}
+use Rattle.sk_when.specs.declared.diff_engine.Finding.TheVariants as finding
 use Rattle.sk_when.specs.declared.piece.Calls.{Calls}
 use Rattle.sk_when.specs.declared.piece.Calls.TheVariants.{Every, Meeting, This}
 use Rattle.sk_when.specs.declared.piece.Part.{Part}
@@ -42,29 +44,34 @@ abbrev pub AreVerdicts : List (List Insn) → List (List Insn) → Option Verdic
 AreVerdicts old new None call = Unit {0}
 AreVerdicts old new (Some it) call = HasVerdicts old new it call
 
--- a pair whose verdicts do not stand so to each other
+-- a pair of verdicts for which the relation fails
 abbrev pub AreApart : Relation → Option Verdicts → Type 0
 AreApart relation None = Unit {0}
 AreApart relation (Some it) = relates relation it.old it.new ≡ false
 
--- a call that is shown is one of those that the part speaks of, and on it they do not stand so
+-- a call that is shown is one of those that the part speaks of, and on it the relation fails
 abbrev pub IsOf : Calls → Record → Type 0
 IsOf This call = Unit {0}
 IsOf calls call = meets_calls calls call ≡ true
 
+-- a part of a single call shows it, since nothing else says which it is
+abbrev pub MayShowNone : Calls → Type 0
+MayShowNone This = ⊥
+MayShowNone calls = Unit {0}
+
 abbrev pub IsShown : Relation → List (List Insn) → List (List Insn) → Numbers → Calls → Option Verdicts → Option Record → Type 0
-IsShown relation old new numbers calls verdicts None = Unit {0}
+IsShown relation old new numbers calls verdicts None = MayShowNone calls
 IsShown relation old new numbers calls verdicts (Some call) =
     IsCallOf numbers.first numbers.last call × IsOf calls call × AreVerdicts old new verdicts call × (stands_on relation old new call ≡ false)
 
--- the calls that the part speaks of have these verdicts, which do not stand so, and what it shows is one of them
+-- the calls that the part speaks of have these verdicts, for which the relation fails, and what it shows is one of them
 abbrev pub HoldsOf : Relation → List (List Insn) → List (List Insn) → Numbers → Part → Type 0
 HoldsOf relation old new numbers part =
     ((call : Record) → IsCallOf numbers.first numbers.last call → meets_calls part.calls call ≡ true → AreVerdicts old new part.verdicts call)
     × AreApart relation part.verdicts
     × IsShown relation old new numbers part.calls part.verdicts part.shown
 
--- a call on which they do not stand so is one that a part speaks of
+-- a call on which the relation fails is one that a part speaks of
 abbrev pub Cover : Relation → List (List Insn) → List (List Insn) → Numbers → List Part → Type 0
 Cover relation old new numbers parts =
     (call : Record) → IsCallOf numbers.first numbers.last call → stands_on relation old new call ≡ false
@@ -81,12 +88,12 @@ abbrev pub Holds : Relation → List (List Insn) → List (List Insn) → Piece 
 Holds relation old new piece =
     All (HoldsOf relation old new piece.numbers) piece.parts.items × Cover relation old new piece.numbers piece.parts.items
 
--- whatever has this number among the pairs is this one, which does not stand so
+-- whatever has this number among the pairs is this one, for which the relation fails
 abbrev pub IsPairOf : Relation → List Verdicts → Option ℕ → Verdicts → Type 0
 IsPairOf relation pairs number it =
     ((old new : ℕ) → SaysOf relation pairs old new number → (old ≡ it.old) × (new ≡ it.new)) × (relates relation it.old it.new ≡ false)
 
--- a line says of the calls that meet it how their verdicts stand
+-- a line says of the calls that meet it which verdicts they get
 abbrev pub SaysOfLine : Comparing → List Verdicts → Line → Type 0
 SaysOfLine chains pairs line =
     (call : Record) → IsCallOf chains.numbers.first chains.numbers.last call → meets_line line call ≡ true
@@ -99,14 +106,27 @@ AreCompared relation old new from end (piece ∷ pieces) =
     (piece.numbers.first ≡ from) × (from ≤ piece.numbers.last) × Holds relation old new piece
     × AreCompared relation old new (piece.numbers.last + 1) end pieces
 
--- a call is shown on which they do not stand so
+-- these numbers are one alone, which has a name on the architecture
+abbrev pub IsNamed : Architecture → Numbers → Type 0
+IsNamed architecture numbers = (numbers.first ≡ numbers.last) × IsTrue (is_some (name_on architecture numbers.first))
+
+-- if one of these numbers has a name on the architecture, it is the only one
+abbrev pub NamedAreAlone : Architecture → Numbers → Type 0
+NamedAreAlone architecture numbers =
+    (nr : ℕ) → IsTrue (is_some (name_on architecture nr)) → numbers.first ≤ nr → nr ≤ numbers.last
+    → (numbers.first ≡ nr) × (numbers.last ≡ nr)
+
+abbrev pub NamedAreAloneIn : Architecture → Piece → Type 0
+NamedAreAloneIn architecture piece = NamedAreAlone architecture piece.numbers
+
+-- a call is shown on which the relation fails
 abbrev pub is_shown : Part → Bool
 is_shown part = option_map_or (λ call. true) part.shown false
 
 abbrev pub is_apart : Piece → Bool
 is_apart piece = list_any is_shown piece.parts.items
 
--- there are calls on which they may not stand so
+-- there are calls on which it may fail
 abbrev pub has_parts : List Part → Bool
 has_parts [] = false
 has_parts (part ∷ parts) = true
@@ -114,12 +134,16 @@ has_parts (part ∷ parts) = true
 abbrev pub is_open : Piece → Bool
 is_open piece = has_parts piece.parts.items
 
+-- where there may be such calls, one is shown
+abbrev pub ShowsWhereOpen : Piece → Type 0
+ShowsWhereOpen piece = is_open piece ≡ true → is_apart piece ≡ true
+
 -- what is said of all pieces
-abbrev pub standing_of : List Piece → Standing
-standing_of pieces =
-    if list_any is_apart pieces then standing.Apart
-    else if list_any is_open pieces then standing.Undecided
-    else standing.Everywhere
+abbrev pub finding_of : List Piece → Finding
+finding_of pieces =
+    if list_any is_apart pieces then finding.Fails
+    else if list_any is_open pieces then finding.Undecided
+    else finding.Holds
 
 -- no part, or one each of every call, with the same verdicts
 abbrev pub ArePartsOfOne : List Part → List Part → Type 0

@@ -1,30 +1,32 @@
 -- What the text of `ask when` says of a chain.
-use Rattle.std.specs.Prelude.{ℕ, ◌≡◌, ◌≤◌, List, map, Option}
+use Rattle.std.specs.Prelude.{ℕ, ◌≡◌, ◌≤◌, Bool, false, List, map, Option}
 use Rattle.std.specs.List.{All}
 use Rattle.sk_call_names.specs.declared.architecture.Architecture.{Architecture}
 use Rattle.sk_insn.specs.declared.insn.Insn.{Insn}
+use Rattle.sk_conditions.specs.Followed.{AreFollowed}
 use Rattle.sk_survey.specs.declared.rows.Row.{Row}
 use Rattle.sk_survey.specs.Answers.{ChainAnswersAmong, answers_of}
 use Rattle.sk_survey.specs.Surveys.{Tell}
 use Rattle.sk_survey_lines.specs.Lines.{first_told, end_told, TellsNamedAlone}
-use Rattle.sk_when.specs.declared.row.Told.{Told}
-use Rattle.sk_when.specs.Lines.{IsTold}
+use Rattle.sk_when.specs.declared.row.ConditionalRow.{ConditionalRow}
+use Rattle.sk_when.specs.Lines.{IsExact, IsTold}
 use Rattle.sk_when.specs.WhenText.{when_text}
 
-abbrev pub row_told : Told → Row
+abbrev pub row_told : ConditionalRow → Row
 row_told told = told.row
 
--- the rows tell all numbers, or the one that is asked for, those with a name on the architecture each alone; the lines of each
--- are exact
-pub record AreTold (architecture : Architecture) (call : Option ℕ) (programs : List (List Insn)) (all : List Told) : Type 0 where
+-- the rows tell all numbers, or the one that is asked for, those with a name on the architecture each alone, and of each call
+-- the verdict or several; where the filters are followed, and the steps of no row were spent, it is the verdict
+pub record AreTold (architecture : Architecture) (call : Option ℕ) (programs : List (List Insn)) (is_spent : Bool) (all : List ConditionalRow) : Type 0 where
   pub rows : Tell programs (first_told call) (end_told call) (map row_told all)
   pub alone : All (TellsNamedAlone architecture) (map row_told all)
   pub told : All (IsTold programs) all
+  pub exact : All AreFollowed programs → is_spent ≡ false → All (IsExact programs) all
 
 -- a text is that of such rows
-abbrev pub TellsWhen : Architecture → Option ℕ → List (List Insn) → List ℕ → Type 0
-TellsWhen architecture call programs text =
-    (rows : List Told) × AreTold architecture call programs rows × (text ≡ when_text architecture rows)
+abbrev pub TellsWhen : Architecture → Option ℕ → List (List Insn) → Bool → List ℕ → Type 0
+TellsWhen architecture call programs is_spent text =
+    (rows : List ConditionalRow) × AreTold architecture call programs is_spent rows × (text ≡ when_text architecture rows)
 
 -- a row of a survey has a number, and its verdicts are among those that it tells
 abbrev pub IsSurveyed : List (List Insn) → Row → Type 0

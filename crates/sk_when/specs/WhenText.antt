@@ -7,7 +7,7 @@ use Rattle.sk_survey_lines.specs.Text.{numbers_text, name_text, answers_text}
 use Rattle.sk_terms.specs.declared.lines.Line.{Line}
 use Rattle.sk_terms.specs.Text.{condition_text}
 use Rattle.sk_filter.specs.VerdictText.{verdict_text}
-use Rattle.sk_when.specs.declared.row.Told.{Told}
+use Rattle.sk_when.specs.declared.row.ConditionalRow.{ConditionalRow}
 
 -- a verdict, or those that the survey tells where it is not followed
 abbrev pub value_text : Option (List ℕ) → Option ℕ → List ℕ
@@ -25,10 +25,10 @@ ends_text answers otherwise (first ∷ lines) =
     line [] ++ (flat_map (line_text answers) (first ∷ lines) ++ (codes "  " ++ (value_text answers otherwise ++ line (codes " else"))))
 
 -- one row: its numbers, the name that a single one has on the architecture, and the verdicts
-unfoldable pub row_text : Architecture → Told → List ℕ
+unfoldable pub row_text : Architecture → ConditionalRow → List ℕ
 row_text architecture told =
     numbers_text told.row.first told.row.last
     ++ (codes " " ++ (name_text architecture told.row.first told.row.last ++ ends_text (answers_of told.row.answers) told.otherwise told.lines.items))
 
-abbrev pub when_text : Architecture → List Told → List ℕ
+abbrev pub when_text : Architecture → List ConditionalRow → List ℕ
 when_text architecture rows = flat_map (row_text architecture) rows

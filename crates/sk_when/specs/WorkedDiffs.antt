@@ -1,14 +1,17 @@
 -- Worked examples of comparisons: calls as C writes them, and differences with verdicts by seccomp(2).
-use Rattle.std.specs.Prelude.{◌≡◌, ◌++◌, [], ◌∷◌, codes, true, false, Some, None}
+use Rattle.std.specs.Prelude.{◌≡◌, ◌++◌, List, [], ◌∷◌, codes, true, false, Some, None}
+use Rattle.sk_insn.specs.declared.insn.Insn.{Insn}
 use Rattle.sk_insn.specs.declared.record.Record.{Record}
 use Rattle.sk_insn.specs.Record.{native}
 use Rattle.sk_call_names.specs.declared.architecture.Architecture.TheVariants as architecture
 use Rattle.sk_conditions.specs.declared.differences.Verdicts.{Verdicts}
+use Rattle.sk_conditions.specs.declared.numbers.Numbers.{Numbers}
+use Rattle.sk_conditions.specs.declared.standing.Relation.{Relation}
 use Rattle.sk_when.specs.declared.piece.Calls.TheVariants.{Every, This}
 use Rattle.sk_when.specs.declared.piece.Part.{Part}
 use Rattle.sk_when.specs.declared.diff_text.Kind.TheVariants.{Looser, Other}
 use Rattle.sk_when.specs.DiffText.{call_text, record_text, outcome_text, calls_text, head_text, kind_of, is_kind}
-use Rattle.sk_when.specs.Pieces.{is_shown, has_parts, meets_calls}
+use Rattle.sk_when.specs.Pieces.{HoldsOf, is_shown, has_parts, meets_calls}
 
 abbrev pub clone : Record
 clone = native 56 0 (0x10000011 ∷ 0 ∷ 0 ∷ 0xffffffffffffffff ∷ 0 ∷ 1 ∷ [])
@@ -46,7 +49,8 @@ pub record DifferencesWork : Type 0 where
 abbrev pub part : Part
 part = record { calls = Every; verdicts = Some refused; shown = None }
 
--- what shows no call is no difference that was found, and leaves it undecided; a single call tells nothing of the others
+-- what shows no call is no difference that was found, and leaves it undecided; a single call tells nothing of the others, and one
+-- that is not shown is none
 pub record PartsWork : Type 0 where
   pub unseen : is_shown part ≡ false
   pub seen : is_shown (record part { shown = Some clone }) ≡ true
@@ -54,3 +58,4 @@ pub record PartsWork : Type 0 where
   pub alike : has_parts [] ≡ false
   pub every : meets_calls Every clone ≡ true
   pub others : meets_calls This clone ≡ false
+  pub single : (relation : Relation) (old new : List (List Insn)) (numbers : Numbers) → HoldsOf relation old new numbers (record part { calls = This }) → ⊥

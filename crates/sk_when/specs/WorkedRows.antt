@@ -8,7 +8,7 @@ use Rattle.sk_terms.specs.declared.lines.Line.{Line}
 use Rattle.sk_terms.specs.declared.term.Register.TheVariants.{Argument}
 use Rattle.sk_terms.specs.declared.term.Term.{Term}
 use Rattle.sk_terms.specs.WorkedLines.{terms_of}
-use Rattle.sk_when.specs.declared.row.Told.{Told}
+use Rattle.sk_when.specs.declared.row.ConditionalRow.{ConditionalRow}
 use Rattle.sk_when.specs.Lines.{IsTold, told_of}
 use Rattle.sk_when.specs.WhenText.{row_text}
 
@@ -21,7 +21,7 @@ abbrev pub read : Line → Read
 read line = record { value = line.value; terms = terms_of line }
 
 -- the row of number 39, which is getpid(2) on x86-64 and mkdir(2) on i386, with these lines; error 1 is what `else` tells
-pub record IsRow (reads : List Read) (told : Told) : Type 0 where
+pub record IsRow (reads : List Read) (told : ConditionalRow) : Type 0 where
   pub first : told.row.first ≡ 39
   pub last : told.row.last ≡ 39
   pub lines : map read told.lines.items ≡ reads
@@ -37,13 +37,13 @@ where_seven value = record { value = Some value; terms = (is_seven ∷ []) ∷ [
 -- a word that is compared again leaves one line; one that stands twice is wrong, and so is one of another verdict; no row of the
 -- filter tells of any call that it is killed
 pub record RowsWork : Type 0 where
-  pub one_line : (told : Told) → IsRow (where_seven 0x7fff0000 ∷ []) told → IsTold (compares_again ∷ []) told
-  pub text : (told : Told) → IsRow (where_seven 0x7fff0000 ∷ []) told
+  pub one_line : (told : ConditionalRow) → IsRow (where_seven 0x7fff0000 ∷ []) told → IsTold (compares_again ∷ []) told
+  pub text : (told : ConditionalRow) → IsRow (where_seven 0x7fff0000 ∷ []) told
       → row_text architecture.X86_64 told ≡ codes "39 getpid\n  allow where (args[0] & 0xffffffff) == 0x7\n  errno/1 EPERM else\n"
-  pub elsewhere : (told : Told) → IsRow (where_seven 0x7fff0000 ∷ []) told
+  pub elsewhere : (told : ConditionalRow) → IsRow (where_seven 0x7fff0000 ∷ []) told
       → row_text architecture.I386 told ≡ codes "39 mkdir\n  allow where (args[0] & 0xffffffff) == 0x7\n  errno/1 EPERM else\n"
-  pub twice : (told : Told) → IsRow (where_seven 0x7fff0000 ∷ where_seven 0x7fff0000 ∷ []) told → IsTold (compares_again ∷ []) told → ⊥
-  pub no_line : (told : Told) → IsRow [] told → IsTold (compares_again ∷ []) told → ⊥
-  pub killed : (told : Told) → IsRow (where_seven 0x00000000 ∷ []) told → IsTold (compares_again ∷ []) told → ⊥
-  pub none_killed : (told : Told) → IsTold (compares_again ∷ []) told
+  pub twice : (told : ConditionalRow) → IsRow (where_seven 0x7fff0000 ∷ where_seven 0x7fff0000 ∷ []) told → IsTold (compares_again ∷ []) told → ⊥
+  pub no_line : (told : ConditionalRow) → IsRow [] told → IsTold (compares_again ∷ []) told → ⊥
+  pub killed : (told : ConditionalRow) → IsRow (where_seven 0x00000000 ∷ []) told → IsTold (compares_again ∷ []) told → ⊥
+  pub none_killed : (told : ConditionalRow) → IsTold (compares_again ∷ []) told
       → (call : Record) → IsCallOf told.row.first told.row.last call → told_of told call ≡ Some 0x00000000 ∷ [] → ⊥

@@ -1,7 +1,7 @@
 //! Two chains compared on every call.
 ghost use Rattle.std.specs.Prelude.{◌≡◌, IfOk, string_bytes};
 ghost use Rattle.std.specs.List.{list_any};
-ghost use Rattle.sk_when.specs.Pieces.{is_apart, is_open, has_parts, standing_of};
+ghost use Rattle.sk_when.specs.Pieces.{is_apart, is_open, has_parts, finding_of};
 ghost use Rattle.sk_when.specs.Diffs.{IsComparison, text_of};
 
 use crate::diff_text::{differences_text, everywhere_text};
@@ -9,72 +9,74 @@ use crate::piece::{Part, Piece};
 use crate::pieces::pieces;
 use crate::showing::any_shown;
 use sk_call_names::Architecture;
-use sk_conditions::Relation;
+use sk_conditions::{Budgets, Relation};
 use sk_filter::Chain;
 use std::alloc::{AllocError, Global};
 
 /// What was found of two chains on all calls.
 #[derive(Clone, Copy, Debug, PartialEq, Eq)]
-pub enum Standing {
-    /// They stand so to each other on every call.
-    Everywhere,
-    /// On a call they do not.
-    Apart,
-    /// No such call is shown, and there may be some.
+pub enum Finding {
+    /// The relation holds on every call.
+    Holds,
+    /// It fails on a call that is shown.
+    Fails,
+    /// No call is shown on which it fails, and there may be some.
     Undecided,
 }
 
 /// What was found of two chains, and its text.
 #[derive(Drop)]
 pub struct Comparison {
-    pub standing: Standing,
+    pub finding: Finding,
     pub text: String,
 }
 
 /// Compares a new chain with an old one on every call. Both are for the architecture, and calls are told as they are there.
+/// Nothing bounds from above how many of the steps it takes.
 pub fn diff(
     alloc: Global,
     architecture: Architecture,
     relation: Relation,
     old: &Chain,
     new: &Chain,
+    budgets: &mut Budgets,
 ) -> Result<Comparison, AllocError>
-    ensures compared { IfOk result (λ it. IsComparison architecture relation old.now new.now it.standing (string_bytes it.text)) }
+    ensures compared { IfOk result (λ it. IsComparison architecture relation old.now new.now budgets.new.is_spent it.finding (string_bytes it.text)) }
 {
-    let pieces = pieces(alloc, architecture, relation, old, new)?;
-    let standing = standing_of(&pieces);
-    let text = text_of(alloc, architecture, relation, standing, &pieces)?;
-    Ok(Comparison { standing, text })
+    let pieces = pieces(alloc, architecture, relation, old, new, budgets)?;
+    let finding = finding_of(&pieces);
+    let text = text_of(alloc, architecture, relation, finding, &pieces)?;
+    Ok(Comparison { finding, text })
 }
 
 fn text_of(
     alloc: Global,
     architecture: Architecture,
     relation: Relation,
-    standing: Standing,
+    finding: Finding,
     pieces: &[Piece],
 ) -> Result<String, AllocError>
-    ensures text { IfOk result (λ text. string_bytes text ≡ text_of architecture relation standing pieces.now) }
+    ensures text { IfOk result (λ text. string_bytes text ≡ text_of architecture relation finding pieces.now) }
 {
-    match standing {
-        Standing::Everywhere => {
+    match finding {
+        Finding::Holds => {
             let mut text = String::new(alloc);
             text.push_str(everywhere_text(relation))?;
             Ok(text)
         }
-        Standing::Apart | Standing::Undecided => differences_text(alloc, architecture, pieces),
+        Finding::Fails | Finding::Undecided => differences_text(alloc, architecture, pieces),
     }
 }
 
-fn standing_of(pieces: &[Piece]) -> Standing
-    ensures standing { result ≡ standing_of pieces.now }
+fn finding_of(pieces: &[Piece]) -> Finding
+    ensures finding { result ≡ finding_of pieces.now }
 {
     if any_apart(pieces) {
-        Standing::Apart
+        Finding::Fails
     } else if any_open(pieces) {
-        Standing::Undecided
+        Finding::Undecided
     } else {
-        Standing::Everywhere
+        Finding::Holds
     }
 }
 

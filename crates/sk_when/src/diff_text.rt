@@ -13,7 +13,7 @@ use sk_text::HexDigits;
 use std::alloc::{AllocError, Global};
 use std::fmt::Write;
 
-/// What is said where two chains stand so to each other on every call.
+/// What is said where the relation holds on every call.
 pub fn everywhere_text(relation: Relation) -> &'static str
     ensures text { result.now ≡ everywhere_text relation }
 {
@@ -28,9 +28,9 @@ pub fn everywhere_text(relation: Relation) -> &'static str
 pub enum Kind {
     /// The old chain's action takes precedence over the new one's.
     Looser,
-    /// It does not.
+    /// The new chain's action takes precedence, or is as strict.
     Other,
-    /// It is undecided.
+    /// Which verdicts come is not known.
     Undecided,
 }
 
@@ -86,13 +86,13 @@ fn push_parts(
     ensures text { OnOk result (string_bytes text.new ≡ string_bytes text.old ++ flat_map (kind_text architecture kind numbers) parts.now) }
 {
     for part in parts {
-        push_if_of(text, architecture, kind, numbers, part)?;
+        push_part_of_kind(text, architecture, kind, numbers, part)?;
     }
     Ok(())
 }
 
 #[tactic(auto, unfolding(crate::specs::DiffText::kind_text))]
-fn push_if_of(
+fn push_part_of_kind(
     text: &mut String,
     architecture: Architecture,
     kind: Kind,

@@ -1,6 +1,6 @@
 //! Worked rows and comparisons, and what is said of all calls. No program calls these functions: the contract of each is the law.
 ghost use Rattle.sk_when.specs.WorkedRows.{RowsWork};
-ghost use Rattle.sk_when.specs.Diffs.{EverywhereIsEveryCall, ApartIsACall};
+ghost use Rattle.sk_when.specs.Diffs.{HoldsOnEveryCall, FailsOnACall, FollowedIsDecided};
 ghost use Rattle.sk_when.specs.WorkedDiffs.{CallsWork, DifferencesWork, PartsWork};
 
 /// What is told of a filter that compares a word again, and that has a path which no call takes.
@@ -8,14 +8,19 @@ pub fn worked_rows()
     ensures rows { RowsWork }
 {}
 
-/// Where two chains are said to stand so on every call, they do.
-pub fn everywhere_is_every_call()
-    ensures law { EverywhereIsEveryCall }
+/// Where it is said that the relation between two chains holds, it does on every call.
+pub fn holds_on_every_call()
+    ensures law { HoldsOnEveryCall }
 {}
 
-/// Where they are said not to, there is a call on which they do not.
-pub fn apart_is_a_call()
-    ensures law { ApartIsACall }
+/// Where it is said that it fails, there is a call on which it does.
+pub fn fails_on_a_call()
+    ensures law { FailsOnACall }
+{}
+
+/// Of two chains that are followed one of these is said, unless the steps of a piece were used up.
+pub fn followed_is_decided()
+    ensures law { FollowedIsDecided }
 {}
 
 /// How calls, differences and parts are told, worked out by hand.

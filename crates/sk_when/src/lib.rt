@@ -14,7 +14,7 @@ mod showing;
 mod when_engine;
 mod when_text;
 
-pub use diff_engine::{Comparison, Standing, diff};
+pub use diff_engine::{Comparison, Finding, diff};
 pub use picture::dot;
-pub use sk_conditions::Relation;
+pub use sk_conditions::{Budget, Budgets, Relation};
 pub use when_engine::when;

@@ -1,4 +1,4 @@
-//! The calls of some numbers on which the verdicts of two chains do not stand so to each other.
+//! The calls of some numbers on which the relation between the verdicts of two chains fails.
 ghost use Rattle.std.specs.Prelude.{◌≡◌, ◌<◌, ◌≤◌, true, [], ◌∷◌, IfOk, IfSome, map};
 ghost use Rattle.std.specs.List.{All, list_any};
 ghost use Rattle.sk_insn.specs.declared.record.Record.{Record};
@@ -17,6 +17,9 @@ use sk_conditions::{
 use sk_insn::Record;
 use sk_terms::{Decision, LeftOut, Line, decide, lines_of};
 use std::alloc::{AllocError, Global};
+
+/// What the tree of differences tells of a call on which the relation holds. It counts the pairs of verdicts from 1.
+const ALIKE: u32 = 0;
 
 /// Compares two chains on the calls of some numbers.
 pub fn piece_of(
@@ -75,7 +78,7 @@ fn undecided() -> Part
     }
 }
 
-/// The same where they do not stand so on this call.
+/// The parts of some numbers, where the relation fails on this call.
 fn parts_with(
     alloc: Global,
     chains: Comparing<'_>,
@@ -115,7 +118,7 @@ fn on_lines(
     requires decides { DecidesAs decision.now differences.now.tree }
     ensures hold { IfOk result (λ parts. HoldParts chains.entry parts.items) }
 {
-    let lines = lines_of(alloc, decision, LeftOut::End(Some(0)))?;
+    let lines = lines_of(alloc, decision, LeftOut::End(Some(ALIKE)))?;
     let parts = each_part(alloc, chains, lines, differences, budget)?;
     Ok(parts)
 }
@@ -135,12 +138,12 @@ fn with_shown(
     if any_shown(&more) {
         return Ok(more);
     }
-    more.push(this_one(chains, call))?;
+    more.push(part_of_call(chains, call))?;
     Ok(more)
 }
 
-/// A call on which they do not stand so.
-fn this_one(chains: Comparing<'_>, call: Record) -> Part
+/// The part of a call on which the relation fails.
+fn part_of_call(chains: Comparing<'_>, call: Record) -> Part
     requires apart { IsApart chains (Found.Apart call) }
     ensures holds { HoldsPart chains.entry result }
     ensures shown { is_shown result ≡ true }
@@ -165,7 +168,7 @@ fn on_every(decision: &Decision, relation: Relation, pairs: &[Verdicts]) -> Opti
     }
 }
 
-/// The pair with a number, which does not stand so.
+/// The pair that an end of the tree of differences numbers, for which the relation fails.
 fn pair_at(relation: Relation, pairs: &[Verdicts], number: Option<u32>) -> Option<Verdicts>
     ensures pair { IfSome result (IsPairOf relation pairs.now number) }
 {
@@ -215,13 +218,13 @@ fn part_of(
     ensures holds { HoldsPart chains.entry result }
 {
     match pair_at(chains.relation, &differences.pairs, line.value) {
-        Some(pair) => told_part(chains, line, pair, differences, budget),
-        None => open_part(line),
+        Some(pair) => decided_part(chains, line, pair, differences, budget),
+        None => undecided_part(line),
     }
 }
 
 // The calls that meet a line of which nothing is known.
-fn open_part(line: Line) -> Part
+fn undecided_part(line: Line) -> Part
     ensures calls { result.calls ≡ Calls.Meeting line }
     ensures holds { (chains : Comparing) → HoldsPart chains result }
 {
@@ -233,7 +236,7 @@ fn open_part(line: Line) -> Part
 }
 
 /// The calls that meet a line of which the verdicts are known.
-fn told_part(
+fn decided_part(
     chains: Comparing<'_>,
     line: Line,
     pair: Verdicts,

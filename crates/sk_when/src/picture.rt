@@ -12,15 +12,16 @@ use sk_terms::{Decision, Term, decide, push_term};
 use std::alloc::{AllocError, Global};
 use std::fmt::Write;
 
-/// The tree of terms that decides the calls with a number, as text for Graphviz.
-pub fn dot(alloc: Global, chain: &Chain, nr: u32) -> Result<String, AllocError>
-    ensures picture { IfOk result (λ text. IsPicture chain.now nr (string_bytes text)) }
+/// The tree of terms that decides the calls with a number, as text for Graphviz. Nothing bounds from above how many of the
+/// steps it takes.
+pub fn dot(alloc: Global, chain: &Chain, nr: u32, budget: &mut Budget) -> Result<String, AllocError>
+    ensures picture { IfOk result (λ text. IsPicture chain.now nr budget.new.steps (string_bytes text)) }
 {
     let numbers = Numbers {
         first: nr,
         last: nr,
     };
-    let tree = chain_tree(alloc, chain, numbers, &mut Budget::whole())?;
+    let tree = chain_tree(alloc, chain, numbers, budget)?;
     let decision = decide(alloc, &tree)?;
     dot_text(alloc, &decision)
 }

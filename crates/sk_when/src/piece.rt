@@ -14,17 +14,17 @@ pub enum Calls {
     This,
 }
 
-/// Calls on which the verdicts of two chains may not stand so to each other.
+/// Calls on which the relation between the verdicts of two chains may fail.
 #[derive(Drop)]
 pub struct Part {
     pub calls: Calls,
-    /// The verdicts on them, which do not stand so; none where it is undecided.
+    /// The verdicts on them, for which the relation fails; none where it is undecided.
     pub verdicts: Option<Verdicts>,
     /// One of the calls. Filters were run on it.
     pub shown: Option<Record>,
 }
 
-/// Neighbouring numbers, and their calls on which the verdicts may not stand so; on all others they do.
+/// Neighbouring numbers, and their calls on which the relation may fail; on all others it holds.
 #[derive(Drop)]
 pub struct Piece {
     pub numbers: Numbers,

@@ -1,13 +1,18 @@
 //! All numbers of calls, in pieces that are compared one by one.
-ghost use Rattle.std.specs.Prelude.{ℕ, List, [], ◌∷◌, ◌++◌, ◌≡◌, ◌+◌, ◌≤◌, IfOk, OnOk, IsTrue};
+ghost use Rattle.std.specs.Prelude.{ℕ, List, [], ◌∷◌, ◌++◌, ◌≡◌, ◌+◌, ◌^◌, ◌≤◌, true, false, is_some, IfOk, OnOk, IsTrue};
+ghost use Rattle.std.specs.List.{All};
+ghost use Rattle.std.specs.List.Sorted.{IsNonDecreasing};
 ghost use Rattle.sk_insn.specs.declared.insn.Insn.{Insn};
+ghost use Rattle.sk_call_names.specs.Names.{name_on};
+ghost use Rattle.sk_survey.specs.Cutting.{IsCutRound};
 ghost use Rattle.sk_conditions.specs.declared.standing.Relation.{Relation};
-ghost use Rattle.sk_when.specs.Pieces.{AreCompared, Holds, ArePartsOfOne};
+ghost use Rattle.sk_conditions.specs.Followed.{AreFollowed};
+ghost use Rattle.sk_when.specs.Pieces.{AreCompared, Holds, ArePartsOfOne, IsNamed, NamedAreAlone, NamedAreAloneIn, ShowsWhereOpen};
 
 use crate::parts::piece_of;
 use crate::piece::{Calls, Part, Piece};
 use sk_call_names::{Architecture, name, numbers};
-use sk_conditions::{Budget, Comparing, Numbers, Relation};
+use sk_conditions::{Budgets, Comparing, Numbers, Relation};
 use sk_filter::Chain;
 use sk_survey::cuts::cuts;
 use std::alloc::{AllocError, Global};
@@ -19,38 +24,62 @@ pub fn pieces(
     relation: Relation,
     old: &Chain,
     new: &Chain,
+    budgets: &mut Budgets,
 ) -> Result<Vec<Piece>, AllocError>
-    ensures compared { IfOk result (λ pieces. AreCompared relation old.now new.now 0 4294967296 pieces.items) }
+    ensures compared { IfOk result (λ pieces. AreCompared relation old.now new.now 0 (2 ^ 32) pieces.items) }
+    ensures alone { IfOk result (λ pieces. All (NamedAreAloneIn architecture) pieces.items) }
+    ensures decided { IfOk result (λ pieces. All AreFollowed old.now → All AreFollowed new.now → budgets.new.is_spent ≡ false
+        → All ShowsWhereOpen pieces.items) }
 {
-    let mut budget = Budget::whole();
-    let mut pieces = Vec::new(alloc);
-    let mut first = 0;
-    for beginning in &beginnings(alloc, architecture, old, new)? {
-        if first < *beginning {
-            let chains = Comparing {
-                relation,
-                old,
-                new,
-                numbers: Numbers {
-                    first,
-                    last: *beginning - 1,
-                },
-            };
-            push_piece(alloc, &mut pieces, architecture, chains, &mut budget)?;
-            first = *beginning;
-        }
-    }
-    let chains = Comparing {
+    let beginnings = beginnings(alloc, architecture, old, new)?;
+    let last = u32::MAX;
+    let all = Comparing {
         relation,
         old,
         new,
-        numbers: Numbers {
-            first,
-            last: u32::MAX,
-        },
+        numbers: Numbers { first: 0, last },
     };
-    push_piece(alloc, &mut pieces, architecture, chains, &mut budget)?;
+    let mut pieces = Vec::new(alloc);
+    let first = push_pieces(alloc, &mut pieces, architecture, all, &beginnings, budgets)?;
+    let behind = Comparing {
+        numbers: Numbers { first, last },
+        ..all
+    };
+    push_piece(alloc, &mut pieces, architecture, behind, budgets)?;
     Ok(pieces)
+}
+
+/// Compares the chains on the calls of the numbers below the last beginning, and tells the first number behind them.
+fn push_pieces(
+    alloc: Global,
+    pieces: &mut Vec<Piece>,
+    architecture: Architecture,
+    chains: Comparing<'_>,
+    beginnings: &[u32],
+    budgets: &mut Budgets,
+) -> Result<u32, AllocError>
+    requires none { pieces.old.items ≡ [] }
+    requires rising { IsNonDecreasing beginnings.now }
+    requires round { (nr : ℕ) → IsTrue (is_some (name_on architecture nr)) → IsCutRound beginnings.now nr }
+    ensures compared { IfOk result (λ first. AreCompared chains.entry.relation chains.entry.old.now chains.entry.new.now 0 first pieces.new.items) }
+    ensures alone { IfOk result (λ first. All (NamedAreAloneIn architecture) pieces.new.items) }
+    ensures decided { IfOk result (λ first. All AreFollowed chains.entry.old.now → All AreFollowed chains.entry.new.now → budgets.new.is_spent ≡ false
+        → All ShowsWhereOpen pieces.new.items) }
+    ensures passed { IfOk result (λ first. All (λ beginning. beginning ≤ first) beginnings.now) }
+{
+    let mut first = 0u32;
+    for beginning in beginnings {
+        if first < *beginning {
+            let last = *beginning - 1;
+            let next = Comparing {
+                numbers: Numbers { first, last },
+                ..chains
+            };
+            push_piece(alloc, pieces, architecture, next, budgets)?;
+            first = *beginning;
+        }
+    }
+    Ok(first)
 }
 
 /// Compares the chains on the calls of some numbers, behind the others.
@@ -59,16 +88,23 @@ fn push_piece(
     pieces: &mut Vec<Piece>,
     architecture: Architecture,
     chains: Comparing<'_>,
-    budget: &mut Budget,
+    budgets: &mut Budgets,
 ) -> Result<(), AllocError>
     requires range { chains.numbers.first ≤ chains.numbers.last }
     ensures compared { OnOk result ((from : ℕ)
         → AreCompared chains.entry.relation chains.entry.old.now chains.entry.new.now from chains.entry.numbers.first pieces.old.items
         → AreCompared chains.entry.relation chains.entry.old.now chains.entry.new.now from (chains.entry.numbers.last + 1) pieces.new.items) }
+    ensures alone { OnOk result ((from : ℕ)
+        → AreCompared chains.entry.relation chains.entry.old.now chains.entry.new.now from chains.entry.numbers.first pieces.old.items
+        → All (NamedAreAloneIn architecture) pieces.old.items → NamedAreAlone architecture chains.entry.numbers
+        → All (NamedAreAloneIn architecture) pieces.new.items) }
+    ensures decided { OnOk result (All AreFollowed chains.entry.old.now → All AreFollowed chains.entry.new.now
+        → (budgets.old.is_spent ≡ false → All ShowsWhereOpen pieces.old.items) → budgets.new.is_spent ≡ false
+        → All ShowsWhereOpen pieces.new.items) }
 {
-    let mut row = budget.row();
+    let mut row = budgets.row();
     let piece = piece_of(alloc, chains, &mut row)?;
-    budget.put_back(row);
+    budgets.put_back(row);
     push(pieces, architecture, piece)
 }
 
@@ -78,6 +114,10 @@ fn push(pieces: &mut Vec<Piece>, architecture: Architecture, piece: Piece) -> Re
     ensures compared { OnOk result ((relation : Relation) (old new : List (List Insn)) (from : ℕ)
         → AreCompared relation old new from piece.numbers.first pieces.old.items → Holds relation old new piece
         → AreCompared relation old new from (piece.numbers.last + 1) pieces.new.items) }
+    ensures alone { OnOk result ((relation : Relation) (old new : List (List Insn)) (from : ℕ)
+        → AreCompared relation old new from piece.numbers.first pieces.old.items → All (NamedAreAloneIn architecture) pieces.old.items
+        → NamedAreAloneIn architecture piece → All (NamedAreAloneIn architecture) pieces.new.items) }
+    ensures decided { OnOk result (All ShowsWhereOpen pieces.old.items → ShowsWhereOpen piece → All ShowsWhereOpen pieces.new.items) }
 {
     let Some(last) = pieces.pop() else {
         pieces.push(piece)?;
@@ -118,13 +158,16 @@ fn push_joined(pieces: &mut Vec<Piece>, last: Piece, piece: Piece) -> Result<(),
 /// Whether two pieces say one thing of numbers without a name.
 fn are_one(architecture: Architecture, one: &Piece, other: &Piece) -> bool
     ensures one { IsTrue result → ArePartsOfOne one.now.parts.items other.now.parts.items }
+    ensures unnamed { IsTrue result → (IsNamed architecture one.now.numbers → ⊥) × (IsNamed architecture other.now.numbers → ⊥) }
 {
     !is_named(architecture, one.numbers)
         && !is_named(architecture, other.numbers)
         && say_the_same(&one.parts, &other.parts)
 }
 
-fn is_named(architecture: Architecture, numbers: Numbers) -> bool {
+fn is_named(architecture: Architecture, numbers: Numbers) -> bool
+    ensures named { IsNamed architecture numbers → IsTrue result }
+{
     numbers.first == numbers.last && name(architecture, numbers.first).is_some()
 }
 
@@ -154,7 +197,10 @@ fn beginnings(
     architecture: Architecture,
     old: &Chain,
     new: &Chain,
-) -> Result<Vec<u32>, AllocError> {
+) -> Result<Vec<u32>, AllocError>
+    ensures rising { IfOk result (λ beginnings. IsNonDecreasing beginnings.items) }
+    ensures round { IfOk result (λ beginnings. (nr : ℕ) → IsTrue (is_some (name_on architecture nr)) → IsCutRound beginnings.items nr) }
+{
     let named = numbers(alloc, architecture)?;
     let mut beginnings = cuts(alloc, old, &named)?;
     beginnings.extend_from_slice(&cuts(alloc, new, &[])?)?;

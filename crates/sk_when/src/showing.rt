@@ -11,7 +11,7 @@ use sk_insn::Record;
 use sk_terms::{Line, meets};
 
 /// The steps that it takes to see whether a call meets a line.
-const LOOK: u64 = 64;
+const STEPS_A_LOOK: u64 = 64;
 
 /// Whether a part shows a call.
 pub fn any_shown(parts: &[Part]) -> bool
@@ -33,7 +33,7 @@ pub fn shown_among(
     ensures verdicts { IfSome result (HasVerdicts chains.entry.old.now chains.entry.new.now pair) }
 {
     for call in calls {
-        if !budget.take(LOOK) {
+        if !budget.take(STEPS_A_LOOK) {
             return None;
         }
         if chains.numbers.has(call) && meets(line, call) && runs_so(chains, pair, call) {

@@ -3,7 +3,7 @@ ghost use Rattle.std.specs.Prelude.{◌≡◌, ◌++◌, IfOk, OnOk, string_byte
 ghost use Rattle.sk_survey.specs.Answers.{answers_of};
 ghost use Rattle.sk_when.specs.WhenText.{value_text, line_text, ends_text, row_text, when_text};
 
-use crate::row::Told;
+use crate::row::ConditionalRow;
 use sk_call_names::Architecture;
 use sk_filter::push_verdict;
 use sk_survey::Answers;
@@ -15,7 +15,7 @@ use std::alloc::{AllocError, Global};
 pub fn when_text(
     alloc: Global,
     architecture: Architecture,
-    rows: &[Told],
+    rows: &[ConditionalRow],
 ) -> Result<String, AllocError>
     ensures text { IfOk result (λ text. string_bytes text ≡ when_text architecture rows.now) }
 {
@@ -27,7 +27,11 @@ pub fn when_text(
 }
 
 #[tactic(auto, unfolding(crate::specs::WhenText::row_text))]
-fn push_row(text: &mut String, architecture: Architecture, told: &Told) -> Result<(), AllocError>
+fn push_row(
+    text: &mut String,
+    architecture: Architecture,
+    told: &ConditionalRow,
+) -> Result<(), AllocError>
     ensures text { OnOk result (string_bytes text.new ≡ string_bytes text.old ++ row_text architecture told.now) }
 {
     push_numbers(text, told.row.first, told.row.last)?;

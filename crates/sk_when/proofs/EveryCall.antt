@@ -1,5 +1,5 @@
 -- What is said of all pieces holds of every call.
-use Rattle.std.proofs.Common.{ℕ, ◌≡◌, ◌+◌, ◌≤◌, ◌<◌, true, false, Bool, ◌||◌, ◌⊎◌, if◌then◌else◌, inl, inr, List, [], ◌∷◌, Option, Some, None, refl, sym, arith}
+use Rattle.std.proofs.Common.{ℕ, ◌≡◌, ◌+◌, ◌≤◌, ◌<◌, true, false, Bool, ◌||◌, ◌⊎◌, if◌then◌else◌, inl, inr, List, [], ◌∷◌, Option, Some, None, refl, sym, ap, ◌∙◌, arith}
 use Rattle.std.specs.List.{All, list_any}
 use Rattle.std.specs.Option.{option_map_or}
 use Rattle.std.proofs.lemmas.Bool.{cases_lt, true≢false}
@@ -11,13 +11,13 @@ use Rattle.sk_survey.specs.Answers.{IsCallOf}
 use Rattle.sk_conditions.specs.declared.differences.Verdicts.{Verdicts}
 use Rattle.sk_conditions.specs.declared.numbers.Numbers.{Numbers}
 use Rattle.sk_conditions.specs.declared.standing.Relation.{Relation}
-use Rattle.sk_when.specs.declared.diff_engine.Standing.TheVariants as standing
+use Rattle.sk_when.specs.declared.diff_engine.Finding.TheVariants as finding
 use Rattle.sk_when.specs.declared.piece.Calls.{Calls}
 use Rattle.sk_when.specs.declared.piece.Part.{Part}
 use Rattle.sk_when.specs.declared.piece.Piece.{Piece}
-use Rattle.sk_when.specs.Diffs.{EverywhereIsEveryCall, ApartIsACall}
+use Rattle.sk_when.specs.Diffs.{HoldsOnEveryCall, FailsOnACall, FollowedIsDecided}
 use Rattle.sk_conditions.specs.Comparing.{stands_on}
-use Rattle.sk_when.specs.Pieces.{AreCompared, Cover, HoldsOf, IsShown, is_apart, is_open, is_shown, has_parts}
+use Rattle.sk_when.specs.Pieces.{AreCompared, Cover, HoldsOf, IsShown, ShowsWhereOpen, is_apart, is_open, is_shown, has_parts}
 
 neither : (a b : Bool) → (a || b) ≡ false → (a ≡ false) × (b ≡ false)
 neither true b e = cc
@@ -27,7 +27,7 @@ one : (a b : Bool) → (a || b) ≡ true → (a ≡ true) ⊎ (b ≡ true)
 one true b e = inl refl
 one false b e = inr e
 
--- a piece without parts stands so on its calls
+-- the relation holds on the calls of a piece without parts
 stands_here : (relation : Relation) (old new : List (List Insn)) (numbers : Numbers) (parts : List Part) → has_parts parts ≡ false
     → Cover relation old new numbers parts → (call : Record) → IsCallOf numbers.first numbers.last call → stands_on relation old new call ≡ true
 stands_here relation old new numbers (part ∷ parts) none cover call within = absurd (true≢false none)
@@ -79,21 +79,44 @@ finds relation old new (piece ∷ pieces) from end compared apart = elim (one (i
   | inr behind ↦ finds relation old new pieces (piece.numbers.last + 1) end compared.3 behind
 ]
 
-both_false : (a b : Bool) → standing.Everywhere ≡ (if a then standing.Apart else if b then standing.Undecided else standing.Everywhere) → (a ≡ false) × (b ≡ false)
+both_false : (a b : Bool) → finding.Holds ≡ (if a then finding.Fails else if b then finding.Undecided else finding.Holds) → (a ≡ false) × (b ≡ false)
 both_false true b e = cc
 both_false false true e = cc
 both_false false false e = (refl, refl)
 
-first_true : (a b : Bool) → standing.Apart ≡ (if a then standing.Apart else if b then standing.Undecided else standing.Everywhere) → a ≡ true
+first_true : (a b : Bool) → finding.Fails ≡ (if a then finding.Fails else if b then finding.Undecided else finding.Holds) → a ≡ true
 first_true true b e = refl
 first_true false true e = cc
 first_true false false e = cc
 
-pub everywhere_is_every_call : EverywhereIsEveryCall
-everywhere_is_every_call architecture relation old new text it call native below =
+pub holds_on_every_call : HoldsOnEveryCall
+holds_on_every_call architecture relation old new is_spent text it call native below =
     let none = both_false (list_any is_apart it.pieces) (list_any is_open it.pieces) it.stands in
     covers relation old new it.pieces 0 4294967296 it.compared none.1 call native (omega arith) below
 
-pub apart_is_a_call : ApartIsACall
-apart_is_a_call architecture relation old new text it =
+pub fails_on_a_call : FailsOnACall
+fails_on_a_call architecture relation old new is_spent text it =
     finds relation old new it.pieces 0 4294967296 it.compared (first_true (list_any is_apart it.pieces) (list_any is_open it.pieces) it.stands)
+
+-- pieces of which each that is open shows a call
+one_of : (a b : Bool) → b ≡ true → (a || b) ≡ true
+one_of true b e = refl
+one_of false b e = e
+
+some_shown : (pieces : List Piece) → All ShowsWhereOpen pieces → list_any is_open pieces ≡ true → list_any is_apart pieces ≡ true
+some_shown [] all some = some
+some_shown (piece ∷ pieces) all some = elim (one (is_open piece) (list_any is_open pieces) some) [
+  | inl here ↦ ap (λ b. b || list_any is_apart pieces) (All-head ShowsWhereOpen piece pieces all here)
+  | inr behind ↦
+      one_of (is_apart piece) (list_any is_apart pieces) (some_shown pieces (All-tail ShowsWhereOpen piece pieces all) behind)
+]
+
+false_true : (a b : Bool) → finding.Undecided ≡ (if a then finding.Fails else if b then finding.Undecided else finding.Holds) → (a ≡ false) × (b ≡ true)
+false_true true b e = cc
+false_true false true e = (refl, refl)
+false_true false false e = cc
+
+pub followed_is_decided : FollowedIsDecided
+followed_is_decided architecture relation old new text follows follows' it =
+    let split = false_true (list_any is_apart it.pieces) (list_any is_open it.pieces) it.stands in
+    absurd (true≢false (sym (some_shown it.pieces (it.decided follows follows' refl) split.1) ∙ split.0))

@@ -1,6 +1,6 @@
 use Rattle.std.proofs.Common.{refl}
 use Rattle.sk_when.proofs.PartsTold.{part_told}
-use Rattle.sk_when.proofs.parts.told_part.Goals as goal
+use Rattle.sk_when.proofs.parts.decided_part.Goals as goal
 
 pub returns : goal.returns
 returns c = record {

@@ -1,0 +1,12 @@
+use Rattle.std.proofs.Common.{ℕ, ◌≤◌, List, arith, subst}
+use Rattle.std.specs.List.{All}
+use Rattle.sk_when.proofs.Alone.{named_behind}
+use Rattle.sk_when.proofs.pieces.pieces.Goals as goal
+
+pub returns-clause-alone : goal.returns-clause-alone
+returns-clause-alone c =
+    let before = c.in_ok-first.ensures in
+    let passed = subst (λ (all : List ℕ). All (λ beginning. beginning ≤ c.in_ok-first.first) all) c.deref.ensures.value before.passed in
+    c.in_ok-push_piece.ensures.alone 0 before.compared before.alone
+    (named_behind c.args.architecture c.in_ok-beginnings.beginnings.items (record { first = c.in_ok-first.first; last = 4294967295 })
+    c.in_ok-beginnings.ensures.round passed (omega arith))
