@@ -4,6 +4,7 @@ use Rattle.std.proofs.lemmas.List.{take_all}
 use Rattle.std.proofs.lemmas.List.Elements.{All-more}
 use Rattle.std.proofs.lemmas.Option.{slice_get-get_or}
 use Rattle.sk_insn.specs.declared.insn.Insn.{Insn}
+use Rattle.sk_call_names.specs.Architectures.{audit_of}
 use Rattle.sk_arches.specs.ChainsFor.{chain_for}
 use Rattle.sk_arches.specs.Alike.{IsAlike}
 use Rattle.sk_arches.proofs.numbered.are_judged_alike.Goals as goal
@@ -24,15 +25,15 @@ returns-then-not-branch c =
 
 pub loop-nr-preserved : goal.loop-nr-preserved
 loop-nr-preserved c =
+    let own = c.in_ok-own.ensures.chain ∙ ap (λ arch. chain_for arch c.args.chain.now) c.audit.ensures.number in
     let nr = slice_index_or c.args.numbers.now c.loop-nr.nr-index 0 in
-    All-more (λ nr. IsAlike c.args.chain.now c.in_ok-own.own nr (bit_or nr c.args.bits) true) c.args.numbers.now c.loop-nr.nr-index 0 (omega arith)
+    let is = subst (IsAlike c.args.chain.now c.in_ok-own.own nr (bit_or nr c.args.bits)) c.if-not-branch.false c.in_ok-is_judged_alike.ensures.alike in
+    All-more (λ nr. IsAlike c.args.chain.now (chain_for (audit_of c.args.architecture) c.args.chain.now) nr (bit_or nr c.args.bits) true) c.args.numbers.now c.loop-nr.nr-index 0 (omega arith)
     c.loop-nr.invariant
-    (subst (IsAlike c.args.chain.now c.in_ok-own.own nr (bit_or nr c.args.bits)) c.if-not-branch.false c.in_ok-is_judged_alike.ensures.alike)
+    (subst (λ (others : List (List Insn)). IsAlike c.args.chain.now others nr (bit_or nr c.args.bits) true) own is)
 
 pub returns : goal.returns
 returns c =
-    let own = c.in_ok-own.ensures.chain ∙ ap (λ arch. chain_for arch c.args.chain.now) c.audit.ensures.number in
     let whole = take_all c.loop-nr.nr-index c.args.numbers.now (omega arith) in record {
-      alike = subst (λ (others : List (List Insn)). All (λ nr. IsAlike c.args.chain.now others nr (bit_or nr c.args.bits) true) c.args.numbers.now) own
-          (subst (All (λ nr. IsAlike c.args.chain.now c.in_ok-own.own nr (bit_or nr c.args.bits) true)) whole c.loop-nr.invariant);
+      alike = subst (All (λ nr. IsAlike c.args.chain.now (chain_for (audit_of c.args.architecture) c.args.chain.now) nr (bit_or nr c.args.bits) true)) whole c.loop-nr.invariant;
     }
