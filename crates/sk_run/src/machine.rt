@@ -124,7 +124,7 @@ impl<S: ProcStore> Machine<S> {
             &mut self.kernel,
             &mut self.stacks,
             self.alloc,
-            programs,
+            &self.programs,
             has_line,
             &event,
         )?;

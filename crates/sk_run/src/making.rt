@@ -28,17 +28,17 @@ pub(crate) fn make<S: ProcStore>(
     kernel: &mut Kernel<S>,
     stacks: &mut Stacks,
     alloc: Global,
-    programs: &[Program],
+    programs: &Vec<Program>,
     has_line: bool,
     event: &Event,
 ) -> Result<Answer, AllocError>
     requires possible { reason_of kernel.old.world event.now ≡ None }
     requires there { pid_of event.now < vec_len stacks.old }
-    requires line { is_some (line_due programs.now (stacks_of stacks.old.items (pid_of event.now))) ≡ has_line }
+    requires line { is_some (line_due programs.now.items (stacks_of stacks.old.items (pid_of event.now))) ≡ has_line }
     requires room { IsTrue has_line → (stacks_of stacks.old.items (pid_of event.now)).top.position < 2 ^ 63 }
     ensures answer { IfOk result (λ answer. answer ≡ (step_of kernel.old.images kernel.old.world event.now).answer) }
     ensures world { OnOk result (kernel.new.world ≡ (step_of kernel.old.images kernel.old.world event.now).world) }
-    ensures stacks { IfOk result (λ answer. stacks_of stacks.new.items ≡ stacks_after (line_due programs.now (stacks_of stacks.old.items (pid_of event.now))) event.now answer (stacks_of stacks.old.items)) }
+    ensures stacks { IfOk result (λ answer. stacks_of stacks.new.items ≡ stacks_after (line_due programs.now.items (stacks_of stacks.old.items (pid_of event.now))) event.now answer (stacks_of stacks.old.items)) }
     ensures kept { OnErr result (kernel.new.world ≡ kernel.old.world) }
     ensures kept_stacks { OnErr result (stacks_of stacks.new.items ≡ stacks_of stacks.old.items) }
     ensures images { kernel.new.images ≡ kernel.old.images }
@@ -77,17 +77,17 @@ fn follow_event(
     stacks: &mut Stacks,
     alloc: Global,
     copy: Option<Levels>,
-    programs: &[Program],
+    programs: &Vec<Program>,
     has_line: bool,
     event: &Event,
     answer: &Answer,
 )
     requires there { pid_of event.now < vec_len stacks.old }
-    requires line { is_some (line_due programs.now (stacks_of stacks.old.items (pid_of event.now))) ≡ has_line }
+    requires line { is_some (line_due programs.now.items (stacks_of stacks.old.items (pid_of event.now))) ≡ has_line }
     requires room { IsTrue has_line → (stacks_of stacks.old.items (pid_of event.now)).top.position < 2 ^ 63 }
     requires ready { IsReady stacks.old.items (vec_capacity stacks.old) event.now copy }
     requires child { IsTrue (is_fork event.now) → ChildIsLow answer.now }
-    ensures stacks { stacks_of stacks.new.items ≡ stacks_after (line_due programs.now (stacks_of stacks.old.items (pid_of event.now))) event.now answer.now (stacks_of stacks.old.items) }
+    ensures stacks { stacks_of stacks.new.items ≡ stacks_after (line_due programs.now.items (stacks_of stacks.old.items (pid_of event.now))) event.now answer.now (stacks_of stacks.old.items) }
 {
     match event {
         Event::Call { pid, call, .. } => {
@@ -133,15 +133,15 @@ fn follow_child(
     stacks: &mut Stacks,
     alloc: Global,
     copy: Levels,
-    programs: &[Program],
+    programs: &Vec<Program>,
     child: Option<u64>,
 )
     requires places { LAST_PID < vec_capacity stacks.old }
     requires low { IfSome child (λ pid. pid ≤ LAST_PID) }
-    ensures stacks { stacks_of stacks.new.items ≡ with_child child (begun (script_of_child (line_due programs.now (stack_of copy))) (made (line_due programs.now (stack_of copy)) true (stack_of copy))) (stacks_of stacks.old.items) }
+    ensures stacks { stacks_of stacks.new.items ≡ with_child child (begun (script_of_child (line_due programs.now.items (stack_of copy))) (made (line_due programs.now.items (stack_of copy)) true (stack_of copy))) (stacks_of stacks.old.items) }
 {
     if let Some(child) = child {
-        let line = line_due(programs, &copy);
+        let line = line_due(programs.as_slice(), &copy);
         let mut levels = copy;
         levels.advance(line.is_some(), true);
         let program = script_of_child(line);

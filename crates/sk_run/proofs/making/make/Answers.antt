@@ -13,7 +13,7 @@ follow_event-requires-clause-room g c =
 
 pub follow_event-requires-clause-line : goal.follow_event-requires-clause-line
 follow_event-requires-clause-line g c =
-    subst (λ (all : Stacks). is_some (line_due c.args.programs.now (all (pid_of c.args.event.now))) ≡ c.args.has_line) (sym c.prepare.ensures.stacks) c.requires.line
+    subst (λ (all : Stacks). is_some (line_due c.args.programs.now.items (all (pid_of c.args.event.now))) ≡ c.args.has_line) (sym c.prepare.ensures.stacks) c.requires.line
 
 pub follow_event-requires-clause-child : goal.follow_event-requires-clause-child
 follow_event-requires-clause-child g c is =
@@ -22,5 +22,5 @@ follow_event-requires-clause-child g c is =
 pub returns-clause-stacks : goal.returns-clause-stacks
 returns-clause-stacks g c =
     let event = c.args.event.now in
-    subst (λ (all : Stacks). stacks_of c.follow_event.new.stacks.items ≡ stacks_after (line_due c.args.programs.now (all (pid_of event))) event c.in_ok-answer.answer all)
+    subst (λ (all : Stacks). stacks_of c.follow_event.new.stacks.items ≡ stacks_after (line_due c.args.programs.now.items (all (pid_of event))) event c.in_ok-answer.answer all)
     c.prepare.ensures.stacks c.follow_event.ensures.stacks

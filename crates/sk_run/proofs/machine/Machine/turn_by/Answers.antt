@@ -40,4 +40,4 @@ returns-clause-after g c =
     (rw (c.as_slice-programs.ensures.value, c.requires.need) at c.event_by-event.ensures.event)
     c.in_ok-answer.ensures.answer
     c.in_ok-answer.ensures.world
-    (rw c.as_slice-programs.ensures.value at c.in_ok-answer.ensures.stacks)
+    c.in_ok-answer.ensures.stacks
