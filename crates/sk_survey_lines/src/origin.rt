@@ -22,14 +22,7 @@ impl Origin {
 
     /// A call on which a comparison of these bits with a number may come out in the other way. The registers of the run
     /// say how it came out on this call.
-    pub fn turned(
-        self,
-        call: &Record,
-        comparison: Comparison,
-        a: u32,
-        b: u32,
-        held: bool,
-    ) -> Record
+    pub fn turned(self, call: &Record, comparison: Comparison, a: u32, b: u32, held: bool) -> Record
         ensures architecture { result.arch ≡ call.now.arch }
     {
         let lowest = self.bits & self.bits.wrapping_neg();
