@@ -13,15 +13,15 @@ import sys
 
 ROOT = os.path.dirname(os.path.dirname(os.path.abspath(__file__)))
 PAGE = os.path.join(ROOT, "docs", "DEFINITIONS.md")
-IMPORT = re.compile(r"^use Rattle\.(sk_\w+)\.specs\.([\w.]+?)(?:\.\{.*| as .*)?$")
+IMPORT = re.compile(r"^(?:pub )?use Rattle\.(sk_\w+)\.specs\.([\w.]+?)(?:\.\{.*| as .*)?$")
 # What each command reads and writes.
 TEXTS = ["sk_asm/Assembly", "sk_asm/Listing", "sk_engines/EvalCommand", "sk_engines/CheckCommand", "sk_engines/AsmCommand", "sk_engines/ListCommand"]
 # Each promise, and the definitions that it is said in.
 PROMISES = [
     ("filters", ["sk_filter/Verdict", "sk_filter/Valid", "sk_filter/FirstFault"]),
     ("the texts of filters and their commands", TEXTS),
-    ("the kernel, with lines", ["sk_machine/Machine", "sk_machine/Lines"]),
-    ("the kernel, with lines, turns and memory", ["sk_machine/Machine", "sk_machine/Lines", "sk_machine/Turns", "sk_machine/Memory"]),
+    ("the kernel, with lineages", ["sk_machine/Machine", "sk_machine/Lineages"]),
+    ("the kernel, with lineages, turns and memory", ["sk_machine/Machine", "sk_machine/Lineages", "sk_machine/Turns", "sk_machine/Memory"]),
     ("the kernel and the laws on each run", ["sk_machine/Machine", "sk_machine_laws/RunLaws"]),
     ("scenarios", ["sk_scenario/Scenario", "sk_scenario/Faults"]),
     ("reports", ["sk_report/Report"]),

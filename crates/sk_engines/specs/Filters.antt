@@ -6,7 +6,7 @@ use Rattle.sk_insn.specs.declared.image.NoImage.{NoImage}
 use Rattle.sk_insn.specs.Instructions.{image_instructions}
 use Rattle.sk_filter.specs.declared.fault.CheckFault.{CheckFault}
 use Rattle.sk_filter.specs.FirstFault.{first_fault}
-use Rattle.sk_filter.specs.Chains.{path_limit, cost_of}
+use Rattle.sk_filter.specs.PathLimit.{path_limit, cost_of}
 use Rattle.sk_engines.specs.declared.filters.Refusal.{Refusal}
 use Rattle.sk_engines.specs.declared.filters.Refusal.TheVariants.{Image, Program, PathLimit}
 use Rattle.sk_engines.specs.Output.{Output, refused, line}

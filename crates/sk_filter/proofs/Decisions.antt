@@ -1,7 +1,7 @@
 -- The first fault as a function is the first fault: its tests decide what the rules say.
 use Rattle.std.proofs.Common.{ℕ, zero, suc, ◌≡◌, ◌<◌, ◌≤◌, ◌⊎◌, inl, inr, Bool, true, false, not, ◌||◌, List, [], ◌∷◌, Option, Some, None, length, refl, sym, subst, ap, ◌∙◌, arith}
 use Rattle.std.specs.Prelude.{slice_get, ◌==◌, IsSomeAnd}
-use Rattle.std.specs.Option.{option_map_or, option_and_then}
+use Rattle.std.specs.Option.{option_map_or, option_and_then, option_or}
 use Rattle.std.proofs.lemmas.Bool.{cases_eq, eqb-true, eq-eqb, and_parts, and_from, or_cases, or_left, or_right, not-true, not-false, not_from_false, false_from_ne_true, true≢false}
 use Rattle.sk_insn.specs.declared.insn.Insn.{Insn}
 use Rattle.sk_insn.specs.declared.operation.Operation.{Operation}
@@ -12,7 +12,7 @@ use Rattle.sk_filter.specs.Paths.{Onward, Nowhere, To, Either, onward, loaded_wo
 use Rattle.sk_filter.specs.Places.{unless}
 use Rattle.sk_filter.proofs.Told.{unless-Some, unless-None}
 use Rattle.sk_filter.proofs.ForwardPass.{at_only, forwards}
-use Rattle.sk_filter.specs.FirstFault.{or_else, first_below, any_below, of_insn, is_bare, unstored_of}
+use Rattle.sk_filter.specs.FirstFault.{first_below, any_below, of_insn, is_bare, unstored_of}
 
 -- ---- tests
 
@@ -92,18 +92,18 @@ path_length insns place (k ∷ earlier) ((insn, here, leads), path) =
 
 -- ---- answers for a place
 
-or_else-None : (a b : Option CheckFault) → or_else a b ≡ None → (a ≡ None) × (b ≡ None)
-or_else-None (Some fault) b e = cc
-or_else-None None b e = (refl, e)
+option_or-None : (a b : Option CheckFault) → option_or a b ≡ None → (a ≡ None) × (b ≡ None)
+option_or-None (Some fault) b e = cc
+option_or-None None b e = (refl, e)
 
-or_else-Some : (a b : Option CheckFault) (fault : CheckFault) → or_else a b ≡ Some fault → (a ≡ Some fault) ⊎ ((a ≡ None) × (b ≡ Some fault))
-or_else-Some (Some other) b fault e = inl e
-or_else-Some None b fault e = inr (refl, e)
+option_or-Some : (a b : Option CheckFault) (fault : CheckFault) → option_or a b ≡ Some fault → (a ≡ Some fault) ⊎ ((a ≡ None) × (b ≡ Some fault))
+option_or-Some (Some other) b fault e = inl e
+option_or-Some None b fault e = inr (refl, e)
 
 pub first_below-None : (n : ℕ) (answer : ℕ → Option CheckFault) → first_below n answer ≡ None → (k : ℕ) → k < n → answer k ≡ None
 first_below-None zero answer e k less = absurd (omega arith)
 first_below-None (suc n) answer e k less =
-    let parts = or_else-None (first_below n answer) (answer n) e in
+    let parts = option_or-None (first_below n answer) (answer n) e in
     elim (cases_eq k n) [
       | inl here ↦ subst (λ i. answer i ≡ None) (sym here) parts.1
       | inr other ↦ first_below-None n answer parts.0 k (omega arith)
@@ -119,7 +119,7 @@ pub record IsFirstBelow (n : ℕ) (answer : ℕ → Option CheckFault) (fault : 
 pub first_below-Some : (n : ℕ) (answer : ℕ → Option CheckFault) (fault : CheckFault) → first_below n answer ≡ Some fault → IsFirstBelow n answer fault
 first_below-Some zero answer fault e = cc
 first_below-Some (suc n) answer fault e =
-    elim (or_else-Some (first_below n answer) (answer n) fault e) [
+    elim (option_or-Some (first_below n answer) (answer n) fault e) [
       | inl before ↦ let found = first_below-Some n answer fault before in let less : found.place < n = found.below in record { place = found.place; below = omega arith; here = found.here; before = found.before }
       | inr here ↦ record { place = n; below = omega arith; here = here.1; before = first_below-None n answer here.0 }
     ]

@@ -1,5 +1,6 @@
 -- The first fault as a function is the first fault, stage by stage.
 use Rattle.std.proofs.Common.{ℕ, ◌≡◌, ◌+◌, ◌-◌, ◌<◌, ◌≤◌, inl, inr, false, true, slice_index_or, List, Option, Some, None, length, refl, sym, subst, ◌⊎◌, arith}
+use Rattle.std.specs.Option.{option_or}
 use Rattle.std.specs.Prelude.{slice_get, nat_lt, nat_le, IsSomeAnd}
 use Rattle.std.proofs.lemmas.Bool.{ltb-true, ltb-false, leb-true, leb-false}
 use Rattle.std.proofs.lemmas.Option.{slice_get-get_or}
@@ -11,7 +12,7 @@ use Rattle.sk_filter.specs.Paths.{loaded_word, Loads, returns, At}
 use Rattle.sk_filter.specs.Valid.{HasFault, IsValid, IsFirstFault, stage_of, fault_place}
 use Rattle.sk_filter.specs.Places.{unless, fault_of}
 use Rattle.sk_filter.specs.Fits.{NoFaultBefore}
-use Rattle.sk_filter.specs.FirstFault.{or_else, first_below, of_insn, unstored_of, own_fault, path_fault, first_fault}
+use Rattle.sk_filter.specs.FirstFault.{first_below, of_insn, unstored_of, own_fault, path_fault, first_fault}
 use Rattle.sk_filter.proofs.Told.{unless-Some, unless-None}
 use Rattle.sk_filter.proofs.PlaceFaults.{no_insn, of_insn-Some, own_fault_told, fault_of-is_fault}
 use Rattle.sk_filter.proofs.ForwardPass.{at_only}
@@ -28,7 +29,7 @@ pub record Tells (insns : List Insn) (stage : ℕ) (answer : Option CheckFault) 
   pub none : NoFaultBefore insns stage → answer ≡ None → IsValid insns
   pub some : NoFaultBefore insns stage → (fault : CheckFault) → answer ≡ Some fault → IsFirstFault insns fault
 
-tells_more : (insns : List Insn) (stage : ℕ) (answer rest : Option CheckFault) → TellsStage insns stage answer → Tells insns (stage + 1) rest → Tells insns stage (or_else answer rest)
+tells_more : (insns : List Insn) (stage : ℕ) (answer rest : Option CheckFault) → TellsStage insns stage answer → Tells insns (stage + 1) rest → Tells insns stage (option_or answer rest)
 tells_more insns stage (Some fault) rest here later =
     record { none = λ clear e. cc; some = here.some }
 tells_more insns stage None rest here later = record {
@@ -108,7 +109,7 @@ tells_paths insns = record {
 
 -- ---- the function
 
-or_none : (answer : Option CheckFault) → or_else answer None ≡ answer
+or_none : (answer : Option CheckFault) → option_or answer None ≡ answer
 or_none None = refl
 or_none (Some fault) = refl
 

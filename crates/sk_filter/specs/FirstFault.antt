@@ -1,7 +1,7 @@
 -- The first fault of a program as a function, for definitions that go on with its answer. Valid says
 -- what it means: it is none exactly where IsValid holds, and else the fault of which IsFirstFault holds.
 use Rattle.std.specs.Prelude.{ℕ, zero, suc, ◌-◌, ◌==◌, nat_lt, nat_le, Bool, false, not, ◌&&◌, ◌||◌, List, [], ◌∷◌, Option, Some, None, length, slice_get}
-use Rattle.std.specs.Option.{option_and_then}
+use Rattle.std.specs.Option.{option_and_then, option_or}
 use Rattle.sk_insn.specs.declared.insn.Insn.{Insn}
 use Rattle.sk_insn.specs.declared.operation.Operation.{Operation}
 use Rattle.sk_insn.specs.Operations.{operation_of}
@@ -10,20 +10,15 @@ use Rattle.sk_filter.specs.declared.fault.CheckFault.TheVariants.{Empty, TooLong
 use Rattle.sk_filter.specs.Paths.{leads_to, loaded_word, stores, returns}
 use Rattle.sk_filter.specs.Places.{unless, fault_of}
 
--- the first answer if there is one, else the second
-abbrev pub or_else : Option CheckFault → Option CheckFault → Option CheckFault
-or_else (Some fault) other = Some fault
-or_else None other = other
-
 -- the first answer that there is
 abbrev pub first_answer : List (Option CheckFault) → Option CheckFault
 first_answer [] = None
-first_answer (answer ∷ answers) = or_else answer (first_answer answers)
+first_answer (answer ∷ answers) = option_or answer (first_answer answers)
 
 -- the first answer for a place below n
 abbrev pub first_below : ℕ → (ℕ → Option CheckFault) → Option CheckFault
 first_below zero fault_at = None
-first_below (suc n) fault_at = or_else (first_below n fault_at) (fault_at n)
+first_below (suc n) fault_at = option_or (first_below n fault_at) (fault_at n)
 
 -- some place below n passes the test
 abbrev pub any_below : ℕ → (ℕ → Bool) → Bool

@@ -14,6 +14,7 @@ pub mod MachineState
 pub mod JointWalk
 pub mod Preceding
 pub mod Verdict
+pub mod PathLimit
 pub mod Chains
 pub mod Nodes
 pub mod ChainLaws

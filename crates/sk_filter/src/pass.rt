@@ -30,7 +30,7 @@ pub(crate) fn first_unstored(insns: &[Insn]) -> Option<CheckFault>
     None
 }
 
-/// The word that the instruction loads and the set lacks.
+// The word that the instruction loads and the set lacks.
 fn missing_word(insn: &Insn, stored: WordSet) -> Option<u32>
     requires { IfSome (loaded_word (operation_of insn.now.code) insn.now) (λ word. word < WORDS) }
     ensures none { IfNone result
@@ -43,7 +43,7 @@ fn missing_word(insn: &Insn, stored: WordSet) -> Option<u32>
     }
 }
 
-/// Hands the words that are stored after an instruction on to the places where control can go.
+// Hands the words that are stored after an instruction on to the places where control can go.
 fn spread(stored: &mut [WordSet], at: usize, insn: &Insn)
     requires at { at < length stored.old }
     requires short { length stored.old ≤ 4096 }

@@ -23,7 +23,7 @@ pub(crate) fn first_place_fault(insns: &[Insn]) -> Option<CheckFault>
     None
 }
 
-/// The fault of one instruction by itself, at its place among so many.
+// The fault of one instruction by itself, at its place among so many.
 fn place_fault(insn: &Insn, at: usize, count: usize) -> Option<CheckFault>
     requires at { at < count }
     requires count { count ≤ 4096 }

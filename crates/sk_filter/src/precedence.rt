@@ -27,7 +27,7 @@ pub fn preceding(first: Option<u32>, value: u32) -> Option<u32>
     }
 }
 
-/// How soon the action of a value takes precedence over others: the least first.
+// How soon the action of a value takes precedence over others: the least first.
 fn precedence(value: u32) -> i32
     ensures precedence { result ≡ precedence_of value }
 {

@@ -2,7 +2,7 @@
 use crate::fault::Fault;
 use crate::{ALLOW, FILTERS, FORKS, print_memory};
 use sk_calls::{Call, Syscall};
-use sk_kernel::{Answer, Event, Images, Kernel, Outcome, Stopped};
+use sk_kernel::{Answer, Images, Event, Kernel, Outcome, Stopped};
 use sk_table::{INIT, ListStore};
 use std::alloc::{AllocError, Global};
 
@@ -63,7 +63,7 @@ fn answers_in_two_runs<R: Print + AllocGlobal>(
     Ok(answers)
 }
 
-/// Process 1 and its child attach filters and fork, and the child ends.
+// Process 1 and its child attach filters and fork, and the child ends.
 fn rows() -> [(Event, Answer); 10] {
     [
         (call(INIT, Syscall::Seccomp, 1), returned(0)),
@@ -88,10 +88,10 @@ fn events_of(alloc: Global, rows: &[(Event, Answer)]) -> Result<Vec<Event>, Allo
 }
 
 fn kernel_of(alloc: Global) -> Result<Kernel<ListStore>, Fault> {
-    Ok(Kernel::new(alloc, images(alloc)?)?)
+    Ok(Kernel::new(alloc, declared(alloc)?)?)
 }
 
-fn images(alloc: Global) -> Result<Images, AllocError> {
+fn declared(alloc: Global) -> Result<Images, AllocError> {
     let mut filters = Vec::new(alloc);
     filters.push(ALLOW.to_vec(alloc)?)?;
     Ok(Images {
@@ -112,7 +112,7 @@ fn call(pid: u32, syscall: Syscall, register: u64) -> Event {
     }
 }
 
-/// What an allowed call returns.
+// What an allowed call returns.
 fn returned(value: i64) -> Answer {
     Answer::Call {
         verdict: 0x7fff_0000,
@@ -128,7 +128,7 @@ fn repeated(alloc: Global, event: Event, times: usize) -> Result<Vec<Event>, All
     Ok(events)
 }
 
-/// The sum of what the calls returned.
+// The sum of what the calls returned.
 fn sum_of(answers: &[Answer]) -> u64 {
     let mut sum: u64 = 0;
     for answer in answers {
@@ -143,7 +143,7 @@ fn sum_of(answers: &[Answer]) -> u64 {
     sum
 }
 
-/// How many of the processes that were forked have the filters of process 1.
+// How many of the processes that were forked have the filters of process 1.
 fn children_with_filters(kernel: &Kernel<ListStore>) -> u32 {
     let mut children: u32 = 0;
     for pid in 2..FORKS + 2 {

@@ -12,8 +12,8 @@ pub(crate) enum Fault {
     Answers,
     /// The two kernels keep different processes.
     Worlds,
-    /// A process is not what its line makes of it.
-    Lines,
+    /// A process is not what its lineage makes of it.
+    Lineages,
     /// The argument is no number.
     Argument,
     /// A filter is no text of the assembler.
@@ -31,7 +31,7 @@ impl fmt::Display for Fault {
         f.write_str(match self {
             Fault::Answers => "the answers differ",
             Fault::Worlds => "the processes differ",
-            Fault::Lines => "a process is not what its line makes of it",
+            Fault::Lineages => "a process is not what its lineage makes of it",
             Fault::Argument => "the argument is no number",
             Fault::Filter => "a filter is not understood",
             Fault::Memory => "out of memory",

@@ -71,7 +71,7 @@ pub(crate) fn filters(alloc: Global, longest: usize) -> Result<Vec<Vec<u8>>, Fau
 }
 
 /// What a kernel is given that has these filters.
-pub(crate) fn images(
+pub(crate) fn declared(
     alloc: Global,
     filters: &[Vec<u8>],
     subreapers: bool,

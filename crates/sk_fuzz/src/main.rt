@@ -1,21 +1,21 @@
 //! Tells two kernels, one over each store, 100,000 random events, and compares all answers and processes. Each process is
-//! then compared with what its line makes of it. Prints what came of the events by its kind; with a number as the
+//! then compared with what its lineage makes of it. Prints what came of the events by its kind; with a number as the
 //! argument, which is the seed, exactly.
 #![tactic(auto)]
 
 mod alike;
 mod calls;
-mod fault;
 mod images;
-mod lines;
+mod fault;
+mod lineages;
 mod pair;
 mod random;
 mod tally;
 
 use calls::call;
-use fault::Fault;
 use images::{LONG_FILTER, filters};
-use lines::check_lines;
+use fault::Fault;
+use lineages::check_lineages;
 use pair::{Pair, bare_call};
 use random::Random;
 use sk_calls::{Call, Syscall};
@@ -106,7 +106,7 @@ fn tell_pair(
 ) -> Result<usize, Fault> {
     let mut pair = Pair::new(alloc, filters, number % 2 == 1)?;
     tell_events(alloc, &mut pair, number, left, random, tally)?;
-    check_lines(alloc, &pair, filters, tally)?;
+    check_lineages(alloc, &pair, filters, tally)?;
     Ok(pair.events.len())
 }
 

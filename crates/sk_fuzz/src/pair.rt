@@ -1,8 +1,8 @@
 //! Two kernels, one over each store, which are told the same events.
 
 use crate::alike::are_alike;
+use crate::images::declared;
 use crate::fault::Fault;
-use crate::images::images;
 use crate::tally::{Kind, Tally};
 use sk_calls::{Call, Syscall};
 use sk_kernel::{Answer, Effect, Event, Kernel, Outcome};
@@ -125,7 +125,7 @@ pub(crate) fn kernel_of<S: ProcStore>(
     filters: &[Vec<u8>],
     subreapers: bool,
 ) -> Result<Kernel<S>, Fault> {
-    Ok(Kernel::new(alloc, images(alloc, filters, subreapers)?)?)
+    Ok(Kernel::new(alloc, declared(alloc, filters, subreapers)?)?)
 }
 
 /// A call without an address and registers.

@@ -44,7 +44,7 @@ pub(crate) enum Kind {
     SessionMade,
     SubreaperMarked,
     Failed,
-    /// A process was compared with its line.
+    /// A process was compared with its lineage.
     Compared,
     NotNow(Reason),
 }
@@ -86,7 +86,11 @@ const KINDS: [(Kind, &str, u32); 43] = [
     (Kind::SessionMade, "sessions made", 300),
     (Kind::SubreaperMarked, "marks of subreapers", 100),
     (Kind::Failed, "other calls that fail", 8000),
-    (Kind::Compared, "processes compared with their lines", 3000),
+    (
+        Kind::Compared,
+        "processes compared with their lineages",
+        3000,
+    ),
     (Kind::NotNow(Reason::NoProcess), "events of nobody", 2000),
     (Kind::NotNow(Reason::Zombie), "events of zombies", 2000),
     (Kind::NotNow(Reason::Stopped), "events of the stopped", 150),

@@ -1,4 +1,4 @@
--- A line that is read from the last event back.
+-- A lineage that is read from the last event back.
 use Rattle.std.proofs.Common.{◌≡◌, ◌∙◌, ◌<◌, ◌+◌, ℕ, suc, arith, length, ap, sym, refl, reverse, append_assoc, List, [], ◌∷◌, ◌++◌, Option, None, Some}
 use Rattle.std.specs.Prelude.{take}
 use Rattle.std.specs.Option.{option_to_list}
@@ -8,7 +8,7 @@ use lib.ListN.{get_or}
 use Rattle.sk_insn.specs.declared.record.Record.{Record}
 use Rattle.sk_machine.specs.declared.event.Event.{Event}
 use Rattle.sk_machine.specs.declared.answer.Answer.{Answer}
-use Rattle.sk_machine.specs.Lines.{Line, Happening, line_before, calls_added, with_calls, line_of, history_of}
+use Rattle.sk_machine.specs.Lineages.{Lineage, Happening, lineage_before, calls_added, with_calls, lineage_of, history_of}
 
 zip_more : (es : List Event) (told : List Answer) (event : Event) (answer : Answer) → length es ≡ length told
     → zip (es ++ event ∷ []) (told ++ answer ∷ []) ≡ zip es told ++ (event, answer) ∷ []
@@ -39,18 +39,18 @@ one_reversed : (calls : List Record) (o : Option Record) → reverse (calls ++ o
 one_reversed calls None = reverse-append calls []
 one_reversed calls (Some call) = reverse-append calls (call ∷ [])
 
--- a line that is known from an event on is known from the one before on
-pub line_back : (es : List Event) (told : List Answer) (left : ℕ) (event : Event) (answer : Answer) (root : ℕ) (calls : List Record) (o : Option Record) (line : Line)
+-- a lineage that is known from an event on is known from the one before on
+pub lineage_back : (es : List Event) (told : List Answer) (left : ℕ) (event : Event) (answer : Answer) (root : ℕ) (calls : List Record) (o : Option Record) (lineage : Lineage)
     → left < length es → left < length told
     → option_to_list o ≡ calls_added root (get_or es left event, get_or told left answer)
-    → with_calls (reverse calls) (line_of (history_of (take (left + 1) es) (take (left + 1) told)) root) ≡ line
-    → with_calls (reverse (calls ++ option_to_list o)) (line_of (history_of (take left es) (take left told)) (line_before root (get_or es left event, get_or told left answer))) ≡ line
-line_back es told left event answer root calls o line in_events in_answers added known =
+    → with_calls (reverse calls) (lineage_of (history_of (take (left + 1) es) (take (left + 1) told)) root) ≡ lineage
+    → with_calls (reverse (calls ++ option_to_list o)) (lineage_of (history_of (take left es) (take left told)) (lineage_before root (get_or es left event, get_or told left answer))) ≡ lineage
+lineage_back es told left event answer root calls o lineage in_events in_answers added known =
     let newest : Happening = (get_or es left event, get_or told left answer) in
-    let before : Line = line_of (history_of (take left es) (take left told)) (line_before root newest) in
+    let before : Lineage = lineage_of (history_of (take left es) (take left told)) (lineage_before root newest) in
     ap (λ cs. with_calls cs before) (one_reversed calls o ∙ ap (λ cs. cs ++ reverse calls) added)
     ∙ ap (λ cs. record before { calls = cs }) (sym (append_assoc before.calls (calls_added root newest) (reverse calls)))
-    ∙ ap (λ h. with_calls (reverse calls) (line_of h root)) (sym (history_more es told left event answer in_events in_answers))
+    ∙ ap (λ h. with_calls (reverse calls) (lineage_of h root)) (sym (history_more es told left event answer in_events in_answers))
     ∙ known
 
 none_behind : (calls : List Record) → calls ++ [] ≡ calls
@@ -58,8 +58,8 @@ none_behind [] = refl
 none_behind (call ∷ calls) = ap (λ cs. call ∷ cs) (none_behind calls)
 
 -- at first it is that of all events
-pub line_of_all : (es : List Event) (told : List Answer) (root : ℕ) → length es ≡ length told
-    → with_calls (reverse []) (line_of (history_of (take (length es) es) (take (length es) told)) root) ≡ line_of (history_of es told) root
-line_of_all es told root same =
-    (λ i. with_calls [] (line_of (history_of (take_all (length es) es (omega arith) i) (take_all (length es) told (omega (arith, same)) i)) root))
-    ∙ ap (λ cs. record (line_of (history_of es told) root) { calls = cs }) (none_behind (line_of (history_of es told) root).calls)
+pub lineage_of_all : (es : List Event) (told : List Answer) (root : ℕ) → length es ≡ length told
+    → with_calls (reverse []) (lineage_of (history_of (take (length es) es) (take (length es) told)) root) ≡ lineage_of (history_of es told) root
+lineage_of_all es told root same =
+    (λ i. with_calls [] (lineage_of (history_of (take_all (length es) es (omega arith) i) (take_all (length es) told (omega (arith, same)) i)) root))
+    ∙ ap (λ cs. record (lineage_of (history_of es told) root) { calls = cs }) (none_behind (lineage_of (history_of es told) root).calls)

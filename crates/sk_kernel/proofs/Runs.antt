@@ -7,7 +7,7 @@ use Rattle.sk_world.specs.World.{World}
 use Rattle.sk_world.specs.Rules.{IsWorld}
 use Rattle.sk_machine.specs.declared.event.Event.{Event}
 use Rattle.sk_machine.specs.declared.answer.Answer.{Answer}
-use Rattle.sk_machine.specs.Given.{GivenImages}
+use Rattle.sk_machine.specs.Images.{Images}
 use Rattle.sk_machine.specs.Machine.{step_of, answers_of, world_after}
 use Rattle.sk_kernel.specs.State.{State}
 use Rattle.sk_machine_laws.specs.FilterLaws.{HasAccepted}
@@ -15,45 +15,45 @@ use Rattle.sk_machine_laws.proofs.KeptEvents.{kept_step}
 use Rattle.sk_machine_laws.proofs.Accepted.{event_keeps_accepted}
 
 -- an event that was done or not keeps the rules, and the filters accepted
-pub kept_by : {A E : Type 0} (images : GivenImages) (w after : World) (event : Event) (r : Result A E) → OnOk r (after ≡ (step_of images w event).world) → OnErr r (after ≡ w)
+pub kept_by : {A E : Type 0} (declared : Images) (w after : World) (event : Event) (r : Result A E) → OnOk r (after ≡ (step_of declared w event).world) → OnErr r (after ≡ w)
     → IsWorld w × HasAccepted w → IsWorld after × HasAccepted after
-kept_by images w after event (Ok a) done same kept =
-    (subst IsWorld (sym done) (kept_step images w event kept.0), subst HasAccepted (sym done) (event_keeps_accepted images w event kept.1))
-kept_by images w after event (Err e) done same kept = (subst IsWorld (sym same) kept.0, subst HasAccepted (sym same) kept.1)
+kept_by declared w after event (Ok a) done same kept =
+    (subst IsWorld (sym done) (kept_step declared w event kept.0), subst HasAccepted (sym done) (event_keeps_accepted declared w event kept.1))
+kept_by declared w after event (Err e) done same kept = (subst IsWorld (sym same) kept.0, subst HasAccepted (sym same) kept.1)
 
 -- one event more
-pub one_more_answer : (images : GivenImages) (w : World) (events : List Event) (event : Event)
-    → answers_of images w (events ++ event ∷ []) ≡ answers_of images w events ++ (step_of images (world_after images w events) event).answer ∷ []
-one_more_answer images w [] event = refl
-one_more_answer images w (first ∷ events) event = ap (λ xs. (step_of images w first).answer ∷ xs) (one_more_answer images (step_of images w first).world events event)
+pub one_more_answer : (declared : Images) (w : World) (events : List Event) (event : Event)
+    → answers_of declared w (events ++ event ∷ []) ≡ answers_of declared w events ++ (step_of declared (world_after declared w events) event).answer ∷ []
+one_more_answer declared w [] event = refl
+one_more_answer declared w (first ∷ events) event = ap (λ xs. (step_of declared w first).answer ∷ xs) (one_more_answer declared (step_of declared w first).world events event)
 
-pub one_more_world : (images : GivenImages) (w : World) (events : List Event) (event : Event)
-    → world_after images w (events ++ event ∷ []) ≡ (step_of images (world_after images w events) event).world
-one_more_world images w [] event = refl
-one_more_world images w (first ∷ events) event = one_more_world images (step_of images w first).world events event
+pub one_more_world : (declared : Images) (w : World) (events : List Event) (event : Event)
+    → world_after declared w (events ++ event ∷ []) ≡ (step_of declared (world_after declared w events) event).world
+one_more_world declared w [] event = refl
+one_more_world declared w (first ∷ events) event = one_more_world declared (step_of declared w first).world events event
 
 -- one event more of a list, behind what was told before
-pub told_more : (images : GivenImages) (w : World) (events : List Event) (done : ℕ) (other : Event) (before told now : List Answer) → done < length events
-    → told ≡ before ++ answers_of images w (take done events)
-    → now ≡ told ++ (step_of images (world_after images w (take done events)) (get_or events done other)).answer ∷ []
-    → now ≡ before ++ answers_of images w (take (done + 1) events)
-told_more images w events done other before told now lt is more =
-    more ∙ ap (λ xs. xs ++ (step_of images (world_after images w (take done events)) (get_or events done other)).answer ∷ []) is
-    ∙ append_assoc before (answers_of images w (take done events)) _
-    ∙ ap (λ xs. before ++ xs) (sym (ap (answers_of images w) (take_more events done other lt) ∙ one_more_answer images w (take done events) (get_or events done other)))
+pub told_more : (declared : Images) (w : World) (events : List Event) (done : ℕ) (other : Event) (before told now : List Answer) → done < length events
+    → told ≡ before ++ answers_of declared w (take done events)
+    → now ≡ told ++ (step_of declared (world_after declared w (take done events)) (get_or events done other)).answer ∷ []
+    → now ≡ before ++ answers_of declared w (take (done + 1) events)
+told_more declared w events done other before told now lt is more =
+    more ∙ ap (λ xs. xs ++ (step_of declared (world_after declared w (take done events)) (get_or events done other)).answer ∷ []) is
+    ∙ append_assoc before (answers_of declared w (take done events)) _
+    ∙ ap (λ xs. before ++ xs) (sym (ap (answers_of declared w) (take_more events done other lt) ∙ one_more_answer declared w (take done events) (get_or events done other)))
 
-pub world_more : (images : GivenImages) (w : World) (events : List Event) (done : ℕ) (other : Event) → done < length events
-    → (step_of images (world_after images w (take done events)) (get_or events done other)).world ≡ world_after images w (take (done + 1) events)
-world_more images w events done other lt =
-    sym (ap (world_after images w) (take_more events done other lt) ∙ one_more_world images w (take done events) (get_or events done other))
+pub world_more : (declared : Images) (w : World) (events : List Event) (done : ℕ) (other : Event) → done < length events
+    → (step_of declared (world_after declared w (take done events)) (get_or events done other)).world ≡ world_after declared w (take (done + 1) events)
+world_more declared w events done other lt =
+    sym (ap (world_after declared w) (take_more events done other lt) ∙ one_more_world declared w (take done events) (get_or events done other))
 
 -- the same from a state that has done the first of the events
-pub more : (images : GivenImages) (w : World) (events : List Event) (done : ℕ) (other : Event) (state : State) (before told now : List Answer) (after : World) → done < length events
-    → told ≡ before ++ answers_of images w (take done events) → state.world ≡ world_after images w (take done events) → state.images ≡ images
-    → now ≡ told ++ (step_of state.images state.world (get_or events done other)).answer ∷ [] → after ≡ (step_of state.images state.world (get_or events done other)).world
-    → (now ≡ before ++ answers_of images w (take (done + 1) events)) × (after ≡ world_after images w (take (done + 1) events))
-more images w events done other state before told now after lt is here same answered stepped =
+pub more : (declared : Images) (w : World) (events : List Event) (done : ℕ) (other : Event) (state : State) (before told now : List Answer) (after : World) → done < length events
+    → told ≡ before ++ answers_of declared w (take done events) → state.world ≡ world_after declared w (take done events) → state.declared ≡ declared
+    → now ≡ told ++ (step_of state.declared state.world (get_or events done other)).answer ∷ [] → after ≡ (step_of state.declared state.world (get_or events done other)).world
+    → (now ≡ before ++ answers_of declared w (take (done + 1) events)) × (after ≡ world_after declared w (take (done + 1) events))
+more declared w events done other state before told now after lt is here same answered stepped =
     let event : Event = get_or events done other in (
-      told_more images w events done other before told now lt is (answered ∙ (λ i. told ++ (step_of (same i) (here i) event).answer ∷ [])),
-      stepped ∙ (λ i. (step_of (same i) (here i) event).world) ∙ world_more images w events done other lt,
+      told_more declared w events done other before told now lt is (answered ∙ (λ i. told ++ (step_of (same i) (here i) event).answer ∷ [])),
+      stepped ∙ (λ i. (step_of (same i) (here i) event).world) ∙ world_more declared w events done other lt,
     )

@@ -26,21 +26,21 @@ const MAX_ERRNO: u32 = 4095;
 /// A call: the filters of the caller judge it, and it is performed or not.
 pub(crate) fn call<S: ProcStore>(
     store: &mut S,
-    images: &Images,
+    declared: &Images,
     alloc: Global,
     pid: u32,
     call: &Record,
 ) -> Result<Answer, AllocError>
     requires rules { IsWorld (S.contents store.old) }
     requires alive { IsTrue (is_alive (at (S.contents store.old) pid)) }
-    ensures answer { IfOk result (λ answer. IfSome (at (S.contents store.old) pid) (λ p. answer ≡ (called images.now (S.contents store.old) pid p.body call.now).answer)) }
-    ensures world { OnOk result (IfSome (at (S.contents store.old) pid) (λ p. S.contents store.new ≡ (called images.now (S.contents store.old) pid p.body call.now).world)) }
-    ensures memory { OnErr result (IsTrue (call_takes_memory images.now (S.contents store.old) pid call.now)) }
+    ensures answer { IfOk result (λ answer. IfSome (at (S.contents store.old) pid) (λ p. answer ≡ (called declared.now (S.contents store.old) pid p.body call.now).answer)) }
+    ensures world { OnOk result (IfSome (at (S.contents store.old) pid) (λ p. S.contents store.new ≡ (called declared.now (S.contents store.old) pid p.body call.now).world)) }
+    ensures memory { OnErr result (IsTrue (call_takes_memory declared.now (S.contents store.old) pid call.now)) }
     ensures kept { OnErr result (S.contents store.new ≡ S.contents store.old) }
 {
     let verdict = verdict(store, pid, call);
     let action = Action::of(verdict);
-    let outcome = judge(store, images, alloc, pid, call, verdict, action)?;
+    let outcome = judge(store, declared, alloc, pid, call, verdict, action)?;
     Ok(Answer::Call { verdict, outcome })
 }
 
@@ -53,7 +53,7 @@ fn verdict<S: ProcStore>(store: &S, pid: u32, call: &Record) -> u32
     }
 }
 
-/// The verdict of these filters. No filter runs where all of them allow every call of x86-64 with the number.
+// The verdict of these filters. No filter runs where all of them allow every call of x86-64 with the number.
 fn verdict_by(chain: &Chain, call: &Record) -> u32
     ensures { result ≡ verdict_of chain.now call.now }
 {
@@ -64,10 +64,10 @@ fn verdict_by(chain: &Chain, call: &Record) -> u32
     }
 }
 
-/// What becomes of a call by its verdict, which asks for this action.
+// What becomes of a call by its verdict, which asks for this action.
 fn judge<S: ProcStore>(
     store: &mut S,
-    images: &Images,
+    declared: &Images,
     alloc: Global,
     pid: u32,
     call: &Record,
@@ -76,13 +76,13 @@ fn judge<S: ProcStore>(
 ) -> Result<Outcome, AllocError>
     requires rules { IsWorld (S.contents store.old) }
     requires alive { IsTrue (is_alive (at (S.contents store.old) pid)) }
-    ensures answer { IfOk result (λ outcome. IfSome (at (S.contents store.old) pid) (λ p. outcome ≡ (judged images.now (S.contents store.old) pid p.body call.now verdict action).outcome)) }
-    ensures world { OnOk result (IfSome (at (S.contents store.old) pid) (λ p. S.contents store.new ≡ (judged images.now (S.contents store.old) pid p.body call.now verdict action).world)) }
-    ensures memory { OnErr result (IsTrue (performs action && may_grow images.now (S.contents store.old) pid (syscall_of call.now.nr) call.now)) }
+    ensures answer { IfOk result (λ outcome. IfSome (at (S.contents store.old) pid) (λ p. outcome ≡ (judged declared.now (S.contents store.old) pid p.body call.now verdict action).outcome)) }
+    ensures world { OnOk result (IfSome (at (S.contents store.old) pid) (λ p. S.contents store.new ≡ (judged declared.now (S.contents store.old) pid p.body call.now verdict action).world)) }
+    ensures memory { OnErr result (IsTrue (performs action && may_grow declared.now (S.contents store.old) pid (syscall_of call.now.nr) call.now)) }
     ensures kept { OnErr result (S.contents store.new ≡ S.contents store.old) }
 {
     match action {
-        Action::Allow | Action::Log => perform(store, images, alloc, pid, call),
+        Action::Allow | Action::Log => perform(store, declared, alloc, pid, call),
         Action::Trap => {
             force(store, pid);
             Ok(Outcome::Trapped)
@@ -93,14 +93,14 @@ fn judge<S: ProcStore>(
     }
 }
 
-/// What a call returns that a filter refuses with this errno.
+// What a call returns that a filter refuses with this errno.
 fn refused(errno: u32) -> Outcome
     ensures { result ≡ Returned (neg_ℤ (pos (min errno 4095))) }
 {
     Outcome::Returned(-i64::from(errno.min(MAX_ERRNO)))
 }
 
-/// Ends a process whose filter kills it, as SIGSYS does.
+// Ends a process whose filter kills it, as SIGSYS does.
 fn kill<S: ProcStore>(store: &mut S, pid: u32) -> Outcome
     requires rules { IsWorld (S.contents store.old) }
     requires alive { IsTrue (is_alive (at (S.contents store.old) pid)) }
@@ -111,7 +111,7 @@ fn kill<S: ProcStore>(store: &mut S, pid: u32) -> Outcome
     Outcome::Ended(u32::from(SIGSYS))
 }
 
-/// Forces SIGSYS on a process: seccomp(2), SECCOMP_RET_TRAP.
+// Forces SIGSYS on a process: seccomp(2), SECCOMP_RET_TRAP.
 fn force<S: ProcStore>(store: &mut S, pid: u32)
     ensures { S.contents store.new ≡ forced (S.contents store.old) pid }
 {

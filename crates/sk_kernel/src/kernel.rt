@@ -10,7 +10,7 @@ ghost use Rattle.sk_kernel.specs.State.{done_of};
 
 use crate::stepping;
 use sk_candidates::{Candidates, Runner};
-use sk_machine::{Answer, Event, Images, Need};
+use sk_machine::{Answer, Images, Event, Need};
 use sk_world::{Proc, ProcStore};
 use std::alloc::{AllocError, Global};
 use std::marker::Model;
@@ -19,7 +19,7 @@ use std::marker::Model;
 #[derive(Drop)]
 pub struct Kernel<S: ProcStore> {
     store: Candidates<S>,
-    images: Images,
+    declared: Images,
     alloc: Global,
 }
 
@@ -38,19 +38,19 @@ impl<S: ProcStore> Model for Kernel<S> {
 
     ghost coded = { state_code };
 
-    ghost view = { λ kernel. record { images = kernel.images; world = kernel.store } };
+    ghost view = { λ kernel. record { declared = kernel.declared; world = kernel.store } };
 
     ghost invariant = { λ kernel. IsWorld kernel.store × HasAccepted kernel.store };
 }
 
 impl<S: ProcStore> Kernel<S> {
     /// The kernel as the system starts, with process 1 alone. What refuses memory is the store.
-    pub fn new(alloc: Global, images: Images) -> Result<Kernel<S>, AllocError>
-        ensures opening { IfOk result (λ kernel. kernel ≡ record { images = images; world = opening }) }
+    pub fn new(alloc: Global, declared: Images) -> Result<Kernel<S>, AllocError>
+        ensures opening { IfOk result (λ kernel. kernel ≡ record { declared = declared; world = opening }) }
     {
         Ok(Kernel {
             store: Candidates::new(alloc)?,
-            images,
+            declared,
             alloc,
         })
     }
@@ -58,13 +58,13 @@ impl<S: ProcStore> Kernel<S> {
     /// One event. It wants memory only where it is a performed call that attaches a filter, or forks a process that has
     /// filters; nothing is changed then.
     pub fn step(&mut self, event: Event) -> Result<Answer, AllocError>
-        ensures answer { IfOk result (λ answer. answer ≡ (step_of self.old.images self.old.world event).answer) }
-        ensures world { OnOk result (self.new.world ≡ (step_of self.old.images self.old.world event).world) }
-        ensures memory { OnErr result (TakesMemory self.old.images self.old.world event) }
+        ensures answer { IfOk result (λ answer. answer ≡ (step_of self.old.declared self.old.world event).answer) }
+        ensures world { OnOk result (self.new.world ≡ (step_of self.old.declared self.old.world event).world) }
+        ensures memory { OnErr result (TakesMemory self.old.declared self.old.world event) }
         ensures kept { OnErr result (self.new.world ≡ self.old.world) }
-        ensures images { self.new.images ≡ self.old.images }
+        ensures declared { self.new.declared ≡ self.old.declared }
     {
-        let answer = stepping::step(&mut self.store, &self.images, self.alloc, &event);
+        let answer = stepping::step(&mut self.store, &self.declared, self.alloc, &event);
         self.store.update();
         answer
     }
@@ -72,13 +72,13 @@ impl<S: ProcStore> Kernel<S> {
     /// One event that is possible: what `step` does with it, without a look whether it is.
     pub fn happen(&mut self, event: &Event) -> Result<Answer, AllocError>
         requires possible { reason_of self.old.world event.now ≡ None }
-        ensures answer { IfOk result (λ answer. answer ≡ (step_of self.old.images self.old.world event.now).answer) }
-        ensures world { OnOk result (self.new.world ≡ (step_of self.old.images self.old.world event.now).world) }
-        ensures memory { OnErr result (TakesMemory self.old.images self.old.world event.now) }
+        ensures answer { IfOk result (λ answer. answer ≡ (step_of self.old.declared self.old.world event.now).answer) }
+        ensures world { OnOk result (self.new.world ≡ (step_of self.old.declared self.old.world event.now).world) }
+        ensures memory { OnErr result (TakesMemory self.old.declared self.old.world event.now) }
         ensures kept { OnErr result (self.new.world ≡ self.old.world) }
-        ensures images { self.new.images ≡ self.old.images }
+        ensures declared { self.new.declared ≡ self.old.declared }
     {
-        let answer = stepping::step_possible(&mut self.store, &self.images, self.alloc, event);
+        let answer = stepping::step_possible(&mut self.store, &self.declared, self.alloc, event);
         self.store.update();
         answer
     }
@@ -86,11 +86,11 @@ impl<S: ProcStore> Kernel<S> {
     /// Does these events in their order, and puts their answers behind the others. Where it stops, out of memory,
     /// the answers and the world are those of the events before.
     pub fn run(&mut self, events: &[Event], answers: &mut Vec<Answer>) -> Result<(), Stopped>
-        ensures answers { answers.new.items ≡ answers.old.items ++ answers_of self.old.images self.old.world (done_of events.now result) }
-        ensures world { self.new.world ≡ world_after self.old.images self.old.world (done_of events.now result) }
-        ensures lawful { RunIsLawful self.old.images self.old.world (done_of events.now result) }
+        ensures answers { answers.new.items ≡ answers.old.items ++ answers_of self.old.declared self.old.world (done_of events.now result) }
+        ensures world { self.new.world ≡ world_after self.old.declared self.old.world (done_of events.now result) }
+        ensures lawful { RunIsLawful self.old.declared self.old.world (done_of events.now result) }
         ensures stopped { IfErr result (λ stopped. stopped.done < length events.now) }
-        ensures images { self.new.images ≡ self.old.images }
+        ensures declared { self.new.declared ≡ self.old.declared }
     {
         let _ = &self.store;
         for (done, event) in events.iter().enumerate() {
@@ -102,13 +102,13 @@ impl<S: ProcStore> Kernel<S> {
         Ok(())
     }
 
-    /// One event, whose answer is put behind the others.
+    // One event, whose answer is put behind the others.
     fn tell(&mut self, event: Event, answers: &mut Vec<Answer>) -> Result<(), AllocError>
-        ensures answer { OnOk result (answers.new.items ≡ answers.old.items ++ (step_of self.old.images self.old.world event).answer ∷ []) }
-        ensures world { OnOk result (self.new.world ≡ (step_of self.old.images self.old.world event).world) }
+        ensures answer { OnOk result (answers.new.items ≡ answers.old.items ++ (step_of self.old.declared self.old.world event).answer ∷ []) }
+        ensures world { OnOk result (self.new.world ≡ (step_of self.old.declared self.old.world event).world) }
         ensures kept { OnErr result (self.new.world ≡ self.old.world) }
         ensures kept_answers { OnErr result (answers.new.items ≡ answers.old.items) }
-        ensures images { self.new.images ≡ self.old.images }
+        ensures declared { self.new.declared ≡ self.old.declared }
     {
         answers.reserve(1)?;
         let answer = self.step(event)?;

@@ -13,7 +13,7 @@ use crate::calls::call;
 use sk_calls::Call;
 use sk_candidates::{reason, signal_due};
 use sk_insn::Record;
-use sk_machine::{Answer, Event, Images, Outcome, end};
+use sk_machine::{Answer, Images, Event, Outcome, end};
 use sk_signal::number::SIGSEGV;
 use sk_syscalls::{deliver, resume};
 use sk_world::ProcStore;
@@ -22,51 +22,51 @@ use std::alloc::{AllocError, Global};
 /// One event.
 pub(crate) fn step<S: ProcStore>(
     store: &mut S,
-    images: &Images,
+    declared: &Images,
     alloc: Global,
     event: &Event,
 ) -> Result<Answer, AllocError>
     requires rules { IsWorld (S.contents store.old) }
-    ensures answer { IfOk result (λ answer. answer ≡ (step_of images.now (S.contents store.old) event.now).answer) }
-    ensures world { OnOk result (S.contents store.new ≡ (step_of images.now (S.contents store.old) event.now).world) }
-    ensures memory { OnErr result (IsTrue (takes_memory images.now (S.contents store.old) event.now)) }
+    ensures answer { IfOk result (λ answer. answer ≡ (step_of declared.now (S.contents store.old) event.now).answer) }
+    ensures world { OnOk result (S.contents store.new ≡ (step_of declared.now (S.contents store.old) event.now).world) }
+    ensures memory { OnErr result (IsTrue (takes_memory declared.now (S.contents store.old) event.now)) }
     ensures kept { OnErr result (S.contents store.new ≡ S.contents store.old) }
 {
     match reason(store, event) {
         Some(reason) => Ok(Answer::NotNow(reason)),
-        None => step_possible(store, images, alloc, event),
+        None => step_possible(store, declared, alloc, event),
     }
 }
 
 /// The same of an event that is possible.
 pub(crate) fn step_possible<S: ProcStore>(
     store: &mut S,
-    images: &Images,
+    declared: &Images,
     alloc: Global,
     event: &Event,
 ) -> Result<Answer, AllocError>
     requires rules { IsWorld (S.contents store.old) }
     requires possible { reason_of (S.contents store.old) event.now ≡ None }
-    ensures answer { IfOk result (λ answer. answer ≡ (step_of images.now (S.contents store.old) event.now).answer) }
-    ensures world { OnOk result (S.contents store.new ≡ (step_of images.now (S.contents store.old) event.now).world) }
-    ensures memory { OnErr result (IsTrue (takes_memory images.now (S.contents store.old) event.now)) }
+    ensures answer { IfOk result (λ answer. answer ≡ (step_of declared.now (S.contents store.old) event.now).answer) }
+    ensures world { OnOk result (S.contents store.new ≡ (step_of declared.now (S.contents store.old) event.now).world) }
+    ensures memory { OnErr result (IsTrue (takes_memory declared.now (S.contents store.old) event.now)) }
     ensures kept { OnErr result (S.contents store.new ≡ S.contents store.old) }
 {
-    happen(store, images, alloc, event)
+    happen(store, declared, alloc, event)
 }
 
-/// An event that is possible, by what it is.
+// An event that is possible, by what it is.
 fn happen<S: ProcStore>(
     store: &mut S,
-    images: &Images,
+    declared: &Images,
     alloc: Global,
     event: &Event,
 ) -> Result<Answer, AllocError>
     requires rules { IsWorld (S.contents store.old) }
     requires possible { reason_of (S.contents store.old) event.now ≡ None }
-    ensures answer { IfOk result (λ answer. answer ≡ (happened_to images.now (S.contents store.old) event.now (at (S.contents store.old) (pid_of event.now))).answer) }
-    ensures world { OnOk result (S.contents store.new ≡ (happened_to images.now (S.contents store.old) event.now (at (S.contents store.old) (pid_of event.now))).world) }
-    ensures memory { OnErr result (IsTrue (takes_memory images.now (S.contents store.old) event.now)) }
+    ensures answer { IfOk result (λ answer. answer ≡ (happened_to declared.now (S.contents store.old) event.now (at (S.contents store.old) (pid_of event.now))).answer) }
+    ensures world { OnOk result (S.contents store.new ≡ (happened_to declared.now (S.contents store.old) event.now (at (S.contents store.old) (pid_of event.now))).world) }
+    ensures memory { OnErr result (IsTrue (takes_memory declared.now (S.contents store.old) event.now)) }
     ensures kept { OnErr result (S.contents store.new ≡ S.contents store.old) }
 {
     match *event {
@@ -74,7 +74,7 @@ fn happen<S: ProcStore>(
             pid,
             ip,
             call: asked,
-        } => call(store, images, alloc, pid, &recorded(ip, &asked)),
+        } => call(store, declared, alloc, pid, &recorded(ip, &asked)),
         Event::Deliver { pid } => Ok(deliver_due(store, pid)),
         Event::Resume { pid } => Ok(Answer::Resumed(resume_call(store, pid))),
         Event::Fault { pid } => {
@@ -108,7 +108,7 @@ fn deliver_due<S: ProcStore>(store: &mut S, pid: u32) -> Answer
     }
 }
 
-/// A process that waits asks again.
+// A process that waits asks again.
 fn resume_call<S: ProcStore>(store: &mut S, pid: u32) -> Outcome
     requires rules { IsWorld (S.contents store.old) }
     requires there { IsTrue (is_some (at (S.contents store.old) pid)) }

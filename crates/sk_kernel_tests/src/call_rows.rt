@@ -32,7 +32,7 @@ fn user_ids_are_those_that_a_process_may_take(rt: HostRuntime) -> Result<(), Fai
     )
 }
 
-/// A set-user-ID program does not raise its caller, who has given up new privileges.
+// A set-user-ID program does not raise its caller, who has given up new privileges.
 #[test]
 fn no_new_privs_holds_over_execve(rt: HostRuntime) -> Result<(), Fail> {
     play(

@@ -28,7 +28,7 @@ fn filter_refuses_one_call(rt: HostRuntime) -> Result<(), Fail> {
     )
 }
 
-/// An errno is 4095 at most, and an action that nobody knows kills.
+// An errno is 4095 at most, and an action that nobody knows kills.
 #[test]
 fn verdicts_are_answered_as_the_manual_says(rt: HostRuntime) -> Result<(), Fail> {
     play_and_see(
@@ -111,7 +111,7 @@ fn seccomp_and_prctl_test_their_arguments(rt: HostRuntime) -> Result<(), Fail> {
     )
 }
 
-/// A filter without an instruction, and one that ends without a return.
+// A filter without an instruction, and one that ends without a return.
 #[test]
 fn attach_refuses_in_its_order(rt: HostRuntime) -> Result<(), Fail> {
     play(
@@ -131,7 +131,7 @@ fn attach_refuses_in_its_order(rt: HostRuntime) -> Result<(), Fail> {
     )
 }
 
-/// A process has as many filters as it can have, and its child has them too.
+// A process has as many filters as it can have, and its child has them too.
 #[test]
 fn long_chains_are_shared_and_given_back(rt: HostRuntime) -> Result<(), Fail> {
     let mut rows = Vec::new(rt.alloc());
@@ -183,7 +183,7 @@ fn filters_of_a_child_are_its_own(rt: HostRuntime) -> Result<(), Fail> {
     )
 }
 
-/// A filter that looks at the architecture, and then one that allows everything.
+// A filter that looks at the architecture, and then one that allows everything.
 #[test]
 fn calls_that_every_filter_allows_are_allowed(rt: HostRuntime) -> Result<(), Fail> {
     play(
@@ -208,7 +208,7 @@ fn calls_that_every_filter_allows_are_allowed(rt: HostRuntime) -> Result<(), Fai
     )
 }
 
-/// Processes that may not kill change nothing by it, and one outside stays as it is when they end.
+// Processes that may not kill change nothing by it, and one outside stays as it is when they end.
 #[test]
 fn refused_kills_reach_nobody(rt: HostRuntime) -> Result<(), Fail> {
     let given = Given {

@@ -43,7 +43,7 @@ pub(crate) const SET_USER_ID: Mark = Mark {
 
 impl Given {
     /// What a kernel is given.
-    pub(crate) fn images(&self, alloc: Global) -> Result<Images, Fail> {
+    pub(crate) fn declared(&self, alloc: Global) -> Result<Images, Fail> {
         let mut filters = Vec::new(alloc);
         for filter in self.filters {
             filters.push(filter.image(alloc)?)?;

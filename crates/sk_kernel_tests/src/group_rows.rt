@@ -11,7 +11,7 @@ use sk_calls::Syscall::{
 };
 use std::test::Fail;
 
-/// SIGCONT goes to anyone of the session.
+// SIGCONT goes to anyone of the session.
 #[test]
 fn signals_go_where_the_ids_permit(rt: HostRuntime) -> Result<(), Fail> {
     play_and_see(

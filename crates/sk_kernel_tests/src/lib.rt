@@ -11,7 +11,7 @@ mod given;
 #[cfg(test)]
 mod group_rows;
 #[cfg(test)]
-mod line_rows;
+mod lineage_rows;
 #[cfg(test)]
 mod order_rows;
 #[cfg(test)]

@@ -1,4 +1,4 @@
-//! Scripts in many orders of their turns: processes with the same line get the same verdicts in all of them.
+//! Scripts in many orders of their turns: processes with the same lineage get the same verdicts in all of them.
 use crate::given::{Filter, Given, NOTHING, PLAIN, SET_USER_ID};
 use crate::row::Act::Call;
 use crate::row::{Act, NONE};
@@ -7,7 +7,7 @@ use sk_calls::Syscall::{
     Execve, ExitGroup, Fork, Geteuid, Getppid, Kill, Pause, Prctl, Seccomp, Setuid, Wait4,
 };
 use sk_insn::Record;
-use sk_kernel::laws::{Lineage, line};
+use sk_kernel::laws::{Lineage, lineage_of};
 use sk_kernel::{Answer, Event, Kernel, Need};
 use sk_table::{ListStore, Proc, ProcStore, SlotStore};
 use std::alloc::Global;
@@ -32,10 +32,10 @@ struct Course<S: ProcStore> {
     answers: Vec<Answer>,
 }
 
-/// A line, and the verdicts of its filters on each call without arguments.
+/// A lineage, and the verdicts of its filters on each call without arguments.
 #[derive(Drop)]
 struct Known {
-    line: Lineage,
+    lineage: Lineage,
     verdicts: Vec<u32>,
 }
 
@@ -117,27 +117,27 @@ const STRANGERS: Orders = Orders {
     ],
 };
 
-/// Process 1 has a line before each of its calls and one at last, the child three others, and those that are filtered are
-/// seven.
+// Process 1 has a lineage before each of its calls and one at last, the child three others, and those that are filtered are
+// seven.
 #[test]
-fn sandbox_is_judged_by_its_lines(rt: HostRuntime) -> Result<(), Fail> {
-    let known = lines_in_all_orders(&rt, &SANDBOX)?;
+fn sandbox_is_judged_by_its_lineages(rt: HostRuntime) -> Result<(), Fail> {
+    let known = lineages_in_all_orders(&rt, &SANDBOX)?;
     assert_eq!(rt; known.len(), 11);
-    assert_eq!(rt; lines_that_refuse(&known, Getppid), 7);
+    assert_eq!(rt; lineages_that_refuse(&known, Getppid), 7);
     Ok(())
 }
 
-/// The second child begins with the line that process 1 has after its first fork.
+// The second child begins with the lineage that process 1 has after its first fork.
 #[test]
-fn strangers_are_judged_by_their_lines(rt: HostRuntime) -> Result<(), Fail> {
-    let known = lines_in_all_orders(&rt, &STRANGERS)?;
+fn strangers_are_judged_by_their_lineages(rt: HostRuntime) -> Result<(), Fail> {
+    let known = lineages_in_all_orders(&rt, &STRANGERS)?;
     assert_eq!(rt; known.len(), 12);
-    assert_eq!(rt; lines_that_refuse(&known, Getppid), 0);
+    assert_eq!(rt; lineages_that_refuse(&known, Getppid), 0);
     Ok(())
 }
 
-/// All lines that the processes have in any of the orders, over each store. Where two are equal, so are their verdicts.
-fn lines_in_all_orders<R: Abort + AllocGlobal>(
+// All lineages that the processes have in any of the orders, over each store. Where two are equal, so are their verdicts.
+fn lineages_in_all_orders<R: Abort + AllocGlobal>(
     rt: &R,
     orders: &Orders,
 ) -> Result<Vec<Known>, Fail> {
@@ -149,7 +149,7 @@ fn lines_in_all_orders<R: Abort + AllocGlobal>(
     Ok(known)
 }
 
-/// Gives the processes their turns in this order, and meets their lines before and after each turn.
+// Gives the processes their turns in this order, and meets their lineages before and after each turn.
 fn meet_in_order<S: ProcStore, R: Abort + AllocGlobal>(
     rt: &R,
     orders: &Orders,
@@ -157,7 +157,7 @@ fn meet_in_order<S: ProcStore, R: Abort + AllocGlobal>(
     known: &mut Vec<Known>,
 ) -> Result<(), Fail> {
     let mut course = Course {
-        kernel: Kernel::<S>::new(rt.alloc(), orders.given.images(rt.alloc())?)?,
+        kernel: Kernel::<S>::new(rt.alloc(), orders.given.declared(rt.alloc())?)?,
         events: Vec::new(rt.alloc()),
         answers: Vec::new(rt.alloc()),
     };
@@ -198,7 +198,7 @@ impl<S: ProcStore> Course<S> {
         Ok(())
     }
 
-    /// Adds the lines of all processes that are there to those that are known, or compares them.
+    // Adds the lineages of all processes that are there to those that are known, or compares them.
     fn meet_all<R: Abort + AllocGlobal>(&self, rt: &R, known: &mut Vec<Known>) -> Result<(), Fail> {
         for pid in 1..4 {
             if let Some(process) = self.kernel.get(pid) {
@@ -216,12 +216,12 @@ impl<S: ProcStore> Course<S> {
         verdicts: Vec<u32>,
     ) -> Result<Known, Fail> {
         assert_eq!(rt; self.events.len(), self.answers.len());
-        let line = line(rt.alloc(), &self.events, &self.answers, pid)?;
-        Ok(Known { line, verdicts })
+        let lineage = lineage_of(rt.alloc(), &self.events, &self.answers, pid)?;
+        Ok(Known { lineage, verdicts })
     }
 }
 
-/// The verdicts of the filters of a process on each call without arguments.
+// The verdicts of the filters of a process on each call without arguments.
 fn verdicts_of(alloc: Global, process: &Proc) -> Result<Vec<u32>, Fail> {
     let mut verdicts = Vec::new(alloc);
     for nr in 0..512 {
@@ -231,7 +231,9 @@ fn verdicts_of(alloc: Global, process: &Proc) -> Result<Vec<u32>, Fail> {
 }
 
 fn meet<R: Abort>(rt: &R, met: Known, known: &mut Vec<Known>) -> Result<(), Fail> {
-    let same = known.iter().position(|old| is_same(&old.line, &met.line));
+    let same = known
+        .iter()
+        .position(|old| is_same(&old.lineage, &met.lineage));
     match same {
         Some(place) => assert_eq!(rt; known[place].verdicts, met.verdicts),
         None => known.push(met)?,
@@ -239,12 +241,12 @@ fn meet<R: Abort>(rt: &R, met: Known, known: &mut Vec<Known>) -> Result<(), Fail
     Ok(())
 }
 
-fn is_same(line: &Lineage, other: &Lineage) -> bool {
-    line.root == other.root && line.calls == other.calls
+fn is_same(lineage: &Lineage, other: &Lineage) -> bool {
+    lineage.root == other.root && lineage.calls == other.calls
 }
 
-/// How many of the lines have filters that refuse the call with errno 1.
-fn lines_that_refuse(known: &[Known], call: Syscall) -> usize {
+// How many of the lineages have filters that refuse the call with errno 1.
+fn lineages_that_refuse(known: &[Known], call: Syscall) -> usize {
     known
         .iter()
         .filter(|met| met.verdicts.get(call.number() as usize) == Some(&0x0005_0001))
@@ -256,7 +258,7 @@ fn bare_call(nr: u32) -> Record {
 }
 
 impl Orders {
-    /// What the process does in its turn.
+    // What the process does in its turn.
     fn next<S: ProcStore>(&self, kernel: &Kernel<S>, pid: u32, events: &[Event]) -> Event {
         match kernel.need(pid) {
             Need::Deliver => Event::Deliver { pid },
@@ -265,7 +267,7 @@ impl Orders {
         }
     }
 
-    /// The first call of its script that it has not made, or a fault where it has made all.
+    // The first call of its script that it has not made, or a fault where it has made all.
     fn next_call(&self, pid: u32, events: &[Event]) -> Event {
         let script = self.scripts.get(pid.saturating_sub(1) as usize);
         match script.and_then(|script| script.get(calls_of(pid, events)).copied()) {
@@ -275,7 +277,7 @@ impl Orders {
     }
 }
 
-/// How many calls the process has made.
+// How many calls the process has made.
 fn calls_of(pid: u32, events: &[Event]) -> usize {
     let mut calls: usize = 0;
     for event in events {

@@ -40,7 +40,7 @@ fn stopped_job_of_a_shell_that_ends_is_hung_up(rt: HostRuntime) -> Result<(), Fa
     )
 }
 
-/// The shell is ended by its own filter.
+// The shell is ended by its own filter.
 #[test]
 fn stopped_job_of_a_shell_that_is_killed_is_hung_up(rt: HostRuntime) -> Result<(), Fail> {
     play(
@@ -66,7 +66,7 @@ fn stopped_job_of_a_shell_that_is_killed_is_hung_up(rt: HostRuntime) -> Result<(
     )
 }
 
-/// Group 1 is orphaned all along, so the terminal stops nobody of it.
+// Group 1 is orphaned all along, so the terminal stops nobody of it.
 #[test]
 fn terminal_stops_no_orphaned_group(rt: HostRuntime) -> Result<(), Fail> {
     play(

@@ -2,7 +2,7 @@
 use crate::given::Given;
 use crate::picture::{Picture, pictures};
 use crate::row::Row;
-use sk_kernel::{Answer, Event, Images, Kernel, Need};
+use sk_kernel::{Answer, Images, Event, Kernel, Need};
 use sk_signal::SigSet;
 use sk_table::{ListStore, ProcStore, SlotStore};
 use std::alloc::{AllocError, Global};
@@ -51,7 +51,7 @@ fn play_over_and_see<S: ProcStore, R: Abort + AllocGlobal>(
     rows: &[Row],
     sights: &[Sight],
 ) -> Result<(), Fail> {
-    let kernel = played::<S, R>(rt, given.images(rt.alloc())?, rows)?;
+    let kernel = played::<S, R>(rt, given.declared(rt.alloc())?, rows)?;
     see(rt, &kernel, sights);
     Ok(())
 }
@@ -75,7 +75,7 @@ fn keep<S: ProcStore, R: Abort + AllocGlobal>(
     rows: &[Row],
     kept: &[u32],
 ) -> Result<(), Fail> {
-    let mut kernel = played::<S, R>(rt, given.images(rt.alloc())?, before)?;
+    let mut kernel = played::<S, R>(rt, given.declared(rt.alloc())?, before)?;
     let old = pictures(rt.alloc(), &kernel, kept)?;
     assert_eq!(rt; old.len(), kept.len());
     go_on(rt, &mut kernel, rows)?;
@@ -103,10 +103,10 @@ pub(crate) fn add(rows: &mut Vec<Row>, more: &[Row]) -> Result<(), AllocError> {
 /// Does the rows over one store, and compares each answer.
 pub(crate) fn played<S: ProcStore, R: Abort + AllocGlobal>(
     rt: &R,
-    images: Images,
+    declared: Images,
     rows: &[Row],
 ) -> Result<Kernel<S>, Fail> {
-    let mut kernel = Kernel::<S>::new(rt.alloc(), images)?;
+    let mut kernel = Kernel::<S>::new(rt.alloc(), declared)?;
     go_on(rt, &mut kernel, rows)?;
     Ok(kernel)
 }
@@ -114,10 +114,10 @@ pub(crate) fn played<S: ProcStore, R: Abort + AllocGlobal>(
 /// The same, and answers what the kernel answered.
 pub(crate) fn answers_of<S: ProcStore, R: Abort + AllocGlobal>(
     rt: &R,
-    images: Images,
+    declared: Images,
     rows: &[Row],
 ) -> Result<Vec<Answer>, Fail> {
-    go_on(rt, &mut Kernel::<S>::new(rt.alloc(), images)?, rows)
+    go_on(rt, &mut Kernel::<S>::new(rt.alloc(), declared)?, rows)
 }
 
 fn go_on<S: ProcStore, R: Abort + AllocGlobal>(

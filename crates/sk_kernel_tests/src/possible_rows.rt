@@ -5,10 +5,10 @@ use sk_kernel::{Answer, Event, Kernel, Outcome};
 use sk_table::SlotStore;
 use std::test::Fail;
 
-/// A call of process 1 is possible as the system starts, and happens without a look whether it is.
+// A call of process 1 is possible as the system starts, and happens without a look whether it is.
 #[test]
 fn possible_call_happens(rt: HostRuntime) -> Result<(), Fail> {
-    let mut kernel = Kernel::<SlotStore>::new(rt.alloc(), NOTHING.images(rt.alloc())?)?;
+    let mut kernel = Kernel::<SlotStore>::new(rt.alloc(), NOTHING.declared(rt.alloc())?)?;
     let answer = kernel.happen(&Event::Call {
         pid: 1,
         ip: 0,

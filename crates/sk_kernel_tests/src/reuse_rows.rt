@@ -8,7 +8,7 @@ use crate::row::NONE;
 use sk_calls::Syscall::{Exit, Fork, Getppid, Seccomp, Wait4};
 use std::test::Fail;
 
-/// A pid is given again once all others were, and has nothing of the filters of the process that had it.
+// A pid is given again once all others were, and has nothing of the filters of the process that had it.
 #[test]
 fn pid_comes_again_without_its_filters(rt: HostRuntime) -> Result<(), Fail> {
     let mut rows = Vec::new(rt.alloc());

@@ -14,7 +14,7 @@ use sk_calls::Syscall::{
 use sk_kernel::{Need, Outcome, Reason};
 use std::test::Fail;
 
-/// The handler of program 1 runs, and the call behind it is allowed.
+// The handler of program 1 runs, and the call behind it is allowed.
 #[test]
 fn trap_runs_the_handler_of_sigsys(rt: HostRuntime) -> Result<(), Fail> {
     play(
@@ -60,7 +60,7 @@ fn trap_kills_who_ignores_and_blocks_sigsys(rt: HostRuntime) -> Result<(), Fail>
     )
 }
 
-/// The signal that the handler sends is blocked until it returns.
+// The signal that the handler sends is blocked until it returns.
 #[test]
 fn handler_that_signals_itself_runs_again(rt: HostRuntime) -> Result<(), Fail> {
     play(
@@ -123,7 +123,7 @@ fn sigkill_and_sigstop_are_not_blocked(rt: HostRuntime) -> Result<(), Fail> {
     )
 }
 
-/// A stop signal takes SIGCONT away, and the other way round.
+// A stop signal takes SIGCONT away, and the other way round.
 #[test]
 fn stops_and_continuations_exclude_each_other(rt: HostRuntime) -> Result<(), Fail> {
     play(
@@ -165,7 +165,7 @@ fn sixteen_handlers_nest(rt: HostRuntime) -> Result<(), Fail> {
     play_and_see(&rt, &NOTHING, &rows, &[Halted(Some(11))])
 }
 
-/// The handler is forgotten, and process 1 minds no default action.
+// The handler is forgotten, and process 1 minds no default action.
 #[test]
 fn pending_signals_stay_over_execve(rt: HostRuntime) -> Result<(), Fail> {
     play(

@@ -34,7 +34,7 @@ fn children_of_who_ignores_sigchld_are_not_told(rt: HostRuntime) -> Result<(), F
     )
 }
 
-/// The filter refuses the return from the handler, and the process crashes.
+// The filter refuses the return from the handler, and the process crashes.
 #[test]
 fn crash_is_told_to_the_parent(rt: HostRuntime) -> Result<(), Fail> {
     play(

@@ -31,13 +31,13 @@ seccomp_operation_of n =
 abbrev pub register : Record → ℕ → ℕ
 register call n = slice_index_or call.args n 0
 
--- its low 32 bits, as a number without a sign
-abbrev pub low : Record → ℕ → ℕ
-low call n = register call n % 2 ^ 32
+-- its low 32 bits as a number without a sign, the unsigned int of the manuals
+abbrev pub unsigned : Record → ℕ → ℕ
+unsigned call n = register call n % 2 ^ 32
 
--- the same bits as a number with a sign
+-- the same bits as a number with a sign, their int
 abbrev pub signed : Record → ℕ → ℤ
-signed call n = cast_signed w32 (low call n)
+signed call n = cast_signed w32 (unsigned call n)
 
 -- whom an argument means, for kill(2) and wait4(2): n is the process n, 0 those of the caller's group, which
 -- is asked now, -1 any, and -n those of the group n

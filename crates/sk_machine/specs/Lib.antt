@@ -3,7 +3,7 @@ pub mod Orphans
 pub mod views
 pub mod laws
 pub mod Events
-pub mod Given
+pub mod Images
 pub mod Arguments
 pub mod Authority
 pub mod Performed
@@ -15,4 +15,4 @@ pub mod Delivering
 pub mod Machine
 pub mod Memory
 pub mod Turns
-pub mod Lines
+pub mod Lineages

@@ -24,7 +24,7 @@ use Rattle.sk_machine.specs.declared.answer.Outcome.TheVariants.{Returned, Trapp
 use Rattle.sk_machine.specs.declared.answer.Reason.{Reason}
 use Rattle.sk_machine.specs.declared.answer.Reason.TheVariants.{NoProcess, Zombie, Stopped, Waiting, SignalFirst, NothingWaits, Halted}
 use Rattle.sk_machine.specs.Events.{pid_of, recorded}
-use Rattle.sk_machine.specs.Given.{GivenImages}
+use Rattle.sk_machine.specs.Images.{Images}
 use Rattle.sk_machine.specs.Performed.{Performed, fails}
 use Rattle.sk_machine.specs.Performing.{performed, end_of_caller}
 use Rattle.sk_machine.specs.WaitCalls.{resumed}
@@ -46,29 +46,29 @@ trapped w pid = record { outcome = Trapped; world = forced w pid }
 -- what becomes of a call by its verdict, which has this action: seccomp(2). The data of SECCOMP_RET_ERRNO
 -- are the error. Nobody listens and nobody traces, so SECCOMP_RET_USER_NOTIF and SECCOMP_RET_TRACE answer ENOSYS. A kill ends
 -- the process as SIGSYS does
-abbrev pub judged : GivenImages → World → ℕ → Body → Record → ℕ → Action → Performed
-judged images w pid body call verdict action.Allow = performed images w pid body call
-judged images w pid body call verdict action.Log = performed images w pid body call
-judged images w pid body call verdict action.Trap = trapped w pid
-judged images w pid body call verdict action.Errno = refused w (data_part verdict)
-judged images w pid body call verdict action.UserNotif = fails w Enosys
-judged images w pid body call verdict action.Trace = fails w Enosys
-judged images w pid body call verdict action.KillProcess = end_of_caller w pid SIGSYS
-judged images w pid body call verdict action.KillThread = end_of_caller w pid SIGSYS
-judged images w pid body call verdict action.Unknown = end_of_caller w pid SIGSYS
+abbrev pub judged : Images → World → ℕ → Body → Record → ℕ → Action → Performed
+judged declared w pid body call verdict action.Allow = performed declared w pid body call
+judged declared w pid body call verdict action.Log = performed declared w pid body call
+judged declared w pid body call verdict action.Trap = trapped w pid
+judged declared w pid body call verdict action.Errno = refused w (data_part verdict)
+judged declared w pid body call verdict action.UserNotif = fails w Enosys
+judged declared w pid body call verdict action.Trace = fails w Enosys
+judged declared w pid body call verdict action.KillProcess = end_of_caller w pid SIGSYS
+judged declared w pid body call verdict action.KillThread = end_of_caller w pid SIGSYS
+judged declared w pid body call verdict action.Unknown = end_of_caller w pid SIGSYS
 
 -- a call with this verdict has come to this
 abbrev pub call_answered : ℕ → Performed → Stepped
 call_answered verdict p = record { answer = answer.Call verdict p.outcome; world = p.world }
 
 -- a call with a verdict
-abbrev pub called_with : GivenImages → World → ℕ → Body → Record → ℕ → Stepped
-called_with images w pid body call verdict =
-    call_answered verdict (judged images w pid body call verdict (action_of verdict))
+abbrev pub called_with : Images → World → ℕ → Body → Record → ℕ → Stepped
+called_with declared w pid body call verdict =
+    call_answered verdict (judged declared w pid body call verdict (action_of verdict))
 
 -- a call: all filters of the caller judge it
-abbrev pub called : GivenImages → World → ℕ → Body → Record → Stepped
-called images w pid body call = called_with images w pid body call (verdict_of body.chain call)
+abbrev pub called : Images → World → ℕ → Body → Record → Stepped
+called declared w pid body call = called_with declared w pid body call (verdict_of body.chain call)
 
 -- a delivery has done this
 abbrev pub signal_answered : ℕ → Delivered → Stepped
@@ -87,11 +87,11 @@ abbrev pub delivery : World → ℕ → Body → Option ℕ → Stepped
 delivery w pid body o = option_map_or (λ n. signal_answered n (delivered w pid body n)) o (not_now w NothingWaits)
 
 -- an event that is possible, of a process with this body
-abbrev pub happened : GivenImages → World → Body → Event → Stepped
-happened images w body (Call pid ip call) = called images w pid body (recorded ip call)
-happened images w body (Deliver pid) = delivery w pid body (signal_for body)
-happened images w body (Resume pid) = resume_answered (resumed w pid body.waiting)
-happened images w body (Fault pid) = record { answer = answer.Crashed; world = ended_and_hung_up w pid SIGSEGV }
+abbrev pub happened : Images → World → Body → Event → Stepped
+happened declared w body (Call pid ip call) = called declared w pid body (recorded ip call)
+happened declared w body (Deliver pid) = delivery w pid body (signal_for body)
+happened declared w body (Resume pid) = resume_answered (resumed w pid body.waiting)
+happened declared w body (Fault pid) = record { answer = answer.Crashed; world = ended_and_hung_up w pid SIGSEGV }
 
 -- why a process that runs cannot make a call of its own: it waits in one, or a signal comes first
 abbrev pub call_reason : World → ℕ → Option Reason
@@ -121,9 +121,7 @@ own_reason w (Fault pid) = call_reason w pid
 -- the event delivers the signal that is due, which to a stopped process is SIGKILL alone
 abbrev pub is_due_delivery : World → Event → Bool
 is_due_delivery w (Deliver pid) = is_some (signal_due (at w pid))
-is_due_delivery w (Call pid ip call) = false
-is_due_delivery w (Resume pid) = false
-is_due_delivery w (Fault pid) = false
+is_due_delivery w other = false
 
 -- the first reason for which an event is not possible, if there is one
 abbrev pub reason_of : World → Event → Option Reason
@@ -135,17 +133,17 @@ reason_of w event =
     else own_reason w event
 
 -- an event of this process, if it is there
-abbrev pub happened_to : GivenImages → World → Event → Option Proc → Stepped
-happened_to images w event o = option_map_or (λ p. happened images w p.body event) o (not_now w NoProcess)
+abbrev pub happened_to : Images → World → Event → Option Proc → Stepped
+happened_to declared w event o = option_map_or (λ p. happened declared w p.body event) o (not_now w NoProcess)
 
 -- an event by the first reason for which it is not possible
-abbrev pub stepped : GivenImages → World → Event → Option Reason → Stepped
-stepped images w event (Some reason) = not_now w reason
-stepped images w event None = happened_to images w event (at w (pid_of event))
+abbrev pub stepped : Images → World → Event → Option Reason → Stepped
+stepped declared w event (Some reason) = not_now w reason
+stepped declared w event None = happened_to declared w event (at w (pid_of event))
 
 -- one event
-unfoldable pub step_of : GivenImages → World → Event → Stepped
-step_of images w event = stepped images w event (reason_of w event)
+unfoldable pub step_of : Images → World → Event → Stepped
+step_of declared w event = stepped declared w event (reason_of w event)
 
 -- the status with which a process has ended, if it has
 abbrev pub end_status : Life → Option ℕ
@@ -158,12 +156,12 @@ abbrev pub halted_of : World → Option ℕ
 halted_of w = option_and_then (λ p. end_status p.body.life) (at w INIT)
 
 -- a list of events: the answers, and the world afterwards
-abbrev pub answers_of : GivenImages → World → List Event → List Answer
-answers_of images w [] = []
-answers_of images w (event ∷ events) =
-    (step_of images w event).answer ∷ answers_of images (step_of images w event).world events
+abbrev pub answers_of : Images → World → List Event → List Answer
+answers_of declared w [] = []
+answers_of declared w (event ∷ events) =
+    (step_of declared w event).answer ∷ answers_of declared (step_of declared w event).world events
 
 -- the world after a list of events
-abbrev pub world_after : GivenImages → World → List Event → World
-world_after images w [] = w
-world_after images w (event ∷ events) = world_after images (step_of images w event).world events
+abbrev pub world_after : Images → World → List Event → World
+world_after declared w [] = w
+world_after declared w (event ∷ events) = world_after declared (step_of declared w event).world events

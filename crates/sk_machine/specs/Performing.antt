@@ -23,9 +23,9 @@ use Rattle.sk_machine.specs.declared.operation.SeccompOperation.{SeccompOperatio
 use Rattle.sk_machine.specs.declared.operation.SeccompOperation.TheVariants as operation
 use Rattle.sk_calls.specs.declared.syscall.Syscall.{Syscall}
 use Rattle.sk_calls.specs.declared.syscall.Syscall.TheVariants as syscall
-use Rattle.sk_machine.specs.Given.{GivenImages}
+use Rattle.sk_machine.specs.Images.{Images}
 use Rattle.sk_calls.specs.Syscalls.{syscall_of}
-use Rattle.sk_machine.specs.Arguments.{register, low, signed, prctl_option_of, seccomp_operation_of}
+use Rattle.sk_machine.specs.Arguments.{register, unsigned, signed, prctl_option_of, seccomp_operation_of}
 use Rattle.sk_machine.specs.Authority.{Authority, authority_of, with_authority, after_no_new_privs, after_set_seccomp, after_set_mode_filter, authority_after}
 use Rattle.sk_machine.specs.Performed.{Performed, returns, fails, asked, changes, authorises, waits}
 use Rattle.sk_machine.specs.SignalCalls.{resignals, after_sigaction, after_sigprocmask, after_sigreturn}
@@ -63,8 +63,8 @@ abbrev pub pending_signals : World → SignalMembers → Performed
 pending_signals w pending = record { outcome = Signals pending; world = w }
 
 -- what the call makes of the authority of a caller with this body
-abbrev pub authorised : GivenImages → Body → Syscall → Record → Result Authority Errno
-authorised images body which call = authority_after images (Some which) call (authority_of body)
+abbrev pub authorised : Images → Body → Syscall → Record → Result Authority Errno
+authorised declared body which call = authority_after declared (Some which) call (authority_of body)
 
 -- prctl(2), PR_GET_SECCOMP: 2 is SECCOMP_MODE_FILTER
 abbrev pub seccomp_mode : List (List Insn) → ℕ
@@ -95,14 +95,14 @@ abbrev pub where_subreapers : Bool → World → Performed → Performed
 where_subreapers there w p = if there then p else fails w Einval
 
 -- prctl(2), by its option: EINVAL where the number is none
-abbrev pub prctl : GivenImages → World → ℕ → Body → Option PrctlOption → Record → Performed
-prctl images w pid body (Some option.GetSeccomp) call = returns w (seccomp_mode body.chain)
-prctl images w pid body (Some option.GetNoNewPrivs) call = asked w (no_new_privs_asked call body.creds.no_new_privs)
-prctl images w pid body (Some option.SetChildSubreaper) call = where_subreapers images.subreapers w (subreaper_set w pid call)
-prctl images w pid body (Some option.GetChildSubreaper) call = where_subreapers images.subreapers w (subreaper_asked w body.subreaper)
-prctl images w pid body None call = fails w Einval
-prctl images w pid body (Some option.SetNoNewPrivs) call = authorises w pid (after_no_new_privs call (authority_of body))
-prctl images w pid body (Some option.SetSeccomp) call = authorises w pid (after_set_seccomp images call (authority_of body))
+abbrev pub prctl : Images → World → ℕ → Body → Option PrctlOption → Record → Performed
+prctl declared w pid body (Some option.GetSeccomp) call = returns w (seccomp_mode body.chain)
+prctl declared w pid body (Some option.GetNoNewPrivs) call = asked w (no_new_privs_asked call body.creds.no_new_privs)
+prctl declared w pid body (Some option.SetChildSubreaper) call = where_subreapers declared.subreapers w (subreaper_set w pid call)
+prctl declared w pid body (Some option.GetChildSubreaper) call = where_subreapers declared.subreapers w (subreaper_asked w body.subreaper)
+prctl declared w pid body None call = fails w Einval
+prctl declared w pid body (Some option.SetNoNewPrivs) call = authorises w pid (after_no_new_privs call (authority_of body))
+prctl declared w pid body (Some option.SetSeccomp) call = authorises w pid (after_set_seccomp declared call (authority_of body))
 
 -- seccomp(2), SECCOMP_GET_ACTION_AVAIL: the number is one of the eight actions' values. No flag is taken
 abbrev pub action_available : ℕ → ℕ → Result ℕ Errno
@@ -112,41 +112,41 @@ action_available flags value =
     else Err Eopnotsupp
 
 -- seccomp(2), by its operation: EINVAL where the number is none
-abbrev pub seccomp : GivenImages → World → ℕ → Body → Option SeccompOperation → Record → Performed
-seccomp images w pid body (Some operation.GetActionAvail) call = asked w (action_available (low call 1) (low call 2))
-seccomp images w pid body None call = fails w Einval
-seccomp images w pid body (Some operation.SetModeFilter) call = authorises w pid (after_set_mode_filter images call (authority_of body))
+abbrev pub seccomp : Images → World → ℕ → Body → Option SeccompOperation → Record → Performed
+seccomp declared w pid body (Some operation.GetActionAvail) call = asked w (action_available (unsigned call 1) (unsigned call 2))
+seccomp declared w pid body None call = fails w Einval
+seccomp declared w pid body (Some operation.SetModeFilter) call = authorises w pid (after_set_mode_filter declared call (authority_of body))
 
 -- what the process of a pid, which has this body, comes to when it makes the call, and nothing stands in its way
-abbrev pub row : GivenImages → World → ℕ → Body → Option Syscall → Record → Performed
-row images w pid body (Some syscall.RtSigaction) call = resignals w pid (after_sigaction pid call body.signals)
-row images w pid body (Some syscall.RtSigprocmask) call = resignals w pid (after_sigprocmask call body.signals)
-row images w pid body (Some syscall.RtSigreturn) call = resignals w pid (after_sigreturn body.signals.frames body.signals)
-row images w pid body (Some syscall.RtSigpending) call = pending_signals w body.signals.pending
-row images w pid body (Some syscall.SchedYield) call = returns w 0
-row images w pid body (Some syscall.Pause) call = waits w pid waiting.Pause
-row images w pid body (Some syscall.Getpid) call = returns w pid
-row images w pid body (Some syscall.Getppid) call = returns w (parent_of (at w pid))
-row images w pid body (Some syscall.Fork) call = forks w pid (fork_answer w)
-row images w pid body (Some syscall.Execve) call = execve w pid (authorised images body syscall.Execve call)
-row images w pid body (Some syscall.Exit) call = end_of_caller w pid (exit_status (low call 0))
-row images w pid body (Some syscall.ExitGroup) call = end_of_caller w pid (exit_status (low call 0))
-row images w pid body (Some syscall.Wait4) call = wait4 w pid call
-row images w pid body (Some syscall.Kill) call = changes w 0 (after_kill w pid body.creds (signed call 0) (low call 1))
-row images w pid body (Some syscall.Getuid) call = returns w body.creds.real
-row images w pid body (Some syscall.Geteuid) call = returns w body.creds.effective
-row images w pid body (Some syscall.Setuid) call = authorises w pid (authorised images body syscall.Setuid call)
-row images w pid body (Some syscall.Setresuid) call = authorises w pid (authorised images body syscall.Setresuid call)
-row images w pid body (Some syscall.Getresuid) call = ids w body.creds
-row images w pid body (Some syscall.Setpgid) call = changes w 0 (after_setpgid w pid (signed call 0) (signed call 1))
-row images w pid body (Some syscall.Getpgrp) call = returns w (group_of (at w pid))
-row images w pid body (Some syscall.Setsid) call = changes w pid (after_setsid w pid)
-row images w pid body (Some syscall.Getpgid) call = asked w (group_asked w pid (signed call 0))
-row images w pid body (Some syscall.Getsid) call = asked w (session_asked w pid (signed call 0))
-row images w pid body (Some syscall.Prctl) call = prctl images w pid body (prctl_option_of (low call 0)) call
-row images w pid body (Some syscall.Seccomp) call = seccomp images w pid body (seccomp_operation_of (low call 0)) call
-row images w pid body None call = fails w Enosys
+abbrev pub row : Images → World → ℕ → Body → Option Syscall → Record → Performed
+row declared w pid body (Some syscall.RtSigaction) call = resignals w pid (after_sigaction pid call body.signals)
+row declared w pid body (Some syscall.RtSigprocmask) call = resignals w pid (after_sigprocmask call body.signals)
+row declared w pid body (Some syscall.RtSigreturn) call = resignals w pid (after_sigreturn body.signals.frames body.signals)
+row declared w pid body (Some syscall.RtSigpending) call = pending_signals w body.signals.pending
+row declared w pid body (Some syscall.SchedYield) call = returns w 0
+row declared w pid body (Some syscall.Pause) call = waits w pid waiting.Pause
+row declared w pid body (Some syscall.Getpid) call = returns w pid
+row declared w pid body (Some syscall.Getppid) call = returns w (parent_of (at w pid))
+row declared w pid body (Some syscall.Fork) call = forks w pid (fork_answer w)
+row declared w pid body (Some syscall.Execve) call = execve w pid (authorised declared body syscall.Execve call)
+row declared w pid body (Some syscall.Exit) call = end_of_caller w pid (exit_status (unsigned call 0))
+row declared w pid body (Some syscall.ExitGroup) call = end_of_caller w pid (exit_status (unsigned call 0))
+row declared w pid body (Some syscall.Wait4) call = wait4 w pid call
+row declared w pid body (Some syscall.Kill) call = changes w 0 (after_kill w pid body.creds (signed call 0) (unsigned call 1))
+row declared w pid body (Some syscall.Getuid) call = returns w body.creds.real
+row declared w pid body (Some syscall.Geteuid) call = returns w body.creds.effective
+row declared w pid body (Some syscall.Setuid) call = authorises w pid (authorised declared body syscall.Setuid call)
+row declared w pid body (Some syscall.Setresuid) call = authorises w pid (authorised declared body syscall.Setresuid call)
+row declared w pid body (Some syscall.Getresuid) call = ids w body.creds
+row declared w pid body (Some syscall.Setpgid) call = changes w 0 (after_setpgid w pid (signed call 0) (signed call 1))
+row declared w pid body (Some syscall.Getpgrp) call = returns w (group_of (at w pid))
+row declared w pid body (Some syscall.Setsid) call = changes w pid (after_setsid w pid)
+row declared w pid body (Some syscall.Getpgid) call = asked w (group_asked w pid (signed call 0))
+row declared w pid body (Some syscall.Getsid) call = asked w (session_asked w pid (signed call 0))
+row declared w pid body (Some syscall.Prctl) call = prctl declared w pid body (prctl_option_of (unsigned call 0)) call
+row declared w pid body (Some syscall.Seccomp) call = seccomp declared w pid body (seccomp_operation_of (unsigned call 0)) call
+row declared w pid body None call = fails w Enosys
 
 -- the same of a call by its number
-abbrev pub performed : GivenImages → World → ℕ → Body → Record → Performed
-performed images w pid body call = row images w pid body (syscall_of call.nr) call
+abbrev pub performed : Images → World → ℕ → Body → Record → Performed
+performed declared w pid body call = row declared w pid body (syscall_of call.nr) call

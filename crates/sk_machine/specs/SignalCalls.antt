@@ -14,7 +14,7 @@ use Rattle.sk_world.specs.declared.errno.Errno.TheVariants.{Einval}
 use Rattle.sk_world.specs.declared.process.TheConstants.{INIT}
 use Rattle.sk_world.specs.declared.process.Body.{Body}
 use Rattle.sk_world.specs.World.{World, changed}
-use Rattle.sk_machine.specs.Arguments.{register, low}
+use Rattle.sk_machine.specs.Arguments.{register, unsigned}
 use Rattle.sk_machine.specs.Performed.{Performed, returns, fails}
 
 -- other signals of a process
@@ -41,16 +41,16 @@ disposition_in action mask =
 -- sigaction(2)
 abbrev pub after_sigaction : ℕ → Record → SignalState → Result SignalState Errno
 after_sigaction pid call s =
-    if can_be_caught (low call 0)
-    then Ok (with_action (low call 0) (disposition_in (register call 1) (register call 2)) (pid == INIT) s)
+    if can_be_caught (unsigned call 0)
+    then Ok (with_action (unsigned call 0) (disposition_in (register call 1) (register call 2)) (pid == INIT) s)
     else Err Einval
 
 -- sigprocmask(2): 0 is SIG_BLOCK, 1 SIG_UNBLOCK, 2 SIG_SETMASK
 abbrev pub after_sigprocmask : Record → SignalState → Result SignalState Errno
 after_sigprocmask call s =
-    if low call 0 == 0 then Ok (with_mask (set.union s.mask (signals_of (register call 1))) s)
-    else if low call 0 == 1 then Ok (with_mask (set.difference s.mask (signals_of (register call 1))) s)
-    else if low call 0 == 2 then Ok (with_mask (signals_of (register call 1)) s)
+    if unsigned call 0 == 0 then Ok (with_mask (set.union s.mask (signals_of (register call 1))) s)
+    else if unsigned call 0 == 1 then Ok (with_mask (set.difference s.mask (signals_of (register call 1))) s)
+    else if unsigned call 0 == 2 then Ok (with_mask (signals_of (register call 1)) s)
     else Err Einval
 
 -- sigreturn(2), where these are the frames: EINVAL where no handler runs

@@ -11,7 +11,7 @@ use Rattle.sk_world.specs.World.{World, at, changed}
 use Rattle.sk_world.specs.Waits.{is_no_hang, options_of, ready_of, told}
 use Rattle.sk_machine.specs.Sessions.{group_of}
 use Rattle.sk_machine.specs.declared.answer.Outcome.TheVariants.{Told, Waits}
-use Rattle.sk_machine.specs.Arguments.{low, signed, who_meant}
+use Rattle.sk_machine.specs.Arguments.{unsigned, signed, who_meant}
 use Rattle.sk_machine.specs.Performed.{Performed, returns, fails, waits, waiting_in}
 
 -- WNOHANG is 1, WUNTRACED 2, WCONTINUED 8. The others of wait(2), __WNOTHREAD, __WALL and __WCLONE, are of threads, and none is taken
@@ -22,7 +22,7 @@ are_wait_options bits = bit_and bits 11 == bits
 abbrev pub request_of : World → ℕ → Record → Request
 request_of w pid call = record {
   who = who_meant (group_of (at w pid)) (signed call 0);
-  options = options_of (low call 2);
+  options = options_of (unsigned call 2);
 }
 
 -- what the call comes to. Where no child has anything to tell it returns 0 under WNOHANG, and waits else
@@ -34,8 +34,8 @@ polled w pid request poll.NotReady = if is_no_hang request.options then returns 
 -- wait4(2). The argument -2147483648 has no group: ESRCH
 abbrev pub wait4 : World → ℕ → Record → Performed
 wait4 w pid call =
-    if not (are_wait_options (low call 2)) then fails w Einval
-    else if low call 0 == 2 ^ 31 then fails w Esrch
+    if not (are_wait_options (unsigned call 2)) then fails w Einval
+    else if unsigned call 0 == 2 ^ 31 then fails w Esrch
     else polled w pid (request_of w pid call) (ready_of w pid (request_of w pid call))
 
 -- a waiting wait4(2) asks again: it ends, or goes on waiting

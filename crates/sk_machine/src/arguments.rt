@@ -1,6 +1,6 @@
 //! What is in the registers of a call.
 ghost use Rattle.std.specs.Prelude.{◌≡◌, ◌<◌};
-ghost use Rattle.sk_machine.specs.Arguments.{register, low, signed};
+ghost use Rattle.sk_machine.specs.Arguments.{register, unsigned, signed};
 
 use sk_insn::Record;
 
@@ -15,9 +15,9 @@ pub fn register(call: &Record, n: usize) -> u64
 
 /// The low 32 bits of a register, as a number without a sign.
 #[inline(always)]
-pub fn low(call: &Record, n: usize) -> u32
+pub fn unsigned(call: &Record, n: usize) -> u32
     requires { n < 6 }
-    ensures { result ≡ low call.now n }
+    ensures { result ≡ unsigned call.now n }
 {
     (register(call, n) % (1 << 32)) as u32
 }
@@ -28,5 +28,5 @@ pub fn signed(call: &Record, n: usize) -> i32
     requires { n < 6 }
     ensures { result ≡ signed call.now n }
 {
-    low(call, n).cast_signed()
+    unsigned(call, n).cast_signed()
 }

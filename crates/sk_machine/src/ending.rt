@@ -23,29 +23,15 @@ pub fn end<S: ProcStore>(store: &mut S, pid: u32, status: u32)
     ensures world { S.contents store.new ≡ ended_and_hung_up (S.contents store.old) pid status }
     ensures rules { IsWorld (S.contents store.new) }
 {
-    if pid == INIT {
-        sk_world::end(store, pid, status);
-    } else {
+    if pid != INIT && may_untie(store, pid) {
         end_and_hang_up(store, pid, status);
-    }
-}
-
-fn end_and_hang_up<S: ProcStore>(store: &mut S, pid: u32, status: u32)
-    requires rules { IsWorld (S.contents store.old) }
-    requires alive { IsTrue (is_alive (at (S.contents store.old) pid)) }
-    requires other { pid ≢ INIT }
-    ensures world { S.contents store.new ≡ ended_and_hung_up (S.contents store.old) pid status }
-    ensures rules { IsWorld (S.contents store.new) }
-{
-    if may_untie(store, pid) {
-        end_and_look(store, pid, status);
     } else {
         sk_world::end(store, pid, status);
     }
 }
 
-/// Whether the end of the process may take a tie from a group: whether it, or a child of it, ties one to its session.
-/// Where the system has halted, a parent may be a zombie and go, so that any tie may be taken.
+// Whether the end of the process may take a tie from a group: whether it, or a child of it, ties one to its session.
+// Where the system has halted, a parent may be a zombie and go, so that any tie may be taken.
 fn may_untie<S: ProcStore>(store: &S, pid: u32) -> bool
     requires rules { IsWorld (S.contents store.now) }
     ensures { IsFalse result → (q : ℕ) → IsTrue (is_engaged (S.contents store.now) pid q) → TiesNone (S.contents store.now) q }
@@ -53,7 +39,7 @@ fn may_untie<S: ProcStore>(store: &S, pid: u32) -> bool
     is_zombie(store, INIT) || ties_a_group(store, pid) || has_child_that_ties(store, pid)
 }
 
-/// Whether the process ties its group to its session.
+// Whether the process ties its group to its session.
 fn ties_a_group<S: ProcStore>(store: &S, pid: u32) -> bool
     ensures { IsFalse result → TiesNone (S.contents store.now) pid }
 {
@@ -63,7 +49,7 @@ fn ties_a_group<S: ProcStore>(store: &S, pid: u32) -> bool
     }
 }
 
-/// Whether a child of the process ties its group to its session.
+// Whether a child of the process ties its group to its session.
 fn has_child_that_ties<S: ProcStore>(store: &S, parent: u32) -> bool
     requires rules { IsWorld (S.contents store.now) }
     ensures { IsFalse result → (q : ℕ) → IsTrue (is_child_of parent (at (S.contents store.now) q)) → TiesNone (S.contents store.now) q }
@@ -78,8 +64,8 @@ fn has_child_that_ties<S: ProcStore>(store: &S, parent: u32) -> bool
     false
 }
 
-/// Ends a process, and hangs up the groups that this leaves orphaned with a stopped process in them.
-fn end_and_look<S: ProcStore>(store: &mut S, pid: u32, status: u32)
+// Ends a process, and hangs up the groups that this leaves orphaned with a stopped process in them.
+fn end_and_hang_up<S: ProcStore>(store: &mut S, pid: u32, status: u32)
     requires rules { IsWorld (S.contents store.old) }
     requires alive { IsTrue (is_alive (at (S.contents store.old) pid)) }
     requires other { pid ≢ INIT }
@@ -93,8 +79,8 @@ fn end_and_look<S: ProcStore>(store: &mut S, pid: u32, status: u32)
     hang_up_each(store, &groups);
 }
 
-/// Groups that are not orphaned, among them each that the process or a child of it ties to its session: those that its
-/// end may leave orphaned. Where the system has halted, a parent may be a zombie and go, so any tie may.
+// Groups that are not orphaned, among them each that the process or a child of it ties to its session: those that its
+// end may leave orphaned. Where the system has halted, a parent may be a zombie and go, so any tie may.
 fn add_groups_tied_by<S: ProcStore>(store: &S, pid: u32, groups: &mut NumberSet)
     requires rules { IsWorld (S.contents store.now) }
     requires empty { groups.old ≡ [] }
@@ -109,7 +95,7 @@ fn add_groups_tied_by<S: ProcStore>(store: &S, pid: u32, groups: &mut NumberSet)
     }
 }
 
-/// Adds each group that some process ties to its session.
+// Adds each group that some process ties to its session.
 fn add_ties<S: ProcStore>(store: &S, groups: &mut NumberSet)
     requires rules { IsWorld (S.contents store.now) }
     requires tied { (group : ℕ) → IsTrue (contains groups.old group) → is_orphaned (S.contents store.now) group ≡ false }
@@ -123,7 +109,7 @@ fn add_ties<S: ProcStore>(store: &S, groups: &mut NumberSet)
     }
 }
 
-/// Adds each group that a child of the process ties to its session.
+// Adds each group that a child of the process ties to its session.
 fn add_ties_of_children<S: ProcStore>(store: &S, parent: u32, groups: &mut NumberSet)
     requires rules { IsWorld (S.contents store.now) }
     requires tied { (group : ℕ) → IsTrue (contains groups.old group) → is_orphaned (S.contents store.now) group ≡ false }
@@ -138,7 +124,7 @@ fn add_ties_of_children<S: ProcStore>(store: &S, parent: u32, groups: &mut Numbe
     }
 }
 
-/// Adds the group of a process, where the process ties it to its session.
+// Adds the group of a process, where the process ties it to its session.
 fn add_tie<S: ProcStore>(store: &S, pid: u32, groups: &mut NumberSet)
     requires rules { IsWorld (S.contents store.now) }
     ensures { (group : ℕ) → contains groups.new group ≡ (is_tie (S.contents store.now) group pid || contains groups.old group) }
@@ -151,7 +137,7 @@ fn add_tie<S: ProcStore>(store: &S, pid: u32, groups: &mut NumberSet)
     }
 }
 
-/// Keeps those of the groups that are orphaned and have a stopped process.
+// Keeps those of the groups that are orphaned and have a stopped process.
 fn keep_orphaned<S: ProcStore>(store: &S, groups: &mut NumberSet)
     requires rules { IsWorld (S.contents store.now) }
     ensures { (group : ℕ) → contains groups.new group ≡ (contains groups.old group && (is_orphaned (S.contents store.now) group && has_stopped_member (S.contents store.now) group)) }
@@ -186,7 +172,7 @@ fn has_stopped_member<S: ProcStore>(store: &S, group: u32) -> bool
     false
 }
 
-/// Hangs up each of these groups, in rising order.
+// Hangs up each of these groups, in rising order.
 fn hang_up_each<S: ProcStore>(store: &mut S, groups: &NumberSet)
     requires rules { IsWorld (S.contents store.old) }
     requires known { (group : ℕ) → IsTrue (contains groups.now group) → IsTrue (is_group (S.contents store.old) group) }
@@ -209,7 +195,7 @@ fn hang_up<S: ProcStore>(store: &mut S, group: u32)
     send_to_group(store, group, SIGCONT);
 }
 
-/// Sends a signal to each process of a group that has not ended.
+// Sends a signal to each process of a group that has not ended.
 fn send_to_group<S: ProcStore>(store: &mut S, group: u32, signal: u8)
     requires rules { IsWorld (S.contents store.old) }
     requires signal { IsSignal signal }

@@ -115,7 +115,7 @@ fn is_group<S: ProcStore>(store: &S, group: u32) -> bool
     store.next_member(group, 0).is_some()
 }
 
-/// Whether some process of the session is in the group.
+// Whether some process of the session is in the group.
 fn is_group_of_session<S: ProcStore>(store: &S, session: u32, group: u32) -> bool
     requires { IsWorld (S.contents store.now) }
     ensures { result ≡ is_group_of_session (S.contents store.now) session group }

@@ -20,11 +20,11 @@ pub struct Images {
 impl Model for Images {
     ghost use Rattle.std.specs.Prelude.{map};
     ghost use Rattle.std.specs.Vec.{vec_items};
-    ghost use Rattle.sk_machine.specs.Given.{GivenImages, given_code};
+    ghost use Rattle.sk_machine.specs.Images.{Images, images_code};
 
-    ghost Value = { GivenImages };
+    ghost Value = { Images };
 
-    ghost coded = { given_code };
+    ghost coded = { images_code };
 
-    ghost view = { λ images. record { filters = map vec_items (vec_items images.filters); programs = vec_items images.programs; subreapers = images.subreapers } };
+    ghost view = { λ declared. record { filters = map vec_items (vec_items declared.filters); programs = vec_items declared.programs; subreapers = declared.subreapers } };
 }

@@ -5,21 +5,21 @@
 mod answer;
 mod arguments;
 mod asking;
+mod images;
 mod ending;
 mod event;
 mod grouping;
-mod images;
 pub mod laws;
 mod operation;
 mod orphans;
 
 pub use answer::{Answer, Effect, Outcome, Reason};
-pub use arguments::{low, register, signed};
+pub use arguments::{register, signed, unsigned};
 pub use asking::{getpgid, getsid, group_of, session_of};
+pub use images::{Images, Mark};
 pub use ending::end;
 pub use event::{Event, Need, is_waiting};
 pub use grouping::{setpgid, setsid};
-pub use images::{Images, Mark};
 pub use operation::{PrctlOption, SeccompOperation};
 pub use orphans::orphaned;
 pub use sk_calls::Syscall;

@@ -37,7 +37,7 @@ pub(crate) fn is_tie<S: ProcStore>(store: &S, group: u32, pid: u32) -> bool
     }
 }
 
-/// Whether the process is there, in the session, and outside the group.
+// Whether the process is there, in the session, and outside the group.
 fn is_outside<S: ProcStore>(store: &S, session: u32, group: u32, pid: u32) -> bool
     ensures { result ≡ is_outside session group (at (S.contents store.now) pid) }
 {

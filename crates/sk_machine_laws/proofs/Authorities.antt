@@ -50,7 +50,7 @@ came_twice a b c first later = λ p is.
 pub came_by_rights : (now before : Option Proc) → StaysInRights now before → Came now before
 came_by_rights now before rights = λ p is.
     let old = rights p is in
-    (old.0, old.1, λ i. record { programs = old.2.filters i; creds = old.2.creds i })
+    (old.0, old.1, λ i. record { filters = old.2.filters i; creds = old.2.creds i })
 
 pub keeps_by_rights : (w after : World) → KeepsRights w after → Keeps w after
 keeps_by_rights w after rights q = came_by_rights (at after q) (at w q) (rights q)

@@ -33,7 +33,7 @@ use Rattle.sk_world.specs.Waits.{is_no_hang, ready_of, told}
 use Rattle.sk_world.proofs.Stored.{at_here}
 use Rattle.sk_machine.specs.Orphans.{is_living_member, is_orphaned, is_left_orphaned, groups, sent_to_group, hung_up, each_hung_up, ended_and_hung_up}
 use Rattle.sk_machine.specs.Sessions.{group_of, pid_named, is_group, links_in_group, links_of_leader, may_regroup, put_into_group, regrouped, after_setpgid, after_setsid}
-use Rattle.sk_machine.specs.Arguments.{low}
+use Rattle.sk_machine.specs.Arguments.{unsigned}
 use Rattle.sk_machine.specs.Authority.{authority_of}
 use Rattle.sk_machine.specs.Performed.{Performed, returns, fails, asked, changes, waiting_in, waits}
 use Rattle.sk_machine.specs.SignalCalls.{with_signals, resignals}
@@ -113,8 +113,8 @@ over_polled R c w pid request poll.NotReady =
 
 pub over_wait4 : (R : World → World → Type 0) (c : Carries R) (w : World) (pid : ℕ) (call : Record) → R w (wait4 w pid call).world
 over_wait4 R c w pid call =
-    cond_both (not (are_wait_options (low call 2))) (fails w Einval) _ (λ (p : Performed). R w p.world) (λ _. c.still w)
-    (λ _. cond_both (low call 0 == 2147483648) (fails w Esrch) _ (λ (p : Performed). R w p.world) (λ _. c.still w)
+    cond_both (not (are_wait_options (unsigned call 2))) (fails w Einval) _ (λ (p : Performed). R w p.world) (λ _. c.still w)
+    (λ _. cond_both (unsigned call 0 == 2147483648) (fails w Esrch) _ (λ (p : Performed). R w p.world) (λ _. c.still w)
     (λ _. over_polled R c w pid (request_of w pid call) (ready_of w pid (request_of w pid call))))
 
 -- ---- deliveries and resumptions

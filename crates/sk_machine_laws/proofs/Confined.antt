@@ -56,10 +56,10 @@ use Rattle.sk_machine.specs.declared.event.Event.TheVariants.{Call, Deliver, Res
 use Rattle.sk_calls.specs.declared.syscall.Syscall.{Syscall}
 use Rattle.sk_calls.specs.declared.syscall.Syscall.TheVariants as syscall
 use Rattle.sk_machine.specs.Events.{pid_of, recorded}
-use Rattle.sk_machine.specs.Given.{GivenImages}
+use Rattle.sk_machine.specs.Images.{Images}
 use Rattle.sk_calls.specs.Syscalls.{syscall_of}
 use Rattle.sk_calls.proofs.SyscallTable.{number_of-syscall_of}
-use Rattle.sk_machine.specs.Arguments.{register, low, signed}
+use Rattle.sk_machine.specs.Arguments.{register, unsigned, signed}
 use Rattle.sk_machine.specs.Authority.{Authority, with_authority}
 use Rattle.sk_machine.specs.Performed.{Performed, returns, fails, asked, changes, authorises, waiting_in, waits}
 use Rattle.sk_machine.specs.SignalCalls.{with_signals, resignals}
@@ -73,7 +73,7 @@ use Rattle.sk_machine_laws.proofs.LeftOrphaned.{AreAlike, alike_still, alike_twi
 use Rattle.sk_machine_laws.proofs.Growing.{lets_through}
 use Rattle.sk_machine_laws.proofs.EachCall.{is_kill_row, each_call}
 use Rattle.sk_machine_laws.proofs.Happened.{at_step, at_delivery}
-use Rattle.sk_machine_laws.proofs.LineSteps.{authority_in}
+use Rattle.sk_machine_laws.proofs.LineageSteps.{authority_in}
 
 -- ---- which call is a kill
 only_kill : (o : Option Syscall) → is_kill_row o ≡ true → o ≡ Some syscall.Kill
@@ -327,8 +327,8 @@ spares_polled w pid q request poll.NotReady apart ready =
 
 spares_wait4 : (w : World) (pid q : ℕ) (call : Record) → IsApart w pid q → Spares w pid q (wait4 w pid call)
 spares_wait4 w pid q call apart =
-    cond_both (not (are_wait_options (low call 2))) (fails w Einval) _ (Spares w pid q) (λ _. spares_world w pid q)
-    (λ _. cond_both (low call 0 == 2147483648) (fails w Esrch) _ (Spares w pid q) (λ _. spares_world w pid q)
+    cond_both (not (are_wait_options (unsigned call 2))) (fails w Einval) _ (Spares w pid q) (λ _. spares_world w pid q)
+    (λ _. cond_both (unsigned call 0 == 2147483648) (fails w Esrch) _ (Spares w pid q) (λ _. spares_world w pid q)
     (λ _. spares_polled w pid q (request_of w pid call) (ready_of w pid (request_of w pid call)) apart refl))
 
 child_parent : (caller : ℕ) (o : Option Proc) → IsTrue (is_child_of caller o) → parent_of o ≡ caller
@@ -377,18 +377,18 @@ spares_ends w pid status q apart = record {
 }
 
 -- every call but kill(2)
-spares_row : (images : GivenImages) (w : World) (pid q : ℕ) (body : Body) (which : Option Syscall) (call : Record) → IsWorld w → IsApart w pid q
-    → IsTrue (is_some (at w q)) → is_kill_row which ≡ false → Spares w pid q (row images w pid body which call)
-spares_row images w pid q body which call rules apart there other =
-    each_call images w pid body call (λ facts p. facts.is_kill ≡ false → Spares w pid q p) (record {
+spares_row : (declared : Images) (w : World) (pid q : ℕ) (body : Body) (which : Option Syscall) (call : Record) → IsWorld w → IsApart w pid q
+    → IsTrue (is_some (at w q)) → is_kill_row which ≡ false → Spares w pid q (row declared w pid body which call)
+spares_row declared w pid q body which call rules apart there other =
+    each_call declared w pid body call (λ facts p. facts.is_kill ≡ false → Spares w pid q p) (record {
       answers = λ r _. spares_asked w pid q r;
       tells_signals = λ _ _. spares_world w pid q;
       tells_ids = λ _. spares_world w pid q;
       resignals = λ r _. spares_resignals w pid q r apart.other;
       authorises = λ r _. spares_authorises w pid q r apart.other;
       executes = λ r _. spares_execve w pid q r apart.other;
-      marks = λ _. spares_subreapers images.subreapers w pid q (subreaper_set w pid call) (spares_changed w pid q (with_subreaper (not (register call 1 == 0))) apart.other);
-      asks_mark = λ _. spares_subreapers images.subreapers w pid q (subreaper_asked w body.subreaper) (spares_world w pid q);
+      marks = λ _. spares_subreapers declared.subreapers w pid q (subreaper_set w pid call) (spares_changed w pid q (with_subreaper (not (register call 1 == 0))) apart.other);
+      asks_mark = λ _. spares_subreapers declared.subreapers w pid q (subreaper_asked w body.subreaper) (spares_world w pid q);
       pauses = λ _. spares_changed w pid q (waiting_in waiting.Pause) apart.other;
       waits_for = λ _. spares_wait4 w pid q call apart;
       forks_one = λ _. spares_forks w pid q (has_room w) refl rules there;
@@ -398,18 +398,18 @@ spares_row images w pid q body which call rules apart there other =
       leads = λ _. spares_setsid w pid q apart.other;
     }) which other
 
-spares_judged : (images : GivenImages) (w : World) (pid q : ℕ) (body : Body) (call : Record) (verdict : ℕ) (a : Action) → IsWorld w → IsApart w pid q
+spares_judged : (declared : Images) (w : World) (pid q : ℕ) (body : Body) (call : Record) (verdict : ℕ) (a : Action) → IsWorld w → IsApart w pid q
     → IsTrue (is_some (at w q))
-    → (IsTrue (performs a) → is_kill_row (syscall_of call.nr) ≡ false) → Spares w pid q (judged images w pid body call verdict a)
-spares_judged images w pid q body call verdict action.Allow rules apart there other = spares_row images w pid q body (syscall_of call.nr) call rules apart there (other refl)
-spares_judged images w pid q body call verdict action.Log rules apart there other = spares_row images w pid q body (syscall_of call.nr) call rules apart there (other refl)
-spares_judged images w pid q body call verdict action.Trap rules apart there other = untouched w pid q _ (forced_touches w pid q apart.other)
-spares_judged images w pid q body call verdict action.Errno rules apart there other = spares_world w pid q
-spares_judged images w pid q body call verdict action.UserNotif rules apart there other = spares_world w pid q
-spares_judged images w pid q body call verdict action.Trace rules apart there other = spares_world w pid q
-spares_judged images w pid q body call verdict action.KillProcess rules apart there other = spares_ends w pid SIGSYS q apart
-spares_judged images w pid q body call verdict action.KillThread rules apart there other = spares_ends w pid SIGSYS q apart
-spares_judged images w pid q body call verdict action.Unknown rules apart there other = spares_ends w pid SIGSYS q apart
+    → (IsTrue (performs a) → is_kill_row (syscall_of call.nr) ≡ false) → Spares w pid q (judged declared w pid body call verdict a)
+spares_judged declared w pid q body call verdict action.Allow rules apart there other = spares_row declared w pid q body (syscall_of call.nr) call rules apart there (other refl)
+spares_judged declared w pid q body call verdict action.Log rules apart there other = spares_row declared w pid q body (syscall_of call.nr) call rules apart there (other refl)
+spares_judged declared w pid q body call verdict action.Trap rules apart there other = untouched w pid q _ (forced_touches w pid q apart.other)
+spares_judged declared w pid q body call verdict action.Errno rules apart there other = spares_world w pid q
+spares_judged declared w pid q body call verdict action.UserNotif rules apart there other = spares_world w pid q
+spares_judged declared w pid q body call verdict action.Trace rules apart there other = spares_world w pid q
+spares_judged declared w pid q body call verdict action.KillProcess rules apart there other = spares_ends w pid SIGSYS q apart
+spares_judged declared w pid q body call verdict action.KillThread rules apart there other = spares_ends w pid SIGSYS q apart
+spares_judged declared w pid q body call verdict action.Unknown rules apart there other = spares_ends w pid SIGSYS q apart
 
 -- ---- deliveries and resumptions
 abbrev SparesBy : World → ℕ → ℕ → Delivered → Type 0
@@ -511,15 +511,15 @@ no_kill body call is_native refuses performed =
 abbrev SparesStep : World → ℕ → ℕ → Stepped → Type 0
 SparesStep w pid q s = Alone w pid q (ends s.answer) (stops s.answer) s.world
 
-spares_happened : (images : GivenImages) (w : World) (body : Body) (event : Event) (q : ℕ) → IsWorld w → IsApart w (pid_of event) q → IsTrue (is_some (at w q))
-    → RefusesKill body.chain → SparesStep w (pid_of event) q (happened images w body event)
-spares_happened images w body (Call pid ip asked) q rules apart there refuses =
+spares_happened : (declared : Images) (w : World) (body : Body) (event : Event) (q : ℕ) → IsWorld w → IsApart w (pid_of event) q → IsTrue (is_some (at w q))
+    → RefusesKill body.chain → SparesStep w (pid_of event) q (happened declared w body event)
+spares_happened declared w body (Call pid ip asked) q rules apart there refuses =
     let call : Record = recorded ip asked in
     let verdict : ℕ = verdict_of body.chain call in
-    spares_judged images w pid q body call verdict (action_of verdict) rules apart there (no_kill body call refl refuses)
-spares_happened images w body (Deliver pid) q rules apart there refuses = at_delivery w pid body (signal_for body) (SparesStep w pid q) (spares_world w pid q) (λ n. spares_delivered w pid body n q apart)
-spares_happened images w body (Resume pid) q rules apart there refuses = spares_resumed w pid q body.waiting apart
-spares_happened images w body (Fault pid) q rules apart there refuses = spares_ends w pid SIGSEGV q apart
+    spares_judged declared w pid q body call verdict (action_of verdict) rules apart there (no_kill body call refl refuses)
+spares_happened declared w body (Deliver pid) q rules apart there refuses = at_delivery w pid body (signal_for body) (SparesStep w pid q) (spares_world w pid q) (λ n. spares_delivered w pid body n q apart)
+spares_happened declared w body (Resume pid) q rules apart there refuses = spares_resumed w pid q body.waiting apart
+spares_happened declared w body (Fault pid) q rules apart there refuses = spares_ends w pid SIGSEGV q apart
 
 apart_of : (w : World) (inside : ℕ → Bool) (pid q : ℕ) → IsConfined w inside → IsTrue (inside pid) → inside q ≡ false → IsTrue (is_some (at w q)) → IsApart w pid q
 apart_of w inside pid q confined within outside there = record {
@@ -529,9 +529,9 @@ apart_of w inside pid q confined within outside there = record {
 }
 
 pub event_is_confined : EventIsConfined
-event_is_confined images w event inside q rules confined within outside there =
+event_is_confined declared w event inside q rules confined within outside there =
     let pid : ℕ = pid_of event in
-    let spares = at_step images w event (SparesStep w pid q) (λ _ _. spares_world w pid q) (λ p is alive.
-    spares_happened images w p.body event q rules (apart_of w inside pid q confined within outside there) there
-    (subst (λ o. IfSome (authority_in o) (λ a. RefusesKill a.programs)) is (confined.refuses pid within))) in
+    let spares = at_step declared w event (SparesStep w pid q) (λ _ _. spares_world w pid q) (λ p is alive.
+    spares_happened declared w p.body event q rules (apart_of w inside pid q confined within outside there) there
+    (subst (λ o. IfSome (authority_in o) (λ a. RefusesKill a.filters)) is (confined.refuses pid within))) in
     record { same = spares.same; stop = spares.stop; end = spares.end }

@@ -1,4 +1,4 @@
--- A line keeps its filters, and its verdicts are theirs.
+-- A lineage keeps its filters, and its verdicts are theirs.
 use Rattle.std.proofs.Common.{◌≡◌, ◌∙◌, ℕ, ◌==◌, ℤ, ◌≤ℤ◌, inl, inr, arith, slice_get, ap, sym, refl, subst, true, append_assoc, IsTrue, List, [], ◌∷◌, ◌++◌, Option, None, Some}
 use Rattle.std.specs.Option.{is_some, unwrap_or, option_map}
 use Rattle.std.proofs.lemmas.Int.{ints}
@@ -17,37 +17,37 @@ use Rattle.sk_machine.specs.declared.event.Event.TheVariants as event
 use Rattle.sk_machine.specs.declared.answer.Answer.TheVariants as answer
 use Rattle.sk_machine.specs.declared.answer.Outcome.{Outcome}
 use Rattle.sk_machine.specs.Events.{recorded}
-use Rattle.sk_machine.specs.Given.{GivenImages}
+use Rattle.sk_machine.specs.Images.{Images}
 use Rattle.sk_machine.specs.Authority.{Authority}
 use Rattle.sk_machine.specs.Machine.{step_of, world_after, Stepped}
-use Rattle.sk_machine.specs.Lines.{Line, authority_after_calls, authority_of_line, authority_at}
-use Rattle.sk_machine_laws.specs.LineLaws.{line_after, judged_by, GrowsFrom, LineKeepsFilters, EqualLinesMayDoTheSame, EqualLinesAreJudgedAlike, VerdictIsOfLine, PerformedMeetsNoRefusal}
+use Rattle.sk_machine.specs.Lineages.{Lineage, authority_after_calls, authority_of_lineage, authority_at}
+use Rattle.sk_machine_laws.specs.LineageLaws.{lineage_after, judged_by, GrowsFrom, LineageKeepsFilters, EqualLineagesMayDoTheSame, EqualLineagesAreJudgedAlike, VerdictIsOfLineage, PerformedMeetsNoRefusal}
 use Rattle.sk_machine_laws.proofs.EachChange.{Changes, after_calls}
-use Rattle.sk_machine_laws.proofs.LineSteps.{after_more, authority_is_of_line, authority_in}
+use Rattle.sk_machine_laws.proofs.LineageSteps.{after_more, authority_is_of_lineage, authority_in}
 use Rattle.sk_machine_laws.proofs.Happened.{at_step}
 
 grows_twice : (a b c : Authority) → GrowsFrom a b → GrowsFrom b c → GrowsFrom a c
 grows_twice a b c first later = record {
   newer = later.newer ++ first.newer;
-  programs = later.programs ∙ ap (λ ps. later.newer ++ ps) first.programs ∙ sym (append_assoc later.newer first.newer a.programs);
+  filters = later.filters ∙ ap (λ ps. later.newer ++ ps) first.filters ∙ sym (append_assoc later.newer first.newer a.filters);
   no_new_privs = λ set. later.no_new_privs (first.no_new_privs set);
 }
 
 grows_each : Changes GrowsFrom
 grows_each = record {
-  stays = λ a. record { newer = []; programs = refl; no_new_privs = λ set. set };
-  ids = λ a creds kept. record { newer = []; programs = refl; no_new_privs = λ set. kept ∙ set };
-  marks = λ a. record { newer = []; programs = refl; no_new_privs = λ _. refl };
-  attaches = λ a insns _ _. record { newer = insns ∷ []; programs = refl; no_new_privs = λ set. set };
+  stays = λ a. record { newer = []; filters = refl; no_new_privs = λ set. set };
+  ids = λ a creds kept. record { newer = []; filters = refl; no_new_privs = λ set. kept ∙ set };
+  marks = λ a. record { newer = []; filters = refl; no_new_privs = λ _. refl };
+  attaches = λ a insns _ _. record { newer = insns ∷ []; filters = refl; no_new_privs = λ set. set };
   follows = grows_twice;
 }
 
-pub grows_calls : (images : GivenImages) (calls : List Record) (a : Authority) → GrowsFrom a (authority_after_calls images calls a)
+pub grows_calls : (declared : Images) (calls : List Record) (a : Authority) → GrowsFrom a (authority_after_calls declared calls a)
 grows_calls = after_calls GrowsFrom grows_each
 
-pub line_keeps_filters : LineKeepsFilters
-line_keeps_filters images calls more a =
-    subst (GrowsFrom (authority_after_calls images calls a)) (sym (after_more images calls more a)) (grows_calls images more (authority_after_calls images calls a))
+pub lineage_keeps_filters : LineageKeepsFilters
+lineage_keeps_filters declared calls more a =
+    subst (GrowsFrom (authority_after_calls declared calls a)) (sym (after_more declared calls more a)) (grows_calls declared more (authority_after_calls declared calls a))
 
 -- ---- verdicts
 -- the verdict in the answer to a call is that of the caller's filters
@@ -55,29 +55,29 @@ abbrev JudgedByFilters : World → ℕ → Record → ℕ → Outcome → Steppe
 JudgedByFilters w pid call verdict outcome s =
     s.answer ≡ answer.Call verdict outcome → IsTrue (is_some (at w pid)) × (judged_by call (authority_at w pid) ≡ Some verdict)
 
-pub judged_by_filters : (images : GivenImages) (w : World) (pid ip : ℕ) (asked : Call) (verdict : ℕ) (outcome : Outcome)
-    → JudgedByFilters w pid (recorded ip asked) verdict outcome (step_of images w (event.Call pid ip asked))
-judged_by_filters images w pid ip asked verdict outcome =
+pub judged_by_filters : (declared : Images) (w : World) (pid ip : ℕ) (asked : Call) (verdict : ℕ) (outcome : Outcome)
+    → JudgedByFilters w pid (recorded ip asked) verdict outcome (step_of declared w (event.Call pid ip asked))
+judged_by_filters declared w pid ip asked verdict outcome =
     let call : Record = recorded ip asked in
-    at_step images w (event.Call pid ip asked) (JudgedByFilters w pid call verdict outcome) (λ _ _ made. cc) (λ p there alive made.
+    at_step declared w (event.Call pid ip asked) (JudgedByFilters w pid call verdict outcome) (λ _ _ made. cc) (λ p there alive made.
     let same : verdict_of p.body.chain call ≡ verdict = cc in
     (alive_is_there (at w pid) alive, ap (λ o. judged_by call (authority_in o)) there ∙ ap (λ v. Some v) same))
 
-pub verdict_is_of_line : VerdictIsOfLine
-verdict_is_of_line images w events pid ip asked verdict outcome made =
-    let judged = judged_by_filters images (world_after images w events) pid ip asked verdict outcome made in
-    ap (judged_by (recorded ip asked)) (sym (authority_is_of_line images w events pid judged.0).1) ∙ judged.1
+pub verdict_is_of_lineage : VerdictIsOfLineage
+verdict_is_of_lineage declared w events pid ip asked verdict outcome made =
+    let judged = judged_by_filters declared (world_after declared w events) pid ip asked verdict outcome made in
+    ap (judged_by (recorded ip asked)) (sym (authority_is_of_lineage declared w events pid judged.0).1) ∙ judged.1
 
-pub equal_lines_may_do_the_same : EqualLinesMayDoTheSame
-equal_lines_may_do_the_same images v w one other p q equal =
-    let line : Line = line_after images v one p in
-    let same : authority_of_line images v line ≡ authority_of_line images w (line_after images w other q) =
-    (λ i. option_map (authority_after_calls images (equal.calls i)) (equal.roots i)) in
-    (authority_is_of_line images v one p equal.p_there).1 ∙ same ∙ sym (authority_is_of_line images w other q equal.q_there).1
+pub equal_lineages_may_do_the_same : EqualLineagesMayDoTheSame
+equal_lineages_may_do_the_same declared v w one other p q equal =
+    let lineage : Lineage = lineage_after declared v one p in
+    let same : authority_of_lineage declared v lineage ≡ authority_of_lineage declared w (lineage_after declared w other q) =
+    (λ i. option_map (authority_after_calls declared (equal.calls i)) (equal.roots i)) in
+    (authority_is_of_lineage declared v one p equal.p_there).1 ∙ same ∙ sym (authority_is_of_lineage declared w other q equal.q_there).1
 
-pub equal_lines_are_judged_alike : EqualLinesAreJudgedAlike
-equal_lines_are_judged_alike images v w one other p q call equal =
-    ap (judged_by call) (equal_lines_may_do_the_same images v w one other p q equal)
+pub equal_lineages_are_judged_alike : EqualLineagesAreJudgedAlike
+equal_lineages_are_judged_alike declared v w one other p q call equal =
+    ap (judged_by call) (equal_lineages_may_do_the_same declared v w one other p q equal)
 
 -- ---- a verdict that lets a call through
 -- an action that performs has no precedence over SECCOMP_RET_LOG
@@ -112,8 +112,8 @@ no_refusal (first ∷ rest) place value performed here =
     (lets_through (first_of (first ∷ rest)) performed) (least.2 place value here)
 
 pub performed_meets_no_refusal : PerformedMeetsNoRefusal
-performed_meets_no_refusal images w events pid ip asked verdict outcome a place value made performed known here =
+performed_meets_no_refusal declared w events pid ip asked verdict outcome a place value made performed known here =
     let call : Record = recorded ip asked in
-    let same : verdict ≡ verdict_of a.programs call =
-    ap (λ o. unwrap_or o verdict) (sym (verdict_is_of_line images w events pid ip asked verdict outcome made) ∙ ap (judged_by call) known) in
-    no_refusal (values_of a.programs call) place value (subst (λ v. IsTrue (performs (action_of v))) same performed) here
+    let same : verdict ≡ verdict_of a.filters call =
+    ap (λ o. unwrap_or o verdict) (sym (verdict_is_of_lineage declared w events pid ip asked verdict outcome made) ∙ ap (judged_by call) known) in
+    no_refusal (values_of a.filters call) place value (subst (λ v. IsTrue (performs (action_of v))) same performed) here

@@ -9,7 +9,7 @@ use Rattle.sk_machine.specs.declared.event.Event.{Event}
 use Rattle.sk_machine.specs.declared.answer.Reason.{Reason}
 use Rattle.sk_machine.specs.declared.answer.Reason.TheVariants.{NoProcess, Zombie, Stopped, Halted, NothingWaits}
 use Rattle.sk_machine.specs.Events.{pid_of}
-use Rattle.sk_machine.specs.Given.{GivenImages}
+use Rattle.sk_machine.specs.Images.{Images}
 use Rattle.sk_machine.specs.Machine.{Stepped, happened, is_due_delivery, own_reason, reason_of, not_now, happened_to, stepped, step_of, signal_answered, delivery}
 use Rattle.sk_world.specs.declared.process.Body.{Body}
 use Rattle.sk_machine.specs.Delivering.{delivered}
@@ -29,23 +29,23 @@ possible_is_alive w event possible =
     (λ living _. there_and_no_zombie o (not-false (is_some o) there) living))) possible
 
 -- what holds of each event of a process that is alive holds of an event that is possible
-at_process : (images : GivenImages) (w : World) (event : Event) (o : Option Proc) (P : Stepped → Type 0) → at w (pid_of event) ≡ o → IsTrue (is_some o)
-    → ((p : Proc) → at w (pid_of event) ≡ Some p → P (happened images w p.body event)) → P (happened_to images w event o)
-at_process images w event None P is there holds = absurd (false≢true there)
-at_process images w event (Some p) P is there holds = holds p is
+at_process : (declared : Images) (w : World) (event : Event) (o : Option Proc) (P : Stepped → Type 0) → at w (pid_of event) ≡ o → IsTrue (is_some o)
+    → ((p : Proc) → at w (pid_of event) ≡ Some p → P (happened declared w p.body event)) → P (happened_to declared w event o)
+at_process declared w event None P is there holds = absurd (false≢true there)
+at_process declared w event (Some p) P is there holds = holds p is
 
-at_reason : (images : GivenImages) (w : World) (event : Event) (o : Option Reason) (P : Stepped → Type 0) → reason_of w event ≡ o → ((reason : Reason) → reason_of w event ≡ Some reason → P (not_now w reason))
-    → ((p : Proc) → at w (pid_of event) ≡ Some p → IsTrue (is_alive (at w (pid_of event))) → P (happened images w p.body event)) → P (stepped images w event o)
-at_reason images w event (Some reason) P is refused possible = refused reason is
-at_reason images w event None P is refused possible =
+at_reason : (declared : Images) (w : World) (event : Event) (o : Option Reason) (P : Stepped → Type 0) → reason_of w event ≡ o → ((reason : Reason) → reason_of w event ≡ Some reason → P (not_now w reason))
+    → ((p : Proc) → at w (pid_of event) ≡ Some p → IsTrue (is_alive (at w (pid_of event))) → P (happened declared w p.body event)) → P (stepped declared w event o)
+at_reason declared w event (Some reason) P is refused possible = refused reason is
+at_reason declared w event None P is refused possible =
     let alive = possible_is_alive w event is in
-    at_process images w event (at w (pid_of event)) P refl (alive_is_there (at w (pid_of event)) alive) (λ p there. possible p there alive)
+    at_process declared w event (at w (pid_of event)) P refl (alive_is_there (at w (pid_of event)) alive) (λ p there. possible p there alive)
 
 -- what holds where an event is not possible, and where it happens to a process that is alive, holds of the step
-pub at_step : (images : GivenImages) (w : World) (event : Event) (P : Stepped → Type 0) → ((reason : Reason) → reason_of w event ≡ Some reason → P (not_now w reason))
-    → ((p : Proc) → at w (pid_of event) ≡ Some p → IsTrue (is_alive (at w (pid_of event))) → P (happened images w p.body event)) → P (step_of images w event)
+pub at_step : (declared : Images) (w : World) (event : Event) (P : Stepped → Type 0) → ((reason : Reason) → reason_of w event ≡ Some reason → P (not_now w reason))
+    → ((p : Proc) → at w (pid_of event) ≡ Some p → IsTrue (is_alive (at w (pid_of event))) → P (happened declared w p.body event)) → P (step_of declared w event)
 unfolding step_of
-at_step images w event P refused possible = at_reason images w event (reason_of w event) P refl refused possible
+at_step declared w event P refused possible = at_reason declared w event (reason_of w event) P refl refused possible
 
 -- what holds where no signal is due, and of the delivery of each, holds of the one that is due
 pub at_delivery : (w : World) (pid : ℕ) (body : Body) (o : Option ℕ) (P : Stepped → Type 0) → P (not_now w NothingWaits)

@@ -45,9 +45,9 @@ use Rattle.sk_machine.specs.declared.event.Event.{Event}
 use Rattle.sk_machine.specs.declared.event.Event.TheVariants.{Call, Deliver, Resume, Fault}
 use Rattle.sk_calls.specs.declared.syscall.Syscall.{Syscall}
 use Rattle.sk_machine.specs.Events.{pid_of, recorded}
-use Rattle.sk_machine.specs.Given.{GivenImages}
+use Rattle.sk_machine.specs.Images.{Images}
 use Rattle.sk_calls.specs.Syscalls.{syscall_of}
-use Rattle.sk_machine.specs.Arguments.{register, low, signed}
+use Rattle.sk_machine.specs.Arguments.{register, unsigned, signed}
 use Rattle.sk_machine.specs.Authority.{Authority, with_authority}
 use Rattle.sk_machine.specs.Performed.{Performed, returns, fails, asked, changes, authorises, waiting_in, waits}
 use Rattle.sk_machine.specs.SignalCalls.{with_signals, resignals}
@@ -131,49 +131,49 @@ kept_polled w pid request poll.NotReady rules kept =
 
 kept_wait4 : (w : World) (pid : ℕ) (call : Record) → IsWorld w → IsTrue (is_alive (at w pid)) → IsWorld (wait4 w pid call).world
 kept_wait4 w pid call rules alive =
-    cond_both (not (are_wait_options (low call 2))) (fails w Einval) _ (λ (p : Performed). IsWorld p.world) (λ _. rules)
-    (λ _. cond_both (low call 0 == 2147483648) (fails w Esrch) _ (λ (p : Performed). IsWorld p.world) (λ _. rules)
+    cond_both (not (are_wait_options (unsigned call 2))) (fails w Einval) _ (λ (p : Performed). IsWorld p.world) (λ _. rules)
+    (λ _. cond_both (unsigned call 0 == 2147483648) (fails w Esrch) _ (λ (p : Performed). IsWorld p.world) (λ _. rules)
     (λ _. kept_polled w pid (request_of w pid call) (ready_of w pid (request_of w pid call)) rules (kept_told w pid (request_of w pid call) rules (alive_is_there (at w pid) alive))))
 
 kept_subreapers : (there : Bool) (w : World) (p : Performed) → IsWorld w → IsWorld p.world → IsWorld (where_subreapers there w p).world
 kept_subreapers true w p rules kept = kept
 kept_subreapers false w p rules kept = rules
 
-kept_row : (images : GivenImages) (w : World) (pid : ℕ) (body : Body) (which : Option Syscall) (call : Record) → IsWorld w
-    → IsTrue (is_alive (at w pid)) → IsWorld (row images w pid body which call).world
-kept_row images w pid body which call rules alive =
-    each_call images w pid body call (λ _ p. IsWorld p.world) (record {
+kept_row : (declared : Images) (w : World) (pid : ℕ) (body : Body) (which : Option Syscall) (call : Record) → IsWorld w
+    → IsTrue (is_alive (at w pid)) → IsWorld (row declared w pid body which call).world
+kept_row declared w pid body which call rules alive =
+    each_call declared w pid body call (λ _ p. IsWorld p.world) (record {
       answers = λ r. kept_asked w r rules;
       tells_signals = λ _. rules;
       tells_ids = rules;
       resignals = λ r. kept_resignals w pid r rules;
       authorises = λ r. kept_authorises w pid r rules;
       executes = λ r. kept_execve w pid r rules;
-      marks = kept_subreapers images.subreapers w (subreaper_set w pid call) rules (kept_body w pid (with_subreaper (not (register call 1 == 0))) rules (λ body. refl));
-      asks_mark = kept_subreapers images.subreapers w (subreaper_asked w body.subreaper) rules rules;
+      marks = kept_subreapers declared.subreapers w (subreaper_set w pid call) rules (kept_body w pid (with_subreaper (not (register call 1 == 0))) rules (λ body. refl));
+      asks_mark = kept_subreapers declared.subreapers w (subreaper_asked w body.subreaper) rules rules;
       pauses = kept_body w pid (waiting_in waiting.Pause) rules (λ body. refl);
       waits_for = kept_wait4 w pid call rules alive;
       forks_one = kept_forks w pid (fork_answer w) rules alive;
       ends = λ status. kept_end w pid status rules alive;
-      kills = kept_changes w 0 _ rules (kept_kill w pid body.creds (signed call 0) (low call 1) rules);
+      kills = kept_changes w 0 _ rules (kept_kill w pid body.creds (signed call 0) (unsigned call 1) rules);
       regroups = kept_changes w 0 _ rules (kept_setpgid w pid (signed call 0) (signed call 1) rules (alive_is_there (at w pid) alive));
       leads = kept_changes w pid _ rules (kept_setsid w pid rules (alive_is_there (at w pid) alive));
     }) which
 
 pub kept_performed : CallKeepsRules
-kept_performed images w pid body call rules alive = kept_row images w pid body (syscall_of call.nr) call rules alive
+kept_performed declared w pid body call rules alive = kept_row declared w pid body (syscall_of call.nr) call rules alive
 
-kept_judged : (images : GivenImages) (w : World) (pid : ℕ) (body : Body) (call : Record) (verdict : ℕ) (a : Action) → IsWorld w
-    → IsTrue (is_alive (at w pid)) → IsWorld (judged images w pid body call verdict a).world
-kept_judged images w pid body call verdict action.Allow rules alive = kept_performed images w pid body call rules alive
-kept_judged images w pid body call verdict action.Log rules alive = kept_performed images w pid body call rules alive
-kept_judged images w pid body call verdict action.Trap rules alive = kept_forced w pid rules
-kept_judged images w pid body call verdict action.Errno rules alive = rules
-kept_judged images w pid body call verdict action.UserNotif rules alive = rules
-kept_judged images w pid body call verdict action.Trace rules alive = rules
-kept_judged images w pid body call verdict action.KillProcess rules alive = kept_end w pid SIGSYS rules alive
-kept_judged images w pid body call verdict action.KillThread rules alive = kept_end w pid SIGSYS rules alive
-kept_judged images w pid body call verdict action.Unknown rules alive = kept_end w pid SIGSYS rules alive
+kept_judged : (declared : Images) (w : World) (pid : ℕ) (body : Body) (call : Record) (verdict : ℕ) (a : Action) → IsWorld w
+    → IsTrue (is_alive (at w pid)) → IsWorld (judged declared w pid body call verdict a).world
+kept_judged declared w pid body call verdict action.Allow rules alive = kept_performed declared w pid body call rules alive
+kept_judged declared w pid body call verdict action.Log rules alive = kept_performed declared w pid body call rules alive
+kept_judged declared w pid body call verdict action.Trap rules alive = kept_forced w pid rules
+kept_judged declared w pid body call verdict action.Errno rules alive = rules
+kept_judged declared w pid body call verdict action.UserNotif rules alive = rules
+kept_judged declared w pid body call verdict action.Trace rules alive = rules
+kept_judged declared w pid body call verdict action.KillProcess rules alive = kept_end w pid SIGSYS rules alive
+kept_judged declared w pid body call verdict action.KillThread rules alive = kept_end w pid SIGSYS rules alive
+kept_judged declared w pid body call verdict action.Unknown rules alive = kept_end w pid SIGSYS rules alive
 
 -- ---- deliveries
 lives_on : (f : Body → Body) (o : Option Proc) → ((body : Body) → (f body).life ≡ body.life) → IsTrue (is_alive o) → IsTrue (is_alive (option_map (body_changed f) o))
@@ -243,22 +243,22 @@ kept_resumed w pid waiting.Pause rules alive = rules
 kept_resumed w pid waiting.Nothing rules alive = rules
 
 -- ---- events
-pub kept_happened : (images : GivenImages) (w : World) (body : Body) (event : Event) → IsWorld w → IsTrue (is_alive (at w (pid_of event)))
-    → IsWorld (happened images w body event).world
-kept_happened images w body (Call pid ip asked) rules alive =
+pub kept_happened : (declared : Images) (w : World) (body : Body) (event : Event) → IsWorld w → IsTrue (is_alive (at w (pid_of event)))
+    → IsWorld (happened declared w body event).world
+kept_happened declared w body (Call pid ip asked) rules alive =
     let call : Record = recorded ip asked in
     let verdict : ℕ = verdict_of body.chain call in
-    kept_judged images w pid body call verdict (action_of verdict) rules alive
-kept_happened images w body (Deliver pid) rules alive = at_delivery w pid body (signal_for body) (λ s. IsWorld s.world) rules (λ n. kept_delivered w pid body n rules alive)
-kept_happened images w body (Resume pid) rules alive = kept_resumed w pid body.waiting rules alive
-kept_happened images w body (Fault pid) rules alive = kept_end w pid SIGSEGV rules alive
+    kept_judged declared w pid body call verdict (action_of verdict) rules alive
+kept_happened declared w body (Deliver pid) rules alive = at_delivery w pid body (signal_for body) (λ s. IsWorld s.world) rules (λ n. kept_delivered w pid body n rules alive)
+kept_happened declared w body (Resume pid) rules alive = kept_resumed w pid body.waiting rules alive
+kept_happened declared w body (Fault pid) rules alive = kept_end w pid SIGSEGV rules alive
 
 pub kept_step : EventKeepsRules
-kept_step images w event rules = at_step images w event (λ s. IsWorld s.world) (λ _ _. rules) (λ p there alive. kept_happened images w p.body event rules alive)
+kept_step declared w event rules = at_step declared w event (λ s. IsWorld s.world) (λ _ _. rules) (λ p there alive. kept_happened declared w p.body event rules alive)
 
 pub kept_run : RunKeepsRules
-kept_run images w [] rules = rules
-kept_run images w (event ∷ events) rules = kept_run images (step_of images w event).world events (kept_step images w event rules)
+kept_run declared w [] rules = rules
+kept_run declared w (event ∷ events) rules = kept_run declared (step_of declared w event).world events (kept_step declared w event rules)
 
 pub kept_reached : ReachedHasRules
-kept_reached images events = kept_run images opening events kept_opening
+kept_reached declared events = kept_run declared opening events kept_opening

@@ -12,7 +12,7 @@ pub mod Unchanged
 pub mod KeptEvents
 pub mod Carrying
 pub mod Authorities
-pub mod LineSteps
+pub mod LineageSteps
 pub mod Growing
 pub mod Accepted
 pub mod Tellings

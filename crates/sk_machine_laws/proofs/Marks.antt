@@ -35,9 +35,9 @@ use Rattle.sk_world.proofs.KeptEnd.{handed_cases, handed_at, alive_is_there}
 use Rattle.sk_machine_laws.proofs.Locality.{sent_leaves}
 use Rattle.sk_machine.specs.declared.event.Event.{Event}
 use Rattle.sk_machine.specs.declared.event.Event.TheVariants.{Call, Deliver, Resume, Fault}
-use Rattle.sk_machine.specs.Arguments.{low, signed}
+use Rattle.sk_machine.specs.Arguments.{unsigned, signed}
 use Rattle.sk_machine.specs.Events.{pid_of, recorded}
-use Rattle.sk_machine.specs.Given.{GivenImages}
+use Rattle.sk_machine.specs.Images.{Images}
 use Rattle.sk_machine.specs.Authority.{Authority, with_authority}
 use Rattle.sk_machine.specs.Performed.{Performed, authorises}
 use Rattle.sk_machine.specs.Performing.{executing, execve, forks, subreaper_set, subreaper_asked, where_subreapers, row}
@@ -142,66 +142,66 @@ marks_where : (there : Bool) (w : World) (p : Performed) → there ≡ false →
 marks_where true w p is = absurd (false≢true (sym is))
 marks_where false w p is = λ none. none
 
-marks_row : (images : GivenImages) (w : World) (pid : ℕ) (body : Body) (which : Option Syscall) (call : Record) → images.subreapers ≡ false
-    → IsTrue (is_some (at w pid)) → MarksNobody w (row images w pid body which call).world
-marks_row images w pid body which call is there =
-    each_call images w pid body call (λ _ p. MarksNobody w p.world) (record {
+marks_row : (declared : Images) (w : World) (pid : ℕ) (body : Body) (which : Option Syscall) (call : Record) → declared.subreapers ≡ false
+    → IsTrue (is_some (at w pid)) → MarksNobody w (row declared w pid body which call).world
+marks_row declared w pid body which call is there =
+    each_call declared w pid body call (λ _ p. MarksNobody w p.world) (record {
       answers = over_asked MarksNobody marks w;
       tells_signals = λ _ none. none;
       tells_ids = λ none. none;
       resignals = over_resignals MarksNobody marks w pid;
       authorises = marks_authorises w pid;
       executes = marks_execve w pid;
-      marks = marks_where images.subreapers w (subreaper_set w pid call) is;
-      asks_mark = marks_where images.subreapers w (subreaper_asked w body.subreaper) is;
+      marks = marks_where declared.subreapers w (subreaper_set w pid call) is;
+      asks_mark = marks_where declared.subreapers w (subreaper_asked w body.subreaper) is;
       pauses = over_waits MarksNobody marks w pid waiting.Pause;
       waits_for = over_wait4 MarksNobody marks w pid call;
       forks_one = marks_forks w pid (fork_answer w);
       ends = λ status. over_end MarksNobody marks w pid status there;
-      kills = over_changes MarksNobody marks w 0 _ (over_kill MarksNobody marks w pid body.creds (signed call 0) (low call 1));
+      kills = over_changes MarksNobody marks w 0 _ (over_kill MarksNobody marks w pid body.creds (signed call 0) (unsigned call 1));
       regroups = over_changes MarksNobody marks w 0 _ (over_setpgid MarksNobody marks w pid (signed call 0) (signed call 1));
       leads = over_changes MarksNobody marks w pid _ (over_setsid MarksNobody marks w pid);
     }) which
 
 -- ---- events
-marks_judged : (images : GivenImages) (w : World) (pid : ℕ) (body : Body) (call : Record) (verdict : ℕ) (a : Action) → images.subreapers ≡ false
-    → IsTrue (is_some (at w pid)) → MarksNobody w (judged images w pid body call verdict a).world
-marks_judged images w pid body call verdict action.Allow is there = marks_row images w pid body (syscall_of call.nr) call is there
-marks_judged images w pid body call verdict action.Log is there = marks_row images w pid body (syscall_of call.nr) call is there
-marks_judged images w pid body call verdict action.Trap is there = marks_changed w pid (λ body. record body { signals = sigsys_forced body.signals }) (λ body. refl)
-marks_judged images w pid body call verdict action.Errno is there = λ none. none
-marks_judged images w pid body call verdict action.UserNotif is there = λ none. none
-marks_judged images w pid body call verdict action.Trace is there = λ none. none
-marks_judged images w pid body call verdict action.KillProcess is there = over_end MarksNobody marks w pid SIGSYS there
-marks_judged images w pid body call verdict action.KillThread is there = over_end MarksNobody marks w pid SIGSYS there
-marks_judged images w pid body call verdict action.Unknown is there = over_end MarksNobody marks w pid SIGSYS there
+marks_judged : (declared : Images) (w : World) (pid : ℕ) (body : Body) (call : Record) (verdict : ℕ) (a : Action) → declared.subreapers ≡ false
+    → IsTrue (is_some (at w pid)) → MarksNobody w (judged declared w pid body call verdict a).world
+marks_judged declared w pid body call verdict action.Allow is there = marks_row declared w pid body (syscall_of call.nr) call is there
+marks_judged declared w pid body call verdict action.Log is there = marks_row declared w pid body (syscall_of call.nr) call is there
+marks_judged declared w pid body call verdict action.Trap is there = marks_changed w pid (λ body. record body { signals = sigsys_forced body.signals }) (λ body. refl)
+marks_judged declared w pid body call verdict action.Errno is there = λ none. none
+marks_judged declared w pid body call verdict action.UserNotif is there = λ none. none
+marks_judged declared w pid body call verdict action.Trace is there = λ none. none
+marks_judged declared w pid body call verdict action.KillProcess is there = over_end MarksNobody marks w pid SIGSYS there
+marks_judged declared w pid body call verdict action.KillThread is there = over_end MarksNobody marks w pid SIGSYS there
+marks_judged declared w pid body call verdict action.Unknown is there = over_end MarksNobody marks w pid SIGSYS there
 
-marks_happened : (images : GivenImages) (w : World) (body : Body) (event : Event) → images.subreapers ≡ false → IsTrue (is_some (at w (pid_of event)))
-    → MarksNobody w (happened images w body event).world
-marks_happened images w body (Call pid ip asked) is there =
+marks_happened : (declared : Images) (w : World) (body : Body) (event : Event) → declared.subreapers ≡ false → IsTrue (is_some (at w (pid_of event)))
+    → MarksNobody w (happened declared w body event).world
+marks_happened declared w body (Call pid ip asked) is there =
     let call : Record = recorded ip asked in
     let verdict : ℕ = verdict_of body.chain call in
-    marks_judged images w pid body call verdict (action_of verdict) is there
-marks_happened images w body (Deliver pid) is there = at_delivery w pid body (signal_for body) (λ s. MarksNobody w s.world) (λ none. none) (λ n. over_delivered MarksNobody marks w pid body n there)
-marks_happened images w body (Resume pid) is there = over_resumed MarksNobody marks w pid body.waiting
-marks_happened images w body (Fault pid) is there = over_end MarksNobody marks w pid SIGSEGV there
+    marks_judged declared w pid body call verdict (action_of verdict) is there
+marks_happened declared w body (Deliver pid) is there = at_delivery w pid body (signal_for body) (λ s. MarksNobody w s.world) (λ none. none) (λ n. over_delivered MarksNobody marks w pid body n there)
+marks_happened declared w body (Resume pid) is there = over_resumed MarksNobody marks w pid body.waiting
+marks_happened declared w body (Fault pid) is there = over_end MarksNobody marks w pid SIGSEGV there
 
 pub event_marks_nobody : EventMarksNobody
-event_marks_nobody images w event is =
-    at_step images w event (λ s. MarksNobody w s.world) (λ _ _ none. none)
-    (λ p there alive. marks_happened images w p.body event is (alive_is_there (at w (pid_of event)) alive))
+event_marks_nobody declared w event is =
+    at_step declared w event (λ s. MarksNobody w s.world) (λ _ _ none. none)
+    (λ p there alive. marks_happened declared w p.body event is (alive_is_there (at w (pid_of event)) alive))
 
 pub run_marks_nobody : RunMarksNobody
-run_marks_nobody images w [] is none = none
-run_marks_nobody images w (event ∷ events) is none = run_marks_nobody images (step_of images w event).world events is (event_marks_nobody images w event is none)
+run_marks_nobody declared w [] is none = none
+run_marks_nobody declared w (event ∷ events) is none = run_marks_nobody declared (step_of declared w event).world events is (event_marks_nobody declared w event is none)
 
 first_unmarked : (b : Bool) → is_subreaper (cond b (Some first_process) None) ≡ false
 first_unmarked true = refl
 first_unmarked false = refl
 
 pub nobody_is_marked : NobodyIsMarked
-nobody_is_marked images events is =
-    run_marks_nobody images opening events is (λ pid. ap is_subreaper (get_store none INIT (Some first_process) pid) ∙ first_unmarked (pid == INIT))
+nobody_is_marked declared events is =
+    run_marks_nobody declared opening events is (λ pid. ap is_subreaper (get_store none INIT (Some first_process) pid) ∙ first_unmarked (pid == INIT))
 
 -- ---- whom orphans go to
 takes_none : (w : World) (dying : ℕ) → HasNoSubreapers w → (pids : List ℕ) → find (takes_children w dying) pids ≡ None
@@ -214,4 +214,4 @@ unfolding new_parent ancestors
 init_takes_orphans w pid unmarked = ap (λ o. unwrap_or o INIT) (takes_none w pid unmarked (ancestors w pid))
 
 pub orphans_go_to_init : OrphansGoToInit
-orphans_go_to_init images events pid is = init_takes_orphans (world_after images opening events) pid (nobody_is_marked images events is)
+orphans_go_to_init declared events pid is = init_takes_orphans (world_after declared opening events) pid (nobody_is_marked declared events is)

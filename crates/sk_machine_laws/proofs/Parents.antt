@@ -42,21 +42,21 @@ use Rattle.sk_machine.specs.declared.event.Event.TheVariants.{Call, Deliver, Res
 use Rattle.sk_machine.specs.declared.answer.Reason.TheVariants.{Halted}
 use Rattle.sk_calls.specs.declared.syscall.Syscall.{Syscall}
 use Rattle.sk_machine.specs.Events.{pid_of, recorded}
-use Rattle.sk_machine.specs.Given.{GivenImages}
+use Rattle.sk_machine.specs.Images.{Images}
 use Rattle.sk_calls.specs.Syscalls.{syscall_of}
-use Rattle.sk_machine.specs.Arguments.{register, low, signed}
+use Rattle.sk_machine.specs.Arguments.{register, unsigned, signed}
 use Rattle.sk_machine.specs.Authority.{Authority, with_authority}
 use Rattle.sk_machine.specs.Performed.{Performed, authorises}
 use Rattle.sk_machine.specs.Performing.{executing, execve, forks, subreaper_set, subreaper_asked, where_subreapers, with_subreaper, row}
 use Rattle.sk_machine.specs.Delivering.{signal_for}
 use Rattle.sk_machine.specs.Machine.{Stepped, judged, happened, reason_of, step_of, world_after}
-use Rattle.sk_machine.specs.Lines.{Happening, is_fork, has_returned, is_fork_of, line_before, calls_added, line_of, authority_after_calls, history_after, authority_at}
-use Rattle.sk_machine_laws.specs.LineLaws.{happening, line_after}
-use Rattle.sk_machine_laws.specs.ConfinementLaws.{RefusesKill, IsConfined, ConfinementStays, LineIsConfined}
+use Rattle.sk_machine.specs.Lineages.{Happening, is_fork, has_returned, is_fork_of, lineage_before, calls_added, lineage_of, authority_after_calls, history_after, authority_at}
+use Rattle.sk_machine_laws.specs.LineageLaws.{happening, lineage_after}
+use Rattle.sk_machine_laws.specs.ConfinementLaws.{RefusesKill, IsConfined, ConfinementStays, LineageIsConfined}
 use Rattle.sk_machine_laws.proofs.Carrying.{Carries, over_asked, over_changes, over_resignals, over_waits, over_kill, over_setpgid, over_setsid, over_wait4, over_end, over_delivered, over_resumed}
 use Rattle.sk_machine_laws.proofs.KeptEvents.{kept_step}
 use Rattle.sk_machine_laws.proofs.Unchanged.{impossible_changes_nothing}
-use Rattle.sk_machine_laws.proofs.LineSteps.{fork_number, authority_in, event_changes_authority}
+use Rattle.sk_machine_laws.proofs.LineageSteps.{fork_number, authority_in, event_changes_authority}
 use Rattle.sk_machine_laws.proofs.Growing.{grows_calls}
 use Rattle.sk_machine_laws.proofs.Confined.{event_is_confined}
 use Rattle.sk_machine_laws.proofs.EachCall.{is_fork_row, each_call}
@@ -288,23 +288,23 @@ comes_fork w pid q false room rules there = comes_moved w w pid q (moved_still w
 abbrev RowComes : World → ℕ → ℕ → Bool → Performed → Type 0
 RowComes w pid q forking p = Comes w p.world pid q (forking && has_returned q p.outcome)
 
-comes_row : (images : GivenImages) (w : World) (pid q : ℕ) (body : Body) (which : Option Syscall) (call : Record) → IsWorld w
-    → IsTrue (is_some (at w pid)) → RowComes w pid q (is_fork_row which) (row images w pid body which call)
-comes_row images w pid q body which call rules there =
-    each_call images w pid body call (λ facts. RowComes w pid q facts.is_fork) (record {
+comes_row : (declared : Images) (w : World) (pid q : ℕ) (body : Body) (which : Option Syscall) (call : Record) → IsWorld w
+    → IsTrue (is_some (at w pid)) → RowComes w pid q (is_fork_row which) (row declared w pid body which call)
+comes_row declared w pid q body which call rules there =
+    each_call declared w pid body call (λ facts. RowComes w pid q facts.is_fork) (record {
       answers = λ r. comes_moved w _ pid q (over_asked Moves moves w r q);
       tells_signals = λ _. comes_moved w w pid q (moved_still w q);
       tells_ids = comes_moved w w pid q (moved_still w q);
       resignals = λ r. comes_moved w _ pid q (over_resignals Moves moves w pid r q);
       authorises = λ r. comes_moved w _ pid q (moved_authorises w pid r q);
       executes = λ r. comes_moved w _ pid q (moved_execve w pid r q);
-      marks = comes_moved w _ pid q (moved_subreapers images.subreapers w (subreaper_set w pid call) (moved_changed w pid (with_subreaper (not (register call 1 == 0)))) q);
-      asks_mark = comes_moved w _ pid q (moved_subreapers images.subreapers w (subreaper_asked w body.subreaper) (moved_still w) q);
+      marks = comes_moved w _ pid q (moved_subreapers declared.subreapers w (subreaper_set w pid call) (moved_changed w pid (with_subreaper (not (register call 1 == 0)))) q);
+      asks_mark = comes_moved w _ pid q (moved_subreapers declared.subreapers w (subreaper_asked w body.subreaper) (moved_still w) q);
       pauses = comes_moved w _ pid q (over_waits Moves moves w pid waiting.Pause q);
       waits_for = comes_moved w _ pid q (over_wait4 Moves moves w pid call q);
       forks_one = comes_fork w pid q (has_room w) refl rules there;
       ends = λ status. comes_moved w _ pid q (over_end Moves moves w pid status there q);
-      kills = comes_moved w _ pid q (over_changes Moves moves w 0 _ (over_kill Moves moves w pid body.creds (signed call 0) (low call 1)) q);
+      kills = comes_moved w _ pid q (over_changes Moves moves w 0 _ (over_kill Moves moves w pid body.creds (signed call 0) (unsigned call 1)) q);
       regroups = comes_moved w _ pid q (over_changes Moves moves w 0 _ (over_setpgid Moves moves w pid (signed call 0) (signed call 1)) q);
       leads = comes_moved w _ pid q (over_changes Moves moves w pid _ (over_setsid Moves moves w pid) q);
     }) which
@@ -313,43 +313,43 @@ comes_row images w pid q body which call rules there =
 abbrev CallComes : World → ℕ → ℕ → Option Record → Performed → Type 0
 CallComes w pid q o = RowComes w pid q (is_fork o)
 
-comes_performed : (images : GivenImages) (w : World) (pid q : ℕ) (body : Body) (call : Record) → IsWorld w → IsTrue (is_some (at w pid))
-    → CallComes w pid q (Some call) (row images w pid body (syscall_of call.nr) call)
-comes_performed images w pid q body call rules there =
-    let p : Performed = row images w pid body (syscall_of call.nr) call in
-    subst (λ b. RowComes w pid q b p) (fork_number call.nr) (comes_row images w pid q body (syscall_of call.nr) call rules there)
+comes_performed : (declared : Images) (w : World) (pid q : ℕ) (body : Body) (call : Record) → IsWorld w → IsTrue (is_some (at w pid))
+    → CallComes w pid q (Some call) (row declared w pid body (syscall_of call.nr) call)
+comes_performed declared w pid q body call rules there =
+    let p : Performed = row declared w pid body (syscall_of call.nr) call in
+    subst (λ b. RowComes w pid q b p) (fork_number call.nr) (comes_row declared w pid q body (syscall_of call.nr) call rules there)
 
-comes_judged : (images : GivenImages) (w : World) (pid q : ℕ) (body : Body) (call : Record) (verdict : ℕ) (a : Action) → IsWorld w → IsTrue (is_some (at w pid))
-    → CallComes w pid q (cond (performs a) (Some call) None) (judged images w pid body call verdict a)
-comes_judged images w pid q body call verdict action.Allow rules there = comes_performed images w pid q body call rules there
-comes_judged images w pid q body call verdict action.Log rules there = comes_performed images w pid q body call rules there
-comes_judged images w pid q body call verdict action.Trap rules there = comes_moved w (forced w pid) pid q (moved_changed w pid (λ body. record body { signals = sigsys_forced body.signals }) q)
-comes_judged images w pid q body call verdict action.Errno rules there = comes_moved w w pid q (moved_still w q)
-comes_judged images w pid q body call verdict action.UserNotif rules there = comes_moved w w pid q (moved_still w q)
-comes_judged images w pid q body call verdict action.Trace rules there = comes_moved w w pid q (moved_still w q)
-comes_judged images w pid q body call verdict action.KillProcess rules there = comes_moved w _ pid q (over_end Moves moves w pid SIGSYS there q)
-comes_judged images w pid q body call verdict action.KillThread rules there = comes_moved w _ pid q (over_end Moves moves w pid SIGSYS there q)
-comes_judged images w pid q body call verdict action.Unknown rules there = comes_moved w _ pid q (over_end Moves moves w pid SIGSYS there q)
+comes_judged : (declared : Images) (w : World) (pid q : ℕ) (body : Body) (call : Record) (verdict : ℕ) (a : Action) → IsWorld w → IsTrue (is_some (at w pid))
+    → CallComes w pid q (cond (performs a) (Some call) None) (judged declared w pid body call verdict a)
+comes_judged declared w pid q body call verdict action.Allow rules there = comes_performed declared w pid q body call rules there
+comes_judged declared w pid q body call verdict action.Log rules there = comes_performed declared w pid q body call rules there
+comes_judged declared w pid q body call verdict action.Trap rules there = comes_moved w (forced w pid) pid q (moved_changed w pid (λ body. record body { signals = sigsys_forced body.signals }) q)
+comes_judged declared w pid q body call verdict action.Errno rules there = comes_moved w w pid q (moved_still w q)
+comes_judged declared w pid q body call verdict action.UserNotif rules there = comes_moved w w pid q (moved_still w q)
+comes_judged declared w pid q body call verdict action.Trace rules there = comes_moved w w pid q (moved_still w q)
+comes_judged declared w pid q body call verdict action.KillProcess rules there = comes_moved w _ pid q (over_end Moves moves w pid SIGSYS there q)
+comes_judged declared w pid q body call verdict action.KillThread rules there = comes_moved w _ pid q (over_end Moves moves w pid SIGSYS there q)
+comes_judged declared w pid q body call verdict action.Unknown rules there = comes_moved w _ pid q (over_end Moves moves w pid SIGSYS there q)
 
 abbrev EventComes : World → Event → Stepped → ℕ → Type 0
 EventComes w event s q = Comes w s.world (pid_of event) q (is_fork_of q (event, s.answer))
 
-comes_happened : (images : GivenImages) (w : World) (body : Body) (event : Event) (q : ℕ) → IsWorld w → IsTrue (is_some (at w (pid_of event)))
-    → EventComes w event (happened images w body event) q
-comes_happened images w body (Call pid ip asked) q rules there =
+comes_happened : (declared : Images) (w : World) (body : Body) (event : Event) (q : ℕ) → IsWorld w → IsTrue (is_some (at w (pid_of event)))
+    → EventComes w event (happened declared w body event) q
+comes_happened declared w body (Call pid ip asked) q rules there =
     let call : Record = recorded ip asked in
     let verdict : ℕ = verdict_of body.chain call in
-    comes_judged images w pid q body call verdict (action_of verdict) rules there
-comes_happened images w body (Deliver pid) q rules there =
+    comes_judged declared w pid q body call verdict (action_of verdict) rules there
+comes_happened declared w body (Deliver pid) q rules there =
     at_delivery w pid body (signal_for body) (λ s. EventComes w (Deliver pid) s q) (comes_moved w w pid q (moved_still w q))
     (λ n. comes_moved w _ pid q (over_delivered Moves moves w pid body n there q))
-comes_happened images w body (Resume pid) q rules there = comes_moved w _ pid q (over_resumed Moves moves w pid body.waiting q)
-comes_happened images w body (Fault pid) q rules there = comes_moved w _ pid q (over_end Moves moves w pid SIGSEGV there q)
+comes_happened declared w body (Resume pid) q rules there = comes_moved w _ pid q (over_resumed Moves moves w pid body.waiting q)
+comes_happened declared w body (Fault pid) q rules there = comes_moved w _ pid q (over_end Moves moves w pid SIGSEGV there q)
 
-comes_step : (images : GivenImages) (w : World) (event : Event) (q : ℕ) → IsWorld w → EventComes w event (step_of images w event) q
-comes_step images w event q rules =
-    at_step images w event (λ s. EventComes w event s q) (λ _ _. comes_moved w w (pid_of event) q (moved_still w q))
-    (λ p there alive. comes_happened images w p.body event q rules (alive_is_there (at w (pid_of event)) alive))
+comes_step : (declared : Images) (w : World) (event : Event) (q : ℕ) → IsWorld w → EventComes w event (step_of declared w event) q
+comes_step declared w event q rules =
+    at_step declared w event (λ s. EventComes w event s q) (λ _ _. comes_moved w w (pid_of event) q (moved_still w q))
+    (λ p there alive. comes_happened declared w p.body event q rules (alive_is_there (at w (pid_of event)) alive))
 
 -- ---- confinement stays
 -- a filter more takes no precedence away
@@ -379,7 +379,7 @@ values-append [] ys call = refl
 values-append (x ∷ xs) ys call = ap (λ vs. meaning_value (meaning_of x call) ∷ vs) (values-append xs ys call)
 
 -- no filter refuses nothing
-some_values : (programs : List (List Insn)) (call : Record) → precedence_of (verdict_of programs call) <ℤ precedence_of 0x7ffc0000 → values_of programs call ≢ []
+some_values : (filters : List (List Insn)) (call : Record) → precedence_of (verdict_of filters call) <ℤ precedence_of 0x7ffc0000 → values_of filters call ≢ []
 some_values [] call less is = absurd (omega (arith, ints, less))
 some_values (newest ∷ older) call less is = cc
 
@@ -391,14 +391,14 @@ refuses_more newer older refuses call is_native is =
     (first_of_more (values_of newer call) (values_of older call) (some_values older call before)) in
     omega (arith, ints, before, least)
 
--- calls that a line adds leave it refusing
-refuses_later : (images : GivenImages) (calls : List Record) (o : Option Authority) → IfSome o (λ a. RefusesKill a.programs) → IfSome (option_map (authority_after_calls images calls) o) (λ a. RefusesKill a.programs)
-refuses_later images calls None refuses = tt
-refuses_later images calls (Some a) refuses =
-    let grows = grows_calls images calls a in
-    subst RefusesKill (sym grows.programs) (refuses_more grows.newer a.programs refuses)
+-- calls that a lineage adds leave it refusing
+refuses_later : (declared : Images) (calls : List Record) (o : Option Authority) → IfSome o (λ a. RefusesKill a.filters) → IfSome (option_map (authority_after_calls declared calls) o) (λ a. RefusesKill a.filters)
+refuses_later declared calls None refuses = tt
+refuses_later declared calls (Some a) refuses =
+    let grows = grows_calls declared calls a in
+    subst RefusesKill (sym grows.filters) (refuses_more grows.newer a.filters refuses)
 
-of_those_there : (o : Option Proc) → (IsTrue (is_some o) → IfSome (authority_in o) (λ a. RefusesKill a.programs)) → IfSome (authority_in o) (λ a. RefusesKill a.programs)
+of_those_there : (o : Option Proc) → (IsTrue (is_some o) → IfSome (authority_in o) (λ a. RefusesKill a.filters)) → IfSome (authority_in o) (λ a. RefusesKill a.filters)
 of_those_there None is = tt
 of_those_there (Some p) is = is refl
 
@@ -411,87 +411,87 @@ no_parent None init = refl
 no_parent (Some p) init = eqb-true p.links.parent 0 (and_parts (p.links.parent == 0) _ init).0
 
 -- nobody is forked at a number that is taken, or below 2
-not_forked : (images : GivenImages) (w : World) (event : Event) (k : ℕ) → IsWorld w → IsTrue (is_some (at w k)) → is_fork_of k (happening images w event) ≡ false
-not_forked images w event k rules there =
-    elim (is_fork_of k (happening images w event)) as (λ b. is_fork_of k (happening images w event) ≡ b → b ≡ false) [
-      | true ↦ λ is. absurd (false≢true (sym (ap is_some ((comes_step images w event k rules).0 is).free) ∙ there))
+not_forked : (declared : Images) (w : World) (event : Event) (k : ℕ) → IsWorld w → IsTrue (is_some (at w k)) → is_fork_of k (happening declared w event) ≡ false
+not_forked declared w event k rules there =
+    elim (is_fork_of k (happening declared w event)) as (λ b. is_fork_of k (happening declared w event) ≡ b → b ≡ false) [
+      | true ↦ λ is. absurd (false≢true (sym (ap is_some ((comes_step declared w event k rules).0 is).free) ∙ there))
       | false ↦ λ _. refl
     ] refl
 
-zero_not_forked : (images : GivenImages) (w : World) (event : Event) (k : ℕ) → IsWorld w → k ≡ 0 → is_fork_of k (happening images w event) ≡ false
-zero_not_forked images w event k rules none =
-    elim (is_fork_of k (happening images w event)) as (λ b. is_fork_of k (happening images w event) ≡ b → b ≡ false) [
-      | true ↦ λ is. let low = ((comes_step images w event k rules).0 is).low in absurd (omega arith)
+zero_not_forked : (declared : Images) (w : World) (event : Event) (k : ℕ) → IsWorld w → k ≡ 0 → is_fork_of k (happening declared w event) ≡ false
+zero_not_forked declared w event k rules none =
+    elim (is_fork_of k (happening declared w event)) as (λ b. is_fork_of k (happening declared w event) ≡ b → b ≡ false) [
+      | true ↦ λ is. let low = ((comes_step declared w event k rules).0 is).low in absurd (omega arith)
       | false ↦ λ _. refl
     ] refl
 
-halted_not_forked : (images : GivenImages) (w : World) (event : Event) (k : ℕ) → is_halted w ≡ true → is_fork_of k (happening images w event) ≡ false
-halted_not_forked images w event k halted =
+halted_not_forked : (declared : Images) (w : World) (event : Event) (k : ℕ) → is_halted w ≡ true → is_fork_of k (happening declared w event) ≡ false
+halted_not_forked declared w event k halted =
     let reason : reason_of w event ≡ Some Halted = cond-true (is_halted w) (Some Halted) _ halted in
-    ap (λ (s : Stepped). is_fork_of k (event, s.answer)) (impossible_changes_nothing images w event Halted reason)
+    ap (λ (s : Stepped). is_fork_of k (event, s.answer)) (impossible_changes_nothing declared w event Halted reason)
 
 -- nobody is forked at the number of a parent
-parent_not_forked : (images : GivenImages) (w : World) (event : Event) (q : ℕ) → IsWorld w → IsTrue (is_some (at w q)) → is_fork_of (parent_of (at w q)) (happening images w event) ≡ false
-parent_not_forked images w event q rules there =
-    elim (is_halted w) as (λ b. is_halted w ≡ b → is_fork_of (parent_of (at w q)) (happening images w event) ≡ false) [
-      | true ↦ λ halted. halted_not_forked images w event (parent_of (at w q)) halted
-      | false ↦ λ going. elim (q == INIT) as (λ b. (q == INIT) ≡ b → is_fork_of (parent_of (at w q)) (happening images w event) ≡ false) [
-        | true ↦ λ is. zero_not_forked images w event (parent_of (at w q)) rules (ap (λ k. parent_of (at w k)) (eqb-true q INIT is) ∙ no_parent (at w INIT) rules.init)
-        | false ↦ λ other. not_forked images w event (parent_of (at w q)) rules (alive_is_there (at w (parent_of (at w q))) (rules.parents going q (eqb-false q INIT other) there))
+parent_not_forked : (declared : Images) (w : World) (event : Event) (q : ℕ) → IsWorld w → IsTrue (is_some (at w q)) → is_fork_of (parent_of (at w q)) (happening declared w event) ≡ false
+parent_not_forked declared w event q rules there =
+    elim (is_halted w) as (λ b. is_halted w ≡ b → is_fork_of (parent_of (at w q)) (happening declared w event) ≡ false) [
+      | true ↦ λ halted. halted_not_forked declared w event (parent_of (at w q)) halted
+      | false ↦ λ going. elim (q == INIT) as (λ b. (q == INIT) ≡ b → is_fork_of (parent_of (at w q)) (happening declared w event) ≡ false) [
+        | true ↦ λ is. zero_not_forked declared w event (parent_of (at w q)) rules (ap (λ k. parent_of (at w k)) (eqb-true q INIT is) ∙ no_parent (at w INIT) rules.init)
+        | false ↦ λ other. not_forked declared w event (parent_of (at w q)) rules (alive_is_there (at w (parent_of (at w q))) (rules.parents going q (eqb-false q INIT other) there))
       ] refl
     ] refl
 
--- whose line goes on
-goes_on : (images : GivenImages) (w : World) (event : Event) (k : ℕ) (b : Bool) → is_fork_of k (happening images w event) ≡ b → line_before k (happening images w event) ≡ cond b (pid_of event) k
-goes_on images w event k b is = ap (λ b. cond b (pid_of event) k) is
+-- whose lineage goes on
+goes_on : (declared : Images) (w : World) (event : Event) (k : ℕ) (b : Bool) → is_fork_of k (happening declared w event) ≡ b → lineage_before k (happening declared w event) ≡ cond b (pid_of event) k
+goes_on declared w event k b is = ap (λ b. cond b (pid_of event) k) is
 
 pub confinement_stays : ConfinementStays
-confinement_stays images w event inside rules confined =
-    let x : Happening = happening images w event in
-    let after : World = (step_of images w event).world in
-    let init : inside (line_before INIT x) ≡ false = ap inside (goes_on images w event INIT false (not_forked images w event INIT rules (init_there (at w INIT) rules.init))) ∙ confined.init in
+confinement_stays declared w event inside rules confined =
+    let x : Happening = happening declared w event in
+    let after : World = (step_of declared w event).world in
+    let init : inside (lineage_before INIT x) ≡ false = ap inside (goes_on declared w event INIT false (not_forked declared w event INIT rules (init_there (at w INIT) rules.init))) ∙ confined.init in
     record {
       init = init;
-      children = λ q there within. elim (is_fork_of q x) as (λ b. is_fork_of q x ≡ b → IsTrue (inside (line_before q x))) [
+      children = λ q there within. elim (is_fork_of q x) as (λ b. is_fork_of q x ≡ b → IsTrue (inside (lineage_before q x))) [
         | true ↦ λ is.
-            let new = (comes_step images w event q rules).0 is in
-            ap inside (goes_on images w event q true is)
-            ∙ ap inside (sym (goes_on images w event (pid_of event) false (not_forked images w event (pid_of event) rules new.caller_there)))
-            ∙ ap (λ k. inside (line_before k x)) (sym new.parent) ∙ within
+            let new = (comes_step declared w event q rules).0 is in
+            ap inside (goes_on declared w event q true is)
+            ∙ ap inside (sym (goes_on declared w event (pid_of event) false (not_forked declared w event (pid_of event) rules new.caller_there)))
+            ∙ ap (λ k. inside (lineage_before k x)) (sym new.parent) ∙ within
         | false ↦ λ is.
-            let moved = (comes_step images w event q rules).1 is there in
-            ap inside (goes_on images w event q false is) ∙ elim moved.1 [
+            let moved = (comes_step declared w event q rules).1 is there in
+            ap inside (goes_on declared w event q false is) ∙ elim moved.1 [
               | inl same ↦ confined.children q moved.0
-                  (ap inside (sym (goes_on images w event (parent_of (at w q)) false (parent_not_forked images w event q rules moved.0)))
-                  ∙ ap (λ k. inside (line_before k x)) (sym same) ∙ within)
-              | inr (inl first) ↦ absurd (false≢true (sym init ∙ ap (λ k. inside (line_before k x)) (sym first) ∙ within))
+                  (ap inside (sym (goes_on declared w event (parent_of (at w q)) false (parent_not_forked declared w event q rules moved.0)))
+                  ∙ ap (λ k. inside (lineage_before k x)) (sym same) ∙ within)
+              | inr (inl first) ↦ absurd (false≢true (sym init ∙ ap (λ k. inside (lineage_before k x)) (sym first) ∙ within))
               | inr (inr (known, below)) ↦ below inside confined.init confined.children
-                  (ap inside (sym (goes_on images w event (parent_of (at after q)) false (not_forked images w event (parent_of (at after q)) rules known))) ∙ within)
+                  (ap inside (sym (goes_on declared w event (parent_of (at after q)) false (not_forked declared w event (parent_of (at after q)) rules known))) ∙ within)
             ]
       ] refl;
       refuses = λ q within. of_those_there (at after q) (λ there.
-          subst (λ o. IfSome o (λ a. RefusesKill a.programs)) (sym (event_changes_authority images w event q there).1)
-          (refuses_later images (calls_added q x) (authority_at w (line_before q x)) (confined.refuses (line_before q x) within)));
+          subst (λ o. IfSome o (λ a. RefusesKill a.filters)) (sym (event_changes_authority declared w event q there).1)
+          (refuses_later declared (calls_added q x) (authority_at w (lineage_before q x)) (confined.refuses (lineage_before q x) within)));
     }
 
 -- ---- over a list of events
 abbrev from_root : List Happening → ℕ → ℕ → Bool
-from_root history root q = (line_of history q).root == root
+from_root history root q = (lineage_of history q).root == root
 
-confined_after : (images : GivenImages) (w : World) (events : List Event) (history : List Happening) (root : ℕ) → IsWorld w → IsConfined w (from_root history root)
-    → IsWorld (world_after images w events) × IsConfined (world_after images w events) (from_root (history_after images w events history) root)
-confined_after images w [] history root rules confined = (rules, confined)
-confined_after images w (event ∷ events) history root rules confined =
-    confined_after images (step_of images w event).world events (happening images w event ∷ history) root (kept_step images w event rules)
-    (confinement_stays images w event (from_root history root) rules confined)
+confined_after : (declared : Images) (w : World) (events : List Event) (history : List Happening) (root : ℕ) → IsWorld w → IsConfined w (from_root history root)
+    → IsWorld (world_after declared w events) × IsConfined (world_after declared w events) (from_root (history_after declared w events history) root)
+confined_after declared w [] history root rules confined = (rules, confined)
+confined_after declared w (event ∷ events) history root rules confined =
+    confined_after declared (step_of declared w event).world events (happening declared w event ∷ history) root (kept_step declared w event rules)
+    (confinement_stays declared w event (from_root history root) rules confined)
 
-pub line_is_confined : LineIsConfined
-line_is_confined images w events event root q rules other alone refuses within outside there =
+pub lineage_is_confined : LineageIsConfined
+lineage_is_confined declared w events event root q rules other alone refuses within outside there =
     let start : IsConfined w (from_root [] root) = record {
       init = ne_eqb INIT root (λ is. other (sym is));
       children = λ k there is. absurd (alone k there (eqb-true (parent_of (at w k)) root is));
-      refuses = λ k is. subst (λ k. IfSome (authority_at w k) (λ a. RefusesKill a.programs)) (sym (eqb-true k root is)) refuses;
+      refuses = λ k is. subst (λ k. IfSome (authority_at w k) (λ a. RefusesKill a.filters)) (sym (eqb-true k root is)) refuses;
     } in
-    let now = confined_after images w events [] root rules start in
-    event_is_confined images (world_after images w events) event (from_root (history_after images w events []) root) q now.0 now.1
-    (eq-eqb (line_after images w events (pid_of event)).root root within) (ne_eqb (line_after images w events q).root root outside) there
+    let now = confined_after declared w events [] root rules start in
+    event_is_confined declared (world_after declared w events) event (from_root (history_after declared w events []) root) q now.0 now.1
+    (eq-eqb (lineage_after declared w events (pid_of event)).root root within) (ne_eqb (lineage_after declared w events q).root root outside) there

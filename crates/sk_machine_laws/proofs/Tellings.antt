@@ -36,9 +36,9 @@ use Rattle.sk_machine.specs.declared.event.Event.{Event}
 use Rattle.sk_machine.specs.declared.event.Event.TheVariants.{Call, Deliver, Resume, Fault}
 use Rattle.sk_calls.specs.declared.syscall.Syscall.{Syscall}
 use Rattle.sk_machine.specs.Events.{pid_of, recorded}
-use Rattle.sk_machine.specs.Given.{GivenImages}
+use Rattle.sk_machine.specs.Images.{Images}
 use Rattle.sk_calls.specs.Syscalls.{syscall_of}
-use Rattle.sk_machine.specs.Arguments.{low, signed}
+use Rattle.sk_machine.specs.Arguments.{unsigned, signed}
 use Rattle.sk_machine.specs.Authority.{Authority}
 use Rattle.sk_machine.specs.Performed.{Performed, returns, fails, asked, changes, authorises, waiting_in, waits}
 use Rattle.sk_machine.specs.SignalCalls.{resignals}
@@ -46,10 +46,10 @@ use Rattle.sk_machine.specs.Killing.{after_kill}
 use Rattle.sk_machine.specs.WaitCalls.{are_wait_options, request_of, polled, wait4, polled_again, resumed}
 use Rattle.sk_machine.specs.Performing.{execve, forks, subreaper_set, subreaper_asked, where_subreapers, row}
 use Rattle.sk_machine.specs.Machine.{judged, step_of, world_after, Stepped, happened}
-use Rattle.sk_machine.specs.Lines.{Happening, is_fork_of, line_before, history_after}
-use Rattle.sk_machine_laws.specs.LineLaws.{happening}
+use Rattle.sk_machine.specs.Lineages.{Happening, is_fork_of, lineage_before, history_after}
+use Rattle.sk_machine_laws.specs.LineageLaws.{happening}
 use Rattle.sk_machine_laws.specs.TellingLaws.{told_in, told_by, IsEnd, HasEndedUnder, EndIsToldToParent, EndIsToldOnce}
-use Rattle.sk_machine_laws.proofs.LineSteps.{event_changes_authority}
+use Rattle.sk_machine_laws.proofs.LineageSteps.{event_changes_authority}
 use Rattle.sk_machine_laws.proofs.EachCall.{each_call}
 use Rattle.sk_machine_laws.proofs.Happened.{at_step, at_delivery}
 use Rattle.sk_machine.specs.Delivering.{signal_for}
@@ -171,46 +171,46 @@ tells_polled w pid request poll.NotReady ready child status is =
 
 tells_wait4 : (w : World) (pid : ℕ) (call : Record) → TellsRight w pid (wait4 w pid call)
 tells_wait4 w pid call =
-    cond_both (not (are_wait_options (low call 2))) (fails w Einval) _ (TellsRight w pid) (λ _ child status is. nothing_told w _ pid child status is)
-    (λ _. cond_both (low call 0 == 2147483648) (fails w Esrch) _ (TellsRight w pid) (λ _ child status is. nothing_told w _ pid child status is)
+    cond_both (not (are_wait_options (unsigned call 2))) (fails w Einval) _ (TellsRight w pid) (λ _ child status is. nothing_told w _ pid child status is)
+    (λ _. cond_both (unsigned call 0 == 2147483648) (fails w Esrch) _ (TellsRight w pid) (λ _ child status is. nothing_told w _ pid child status is)
     (λ _. tells_polled w pid (request_of w pid call) (ready_of w pid (request_of w pid call)) refl))
 
 tells_subreapers : (there : Bool) (w : World) (pid : ℕ) (p : Performed) → TellsRight w pid p → TellsRight w pid (where_subreapers there w p)
 tells_subreapers true w pid p right = right
 tells_subreapers false w pid p right = λ child status is. nothing_told w w pid child status is
 
-tells_row : (images : GivenImages) (w : World) (pid : ℕ) (body : Body) (which : Option Syscall) (call : Record) → TellsRight w pid (row images w pid body which call)
-tells_row images w pid body which call =
+tells_row : (declared : Images) (w : World) (pid : ℕ) (body : Body) (which : Option Syscall) (call : Record) → TellsRight w pid (row declared w pid body which call)
+tells_row declared w pid body which call =
     let none = λ (after : World) (child status : ℕ) (is : ◌≡◌ {A = Option (ℕ × ℕ)} None (Some (child, status))). nothing_told w after pid child status is in
-    each_call images w pid body call (λ _. TellsRight w pid) (record {
+    each_call declared w pid body call (λ _. TellsRight w pid) (record {
       answers = tells_asked w pid;
       tells_signals = λ _. none w;
       tells_ids = none w;
       resignals = tells_resignals w pid;
       authorises = tells_authorises w pid;
       executes = tells_execve w pid;
-      marks = tells_subreapers images.subreapers w pid (subreaper_set w pid call) (λ child status is. nothing_told w _ pid child status is);
-      asks_mark = tells_subreapers images.subreapers w pid (subreaper_asked w body.subreaper) (λ child status is. nothing_told w _ pid child status is);
+      marks = tells_subreapers declared.subreapers w pid (subreaper_set w pid call) (λ child status is. nothing_told w _ pid child status is);
+      asks_mark = tells_subreapers declared.subreapers w pid (subreaper_asked w body.subreaper) (λ child status is. nothing_told w _ pid child status is);
       pauses = λ child status is. nothing_told w _ pid child status is;
       waits_for = tells_wait4 w pid call;
       forks_one = tells_forks w pid (fork_answer w);
       ends = λ code child status is. nothing_told w _ pid child status is;
-      kills = tells_changes w pid 0 (after_kill w pid body.creds (signed call 0) (low call 1));
+      kills = tells_changes w pid 0 (after_kill w pid body.creds (signed call 0) (unsigned call 1));
       regroups = tells_changes w pid 0 (after_setpgid w pid (signed call 0) (signed call 1));
       leads = tells_changes w pid pid (after_setsid w pid);
     }) which
 
-tells_judged : (images : GivenImages) (w : World) (pid : ℕ) (body : Body) (call : Record) (verdict : ℕ) (a : Action)
-    → TellsRight w pid (judged images w pid body call verdict a)
-tells_judged images w pid body call verdict action.Allow = tells_row images w pid body (syscall_of call.nr) call
-tells_judged images w pid body call verdict action.Log = tells_row images w pid body (syscall_of call.nr) call
-tells_judged images w pid body call verdict action.Trap = λ child status is. nothing_told w _ pid child status is
-tells_judged images w pid body call verdict action.Errno = λ child status is. nothing_told w _ pid child status is
-tells_judged images w pid body call verdict action.UserNotif = λ child status is. nothing_told w _ pid child status is
-tells_judged images w pid body call verdict action.Trace = λ child status is. nothing_told w _ pid child status is
-tells_judged images w pid body call verdict action.KillProcess = λ child status is. nothing_told w _ pid child status is
-tells_judged images w pid body call verdict action.KillThread = λ child status is. nothing_told w _ pid child status is
-tells_judged images w pid body call verdict action.Unknown = λ child status is. nothing_told w _ pid child status is
+tells_judged : (declared : Images) (w : World) (pid : ℕ) (body : Body) (call : Record) (verdict : ℕ) (a : Action)
+    → TellsRight w pid (judged declared w pid body call verdict a)
+tells_judged declared w pid body call verdict action.Allow = tells_row declared w pid body (syscall_of call.nr) call
+tells_judged declared w pid body call verdict action.Log = tells_row declared w pid body (syscall_of call.nr) call
+tells_judged declared w pid body call verdict action.Trap = λ child status is. nothing_told w _ pid child status is
+tells_judged declared w pid body call verdict action.Errno = λ child status is. nothing_told w _ pid child status is
+tells_judged declared w pid body call verdict action.UserNotif = λ child status is. nothing_told w _ pid child status is
+tells_judged declared w pid body call verdict action.Trace = λ child status is. nothing_told w _ pid child status is
+tells_judged declared w pid body call verdict action.KillProcess = λ child status is. nothing_told w _ pid child status is
+tells_judged declared w pid body call verdict action.KillThread = λ child status is. nothing_told w _ pid child status is
+tells_judged declared w pid body call verdict action.Unknown = λ child status is. nothing_told w _ pid child status is
 
 still_gone : (w : World) (pid k : ℕ) (f : Body → Body) → at w k ≡ None → at (changed w pid f) k ≡ None
 still_gone w pid k f gone =
@@ -241,24 +241,24 @@ tells_resumed w pid waiting.Nothing = λ child status is. nothing_told w _ pid c
 abbrev StepTells : World → ℕ → Stepped → Type 0
 StepTells w pid s = (child status : ℕ) → told_by s.answer ≡ Some (child, status) → IsTold w s.world pid child status
 
-tells_happened : (images : GivenImages) (w : World) (body : Body) (event : Event) → StepTells w (pid_of event) (happened images w body event)
-tells_happened images w body (Call pid ip asked) child status is =
+tells_happened : (declared : Images) (w : World) (body : Body) (event : Event) → StepTells w (pid_of event) (happened declared w body event)
+tells_happened declared w body (Call pid ip asked) child status is =
     let call : Record = recorded ip asked in
     let verdict : ℕ = verdict_of body.chain call in
-    tells_judged images w pid body call verdict (action_of verdict) child status is
-tells_happened images w body (Deliver pid) child status is =
+    tells_judged declared w pid body call verdict (action_of verdict) child status is
+tells_happened declared w body (Deliver pid) child status is =
     at_delivery w pid body (signal_for body) (StepTells w pid) (λ child status is. nothing_told w _ pid child status is) (λ n child status is. nothing_told w _ pid child status is) child status is
-tells_happened images w body (Resume pid) child status is = tells_resumed w pid body.waiting child status is
-tells_happened images w body (Fault pid) child status is = nothing_told w _ pid child status is
+tells_happened declared w body (Resume pid) child status is = tells_resumed w pid body.waiting child status is
+tells_happened declared w body (Fault pid) child status is = nothing_told w _ pid child status is
 
-tells_step : (images : GivenImages) (w : World) (event : Event) → StepTells w (pid_of event) (step_of images w event)
-tells_step images w event =
-    at_step images w event (StepTells w (pid_of event)) (λ _ _ child status is. nothing_told w _ (pid_of event) child status is)
-    (λ p there alive. tells_happened images w p.body event)
+tells_step : (declared : Images) (w : World) (event : Event) → StepTells w (pid_of event) (step_of declared w event)
+tells_step declared w event =
+    at_step declared w event (StepTells w (pid_of event)) (λ _ _ child status is. nothing_told w _ (pid_of event) child status is)
+    (λ p there alive. tells_happened declared w p.body event)
 
 pub end_is_told_to_parent : EndIsToldToParent
-end_is_told_to_parent images w event child status is low =
-    let tells = tells_step images w event child status is in
+end_is_told_to_parent declared w event child status is low =
+    let tells = tells_step declared w event child status is in
     let ended = tells.ended low in
     (ended.0, ended.1, ended.2, tells.gone low)
 
@@ -267,36 +267,36 @@ absent : (o : Option Proc) → (IsTrue (is_some o) → ⊥) → o ≡ None
 absent None away = refl
 absent (Some p) away = absurd (away refl)
 
-stays_absent : (images : GivenImages) (w : World) (event : Event) (k : ℕ) → at w k ≡ None → is_fork_of k (happening images w event) ≡ false → at (step_of images w event).world k ≡ None
-stays_absent images w event k gone no_fork =
-    absent (at (step_of images w event).world k) (λ there.
-    let before = (event_changes_authority images w event k there).0 in
-    let same : line_before k (happening images w event) ≡ k = ap (λ b. cond b (pid_of event) k) no_fork in
+stays_absent : (declared : Images) (w : World) (event : Event) (k : ℕ) → at w k ≡ None → is_fork_of k (happening declared w event) ≡ false → at (step_of declared w event).world k ≡ None
+stays_absent declared w event k gone no_fork =
+    absent (at (step_of declared w event).world k) (λ there.
+    let before = (event_changes_authority declared w event k there).0 in
+    let same : lineage_before k (happening declared w event) ≡ k = ap (λ b. cond b (pid_of event) k) no_fork in
     false≢true (sym (ap is_some (ap (at w) same ∙ gone)) ∙ before))
 
-none_before : (images : GivenImages) (w : World) (events : List Event) (before : List Happening) (k : ℕ)
-    → list_any (is_fork_of k) (history_after images w events before) ≡ false → list_any (is_fork_of k) before ≡ false
-none_before images w [] before k none = none
-none_before images w (event ∷ events) before k none =
-    (or_parts (is_fork_of k (happening images w event)) (list_any (is_fork_of k) before)
-    (none_before images (step_of images w event).world events (happening images w event ∷ before) k none)).1
+none_before : (declared : Images) (w : World) (events : List Event) (before : List Happening) (k : ℕ)
+    → list_any (is_fork_of k) (history_after declared w events before) ≡ false → list_any (is_fork_of k) before ≡ false
+none_before declared w [] before k none = none
+none_before declared w (event ∷ events) before k none =
+    (or_parts (is_fork_of k (happening declared w event)) (list_any (is_fork_of k) before)
+    (none_before declared (step_of declared w event).world events (happening declared w event ∷ before) k none)).1
 
-stays_away : (images : GivenImages) (w : World) (events : List Event) (before : List Happening) (k : ℕ)
-    → list_any (is_fork_of k) (history_after images w events before) ≡ false → at w k ≡ None → at (world_after images w events) k ≡ None
-stays_away images w [] before k none gone = gone
-stays_away images w (event ∷ events) before k none gone =
-    let first = (or_parts (is_fork_of k (happening images w event)) (list_any (is_fork_of k) before)
-    (none_before images (step_of images w event).world events (happening images w event ∷ before) k none)).0 in
-    stays_away images (step_of images w event).world events (happening images w event ∷ before) k none (stays_absent images w event k gone first)
+stays_away : (declared : Images) (w : World) (events : List Event) (before : List Happening) (k : ℕ)
+    → list_any (is_fork_of k) (history_after declared w events before) ≡ false → at w k ≡ None → at (world_after declared w events) k ≡ None
+stays_away declared w [] before k none gone = gone
+stays_away declared w (event ∷ events) before k none gone =
+    let first = (or_parts (is_fork_of k (happening declared w event)) (list_any (is_fork_of k) before)
+    (none_before declared (step_of declared w event).world events (happening declared w event ∷ before) k none)).0 in
+    stays_away declared (step_of declared w event).world events (happening declared w event ∷ before) k none (stays_absent declared w event k gone first)
 
 pub end_is_told_once : EndIsToldOnce
-end_is_told_once images w first between later child status again is low is_again =
-    let middle : World = (step_of images w first).world in
-    let forks : Bool = list_any (is_fork_of child) (history_after images middle between []) in
+end_is_told_once declared w first between later child status again is low is_again =
+    let middle : World = (step_of declared w first).world in
+    let forks : Bool = list_any (is_fork_of child) (history_after declared middle between []) in
     elim forks as (λ b. forks ≡ b → IsTrue b) [
       | true ↦ λ _. refl
       | false ↦ λ none.
-          let gone = stays_away images middle between [] child none ((tells_step images w first child status is).gone low) in
-          let there = (tells_step images (world_after images middle between) later child again is_again).there in
+          let gone = stays_away declared middle between [] child none ((tells_step declared w first child status is).gone low) in
+          let there = (tells_step declared (world_after declared middle between) later child again is_again).there in
           absurd (false≢true (sym (ap is_some gone) ∙ there))
     ] refl

@@ -24,7 +24,7 @@ use Rattle.sk_machine.specs.declared.answer.Outcome.TheVariants.{Waits}
 use Rattle.sk_machine.specs.declared.answer.Reason.{Reason}
 use Rattle.sk_machine.specs.declared.answer.Reason.TheVariants as reason
 use Rattle.sk_machine.specs.Events.{pid_of}
-use Rattle.sk_machine.specs.Given.{GivenImages}
+use Rattle.sk_machine.specs.Images.{Images}
 use Rattle.sk_machine.specs.WaitCalls.{polled_again, resumed}
 use Rattle.sk_machine.specs.Delivering.{signal_due, is_waiting, is_in_call}
 use Rattle.sk_machine.specs.Machine.{Stepped, resume_answered, call_reason, own_reason, is_due_delivery, reason_of, stepped, step_of, world_after, happened_to}
@@ -172,66 +172,66 @@ idle_waits false true end_of_caller idle moves = absurd (false≢true (sym moves
 idle_waits false false end_of_caller idle moves = idle
 
 -- the event is not possible for this reason, or does nothing
-abbrev Idles : GivenImages → World → Event → Option Reason → Type 0
-Idles images w event o = IsTrue (is_some o) ⊎ (stepped images w event o ≡ record { answer = Resumed Waits; world = w })
+abbrev Idles : Images → World → Event → Option Reason → Type 0
+Idles declared w event o = IsTrue (is_some o) ⊎ (stepped declared w event o ≡ record { answer = Resumed Waits; world = w })
 
-idle_call : (images : GivenImages) (w : World) (pid : ℕ) (event : Event) → IsTrue (is_some (at w pid)) → goes_on w pid (at w pid) ≡ false
-    → Idles images w event (call_reason w pid)
-idle_call images w pid event there waits =
-    cond_both (is_in_call (at w pid)) (Some reason.Waiting) _ (Idles images w event) (λ _. inl refl)
+idle_call : (declared : Images) (w : World) (pid : ℕ) (event : Event) → IsTrue (is_some (at w pid)) → goes_on w pid (at w pid) ≡ false
+    → Idles declared w event (call_reason w pid)
+idle_call declared w pid event there waits =
+    cond_both (is_in_call (at w pid)) (Some reason.Waiting) _ (Idles declared w event) (λ _. inl refl)
     (λ free. absurd (false≢true (sym waits ∙ runs_on w pid (at w pid) there free)))
 
 -- one that asks again goes on waiting
-asks_again : (images : GivenImages) (w : World) (pid : ℕ) (o : Option Proc) → IsTrue (is_some o) → goes_on w pid o ≡ false
-    → happened_to images w (Resume pid) o ≡ record { answer = Resumed Waits; world = w }
-asks_again images w pid None there waits = absurd (false≢true there)
-asks_again images w pid (Some p) there waits = ap resume_answered (keeps_waiting w pid p.body.waiting waits)
+asks_again : (declared : Images) (w : World) (pid : ℕ) (o : Option Proc) → IsTrue (is_some o) → goes_on w pid o ≡ false
+    → happened_to declared w (Resume pid) o ≡ record { answer = Resumed Waits; world = w }
+asks_again declared w pid None there waits = absurd (false≢true there)
+asks_again declared w pid (Some p) there waits = ap resume_answered (keeps_waiting w pid p.body.waiting waits)
 
-idle_own : (images : GivenImages) (w : World) (event : Event) → IsTrue (is_some (at w (pid_of event)))
+idle_own : (declared : Images) (w : World) (event : Event) → IsTrue (is_some (at w (pid_of event)))
     → (is_some (signal_due (at w (pid_of event))) || (not (is_stopped (at w (pid_of event))) && goes_on w (pid_of event) (at w (pid_of event)))) ≡ false
-    → (is_stopped (at w (pid_of event)) && not (is_due_delivery w event)) ≡ false → Idles images w event (own_reason w event)
-idle_own images w (Call pid ip call) there idle moves =
-    idle_call images w pid (Call pid ip call) there (idle_waits (is_some (signal_due (at w pid))) (is_stopped (at w pid)) (goes_on w pid (at w pid)) idle moves)
-idle_own images w (Fault pid) there idle moves =
-    idle_call images w pid (Fault pid) there (idle_waits (is_some (signal_due (at w pid))) (is_stopped (at w pid)) (goes_on w pid (at w pid)) idle moves)
-idle_own images w (Deliver pid) there idle moves =
+    → (is_stopped (at w (pid_of event)) && not (is_due_delivery w event)) ≡ false → Idles declared w event (own_reason w event)
+idle_own declared w (Call pid ip call) there idle moves =
+    idle_call declared w pid (Call pid ip call) there (idle_waits (is_some (signal_due (at w pid))) (is_stopped (at w pid)) (goes_on w pid (at w pid)) idle moves)
+idle_own declared w (Fault pid) there idle moves =
+    idle_call declared w pid (Fault pid) there (idle_waits (is_some (signal_due (at w pid))) (is_stopped (at w pid)) (goes_on w pid (at w pid)) idle moves)
+idle_own declared w (Deliver pid) there idle moves =
     let quiet = (or_parts (is_some (signal_due (at w pid))) (not (is_stopped (at w pid)) && goes_on w pid (at w pid)) idle).0 in
-    cond_both (is_some (signal_due (at w pid))) None (Some reason.NothingWaits) (Idles images w (Deliver pid)) (λ due. absurd (false≢true (sym quiet ∙ due))) (λ _. inl refl)
-idle_own images w (Resume pid) there idle moves =
+    cond_both (is_some (signal_due (at w pid))) None (Some reason.NothingWaits) (Idles declared w (Deliver pid)) (λ due. absurd (false≢true (sym quiet ∙ due))) (λ _. inl refl)
+idle_own declared w (Resume pid) there idle moves =
     let waits : goes_on w pid (at w pid) ≡ false = idle_waits (is_some (signal_due (at w pid))) (is_stopped (at w pid)) (goes_on w pid (at w pid)) idle moves in
-    cond_both (not (is_in_call (at w pid))) (Some reason.NothingWaits) _ (Idles images w (Resume pid)) (λ _. inl refl)
-    (λ _. cond_both (is_some (signal_due (at w pid))) (Some reason.SignalFirst) None (Idles images w (Resume pid)) (λ _. inl refl)
-    (λ _. inr (asks_again images w pid (at w pid) there waits)))
+    cond_both (not (is_in_call (at w pid))) (Some reason.NothingWaits) _ (Idles declared w (Resume pid)) (λ _. inl refl)
+    (λ _. cond_both (is_some (signal_due (at w pid))) (Some reason.SignalFirst) None (Idles declared w (Resume pid)) (λ _. inl refl)
+    (λ _. inr (asks_again declared w pid (at w pid) there waits)))
 
 pub idle_does_nothing : IdleDoesNothing
 unfolding step_of
-idle_does_nothing images w event idle =
+idle_does_nothing declared w event idle =
     let o : Option Proc = at w (pid_of event) in
-    let P : Option Reason → Type 0 = Idles images w event in
+    let P : Option Reason → Type 0 = Idles declared w event in
     cond_both (is_halted w) (Some reason.Halted) _ P (λ _. inl refl) (λ going.
     cond_both (not (is_some o)) (Some reason.NoProcess) _ P (λ _. inl refl) (λ there.
     cond_both (is_zombie o) (Some reason.Zombie) _ P (λ _. inl refl) (λ living.
     let quiet = idle_parts (is_halted w) o (is_some (signal_due o) || (not (is_stopped o) && goes_on w (pid_of event) (at w (pid_of event)))) idle going there living in
     cond_both (is_stopped o && not (is_due_delivery w event)) (Some reason.Stopped) (own_reason w event) P (λ _. inl refl)
-    (λ moves. idle_own images w event (not-false (is_some o) there) quiet moves))))
+    (λ moves. idle_own declared w event (not-false (is_some o) there) quiet moves))))
 
 -- ---- where nobody can run
-impossible : (images : GivenImages) (w : World) (event : Event) (o : Option Reason) → IsTrue (is_some o) → (stepped images w event o).world ≡ w
-impossible images w event None there = absurd (false≢true there)
-impossible images w event (Some reason) there = refl
+impossible : (declared : Images) (w : World) (event : Event) (o : Option Reason) → IsTrue (is_some o) → (stepped declared w event o).world ≡ w
+impossible declared w event None there = absurd (false≢true there)
+impossible declared w event (Some reason) there = refl
 
-idle_world : (images : GivenImages) (w : World) (event : Event) → is_runnable w (pid_of event) ≡ false → (step_of images w event).world ≡ w
+idle_world : (declared : Images) (w : World) (event : Event) → is_runnable w (pid_of event) ≡ false → (step_of declared w event).world ≡ w
 unfolding step_of
-idle_world images w event idle =
-    elim (idle_does_nothing images w event idle) [
-      | inl is ↦ impossible images w event (reason_of w event) is
+idle_world declared w event idle =
+    elim (idle_does_nothing declared w event idle) [
+      | inl is ↦ impossible declared w event (reason_of w event) is
       | inr nothing ↦ ap (λ (s : Stepped). s.world) nothing
     ]
 
-idle_for_good : (images : GivenImages) (w : World) (events : List Event) → ((q : ℕ) → is_runnable w q ≡ false) → world_after images w events ≡ w
-idle_for_good images w [] idle = refl
-idle_for_good images w (event ∷ events) idle =
-    ap (λ v. world_after images v events) (idle_world images w event (idle (pid_of event))) ∙ idle_for_good images w events idle
+idle_for_good : (declared : Images) (w : World) (events : List Event) → ((q : ℕ) → is_runnable w q ≡ false) → world_after declared w events ≡ w
+idle_for_good declared w [] idle = refl
+idle_for_good declared w (event ∷ events) idle =
+    ap (λ v. world_after declared v events) (idle_world declared w event (idle (pid_of event))) ∙ idle_for_good declared w events idle
 
 absent : (halted : Bool) (o : Option Proc) (b : Bool) → is_some o ≡ false → (not halted && is_alive o && b) ≡ false
 absent true o b gone = refl
@@ -253,5 +253,5 @@ pub nobodys_turn : NobodysTurn
 nobodys_turn w last none = nobody_runs w (neither (find (λ pid. nat_lt last pid && is_runnable w pid) (pids w.procs)) (find (is_runnable w) (pids w.procs)) none)
 
 pub end_is_final : EndIsFinal
-end_is_final images w last events none =
-    idle_for_good images w events (nobodys_turn w last none)
+end_is_final declared w last events none =
+    idle_for_good declared w events (nobodys_turn w last none)

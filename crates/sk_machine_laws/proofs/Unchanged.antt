@@ -33,9 +33,9 @@ use Rattle.sk_machine.specs.declared.answer.Outcome.TheVariants.{Returned, Trapp
 use Rattle.sk_machine.specs.declared.answer.Reason.{Reason}
 use Rattle.sk_calls.specs.declared.syscall.Syscall.{Syscall}
 use Rattle.sk_machine.specs.Events.{pid_of, recorded}
-use Rattle.sk_machine.specs.Given.{GivenImages}
+use Rattle.sk_machine.specs.Images.{Images}
 use Rattle.sk_calls.specs.Syscalls.{syscall_of}
-use Rattle.sk_machine.specs.Arguments.{low, signed}
+use Rattle.sk_machine.specs.Arguments.{unsigned, signed}
 use Rattle.sk_machine.specs.Authority.{Authority}
 use Rattle.sk_machine.specs.Performed.{Performed, returns, fails, asked, changes, authorises, waits}
 use Rattle.sk_machine.specs.SignalCalls.{resignals}
@@ -53,7 +53,7 @@ use Rattle.sk_machine.specs.Delivering.{signal_for, signal_due}
 
 pub impossible_changes_nothing : ImpossibleChangesNothing
 unfolding step_of
-impossible_changes_nothing images w event reason is = ap (stepped images w event) is
+impossible_changes_nothing declared w event reason is = ap (stepped declared w event) is
 
 delivers : (w : World) (pid : ℕ) (body : Body) (o : Option ℕ) (reason : Reason) → IsTrue (is_some o) → (delivery w pid body o).answer ≡ answer.NotNow reason → ⊥
 delivers w pid body None reason due is = absurd (false≢true due)
@@ -73,70 +73,70 @@ due_to w pid p there possible =
     (λ _. cond_both (is_stopped o && not due) (Some reason.Stopped) own P (λ _ is. cc)
     (λ _. cond_both due None (Some NothingWaits) P (λ due _. due) (λ _ is. cc))))) possible
 
-happens : (images : GivenImages) (w : World) (event : Event) (p : Proc) (reason : Reason) → at w (pid_of event) ≡ Some p → reason_of w event ≡ None
-    → (happened images w p.body event).answer ≡ answer.NotNow reason → ⊥
-happens images w (Call pid ip call) p reason there possible is = cc
-happens images w (Deliver pid) p reason there possible is = delivers w pid p.body (signal_for p.body) reason (due_to w pid p there possible) is
-happens images w (Resume pid) p reason there possible is = cc
-happens images w (Fault pid) p reason there possible is = cc
+happens : (declared : Images) (w : World) (event : Event) (p : Proc) (reason : Reason) → at w (pid_of event) ≡ Some p → reason_of w event ≡ None
+    → (happened declared w p.body event).answer ≡ answer.NotNow reason → ⊥
+happens declared w (Call pid ip call) p reason there possible is = cc
+happens declared w (Deliver pid) p reason there possible is = delivers w pid p.body (signal_for p.body) reason (due_to w pid p there possible) is
+happens declared w (Resume pid) p reason there possible is = cc
+happens declared w (Fault pid) p reason there possible is = cc
 
 pub possible_happens : PossibleHappens
-possible_happens images w event reason none =
-    at_step images w event (λ s. s.answer ≡ answer.NotNow reason → ⊥) (λ _ is _. absurd (false≢true (ap is_some (sym none ∙ is))))
-    (λ p there alive. happens images w event p reason there none)
+possible_happens declared w event reason none =
+    at_step declared w event (λ s. s.answer ≡ answer.NotNow reason → ⊥) (λ _ is _. absurd (false≢true (ap is_some (sym none ∙ is))))
+    (λ p there alive. happens declared w event p reason there none)
 
 -- where the answer is a call's, what holds of a call with this verdict holds of the step
-at_called : (images : GivenImages) (w : World) (body : Body) (event : Event) (verdict : ℕ) (outcome : Outcome) (P : ℕ → Stepped → Type 0)
-    → ((pid : ℕ) (body : Body) (call : Record) → (judged images w pid body call verdict (action_of verdict)).outcome ≡ outcome → P pid (called_with images w pid body call verdict))
-    → (happened images w body event).answer ≡ answer.Call verdict outcome → P (pid_of event) (happened images w body event)
-at_called images w body (Deliver pid) verdict outcome P made is =
+at_called : (declared : Images) (w : World) (body : Body) (event : Event) (verdict : ℕ) (outcome : Outcome) (P : ℕ → Stepped → Type 0)
+    → ((pid : ℕ) (body : Body) (call : Record) → (judged declared w pid body call verdict (action_of verdict)).outcome ≡ outcome → P pid (called_with declared w pid body call verdict))
+    → (happened declared w body event).answer ≡ answer.Call verdict outcome → P (pid_of event) (happened declared w body event)
+at_called declared w body (Deliver pid) verdict outcome P made is =
     at_delivery w pid body (signal_for body) (λ s. s.answer ≡ answer.Call verdict outcome → P pid s) (λ is. cc) (λ n is. cc) is
-at_called images w body (Resume pid) verdict outcome P made is = cc
-at_called images w body (Fault pid) verdict outcome P made is = cc
-at_called images w body (Call pid ip asked) verdict outcome P made is =
+at_called declared w body (Resume pid) verdict outcome P made is = cc
+at_called declared w body (Fault pid) verdict outcome P made is = cc
+at_called declared w body (Call pid ip asked) verdict outcome P made is =
     let call : Record = recorded ip asked in
     let told : ℕ = verdict_of body.chain call in
     let same : told ≡ verdict = cc in
-    let outcome_is : (judged images w pid body call told (action_of told)).outcome ≡ outcome = cc in
-    subst (λ v. P pid (called_with images w pid body call v)) (sym same)
-    (made pid body call (subst (λ v. (judged images w pid body call v (action_of v)).outcome ≡ outcome) same outcome_is))
+    let outcome_is : (judged declared w pid body call told (action_of told)).outcome ≡ outcome = cc in
+    subst (λ v. P pid (called_with declared w pid body call v)) (sym same)
+    (made pid body call (subst (λ v. (judged declared w pid body call v (action_of v)).outcome ≡ outcome) same outcome_is))
 
-at_call : (images : GivenImages) (w : World) (event : Event) (verdict : ℕ) (outcome : Outcome) (P : ℕ → Stepped → Type 0)
-    → (step_of images w event).answer ≡ answer.Call verdict outcome
-    → ((pid : ℕ) (body : Body) (call : Record) → (judged images w pid body call verdict (action_of verdict)).outcome ≡ outcome → P pid (called_with images w pid body call verdict))
-    → P (pid_of event) (step_of images w event)
-at_call images w event verdict outcome P is made =
-    at_step images w event (λ s. s.answer ≡ answer.Call verdict outcome → P (pid_of event) s) (λ _ _ is. cc)
-    (λ p there alive. at_called images w p.body event verdict outcome P made) is
+at_call : (declared : Images) (w : World) (event : Event) (verdict : ℕ) (outcome : Outcome) (P : ℕ → Stepped → Type 0)
+    → (step_of declared w event).answer ≡ answer.Call verdict outcome
+    → ((pid : ℕ) (body : Body) (call : Record) → (judged declared w pid body call verdict (action_of verdict)).outcome ≡ outcome → P pid (called_with declared w pid body call verdict))
+    → P (pid_of event) (step_of declared w event)
+at_call declared w event verdict outcome P is made =
+    at_step declared w event (λ s. s.answer ≡ answer.Call verdict outcome → P (pid_of event) s) (λ _ _ is. cc)
+    (λ p there alive. at_called declared w p.body event verdict outcome P made) is
 
-refused_world : (images : GivenImages) (w : World) (pid : ℕ) (body : Body) (call : Record) (verdict : ℕ) (a : Action) → IsTrue (only_refuses a)
-    → (judged images w pid body call verdict a).world ≡ w
-refused_world images w pid body call errno action.Errno refuses = refl
-refused_world images w pid body call errno action.UserNotif refuses = refl
-refused_world images w pid body call errno action.Trace refuses = refl
-refused_world images w pid body call errno other refuses = absurd (false≢true refuses)
+refused_world : (declared : Images) (w : World) (pid : ℕ) (body : Body) (call : Record) (verdict : ℕ) (a : Action) → IsTrue (only_refuses a)
+    → (judged declared w pid body call verdict a).world ≡ w
+refused_world declared w pid body call errno action.Errno refuses = refl
+refused_world declared w pid body call errno action.UserNotif refuses = refl
+refused_world declared w pid body call errno action.Trace refuses = refl
+refused_world declared w pid body call errno other refuses = absurd (false≢true refuses)
 
 pub refused_changes_nothing : RefusedChangesNothing
-refused_changes_nothing images w event verdict outcome is refuses =
-    at_call images w event verdict outcome (λ _ s. s.world ≡ w) is
-    (λ pid body call _. refused_world images w pid body call verdict (action_of verdict) refuses)
+refused_changes_nothing declared w event verdict outcome is refuses =
+    at_call declared w event verdict outcome (λ _ s. s.world ≡ w) is
+    (λ pid body call _. refused_world declared w pid body call verdict (action_of verdict) refuses)
 
 pub trap_forces_sigsys : TrapForcesSigsys
-trap_forces_sigsys images w event verdict outcome is trap =
-    at_call images w event verdict outcome (λ pid s. s ≡ record { answer = answer.Call verdict Trapped; world = forced w pid }) is
-    (λ pid body call _. ap (λ a. call_answered verdict (judged images w pid body call verdict a)) trap)
+trap_forces_sigsys declared w event verdict outcome is trap =
+    at_call declared w event verdict outcome (λ pid s. s ≡ record { answer = answer.Call verdict Trapped; world = forced w pid }) is
+    (λ pid body call _. ap (λ a. call_answered verdict (judged declared w pid body call verdict a)) trap)
 
-ended_by_filter : (images : GivenImages) (w : World) (pid : ℕ) (body : Body) (call : Record) (verdict : ℕ) (a : Action) → IsTrue (ends_caller a)
-    → judged images w pid body call verdict a ≡ end_of_caller w pid SIGSYS
-ended_by_filter images w pid body call errno action.KillProcess kills = refl
-ended_by_filter images w pid body call errno action.KillThread kills = refl
-ended_by_filter images w pid body call errno action.Unknown kills = refl
-ended_by_filter images w pid body call errno other kills = absurd (false≢true kills)
+ended_by_filter : (declared : Images) (w : World) (pid : ℕ) (body : Body) (call : Record) (verdict : ℕ) (a : Action) → IsTrue (ends_caller a)
+    → judged declared w pid body call verdict a ≡ end_of_caller w pid SIGSYS
+ended_by_filter declared w pid body call errno action.KillProcess kills = refl
+ended_by_filter declared w pid body call errno action.KillThread kills = refl
+ended_by_filter declared w pid body call errno action.Unknown kills = refl
+ended_by_filter declared w pid body call errno other kills = absurd (false≢true kills)
 
 pub kill_ends_caller : KillEndsCaller
-kill_ends_caller images w event verdict outcome is kills =
-    at_call images w event verdict outcome (λ pid s. s ≡ record { answer = answer.Call verdict (Ended SIGSYS); world = ended_and_hung_up w pid SIGSYS }) is
-    (λ pid body call _. ap (call_answered verdict) (ended_by_filter images w pid body call verdict (action_of verdict) kills))
+kill_ends_caller declared w event verdict outcome is kills =
+    at_call declared w event verdict outcome (λ pid s. s ≡ record { answer = answer.Call verdict (Ended SIGSYS); world = ended_and_hung_up w pid SIGSYS }) is
+    (λ pid body call _. ap (call_answered verdict) (ended_by_filter declared w pid body call verdict (action_of verdict) kills))
 
 -- where the outcome is an error, the world is as it was
 abbrev FailsClean : World → Performed → Type 0
@@ -177,44 +177,44 @@ clean_polled w pid request poll.NotReady =
 
 clean_wait4 : (w : World) (pid : ℕ) (call : Record) → FailsClean w (wait4 w pid call)
 clean_wait4 w pid call =
-    cond_both (not (are_wait_options (low call 2))) (fails w Einval) _ (FailsClean w) (λ _ n is. refl)
-    (λ _. cond_both (low call 0 == 2147483648) (fails w Esrch) _ (FailsClean w) (λ _ n is. refl)
+    cond_both (not (are_wait_options (unsigned call 2))) (fails w Einval) _ (FailsClean w) (λ _ n is. refl)
+    (λ _. cond_both (unsigned call 0 == 2147483648) (fails w Esrch) _ (FailsClean w) (λ _ n is. refl)
     (λ _. clean_polled w pid (request_of w pid call) (ready_of w pid (request_of w pid call))))
 
 clean_subreapers : (there : Bool) (w : World) (p : Performed) → FailsClean w p → FailsClean w (where_subreapers there w p)
 clean_subreapers true w p clean = clean
 clean_subreapers false w p clean = λ n is. refl
 
-clean_row : (images : GivenImages) (w : World) (pid : ℕ) (body : Body) (which : Option Syscall) (call : Record) → FailsClean w (row images w pid body which call)
-clean_row images w pid body which call =
-    each_call images w pid body call (λ _. FailsClean w) (record {
+clean_row : (declared : Images) (w : World) (pid : ℕ) (body : Body) (which : Option Syscall) (call : Record) → FailsClean w (row declared w pid body which call)
+clean_row declared w pid body which call =
+    each_call declared w pid body call (λ _. FailsClean w) (record {
       answers = clean_asked w;
       tells_signals = λ _ n is. refl;
       tells_ids = λ n is. refl;
       resignals = clean_resignals w pid;
       authorises = clean_authorises w pid;
       executes = clean_execve w pid;
-      marks = clean_subreapers images.subreapers w (subreaper_set w pid call) (λ n is. cc);
-      asks_mark = clean_subreapers images.subreapers w (subreaper_asked w body.subreaper) (λ n is. refl);
+      marks = clean_subreapers declared.subreapers w (subreaper_set w pid call) (λ n is. cc);
+      asks_mark = clean_subreapers declared.subreapers w (subreaper_asked w body.subreaper) (λ n is. refl);
       pauses = λ n is. cc;
       waits_for = clean_wait4 w pid call;
       forks_one = clean_forks w pid (fork_answer w);
       ends = λ status n is. cc;
-      kills = clean_changes w 0 (after_kill w pid body.creds (signed call 0) (low call 1));
+      kills = clean_changes w 0 (after_kill w pid body.creds (signed call 0) (unsigned call 1));
       regroups = clean_changes w 0 (after_setpgid w pid (signed call 0) (signed call 1));
       leads = clean_changes w pid (after_setsid w pid);
     }) which
 
-clean_judged : (images : GivenImages) (w : World) (pid : ℕ) (body : Body) (call : Record) (verdict : ℕ) (a : Action)
-    → FailsClean w (judged images w pid body call verdict a)
-clean_judged images w pid body call verdict action.Allow = clean_row images w pid body (syscall_of call.nr) call
-clean_judged images w pid body call verdict action.Log = clean_row images w pid body (syscall_of call.nr) call
-clean_judged images w pid body call verdict other = λ n is. cc
+clean_judged : (declared : Images) (w : World) (pid : ℕ) (body : Body) (call : Record) (verdict : ℕ) (a : Action)
+    → FailsClean w (judged declared w pid body call verdict a)
+clean_judged declared w pid body call verdict action.Allow = clean_row declared w pid body (syscall_of call.nr) call
+clean_judged declared w pid body call verdict action.Log = clean_row declared w pid body (syscall_of call.nr) call
+clean_judged declared w pid body call verdict other = λ n is. cc
 
 pub failed_changes_nothing : FailedChangesNothing
-failed_changes_nothing images w event verdict n is =
-    at_call images w event verdict (Returned (negsuc n)) (λ _ s. s.world ≡ w) is
-    (λ pid body call failed. clean_judged images w pid body call verdict (action_of verdict) n failed)
+failed_changes_nothing declared w event verdict n is =
+    at_call declared w event verdict (Returned (negsuc n)) (λ _ s. s.world ≡ w) is
+    (λ pid body call failed. clean_judged declared w pid body call verdict (action_of verdict) n failed)
 
 -- ---- the status of a halted system
 ended_has_status : (o : Option Proc) → is_some (option_and_then (λ p. end_status p.body.life) o) ≡ is_zombie o

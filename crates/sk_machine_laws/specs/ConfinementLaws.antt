@@ -25,21 +25,21 @@ use Rattle.sk_machine.specs.declared.answer.Outcome.{Outcome}
 use Rattle.sk_machine.specs.declared.answer.Outcome.TheVariants as outcome
 use Rattle.sk_machine.specs.declared.answer.Effect.{Effect}
 use Rattle.sk_machine.specs.declared.answer.Effect.TheVariants as effect
-use Rattle.sk_machine.specs.Given.{GivenImages}
+use Rattle.sk_machine.specs.Images.{Images}
 use Rattle.sk_machine.specs.Events.{pid_of}
 use Rattle.sk_machine.specs.Machine.{step_of, world_after}
-use Rattle.sk_machine.specs.Lines.{line_before, authority_at}
-use Rattle.sk_machine_laws.specs.LineLaws.{happening, line_after}
+use Rattle.sk_machine.specs.Lineages.{lineage_before, authority_at}
+use Rattle.sk_machine_laws.specs.LineageLaws.{happening, lineage_after}
 
 -- the filters answer every kill(2) of x86-64 with an action that has precedence over SECCOMP_RET_LOG
 abbrev pub RefusesKill : List (List Insn) → Type 0
-RefusesKill programs = (call : Record) → IsNative call → call.nr ≡ number_of syscall.Kill → precedence_of (verdict_of programs call) <ℤ precedence_of 0x7ffc0000
+RefusesKill filters = (call : Record) → IsNative call → call.nr ≡ number_of syscall.Kill → precedence_of (verdict_of filters call) <ℤ precedence_of 0x7ffc0000
 
 -- processes that refuse kill(2), with all their children; process 1 is none of them
 pub record IsConfined (w : World) (inside : ℕ → Bool) : Type 0 where
   pub init : inside INIT ≡ false
   pub children : (q : ℕ) → IsTrue (is_some (at w q)) → IsTrue (inside (parent_of (at w q))) → IsTrue (inside q)
-  pub refuses : (q : ℕ) → IsTrue (inside q) → IfSome (authority_at w q) (λ a. RefusesKill a.programs)
+  pub refuses : (q : ℕ) → IsTrue (inside q) → IfSome (authority_at w q) (λ a. RefusesKill a.filters)
 
 -- the outcome says that the process whose call it is has ended
 abbrev pub is_end : Outcome → Bool
@@ -117,23 +117,23 @@ pub record LeavesAlone (w after : World) (pid : ℕ) (a : Answer) (q : ℕ) : Ty
 -- then it sends others such signals and does nothing else
 abbrev pub EventIsConfined : Type 0
 EventIsConfined =
-    (images : GivenImages) (w : World) (event : Event) (inside : ℕ → Bool) (q : ℕ) → IsWorld w → IsConfined w inside
+    (declared : Images) (w : World) (event : Event) (inside : ℕ → Bool) (q : ℕ) → IsWorld w → IsConfined w inside
     → IsTrue (inside (pid_of event)) → inside q ≡ false → IsTrue (is_some (at w q))
-    → LeavesAlone w (step_of images w event).world (pid_of event) (step_of images w event).answer q
+    → LeavesAlone w (step_of declared w event).world (pid_of event) (step_of declared w event).answer q
 
 -- whoever's event it is: those who come from the confined ones are confined
 abbrev pub ConfinementStays : Type 0
 ConfinementStays =
-    (images : GivenImages) (w : World) (event : Event) (inside : ℕ → Bool) → IsWorld w → IsConfined w inside
-    → IsConfined (step_of images w event).world (λ q. inside (line_before q (happening images w event)))
+    (declared : Images) (w : World) (event : Event) (inside : ℕ → Bool) → IsWorld w → IsConfined w inside
+    → IsConfined (step_of declared w event).world (λ q. inside (lineage_before q (happening declared w event)))
 
 -- over any list of events: where a process other than 1 has no child and refuses kill(2), the events of
--- those whose line comes from it leave all others alone
-abbrev pub LineIsConfined : Type 0
-LineIsConfined =
-    (images : GivenImages) (w : World) (events : List Event) (event : Event) (root q : ℕ) → IsWorld w → root ≢ INIT
-    → ((k : ℕ) → IsTrue (is_some (at w k)) → parent_of (at w k) ≢ root) → IfSome (authority_at w root) (λ a. RefusesKill a.programs)
-    → (line_after images w events (pid_of event)).root ≡ root → (line_after images w events q).root ≢ root
-    → IsTrue (is_some (at (world_after images w events) q))
-    → LeavesAlone (world_after images w events) (step_of images (world_after images w events) event).world (pid_of event)
-    (step_of images (world_after images w events) event).answer q
+-- those whose lineage comes from it leave all others alone
+abbrev pub LineageIsConfined : Type 0
+LineageIsConfined =
+    (declared : Images) (w : World) (events : List Event) (event : Event) (root q : ℕ) → IsWorld w → root ≢ INIT
+    → ((k : ℕ) → IsTrue (is_some (at w k)) → parent_of (at w k) ≢ root) → IfSome (authority_at w root) (λ a. RefusesKill a.filters)
+    → (lineage_after declared w events (pid_of event)).root ≡ root → (lineage_after declared w events q).root ≢ root
+    → IsTrue (is_some (at (world_after declared w events) q))
+    → LeavesAlone (world_after declared w events) (step_of declared (world_after declared w events) event).world (pid_of event)
+    (step_of declared (world_after declared w events) event).answer q

@@ -3,7 +3,7 @@ pub mod ReaperLaws
 pub mod WorkedWorlds
 pub mod MachineLaws
 pub mod TurnLaws
-pub mod LineLaws
+pub mod LineageLaws
 pub mod FilterLaws
 pub mod TellingLaws
 pub mod ConfinementLaws

@@ -20,7 +20,7 @@ use Rattle.sk_machine.specs.declared.answer.Outcome.TheVariants.{Returned, Trapp
 use Rattle.sk_machine.specs.declared.answer.Reason.{Reason}
 use Rattle.sk_world.specs.declared.process.Waiting.{Waiting}
 use Rattle.sk_machine.specs.Events.{pid_of}
-use Rattle.sk_machine.specs.Given.{GivenImages}
+use Rattle.sk_machine.specs.Images.{Images}
 use Rattle.sk_machine.specs.Performing.{performed}
 use Rattle.sk_machine.specs.WaitCalls.{resumed}
 use Rattle.sk_machine.specs.Delivering.{delivered}
@@ -29,13 +29,13 @@ use Rattle.sk_machine.specs.Machine.{reason_of, step_of, halted_of, world_after}
 -- an event that is not possible answers with the first reason, and changes nothing
 abbrev pub ImpossibleChangesNothing : Type 0
 ImpossibleChangesNothing =
-    (images : GivenImages) (w : World) (event : Event) (reason : Reason) → reason_of w event ≡ Some reason
-    → step_of images w event ≡ record { answer = answer.NotNow reason; world = w }
+    (declared : Images) (w : World) (event : Event) (reason : Reason) → reason_of w event ≡ Some reason
+    → step_of declared w event ≡ record { answer = answer.NotNow reason; world = w }
 
 -- an event that is possible happens
 abbrev pub PossibleHappens : Type 0
 PossibleHappens =
-    (images : GivenImages) (w : World) (event : Event) (reason : Reason) → reason_of w event ≡ None → (step_of images w event).answer ≢ answer.NotNow reason
+    (declared : Images) (w : World) (event : Event) (reason : Reason) → reason_of w event ≡ None → (step_of declared w event).answer ≢ answer.NotNow reason
 
 -- an action of a filter that refuses the call and does nothing else: seccomp(2)
 abbrev pub only_refuses : Action → Bool
@@ -52,14 +52,14 @@ only_refuses action.Unknown = false
 -- a call that is refused so changes nothing
 abbrev pub RefusedChangesNothing : Type 0
 RefusedChangesNothing =
-    (images : GivenImages) (w : World) (event : Event) (verdict : ℕ) (outcome : Outcome) → (step_of images w event).answer ≡ answer.Call verdict outcome
-    → IsTrue (only_refuses (action_of verdict)) → (step_of images w event).world ≡ w
+    (declared : Images) (w : World) (event : Event) (verdict : ℕ) (outcome : Outcome) → (step_of declared w event).answer ≡ answer.Call verdict outcome
+    → IsTrue (only_refuses (action_of verdict)) → (step_of declared w event).world ≡ w
 
 -- SECCOMP_RET_TRAP forces SIGSYS on the caller, and does nothing else: seccomp(2)
 abbrev pub TrapForcesSigsys : Type 0
 TrapForcesSigsys =
-    (images : GivenImages) (w : World) (event : Event) (verdict : ℕ) (outcome : Outcome) → (step_of images w event).answer ≡ answer.Call verdict outcome
-    → action_of verdict ≡ action.Trap → step_of images w event ≡ record { answer = answer.Call verdict Trapped; world = forced w (pid_of event) }
+    (declared : Images) (w : World) (event : Event) (verdict : ℕ) (outcome : Outcome) → (step_of declared w event).answer ≡ answer.Call verdict outcome
+    → action_of verdict ≡ action.Trap → step_of declared w event ≡ record { answer = answer.Call verdict Trapped; world = forced w (pid_of event) }
 
 -- an action of a filter that ends the caller: the two kills, and every action that has no name: seccomp(2)
 abbrev pub ends_caller : Action → Bool
@@ -76,21 +76,21 @@ ends_caller action.Allow = false
 -- it ends as by SIGSYS, and nothing else is done
 abbrev pub KillEndsCaller : Type 0
 KillEndsCaller =
-    (images : GivenImages) (w : World) (event : Event) (verdict : ℕ) (outcome : Outcome) → (step_of images w event).answer ≡ answer.Call verdict outcome
+    (declared : Images) (w : World) (event : Event) (verdict : ℕ) (outcome : Outcome) → (step_of declared w event).answer ≡ answer.Call verdict outcome
     → IsTrue (ends_caller (action_of verdict))
-    → step_of images w event ≡ record { answer = answer.Call verdict (Ended SIGSYS); world = ended_and_hung_up w (pid_of event) SIGSYS }
+    → step_of declared w event ≡ record { answer = answer.Call verdict (Ended SIGSYS); world = ended_and_hung_up w (pid_of event) SIGSYS }
 
 -- a call that answers an error, a filter's or its own, changes nothing
 abbrev pub FailedChangesNothing : Type 0
 FailedChangesNothing =
-    (images : GivenImages) (w : World) (event : Event) (verdict n : ℕ) → (step_of images w event).answer ≡ answer.Call verdict (Returned (negsuc n))
-    → (step_of images w event).world ≡ w
+    (declared : Images) (w : World) (event : Event) (verdict n : ℕ) → (step_of declared w event).answer ≡ answer.Call verdict (Returned (negsuc n))
+    → (step_of declared w event).world ≡ w
 
 -- a performed call of a process that is alive keeps the rules of the world
 abbrev pub CallKeepsRules : Type 0
 CallKeepsRules =
-    (images : GivenImages) (w : World) (pid : ℕ) (body : Body) (call : Record) → IsWorld w → IsTrue (is_alive (at w pid))
-    → IsWorld (performed images w pid body call).world
+    (declared : Images) (w : World) (pid : ℕ) (body : Body) (call : Record) → IsWorld w → IsTrue (is_alive (at w pid))
+    → IsWorld (performed declared w pid body call).world
 
 -- so does the delivery of a signal to it
 abbrev pub DeliveryKeepsRules : Type 0
@@ -103,15 +103,15 @@ ResumptionKeepsRules = (w : World) (pid : ℕ) (waiting : Waiting) → IsWorld w
 
 -- so does every event
 abbrev pub EventKeepsRules : Type 0
-EventKeepsRules = (images : GivenImages) (w : World) (event : Event) → IsWorld w → IsWorld (step_of images w event).world
+EventKeepsRules = (declared : Images) (w : World) (event : Event) → IsWorld w → IsWorld (step_of declared w event).world
 
 -- and every list of events
 abbrev pub RunKeepsRules : Type 0
-RunKeepsRules = (images : GivenImages) (w : World) (events : List Event) → IsWorld w → IsWorld (world_after images w events)
+RunKeepsRules = (declared : Images) (w : World) (events : List Event) → IsWorld w → IsWorld (world_after declared w events)
 
 -- so the rules hold of every world that the system can come to
 abbrev pub ReachedHasRules : Type 0
-ReachedHasRules = (images : GivenImages) (events : List Event) → IsWorld (world_after images opening events)
+ReachedHasRules = (declared : Images) (events : List Event) → IsWorld (world_after declared opening events)
 
 -- the status of a halted system is there exactly where it has halted
 abbrev pub HaltHasStatus : Type 0
@@ -124,16 +124,16 @@ HasNoSubreapers w = (pid : ℕ) → is_subreaper (at w pid) ≡ false
 -- where there are no subreapers no event makes one: prctl(2), PR_SET_CHILD_SUBREAPER
 abbrev pub EventMarksNobody : Type 0
 EventMarksNobody =
-    (images : GivenImages) (w : World) (event : Event) → images.subreapers ≡ false → HasNoSubreapers w → HasNoSubreapers (step_of images w event).world
+    (declared : Images) (w : World) (event : Event) → declared.subreapers ≡ false → HasNoSubreapers w → HasNoSubreapers (step_of declared w event).world
 
 -- nor does any list of events
 abbrev pub RunMarksNobody : Type 0
 RunMarksNobody =
-    (images : GivenImages) (w : World) (events : List Event) → images.subreapers ≡ false → HasNoSubreapers w → HasNoSubreapers (world_after images w events)
+    (declared : Images) (w : World) (events : List Event) → declared.subreapers ≡ false → HasNoSubreapers w → HasNoSubreapers (world_after declared w events)
 
 -- so there is none in any world that the system then comes to
 abbrev pub NobodyIsMarked : Type 0
-NobodyIsMarked = (images : GivenImages) (events : List Event) → images.subreapers ≡ false → HasNoSubreapers (world_after images opening events)
+NobodyIsMarked = (declared : Images) (events : List Event) → declared.subreapers ≡ false → HasNoSubreapers (world_after declared opening events)
 
 -- where nobody is a subreaper the children of each process go to process 1: wait(2), "Notes"
 abbrev pub InitTakesOrphans : Type 0
@@ -141,4 +141,4 @@ InitTakesOrphans = (w : World) (pid : ℕ) → HasNoSubreapers w → new_parent 
 
 -- so without subreapers they go to process 1 in every world that the system comes to, as if there were no such mark
 abbrev pub OrphansGoToInit : Type 0
-OrphansGoToInit = (images : GivenImages) (events : List Event) (pid : ℕ) → images.subreapers ≡ false → new_parent (world_after images opening events) pid ≡ INIT
+OrphansGoToInit = (declared : Images) (events : List Event) (pid : ℕ) → declared.subreapers ≡ false → new_parent (world_after declared opening events) pid ≡ INIT

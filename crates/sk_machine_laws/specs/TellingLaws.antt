@@ -9,10 +9,10 @@ use Rattle.sk_machine.specs.declared.answer.Answer.{Answer}
 use Rattle.sk_machine.specs.declared.answer.Answer.TheVariants as answer
 use Rattle.sk_machine.specs.declared.answer.Outcome.{Outcome}
 use Rattle.sk_machine.specs.declared.answer.Outcome.TheVariants.{Returned, Told, Ids, Signals, Waits, Trapped, Ended, Executed}
-use Rattle.sk_machine.specs.Given.{GivenImages}
+use Rattle.sk_machine.specs.Images.{Images}
 use Rattle.sk_machine.specs.Events.{pid_of}
 use Rattle.sk_machine.specs.Machine.{step_of, world_after}
-use Rattle.sk_machine.specs.Lines.{is_fork_of, history_after}
+use Rattle.sk_machine.specs.Lineages.{is_fork_of, history_after}
 
 -- the child and the status that are told, if any are
 abbrev pub told_in : Outcome → Option (ℕ × ℕ)
@@ -45,13 +45,13 @@ pub record HasEndedUnder (caller status : ℕ) (p : Proc) : Type 0 where
 -- an end is told to the parent of a zombie, with the zombie's status, and then the zombie is gone
 abbrev pub EndIsToldToParent : Type 0
 EndIsToldToParent =
-    (images : GivenImages) (w : World) (event : Event) (child status : ℕ) → told_by (step_of images w event).answer ≡ Some (child, status) → IsEnd status
-    → (p : Proc) × (at w child ≡ Some p) × HasEndedUnder (pid_of event) status p × (at (step_of images w event).world child ≡ None)
+    (declared : Images) (w : World) (event : Event) (child status : ℕ) → told_by (step_of declared w event).answer ≡ Some (child, status) → IsEnd status
+    → (p : Proc) × (at w child ≡ Some p) × HasEndedUnder (pid_of event) status p × (at (step_of declared w event).world child ≡ None)
 
 -- an end is told once: before anything is told of the same pid again stands a fork that has given it
 abbrev pub EndIsToldOnce : Type 0
 EndIsToldOnce =
-    (images : GivenImages) (w : World) (first : Event) (between : List Event) (later : Event) (child status again : ℕ)
-    → told_by (step_of images w first).answer ≡ Some (child, status) → IsEnd status
-    → told_by (step_of images (world_after images (step_of images w first).world between) later).answer ≡ Some (child, again)
-    → IsTrue (list_any (is_fork_of child) (history_after images (step_of images w first).world between []))
+    (declared : Images) (w : World) (first : Event) (between : List Event) (later : Event) (child status again : ℕ)
+    → told_by (step_of declared w first).answer ≡ Some (child, status) → IsEnd status
+    → told_by (step_of declared (world_after declared (step_of declared w first).world between) later).answer ≡ Some (child, again)
+    → IsTrue (list_any (is_fork_of child) (history_after declared (step_of declared w first).world between []))

@@ -6,7 +6,7 @@ use Rattle.sk_machine.specs.declared.event.Event.{Event}
 use Rattle.sk_machine.specs.declared.answer.Answer.TheVariants.{Resumed}
 use Rattle.sk_machine.specs.declared.answer.Outcome.TheVariants.{Waits}
 use Rattle.sk_machine.specs.Events.{pid_of}
-use Rattle.sk_machine.specs.Given.{GivenImages}
+use Rattle.sk_machine.specs.Images.{Images}
 use Rattle.sk_machine.specs.Machine.{reason_of, step_of, world_after}
 use Rattle.sk_machine.specs.Turns.{is_runnable, need_of, need_met_by, next_of}
 
@@ -36,9 +36,9 @@ RunnableHasEvent =
 -- the world stays as it is
 abbrev pub IdleDoesNothing : Type 0
 IdleDoesNothing =
-    (images : GivenImages) (w : World) (event : Event) → is_runnable w (pid_of event) ≡ false
-    → IsTrue (is_some (reason_of w event)) ⊎ (step_of images w event ≡ record { answer = Resumed Waits; world = w })
+    (declared : Images) (w : World) (event : Event) → is_runnable w (pid_of event) ≡ false
+    → IsTrue (is_some (reason_of w event)) ⊎ (step_of declared w event ≡ record { answer = Resumed Waits; world = w })
 
 -- so where it is nobody's turn no list of events changes anything
 abbrev pub EndIsFinal : Type 0
-EndIsFinal = (images : GivenImages) (w : World) (last : ℕ) (events : List Event) → next_of w last ≡ None → world_after images w events ≡ w
+EndIsFinal = (declared : Images) (w : World) (last : ℕ) (events : List Event) → next_of w last ≡ None → world_after declared w events ≡ w

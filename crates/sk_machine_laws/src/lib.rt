@@ -9,9 +9,9 @@ ghost use Rattle.sk_machine_laws.specs.TellingLaws.{EndIsToldToParent, EndIsTold
 ghost use Rattle.sk_machine_laws.specs.TurnLaws.{NextIsTurn, NobodysTurn, RunnableHasEvent, IdleDoesNothing, EndIsFinal};
 ghost use Rattle.sk_machine_laws.specs.RunLaws.{RunsAreLawful};
 ghost use Rattle.sk_machine_laws.specs.AnyMachine.{HasMachineLaws};
-ghost use Rattle.sk_machine_laws.specs.ConfinementLaws.{EventIsConfined, ConfinementStays, LineIsConfined};
+ghost use Rattle.sk_machine_laws.specs.ConfinementLaws.{EventIsConfined, ConfinementStays, LineageIsConfined};
 ghost use Rattle.sk_machine_laws.specs.FilterLaws.{EventKeepsAccepted, RunKeepsAccepted, AcceptedReturn, AcceptedAreBounded, FiltersInForceAreAccepted, StepsInForceAreBounded};
-ghost use Rattle.sk_machine_laws.specs.LineLaws.{EventChangesAuthority, AuthorityIsOfLine, LineComesFromInit, EqualLinesMayDoTheSame, LineKeepsFilters, VerdictIsOfLine, EqualLinesAreJudgedAlike, PerformedMeetsNoRefusal};
+ghost use Rattle.sk_machine_laws.specs.LineageLaws.{EventChangesAuthority, AuthorityIsOfLineage, LineageComesFromInit, EqualLineagesMayDoTheSame, LineageKeepsFilters, VerdictIsOfLineage, EqualLineagesAreJudgedAlike, PerformedMeetsNoRefusal};
 ghost use Rattle.sk_machine_laws.specs.HangingUpLaws.{EndKeepsRights, HangingUpKeepsAllElse, HangingUpEndsNobody, HangingUpKeepsZombies, EndWithoutStopped, OpeningGroupIsOrphaned};
 
 /// An event that is not possible, and a call that is refused or fails, changes nothing; a call that a filter
@@ -51,19 +51,20 @@ pub fn orphans_go_to_init()
     ensures reached { OrphansGoToInit }
 {}
 
-/// What a process may do is what its line says, whatever other processes did between.
-pub fn authority_is_of_line()
+/// What a process may do is what its lineage says, whatever other processes did between.
+pub fn authority_is_of_lineage()
     ensures event { EventChangesAuthority }
-    ensures run { AuthorityIsOfLine }
-    ensures root { LineComesFromInit }
-    ensures equal { EqualLinesMayDoTheSame }
+    ensures run { AuthorityIsOfLineage }
+    ensures root { LineageComesFromInit }
+    ensures equal { EqualLineagesMayDoTheSame }
 {}
 
-/// A line keeps every filter that it has attached, and its calls are judged by them and no others, alike for equal lines.
+/// A lineage keeps every filter that it has attached, and its calls are judged by them and no others, alike for equal
+/// lineages.
 pub fn filters_stay_for_good()
-    ensures kept { LineKeepsFilters }
-    ensures verdict { VerdictIsOfLine }
-    ensures equal { EqualLinesAreJudgedAlike }
+    ensures kept { LineageKeepsFilters }
+    ensures verdict { VerdictIsOfLineage }
+    ensures equal { EqualLineagesAreJudgedAlike }
     ensures performed { PerformedMeetsNoRefusal }
 {}
 
@@ -85,10 +86,10 @@ pub fn ends_are_told_once()
 {}
 
 /// Where filters refuse kill(2), a process and all that come from it leave every other process alone.
-pub fn confined_lines_leave_others_alone()
+pub fn confined_lineages_leave_others_alone()
     ensures event { EventIsConfined }
     ensures kept { ConfinementStays }
-    ensures line { LineIsConfined }
+    ensures lineage { LineageIsConfined }
 {}
 
 /// The turn goes round among those that can run, the events that meet a need are possible and no others, and

@@ -5,7 +5,7 @@ mod SignalRows
 mod WaitRows
 mod GroupRows
 mod TurnRows
-mod LineRows
+mod LineageRows
 mod EdgeRows
 mod OrderRows
 mod StateRows

@@ -1,7 +1,7 @@
--- Each worked run of groups, permissions, filters, lines and turns is what the definitions compute.
+-- Each worked run of groups, permissions, filters, lineages and turns is what the definitions compute.
 use Rattle.std.proofs.Common.{refl}
 use Rattle.sk_machine_runs.proofs.Computing.{worked_runs}
-use Rattle.sk_machine_runs.specs.WorkedOrders.{RegroupsZombies, FoundsSessionAlone, StaysInSession, EveryoneMayNotContinue, ExecKeepsIgnored, OrdersRefusalsOfAttach, LogsAndEndsByPrecedence, LineAfterRefusedFork, LineOfPidGivenTwice, LineThroughForks, AsksWhenChildEnds, AsksWhenChildIsGone, WorkedOrders}
+use Rattle.sk_machine_runs.specs.WorkedOrders.{RegroupsZombies, FoundsSessionAlone, StaysInSession, EveryoneMayNotContinue, ExecKeepsIgnored, OrdersRefusalsOfAttach, LogsAndEndsByPrecedence, LineageAfterRefusedFork, LineageOfPidGivenTwice, LineageThroughForks, AsksWhenChildEnds, AsksWhenChildIsGone, WorkedOrders}
 
 regroups_zombies : RegroupsZombies
 unfolding worked_runs
@@ -31,17 +31,17 @@ logs_and_ends_by_precedence : LogsAndEndsByPrecedence
 unfolding worked_runs
 logs_and_ends_by_precedence = refl
 
-line_after_refused_fork : LineAfterRefusedFork
+lineage_after_refused_fork : LineageAfterRefusedFork
 unfolding worked_runs
-line_after_refused_fork = refl
+lineage_after_refused_fork = refl
 
-line_of_pid_given_twice : LineOfPidGivenTwice
+lineage_of_pid_given_twice : LineageOfPidGivenTwice
 unfolding worked_runs
-line_of_pid_given_twice = refl
+lineage_of_pid_given_twice = refl
 
-line_through_forks : LineThroughForks
+lineage_through_forks : LineageThroughForks
 unfolding worked_runs
-line_through_forks = refl
+lineage_through_forks = refl
 
 asks_when_child_ends : AsksWhenChildEnds
 unfolding worked_runs
@@ -60,9 +60,9 @@ worked_orders = record {
   exec_keeps_ignored = exec_keeps_ignored;
   orders_refusals_of_attach = orders_refusals_of_attach;
   logs_and_ends_by_precedence = logs_and_ends_by_precedence;
-  line_after_refused_fork = line_after_refused_fork;
-  line_of_pid_given_twice = line_of_pid_given_twice;
-  line_through_forks = line_through_forks;
+  lineage_after_refused_fork = lineage_after_refused_fork;
+  lineage_of_pid_given_twice = lineage_of_pid_given_twice;
+  lineage_through_forks = lineage_through_forks;
   asks_when_child_ends = asks_when_child_ends;
   asks_when_child_is_gone = asks_when_child_is_gone;
 }

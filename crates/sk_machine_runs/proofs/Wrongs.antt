@@ -20,41 +20,41 @@ use Rattle.sk_world.specs.Sending.{signalled}
 use Rattle.sk_world.proofs.Maps.{same_number}
 use Rattle.sk_machine.specs.declared.event.Event.{Event}
 use Rattle.sk_machine.specs.declared.event.Event.TheVariants.{Deliver}
-use Rattle.sk_machine.specs.Given.{GivenImages}
+use Rattle.sk_machine.specs.Images.{Images}
 use Rattle.sk_machine.specs.Authority.{Authority}
 use Rattle.sk_machine.specs.Machine.{world_after}
-use Rattle.sk_machine_laws.specs.AnyMachine.{GivesAuthorityByLine, TellsEndsOnce, KeepsToConfined}
+use Rattle.sk_machine_laws.specs.AnyMachine.{GivesAuthorityByLineage, TellsEndsOnce, KeepsToConfined}
 use Rattle.sk_machine_laws.specs.ConfinementLaws.{RefusesKill, IsConfined, after_signals, is_of_stop, is_of_end}
-use Rattle.sk_machine_laws.proofs.LineSteps.{authority_in}
+use Rattle.sk_machine_laws.proofs.LineageSteps.{authority_in}
 use Rattle.sk_machine_laws.proofs.KeptEvents.{kept_reached}
 use Rattle.sk_machine_runs.specs.Scripts.{nothing_given, given, plain, always, fork, execve, exit, wait4, kill, setuid, seccomp}
 use Rattle.sk_machine_runs.specs.WrongMachines.{forks_bare, forks_into_old, executes_bare, orphans_with_first_ids, leaves_zombies, performs_refused, stops_with_hangup, ends_with_hangup, WrongsAreRefused}
 use Rattle.sk_machine_runs.proofs.Computing.{worked_runs}
-use Rattle.sk_machine.specs.Lines.{authority_at}
+use Rattle.sk_machine.specs.Lineages.{authority_at}
 
 -- a filter that allows everything, and a program
-allowing : GivenImages
+allowing : Images
 allowing = given (always 0x7fff0000 ∷ []) (plain ∷ [])
 
-bare_forks : GivesAuthorityByLine forks_bare → ⊥
+bare_forks : GivesAuthorityByLineage forks_bare → ⊥
 unfolding allowing worked_runs
 bare_forks law =
-    let filters : 0 ≡ 1 = ap (λ (o : Option Authority). option_map_or (λ a. length a.programs) o 0) (law allowing opening (seccomp 1 1 0 0 ∷ fork 1 ∷ []) 2 refl) in
+    let filters : 0 ≡ 1 = ap (λ (o : Option Authority). option_map_or (λ a. length a.filters) o 0) (law allowing opening (seccomp 1 1 0 0 ∷ fork 1 ∷ []) 2 refl) in
     absurd (omega (arith, filters))
 
-forks_old : GivesAuthorityByLine forks_into_old → ⊥
+forks_old : GivesAuthorityByLineage forks_into_old → ⊥
 unfolding allowing worked_runs
 forks_old law =
-    let filters : 1 ≡ 0 = ap (λ (o : Option Authority). option_map_or (λ a. length a.programs) o 0) (law allowing opening (fork 1 ∷ seccomp 1 1 0 0 ∷ fork 2 ∷ []) 3 refl) in
+    let filters : 1 ≡ 0 = ap (λ (o : Option Authority). option_map_or (λ a. length a.filters) o 0) (law allowing opening (fork 1 ∷ seccomp 1 1 0 0 ∷ fork 2 ∷ []) 3 refl) in
     absurd (omega (arith, filters))
 
-bare_executes : GivesAuthorityByLine executes_bare → ⊥
+bare_executes : GivesAuthorityByLineage executes_bare → ⊥
 unfolding allowing worked_runs
 bare_executes law =
-    let filters : 0 ≡ 1 = ap (λ (o : Option Authority). option_map_or (λ a. length a.programs) o 0) (law allowing opening (seccomp 1 1 0 0 ∷ execve 1 0 ∷ []) 1 refl) in
+    let filters : 0 ≡ 1 = ap (λ (o : Option Authority). option_map_or (λ a. length a.filters) o 0) (law allowing opening (seccomp 1 1 0 0 ∷ execve 1 0 ∷ []) 1 refl) in
     absurd (omega (arith, filters))
 
-orphans_first : GivesAuthorityByLine orphans_with_first_ids → ⊥
+orphans_first : GivesAuthorityByLineage orphans_with_first_ids → ⊥
 unfolding worked_runs
 orphans_first law =
     let id : 0 ≡ 5 = ap (λ (o : Option Authority). option_map_or (λ a. a.creds.real) o 0) (law nothing_given opening (fork 1 ∷ fork 2 ∷ setuid 3 5 ∷ exit 2 0 ∷ []) 3 refl) in
@@ -100,14 +100,14 @@ refuses_kill call is_native is =
     subst (λ arch. IsRefused (record call { arch = arch })) (sym is_native)
     (subst (λ nr. IsRefused (record call { nr = nr; arch = architecture })) (sym is) (omega (arith, ints)))
 
-refusing : GivenImages
+refusing : Images
 refusing = given (image_of native_kill ∷ []) []
 
 -- what confinement asks of one process
 Fits : World → (ℕ → Bool) → ℕ → Type 0
-Fits w inside q = (IsTrue (inside (parent_of (at w q))) → IsTrue (inside q)) × (IsTrue (inside q) → IfSome (authority_at w q) (λ a. RefusesKill a.programs))
+Fits w inside q = (IsTrue (inside (parent_of (at w q))) → IsTrue (inside q)) × (IsTrue (inside q) → IfSome (authority_at w q) (λ a. RefusesKill a.filters))
 
-if_there : (o : Option Proc) → (IsTrue (is_some o) → IfSome (authority_in o) (λ a. RefusesKill a.programs)) → IfSome (authority_in o) (λ a. RefusesKill a.programs)
+if_there : (o : Option Proc) → (IsTrue (is_some o) → IfSome (authority_in o) (λ a. RefusesKill a.filters)) → IfSome (authority_in o) (λ a. RefusesKill a.filters)
 if_there None refuses = tt
 if_there (Some p) refuses = refuses refl
 

@@ -4,7 +4,7 @@ pub mod WorkedSignals
 pub mod WorkedWaits
 pub mod WorkedGroups
 pub mod WorkedTurns
-pub mod WorkedLines
+pub mod WorkedLineages
 pub mod WorkedEdges
 pub mod WorkedOrders
 pub mod WorkedStates

@@ -18,21 +18,21 @@ use Rattle.sk_machine.specs.declared.answer.Effect.{Effect}
 use Rattle.sk_machine.specs.declared.answer.Effect.TheVariants as effect
 use Rattle.sk_machine.specs.declared.answer.Reason.{Reason}
 use Rattle.sk_machine.specs.declared.images.Mark.{Mark}
-use Rattle.sk_machine.specs.Given.{GivenImages}
-use Rattle.sk_machine.specs.Lines.{Happening}
+use Rattle.sk_machine.specs.Images.{Images}
+use Rattle.sk_machine.specs.Lineages.{Happening}
 use Rattle.sk_machine.specs.Machine.{answers_of, world_after}
 
 -- ---- what is declared
 -- nothing
-abbrev pub nothing_given : GivenImages
+abbrev pub nothing_given : Images
 nothing_given = record { filters = []; programs = []; subreapers = false }
 
 -- these filters, and these programs
-abbrev pub given : List (List ℕ) → List Mark → GivenImages
+abbrev pub given : List (List ℕ) → List Mark → Images
 given filters programs = record { filters = filters; programs = programs; subreapers = false }
 
 -- the same, and subreapers
-abbrev pub given_with_subreapers : List (List ℕ) → List Mark → GivenImages
+abbrev pub given_with_subreapers : List (List ℕ) → List Mark → Images
 given_with_subreapers filters programs = record { filters = filters; programs = programs; subreapers = true }
 
 -- a program of the superuser, and a set-user-ID program of this owner
@@ -247,9 +247,9 @@ abbrev pub events_of : List Happening → List Event
 events_of lines = map (λ line. line.0) lines
 
 -- in this world the events of the lines, one after the other, have the answers beside them
-abbrev pub Runs : GivenImages → World → List Happening → Type 0
-Runs images w lines = answers_of images w (events_of lines) ≡ map (λ line. line.1) lines
+abbrev pub Runs : Images → World → List Happening → Type 0
+Runs declared w lines = answers_of declared w (events_of lines) ≡ map (λ line. line.1) lines
 
 -- the world after the lines
-abbrev pub after : GivenImages → World → List Happening → World
-after images w lines = world_after images w (events_of lines)
+abbrev pub after : Images → World → List Happening → World
+after declared w lines = world_after declared w (events_of lines)

@@ -6,7 +6,7 @@ use Rattle.sk_machine.specs.declared.answer.Reason.TheVariants as reason
 use Rattle.sk_machine.specs.declared.event.Event.TheVariants.{Resume}
 use Rattle.sk_world.specs.declared.errno.Errno.TheVariants.{Eperm, Enoent, Eacces, Efault, Einval, Enosys, Eopnotsupp}
 use Rattle.sk_world.specs.World.{opening}
-use Rattle.sk_machine.specs.Lines.{Happening}
+use Rattle.sk_machine.specs.Lineages.{Happening}
 use Rattle.sk_machine_runs.specs.Scripts.{nothing_given, given, plain, set_user_id, always, for_number, minus, getpid, fork, execve, wait4, getuid, setuid, geteuid, getppid, setresuid, getresuid, prctl, exit_group, seccomp, call, allowed, gives, fails, waits, told, ends, executed, refused, resumes, not_now, Runs}
 
 -- a call that SECCOMP_RET_ERRNO refuses is not performed, and the others are

@@ -4,8 +4,8 @@ use Rattle.sk_machine.specs.declared.answer.Reason.TheVariants as reason
 use Rattle.sk_world.specs.declared.errno.Errno.TheVariants.{Eperm, Esrch, Eacces, Einval}
 use Rattle.sk_world.specs.declared.process.Life.TheVariants.{Zombie}
 use Rattle.sk_world.specs.World.{World, at, first_process, opening}
-use Rattle.sk_machine.specs.Lines.{Happening}
-use Rattle.sk_machine.specs.Given.{GivenImages}
+use Rattle.sk_machine.specs.Lineages.{Happening}
+use Rattle.sk_machine.specs.Images.{Images}
 use Rattle.sk_machine_runs.specs.Scripts.{nothing_given, given, plain, for_number, minus, sigprocmask, sched_yield, pause, getpid, fork, execve, exit, kill, setuid, setpgid, getpgrp, setsid, getpgid, getsid, sigpending, exit_group, seccomp, gives, fails, waits, ends, executed, signals, refused, not_now, Runs, after}
 
 -- who may signal whom: a user another user's processes not, but SIGCONT within the session
@@ -174,7 +174,7 @@ confinement =
     ∷ []
 
 -- a filter that refuses kill(2)
-abbrev pub no_kill : GivenImages
+abbrev pub no_kill : Images
 no_kill = given (for_number 62 0x00050001 ∷ []) (plain ∷ [])
 
 -- every kill(2) of the two is refused

@@ -85,7 +85,7 @@ foreign = record { code = 0x30; jt = 0; jf = 0; k = 0 }
 -- an effective id under seven filters of 4096 instructions, and a newest one of this many
 abbrev pub under_filters : ℕ → ℕ → Authority
 under_filters id count = record {
-  programs = replicate count allowing ∷ replicate 7 (replicate 4096 allowing);
+  filters = replicate count allowing ∷ replicate 7 (replicate 4096 allowing);
   creds = record { real = 0; effective = id; saved = 0; no_new_privs = false };
 }
 
@@ -98,7 +98,7 @@ RefusesFilterPastLimit =
 abbrev pub AttachesFilterAtLimit : Type 0
 AttachesFilterAtLimit =
     filtered (under_filters 0 4063) (Ok (allowing ∷ []))
-    ≡ Ok (record (under_filters 0 4063) { programs = (allowing ∷ []) ∷ (under_filters 0 4063).programs })
+    ≡ Ok (record (under_filters 0 4063) { filters = (allowing ∷ []) ∷ (under_filters 0 4063).filters })
 
 -- a filter that is not valid is refused as such first
 abbrev pub RefusesInvalidBeforeLimit : Type 0

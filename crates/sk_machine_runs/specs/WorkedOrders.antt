@@ -1,4 +1,4 @@
--- Runs that are worked out by hand: groups, permissions, filters, lines and turns where several rules meet.
+-- Runs that are worked out by hand: groups, permissions, filters, lineages and turns where several rules meet.
 use Rattle.std.specs.Prelude.{ℕ, ◌≡◌, ◌^◌, pos, [], ◌∷◌, List, Some}
 use Rattle.sk_insn.specs.declared.record.Record.{Record}
 use Rattle.sk_insn.specs.Record.{native}
@@ -9,7 +9,7 @@ use Rattle.sk_machine.specs.declared.answer.Outcome.TheVariants.{Returned, Ended
 use Rattle.sk_machine.specs.declared.answer.Effect.TheVariants as effect
 use Rattle.sk_machine.specs.declared.answer.Reason.TheVariants as reason
 use Rattle.sk_machine.specs.declared.event.Event.TheVariants.{Deliver}
-use Rattle.sk_machine.specs.Lines.{Happening, line_of, history_after}
+use Rattle.sk_machine.specs.Lineages.{Happening, lineage_of, history_after}
 use Rattle.sk_machine.specs.Turns.{next_of}
 use Rattle.sk_machine_runs.specs.Scripts.{nothing_given, given, plain, always, for_number, minus, only, sigaction, sigprocmask, sigreturn, sched_yield, pause, getpid, fork, execve, exit, wait4, kill, setuid, setpgid, getppid, setsid, setresuid, getpgid, prctl, seccomp, gives, fails, waits, told, ends, executed, refused, delivers, handles, not_now, events_of, Runs, after}
 
@@ -163,10 +163,10 @@ LogsAndEndsByPrecedence =
     ∷ (getppid 2, answer.Call 0x7ffe0000 (Ended 31))
     ∷ [])
 
--- a fork that a filter refused with the error 0 made no process: its line is nobody's
-abbrev pub LineAfterRefusedFork : Type 0
-LineAfterRefusedFork =
-    line_of (history_after (given (for_number 57 0x00050000 ∷ []) []) opening
+-- a fork that a filter refused with the error 0 made no process: its lineage is nobody's
+abbrev pub LineageAfterRefusedFork : Type 0
+LineageAfterRefusedFork =
+    lineage_of (history_after (given (for_number 57 0x00050000 ∷ []) []) opening
     (events_of ((seccomp 1 1 0 0, gives 0) ∷ (fork 1, refused 0) ∷ [])) []) 0 ≡ record { root = 0; calls = [] }
 
 -- a call that passes one number, and no other
@@ -184,10 +184,10 @@ pid_given_twice =
     ∷ (setuid 1 0, gives 0)
     ∷ []
 
--- the line of a pid that was given twice is that of its last process
-abbrev pub LineOfPidGivenTwice : Type 0
-LineOfPidGivenTwice =
-    line_of pid_given_twice 2
+-- the lineage of a pid that was given twice is that of its last process
+abbrev pub LineageOfPidGivenTwice : Type 0
+LineageOfPidGivenTwice =
+    lineage_of pid_given_twice 2
     ≡ record { root = 1; calls = call_of_one 105 0 ∷ call_of_one 57 0 ∷ call_of_one 61 2 ∷ [] }
 
 -- forks of forks, some refused and some failing, with the newest event first
@@ -202,10 +202,10 @@ forks_of_forks =
     ∷ (fork 1, gives 2)
     ∷ []
 
--- a line goes through every fork back to its root; a fork that fails is a call of its caller's line
-abbrev pub LineThroughForks : Type 0
-LineThroughForks =
-    line_of forks_of_forks 4 ≡ record { root = 1; calls = call_of_one 57 0 ∷ call_of_one 105 6 ∷ [] }
+-- a lineage goes through every fork back to its root; a fork that fails is a call of its caller's lineage
+abbrev pub LineageThroughForks : Type 0
+LineageThroughForks =
+    lineage_of forks_of_forks 4 ≡ record { root = 1; calls = call_of_one 57 0 ∷ call_of_one 105 6 ∷ [] }
 
 -- a process that waits for a child that has ended can run, though another waits in pause(2)
 abbrev pub AsksWhenChildEnds : Type 0
@@ -228,8 +228,8 @@ pub record WorkedOrders : Type 0 where
   pub exec_keeps_ignored : ExecKeepsIgnored
   pub orders_refusals_of_attach : OrdersRefusalsOfAttach
   pub logs_and_ends_by_precedence : LogsAndEndsByPrecedence
-  pub line_after_refused_fork : LineAfterRefusedFork
-  pub line_of_pid_given_twice : LineOfPidGivenTwice
-  pub line_through_forks : LineThroughForks
+  pub lineage_after_refused_fork : LineageAfterRefusedFork
+  pub lineage_of_pid_given_twice : LineageOfPidGivenTwice
+  pub lineage_through_forks : LineageThroughForks
   pub asks_when_child_ends : AsksWhenChildEnds
   pub asks_when_child_is_gone : AsksWhenChildIsGone

@@ -6,7 +6,7 @@ use Rattle.sk_machine.specs.declared.answer.Outcome.TheVariants.{Told, Ended}
 use Rattle.sk_machine.specs.declared.answer.Effect.TheVariants as effect
 use Rattle.sk_machine.specs.declared.answer.Reason.TheVariants as reason
 use Rattle.sk_machine.specs.declared.event.Event.TheVariants.{Deliver, Resume, Fault}
-use Rattle.sk_machine.specs.Lines.{Happening}
+use Rattle.sk_machine.specs.Lineages.{Happening}
 use Rattle.sk_machine_runs.specs.Scripts.{nothing_given, given, plain, for_number, minus, only, sigaction, sigprocmask, sigreturn, sched_yield, getpid, fork, exit, wait4, kill, setpgid, getppid, setsid, sigpending, exit_group, seccomp, gives, waits, told, ends, signals, resumes, delivers, handles, crashes, not_now, Runs, after}
 use Rattle.sk_machine_runs.specs.WorkedTurns.{TakesTurns}
 use Rattle.sk_machine_runs.specs.WorkedSignals.{rounds}

@@ -6,8 +6,8 @@ use Rattle.sk_machine.specs.declared.answer.Outcome.TheVariants.{Told}
 use Rattle.sk_machine.specs.declared.answer.Effect.TheVariants as effect
 use Rattle.sk_machine.specs.declared.answer.Reason.TheVariants as reason
 use Rattle.sk_machine.specs.declared.event.Event.TheVariants.{Deliver, Resume}
-use Rattle.sk_machine.specs.Given.{GivenImages}
-use Rattle.sk_machine.specs.Lines.{Happening}
+use Rattle.sk_machine.specs.Images.{Images}
+use Rattle.sk_machine.specs.Lineages.{Happening}
 use Rattle.sk_machine_runs.specs.Scripts.{given, given_with_subreapers, plain, call_with, minus, only, sigaction, sigprocmask, getpid, fork, execve, exit, wait4, kill, setpgid, getppid, setsid, getpgid, sigpending, prctl, exit_group, gives, fails, waits, told, ends, executed, signals, resumes, delivers, not_now, Runs, after}
 use Rattle.sk_machine_runs.specs.WorkedTurns.{TakesTurns}
 
@@ -32,11 +32,11 @@ server =
     ∷ []
 
 -- four programs, and subreapers
-abbrev pub with_subreapers : GivenImages
+abbrev pub with_subreapers : Images
 with_subreapers = given_with_subreapers [] (plain ∷ plain ∷ plain ∷ plain ∷ [])
 
 -- the same, and no subreapers
-abbrev pub without_subreapers : GivenImages
+abbrev pub without_subreapers : Images
 without_subreapers = given [] (plain ∷ plain ∷ plain ∷ plain ∷ [])
 
 -- these are its answers

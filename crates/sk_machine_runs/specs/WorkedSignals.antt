@@ -11,7 +11,7 @@ use Rattle.sk_world.specs.declared.errno.Errno.TheVariants.{Einval}
 use Rattle.sk_signal.specs.SignalSet.{Signals, signals_of}
 use Rattle.sk_world.specs.declared.process.TheConstants.{INIT}
 use Rattle.sk_world.specs.World.{World, at, opening}
-use Rattle.sk_machine.specs.Lines.{Happening}
+use Rattle.sk_machine.specs.Lineages.{Happening}
 use Rattle.sk_machine_runs.specs.Scripts.{nothing_given, given, plain, for_number, minus, only, sigaction, sigprocmask, sigreturn, pause, getpid, fork, execve, wait4, kill, getppid, sigpending, exit_group, seccomp, gives, fails, waits, told, ends, executed, signals, resumes, delivers, handles, interrupts, not_now, Runs, after}
 use Rattle.std.specs.Option.{option_map}
 use Rattle.sk_world.specs.declared.process.Life.{Life}

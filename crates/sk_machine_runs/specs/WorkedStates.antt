@@ -8,7 +8,7 @@ use Rattle.sk_world.specs.World.{World, at, opening}
 use Rattle.sk_machine.specs.declared.answer.Effect.TheVariants as effect
 use Rattle.sk_machine.specs.declared.answer.Reason.TheVariants as reason
 use Rattle.sk_machine.specs.declared.event.Event.TheVariants.{Deliver}
-use Rattle.sk_machine.specs.Lines.{Happening}
+use Rattle.sk_machine.specs.Lineages.{Happening}
 use Rattle.sk_machine_runs.specs.Scripts.{nothing_given, given, plain, call_with, minus, only, sigaction, sigprocmask, sigreturn, getpid, fork, wait4, kill, getuid, setuid, geteuid, setpgid, getppid, setresuid, sigpending, prctl, gives, fails, told, signals, delivers, handles, not_now, Runs, after}
 use Rattle.sk_machine_runs.specs.WorkedSignals.{mask_at}
 use Rattle.std.specs.Option.{option_map}

@@ -8,8 +8,8 @@ use Rattle.sk_machine.specs.declared.answer.Reason.TheVariants as reason
 use Rattle.sk_machine.specs.declared.event.Event.TheVariants.{Deliver, Resume, Fault}
 use Rattle.sk_world.specs.declared.process.TheConstants.{INIT}
 use Rattle.sk_world.specs.World.{World, opening}
-use Rattle.sk_machine.specs.Lines.{Happening}
-use Rattle.sk_machine.specs.Given.{GivenImages}
+use Rattle.sk_machine.specs.Lineages.{Happening}
+use Rattle.sk_machine.specs.Images.{Images}
 use Rattle.sk_machine_runs.specs.Scripts.{nothing_given, given, plain, set_user_id, for_number, pause, getpid, fork, exit, wait4, kill, gives, waits, ends, resumes, delivers, crashes, not_now, events_of, Runs, after}
 use Rattle.sk_machine.specs.declared.event.Event.{Event}
 use Rattle.sk_machine.specs.declared.event.Need.TheVariants as need
@@ -66,10 +66,10 @@ HaltsAll =
     ∷ [])
 
 -- whose turn it is at each event of a list, where this process was the last to run
-abbrev pub turns_of : GivenImages → World → ℕ → List Event → List (Option ℕ)
-turns_of images w last [] = next_of w last ∷ []
-turns_of images w last (event ∷ events) =
-    next_of w last ∷ turns_of images (step_of images w event).world (pid_of event) events
+abbrev pub turns_of : Images → World → ℕ → List Event → List (Option ℕ)
+turns_of declared w last [] = next_of w last ∷ []
+turns_of declared w last (event ∷ events) =
+    next_of w last ∷ turns_of declared (step_of declared w event).world (pid_of event) events
 
 -- the turns of the lines, and then nobody's
 abbrev pub turns_told : List Happening → List (Option ℕ)
@@ -77,8 +77,8 @@ turns_told [] = None ∷ []
 turns_told (line ∷ lines) = Some (pid_of line.0) ∷ turns_told lines
 
 -- round robin makes just these events, and ends where the system has halted or nobody can run
-abbrev pub TakesTurns : GivenImages → List Happening → Type 0
-TakesTurns images lines = turns_of images opening 0 (events_of lines) ≡ turns_told lines
+abbrev pub TakesTurns : Images → List Happening → Type 0
+TakesTurns declared lines = turns_of declared opening 0 (events_of lines) ≡ turns_told lines
 
 -- the run with a kept filter
 abbrev pub TurnsWithFilter : Type 0

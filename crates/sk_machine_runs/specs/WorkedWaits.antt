@@ -6,7 +6,7 @@ use Rattle.sk_machine.specs.declared.answer.Reason.TheVariants as reason
 use Rattle.sk_machine.specs.declared.event.Event.TheVariants.{Deliver, Resume, Fault}
 use Rattle.sk_world.specs.declared.errno.Errno.TheVariants.{Esrch, Echild, Einval}
 use Rattle.sk_world.specs.World.{opening}
-use Rattle.sk_machine.specs.Lines.{Happening}
+use Rattle.sk_machine.specs.Lineages.{Happening}
 use Rattle.sk_machine_runs.specs.Scripts.{nothing_given, given, plain, for_number, minus, sigaction, sigreturn, sched_yield, pause, getpid, fork, exit, wait4, kill, setpgid, getppid, getpgid, exit_group, seccomp, gives, fails, waits, told, ends, refused, resumes, resumes_failing, delivers, handles, interrupts, crashes, not_now, Runs}
 
 -- the children of a process that ignores SIGCHLD leave no zombies: its wait4(2) ends with ECHILD

@@ -8,7 +8,7 @@ ghost use Rattle.sk_machine_runs.specs.WorkedSignals.{WorkedSignals};
 ghost use Rattle.sk_machine_runs.specs.WorkedWaits.{WorkedWaits};
 ghost use Rattle.sk_machine_runs.specs.WorkedGroups.{WorkedGroups};
 ghost use Rattle.sk_machine_runs.specs.WorkedTurns.{WorkedTurns};
-ghost use Rattle.sk_machine_runs.specs.WorkedLines.{WorkedLines};
+ghost use Rattle.sk_machine_runs.specs.WorkedLineages.{WorkedLineages};
 ghost use Rattle.sk_machine_runs.specs.WorkedEdges.{WorkedEdges};
 ghost use Rattle.sk_machine_runs.specs.WorkedOrders.{WorkedOrders};
 ghost use Rattle.sk_machine_runs.specs.WorkedStates.{WorkedStates};
@@ -48,10 +48,10 @@ pub fn worked_turns()
     ensures law { WorkedTurns }
 {}
 
-/// The definitions give what was worked out by hand of lines.
-#[tactic(auto, using(crate::proofs::LineRows::worked_lines))]
-pub fn worked_lines()
-    ensures law { WorkedLines }
+/// The definitions give what was worked out by hand of lineages.
+#[tactic(auto, using(crate::proofs::LineageRows::worked_lineages))]
+pub fn worked_lineages()
+    ensures law { WorkedLineages }
 {}
 
 /// The definitions give what was worked out by hand of signals, stops and waits where several rules meet.
@@ -60,7 +60,7 @@ pub fn worked_edges()
     ensures law { WorkedEdges }
 {}
 
-/// The definitions give what was worked out by hand of groups, permissions, filters, lines and turns where several
+/// The definitions give what was worked out by hand of groups, permissions, filters, lineages and turns where several
 /// rules meet.
 #[tactic(auto, using(crate::proofs::OrderRows::worked_orders))]
 pub fn worked_orders()

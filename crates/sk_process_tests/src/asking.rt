@@ -4,7 +4,7 @@ use crate::sessions::world::setsid;
 use crate::world::{after_forks, end_of, stop};
 use bitflags::Flags;
 use sk_insn::Record;
-use sk_machine::{Outcome, group_of, is_waiting, low, register, session_of, signed};
+use sk_machine::{Outcome, group_of, is_waiting, register, session_of, signed, unsigned};
 use sk_signal::number::SIGTSTP;
 use sk_table::{INIT, ListStore, ProcStore};
 use sk_world::{
@@ -67,7 +67,7 @@ fn a_wait_asks_for_one_for_any_or_for_a_group(rt: HostRuntime) -> Result<(), Fai
 fn a_register_has_64_bits_and_a_low_half(rt: HostRuntime) {
     let call = Record::native(39, 0, [7, 0x1_ffff_fffe, 0, 0, 0, 5]);
     assert_eq!(rt;
-        (register(&call, 1), low(&call, 1)),
+        (register(&call, 1), unsigned(&call, 1)),
         (0x1_ffff_fffe, 0xffff_fffe)
     );
     assert_eq!(rt;

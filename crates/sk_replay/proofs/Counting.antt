@@ -5,13 +5,13 @@ use Rattle.sk_text.specs.Lines.{lines_of}
 use Rattle.sk_asm.proofs.Blocks.{length-lines_in}
 use Rattle.sk_call_names.specs.declared.architecture.Architecture.{Architecture}
 use Rattle.sk_replay.specs.declared.call.Call.{Call}
-use Rattle.sk_replay.specs.declared.line.Line.{Line}
-use Rattle.sk_replay.specs.declared.line.Line.TheVariants.{Made, Event, Unclear}
+use Rattle.sk_replay.specs.declared.line.LogLine.{LogLine}
+use Rattle.sk_replay.specs.declared.line.LogLine.TheVariants.{Made, Event, Unclear}
 use Rattle.sk_replay.specs.Lines.{line_of}
 use Rattle.sk_replay.specs.Replaying.{onto_calls, calls_of, is_event, is_unclear, events_in, unclear_in, tallied, times_of, with_line}
 use Rattle.sk_replay.proofs.Tallies.{tallied_more, times_within}
 
-onto_append : (line : Line) (xs ys : List Call) → onto_calls line (xs ++ ys) ≡ onto_calls line xs ++ ys
+onto_append : (line : LogLine) (xs ys : List Call) → onto_calls line (xs ++ ys) ≡ onto_calls line xs ++ ys
 onto_append (Made call) xs ys = refl
 onto_append Event xs ys = refl
 onto_append Unclear xs ys = refl
@@ -21,7 +21,7 @@ calls_more by [] line = refl
 calls_more by (first ∷ done) line =
     ap (onto_calls (line_of by first)) (calls_more by done line) ∙ onto_append (line_of by first) (calls_of by done) (onto_calls (line_of by line) [])
 
-onto_length : (line : Line) (calls : List Call) → length (onto_calls line calls) ≤ 1 + length calls
+onto_length : (line : LogLine) (calls : List Call) → length (onto_calls line calls) ≤ 1 + length calls
 onto_length (Made call) calls = omega arith
 onto_length Event calls = omega arith
 onto_length Unclear calls = omega arith
@@ -33,7 +33,7 @@ calls_length by (line ∷ lines) =
     let one = onto_length (line_of by line) (calls_of by lines) in
     omega arith
 
-with_more : (line : Line) (calls : List Call) → with_line line (tallied calls) ≡ tallied (calls ++ onto_calls line [])
+with_more : (line : LogLine) (calls : List Call) → with_line line (tallied calls) ≡ tallied (calls ++ onto_calls line [])
 with_more (Made call) calls = tallied_more calls call
 with_more Event calls = ap tallied (sym (append-nil calls))
 with_more Unclear calls = ap tallied (sym (append-nil calls))
@@ -68,7 +68,7 @@ module _ (by : Architecture) (entries : List (Call × ℕ)) (events unclear : �
       let fewer = few in
       omega (arith, times, most, made, fewer)
 
-  few_of : (test : Line → Bool) (n : ℕ) → n ≡ count_by (λ line. test (line_of by line)) counted.done → n < 2 ^ 64 - 1
+  few_of : (test : LogLine → Bool) (n : ℕ) → n ≡ count_by (λ line. test (line_of by line)) counted.done → n < 2 ^ 64 - 1
   few_of test n same =
       let most = count_by-le-length (λ line. test (line_of by line)) counted.done in
       let fewer = few in
@@ -80,7 +80,7 @@ module _ (by : Architecture) (entries : List (Call × ℕ)) (events unclear : �
   pub few_unclear : unclear < 2 ^ 64 - 1
   few_unclear = few_of is_unclear unclear counted.missed
 
-  pub turned : (said : Line) (after : List (Call × ℕ)) (e u : ℕ) → said ≡ line_of by line → after ≡ with_line said entries → e ≡ cond (is_event said) 1 0 → u ≡ cond (is_unclear said) 1 0
+  pub turned : (said : LogLine) (after : List (Call × ℕ)) (e u : ℕ) → said ≡ line_of by line → after ≡ with_line said entries → e ≡ cond (is_event said) 1 0 → u ≡ cond (is_unclear said) 1 0
       → Counted by after (events + e) (unclear + u) rest (lines_of log)
   turned said after e u is counted_call event missing = record {
     done = counted.done ++ line ∷ [];

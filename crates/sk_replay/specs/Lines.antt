@@ -10,8 +10,8 @@ use Rattle.sk_asm.specs.Grammar.{◌>>=◌}
 use Rattle.sk_call_names.specs.declared.architecture.Architecture.{Architecture}
 use Rattle.sk_call_names.specs.Names.{number_on}
 use Rattle.sk_replay.specs.declared.call.Call.{Call}
-use Rattle.sk_replay.specs.declared.line.Line.{Line}
-use Rattle.sk_replay.specs.declared.line.Line.TheVariants.{Made, Event, Unclear}
+use Rattle.sk_replay.specs.declared.line.LogLine.{LogLine}
+use Rattle.sk_replay.specs.declared.line.LogLine.TheVariants.{Made, Event, Unclear}
 use Rattle.sk_replay.specs.Calls.{call_with}
 
 -- ---- words
@@ -104,18 +104,18 @@ call_in by word words =
       Some (call_with nr args))
     else None
 
-abbrev pub made_or : Option Call → Line
+abbrev pub made_or : Option Call → LogLine
 made_or None = Unclear
 made_or (Some call) = Made call
 
 -- from the first word on that is no mark
-unfoldable pub said_at : Architecture → List ℕ → List (List ℕ) → Line
+unfoldable pub said_at : Architecture → List ℕ → List (List ℕ) → LogLine
 said_at by word words = if is_event word then Event else made_or (call_in by word words)
 
-abbrev pub said : Architecture → List (List ℕ) → Line
+abbrev pub said : Architecture → List (List ℕ) → LogLine
 said by [] = Unclear
 said by (word ∷ words) = if is_mark word then said by words else said_at by word words
 
 -- what a line says: a call, an event that is none, or nothing that is understood
-abbrev pub line_of : Architecture → List ℕ → Line
+abbrev pub line_of : Architecture → List ℕ → LogLine
 line_of by line = said by (words_of line)

@@ -15,8 +15,8 @@ use Rattle.sk_filter.specs.VerdictText.{verdict_text}
 use Rattle.sk_call_names.specs.declared.architecture.Architecture.{Architecture}
 use Rattle.sk_call_names.specs.Names.{name_on}
 use Rattle.sk_replay.specs.declared.call.Call.{Call}
-use Rattle.sk_replay.specs.declared.line.Line.{Line}
-use Rattle.sk_replay.specs.declared.line.Line.TheVariants.{Made, Event, Unclear}
+use Rattle.sk_replay.specs.declared.line.LogLine.{LogLine}
+use Rattle.sk_replay.specs.declared.line.LogLine.TheVariants.{Made, Event, Unclear}
 use Rattle.sk_replay.specs.declared.row.Row.{Row}
 use Rattle.sk_replay.specs.Calls.{record_of}
 use Rattle.sk_replay.specs.Lines.{line_of}
@@ -24,7 +24,7 @@ use Rattle.sk_replay.specs.Lines.{line_of}
 -- ---- the calls of a log
 
 -- the call of a line that is one, in front of others
-abbrev pub onto_calls : Line → List Call → List Call
+abbrev pub onto_calls : LogLine → List Call → List Call
 onto_calls (Made call) calls = call ∷ calls
 onto_calls Event calls = calls
 onto_calls Unclear calls = calls
@@ -34,11 +34,11 @@ abbrev pub calls_of : Architecture → List (List ℕ) → List Call
 calls_of by [] = []
 calls_of by (line ∷ lines) = onto_calls (line_of by line) (calls_of by lines)
 
-abbrev pub is_event : Line → Bool
+abbrev pub is_event : LogLine → Bool
 is_event Event = true
 is_event line = false
 
-abbrev pub is_unclear : Line → Bool
+abbrev pub is_unclear : LogLine → Bool
 is_unclear Unclear = true
 is_unclear line = false
 
@@ -78,7 +78,7 @@ abbrev pub with_call : Call → List (Call × ℕ) → List (Call × ℕ)
 with_call call entries = insert_entry is_same entries call (times_of entries call + 1)
 
 -- the list after a line
-abbrev pub with_line : Line → List (Call × ℕ) → List (Call × ℕ)
+abbrev pub with_line : LogLine → List (Call × ℕ) → List (Call × ℕ)
 with_line (Made call) entries = with_call call entries
 with_line Event entries = entries
 with_line Unclear entries = entries

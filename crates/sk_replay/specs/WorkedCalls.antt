@@ -1,7 +1,7 @@
 -- Calls of a log on architectures that are worked out by hand; the numbers are those of asm/unistd.h of each.
 use Rattle.std.specs.Prelude.{◌≡◌, ◌^◌, [], ◌∷◌, codes, Some, None}
 use Rattle.sk_call_names.specs.declared.architecture.Architecture.TheVariants as architecture
-use Rattle.sk_replay.specs.declared.line.Line.TheVariants.{Made, Unclear}
+use Rattle.sk_replay.specs.declared.line.LogLine.TheVariants.{Made, Unclear}
 use Rattle.sk_replay.specs.Calls.{call_with, record_of}
 use Rattle.sk_replay.specs.Lines.{line_of, number_in}
 use Rattle.sk_replay.specs.Replaying.{call_text}

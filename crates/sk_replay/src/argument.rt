@@ -10,7 +10,7 @@ use sk_text::{Words, one_word};
 /// The most arguments that a call has.
 const MOST_ARGUMENTS: usize = 6;
 
-// The six arguments that are written between parentheses; those that are not are 0.
+/// The six arguments that are written between parentheses; those that are not are 0.
 #[tactic(auto, unfolding(crate::specs::CallWords::given_in, crate::specs::CallWords::arguments_of))]
 pub(crate) fn arguments(inside: &[u8]) -> Result<[u64; 6], CallFault>
     ensures exact { result ≡ arguments_of (given_in inside.now) }

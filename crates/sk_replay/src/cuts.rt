@@ -5,7 +5,7 @@ ghost use Rattle.sk_replay.specs.CallWords.{commas_cut, cut_at, left_of};
 
 use sk_text::cut;
 
-// What stands before the first such byte and what behind it, where there is one.
+/// What stands before the first such byte and what behind it, where there is one.
 pub(crate) fn cut_at(text: &[u8], byte: u8) -> Option<(&[u8], &[u8])>
     ensures parts { option_map (λ parts. (parts.0.now, parts.1.now)) result ≡ cut_at byte text.now }
 {
@@ -17,7 +17,7 @@ pub(crate) fn cut_at(text: &[u8], byte: u8) -> Option<(&[u8], &[u8])>
     }
 }
 
-// What stands before the first comma, and behind it what is left of the text.
+/// What stands before the first comma, and behind it what is left of the text.
 pub(crate) fn first_given(text: &[u8]) -> (&[u8], Option<&[u8]>)
     ensures given { commas_cut text.now ≡ result.0.now ∷ left_of (option_map (λ rest. rest.now) result.1) }
 {
@@ -27,7 +27,7 @@ pub(crate) fn first_given(text: &[u8]) -> (&[u8], Option<&[u8]>)
     }
 }
 
-// How many commas stand in a text.
+/// How many commas stand in a text.
 pub(crate) fn commas(text: &[u8]) -> usize
     ensures count { result ≡ count_by (λ b. b == 44) text.now }
 {

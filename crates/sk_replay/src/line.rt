@@ -12,7 +12,7 @@ use sk_text::{Words, cut, is_same, number_up_to, two_words};
 
 /// What a line says.
 #[derive(Clone, Copy, Debug, PartialEq, Eq)]
-pub enum Line {
+pub enum LogLine {
     /// A call.
     Made(Call),
     /// What is no call: a signal, an end, or a word of strace itself.
@@ -24,10 +24,10 @@ pub enum Line {
 // The arguments of a call.
 type Arguments = ArrayVec<u64, 6>;
 
-impl Line {
+impl LogLine {
     /// What this line says of a process of an architecture.
     #[tactic(auto, using(crate::proofs::Marks::unmarked, crate::proofs::Marks::marked))]
-    pub(crate) fn of(architecture: Architecture, line: &[u8]) -> Line
+    pub(crate) fn of(architecture: Architecture, line: &[u8]) -> LogLine
         ensures line { result ≡ line_of architecture line.now }
     {
         let mut words = Words(line);
@@ -36,21 +36,21 @@ impl Line {
                 return said_at(architecture, word, words);
             }
         }
-        Line::Unclear
+        LogLine::Unclear
     }
 }
 
 // What the words say from the first on that is no mark.
 #[tactic(auto, unfolding(crate::specs::Lines::said_at))]
-fn said_at(architecture: Architecture, word: &[u8], words: Words<'_>) -> Line
+fn said_at(architecture: Architecture, word: &[u8], words: Words<'_>) -> LogLine
     ensures said { result ≡ said_at architecture word.now (words_of words.entry.0.now) }
 {
     if is_event(word) {
-        return Line::Event;
+        return LogLine::Event;
     }
     match call_in(architecture, word, words) {
-        Some(call) => Line::Made(call),
-        None => Line::Unclear,
+        Some(call) => LogLine::Made(call),
+        None => LogLine::Unclear,
     }
 }
 

@@ -16,6 +16,7 @@ pub struct Row {
 }
 
 impl Row {
+    /// The row of a call that was made so often, with the value that the chain gives it.
     pub(crate) fn of(architecture: Architecture, chain: &Chain, call: Call, times: u64) -> Row
         ensures row { result ≡ row_of architecture chain.now (call, times) }
     {

@@ -6,7 +6,7 @@ ghost use Rattle.sk_replay.specs.declared.call.Call.{Call as TheCall};
 ghost use Rattle.sk_replay.specs.Replaying.{calls_of, events_in, unclear_in, tallied, times_of, with_call, with_line, is_event, is_unclear};
 
 use crate::call::Call;
-use crate::line::Line;
+use crate::line::LogLine;
 use indexmap::IndexMap;
 use sk_call_names::Architecture;
 use sk_text::Lines;
@@ -36,7 +36,7 @@ impl Tally {
         let mut events = 0;
         let mut unclear = 0;
         for line in Lines(log) {
-            let said = Line::of(architecture, line);
+            let said = LogLine::of(architecture, line);
             count(&mut calls, said)?;
             events += event_in(said);
             unclear += unclear_in(said);
@@ -50,13 +50,13 @@ impl Tally {
 }
 
 // Counts the call of a line, if it is one.
-fn count(calls: &mut IndexMap<Call, u64>, line: Line) -> Result<(), AllocError>
+fn count(calls: &mut IndexMap<Call, u64>, line: LogLine) -> Result<(), AllocError>
     requires room { (call : TheCall) → times_of calls.old.entries call < 2 ^ 64 - 1 }
     ensures counted { OnOk result (calls.new.entries ≡ with_line line calls.old.entries) }
 {
     match line {
-        Line::Made(call) => add(calls, call),
-        Line::Event | Line::Unclear => Ok(()),
+        LogLine::Made(call) => add(calls, call),
+        LogLine::Event | LogLine::Unclear => Ok(()),
     }
 }
 
@@ -69,20 +69,20 @@ fn add(calls: &mut IndexMap<Call, u64>, call: Call) -> Result<(), AllocError>
     Ok(())
 }
 
-fn event_in(line: Line) -> u64
+fn event_in(line: LogLine) -> u64
     ensures event { result ≡ if is_event line then 1 else 0 }
 {
     match line {
-        Line::Event => 1,
-        Line::Made(_) | Line::Unclear => 0,
+        LogLine::Event => 1,
+        LogLine::Made(_) | LogLine::Unclear => 0,
     }
 }
 
-fn unclear_in(line: Line) -> u64
+fn unclear_in(line: LogLine) -> u64
     ensures unclear { result ≡ if is_unclear line then 1 else 0 }
 {
     match line {
-        Line::Unclear => 1,
-        Line::Made(_) | Line::Event => 0,
+        LogLine::Unclear => 1,
+        LogLine::Made(_) | LogLine::Event => 0,
     }
 }

@@ -14,7 +14,7 @@ use Rattle.sk_machine.specs.declared.answer.Outcome.{Outcome}
 use Rattle.sk_machine.specs.declared.answer.Outcome.TheVariants.{Returned, Executed}
 use Rattle.sk_machine.specs.declared.answer.Effect.{Effect}
 use Rattle.sk_machine.specs.declared.answer.Effect.TheVariants as effect
-use Rattle.sk_machine.specs.Lines.{has_returned}
+use Rattle.sk_machine.specs.Lineages.{has_returned}
 use Rattle.sk_report.specs.declared.level.Level.{Level}
 
 -- the levels of a process: the one that runs, and those below it, the nearest first

@@ -12,7 +12,7 @@ use Rattle.sk_machine.specs.declared.event.Event.TheVariants as event
 use Rattle.sk_machine.specs.declared.event.Need.{Need}
 use Rattle.sk_machine.specs.declared.event.Need.TheVariants as need
 use Rattle.sk_machine.specs.declared.images.Mark.{Mark}
-use Rattle.sk_machine.specs.Given.{GivenImages}
+use Rattle.sk_machine.specs.Images.{Images}
 use Rattle.sk_machine.specs.Machine.{Stepped, step_of, halted_of}
 use Rattle.sk_machine.specs.Turns.{need_of, next_of}
 use Rattle.sk_report.specs.declared.level.Level.{Level}
@@ -77,7 +77,7 @@ abbrev pub mark_of_script : Script → Mark
 mark_of_script script = record { owner = script.owner; setuid = script.setuid }
 
 -- what calls name by numbers
-abbrev pub images_of : Setting → GivenImages
+abbrev pub images_of : Setting → Images
 images_of setting = record {
   filters = setting.filters;
   programs = map mark_of_script setting.programs;

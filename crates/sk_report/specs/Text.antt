@@ -1,5 +1,5 @@
 -- The text of a report's lines.
-use Rattle.std.specs.Prelude.{ℕ, zero, suc, ◌+◌, ◌/◌, ◌%◌, ◌++◌, nat_lt, true, false, if◌then◌else◌, List, [], ◌∷◌, codes}
+use Rattle.std.specs.Prelude.{ℕ, zero, suc, ◌+◌, ◌/◌, ◌%◌, ◌++◌, true, false, List, [], ◌∷◌, codes}
 use Rattle.std.specs.Option.{option_map_or}
 use Rattle.std.specs.Fmt.{decimal, signed_decimal}
 use Rattle.sk_text.specs.Hexadecimal.{digit_of}
@@ -29,9 +29,9 @@ hex (suc width) n = hex width (n / 16) ++ digit_of (n % 16) ∷ []
 abbrev pub status_text : ℕ → List ℕ
 status_text status = codes "0x" ++ hex 4 status
 
--- what the filters say of a call
-unfoldable pub verdict_text : ℕ → List ℕ
-verdict_text verdict = action_name (action_of verdict) ++ (codes "/" ++ decimal (data_part verdict))
+-- what the filters say of a call: the action of the verdict, and its data
+unfoldable pub judgement_text : ℕ → List ℕ
+judgement_text verdict = action_name (action_of verdict) ++ (codes "/" ++ decimal (data_part verdict))
 
 -- what a call came to
 unfoldable pub outcome_text : Outcome → List ℕ
@@ -64,7 +64,7 @@ number_in other = 0
 -- what happened: an event by its answer. That an event is not possible is never told, since each that is due is possible
 unfoldable pub happening_text : Event → Answer → List ℕ
 happening_text event (answer.Call verdict outcome) =
-    codes "call " ++ (call_name (number_in event) ++ (codes " " ++ (verdict_text verdict ++ (codes " " ++ outcome_text outcome))))
+    codes "call " ++ (call_name (number_in event) ++ (codes " " ++ (judgement_text verdict ++ (codes " " ++ outcome_text outcome))))
 happening_text event (answer.Signal n effect) = codes "signal " ++ (decimal n ++ (codes " " ++ effect_text effect))
 happening_text event (answer.Resumed outcome) = codes "resume " ++ outcome_text outcome
 happening_text event answer.Crashed = codes "crash"

@@ -7,6 +7,7 @@ ghost use Rattle.sk_report.specs.Text.{call_name};
 use sk_calls::Syscall;
 use sk_text::{Line, push_number};
 
+/// The word `call` and the name of this call, with a space behind each.
 #[tactic(auto, unfolding(crate::specs::Text::call_name))]
 pub(crate) fn push_call(text: &mut Line, nr: u32)
     requires room { array_string_len text.old + 20 ≤ 128 }

@@ -2,12 +2,11 @@
 #![tactic(auto)]
 
 mod calls;
+pub mod laws;
 mod level;
-mod rows;
 mod text;
 mod turn;
 
 pub use level::Level;
-pub use rows::worked_reports;
 pub use text::{turn_line, write_line};
 pub use turn::{End, ReportLine};

@@ -1,7 +1,7 @@
 //! The text of a report's line, made in place: it takes no memory, whatever the values are.
 ghost use Rattle.std.specs.Prelude.{◌≡◌, ◌≤◌, ◌+◌, ◌++◌, ◌∷◌, [], codes, length};
 ghost use Rattle.arrayvec.specs.ArrayString.{array_string_len};
-ghost use Rattle.sk_report.specs.Text.{hex, number_in, status_text, verdict_text, outcome_text, effect_text, happening_text, end_text, turn_text};
+ghost use Rattle.sk_report.specs.Text.{hex, number_in, status_text, judgement_text, outcome_text, effect_text, happening_text, end_text, turn_text};
 ghost use Rattle.sk_report.specs.Report.{line};
 ghost use Rattle.sk_report.specs.declared.turn.ReportLine.TheVariants as told;
 
@@ -38,7 +38,7 @@ pub fn write_line(text: &mut Line, turn: &ReportLine)
     }
 }
 
-/// The line of a turn with this number, event and answer, in the place of what was written there.
+// The line of a turn with this number, event and answer, in the place of what was written there.
 #[tactic(auto, unfolding(crate::specs::Text::turn_text))]
 fn write_happening(text: &mut Line, turn: u32, event: &Event, answer: &Answer)
     ensures text { text.new.bytes ≡ line (told.Turn turn event.now answer.now) }
@@ -52,7 +52,7 @@ fn write_happening(text: &mut Line, turn: u32, event: &Event, answer: &Answer)
     end_line(text);
 }
 
-/// The line of the end, in the place of what was written there.
+// The line of the end, in the place of what was written there.
 #[tactic(auto, unfolding(crate::specs::Text::turn_text))]
 fn write_end(text: &mut Line, end: End)
     ensures text { text.new.bytes ≡ line (told.End end) }
@@ -124,24 +124,24 @@ fn number(event: &Event) -> u32
 }
 
 // The verdict and a space. Most calls have no filter, or one that allows them.
-#[tactic(auto, unfolding(crate::specs::Text::verdict_text))]
+#[tactic(auto, unfolding(crate::specs::Text::judgement_text))]
 fn push_judgement(text: &mut Line, verdict: u32)
     requires room { array_string_len text.old + 26 ≤ 128 }
-    ensures text { text.new.bytes ≡ text.old.bytes ++ (verdict_text verdict ++ codes " ") }
+    ensures text { text.new.bytes ≡ text.old.bytes ++ (judgement_text verdict ++ codes " ") }
     ensures growth { array_string_len text.new ≤ array_string_len text.old + 26 }
 {
     if verdict == ALLOW {
         text.push_str("allow/0 ");
     } else {
-        push_verdict(text, verdict);
+        push_action_data(text, verdict);
         text.push_str(" ");
     }
 }
 
-#[tactic(auto, unfolding(crate::specs::Text::verdict_text))]
-fn push_verdict(text: &mut Line, verdict: u32)
+#[tactic(auto, unfolding(crate::specs::Text::judgement_text))]
+fn push_action_data(text: &mut Line, verdict: u32)
     requires room { array_string_len text.old + 25 ≤ 128 }
-    ensures text { text.new.bytes ≡ text.old.bytes ++ verdict_text verdict }
+    ensures text { text.new.bytes ≡ text.old.bytes ++ judgement_text verdict }
     ensures growth { array_string_len text.new ≤ array_string_len text.old + 25 }
 {
     push_word(text, Action::of(verdict).name());

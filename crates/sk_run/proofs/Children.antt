@@ -23,7 +23,7 @@ use Rattle.sk_machine.specs.declared.event.Event.{Event}
 use Rattle.sk_machine.specs.declared.event.Event.TheVariants.{Call, Deliver, Resume, Fault}
 use Rattle.sk_machine.specs.declared.answer.Outcome.TheVariants.{Returned}
 use Rattle.sk_machine.specs.declared.answer.Reason.{Reason}
-use Rattle.sk_machine.specs.Given.{GivenImages}
+use Rattle.sk_machine.specs.Images.{Images}
 use Rattle.sk_machine.specs.Performing.{forks, row}
 use Rattle.sk_machine.specs.Events.{pid_of, recorded}
 use Rattle.sk_machine.specs.Machine.{judged, reason_of, happened_to, stepped, step_of}
@@ -63,41 +63,41 @@ forks_low w pid (Err e) low = no_child (errno_number e)
 answer_low : (w : World) → IfOk (fork_answer w) (λ n. n ≤ LAST_PID)
 answer_low w = cond_both (has_room w) (Ok (fresh_of w)) (Err Eagain) (λ r. IfOk r (λ n. n ≤ LAST_PID)) (λ _. fresh_low w) (λ _. tt)
 
-row_low : (images : GivenImages) (w : World) (pid : ℕ) (body : Body) (call : Record) (which : Option Syscall) → which ≡ Some syscall.Fork
-    → IsLow (pid_in (row images w pid body which call).outcome)
-row_low images w pid body call which is =
-    subst (λ o. IsLow (pid_in (row images w pid body o call).outcome)) (sym is) (forks_low w pid (fork_answer w) (answer_low w))
+row_low : (declared : Images) (w : World) (pid : ℕ) (body : Body) (call : Record) (which : Option Syscall) → which ≡ Some syscall.Fork
+    → IsLow (pid_in (row declared w pid body which call).outcome)
+row_low declared w pid body call which is =
+    subst (λ o. IsLow (pid_in (row declared w pid body o call).outcome)) (sym is) (forks_low w pid (fork_answer w) (answer_low w))
 
-judged_low : (images : GivenImages) (w : World) (pid : ℕ) (body : Body) (call : Record) (verdict : ℕ) (a : Action) → syscall_of call.nr ≡ Some syscall.Fork
-    → IsLow (pid_in (judged images w pid body call verdict a).outcome)
-judged_low images w pid body call verdict action.Allow is = row_low images w pid body call (syscall_of call.nr) is
-judged_low images w pid body call verdict action.Log is = row_low images w pid body call (syscall_of call.nr) is
-judged_low images w pid body call verdict action.Trap is = tt
-judged_low images w pid body call verdict action.Errno is = no_child _
-judged_low images w pid body call verdict action.UserNotif is = no_child (errno_number Enosys)
-judged_low images w pid body call verdict action.Trace is = no_child (errno_number Enosys)
-judged_low images w pid body call verdict action.KillProcess is = tt
-judged_low images w pid body call verdict action.KillThread is = tt
-judged_low images w pid body call verdict action.Unknown is = tt
+judged_low : (declared : Images) (w : World) (pid : ℕ) (body : Body) (call : Record) (verdict : ℕ) (a : Action) → syscall_of call.nr ≡ Some syscall.Fork
+    → IsLow (pid_in (judged declared w pid body call verdict a).outcome)
+judged_low declared w pid body call verdict action.Allow is = row_low declared w pid body call (syscall_of call.nr) is
+judged_low declared w pid body call verdict action.Log is = row_low declared w pid body call (syscall_of call.nr) is
+judged_low declared w pid body call verdict action.Trap is = tt
+judged_low declared w pid body call verdict action.Errno is = no_child _
+judged_low declared w pid body call verdict action.UserNotif is = no_child (errno_number Enosys)
+judged_low declared w pid body call verdict action.Trace is = no_child (errno_number Enosys)
+judged_low declared w pid body call verdict action.KillProcess is = tt
+judged_low declared w pid body call verdict action.KillThread is = tt
+judged_low declared w pid body call verdict action.Unknown is = tt
 
 fork_is : (nr : ℕ) → IsTrue (nr == number_of syscall.Fork) → syscall_of nr ≡ Some syscall.Fork
 fork_is nr is = ap syscall_of (eqb-true nr (number_of syscall.Fork) is)
 
-happened_low : (images : GivenImages) (w : World) (event : Event) (o : Option Proc) → IsTrue (is_fork event) → ChildIsLow (happened_to images w event o).answer
-happened_low images w event None is = tt
-happened_low images w (Call pid ip asked) (Some p) is =
+happened_low : (declared : Images) (w : World) (event : Event) (o : Option Proc) → IsTrue (is_fork event) → ChildIsLow (happened_to declared w event o).answer
+happened_low declared w event None is = tt
+happened_low declared w (Call pid ip asked) (Some p) is =
     let call = recorded ip asked in
     let verdict = verdict_of p.body.chain call in
-    judged_low images w pid p.body call verdict (action_of verdict) (fork_is asked.nr is)
-happened_low images w (Deliver pid) (Some p) is = cc
-happened_low images w (Resume pid) (Some p) is = cc
-happened_low images w (Fault pid) (Some p) is = cc
+    judged_low declared w pid p.body call verdict (action_of verdict) (fork_is asked.nr is)
+happened_low declared w (Deliver pid) (Some p) is = cc
+happened_low declared w (Resume pid) (Some p) is = cc
+happened_low declared w (Fault pid) (Some p) is = cc
 
-stepped_low : (images : GivenImages) (w : World) (event : Event) (reason : Option Reason) → IsTrue (is_fork event) → ChildIsLow (stepped images w event reason).answer
-stepped_low images w event (Some reason) is = tt
-stepped_low images w event None is = happened_low images w event (at w (pid_of event)) is
+stepped_low : (declared : Images) (w : World) (event : Event) (reason : Option Reason) → IsTrue (is_fork event) → ChildIsLow (stepped declared w event reason).answer
+stepped_low declared w event (Some reason) is = tt
+stepped_low declared w event None is = happened_low declared w event (at w (pid_of event)) is
 
 -- the child of a fork has a pid that there may be
-pub child_is_low : (images : GivenImages) (w : World) (event : Event) → IsTrue (is_fork event) → ChildIsLow (step_of images w event).answer
+pub child_is_low : (declared : Images) (w : World) (event : Event) → IsTrue (is_fork event) → ChildIsLow (step_of declared w event).answer
 unfolding step_of
-child_is_low images w event is = stepped_low images w event (reason_of w event) is
+child_is_low declared w event is = stepped_low declared w event (reason_of w event) is

@@ -55,7 +55,7 @@ fn done<R: Source, W: Sink>(
     }
 }
 
-/// Runs a scenario. What is wrong with an input that is none is told here.
+// Runs a scenario. What is wrong with an input that is none is told here.
 fn run<R: Source, W: Sink>(
     alloc: Global,
     reader: &mut R,

@@ -9,7 +9,7 @@ use sk_machine::{Event, Need};
 use sk_report::Level;
 use sk_scenario::{Program, ScriptCall};
 
-/// How many calls the script of a program has. One that is not declared has the empty script.
+// How many calls the script of a program has. One that is not declared has the empty script.
 fn length_of(programs: &[Program], program: u64) -> usize
     ensures length { result ≡ length (script_of programs.now program) }
     ensures few { result ≤ 1000 }
@@ -50,7 +50,7 @@ pub(crate) fn event_by(
     }
 }
 
-/// The event of a process that goes on with its script: a call of it, or what ends it.
+// The event of a process that goes on with its script: a call of it, or what ends it.
 fn own_event(programs: &[Program], pid: u32, levels: &Levels, line: Option<ScriptCall>) -> Event
     requires room { IfSome line (λ _. levels.now.top.position < 2 ^ 63) }
     ensures event { result ≡ own_event programs.now pid (stack_of levels.now) line }
@@ -71,7 +71,7 @@ fn own_event(programs: &[Program], pid: u32, levels: &Levels, line: Option<Scrip
     }
 }
 
-/// Where a call stands, as filters see it.
+// Where a call stands, as filters see it.
 fn address_of(program: u64, position: usize) -> u64
     requires room { position < 2 ^ 63 }
     ensures address { result ≡ address_of program position }
@@ -79,7 +79,7 @@ fn address_of(program: u64, position: usize) -> u64
     0x1_0000 * (program % 0x1_0000_0000) + position as u64
 }
 
-/// The call that ends a script.
+// The call that ends a script.
 fn closing(below: &[Level]) -> Call
     ensures call { result ≡ closing below.now }
 {

@@ -89,7 +89,7 @@ impl Levels {
         }
     }
 
-    /// The top level is off, where there are any below it.
+    // The top level is off, where there are any below it.
     fn return_from_handler(&mut self)
         ensures stack { stack_of self.new ≡ returned (stack_of self.old) }
     {
@@ -110,7 +110,7 @@ impl Levels {
         }
     }
 
-    /// What a performed call does to the levels of its caller.
+    // What a performed call does to the levels of its caller.
     fn perform(&mut self, call: &Call, outcome: Outcome)
         ensures stack { stack_of self.new ≡ performing call.now outcome (stack_of self.old) }
     {

@@ -25,7 +25,7 @@ pub struct Machine<S: ProcStore> {
     /// The turns that were made.
     used: u32,
     alloc: Global,
-    ghost declared: { kernel.images.programs ≡ map mark_of_script programs.items },
+    ghost declared: { kernel.declared.programs ≡ map mark_of_script programs.items },
 }
 
 impl<S: ProcStore> Machine<S> {
@@ -43,13 +43,13 @@ impl<S: ProcStore> Machine<S> {
             programs,
         } = scenario;
         let marks = marks(alloc, programs.as_slice())?;
-        let images = Images {
+        let declared = Images {
             filters,
             programs: marks,
             subreapers,
         };
         Ok(Machine {
-            kernel: Kernel::new(alloc, images)?,
+            kernel: Kernel::new(alloc, declared)?,
             programs,
             stacks: Vec::new(alloc),
             turns,
@@ -80,7 +80,7 @@ impl<S: ProcStore> Machine<S> {
         }
     }
 
-    /// Whose turn it is, or why nobody's is.
+    // Whose turn it is, or why nobody's is.
     fn runner(&self) -> Result<Runner, End>
         ensures runner { IfOk result (λ runner. runner_of (now_of self.now) ≡ Ok runner.pid) }
         ensures nobody { IfErr result (λ end. runner_of (now_of self.now) ≡ Err end) }
@@ -93,7 +93,7 @@ impl<S: ProcStore> Machine<S> {
         }
     }
 
-    /// Why nobody has the turn.
+    // Why nobody has the turn.
     fn end(&self) -> End
         requires nobody { next_of self.now.kernel.world self.now.last ≡ None }
         ensures end { Err result ≡ runner_of (now_of self.now) }
@@ -138,7 +138,7 @@ impl<S: ProcStore> Machine<S> {
     }
 }
 
-/// What execve(2) finds of each program.
+// What execve(2) finds of each program.
 fn marks(alloc: Global, programs: &[Program]) -> Result<Vec<Mark>, AllocError>
     ensures marks { IfOk result (λ marks. marks.items ≡ map mark_of_script programs.now) }
 {

@@ -36,12 +36,12 @@ pub(crate) fn make<S: ProcStore>(
     requires there { pid_of event.now < vec_len stacks.old }
     requires line { is_some (line_due programs.now.items (stacks_of stacks.old.items (pid_of event.now))) ≡ has_line }
     requires room { IsTrue has_line → (stacks_of stacks.old.items (pid_of event.now)).top.position < 2 ^ 63 }
-    ensures answer { IfOk result (λ answer. answer ≡ (step_of kernel.old.images kernel.old.world event.now).answer) }
-    ensures world { OnOk result (kernel.new.world ≡ (step_of kernel.old.images kernel.old.world event.now).world) }
+    ensures answer { IfOk result (λ answer. answer ≡ (step_of kernel.old.declared kernel.old.world event.now).answer) }
+    ensures world { OnOk result (kernel.new.world ≡ (step_of kernel.old.declared kernel.old.world event.now).world) }
     ensures stacks { IfOk result (λ answer. stacks_of stacks.new.items ≡ stacks_after (line_due programs.now.items (stacks_of stacks.old.items (pid_of event.now))) event.now answer (stacks_of stacks.old.items)) }
     ensures kept { OnErr result (kernel.new.world ≡ kernel.old.world) }
     ensures kept_stacks { OnErr result (stacks_of stacks.new.items ≡ stacks_of stacks.old.items) }
-    ensures images { kernel.new.images ≡ kernel.old.images }
+    ensures declared { kernel.new.declared ≡ kernel.old.declared }
 {
     let copy = prepare(stacks, alloc, event)?;
     let answer = kernel.happen(event)?;
@@ -49,8 +49,8 @@ pub(crate) fn make<S: ProcStore>(
     Ok(answer)
 }
 
-/// Makes the room that an event may need, and a copy of the levels of who forks. The levels of all processes stay as
-/// they are.
+// Makes the room that an event may need, and a copy of the levels of who forks. The levels of all processes stay as
+// they are.
 fn prepare(stacks: &mut Stacks, alloc: Global, event: &Event) -> Result<Option<Levels>, AllocError>
     requires there { pid_of event.now < vec_len stacks.old }
     ensures stacks { stacks_of stacks.new.items ≡ stacks_of stacks.old.items }
@@ -72,7 +72,7 @@ fn prepare(stacks: &mut Stacks, alloc: Global, event: &Event) -> Result<Option<L
     }
 }
 
-/// All levels after an event, for which all is ready.
+// All levels after an event, for which all is ready.
 fn follow_event(
     stacks: &mut Stacks,
     alloc: Global,
@@ -107,7 +107,7 @@ fn follow_event(
     }
 }
 
-/// The levels after a delivery.
+// The levels after a delivery.
 fn follow_signal(stacks: &mut Stacks, pid: u32, answer: &Answer)
     requires there { pid < vec_len stacks.old }
     requires room { IfSome (slice_get stacks.old.items pid) HasRoom }
@@ -118,7 +118,7 @@ fn follow_signal(stacks: &mut Stacks, pid: u32, answer: &Answer)
     }
 }
 
-/// The pid that a call has returned, if it is one.
+// The pid that a call has returned, if it is one.
 fn pid_in(outcome: &Outcome) -> Option<u64>
     ensures pid { result ≡ pid_in outcome.now }
 {
@@ -128,7 +128,7 @@ fn pid_in(outcome: &Outcome) -> Option<u64>
     }
 }
 
-/// The levels of a child, which a performed fork(2) has made.
+// The levels of a child, which a performed fork(2) has made.
 fn follow_child(
     stacks: &mut Stacks,
     alloc: Global,
@@ -149,7 +149,7 @@ fn follow_child(
     }
 }
 
-/// The program that a child begins with, where the line names one.
+// The program that a child begins with, where the line names one.
 fn script_of_child(line: Option<ScriptCall>) -> Option<u32>
     ensures program { result ≡ script_of_child line }
 {

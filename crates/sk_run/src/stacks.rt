@@ -42,7 +42,7 @@ pub(crate) fn make_room_for_pids(stacks: &mut Stacks) -> Result<(), AllocError>
     Ok(())
 }
 
-/// Makes the places up to this one, for which there is room.
+// Makes the places up to this one, for which there is room.
 fn fill(stacks: &mut Stacks, alloc: Global, place: usize)
     requires room { place < vec_capacity stacks.old }
     ensures stacks { stacks_of stacks.new.items ≡ stacks_of stacks.old.items }

@@ -5,12 +5,12 @@ use Rattle.sk_world.specs.declared.errno.Errno.{Errno}
 use Rattle.sk_world.specs.declared.errno.Errno.TheVariants.{Esrch, Einval}
 use Rattle.sk_world.specs.declared.request.Request.{Request}
 use Rattle.sk_world.specs.World.{World}
-use Rattle.sk_machine.specs.Arguments.{low}
+use Rattle.sk_machine.specs.Arguments.{unsigned}
 use Rattle.sk_machine.specs.WaitCalls.{are_wait_options, request_of}
 
 -- the request of the registers, where they have one
 abbrev pub request_or_error : World → ℕ → Record → Result Request Errno
 request_or_error w pid call =
-    if not (are_wait_options (low call 2)) then Err Einval
-    else if low call 0 == 2 ^ 31 then Err Esrch
+    if not (are_wait_options (unsigned call 2)) then Err Einval
+    else if unsigned call 0 == 2 ^ 31 then Err Esrch
     else Ok (request_of w pid call)

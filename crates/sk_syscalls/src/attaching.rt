@@ -1,11 +1,11 @@
 //! How a filter is attached: seccomp(2), SECCOMP_SET_MODE_FILTER.
 
 ghost use Rattle.std.specs.Prelude.{◌≡◌, ◌+◌, ◌∷◌, nat_lt, length, if◌then◌else◌, IsTrue, IfOk, OnOk, OnErr, MatchResult, Ok, Err};
-ghost use Rattle.sk_filter.specs.Chains.{path_limit, cost_of};
+ghost use Rattle.sk_filter.specs.PathLimit.{path_limit, cost_of};
 ghost use Rattle.sk_world.specs.declared.errno.Errno.TheVariants.{Enomem};
 ghost use Rattle.sk_world.specs.Errno.{answer_of};
-ghost use Rattle.sk_machine.specs.Given.{filter_image};
-ghost use Rattle.sk_machine.specs.Authority.{authority_of, program_of, filtered, after_attach};
+ghost use Rattle.sk_machine.specs.Images.{filter_image};
+ghost use Rattle.sk_machine.specs.Authority.{authority_of, filter_of, filtered, after_attach};
 ghost use Rattle.sk_machine.specs.Memory.{is_read};
 ghost use Rattle.sk_syscalls.specs.views.Own.{reauthorised};
 
@@ -19,38 +19,38 @@ use std::mem::replace;
 /// Attaches the filter of an image to a process. The image is read before the process's rights are asked for.
 pub(crate) fn attach(
     body: &mut Body,
-    images: &Images,
+    declared: &Images,
     alloc: Global,
     flags: u32,
     image: u64,
 ) -> Result<Result<(), Errno>, AllocError>
-    ensures answer { IfOk result (λ answer. answer ≡ answer_of (after_attach images.now flags image (authority_of body.old))) }
-    ensures body { OnOk result (body.new ≡ reauthorised (after_attach images.now flags image (authority_of body.old)) body.old) }
+    ensures answer { IfOk result (λ answer. answer ≡ answer_of (after_attach declared.now flags image (authority_of body.old))) }
+    ensures body { OnOk result (body.new ≡ reauthorised (after_attach declared.now flags image (authority_of body.old)) body.old) }
     ensures flags { OnErr result (flags ≡ 0) }
-    ensures memory { OnErr result (IsTrue (is_read images.now image)) }
+    ensures memory { OnErr result (IsTrue (is_read declared.now image)) }
     ensures kept { OnErr result (body.new ≡ body.old) }
 {
     if flags != 0 {
         return Ok(Err(Errno::Einval));
     }
-    match program_of(images, alloc, image)? {
+    match filter_of(declared, alloc, image)? {
         Ok(insns) => filter(body, alloc, insns),
         Err(errno) => Ok(Err(errno)),
     }
 }
 
-/// The program of an image that a call names.
-fn program_of(
-    images: &Images,
+// The filter of an image that a call names.
+fn filter_of(
+    declared: &Images,
     alloc: Global,
     image: u64,
 ) -> Result<Result<Vec<Insn>, Errno>, AllocError>
     ensures program { IfOk result (λ read. MatchResult read
-        (λ insns. program_of (filter_image images.now image) ≡ Ok insns.items)
-        (λ errno. program_of (filter_image images.now image) ≡ Err errno)) }
-    ensures memory { OnErr result (IsTrue (is_read images.now image)) }
+        (λ insns. filter_of (filter_image declared.now image) ≡ Ok insns.items)
+        (λ errno. filter_of (filter_image declared.now image) ≡ Err errno)) }
+    ensures memory { OnErr result (IsTrue (is_read declared.now image)) }
 {
-    let Some(bytes) = images.filters.get(image as usize) else {
+    let Some(bytes) = declared.filters.get(image as usize) else {
         return Ok(Err(Errno::Efault));
     };
     match read_image(alloc, bytes)? {

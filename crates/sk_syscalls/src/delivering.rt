@@ -57,7 +57,7 @@ fn act_at<S: ProcStore>(store: &mut S, pid: u32, signal: u8) -> Deed
     }
 }
 
-/// Takes the signal from those that are pending, and does what it does to the body of the process of this pid.
+// Takes the signal from those that are pending, and does what it does to the body of the process of this pid.
 fn act(body: &mut Body, pid: u32, signal: u8) -> Deed
     requires { IsSignal signal }
     ensures deed { result ≡ (acted pid body.old signal).deed }
@@ -76,7 +76,7 @@ fn act(body: &mut Body, pid: u32, signal: u8) -> Deed
     }
 }
 
-/// The default action of the signal. By default process 1 minds only a SIGSYS.
+// The default action of the signal. By default process 1 minds only a SIGSYS.
 fn default_deed(pid: u32, signal: u8) -> Deed
     requires { IsSignal signal }
     ensures deed { result ≡ default_deed pid signal }
@@ -93,7 +93,7 @@ fn default_deed(pid: u32, signal: u8) -> Deed
     }
 }
 
-/// Begins a handler of the signal. SIGSEGV ends a process that has no room for one more frame.
+// Begins a handler of the signal. SIGSEGV ends a process that has no room for one more frame.
 fn enter_handler(body: &mut Body, signal: u8, program: u64, mask: SigSet) -> Deed
     requires { IsSignal signal }
     ensures deed { result ≡ (entered body.old signal program mask).deed }
@@ -124,8 +124,8 @@ fn terminate<S: ProcStore>(store: &mut S, pid: u32, signal: u8) -> Effect
     Effect::Ended(status)
 }
 
-/// Stops the process, which is announced to its parent; but a stop signal of a terminal stops nobody in an orphaned
-/// group.
+// Stops the process, which is announced to its parent; but a stop signal of a terminal stops nobody in an orphaned
+// group.
 fn stop<S: ProcStore>(store: &mut S, pid: u32, signal: u8) -> Effect
     requires rules { IsWorld (S.contents store.old) }
     requires alive { IsTrue (is_alive (at (S.contents store.old) pid)) }

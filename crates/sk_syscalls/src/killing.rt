@@ -39,7 +39,7 @@ pub fn kill<S: ProcStore>(
     kill_each(store, caller, creds, who, signal)
 }
 
-/// The same where this one process is meant.
+// The same where this one process is meant.
 fn kill_one<S: ProcStore>(
     store: &mut S,
     caller: u32,
@@ -65,7 +65,7 @@ fn kill_one<S: ProcStore>(
     Ok(0)
 }
 
-/// The same where these are meant.
+// The same where these are meant.
 fn kill_each<S: ProcStore>(
     store: &mut S,
     caller: u32,
@@ -96,7 +96,7 @@ fn is_any_meant<S: ProcStore>(store: &S, caller: u32, who: Who) -> bool
     next_target(store, caller, who, 0).is_some()
 }
 
-/// Whether there is a process that is meant and that the caller may send the signal to.
+// Whether there is a process that is meant and that the caller may send the signal to.
 fn is_any_permitted<S: ProcStore>(
     store: &S,
     caller: u32,
@@ -110,8 +110,8 @@ fn is_any_permitted<S: ProcStore>(
     next_permitted(store, caller, creds, who, signal, 0).is_some()
 }
 
-/// Sends the signal to each process that is meant and that the caller may send it to, in rising order, but signal 0 to
-/// none. A signal changes neither whom a later one is meant for nor whom it may be sent to.
+// Sends the signal to each process that is meant and that the caller may send it to, in rising order, but signal 0 to
+// none. A signal changes neither whom a later one is meant for nor whom it may be sent to.
 fn send_to_permitted<S: ProcStore>(store: &mut S, caller: u32, creds: Creds, who: Who, signal: u8)
     requires rules { IsWorld (S.contents store.old) }
     requires signal { signal ≤ 31 }
@@ -128,7 +128,7 @@ fn send_to_permitted<S: ProcStore>(store: &mut S, caller: u32, creds: Creds, who
     }
 }
 
-/// The least pid above `after` of a process that is meant and that the caller may send the signal to.
+// The least pid above `after` of a process that is meant and that the caller may send the signal to.
 fn next_permitted<S: ProcStore>(
     store: &S,
     caller: u32,
@@ -150,7 +150,7 @@ fn next_permitted<S: ProcStore>(
     None
 }
 
-/// Whether the caller, which has these ids, may send the signal to the process of this pid, which is there.
+// Whether the caller, which has these ids, may send the signal to the process of this pid, which is there.
 fn may_kill<S: ProcStore>(store: &S, caller: u32, creds: Creds, signal: u8, pid: u32) -> bool
     requires { IsTrue (is_some (at (S.contents store.now) pid)) }
     ensures { result ≡ may_kill (S.contents store.now) caller creds signal pid }
@@ -161,7 +161,7 @@ fn may_kill<S: ProcStore>(store: &S, caller: u32, creds: Creds, signal: u8, pid:
     }
 }
 
-/// The same of this process.
+// The same of this process.
 fn may_signal<S: ProcStore>(
     store: &S,
     caller: u32,

@@ -37,7 +37,7 @@ pub(crate) enum OwnCall {
 /// Performs such a call of the process of this pid.
 pub(crate) fn perform_own<S: ProcStore>(
     store: &mut S,
-    images: &Images,
+    declared: &Images,
     alloc: Global,
     pid: u32,
     which: OwnCall,
@@ -46,28 +46,28 @@ pub(crate) fn perform_own<S: ProcStore>(
     requires rules { IsWorld (S.contents store.old) }
     requires there { IsTrue (is_some (at (S.contents store.old) pid)) }
     ensures performed { IfOk result (λ outcome.
-        ComesTo (S.contents store.old) pid (λ w body. own_row images.now w pid body which call.now) outcome (S.contents store.new)) }
-    ensures memory { OnErr result (IsTrue (option_map_or (is_read images.now) (own_attaches which call.now) false)) }
+        ComesTo (S.contents store.old) pid (λ w body. own_row declared.now w pid body which call.now) outcome (S.contents store.new)) }
+    ensures memory { OnErr result (IsTrue (option_map_or (is_read declared.now) (own_attaches which call.now) false)) }
     ensures kept { OnErr result (S.contents store.new ≡ S.contents store.old) }
     ensures rules { IsWorld (S.contents store.new) }
 {
     match store.body_mut(pid) {
-        Some(body) => act(body, images, alloc, pid, which, call),
+        Some(body) => act(body, declared, alloc, pid, which, call),
         None => unreachable!(),
     }
 }
 
 fn act(
     body: &mut Body,
-    images: &Images,
+    declared: &Images,
     alloc: Global,
     pid: u32,
     which: OwnCall,
     call: &Record,
 ) -> Result<Outcome, AllocError>
     ensures performed { IfOk result (λ outcome.
-        ActsOn pid body.old (λ w b. own_row images.now w pid b which call.now) outcome body.new) }
-    ensures memory { OnErr result (IsTrue (option_map_or (is_read images.now) (own_attaches which call.now) false)) }
+        ActsOn pid body.old (λ w b. own_row declared.now w pid b which call.now) outcome body.new) }
+    ensures memory { OnErr result (IsTrue (option_map_or (is_read declared.now) (own_attaches which call.now) false)) }
     ensures kept { OnErr result (body.new ≡ body.old) }
     ensures life { body.new.life ≡ body.old.life }
 {
@@ -76,12 +76,12 @@ fn act(
         OwnCall::Sigprocmask => Ok(done(rt_sigprocmask(&mut body.signals, call))),
         OwnCall::Sigreturn => Ok(done(rt_sigreturn(&mut body.signals))),
         OwnCall::Pause => Ok(pause(body)),
-        OwnCall::Execve => Ok(execve(body, images, pid, call)),
+        OwnCall::Execve => Ok(execve(body, declared, pid, call)),
         OwnCall::Setuid => Ok(done(setuid(&mut body.creds, call))),
         OwnCall::Setresuid => Ok(done(setresuid(&mut body.creds, call))),
         OwnCall::SetNoNewPrivs => Ok(done(set_no_new_privs(body, call))),
-        OwnCall::SetChildSubreaper => Ok(done(set_child_subreaper(body, images, call))),
-        OwnCall::SetSeccomp => Ok(done(set_seccomp(body, images, alloc, call)?)),
-        OwnCall::SetModeFilter => Ok(done(set_mode_filter(body, images, alloc, call)?)),
+        OwnCall::SetChildSubreaper => Ok(done(set_child_subreaper(body, declared, call))),
+        OwnCall::SetSeccomp => Ok(done(set_seccomp(body, declared, alloc, call)?)),
+        OwnCall::SetModeFilter => Ok(done(set_mode_filter(body, declared, alloc, call)?)),
     }
 }

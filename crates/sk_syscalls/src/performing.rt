@@ -21,7 +21,7 @@ use std::alloc::{AllocError, Global};
 /// Performs a call of a process that lives. Whether its filters let the call through is asked before.
 pub fn perform<S: ProcStore>(
     store: &mut S,
-    images: &Images,
+    declared: &Images,
     alloc: Global,
     pid: u32,
     call: &Record,
@@ -29,20 +29,20 @@ pub fn perform<S: ProcStore>(
     requires rules { IsWorld (S.contents store.old) }
     requires alive { IsTrue (is_alive (at (S.contents store.old) pid)) }
     ensures performed { IfOk result (λ outcome.
-        ComesTo (S.contents store.old) pid (λ w body. performed images.now w pid body call.now) outcome (S.contents store.new)) }
-    ensures memory { OnErr result (IsTrue (may_grow images.now (S.contents store.old) pid (syscall_of call.now.nr) call.now)) }
+        ComesTo (S.contents store.old) pid (λ w body. performed declared.now w pid body call.now) outcome (S.contents store.new)) }
+    ensures memory { OnErr result (IsTrue (may_grow declared.now (S.contents store.old) pid (syscall_of call.now.nr) call.now)) }
     ensures kept { OnErr result (S.contents store.new ≡ S.contents store.old) }
     ensures rules { IsWorld (S.contents store.new) }
 {
     match Syscall::of(call.nr) {
-        Some(which) => perform_known(store, images, alloc, pid, which, call),
+        Some(which) => perform_known(store, declared, alloc, pid, which, call),
         None => Ok(Outcome::failed(Errno::Enosys)),
     }
 }
 
 fn perform_known<S: ProcStore>(
     store: &mut S,
-    images: &Images,
+    declared: &Images,
     alloc: Global,
     pid: u32,
     which: Syscall,
@@ -51,31 +51,31 @@ fn perform_known<S: ProcStore>(
     requires rules { IsWorld (S.contents store.old) }
     requires alive { IsTrue (is_alive (at (S.contents store.old) pid)) }
     ensures performed { IfOk result (λ outcome.
-        ComesTo (S.contents store.old) pid (λ w body. row images.now w pid body (Some which) call.now) outcome (S.contents store.new)) }
-    ensures memory { OnErr result (IsTrue (may_grow images.now (S.contents store.old) pid (Some which) call.now)) }
+        ComesTo (S.contents store.old) pid (λ w body. row declared.now w pid body (Some which) call.now) outcome (S.contents store.new)) }
+    ensures memory { OnErr result (IsTrue (may_grow declared.now (S.contents store.old) pid (Some which) call.now)) }
     ensures kept { OnErr result (S.contents store.new ≡ S.contents store.old) }
     ensures rules { IsWorld (S.contents store.new) }
 {
     match which {
         Syscall::Fork => processes::fork(store, pid),
-        Syscall::Prctl => prctl::prctl(store, images, alloc, pid, call),
-        Syscall::Seccomp => seccomp::seccomp(store, images, alloc, pid, call),
-        Syscall::RtSigaction => perform_own(store, images, alloc, pid, OwnCall::Sigaction, call),
+        Syscall::Prctl => prctl::prctl(store, declared, alloc, pid, call),
+        Syscall::Seccomp => seccomp::seccomp(store, declared, alloc, pid, call),
+        Syscall::RtSigaction => perform_own(store, declared, alloc, pid, OwnCall::Sigaction, call),
         Syscall::RtSigprocmask => perform_own(
             store,
-            images,
+            declared,
             alloc,
             pid,
             OwnCall::Sigprocmask,
             call,
         ),
-        Syscall::RtSigreturn => perform_own(store, images, alloc, pid, OwnCall::Sigreturn, call),
+        Syscall::RtSigreturn => perform_own(store, declared, alloc, pid, OwnCall::Sigreturn, call),
         Syscall::RtSigpending => Ok(Outcome::Signals(caller(store, pid).body.signals.pending())),
         Syscall::SchedYield => Ok(returned(Ok(0))),
-        Syscall::Pause => perform_own(store, images, alloc, pid, OwnCall::Pause, call),
+        Syscall::Pause => perform_own(store, declared, alloc, pid, OwnCall::Pause, call),
         Syscall::Getpid => Ok(returned(Ok(pid))),
         Syscall::Getppid => Ok(returned(Ok(caller(store, pid).links.parent))),
-        Syscall::Execve => perform_own(store, images, alloc, pid, OwnCall::Execve, call),
+        Syscall::Execve => perform_own(store, declared, alloc, pid, OwnCall::Execve, call),
         Syscall::Exit => Ok(processes::exit(store, pid, call)),
         Syscall::ExitGroup => Ok(processes::exit(store, pid, call)),
         Syscall::Wait4 => Ok(crate::wait4(store, pid, call)),
@@ -83,8 +83,8 @@ fn perform_known<S: ProcStore>(
         Syscall::Getuid => Ok(returned(Ok(caller(store, pid).body.creds.real))),
         Syscall::Geteuid => Ok(returned(Ok(caller(store, pid).body.creds.effective))),
         Syscall::Getresuid => Ok(ids(caller(store, pid).body.creds)),
-        Syscall::Setuid => perform_own(store, images, alloc, pid, OwnCall::Setuid, call),
-        Syscall::Setresuid => perform_own(store, images, alloc, pid, OwnCall::Setresuid, call),
+        Syscall::Setuid => perform_own(store, declared, alloc, pid, OwnCall::Setuid, call),
+        Syscall::Setresuid => perform_own(store, declared, alloc, pid, OwnCall::Setresuid, call),
         Syscall::Setpgid => Ok(groups::setpgid(store, pid, call)),
         Syscall::Setsid => Ok(groups::setsid(store, pid)),
         Syscall::Getpgrp => Ok(returned(Ok(caller(store, pid).links.group))),

@@ -5,7 +5,7 @@ ghost use Rattle.std.specs.Option.{is_some};
 ghost use Rattle.sk_world.specs.World.{at, is_alive};
 ghost use Rattle.sk_world.specs.Rules.{IsWorld};
 ghost use Rattle.sk_world.specs.Forking.{fork_answer, has_room, has_filters};
-ghost use Rattle.sk_machine.specs.Arguments.{low, signed};
+ghost use Rattle.sk_machine.specs.Arguments.{unsigned, signed};
 ghost use Rattle.sk_machine.specs.Killing.{after_kill};
 ghost use Rattle.sk_machine.specs.Performed.{changes};
 ghost use Rattle.sk_machine.specs.Performing.{forks, exit_status, end_of_caller};
@@ -14,7 +14,7 @@ ghost use Rattle.sk_syscalls.specs.Rows.{ComesTo};
 use crate::caller::caller;
 use crate::outcome::returned;
 use sk_insn::Record;
-use sk_machine::{Outcome, low, signed};
+use sk_machine::{Outcome, signed, unsigned};
 use sk_world::ProcStore;
 use std::alloc::AllocError;
 
@@ -36,10 +36,10 @@ pub(crate) fn exit<S: ProcStore>(store: &mut S, pid: u32, call: &Record) -> Outc
     requires rules { IsWorld (S.contents store.old) }
     requires alive { IsTrue (is_alive (at (S.contents store.old) pid)) }
     ensures performed { ComesTo (S.contents store.old) pid
-        (λ w body. end_of_caller w pid (exit_status (low call.now 0))) result (S.contents store.new) }
+        (λ w body. end_of_caller w pid (exit_status (unsigned call.now 0))) result (S.contents store.new) }
     ensures rules { IsWorld (S.contents store.new) }
 {
-    let status = exit_status(low(call, 0));
+    let status = exit_status(unsigned(call, 0));
     sk_machine::end(store, pid, status);
     Outcome::Ended(status)
 }
@@ -55,9 +55,9 @@ pub(crate) fn kill<S: ProcStore>(store: &mut S, pid: u32, call: &Record) -> Outc
     requires rules { IsWorld (S.contents store.old) }
     requires there { IsTrue (is_some (at (S.contents store.old) pid)) }
     ensures performed { ComesTo (S.contents store.old) pid
-        (λ w body. changes w 0 (after_kill w pid body.creds (signed call.now 0) (low call.now 1))) result (S.contents store.new) }
+        (λ w body. changes w 0 (after_kill w pid body.creds (signed call.now 0) (unsigned call.now 1))) result (S.contents store.new) }
     ensures rules { IsWorld (S.contents store.new) }
 {
     let creds = caller(store, pid).body.creds;
-    returned(crate::kill(store, pid, creds, signed(call, 0), low(call, 1)))
+    returned(crate::kill(store, pid, creds, signed(call, 0), unsigned(call, 1)))
 }

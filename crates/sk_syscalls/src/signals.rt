@@ -9,7 +9,7 @@ ghost use Rattle.sk_machine.specs.Performed.{waiting_in};
 ghost use Rattle.sk_machine.specs.SignalCalls.{can_be_caught, disposition_in, after_sigaction, after_sigprocmask, after_sigreturn};
 
 use sk_insn::Record;
-use sk_machine::{Outcome, low, register};
+use sk_machine::{Outcome, register, unsigned};
 use sk_signal::number::{SIGKILL, SIGSTOP};
 use sk_signal::{Disposition, SigSet, SigState};
 use sk_world::{Body, Errno, INIT, Waiting};
@@ -25,7 +25,7 @@ pub(crate) fn rt_sigaction(signals: &mut SigState, pid: u32, call: &Record) -> R
     ensures answer { result ≡ answer_of (after_sigaction pid call.now signals.old) }
     ensures signals { signals.new ≡ result_unwrap_or (after_sigaction pid call.now signals.old) signals.old }
 {
-    let signal = low(call, 0);
+    let signal = unsigned(call, 0);
     if !can_be_caught(signal) {
         return Err(Errno::Einval);
     }
@@ -59,7 +59,7 @@ pub(crate) fn rt_sigprocmask(signals: &mut SigState, call: &Record) -> Result<()
     ensures signals { signals.new ≡ result_unwrap_or (after_sigprocmask call.now signals.old) signals.old }
 {
     let set = SigSet::from_bits_truncate(register(call, 1));
-    let mask = match low(call, 0) {
+    let mask = match unsigned(call, 0) {
         SIG_BLOCK => signals.mask().union(set),
         SIG_UNBLOCK => signals.mask().difference(set),
         SIG_SETMASK => set,

@@ -21,7 +21,7 @@ pub(crate) fn next_target<S: ProcStore>(store: &S, caller: u32, who: Who, after:
     }
 }
 
-/// This one pid, where it is above `after` and a process's.
+// This one pid, where it is above `after` and a process's.
 fn alone_above<S: ProcStore>(store: &S, pid: u32, after: u32) -> Option<u32>
     ensures next { IsNext (λ q. is_some (at (S.contents store.now) q) && (q == pid)) after result }
 {
@@ -32,7 +32,7 @@ fn alone_above<S: ProcStore>(store: &S, pid: u32, after: u32) -> Option<u32>
     }
 }
 
-/// The least pid above `after` but for process 1 and the caller.
+// The least pid above `after` but for process 1 and the caller.
 fn next_other<S: ProcStore>(store: &S, caller: u32, after: u32) -> Option<u32>
     requires rules { IsWorld (S.contents store.now) }
     ensures next { IsNext (λ q. is_some (at (S.contents store.now) q) && (not (q == INIT) && not (q == caller))) after result }

@@ -13,7 +13,7 @@ ghost use Rattle.sk_machine.specs.WaitCalls.{are_wait_options, polled, polled_ag
 use crate::targets::who_meant;
 use bitflags::Flags;
 use sk_insn::Record;
-use sk_machine::{Outcome, group_of, low};
+use sk_machine::{Outcome, group_of, unsigned};
 use sk_world::{Errno, Poll, ProcStore, Request, WaitOptions, Waiting, wait_poll};
 
 /// Performs a wait4(2) of the caller. Its registers 1 and 3 are not looked at.
@@ -45,14 +45,14 @@ pub fn resume<S: ProcStore>(store: &mut S, pid: u32, waiting: Waiting) -> Outcom
     }
 }
 
-/// What the registers of a wait4(2) ask for, or its error.
+// What the registers of a wait4(2) ask for, or its error.
 fn request_of<S: ProcStore>(store: &S, caller: u32, call: &Record) -> Result<Request, Errno>
     ensures { result ≡ request_or_error (S.contents store.now) caller call.now }
 {
-    let Some(options) = wait_options(low(call, 2)) else {
+    let Some(options) = wait_options(unsigned(call, 2)) else {
         return Err(Errno::Einval);
     };
-    let argument = low(call, 0);
+    let argument = unsigned(call, 0);
     if argument == 1 << 31 {
         return Err(Errno::Esrch);
     }
@@ -63,14 +63,14 @@ fn request_of<S: ProcStore>(store: &S, caller: u32, call: &Record) -> Result<Req
     })
 }
 
-/// The options that bits stand for, if each bit is an option's.
+// The options that bits stand for, if each bit is an option's.
 fn wait_options(bits: u32) -> Option<WaitOptions>
     ensures { result ≡ (if are_wait_options bits then Some (options_of bits) else None) }
 {
     WaitOptions::from_bits(bits)
 }
 
-/// Asks what there is to tell, and waits where there is nothing yet.
+// Asks what there is to tell, and waits where there is nothing yet.
 fn ask<S: ProcStore>(store: &mut S, caller: u32, request: Request) -> Outcome
     requires rules { IsWorld (S.contents store.old) }
     requires there { IsTrue (is_some (at (S.contents store.old) caller)) }
@@ -91,7 +91,7 @@ fn ask<S: ProcStore>(store: &mut S, caller: u32, request: Request) -> Outcome
     }
 }
 
-/// Asks once more, and waits on where there is still nothing to tell.
+// Asks once more, and waits on where there is still nothing to tell.
 fn ask_again<S: ProcStore>(store: &mut S, pid: u32, request: Request) -> Outcome
     requires rules { IsWorld (S.contents store.old) }
     requires there { IsTrue (is_some (at (S.contents store.old) pid)) }

@@ -1,7 +1,6 @@
 -- The search for the next free number.
 use Rattle.std.proofs.Common.{◌≡◌, ◌∙◌, ◌-◌, ◌<◌, ℕ, zero, suc, ap, sym, refl, Bool, true, false, cond, List, get_or, Option, None, Some}
 use Rattle.std.specs.Prelude.{nat_lt}
-use Rattle.sk_world.specs.declared.process.TheConstants.{LAST_PID}
 use Rattle.sk_world.specs.Numbers.{is_used, next_number, free_from, fresh_of}
 use Rattle.sk_world.specs.World.{World, IsNext}
 use Rattle.sk_numbers.specs.Numbers.{IsLeastAbove}

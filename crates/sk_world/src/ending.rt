@@ -38,7 +38,7 @@ fn halt<S: ProcStore>(store: &mut S, status: u32)
     }
 }
 
-/// Ends a process that has no children.
+// Ends a process that has no children.
 fn leave_to_parent<S: ProcStore>(store: &mut S, pid: u32, status: u32)
     ensures { S.contents store.new ≡ left_to_parent (S.contents store.old) pid status }
 {
@@ -92,7 +92,7 @@ fn hand_on_and_announce<S: ProcStore>(store: &mut S, pid: u32)
     }
 }
 
-/// Hands the children of a process on, and says whether a zombie is among them.
+// Hands the children of a process on, and says whether a zombie is among them.
 fn hand_children_on<S: ProcStore>(store: &mut S, pid: u32, parent: u32, removes: bool) -> bool
     requires rules { IsWorld (S.contents store.old) }
     requires parent { parent ≡ new_parent (S.contents store.old) pid }
@@ -111,7 +111,7 @@ fn hand_children_on<S: ProcStore>(store: &mut S, pid: u32, parent: u32, removes:
     has_zombie
 }
 
-/// Hands a child on, and says whether it is a zombie.
+// Hands a child on, and says whether it is a zombie.
 fn hand_on<S: ProcStore>(store: &mut S, dying: u32, child: u32, parent: u32, removes: bool) -> bool
     requires within { IsTrue (has_links_within (at (S.contents store.old) child)) }
     requires parent { parent ≤ LAST_PID }

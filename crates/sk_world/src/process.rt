@@ -77,7 +77,7 @@ pub struct Proc {
 impl Body {
     ghost use Rattle.sk_world.specs.Forking.{child_body};
 
-    /// What the child has that a process with this body forks: fork(2). It shares the filters.
+    // What the child has that a process with this body forks: fork(2). It shares the filters.
     fn child(&self, shared: Chain) -> Body
         requires shared { shared ≡ self.now.chain }
         ensures child { result ≡ child_body self.now }

@@ -1,6 +1,6 @@
--- A told line, as the line of the definitions. Only code and proofs look at this.
-use Rattle.sk_machine.specs.Lines.{Line}
-use Rattle.sk_kernel.specs.declared.laws.Lineage.{Lineage}
+-- A told lineage, as the lineage of the definitions. Only code and proofs look at this.
+use Rattle.sk_machine.specs.Lineages.{Lineage}
+use Rattle.sk_kernel.specs.declared.laws.Lineage.{Lineage as Told}
 
-abbrev pub line_in : Lineage → Line
-line_in lineage = record { root = lineage.root; calls = lineage.calls.items }
+abbrev pub lineage_in : Told → Lineage
+lineage_in lineage = record { root = lineage.root; calls = lineage.calls.items }

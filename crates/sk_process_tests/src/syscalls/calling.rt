@@ -26,14 +26,14 @@ pub(crate) fn nothing_declared(alloc: Global) -> Images {
 pub(crate) fn come_to<R: Abort + AllocGlobal>(
     rt: &R,
     store: &mut ListStore,
-    images: &Images,
+    declared: &Images,
     rows: &[Row],
 ) -> Result<(), Fail>
     requires { IsWorld store.old }
     ensures { IsWorld store.new }
 {
     for (pid, nr, args, expected) in rows {
-        let outcome = make_call(rt, store, images, *pid, *nr, *args)?;
+        let outcome = make_call(rt, store, declared, *pid, *nr, *args)?;
         assert_eq!(rt; outcome, *expected);
     }
     Ok(())
@@ -43,7 +43,7 @@ pub(crate) fn come_to<R: Abort + AllocGlobal>(
 fn make_call<R: Abort + AllocGlobal>(
     rt: &R,
     store: &mut ListStore,
-    images: &Images,
+    declared: &Images,
     pid: u32,
     nr: u32,
     args: [u64; 3],
@@ -53,5 +53,5 @@ fn make_call<R: Abort + AllocGlobal>(
 {
     assert_alive(rt, store, pid);
     let call = Record::native(nr, 0, [args[0], args[1], args[2], 0, 0, 0]);
-    perform(store, images, rt.alloc(), pid, &call)
+    perform(store, declared, rt.alloc(), pid, &call)
 }

@@ -27,18 +27,18 @@ const ALLOW: [u8; 8] = [0x06, 0, 0, 0, 0, 0, 0xff, 0x7f];
 
 /// The filters of 1 and of 4096 instructions that allow every call, bytes that are no program, and a program that does
 /// not return.
-fn images(rt: &HostRuntime) -> Result<Images, Fail> {
+fn declared(rt: &HostRuntime) -> Result<Images, Fail> {
     let alloc = rt.alloc();
-    let mut images = nothing_declared(alloc);
+    let mut declared = nothing_declared(alloc);
     let mut long = Vec::new(alloc);
     for _insn in 0..4096 {
         long.extend_from_slice(&ALLOW)?;
     }
-    images.filters.push(Vec::from_array(alloc, ALLOW)?)?;
-    images.filters.push(long)?;
-    images.filters.push(Vec::from_array(alloc, [0; 7])?)?;
-    images.filters.push(Vec::from_array(alloc, [0; 8])?)?;
-    Ok(images)
+    declared.filters.push(Vec::from_array(alloc, ALLOW)?)?;
+    declared.filters.push(long)?;
+    declared.filters.push(Vec::from_array(alloc, [0; 7])?)?;
+    declared.filters.push(Vec::from_array(alloc, [0; 8])?)?;
+    Ok(declared)
 }
 
 fn filters_of(store: &ListStore, pid: u32) -> Option<usize> {
@@ -48,7 +48,7 @@ fn filters_of(store: &ListStore, pid: u32) -> Option<usize> {
 #[test]
 fn errors_of_attaching_come_in_order(rt: HostRuntime) -> Result<(), Fail> {
     let mut store = opening::<ListStore>(rt.alloc())?;
-    let images = images(&rt)?;
+    let declared = declared(&rt)?;
     let rows = [
         (INIT, PRCTL, [GET_SECCOMP, 0, 0], Returned(0)),
         (INIT, PRCTL, [SET_SECCOMP, 2, 0], Returned(0)),
@@ -66,7 +66,7 @@ fn errors_of_attaching_come_in_order(rt: HostRuntime) -> Result<(), Fail> {
         (INIT, PRCTL, [SET_NO_NEW_PRIVS, 1, 0], Returned(0)),
         (INIT, SECCOMP, [SET_MODE_FILTER, 0, 0], Returned(0)),
     ];
-    come_to(&rt, &mut store, &images, &rows)?;
+    come_to(&rt, &mut store, &declared, &rows)?;
     assert_eq!(rt; filters_of(&store, INIT), Some(2));
     Ok(())
 }
@@ -75,14 +75,14 @@ fn errors_of_attaching_come_in_order(rt: HostRuntime) -> Result<(), Fail> {
 #[test]
 fn filters_are_attached_up_to_the_path_limit(rt: HostRuntime) -> Result<(), Fail> {
     let mut store = opening::<ListStore>(rt.alloc())?;
-    let images = images(&rt)?;
+    let declared = declared(&rt)?;
     let long = (INIT, SECCOMP, [SET_MODE_FILTER, 0, 1], Returned(0));
-    come_to(&rt, &mut store, &images, &[long; 7])?;
+    come_to(&rt, &mut store, &declared, &[long; 7])?;
     let rows = [
         (INIT, SECCOMP, [SET_MODE_FILTER, 0, 1], Returned(-12)),
         (INIT, SECCOMP, [SET_MODE_FILTER, 0, 0], Returned(0)),
     ];
-    come_to(&rt, &mut store, &images, &rows)?;
+    come_to(&rt, &mut store, &declared, &rows)?;
     assert_eq!(rt; filters_of(&store, INIT), Some(8));
     Ok(())
 }
@@ -90,7 +90,7 @@ fn filters_are_attached_up_to_the_path_limit(rt: HostRuntime) -> Result<(), Fail
 #[test]
 fn actions_are_told_by_their_values(rt: HostRuntime) -> Result<(), Fail> {
     let mut store = opening::<ListStore>(rt.alloc())?;
-    let images = nothing_declared(rt.alloc());
+    let declared = nothing_declared(rt.alloc());
     let rows = [
         (
             INIT,
@@ -126,5 +126,5 @@ fn actions_are_told_by_their_values(rt: HostRuntime) -> Result<(), Fail> {
         (INIT, SECCOMP, [3, 0, 0], Returned(-22)),
         (INIT, PRCTL, [1, 15, 0], Returned(-22)),
     ];
-    come_to(&rt, &mut store, &images, &rows)
+    come_to(&rt, &mut store, &declared, &rows)
 }

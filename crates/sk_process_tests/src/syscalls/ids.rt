@@ -29,7 +29,7 @@ const GET_NO_NEW_PRIVS: u64 = 39;
 #[test]
 fn ids_are_set_and_told(rt: HostRuntime) -> Result<(), Fail> {
     let mut store = opening::<ListStore>(rt.alloc())?;
-    let images = nothing_declared(rt.alloc());
+    let declared = nothing_declared(rt.alloc());
     let rows = [
         (INIT, GETUID, [0; 3], Returned(0)),
         (INIT, SETUID, [NO_ID, 0, 0], Returned(-22)),
@@ -42,25 +42,25 @@ fn ids_are_set_and_told(rt: HostRuntime) -> Result<(), Fail> {
         (INIT, SETUID, [0; 3], Returned(0)),
         (INIT, GETRESUID, [0; 3], Ids(1000, 0, 0)),
     ];
-    come_to(&rt, &mut store, &images, &rows)
+    come_to(&rt, &mut store, &declared, &rows)
 }
 
 /// The first program is set-user-ID and another user's, the second one the superuser's.
 fn programs(rt: &HostRuntime) -> Result<Images, Fail> {
-    let mut images = nothing_declared(rt.alloc());
+    let mut declared = nothing_declared(rt.alloc());
     for owner in [5, 0] {
-        images.programs.push(Mark {
+        declared.programs.push(Mark {
             owner,
             setuid: true,
         })?;
     }
-    Ok(images)
+    Ok(declared)
 }
 
 #[test]
 fn execve_takes_the_owners_id_unless_it_is_bound(rt: HostRuntime) -> Result<(), Fail> {
     let mut store = opening::<ListStore>(rt.alloc())?;
-    let images = programs(&rt)?;
+    let declared = programs(&rt)?;
     let rows = [
         (INIT, SETUID, [1000, 0, 0], Returned(0)),
         (INIT, EXECVE, [2, 0, 0], Returned(-2)),
@@ -78,5 +78,5 @@ fn execve_takes_the_owners_id_unless_it_is_bound(rt: HostRuntime) -> Result<(), 
         (INIT, PRCTL, [GET_NO_NEW_PRIVS, 1, 0], Returned(-22)),
         (INIT, PRCTL, [GET_NO_NEW_PRIVS, 0, 0], Returned(1)),
     ];
-    come_to(&rt, &mut store, &images, &rows)
+    come_to(&rt, &mut store, &declared, &rows)
 }

@@ -43,7 +43,7 @@ const ANY: u64 = 0xffff_ffff;
 #[test]
 fn processes_come_and_go(rt: HostRuntime) -> Result<(), Fail> {
     let mut store = opening::<ListStore>(rt.alloc())?;
-    let images = nothing_declared(rt.alloc());
+    let declared = nothing_declared(rt.alloc());
     let first = Told {
         pid: 2,
         status: 0xff00,
@@ -68,7 +68,7 @@ fn processes_come_and_go(rt: HostRuntime) -> Result<(), Fail> {
         (INIT, 1000, [0; 3], Returned(-38)),
         (INIT, PAUSE, [0; 3], Waits),
     ];
-    come_to(&rt, &mut store, &images, &rows)?;
+    come_to(&rt, &mut store, &declared, &rows)?;
     assert_eq!(rt; waiting(&store, INIT), Some(Waiting::Pause));
     Ok(())
 }
@@ -76,7 +76,7 @@ fn processes_come_and_go(rt: HostRuntime) -> Result<(), Fail> {
 #[test]
 fn groups_and_sessions_are_set_and_told(rt: HostRuntime) -> Result<(), Fail> {
     let mut store = opening::<ListStore>(rt.alloc())?;
-    let images = nothing_declared(rt.alloc());
+    let declared = nothing_declared(rt.alloc());
     let rows = [
         (INIT, FORK, [0; 3], Returned(2)),
         (INIT, SETPGID, [2, ANY, 0], Returned(-22)),
@@ -90,13 +90,13 @@ fn groups_and_sessions_are_set_and_told(rt: HostRuntime) -> Result<(), Fail> {
         (2, SETSID, [0; 3], Returned(2)),
         (INIT, GETSID, [2, 0, 0], Returned(2)),
     ];
-    come_to(&rt, &mut store, &images, &rows)
+    come_to(&rt, &mut store, &declared, &rows)
 }
 
 #[test]
 fn subreapers_are_marked_where_there_are_any(rt: HostRuntime) -> Result<(), Fail> {
     let mut store = opening::<ListStore>(rt.alloc())?;
-    let mut images = nothing_declared(rt.alloc());
+    let mut declared = nothing_declared(rt.alloc());
     let rows = [
         (INIT, FORK, [0; 3], Returned(2)),
         // All 64 bits of the mark count.
@@ -106,11 +106,11 @@ fn subreapers_are_marked_where_there_are_any(rt: HostRuntime) -> Result<(), Fail
         (2, PRCTL, [SET_CHILD_SUBREAPER, 0, 0], Returned(0)),
         (2, PRCTL, [GET_CHILD_SUBREAPER, 0, 0], Returned(0)),
     ];
-    come_to(&rt, &mut store, &images, &rows)?;
-    images.subreapers = false;
+    come_to(&rt, &mut store, &declared, &rows)?;
+    declared.subreapers = false;
     let refused = [
         (2, PRCTL, [SET_CHILD_SUBREAPER, 1, 0], Returned(-22)),
         (2, PRCTL, [GET_CHILD_SUBREAPER, 0, 0], Returned(-22)),
     ];
-    come_to(&rt, &mut store, &images, &refused)
+    come_to(&rt, &mut store, &declared, &refused)
 }

@@ -35,7 +35,7 @@ const USERS: u64 = 1 << 9 | 1 << 11;
 #[test]
 fn blocked_signals_pend(rt: HostRuntime) -> Result<(), Fail> {
     let mut store = opening::<ListStore>(rt.alloc())?;
-    let images = nothing_declared(rt.alloc());
+    let declared = nothing_declared(rt.alloc());
     let pending = SigSet::empty().with(SIGUSR1);
     let rows = [
         (INIT, FORK, [0; 3], Returned(2)),
@@ -55,5 +55,5 @@ fn blocked_signals_pend(rt: HostRuntime) -> Result<(), Fail> {
         (2, SIGRETURN, [0; 3], Returned(-22)),
         (INIT, KILL, [9, 10, 0], Returned(-3)),
     ];
-    come_to(&rt, &mut store, &images, &rows)
+    come_to(&rt, &mut store, &declared, &rows)
 }

@@ -6,7 +6,7 @@ use Rattle.sk_run.specs.declared.machine.Machine.{Machine}
 use Rattle.sk_run.specs.views.Stacks.{stacks_of}
 
 abbrev pub setting_of : {S : Type 0} {ghosts : Ghosts S} → Machine S ghosts → Setting
-setting_of m = record { turns = m.turns; subreapers = m.kernel.images.subreapers; filters = m.kernel.images.filters; programs = m.programs.items }
+setting_of m = record { turns = m.turns; subreapers = m.kernel.declared.subreapers; filters = m.kernel.declared.filters; programs = m.programs.items }
 
 abbrev pub now_of : {S : Type 0} {ghosts : Ghosts S} → Machine S ghosts → Scheduled
 now_of m = record { world = m.kernel.world; stacks = stacks_of m.stacks.items; last = m.last; used = m.used }

@@ -10,7 +10,7 @@ use Rattle.sk_world.specs.World.{World, at, with_body}
 use Rattle.sk_machine.specs.declared.answer.Outcome.{Outcome}
 use Rattle.sk_machine.specs.declared.operation.PrctlOption.TheVariants as option
 use Rattle.sk_machine.specs.declared.operation.SeccompOperation.TheVariants as operation
-use Rattle.sk_machine.specs.Given.{GivenImages}
+use Rattle.sk_machine.specs.Images.{Images}
 use Rattle.sk_machine.specs.Authority.{Authority, authority_of, with_authority}
 use Rattle.sk_machine.specs.Memory.{prctl_attaches, seccomp_attaches}
 use Rattle.sk_machine.specs.Performed.{Performed}
@@ -30,18 +30,18 @@ abbrev pub reauthorised : Result Authority Errno → Body → Body
 reauthorised r body = with_authority (result_unwrap_or r (authority_of body)) body
 
 -- the rows of the calls that act on nothing but their caller's body
-abbrev pub own_row : GivenImages → World → ℕ → Body → OwnCall → Record → Performed
-own_row images w pid body own.Sigaction call = row images w pid body (Some syscall.RtSigaction) call
-own_row images w pid body own.Sigprocmask call = row images w pid body (Some syscall.RtSigprocmask) call
-own_row images w pid body own.Sigreturn call = row images w pid body (Some syscall.RtSigreturn) call
-own_row images w pid body own.Pause call = row images w pid body (Some syscall.Pause) call
-own_row images w pid body own.Execve call = row images w pid body (Some syscall.Execve) call
-own_row images w pid body own.Setuid call = row images w pid body (Some syscall.Setuid) call
-own_row images w pid body own.Setresuid call = row images w pid body (Some syscall.Setresuid) call
-own_row images w pid body own.SetNoNewPrivs call = prctl images w pid body (Some option.SetNoNewPrivs) call
-own_row images w pid body own.SetChildSubreaper call = prctl images w pid body (Some option.SetChildSubreaper) call
-own_row images w pid body own.SetSeccomp call = prctl images w pid body (Some option.SetSeccomp) call
-own_row images w pid body own.SetModeFilter call = seccomp images w pid body (Some operation.SetModeFilter) call
+abbrev pub own_row : Images → World → ℕ → Body → OwnCall → Record → Performed
+own_row declared w pid body own.Sigaction call = row declared w pid body (Some syscall.RtSigaction) call
+own_row declared w pid body own.Sigprocmask call = row declared w pid body (Some syscall.RtSigprocmask) call
+own_row declared w pid body own.Sigreturn call = row declared w pid body (Some syscall.RtSigreturn) call
+own_row declared w pid body own.Pause call = row declared w pid body (Some syscall.Pause) call
+own_row declared w pid body own.Execve call = row declared w pid body (Some syscall.Execve) call
+own_row declared w pid body own.Setuid call = row declared w pid body (Some syscall.Setuid) call
+own_row declared w pid body own.Setresuid call = row declared w pid body (Some syscall.Setresuid) call
+own_row declared w pid body own.SetNoNewPrivs call = prctl declared w pid body (Some option.SetNoNewPrivs) call
+own_row declared w pid body own.SetChildSubreaper call = prctl declared w pid body (Some option.SetChildSubreaper) call
+own_row declared w pid body own.SetSeccomp call = prctl declared w pid body (Some option.SetSeccomp) call
+own_row declared w pid body own.SetModeFilter call = seccomp declared w pid body (Some operation.SetModeFilter) call
 
 -- the image that such a call attaches, if it attaches one without flags
 abbrev pub own_attaches : OwnCall → Record → Option ℕ

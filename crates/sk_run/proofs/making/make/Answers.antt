@@ -17,7 +17,7 @@ follow_event-requires-clause-line g c =
 
 pub follow_event-requires-clause-child : goal.follow_event-requires-clause-child
 follow_event-requires-clause-child g c is =
-    subst ChildIsLow (sym c.in_ok-answer.ensures.answer) (child_is_low c.args.kernel.now.images c.args.kernel.now.world c.args.event.now is)
+    subst ChildIsLow (sym c.in_ok-answer.ensures.answer) (child_is_low c.args.kernel.now.declared c.args.kernel.now.world c.args.event.now is)
 
 pub returns-clause-stacks : goal.returns-clause-stacks
 returns-clause-stacks g c =

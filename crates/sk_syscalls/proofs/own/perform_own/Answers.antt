@@ -12,7 +12,7 @@ pub returns-clause-performed : goal.returns-clause-performed
 returns-clause-performed g c =
     let w = g.S.ProcStore.contents c.args.store.now in
     let there = c.in-Some.ensures.there in
-    let row = λ (v : World) (b : Body). own_row c.args.images.now v c.args.pid b c.args.which c.args.call.now in
+    let row = λ (v : World) (b : Body). own_row c.args.declared.now v c.args.pid b c.args.which c.args.call.now in
     let made = rw c.in-Some.is at (c.body_mut.follows.holds c.act.new.body) in
     IfOk-weaker c.act.result _ _ (λ outcome acts. subst (ComesTo w c.args.pid row outcome) (sym made) (acts w there.0 there.1 there.2)) c.act.ensures.performed
 

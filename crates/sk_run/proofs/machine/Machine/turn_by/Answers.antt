@@ -22,8 +22,8 @@ make-requires-clause-possible g c =
 
 pub returns-clause-turn : goal.returns-clause-turn
 returns-clause-turn g c =
-    tells (setting_of c.args.self.now) (now_of c.args.self.now) c.args.runner.pid c.args.self.now.kernel.images (stacks_of c.reach.new.stacks.items) (stack_of c.levels_at-levels.result.now) c.event_by-event.result c.in_ok-answer.answer
-    (same_images c.args.self.now.kernel.images c.args.self.now.programs.items c.args.self.now.declared)
+    tells (setting_of c.args.self.now) (now_of c.args.self.now) c.args.runner.pid c.args.self.now.kernel.declared (stacks_of c.reach.new.stacks.items) (stack_of c.levels_at-levels.result.now) c.event_by-event.result c.in_ok-answer.answer
+    (same_images c.args.self.now.kernel.declared c.args.self.now.programs.items c.args.self.now.declared)
     c.reach.ensures.stacks
     c.levels_at-levels.ensures.stack
     (rw (c.as_slice-programs.ensures.value, c.requires.need) at c.event_by-event.ensures.event)
@@ -31,8 +31,8 @@ returns-clause-turn g c =
 
 pub returns-clause-after : goal.returns-clause-after
 returns-clause-after g c =
-    follows (setting_of c.args.self.now) (now_of c.args.self.now) c.args.runner.pid c.args.self.now.kernel.images (stacks_of c.reach.new.stacks.items) (stack_of c.levels_at-levels.result.now) (line_due c.args.self.now.programs.items (stacks_of c.reach.new.stacks.items (pid_of c.event_by-event.result))) c.event_by-event.result c.in_ok-answer.answer _ _
-    (same_images c.args.self.now.kernel.images c.args.self.now.programs.items c.args.self.now.declared)
+    follows (setting_of c.args.self.now) (now_of c.args.self.now) c.args.runner.pid c.args.self.now.kernel.declared (stacks_of c.reach.new.stacks.items) (stack_of c.levels_at-levels.result.now) (line_due c.args.self.now.programs.items (stacks_of c.reach.new.stacks.items (pid_of c.event_by-event.result))) c.event_by-event.result c.in_ok-answer.answer _ _
+    (same_images c.args.self.now.kernel.declared c.args.self.now.programs.items c.args.self.now.declared)
     c.reach.ensures.stacks
     c.levels_at-levels.ensures.stack
     (ap (line_due c.args.self.now.programs.items)

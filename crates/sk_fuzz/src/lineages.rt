@@ -1,20 +1,20 @@
-//! Whether the processes are what their lines make of them.
+//! Whether the processes are what their lineages make of them.
 
 use crate::alike::have_rights_alike;
+use crate::images::declared;
 use crate::fault::Fault;
-use crate::images::images;
 use crate::pair::Pair;
 use crate::tally::{Kind, Tally};
 use sk_calls::{Call, Syscall};
 use sk_insn::Record;
-use sk_kernel::laws::line;
+use sk_kernel::laws::lineage_of;
 use sk_kernel::{Event, Kernel};
 use sk_table::{INIT, ListStore, Proc};
 use std::alloc::Global;
 
-/// Whether each process that is there, zombies too, has the filters, ids and no_new_privs of its line. Process 1 had none of
-/// them before the events.
-pub(crate) fn check_lines(
+/// Whether each process that is there, zombies too, has the filters, ids and no_new_privs of its lineage. Process 1 had none
+/// of them before the events.
+pub(crate) fn check_lineages(
     alloc: Global,
     pair: &Pair,
     filters: &[Vec<u8>],
@@ -22,15 +22,15 @@ pub(crate) fn check_lines(
 ) -> Result<(), Fault> {
     for pid in &pair.pids {
         if let Some(process) = pair.slots.get(*pid) {
-            check_line(alloc, pair, filters, *pid, process)?;
+            check_lineage(alloc, pair, filters, *pid, process)?;
             tally.add(Kind::Compared);
         }
     }
     Ok(())
 }
 
-// Makes the calls of the line in a new kernel, as process 1.
-fn check_line(
+// Makes the calls of the lineage in a new kernel, as process 1.
+fn check_lineage(
     alloc: Global,
     pair: &Pair,
     filters: &[Vec<u8>],
@@ -38,16 +38,16 @@ fn check_line(
     process: &Proc,
 ) -> Result<(), Fault> {
     if pair.events.len() != pair.answers.len() {
-        return Err(Fault::Lines);
+        return Err(Fault::Lineages);
     }
-    let line = line(alloc, &pair.events, &pair.answers, pid)?;
-    let mut kernel = Kernel::<ListStore>::new(alloc, images(alloc, filters, false)?)?;
-    for call in line.calls.iter().filter(|call| may_change_rights(call)) {
+    let lineage = lineage_of(alloc, &pair.events, &pair.answers, pid)?;
+    let mut kernel = Kernel::<ListStore>::new(alloc, declared(alloc, filters, false)?)?;
+    for call in lineage.calls.iter().filter(|call| may_change_rights(call)) {
         kernel.step(as_init(call))?;
     }
     match kernel.get(INIT) {
-        Some(made) if line.root == INIT && have_rights_alike(made, process) => Ok(()),
-        _ => Err(Fault::Lines),
+        Some(made) if lineage.root == INIT && have_rights_alike(made, process) => Ok(()),
+        _ => Err(Fault::Lineages),
     }
 }
 

@@ -1,4 +1,4 @@
-//! A table after which the line of each process is known by hand.
+//! A table after which the lineage of each process is known by hand.
 use crate::given::{Given, NOTHING};
 use crate::play::{answers_of, events_of};
 use crate::row::Act::Call;
@@ -7,13 +7,13 @@ use crate::row::{NONE, Row, args_of};
 use sk_calls::Syscall;
 use sk_calls::Syscall::{Fork, Prctl, Setuid};
 use sk_insn::Record;
-use sk_kernel::laws::{Lineage, line};
+use sk_kernel::laws::{Lineage, lineage_of};
 use sk_kernel::{Answer, Event};
 use sk_table::{ListStore, ProcStore, SlotStore};
 use std::process::Abort;
 use std::test::Fail;
 
-/// A pid, the process that its line comes from, and the calls of its line with their registers.
+/// A pid, the process that its lineage comes from, and the calls of its lineage with their registers.
 type Told = (u32, u32, &'static [(Syscall, [i64; 3])]);
 
 const ROWS: [Row; 4] = [
@@ -33,28 +33,31 @@ const LINES: [Told; 3] = [
     (9, 9, &[]),
 ];
 
-/// Process 1 sets no_new_privs and forks, and each of the two takes another id.
+// Process 1 sets no_new_privs and forks, and each of the two takes another id.
 #[test]
-fn line_is_told_from_events_and_answers(rt: HostRuntime) -> Result<(), Fail> {
-    lines_are_told::<ListStore, HostRuntime>(&rt, &NOTHING)?;
-    lines_are_told::<SlotStore, HostRuntime>(&rt, &NOTHING)
+fn lineage_is_told_from_events_and_answers(rt: HostRuntime) -> Result<(), Fail> {
+    lineages_are_told::<ListStore, HostRuntime>(&rt, &NOTHING)?;
+    lineages_are_told::<SlotStore, HostRuntime>(&rt, &NOTHING)
 }
 
-fn lines_are_told<S: ProcStore, R: Abort + AllocGlobal>(rt: &R, given: &Given) -> Result<(), Fail> {
-    let answers = answers_of::<S, R>(rt, given.images(rt.alloc())?, &ROWS)?;
-    assert_lines(rt, &events_of(rt.alloc(), &ROWS)?, &answers)
+fn lineages_are_told<S: ProcStore, R: Abort + AllocGlobal>(
+    rt: &R,
+    given: &Given,
+) -> Result<(), Fail> {
+    let answers = answers_of::<S, R>(rt, given.declared(rt.alloc())?, &ROWS)?;
+    assert_lineages(rt, &events_of(rt.alloc(), &ROWS)?, &answers)
 }
 
-fn assert_lines<R: Abort + AllocGlobal>(
+fn assert_lineages<R: Abort + AllocGlobal>(
     rt: &R,
     events: &[Event],
     answers: &[Answer],
 ) -> Result<(), Fail> {
     assert_eq!(rt; answers.len(), events.len());
     for (pid, root, calls) in LINES {
-        let told = line(rt.alloc(), events, answers, pid)?;
+        let told = lineage_of(rt.alloc(), events, answers, pid)?;
         assert_eq!(rt; told.root, root);
-        assert!(rt; has_calls(&told, calls), "line of {pid}");
+        assert!(rt; has_calls(&told, calls), "lineage of {pid}");
     }
     Ok(())
 }

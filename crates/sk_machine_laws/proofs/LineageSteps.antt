@@ -1,4 +1,4 @@
--- What each event does to authorities, and that they are those of the lines.
+-- What each event does to authorities, and that they are those of the lineages.
 use Rattle.std.proofs.Common.{◌≡◌, ◌∙◌, ℕ, ◌==◌, ◌&&◌, ap, sym, refl, subst, cond, not, Bool, true, false, IsTrue, List, [], ◌∷◌, ◌++◌, Option, None, Some, Result, Ok, Err}
 use Rattle.std.specs.Option.{is_some, unwrap_or, option_to_list, option_map}
 use Rattle.std.specs.Result.{result_unwrap_or}
@@ -28,17 +28,17 @@ use Rattle.sk_machine.specs.declared.event.Event.TheVariants.{Call, Deliver, Res
 use Rattle.sk_calls.specs.declared.syscall.Syscall.{Syscall}
 use Rattle.sk_calls.specs.declared.syscall.Syscall.TheVariants as syscall
 use Rattle.sk_machine.specs.Events.{pid_of, recorded}
-use Rattle.sk_machine.specs.Given.{GivenImages}
+use Rattle.sk_machine.specs.Images.{Images}
 use Rattle.sk_calls.specs.Syscalls.{syscall_of}
 use Rattle.sk_calls.proofs.SyscallTable.{number_of-syscall_of}
-use Rattle.sk_machine.specs.Arguments.{register, low, signed}
+use Rattle.sk_machine.specs.Arguments.{register, unsigned, signed}
 use Rattle.sk_machine.specs.Authority.{Authority, authority_of, with_authority, authority_after}
 use Rattle.sk_machine.specs.Performed.{Performed, authorises}
 use Rattle.sk_machine.specs.Performing.{executing, execve, forks, subreaper_set, subreaper_asked, where_subreapers, with_subreaper, row}
 use Rattle.sk_machine.specs.Delivering.{signal_for}
 use Rattle.sk_machine.specs.Machine.{Stepped, judged, happened, step_of, world_after}
-use Rattle.sk_machine.specs.Lines.{Line, Happening, is_fork, has_returned, line_before, calls_added, line_of, authority_after_calls, history_after}
-use Rattle.sk_machine_laws.specs.LineLaws.{happening, EventChangesAuthority, AuthorityIsOfLine, LineComesFromInit}
+use Rattle.sk_machine.specs.Lineages.{Lineage, Happening, is_fork, has_returned, lineage_before, calls_added, lineage_of, authority_after_calls, history_after}
+use Rattle.sk_machine_laws.specs.LineageLaws.{happening, EventChangesAuthority, AuthorityIsOfLineage, LineageComesFromInit}
 use Rattle.sk_machine_laws.proofs.Carrying.{over_asked, over_changes, over_resignals, over_waits, over_kill, over_setpgid, over_setsid, over_wait4, over_end, over_delivered, over_resumed}
 use Rattle.sk_machine_laws.proofs.Authorities.{CameBy, Came, Keeps, came_still, came_at, came_by_rights, keeps_by_rights, keeps_still, keeps_changed, keeps}
 use Rattle.sk_machine_laws.proofs.EachCall.{is_fork_row, CallFacts, changing, each_call}
@@ -127,117 +127,117 @@ keeps_subreapers : (there : Bool) (w : World) (p : Performed) → Keeps w p.worl
 keeps_subreapers true w p kept = kept
 keeps_subreapers false w p kept = keeps_still w
 
-step_row : (images : GivenImages) (w : World) (pid q : ℕ) (body : Body) (which : Option Syscall) (call : Record)
+step_row : (declared : Images) (w : World) (pid q : ℕ) (body : Body) (which : Option Syscall) (call : Record)
     → HasAuthority w pid (authority_of body) → IsTrue (is_alive (at w pid))
-    → RowStep w pid q (λ a. result_unwrap_or (authority_after images which call a) a) (is_fork_row which) (row images w pid body which call)
-step_row images w pid q body which call own alive =
+    → RowStep w pid q (λ a. result_unwrap_or (authority_after declared which call a) a) (is_fork_row which) (row declared w pid body which call)
+step_row declared w pid q body which call own alive =
     let old : Authority = authority_of body in
     let kept = step_kept w pid q old own false in
-    each_call images w pid body call (OwnStep w pid q old) (record {
+    each_call declared w pid body call (OwnStep w pid q old) (record {
       answers = λ r. kept _ (over_asked Keeps keeps w r q);
       tells_signals = λ _. kept (at w q) (came_still (at w q));
       tells_ids = kept (at w q) (came_still (at w q));
       resignals = λ r. kept _ (over_resignals Keeps keeps w pid r q);
       authorises = step_authorises w pid q old own;
       executes = step_execve w pid q old own;
-      marks = kept _ (keeps_subreapers images.subreapers w (subreaper_set w pid call) (keeps_changed w pid (with_subreaper (not (register call 1 == 0))) (λ body. refl)) q);
-      asks_mark = kept _ (keeps_subreapers images.subreapers w (subreaper_asked w body.subreaper) (keeps_still w) q);
+      marks = kept _ (keeps_subreapers declared.subreapers w (subreaper_set w pid call) (keeps_changed w pid (with_subreaper (not (register call 1 == 0))) (λ body. refl)) q);
+      asks_mark = kept _ (keeps_subreapers declared.subreapers w (subreaper_asked w body.subreaper) (keeps_still w) q);
       pauses = kept _ (over_waits Keeps keeps w pid waiting.Pause q);
       waits_for = kept _ (over_wait4 Keeps keeps w pid call q);
       forks_one = step_fork w pid q old own (has_room w) refl alive;
       ends = λ status. kept _ (over_end Keeps keeps w pid status (alive_is_there (at w pid) alive) q);
-      kills = kept _ (over_changes Keeps keeps w 0 _ (over_kill Keeps keeps w pid body.creds (signed call 0) (low call 1)) q);
+      kills = kept _ (over_changes Keeps keeps w 0 _ (over_kill Keeps keeps w pid body.creds (signed call 0) (unsigned call 1)) q);
       regroups = kept _ (over_changes Keeps keeps w 0 _ (over_setpgid Keeps keeps w pid (signed call 0) (signed call 1)) q);
       leads = kept _ (over_changes Keeps keeps w pid _ (over_setsid Keeps keeps w pid) q);
-    }) which (λ a. result_unwrap_or (authority_after images which call a) a) refl
+    }) which (λ a. result_unwrap_or (authority_after declared which call a) a) refl
 
 -- ---- one event
 -- the same, where this call was performed, or none
-abbrev CallStep : GivenImages → World → ℕ → ℕ → Option Record → Performed → Type 0
-CallStep images w pid q o p =
-    CameBy (authority_after_calls images (cond ((pid == q) && not (is_fork o && has_returned q p.outcome)) (option_to_list o) []))
+abbrev CallStep : Images → World → ℕ → ℕ → Option Record → Performed → Type 0
+CallStep declared w pid q o p =
+    CameBy (authority_after_calls declared (cond ((pid == q) && not (is_fork o && has_returned q p.outcome)) (option_to_list o) []))
     (at p.world q) (at w (cond (is_fork o && has_returned q p.outcome) pid q))
 
-no_calls : (images : GivenImages) (b : Bool) (now before : Option Proc) → Came now before → CameBy (authority_after_calls images (cond b [] [])) now before
-no_calls images true now before came = came
-no_calls images false now before came = came
+no_calls : (declared : Images) (b : Bool) (now before : Option Proc) → Came now before → CameBy (authority_after_calls declared (cond b [] [])) now before
+no_calls declared true now before came = came
+no_calls declared false now before came = came
 
-one_call : (images : GivenImages) (b : Bool) (call : Record) (now before : Option Proc)
-    → CameBy (cond b (λ a. result_unwrap_or (authority_after images (syscall_of call.nr) call a) a) (λ a. a)) now before
-    → CameBy (authority_after_calls images (cond b (call ∷ []) [])) now before
-one_call images true call now before came = came
-one_call images false call now before came = came
+one_call : (declared : Images) (b : Bool) (call : Record) (now before : Option Proc)
+    → CameBy (cond b (λ a. result_unwrap_or (authority_after declared (syscall_of call.nr) call a) a) (λ a. a)) now before
+    → CameBy (authority_after_calls declared (cond b (call ∷ []) [])) now before
+one_call declared true call now before came = came
+one_call declared false call now before came = came
 
-step_performed : (images : GivenImages) (w : World) (pid q : ℕ) (body : Body) (call : Record) → HasAuthority w pid (authority_of body) → IsTrue (is_alive (at w pid))
-    → CallStep images w pid q (Some call) (row images w pid body (syscall_of call.nr) call)
-step_performed images w pid q body call own alive =
-    let p : Performed = row images w pid body (syscall_of call.nr) call in
-    let f : Authority → Authority = λ a. result_unwrap_or (authority_after images (syscall_of call.nr) call a) a in
-    one_call images ((pid == q) && not ((call.nr == 57) && has_returned q p.outcome)) call (at p.world q) (at w (cond ((call.nr == 57) && has_returned q p.outcome) pid q))
-    (subst (λ b. RowStep w pid q f b p) (fork_number call.nr) (step_row images w pid q body (syscall_of call.nr) call own alive))
+step_performed : (declared : Images) (w : World) (pid q : ℕ) (body : Body) (call : Record) → HasAuthority w pid (authority_of body) → IsTrue (is_alive (at w pid))
+    → CallStep declared w pid q (Some call) (row declared w pid body (syscall_of call.nr) call)
+step_performed declared w pid q body call own alive =
+    let p : Performed = row declared w pid body (syscall_of call.nr) call in
+    let f : Authority → Authority = λ a. result_unwrap_or (authority_after declared (syscall_of call.nr) call a) a in
+    one_call declared ((pid == q) && not ((call.nr == 57) && has_returned q p.outcome)) call (at p.world q) (at w (cond ((call.nr == 57) && has_returned q p.outcome) pid q))
+    (subst (λ b. RowStep w pid q f b p) (fork_number call.nr) (step_row declared w pid q body (syscall_of call.nr) call own alive))
 
-step_refused : (images : GivenImages) (w : World) (pid q : ℕ) (p : Performed) → Keeps w p.world → CallStep images w pid q None p
-step_refused images w pid q p keeps = no_calls images ((pid == q) && true) (at p.world q) (at w q) (keeps q)
+step_refused : (declared : Images) (w : World) (pid q : ℕ) (p : Performed) → Keeps w p.world → CallStep declared w pid q None p
+step_refused declared w pid q p keeps = no_calls declared ((pid == q) && true) (at p.world q) (at w q) (keeps q)
 
-step_judged : (images : GivenImages) (w : World) (pid q : ℕ) (body : Body) (call : Record) (verdict : ℕ) (a : Action)
+step_judged : (declared : Images) (w : World) (pid q : ℕ) (body : Body) (call : Record) (verdict : ℕ) (a : Action)
     → HasAuthority w pid (authority_of body) → IsTrue (is_alive (at w pid))
-    → CallStep images w pid q (cond (performs a) (Some call) None) (judged images w pid body call verdict a)
-step_judged images w pid q body call verdict action.Allow own alive = step_performed images w pid q body call own alive
-step_judged images w pid q body call verdict action.Log own alive = step_performed images w pid q body call own alive
-step_judged images w pid q body call verdict action.Trap own alive = step_refused images w pid q (judged images w pid body call verdict action.Trap) (keeps_by_rights w (forced w pid) (forced_rights w pid))
-step_judged images w pid q body call verdict action.Errno own alive = step_refused images w pid q (judged images w pid body call verdict action.Errno) (keeps_still w)
-step_judged images w pid q body call verdict action.UserNotif own alive = step_refused images w pid q (judged images w pid body call verdict action.UserNotif) (keeps_still w)
-step_judged images w pid q body call verdict action.Trace own alive = step_refused images w pid q (judged images w pid body call verdict action.Trace) (keeps_still w)
-step_judged images w pid q body call verdict action.KillProcess own alive = step_refused images w pid q (judged images w pid body call verdict action.KillProcess) (over_end Keeps keeps w pid SIGSYS (alive_is_there (at w pid) alive))
-step_judged images w pid q body call verdict action.KillThread own alive = step_refused images w pid q (judged images w pid body call verdict action.KillThread) (over_end Keeps keeps w pid SIGSYS (alive_is_there (at w pid) alive))
-step_judged images w pid q body call verdict action.Unknown own alive = step_refused images w pid q (judged images w pid body call verdict action.Unknown) (over_end Keeps keeps w pid SIGSYS (alive_is_there (at w pid) alive))
+    → CallStep declared w pid q (cond (performs a) (Some call) None) (judged declared w pid body call verdict a)
+step_judged declared w pid q body call verdict action.Allow own alive = step_performed declared w pid q body call own alive
+step_judged declared w pid q body call verdict action.Log own alive = step_performed declared w pid q body call own alive
+step_judged declared w pid q body call verdict action.Trap own alive = step_refused declared w pid q (judged declared w pid body call verdict action.Trap) (keeps_by_rights w (forced w pid) (forced_rights w pid))
+step_judged declared w pid q body call verdict action.Errno own alive = step_refused declared w pid q (judged declared w pid body call verdict action.Errno) (keeps_still w)
+step_judged declared w pid q body call verdict action.UserNotif own alive = step_refused declared w pid q (judged declared w pid body call verdict action.UserNotif) (keeps_still w)
+step_judged declared w pid q body call verdict action.Trace own alive = step_refused declared w pid q (judged declared w pid body call verdict action.Trace) (keeps_still w)
+step_judged declared w pid q body call verdict action.KillProcess own alive = step_refused declared w pid q (judged declared w pid body call verdict action.KillProcess) (over_end Keeps keeps w pid SIGSYS (alive_is_there (at w pid) alive))
+step_judged declared w pid q body call verdict action.KillThread own alive = step_refused declared w pid q (judged declared w pid body call verdict action.KillThread) (over_end Keeps keeps w pid SIGSYS (alive_is_there (at w pid) alive))
+step_judged declared w pid q body call verdict action.Unknown own alive = step_refused declared w pid q (judged declared w pid body call verdict action.Unknown) (over_end Keeps keeps w pid SIGSYS (alive_is_there (at w pid) alive))
 
-abbrev EventStep : GivenImages → World → Event → Stepped → ℕ → Type 0
-EventStep images w event s q =
-    CameBy (authority_after_calls images (calls_added q (event, s.answer))) (at s.world q) (at w (line_before q (event, s.answer)))
+abbrev EventStep : Images → World → Event → Stepped → ℕ → Type 0
+EventStep declared w event s q =
+    CameBy (authority_after_calls declared (calls_added q (event, s.answer))) (at s.world q) (at w (lineage_before q (event, s.answer)))
 
-step_happened : (images : GivenImages) (w : World) (event : Event) (p : Proc) (q : ℕ) → at w (pid_of event) ≡ Some p → IsTrue (is_alive (at w (pid_of event)))
-    → EventStep images w event (happened images w p.body event) q
-step_happened images w (Call pid ip asked) p q there alive =
+step_happened : (declared : Images) (w : World) (event : Event) (p : Proc) (q : ℕ) → at w (pid_of event) ≡ Some p → IsTrue (is_alive (at w (pid_of event)))
+    → EventStep declared w event (happened declared w p.body event) q
+step_happened declared w (Call pid ip asked) p q there alive =
     let call : Record = recorded ip asked in
     let verdict : ℕ = verdict_of p.body.chain call in
-    step_judged images w pid q p.body call verdict (action_of verdict) (own_authority w pid p there) alive
-step_happened images w (Deliver pid) p q there alive =
-    at_delivery w pid p.body (signal_for p.body) (λ s. EventStep images w (Deliver pid) s q) (no_calls images ((pid == q) && true) (at w q) (at w q) (came_still (at w q)))
-    (λ n. no_calls images ((pid == q) && true) _ (at w q) (over_delivered Keeps keeps w pid p.body n (alive_is_there (at w pid) alive) q))
-step_happened images w (Resume pid) p q there alive = no_calls images ((pid == q) && true) _ (at w q) (over_resumed Keeps keeps w pid p.body.waiting q)
-step_happened images w (Fault pid) p q there alive = no_calls images ((pid == q) && true) _ (at w q) (over_end Keeps keeps w pid SIGSEGV (alive_is_there (at w pid) alive) q)
+    step_judged declared w pid q p.body call verdict (action_of verdict) (own_authority w pid p there) alive
+step_happened declared w (Deliver pid) p q there alive =
+    at_delivery w pid p.body (signal_for p.body) (λ s. EventStep declared w (Deliver pid) s q) (no_calls declared ((pid == q) && true) (at w q) (at w q) (came_still (at w q)))
+    (λ n. no_calls declared ((pid == q) && true) _ (at w q) (over_delivered Keeps keeps w pid p.body n (alive_is_there (at w pid) alive) q))
+step_happened declared w (Resume pid) p q there alive = no_calls declared ((pid == q) && true) _ (at w q) (over_resumed Keeps keeps w pid p.body.waiting q)
+step_happened declared w (Fault pid) p q there alive = no_calls declared ((pid == q) && true) _ (at w q) (over_end Keeps keeps w pid SIGSEGV (alive_is_there (at w pid) alive) q)
 
-pub step_event : (images : GivenImages) (w : World) (event : Event) (q : ℕ) → EventStep images w event (step_of images w event) q
-step_event images w event q =
-    at_step images w event (λ s. EventStep images w event s q) (λ _ _. no_calls images ((pid_of event == q) && true) (at w q) (at w q) (came_still (at w q)))
-    (λ p there alive. step_happened images w event p q there alive)
+pub step_event : (declared : Images) (w : World) (event : Event) (q : ℕ) → EventStep declared w event (step_of declared w event) q
+step_event declared w event q =
+    at_step declared w event (λ s. EventStep declared w event s q) (λ _ _. no_calls declared ((pid_of event == q) && true) (at w q) (at w q) (came_still (at w q)))
+    (λ p there alive. step_happened declared w event p q there alive)
 
 -- ---- a list of events
-pub after_more : (images : GivenImages) (calls more : List Record) (a : Authority)
-    → authority_after_calls images (calls ++ more) a ≡ authority_after_calls images more (authority_after_calls images calls a)
-after_more images [] more a = refl
-after_more images (call ∷ calls) more a = after_more images calls more _
+pub after_more : (declared : Images) (calls more : List Record) (a : Authority)
+    → authority_after_calls declared (calls ++ more) a ≡ authority_after_calls declared more (authority_after_calls declared calls a)
+after_more declared [] more a = refl
+after_more declared (call ∷ calls) more a = after_more declared calls more _
 
--- each process comes from the root of its line, with the authority that the line's calls make of the root's
-abbrev HasLines : GivenImages → World → World → List Happening → Type 0
-HasLines images start w history =
-    (q : ℕ) → CameBy (authority_after_calls images (line_of history q).calls) (at w q) (at start (line_of history q).root)
+-- each process comes from the root of its lineage, with the authority that the lineage's calls make of the root's
+abbrev HasLineages : Images → World → World → List Happening → Type 0
+HasLineages declared start w history =
+    (q : ℕ) → CameBy (authority_after_calls declared (lineage_of history q).calls) (at w q) (at start (lineage_of history q).root)
 
-one_more : (images : GivenImages) (start w : World) (event : Event) (history : List Happening) → HasLines images start w history
-    → HasLines images start (step_of images w event).world ((event, (step_of images w event).answer) ∷ history)
-one_more images start w event history lines q = λ p is.
-    let x : Happening = (event, (step_of images w event).answer) in
-    let line : Line = line_of history (line_before q x) in
-    let middle = step_event images w event q p is in
-    let root = lines (line_before q x) middle.0 middle.1 in
-    (root.0, root.1, middle.2 ∙ ap (authority_after_calls images (calls_added q x)) root.2 ∙ sym (after_more images line.calls (calls_added q x) (authority_of root.0.body)))
+one_more : (declared : Images) (start w : World) (event : Event) (history : List Happening) → HasLineages declared start w history
+    → HasLineages declared start (step_of declared w event).world ((event, (step_of declared w event).answer) ∷ history)
+one_more declared start w event history lineages q = λ p is.
+    let x : Happening = (event, (step_of declared w event).answer) in
+    let lineage : Lineage = lineage_of history (lineage_before q x) in
+    let middle = step_event declared w event q p is in
+    let root = lineages (lineage_before q x) middle.0 middle.1 in
+    (root.0, root.1, middle.2 ∙ ap (authority_after_calls declared (calls_added q x)) root.2 ∙ sym (after_more declared lineage.calls (calls_added q x) (authority_of root.0.body)))
 
-pub has_lines : (images : GivenImages) (start w : World) (events : List Event) (history : List Happening) → HasLines images start w history
-    → HasLines images start (world_after images w events) (history_after images w events history)
-has_lines images start w [] history lines = lines
-has_lines images start w (event ∷ events) history lines =
-    has_lines images start (step_of images w event).world events ((event, (step_of images w event).answer) ∷ history) (one_more images start w event history lines)
+pub has_lineages : (declared : Images) (start w : World) (events : List Event) (history : List Happening) → HasLineages declared start w history
+    → HasLineages declared start (world_after declared w events) (history_after declared w events history)
+has_lineages declared start w [] history lineages = lineages
+has_lineages declared start w (event ∷ events) history lineages =
+    has_lineages declared start (step_of declared w event).world events ((event, (step_of declared w event).answer) ∷ history) (one_more declared start w event history lineages)
 
 someone : (o : Option Proc) → IsTrue (is_some o) → (p : Proc) × (o ≡ Some p)
 someone None there = absurd (false≢true there)
@@ -255,19 +255,19 @@ by_origin f now before came there =
     (ap is_some old.1, ap authority_in p.1 ∙ ap (λ a. Some a) old.2 ∙ ap (λ o. option_map f (authority_in o)) (sym old.1))
 
 pub event_changes_authority : EventChangesAuthority
-event_changes_authority images w event pid there =
-    by_origin (authority_after_calls images (calls_added pid (happening images w event))) (at (step_of images w event).world pid) (at w (line_before pid (happening images w event)))
-    (step_event images w event pid) there
+event_changes_authority declared w event pid there =
+    by_origin (authority_after_calls declared (calls_added pid (happening declared w event))) (at (step_of declared w event).world pid) (at w (lineage_before pid (happening declared w event)))
+    (step_event declared w event pid) there
 
-pub authority_is_of_line : AuthorityIsOfLine
-authority_is_of_line images w events pid there =
-    let line : Line = line_of (history_after images w events []) pid in
-    by_origin (authority_after_calls images line.calls) (at (world_after images w events) pid) (at w line.root)
-    (has_lines images w w events [] (λ q. came_still (at w q)) pid) there
+pub authority_is_of_lineage : AuthorityIsOfLineage
+authority_is_of_lineage declared w events pid there =
+    let lineage : Lineage = lineage_of (history_after declared w events []) pid in
+    by_origin (authority_after_calls declared lineage.calls) (at (world_after declared w events) pid) (at w lineage.root)
+    (has_lineages declared w w events [] (λ q. came_still (at w q)) pid) there
 
 only_init : (q : ℕ) → IsTrue (is_some (at opening q)) → q ≡ INIT
 only_init = everywhere (record { procs = none; last = INIT }) INIT (Some first_process) (λ k x. IsTrue (is_some x) → k ≡ INIT) (λ _. refl) (λ q ne there. absurd (false≢true there))
 
-pub line_comes_from_init : LineComesFromInit
-line_comes_from_init images events pid there =
-    only_init (line_of (history_after images opening events []) pid).root (authority_is_of_line images opening events pid there).0
+pub lineage_comes_from_init : LineageComesFromInit
+lineage_comes_from_init declared events pid there =
+    only_init (lineage_of (history_after declared opening events []) pid).root (authority_is_of_lineage declared opening events pid there).0

@@ -1,7 +1,7 @@
 use Rattle.std.proofs.Common.{◌≡◌}
 use Rattle.sk_text.specs.Lines.{words_of}
 use Rattle.sk_replay.specs.Lines.{said}
-use Rattle.sk_replay.proofs.line.Line.of.Given as goal
+use Rattle.sk_replay.proofs.line.LogLine.of.Given as goal
 
 -- the words that are left say what all of them say
 abbrev pub invariant-loop-word : goal.invariant-loop-word

@@ -1,4 +1,4 @@
-//! Reports that were worked out by hand. Nothing here does anything when it runs.
+//! Reports that were worked out by hand. No program calls the function: its contract is the law.
 ghost use Rattle.sk_report.specs.laws.WorkedReports.{WorkedReports};
 
 /// The definitions give the reports that were worked out.
