@@ -55,7 +55,9 @@ fn done<R: Source, W: Sink>(
     }
 }
 
-// Runs a scenario. What is wrong with an input that is none is told here.
+// Runs a scenario. What is wrong with an input that is none is told here. It stays a function of its own: a scenario has
+// some 30 KiB on the stack, which no other word need touch.
+#[inline(never)]
 fn run<R: Source, W: Sink>(
     alloc: Global,
     reader: &mut R,
