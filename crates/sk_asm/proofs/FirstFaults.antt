@@ -583,14 +583,22 @@ first_of_a_text text f h = elim (cases_lt 1048576 (length text)) [
   | inr short ↦ let b = le-ltb 1048576 (length text) short in inr (short, passes_find_the_first 1 (lines_of text) f (rw b at h))
 ]
 
+-- what is told as it is given is a fault, unless memory was refused
+module _ {T : Type 0} (view : T → List Insn) (Fault : AsmFault → Type 0) (given : Result (List Insn) AsmFault) (holds : (fault : AsmFault) → given ≡ Err fault → Fault fault) where
+  pub told : (answer : Result T AsmFault) → Answers view answer given → IfErr answer (λ fault. fault ≢ Memory → Fault fault)
+  told (Ok value) h = tt
+  told (Err (Line n)) h = λ other. holds (Line n) h
+  told (Err (Label n)) h = λ other. holds (Label n) h
+  told (Err (Twice n)) h = λ other. holds (Twice n) h
+  told (Err (Far n)) h = λ other. holds (Far n) h
+  told (Err (Back n)) h = λ other. holds (Back n) h
+  told (Err (TooLong n)) h = λ other. holds (TooLong n) h
+  told (Err Memory) h = λ other. absurd (other refl)
+
 -- the answer of the passes
-pub answers_first : {T : Type 0} (view : T → List Insn) (answer : Result T AsmFault) (text : List ℕ) → Answers view answer (assembled text)
-    → IfErr answer (λ fault. fault ≢ Memory → IsFirstTextFault text fault)
-answers_first view (Ok value) text h = tt
-answers_first view (Err (Line n)) text h = λ other. first_of_a_text text (Line n) h
-answers_first view (Err (Label n)) text h = λ other. first_of_a_text text (Label n) h
-answers_first view (Err (Twice n)) text h = λ other. first_of_a_text text (Twice n) h
-answers_first view (Err (Far n)) text h = λ other. first_of_a_text text (Far n) h
-answers_first view (Err (Back n)) text h = λ other. first_of_a_text text (Back n) h
-answers_first view (Err (TooLong n)) text h = λ other. first_of_a_text text (TooLong n) h
-answers_first view (Err Memory) text h = λ other. absurd (other refl)
+module _ {T : Type 0} (view : T → List Insn) (answer : Result T AsmFault) where
+  pub answers_first : (text : List ℕ) → Answers view answer (assembled text) → IfErr answer (λ fault. fault ≢ Memory → IsFirstTextFault text fault)
+  answers_first text h = told view (IsFirstTextFault text) (assembled text) (first_of_a_text text) answer h
+
+  pub answers_first_line : (first : ℕ) (lines : List (List ℕ)) → Answers view answer (assembled_lines first lines) → IfErr answer (λ fault. fault ≢ Memory → IsFirstFault first lines fault)
+  answers_first_line first lines h = told view (IsFirstFault first lines) (assembled_lines first lines) (passes_find_the_first first lines) answer h

@@ -1,34 +1,27 @@
 //! The lines of a block, which the line `end` ends, or of a whole text.
-ghost use Rattle.std.specs.Prelude.{◌≡◌};
-ghost use Rattle.std.specs.Iterator.{YieldsFirstRef, item_count};
+ghost use Rattle.std.specs.Prelude.{◌≡◌, ◌∷◌, MatchOption};
+ghost use Rattle.std.specs.Iterator.{YieldsFirstRef};
 ghost use Rattle.sk_asm.specs.Block.{are_end, is_end, lines_in};
-ghost use Rattle.sk_text.specs.Lines.{words_of};
+ghost use Rattle.sk_text.specs.Lines.{lines_of, words_of};
 
 use crate::parse::LONGEST_LINE;
 use sk_text::{Lines, Words, is_same};
 
-// The lines of a block, or of a whole text.
-#[derive(Drop)]
-pub(crate) struct BlockLines<'a> {
-    pub(crate) rest: Lines<'a>,
-    pub(crate) is_block: bool,
-}
-
-impl<'a> Iterator for BlockLines<'a> {
-    type Item = &'a [u8];
-
-    ghost next_gives = { YieldsFirstRef (λ s. lines_in s.is_block s.rest.0.now) };
-
-    ghost remaining = { item_count (λ s. lines_in s.is_block s.rest.0.now) };
-
-    fn next(&mut self) -> Option<&'a [u8]> {
-        let line = self.rest.next()?;
-        if self.is_block && is_end(line) {
-            self.rest = Lines(&[]);
-            return None;
-        }
-        Some(line)
+// Cuts off the next line of a block, or of a whole text. The line that ends the block stays.
+#[inline(always)]
+pub(crate) fn next_line<'a>(lines: &mut Lines<'a>, is_block: bool) -> Option<&'a [u8]>
+    ensures block { YieldsFirstRef (λ lines. lines_in is_block lines.0.now) lines.old result lines.new }
+    ensures text { MatchOption result
+        (lines_of lines.new.0.now ≡ lines_of lines.old.0.now)
+        (λ line. lines_of lines.old.0.now ≡ line.now ∷ lines_of lines.new.0.now) }
+{
+    let ahead = lines.0;
+    let line = lines.next()?;
+    if is_block && is_end(line) {
+        lines.0 = ahead;
+        return None;
     }
+    Some(line)
 }
 
 /// Whether a line ends a block. Nearly all others show by their first byte that they don't.

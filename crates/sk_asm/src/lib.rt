@@ -22,5 +22,5 @@ pub use examples::{example_faults, example_texts};
 pub use fault::AsmFault;
 pub use line::push_words;
 pub use listing::list;
-pub use passes::{assemble, assemble_block};
+pub use passes::{BlockCode, assemble, assemble_block};
 pub use shape::Shape;

@@ -1,17 +1,17 @@
 //! The two passes: one over the lines, for their labels and instructions, and one over the instructions, for their jumps.
-ghost use Rattle.std.specs.Prelude.{Err, ◌≡◌, ◌≢◌, ◌+◌, ◌-◌, ◌≤◌, ◌<◌, ◌^◌, length, IfOk, IfErr, List, [], Some};
+ghost use Rattle.std.specs.Prelude.{Err, ◌≡◌, ◌≢◌, ◌+◌, ◌-◌, ◌≤◌, ◌<◌, ◌^◌, length, drop, IfOk, IfErr, List, [], Some};
 ghost use Rattle.sk_asm.specs.Assembly.{Assembles, AssemblesText, Finds};
 ghost use Rattle.sk_asm.specs.Block.{lines_in, until_end};
 ghost use Rattle.sk_insn.specs.declared.insn.Insn.{Insn};
 ghost use Rattle.sk_asm.specs.Faults.{Answers};
-ghost use Rattle.sk_asm.specs.LineFaults.{IsFirstTextFault};
+ghost use Rattle.sk_asm.specs.LineFaults.{IsFirstFault, IsFirstTextFault};
 ghost use Rattle.sk_asm.specs.Labels.{Labels as Places, label_place};
 ghost use Rattle.sk_asm.specs.Passes.{labelled, landed, distance, resolved, emitted, assembled, assembled_lines};
 ghost use Rattle.sk_asm.specs.Drafts.{AreAmong, completed};
 ghost use Rattle.sk_asm.specs.Views.{destination_to, statement, labels_in, jumps_in};
 ghost use Rattle.sk_text.specs.Lines.{lines_of};
 
-use crate::block::BlockLines;
+use crate::block::next_line;
 use crate::distance::Distance;
 use crate::fault::AsmFault;
 use crate::found::{Found, Labels};
@@ -34,65 +34,101 @@ pub fn assemble(alloc: Global, text: &[u8]) -> Result<Vec<Insn>, AsmFault>
     if text.len() > MOST_BYTES {
         return Err(AsmFault::TooLong { n: 0 });
     }
-    assemble_lines(alloc, 0, text, false)
+    let code = assemble_lines(alloc, 0, text, false)?;
+    Ok(code.insns)
+}
+
+/// The instructions of a block of code, and where it ends.
+#[derive(Drop)]
+pub struct BlockCode<'a> {
+    pub insns: Vec<Insn>,
+    /// How many lines stand before the line `end`, or before the end of the text.
+    pub count: usize,
+    /// The text from the line `end` on.
+    pub rest: &'a [u8],
 }
 
 /// The instructions that the lines of a block stand for, up to the first line `end` or to the end of
 /// the text, or the first of their faults. Before the first of them stand `before` lines.
-pub fn assemble_block(alloc: Global, before: usize, text: &[u8]) -> Result<Vec<Insn>, AsmFault>
+pub fn assemble_block<'a>(
+    alloc: Global,
+    before: usize,
+    text: &'a [u8],
+) -> Result<BlockCode<'a>, AsmFault>
     requires numbers { before + length text.now < 2 ^ 64 }
-    ensures exact { Answers (λ insns. insns.items) result
+    ensures exact { Answers (λ code. code.insns.items) result
         (assembled_lines (before + 1) (until_end (lines_of text.now))) }
-    ensures stands { IfOk result (λ insns. Assembles (until_end (lines_of text.now)) insns.items) }
+    ensures stands { IfOk result (λ code. Assembles (until_end (lines_of text.now)) code.insns.items) }
     ensures only { (insns : List Insn) →
-        Assembles (until_end (lines_of text.now)) insns → Finds (λ found. found.items) result insns }
+        Assembles (until_end (lines_of text.now)) insns → Finds (λ code. code.insns.items) result insns }
+    ensures count { IfOk result (λ code. code.count ≡ length (until_end (lines_of text.now))) }
+    ensures rest { IfOk result (λ code. lines_of code.rest.now ≡ drop code.count (lines_of text.now)) }
+    ensures first { IfErr result (λ fault. fault ≢ AsmFault.Memory →
+        IsFirstFault (before + 1) (until_end (lines_of text.now)) fault) }
 {
     assemble_lines(alloc, before, text, true)
 }
 
 #[tactic(auto, unfolding(crate::specs::Passes::assembled_lines))]
-fn assemble_lines(
+fn assemble_lines<'a>(
     alloc: Global,
     before: usize,
-    text: &[u8],
+    text: &'a [u8],
     is_block: bool,
-) -> Result<Vec<Insn>, AsmFault>
+) -> Result<BlockCode<'a>, AsmFault>
     requires numbers { before + length text.now < 2 ^ 64 }
-    ensures exact { Answers (λ insns. insns.items) result (assembled_lines (before + 1) (lines_in is_block text.now)) }
+    ensures exact { Answers (λ code. code.insns.items) result (assembled_lines (before + 1) (lines_in is_block text.now)) }
+    ensures count { IfOk result (λ code. code.count ≡ length (lines_in is_block text.now)) }
+    ensures rest { IfOk result (λ code. lines_of code.rest.now ≡ drop code.count (lines_of text.now)) }
 {
+    let FoundBlock { found, count, rest } = find(alloc, before, text, is_block)?;
     let Found {
         labels,
         insns,
         jumps,
-    } = find(alloc, before, text, is_block)?;
-    complete(&labels, jumps.as_slice(), insns)
+    } = found;
+    let insns = complete(&labels, jumps.as_slice(), insns)?;
+    Ok(BlockCode { insns, count, rest })
 }
 
-// What the lines say.
+// What the lines of a block say, how many they are, and the text behind them.
+#[derive(Drop)]
+struct FoundBlock<'a> {
+    found: Found<'a>,
+    count: usize,
+    rest: &'a [u8],
+}
+
 fn find<'a>(
     alloc: Global,
     before: usize,
     text: &'a [u8],
     is_block: bool,
-) -> Result<Found<'a>, AsmFault>
+) -> Result<FoundBlock<'a>, AsmFault>
     requires numbers { before + length text.now < 2 ^ 64 }
-    ensures labels { Answers (λ found. labels_in found.labels) result (labelled (before + 1) [] 0 (lines_in is_block text.now)) }
-    ensures among { IfOk result (λ found. AreAmong (length found.insns.items) (jumps_in found.jumps.items)) }
-    ensures insns { IfOk result (λ found. (labels : Places)
-        → completed labels found.insns.items (jumps_in found.jumps.items) ≡ emitted labels (before + 1) 0 (lines_in is_block text.now)) }
+    ensures labels { Answers (λ block. labels_in block.found.labels) result (labelled (before + 1) [] 0 (lines_in is_block text.now)) }
+    ensures among { IfOk result (λ block. AreAmong (length block.found.insns.items) (jumps_in block.found.jumps.items)) }
+    ensures insns { IfOk result (λ block. (labels : Places)
+        → completed labels block.found.insns.items (jumps_in block.found.jumps.items) ≡ emitted labels (before + 1) 0 (lines_in is_block text.now)) }
+    ensures count { IfOk result (λ block. block.count ≡ length (lines_in is_block text.now)) }
+    ensures rest { IfOk result (λ block. lines_of block.rest.now ≡ drop block.count (lines_of text.now)) }
 {
-    let rest = Lines(text);
+    let mut lines = Lines(text);
     let mut found = Found::new(alloc);
     let mut clean = clean_bytes(text, is_block);
     let mut at = 0;
     let mut n = before;
-    for line in (BlockLines { rest, is_block }) {
+    while let Some(line) = next_line(&mut lines, is_block) {
         n += 1;
         let begun = check_line(n, line, line.len() <= clean)?;
         clean = clean.saturating_sub(line.len() + 1);
         at = found.take(n, at, begun)?;
     }
-    Ok(found)
+    Ok(FoundBlock {
+        found,
+        count: n - before,
+        rest: lines.0,
+    })
 }
 
 // The instructions, with the distances of these jumps.

@@ -177,8 +177,10 @@ fn lines_and_texts_have_a_limit(rt: HostRuntime) -> Result<(), Fail> {
 #[test]
 fn assembles_blocks(rt: HostRuntime) -> Result<(), Fail> {
     let alloc = rt.alloc();
-    let insns = assemble_block(alloc, 1, b"ja end\nend:\n end \nbogus")?;
-    assert_eq!(rt; insns.as_slice(), [insn(0x05, 0, 0, 0)].as_slice());
+    let code = assemble_block(alloc, 1, b"ja end\nend:\n end \nbogus")?;
+    assert_eq!(rt; code.insns.as_slice(), [insn(0x05, 0, 0, 0)].as_slice());
+    assert_eq!(rt; code.count, 2);
+    assert_eq!(rt; code.rest, b" end \nbogus".as_slice());
     for (text, fault) in [
         (b"ja x\nend".as_slice(), AsmFault::Label { n: 2 }),
         (b"a:\nja a\nend x", AsmFault::Line { n: 4 }),
