@@ -4,6 +4,7 @@
 mod action;
 mod image;
 mod insn;
+mod names;
 mod operation;
 mod record;
 

@@ -1,6 +1,6 @@
-//! The table of the operations: their codes, their names, and the parts that they are made of.
-ghost use Rattle.std.specs.Prelude.{◌≡◌, ◌<◌, ◌≤◌, length};
-ghost use Rattle.sk_insn.specs.Operations.{operation_of, operation_named, code_of, name_of, load_class, store_class, arithmetic_bits, comparison_bits, source_bit};
+//! The table of the operations: their codes, and the parts that they are made of.
+ghost use Rattle.std.specs.Prelude.{◌≡◌};
+ghost use Rattle.sk_insn.specs.Operations.{operation_of, code_of, register_bit, arithmetic_bits, comparison_bits, source_bit};
 
 /// One of the two registers of the machine.
 #[derive(Clone, Copy, Debug, PartialEq, Eq)]
@@ -128,21 +128,12 @@ pub fn decode(code: u16) -> Option<Operation>
 }
 
 impl Register {
-    fn load_class(self) -> u16
-        ensures class { result ≡ load_class self }
+    fn bit(self) -> u16
+        ensures bit { result ≡ register_bit self }
     {
         match self {
             Register::Accumulator => 0x00,
             Register::Index => 0x01,
-        }
-    }
-
-    fn store_class(self) -> u16
-        ensures class { result ≡ store_class self }
-    {
-        match self {
-            Register::Accumulator => 0x02,
-            Register::Index => 0x03,
         }
     }
 }
@@ -197,10 +188,10 @@ impl Operation {
     {
         match self {
             Operation::LoadRecord => 0x20,
-            Operation::LoadConstant(register) => register.load_class(),
-            Operation::LoadScratch(register) => register.load_class() + 0x60,
-            Operation::LoadLength(register) => register.load_class() + 0x80,
-            Operation::StoreScratch(register) => register.store_class(),
+            Operation::LoadConstant(register) => register.bit(),
+            Operation::LoadScratch(register) => 0x60 + register.bit(),
+            Operation::LoadLength(register) => 0x80 + register.bit(),
+            Operation::StoreScratch(register) => 0x02 + register.bit(),
             Operation::Compute(arithmetic, operand) => 0x04 + arithmetic.bits() + operand.bit(),
             Operation::Negate => 0x84,
             Operation::Jump => 0x05,
@@ -209,133 +200,6 @@ impl Operation {
             Operation::ReturnAccumulator => 0x16,
             Operation::CopyToIndex => 0x07,
             Operation::CopyToAccumulator => 0x87,
-        }
-    }
-
-    /// Its name in the assembler.
-    pub fn name(self) -> &'static str
-        ensures name { result.now ≡ name_of self }
-    {
-        match self {
-            Operation::LoadRecord => "ldabs",
-            Operation::LoadConstant(Register::Accumulator) => "ldimm",
-            Operation::LoadConstant(Register::Index) => "ldximm",
-            Operation::LoadScratch(Register::Accumulator) => "ldmem",
-            Operation::LoadScratch(Register::Index) => "ldxmem",
-            Operation::LoadLength(Register::Accumulator) => "ldlen",
-            Operation::LoadLength(Register::Index) => "ldxlen",
-            Operation::StoreScratch(Register::Accumulator) => "st",
-            Operation::StoreScratch(Register::Index) => "stx",
-            Operation::Compute(Arithmetic::Add, Operand::Constant) => "add",
-            Operation::Compute(Arithmetic::Add, Operand::IndexRegister) => "addx",
-            Operation::Compute(Arithmetic::Subtract, Operand::Constant) => "sub",
-            Operation::Compute(Arithmetic::Subtract, Operand::IndexRegister) => "subx",
-            Operation::Compute(Arithmetic::Multiply, Operand::Constant) => "mul",
-            Operation::Compute(Arithmetic::Multiply, Operand::IndexRegister) => "mulx",
-            Operation::Compute(Arithmetic::Divide, Operand::Constant) => "div",
-            Operation::Compute(Arithmetic::Divide, Operand::IndexRegister) => "divx",
-            Operation::Compute(Arithmetic::Or, Operand::Constant) => "or",
-            Operation::Compute(Arithmetic::Or, Operand::IndexRegister) => "orx",
-            Operation::Compute(Arithmetic::And, Operand::Constant) => "and",
-            Operation::Compute(Arithmetic::And, Operand::IndexRegister) => "andx",
-            Operation::Compute(Arithmetic::ShiftLeft, Operand::Constant) => "lsh",
-            Operation::Compute(Arithmetic::ShiftLeft, Operand::IndexRegister) => "lshx",
-            Operation::Compute(Arithmetic::ShiftRight, Operand::Constant) => "rsh",
-            Operation::Compute(Arithmetic::ShiftRight, Operand::IndexRegister) => "rshx",
-            Operation::Compute(Arithmetic::ExclusiveOr, Operand::Constant) => "xor",
-            Operation::Compute(Arithmetic::ExclusiveOr, Operand::IndexRegister) => "xorx",
-            Operation::Negate => "neg",
-            Operation::Jump => "ja",
-            Operation::Branch(Comparison::Equal, Operand::Constant) => "jeq",
-            Operation::Branch(Comparison::Equal, Operand::IndexRegister) => "jeqx",
-            Operation::Branch(Comparison::Greater, Operand::Constant) => "jgt",
-            Operation::Branch(Comparison::Greater, Operand::IndexRegister) => "jgtx",
-            Operation::Branch(Comparison::GreaterOrEqual, Operand::Constant) => "jge",
-            Operation::Branch(Comparison::GreaterOrEqual, Operand::IndexRegister) => "jgex",
-            Operation::Branch(Comparison::CommonBits, Operand::Constant) => "jset",
-            Operation::Branch(Comparison::CommonBits, Operand::IndexRegister) => "jsetx",
-            Operation::ReturnConstant => "ret",
-            Operation::ReturnAccumulator => "reta",
-            Operation::CopyToIndex => "tax",
-            Operation::CopyToAccumulator => "txa",
-        }
-    }
-
-    /// The operation with this name, if there is one.
-    #[inline(always)]
-    pub fn named(name: &[u8]) -> Option<Operation>
-        ensures operation { result ≡ operation_named name.now }
-    {
-        if name.len() < 6 {
-            Operation::short_named(name)
-        } else {
-            Operation::long_named(name)
-        }
-    }
-
-    #[inline(always)]
-    fn short_named(name: &[u8]) -> Option<Operation>
-        requires short { length name.now < 6 }
-        ensures operation { result ≡ operation_named name.now }
-    {
-        match name {
-            b"ldabs" => Some(Operation::LoadRecord),
-            b"ldimm" => Some(Operation::LoadConstant(Register::Accumulator)),
-            b"ldmem" => Some(Operation::LoadScratch(Register::Accumulator)),
-            b"ldlen" => Some(Operation::LoadLength(Register::Accumulator)),
-            b"st" => Some(Operation::StoreScratch(Register::Accumulator)),
-            b"stx" => Some(Operation::StoreScratch(Register::Index)),
-            b"add" => Some(Operation::Compute(Arithmetic::Add, Operand::Constant)),
-            b"addx" => Some(Operation::Compute(Arithmetic::Add, Operand::IndexRegister)),
-            b"sub" => Some(Operation::Compute(Arithmetic::Subtract, Operand::Constant)),
-            b"subx" => Some(Operation::Compute(Arithmetic::Subtract, Operand::IndexRegister)),
-            b"mul" => Some(Operation::Compute(Arithmetic::Multiply, Operand::Constant)),
-            b"mulx" => Some(Operation::Compute(Arithmetic::Multiply, Operand::IndexRegister)),
-            b"div" => Some(Operation::Compute(Arithmetic::Divide, Operand::Constant)),
-            b"divx" => Some(Operation::Compute(Arithmetic::Divide, Operand::IndexRegister)),
-            b"or" => Some(Operation::Compute(Arithmetic::Or, Operand::Constant)),
-            b"orx" => Some(Operation::Compute(Arithmetic::Or, Operand::IndexRegister)),
-            b"and" => Some(Operation::Compute(Arithmetic::And, Operand::Constant)),
-            b"andx" => Some(Operation::Compute(Arithmetic::And, Operand::IndexRegister)),
-            b"lsh" => Some(Operation::Compute(Arithmetic::ShiftLeft, Operand::Constant)),
-            b"lshx" => Some(Operation::Compute(Arithmetic::ShiftLeft, Operand::IndexRegister)),
-            b"rsh" => Some(Operation::Compute(Arithmetic::ShiftRight, Operand::Constant)),
-            b"rshx" => Some(Operation::Compute(Arithmetic::ShiftRight, Operand::IndexRegister)),
-            b"xor" => Some(Operation::Compute(Arithmetic::ExclusiveOr, Operand::Constant)),
-            b"xorx" => Some(Operation::Compute(Arithmetic::ExclusiveOr, Operand::IndexRegister)),
-            b"neg" => Some(Operation::Negate),
-            b"ja" => Some(Operation::Jump),
-            b"jeq" => Some(Operation::Branch(Comparison::Equal, Operand::Constant)),
-            b"jeqx" => Some(Operation::Branch(Comparison::Equal, Operand::IndexRegister)),
-            b"jgt" => Some(Operation::Branch(Comparison::Greater, Operand::Constant)),
-            b"jgtx" => Some(Operation::Branch(Comparison::Greater, Operand::IndexRegister)),
-            b"jge" => Some(Operation::Branch(Comparison::GreaterOrEqual, Operand::Constant)),
-            b"jgex" => Some(Operation::Branch(Comparison::GreaterOrEqual, Operand::IndexRegister)),
-            b"jset" => Some(Operation::Branch(Comparison::CommonBits, Operand::Constant)),
-            b"jsetx" => Some(Operation::Branch(Comparison::CommonBits, Operand::IndexRegister)),
-            b"ret" => Some(Operation::ReturnConstant),
-            b"reta" => Some(Operation::ReturnAccumulator),
-            b"tax" => Some(Operation::CopyToIndex),
-            b"txa" => Some(Operation::CopyToAccumulator),
-            _ => None,
-        }
-    }
-
-    fn long_named(name: &[u8]) -> Option<Operation>
-        requires long { 6 ≤ length name.now }
-        ensures operation { result ≡ operation_named name.now }
-    {
-        let is_constant = b"ldximm".as_slice() == name;
-        let is_scratch = b"ldxmem".as_slice() == name;
-        let is_length = b"ldxlen".as_slice() == name;
-        if is_constant {
-            Some(Operation::LoadConstant(Register::Index))
-        } else if is_scratch {
-            Some(Operation::LoadScratch(Register::Index))
-        } else if is_length {
-            Some(Operation::LoadLength(Register::Index))
-        } else {
-            None
         }
     }
 }
