@@ -132,9 +132,18 @@ fn insn_at(bytes: &[u8]) -> Insn
 pub fn write_insns(alloc: Global, insns: &[Insn]) -> Result<Vec<u8>, AllocError>
     ensures image { IfOk result (λ image. image.items ≡ image_of insns.now) }
 {
-    let mut image = Vec::with_capacity(alloc, 8 * insns.len())?;
-    for insn in insns {
-        image.extend_from_slice(&insn.bytes())?;
-    }
+    let mut image = vec![in alloc; 0; 8 * insns.len()]?;
+    write_each(&mut image, insns);
     Ok(image)
+}
+
+// Eight bytes are copied at a time into room that is there already.
+#[inline(always)]
+fn write_each(image: &mut [u8], insns: &[Insn])
+    requires { length image.old ≡ 8 * length insns.now }
+    ensures image { image.new ≡ image_of insns.now }
+{
+    for (place, insn) in insns.iter().enumerate() {
+        image[8 * place..8 * place + 8].copy_from_slice(&insn.bytes());
+    }
 }
