@@ -4,9 +4,9 @@ use Rattle.std.specs.Borrow.{Bor}
 use Rattle.std.specs.declared.hash.FoldHasher.{FoldHasher}
 use Rattle.std.specs.declared.hash.BuildHasherDefault.{BuildHasherDefault}
 use Rattle.indexmap.specs.IndexMap.{IndexMap}
-use Rattle.sk_asm.specs.declared.statement.Target.{Target}
 use Rattle.sk_asm.specs.declared.statement.Begun.{Begun}
-use Rattle.sk_asm.specs.declared.statement.Target.TheVariants as targets
+use Rattle.sk_asm.specs.declared.statement.Destination as going
+use Rattle.sk_asm.specs.declared.statement.Destination.TheVariants as destinations
 use Rattle.sk_asm.specs.declared.statement.Begun.TheVariants as begun
 use Rattle.sk_asm.specs.declared.statement.Jump.TheVariants as jumps
 use Rattle.sk_asm.specs.declared.statement.Pending as waiting
@@ -17,9 +17,9 @@ use Rattle.sk_asm.specs.declared.statement.Jump.{Jump}
 use Rattle.sk_asm.specs.Drafts.{Pending}
 
 -- a distance is a number
-abbrev pub destination_by : {N : Type 0} → (N → ℕ) → Target N → Destination
-destination_by number (targets.Further count) = Further (number count)
-destination_by number (targets.Labelled name) = Labelled name.now
+abbrev pub destination_by : {N : Type 0} → (N → ℕ) → going.Destination N → Destination
+destination_by number (destinations.Further count) = Further (number count)
+destination_by number (destinations.Labelled name) = Labelled name.now
 
 -- so many instructions further, or to the label that stands in place of the count
 abbrev pub destination_to : ℕ → Option (Bor (List ℕ)) → Destination

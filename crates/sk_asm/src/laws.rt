@@ -1,4 +1,5 @@
-//! Laws about the definitions. The functions do nothing; their contracts are what is proved.
+//! Laws about the definitions: the functions do nothing, and their contracts are what is proved. `assemble_listing` alone lists
+//! and assembles.
 ghost use Rattle.std.specs.Prelude.{◌≡◌, ◌↔◌, ℕ, List, Ok, Err, ◌≤◌, length};
 ghost use Rattle.sk_insn.specs.declared.insn.Insn.{Insn};
 ghost use Rattle.sk_asm.specs.Assembly.{AssemblesText, Finds};

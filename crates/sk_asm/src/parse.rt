@@ -11,7 +11,7 @@ ghost use Rattle.sk_asm.specs.declared.shape.Shape.TheVariants.{Bare, Number, Ac
 
 use crate::fault::AsmFault;
 use crate::shape::Shape;
-use crate::statement::{Begun, Jump, Target as Goal};
+use crate::statement::{Begun, Destination, Jump};
 use crate::value::{destination, label, returned, u8_of, u16_of, u32_of};
 use sk_insn::{Insn, Operation};
 use sk_text::{
@@ -112,7 +112,7 @@ pub(crate) fn parse_action(code: u16, words: Words<'_>) -> Option<Insn>
 pub(crate) fn parse_jump<'a>(code: u16, words: Words<'a>) -> Option<Jump<'a>>
     ensures exact { option_map statement result ≡ shaped Target code (words_of words.entry.0.now) }
 {
-    let to: Goal<'a, u32> = destination(one_word(words)?)?;
+    let to: Destination<'a, u32> = destination(one_word(words)?)?;
     let (k, label) = to.parts();
     Some(Jump::Always(plain(code, k), label))
 }
@@ -148,8 +148,8 @@ fn plain(code: u16, k: u32) -> Insn
 fn branch<'a>(code: u16, k: u32, jt: &'a [u8], jf: &'a [u8]) -> Option<Jump<'a>>
     ensures exact { option_map statement result ≡ branching code k jt.now jf.now }
 {
-    let jt: Goal<'a, u8> = destination(jt)?;
-    let jf: Goal<'a, u8> = destination(jf)?;
+    let jt: Destination<'a, u8> = destination(jt)?;
+    let jf: Destination<'a, u8> = destination(jf)?;
     let (jt, first) = jt.parts();
     let (jf, second) = jf.parts();
     Some(Jump::Branch(Insn { code, jt, jf, k }, first, second))

@@ -8,7 +8,8 @@ use sk_text::is_clean;
 // How far the text of a block is looked through. What stands behind it is for the most part no line of the block.
 const BLOCK_FRONT: usize = 8_192;
 
-// How many bytes at the beginning of a text are known to be clean. They are looked through many at a time.
+// How many bytes at the beginning of a text are known to be clean. They are looked through many at a time. The answer decides
+// how fast lines are read and nothing else: the contract lets 0 through too, after which each line is asked.
 #[tactic(auto, using(crate::proofs::Clean::clean_front, crate::proofs::Clean::clean_nowhere))]
 pub(crate) fn clean_bytes(text: &[u8], is_block: bool) -> usize
     ensures lines { AreClean result (lines_in is_block text.now) }

@@ -18,20 +18,20 @@ pub(crate) enum Begun<'a> {
 
 // Where a jump goes: so many instructions further, or to a label.
 #[derive(Clone, Copy)]
-pub(crate) enum Target<'a, N> {
+pub(crate) enum Destination<'a, N> {
     Further(N),
     Labelled(&'a [u8]),
 }
 
-impl<'a, N: Distance> Target<'a, N> {
+impl<'a, N: Distance> Destination<'a, N> {
     // The distance, as far as it is known, and the label.
     #[inline(always)]
     pub(crate) fn parts(self) -> (N, Option<&'a [u8]>)
         ensures exact { destination_to (N.number result.0) result.1 ≡ destination_by N.number self.entry }
     {
         match self {
-            Target::Further(count) => (count, None),
-            Target::Labelled(name) => (N::of(0), Some(name)),
+            Destination::Further(count) => (count, None),
+            Destination::Labelled(name) => (N::of(0), Some(name)),
         }
     }
 }

@@ -6,7 +6,7 @@ ghost use Rattle.sk_asm.specs.Views.{destination_by};
 ghost use Rattle.sk_text.specs.Numbers.{number_of, up_to};
 
 use crate::distance::Distance;
-use crate::statement::Target;
+use crate::statement::Destination;
 use sk_insn::Action;
 use sk_text::{cut, is_name, number_up_to};
 
@@ -45,14 +45,14 @@ pub(crate) fn label(word: &[u8]) -> Option<&[u8]>
 
 // A jump's destination, with a distance as wide as its field.
 #[tactic(auto, unfolding(crate::specs::Grammar::destination_of))]
-pub(crate) fn destination<N: Distance>(word: &[u8]) -> Option<Target<'_, N>>
+pub(crate) fn destination<N: Distance>(word: &[u8]) -> Option<Destination<'_, N>>
     ensures to { option_map (destination_by N.number) result ≡ destination_of (λ digits. up_to N.most (number_of digits)) word.now }
 {
     if word.starts_with(b"+") {
         let count = N::read(&word[1..])?;
-        return Some(Target::Further(count));
+        return Some(Destination::Further(count));
     }
-    is_name(word).then_some(Target::Labelled(word))
+    is_name(word).then_some(Destination::Labelled(word))
 }
 
 #[tactic(auto, unfolding(crate::specs::Grammar::action_with))]
