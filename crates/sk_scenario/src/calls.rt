@@ -1,33 +1,35 @@
 //! Lines in a program's block.
-ghost use Rattle.std.specs.Prelude.{◌≡◌, ◌<◌, ◌≤◌, ℕ, [], ◌∷◌, ◌++◌, length, Bool, IsTrue, MatchResult, OnOk, OnErr};
+ghost use Rattle.std.specs.Prelude.{◌≡◌, ◌<◌, ◌≤◌, ℕ, [], ◌∷◌, ◌++◌, length, Bool, IsTrue, MatchResult, OnOk, OnErr, Some, Err};
 ghost use Rattle.std.specs.Option.{option_map};
 ghost use Rattle.std.specs.List.{list_all};
-ghost use Rattle.sk_text.specs.Lines.{is_printable_byte};
+ghost use Rattle.sk_text.specs.Lines.{is_printable_byte, words_of};
 ghost use Rattle.sk_scenario.specs.Grammar.{asked_of};
 ghost use Rattle.sk_scenario.specs.Scenario.{argument_value, child_of, call_of, named_by, program_number, number_of as number_of_named};
-ghost use Rattle.sk_scenario.specs.Reading.{checked, resolved, called};
+ghost use Rattle.sk_scenario.specs.Reading.{checked, understood, resolved, called};
 ghost use Rattle.sk_scenario.specs.declared.text_fault.TextFault.TheVariants.{Limit};
 ghost use Rattle.sk_scenario.specs.Answers.{Answers, Judges};
 ghost use Rattle.sk_scenario.specs.views.Script.{call_with};
-ghost use Rattle.sk_scenario.specs.views.ScenarioCode.{argument_seen, few_seen, few_made, call_seen, fork_seen, line_seen, names_seen, known_seen, script_with};
+ghost use Rattle.sk_scenario.specs.views.ScenarioCode.{argument_seen, few_seen, few_made, call_seen, fork_seen, more_seen, line_seen, added, names_seen, known_seen, script_with};
 
 use crate::fault::ScenarioFault;
 use crate::line::{Argument, Arguments, ProgramLine};
-use crate::parse::{child_alone, program_line};
+use crate::parse::{arguments, child_alone, program_line};
 use crate::state::Names;
 use crate::top::check_line;
 use crate::{Calls, Named, ScriptCall, TextFault};
 use sk_calls::{Call, Syscall};
+use sk_text::Words;
 use std::alloc::AllocError;
 
 // The most calls that a program may have.
 const MOST_CALLS: usize = 1000;
 
 // What line `n` says in a program's block.
+#[inline(always)]
 #[tactic(auto, unfolding(crate::specs::Reading::checked))]
 pub(crate) fn read_call(n: usize, line: &[u8], is_clean: bool) -> Result<ProgramLine<'_>, TextFault>
     requires clean { IsTrue is_clean → IsTrue (list_all is_printable_byte line.now) }
-    ensures exact { Judges line_seen result (checked asked_of n line.now) }
+    ensures exact { MatchResult result (λ said. checked asked_of n line.now ≡ understood n (line_seen said)) (λ why. checked asked_of n line.now ≡ Err why) }
 {
     if let Some(child) = child_alone(line) {
         return Ok(ProgramLine::Fork(Some(child)));
@@ -224,7 +226,71 @@ fn judge_count(n: usize, count: usize) -> Result<(), TextFault>
     Ok(())
 }
 
+// Adds the fork(2) that line `n` asks for.
+#[inline(always)]
+#[tactic(auto, unfolding(crate::specs::Reading::called))]
+fn add_fork(
+    calls: &mut Calls,
+    known: Option<&Names<'_>>,
+    n: usize,
+    child: Option<&[u8]>,
+) -> Result<(), ScenarioFault>
+    ensures exact { (owner : ℕ) (setuid : Bool) → Answers (λ added. script_with owner setuid calls.new) result
+        (called (known_seen known.entry) n (script_with owner setuid calls.old) (Some (fork_seen child.entry))) }
+{
+    judge_count(n, calls.len())?;
+    let (nr, script) = resolve_fork(known, n, child)?;
+    calls.put(nr, &[], script)?;
+    Ok(())
+}
+
+// Adds the call that line `n` asks for, which names two arguments at most.
+#[inline(always)]
+#[tactic(auto, unfolding(crate::specs::Reading::called))]
+fn add_few(
+    calls: &mut Calls,
+    known: Option<&Names<'_>>,
+    n: usize,
+    nr: u32,
+    a: Argument<'_>,
+    b: Argument<'_>,
+) -> Result<(), ScenarioFault>
+    ensures exact { (owner : ℕ) (setuid : Bool) → Answers (λ added. script_with owner setuid calls.new) result
+        (called (known_seen known.entry) n (script_with owner setuid calls.old) (Some (few_seen nr a.entry b.entry))) }
+{
+    judge_count(n, calls.len())?;
+    let made = resolve_few(known, n, nr, a, b)?;
+    put_few(calls, made)?;
+    Ok(())
+}
+
+// Adds the call that line `n` asks for, which has more words than two for its arguments. It stays a function of its own, as
+// most lines have no need of the room that six arguments take.
+#[inline(never)]
+#[tactic(auto, unfolding(crate::specs::Reading::called))]
+fn add_more(
+    calls: &mut Calls,
+    known: Option<&Names<'_>>,
+    n: usize,
+    nr: u32,
+    a: Argument<'_>,
+    b: Argument<'_>,
+    words: Words<'_>,
+) -> Result<(), ScenarioFault>
+    ensures exact { (owner : ℕ) (setuid : Bool) → Answers (λ added. script_with owner setuid calls.new) result
+        (added (known_seen known.entry) n (script_with owner setuid calls.old) (option_map Some (more_seen nr a.entry b.entry (words_of words.entry.0.now)))) }
+{
+    let Some(arguments) = arguments(a, b, words) else {
+        return Err(ScenarioFault::Line { n });
+    };
+    judge_count(n, calls.len())?;
+    let made = resolve(known, n, nr, arguments)?;
+    calls.push(made)?;
+    Ok(())
+}
+
 // Adds the call that line `n` asks for, if it does.
+#[inline(always)]
 #[tactic(auto, unfolding(crate::specs::Reading::called))]
 pub(crate) fn add_call(
     calls: &mut Calls,
@@ -233,27 +299,12 @@ pub(crate) fn add_call(
     line: ProgramLine<'_>,
 ) -> Result<(), ScenarioFault>
     ensures exact { (owner : ℕ) (setuid : Bool) → Answers (λ added. script_with owner setuid calls.new) result
-        (called (known_seen known.entry) n (script_with owner setuid calls.old) (line_seen line.entry)) }
+        (added (known_seen known.entry) n (script_with owner setuid calls.old) (line_seen line.entry)) }
 {
     match line {
         ProgramLine::Silent => Ok(()),
-        ProgramLine::Fork(child) => {
-            judge_count(n, calls.len())?;
-            let (nr, script) = resolve_fork(known, n, child)?;
-            calls.put(nr, &[], script)?;
-            Ok(())
-        }
-        ProgramLine::Few(nr, a, b) => {
-            judge_count(n, calls.len())?;
-            let made = resolve_few(known, n, nr, a, b)?;
-            put_few(calls, made)?;
-            Ok(())
-        }
-        ProgramLine::Call(nr, arguments) => {
-            judge_count(n, calls.len())?;
-            let made = resolve(known, n, nr, arguments)?;
-            calls.push(made)?;
-            Ok(())
-        }
+        ProgramLine::Fork(child) => add_fork(calls, known, n, child),
+        ProgramLine::Few(nr, a, b) => add_few(calls, known, n, nr, a, b),
+        ProgramLine::More(nr, a, b, others) => add_more(calls, known, n, nr, a, b, Words(others)),
     }
 }

@@ -123,9 +123,7 @@ fn begins_bytes(line: &[u8]) -> bool
     }
 }
 
-// The first line that says something decides what the block is of. All of the assembler is behind it, so that it stays a
-// function of its own: LLVM would take nothing else into the loop over the lines.
-#[inline(never)]
+// The first line that says something decides what the block is of.
 #[tactic(auto, unfolding(crate::specs::Reading::decided))]
 pub(crate) fn decide(
     alloc: Global,

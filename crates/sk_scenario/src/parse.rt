@@ -1,10 +1,10 @@
 //! Lines as what they say.
-ghost use Rattle.std.specs.Prelude.{◌≡◌, ◌==◌, ℕ, drop, Some, Ok, IfSome, slice_index};
-ghost use Rattle.std.specs.Option.{option_map};
+ghost use Rattle.std.specs.Prelude.{◌≡◌, ◌==◌, ◌∷◌, ℕ, drop, Some, None, Ok, IfSome, slice_index};
+ghost use Rattle.std.specs.Option.{option_map, option_map_or};
 ghost use Rattle.sk_text.specs.Lines.{words_of};
 ghost use Rattle.sk_text.specs.Numbers.{up_to};
 ghost use Rattle.sk_scenario.specs.Grammar.{only_if_name, only_name, setuid_with, setuid_of, owned, program_by, program_of, turns_of, headed, heading_in, heading_of, decimal_of, argument_of, next_argument, arguments_of, asked_with, forked, numbered, asked, asked_in, asked_of};
-ghost use Rattle.sk_scenario.specs.views.ScenarioCode.{heading, argument_seen, fork_seen, line_seen};
+ghost use Rattle.sk_scenario.specs.views.ScenarioCode.{heading, argument_seen, arguments_seen, fork_seen, line_seen};
 ghost use Rattle.sk_scenario.specs.Reading.{checked};
 
 use crate::call_names::call_named;
@@ -143,6 +143,7 @@ fn decimal_up_to(word: &[u8], most: u64) -> Option<u64>
     number_up_to(word, most)
 }
 
+#[inline(always)]
 #[tactic(auto, unfolding(crate::specs::Grammar::argument_of))]
 fn argument(word: &[u8]) -> Option<Argument<'_>>
     ensures exact { option_map argument_seen result ≡ argument_of word.now }
@@ -163,9 +164,10 @@ fn argument(word: &[u8]) -> Option<Argument<'_>>
     Some(Argument::Plain(n))
 }
 
+#[inline(always)]
 #[tactic(auto, unfolding(crate::specs::Grammar::asked))]
 fn call_line<'a>(first: &'a [u8], words: Words<'a>) -> Option<ProgramLine<'a>>
-    ensures exact { option_map line_seen result ≡ option_map Some (asked first.now (words_of words.entry.0.now)) }
+    ensures exact { option_map_or line_seen result None ≡ option_map Some (asked first.now (words_of words.entry.0.now)) }
 {
     if is_same(first, b"call") {
         return numbered(words);
@@ -177,8 +179,9 @@ fn call_line<'a>(first: &'a [u8], words: Words<'a>) -> Option<ProgramLine<'a>>
     called_with(call.number(), words)
 }
 
+#[inline(always)]
 fn numbered<'a>(mut words: Words<'a>) -> Option<ProgramLine<'a>>
-    ensures exact { option_map line_seen result ≡ option_map Some (numbered (words_of words.entry.0.now)) }
+    ensures exact { option_map_or line_seen result None ≡ option_map Some (numbered (words_of words.entry.0.now)) }
 {
     let word = words.next()?;
     let nr = number_up_to(word, 0xffff_ffff)?;
@@ -197,7 +200,7 @@ pub(crate) fn child_alone(line: &[u8]) -> Option<&[u8]>
 }
 
 fn forked<'a>(mut words: Words<'a>) -> Option<ProgramLine<'a>>
-    ensures exact { option_map line_seen result ≡ option_map Some (forked (words_of words.entry.0.now)) }
+    ensures exact { option_map_or line_seen result None ≡ option_map Some (forked (words_of words.entry.0.now)) }
 {
     let Some(word) = words.next() else {
         return Some(ProgramLine::Fork(None));
@@ -207,6 +210,7 @@ fn forked<'a>(mut words: Words<'a>) -> Option<ProgramLine<'a>>
     Some(ProgramLine::Fork(Some(name)))
 }
 
+#[inline(always)]
 fn next_argument<'a>(words: &mut Words<'a>) -> Option<Argument<'a>>
     ensures first { option_map argument_seen result ≡ next_argument (words_of words.old.0.now) }
     ensures rest { words_of words.new.0.now ≡ drop 1 (words_of words.old.0.now) }
@@ -217,9 +221,10 @@ fn next_argument<'a>(words: &mut Words<'a>) -> Option<Argument<'a>>
     }
 }
 
+#[inline(always)]
 #[tactic(auto, using(sk_text::proofs::Cuts::words_none))]
 fn called_with<'a>(nr: u32, mut words: Words<'a>) -> Option<ProgramLine<'a>>
-    ensures exact { option_map line_seen result ≡ option_map Some (asked_with nr (words_of words.entry.0.now)) }
+    ensures exact { option_map_or line_seen result None ≡ option_map Some (asked_with nr (words_of words.entry.0.now)) }
 {
     if words.0.is_empty() {
         return Some(ProgramLine::Few(nr, Argument::Plain(0), Argument::Plain(0)));
@@ -232,18 +237,30 @@ fn called_with<'a>(nr: u32, mut words: Words<'a>) -> Option<ProgramLine<'a>>
     if words.0.is_empty() {
         return Some(ProgramLine::Few(nr, a, b));
     }
+    Some(ProgramLine::More(nr, a, b, words.0))
+}
+
+// All arguments of a call, of which the first two are read.
+pub(crate) fn arguments<'a>(
+    a: Argument<'a>,
+    b: Argument<'a>,
+    mut words: Words<'a>,
+) -> Option<Arguments<'a>>
+    ensures exact { option_map arguments_seen result ≡ option_map (λ others. argument_seen a.entry ∷ argument_seen b.entry ∷ others) (arguments_of 4 (words_of words.entry.0.now)) }
+{
     let c = next_argument(&mut words)?;
     let d = next_argument(&mut words)?;
     let e = next_argument(&mut words)?;
     let f = next_argument(&mut words)?;
     no_word(words)?;
-    Some(ProgramLine::Call(nr, Arguments { a, b, c, d, e, f }))
+    Some(Arguments { a, b, c, d, e, f })
 }
 
 // What a line in a program's block says.
+#[inline(always)]
 #[tactic(auto, unfolding(crate::specs::Grammar::asked_of))]
 pub(crate) fn program_line(line: &[u8]) -> Option<ProgramLine<'_>>
-    ensures exact { option_map line_seen result ≡ asked_of line.now }
+    ensures exact { option_map_or line_seen result None ≡ asked_of line.now }
 {
     let mut words = Words(line);
     let Some(first) = words.next() else {

@@ -4,7 +4,7 @@ ghost use Rattle.std.specs.List.{list_all};
 ghost use Rattle.sk_text.specs.Lines.{lines_of, is_printable_byte};
 ghost use Rattle.sk_asm.specs.Block.{until_end};
 ghost use Rattle.sk_scenario.specs.Scenario.{Names as Known};
-ghost use Rattle.sk_scenario.specs.Reading.{Gained, is_open, inside, finished, within, stepped, closed, reading, nothing_yet, Nothing as NoBlock};
+ghost use Rattle.sk_scenario.specs.Reading.{Gained, is_open, decided, inside, finished, within, stepped, closed, reading, nothing_yet, Nothing as NoBlock};
 ghost use Rattle.sk_scenario.specs.Answers.{Answers, IsFaultOf, Judges};
 ghost use Rattle.sk_scenario.specs.views.ScenarioCode.{known_seen, gained, block_seen};
 
@@ -20,6 +20,25 @@ use sk_asm::is_end;
 use sk_text::Lines;
 use std::alloc::{AllocError, Global};
 use std::mem;
+
+// Reads line `n` in a filter's block whose lines said nothing so far. All of the assembler is behind it, so that it stays a
+// function of its own: LLVM would take nothing else into the loop over the lines.
+#[inline(never)]
+fn begin_filter(
+    alloc: Global,
+    known: Option<&Names<'_>>,
+    n: usize,
+    current: &mut Block,
+    line: &[u8],
+    ahead: &[u8],
+) -> Result<(), ScenarioFault>
+    requires first { 1 ≤ n }
+    requires numbers { n < 2 ^ 63 }
+    ensures exact { Answers (λ none. block_seen current.new) result (decided (known_seen known.entry) n line.now (until_end (lines_of ahead.now))) }
+{
+    *current = decide(alloc, known, n, line, ahead)?;
+    Ok(())
+}
 
 // The block that is open, behind line `n`.
 #[tactic(auto, unfolding(crate::specs::Reading::inside))]
@@ -41,8 +60,7 @@ fn inside(
         Block::Nothing => Ok(()),
         Block::Undecided => {
             check_line(n, line, is_clean)?;
-            *current = decide(alloc, known, n, line, ahead)?;
-            Ok(())
+            begin_filter(alloc, known, n, current, line, ahead)
         }
         Block::Bytes(image) => grow(alloc, n, image, line, is_clean),
         Block::Code(_) => Ok(()),

@@ -1,7 +1,8 @@
 -- The code's values as the definitions see them.
-use Rattle.std.specs.Prelude.{ℕ, if◌then◌else◌, Bool, List, [], ◌∷◌, map, replicate, Option, Some, None}
+use Rattle.std.specs.Prelude.{ℕ, if◌then◌else◌, Bool, List, [], ◌∷◌, map, replicate, Option, Some, None, Result}
 use Rattle.std.specs.Borrow.{Bor}
 use Rattle.std.specs.Option.{option_map, option_map_or}
+use Rattle.sk_text.specs.Lines.{words_of}
 use Rattle.sk_text.specs.Numbers.{number_of as number_said}
 use Rattle.sk_calls.specs.declared.syscall.Syscall.TheVariants as syscall
 use Rattle.sk_calls.specs.Syscalls.{number_of}
@@ -19,12 +20,13 @@ use Rattle.sk_scenario.specs.declared.call.ScriptCall.{ScriptCall}
 use Rattle.sk_scenario.specs.declared.calls.FewCall.{FewCall}
 use Rattle.sk_scenario.specs.declared.call.Named.{Named}
 use Rattle.sk_scenario.specs.declared.call.Named.TheVariants as named
+use Rattle.sk_scenario.specs.declared.text_fault.TextFault.{TextFault}
 use Rattle.sk_scenario.specs.declared.state.Done.{Done}
 use Rattle.sk_scenario.specs.declared.state.Block.{Block}
 use Rattle.sk_scenario.specs.declared.state.Block.TheVariants as block
 use Rattle.sk_scenario.specs.Scenario.{Script, Names}
-use Rattle.sk_scenario.specs.Reading.{Gained, Open, Nothing, Undecided, Bytes, Code, Calls}
-use Rattle.sk_scenario.specs.Grammar.{Heading, Alone, Opens, Silent, Turns, Subreapers, Filter, Program, Argument, Plain, NumberOf, HandlerOf, Asked}
+use Rattle.sk_scenario.specs.Reading.{◌>>=◌, understood, called, Gained, Open, Nothing, Undecided, Bytes, Code, Calls}
+use Rattle.sk_scenario.specs.Grammar.{Heading, Alone, Opens, Silent, Turns, Subreapers, Filter, Program, Argument, Plain, NumberOf, HandlerOf, Asked, arguments_of}
 
 abbrev pub heading : TopLine → Heading
 heading top.Silent = Alone Silent
@@ -55,11 +57,20 @@ few_seen nr a b =
 abbrev pub few_made : FewCall → ScriptCall
 few_made made = record { call = record { nr = made.nr; args = made.a ∷ made.b ∷ 0 ∷ 0 ∷ 0 ∷ 0 ∷ [] }; script = None }
 
-abbrev pub line_seen : ProgramLine → Option Asked
-line_seen program.Silent = None
-line_seen (program.Fork child) = Some (fork_seen child)
-line_seen (program.Few nr a b) = Some (few_seen nr a b)
-line_seen (program.Call nr arguments) = Some (call_seen nr arguments)
+-- a call with two arguments and those that words are, where these are understood
+abbrev pub more_seen : ℕ → CodeArgument → CodeArgument → List (List ℕ) → Option Asked
+more_seen nr a b words =
+    option_map (λ others. record { nr = nr; arguments = argument_seen a ∷ argument_seen b ∷ others; child = None }) (arguments_of 4 words)
+
+abbrev pub line_seen : ProgramLine → Option (Option Asked)
+line_seen program.Silent = Some None
+line_seen (program.Fork child) = Some (Some (fork_seen child))
+line_seen (program.Few nr a b) = Some (Some (few_seen nr a b))
+line_seen (program.More nr a b words) = option_map Some (more_seen nr a b (words_of words.now))
+
+-- a script with the call that line n asks for, if it is understood
+abbrev pub added : Option Names → ℕ → Script → Option (Option Asked) → Result Script TextFault
+added known n script said = understood n said >>= called known n script
 
 -- ---- what was read
 
