@@ -3,7 +3,7 @@ ghost use Rattle.std.specs.Prelude.{◌≡◌, ◌<◌, ◌≤◌, ℕ, [], ◌�
 ghost use Rattle.std.specs.Option.{option_map};
 ghost use Rattle.std.specs.List.{list_all};
 ghost use Rattle.sk_text.specs.Lines.{is_printable_byte, words_of};
-ghost use Rattle.sk_scenario.specs.Grammar.{asked_of};
+ghost use Rattle.sk_scenario.specs.Grammar.{NumberOf, HandlerOf, asked_of};
 ghost use Rattle.sk_scenario.specs.Scenario.{argument_value, child_of, call_of, named_by, program_number, number_of as number_of_named};
 ghost use Rattle.sk_scenario.specs.Reading.{checked, understood, resolved, called};
 ghost use Rattle.sk_scenario.specs.declared.text_fault.TextFault.TheVariants.{Limit};
@@ -41,6 +41,7 @@ pub(crate) fn read_call(n: usize, line: &[u8], is_clean: bool) -> Result<Program
     }
 }
 
+#[inline(always)]
 fn named_by(names: &Names<'_>, name: &[u8]) -> Option<Named>
     ensures exact { result ≡ named_by (names_seen names.now) name.now }
 {
@@ -64,23 +65,37 @@ fn number_of(what: Named) -> u32
     }
 }
 
+// The number of the filter or program with this name, as an argument.
+#[inline(never)]
+fn number_named(names: &Names<'_>, name: &[u8]) -> Option<u64>
+    ensures exact { result ≡ argument_value (names_seen names.now) (NumberOf name.now) }
+{
+    let what = named_by(names, name)?;
+    Some(u64::from(number_of(what)))
+}
+
+// The handler that the program with this name is, as an argument.
+#[inline(never)]
+fn handler_named(names: &Names<'_>, name: &[u8]) -> Option<u64>
+    ensures exact { result ≡ argument_value (names_seen names.now) (HandlerOf name.now) }
+{
+    let what = named_by(names, name)?;
+    let number = program_number(what)?;
+    Some(u64::from(number) + 2)
+}
+
+#[inline(always)]
 fn argument_value(names: &Names<'_>, argument: Argument<'_>) -> Option<u64>
     ensures exact { result ≡ argument_value (names_seen names.now) (argument_seen argument.entry) }
 {
     match argument {
         Argument::Plain(value) => Some(value),
-        Argument::NumberOf(name) => {
-            let what = named_by(names, name)?;
-            Some(u64::from(number_of(what)))
-        }
-        Argument::HandlerOf(name) => {
-            let what = named_by(names, name)?;
-            let number = program_number(what)?;
-            Some(u64::from(number) + 2)
-        }
+        Argument::NumberOf(name) => number_named(names, name),
+        Argument::HandlerOf(name) => handler_named(names, name),
     }
 }
 
+#[inline(always)]
 fn child_of(names: &Names<'_>, child: Option<&[u8]>) -> Option<Option<u32>>
     ensures exact { result ≡ child_of (names_seen names.now) (option_map (λ name. name.now) child.entry) }
 {
@@ -182,6 +197,7 @@ fn resolve_few(
 }
 
 // The number of the fork(2) that line `n` asks for, and the program of its child.
+#[inline(always)]
 #[tactic(auto, unfolding(crate::specs::Reading::resolved, crate::specs::Scenario::call_of))]
 fn resolve_fork(
     known: Option<&Names<'_>>,
