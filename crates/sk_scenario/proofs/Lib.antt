@@ -1,4 +1,5 @@
 pub mod Adding
+pub mod Decimals
 pub mod Blocks
 pub mod CodeLines
 pub mod Judging

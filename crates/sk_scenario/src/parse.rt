@@ -10,7 +10,7 @@ ghost use Rattle.sk_scenario.specs.Reading.{checked};
 use crate::call_names::call_named;
 use crate::line::{Argument, Arguments, ProgramLine, TopLine};
 use sk_calls::Syscall;
-use sk_text::{Words, is_name, is_number, is_same, no_word, number_up_to, one_word};
+use sk_text::{Words, is_name, is_number, is_same, next_decimal, no_word, number_up_to, one_word};
 
 // Whether a comment begins with the word.
 fn is_comment(word: &[u8]) -> bool
@@ -210,11 +210,15 @@ fn forked<'a>(mut words: Words<'a>) -> Option<ProgramLine<'a>>
     Some(ProgramLine::Fork(Some(name)))
 }
 
+// Most are decimal numbers, which are read as they are cut.
 #[inline(always)]
 fn next_argument<'a>(words: &mut Words<'a>) -> Option<Argument<'a>>
     ensures first { option_map argument_seen result ≡ next_argument (words_of words.old.0.now) }
     ensures rest { words_of words.new.0.now ≡ drop 1 (words_of words.old.0.now) }
 {
+    if let Some(number) = next_decimal(words) {
+        return Some(Argument::Plain(number));
+    }
     match words.next() {
         None => Some(Argument::Plain(0)),
         Some(word) => argument(word),

@@ -1,4 +1,5 @@
 pub mod Ascii
 pub mod Cuts
+pub mod Decimals
 pub mod Reading
 pub mod Clean

@@ -13,7 +13,7 @@ pub use examples::{example_cuts, example_digits, example_words};
 pub use hexadecimal::{HexDigits, HexFault, bytes_of, bytes_of_text, hex_half, hex_word};
 pub use in_place::{Line, push_digit, push_long, push_number, push_signed};
 pub use lines::{Lines, Words, cut, is_clean, is_passed_over, is_printable};
-pub use numbers::{is_number, number_up_to};
+pub use numbers::{is_number, next_decimal, number_up_to};
 pub use words::{four_words, is_name, is_same, no_word, one_word, three_words, two_words};
 
 /// The most bytes that an input may have: a mebibyte.

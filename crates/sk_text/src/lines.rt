@@ -72,7 +72,7 @@ pub(crate) fn cut_far(text: &[u8], byte: u8) -> (&[u8], &[u8])
 
 // What stands before this place, and what stands behind the byte there.
 #[inline(always)]
-fn cut_at(text: &[u8], at: usize) -> (&[u8], &[u8])
+pub(crate) fn cut_at(text: &[u8], at: usize) -> (&[u8], &[u8])
     requires within { at ≤ length text.now }
     ensures front { result.0.now ≡ take at text.now }
     ensures back { result.1.now ≡ drop (at + 1) text.now }
