@@ -1,10 +1,10 @@
 -- A call that a line adds, and a line whose words are none.
-use Rattle.std.proofs.Common.{◌≡◌, ap, refl, ℕ, List, [], ◌∷◌, Option, Some, None, Result, Ok, Err, inl, inr}
+use Rattle.std.proofs.Common.{◌≡◌, ◌∙◌, ap, refl, ℕ, List, [], ◌∷◌, Option, Some, None, Result, Ok, Err, inl, inr}
 use Rattle.std.specs.Option.{option_map}
 use Rattle.sk_scenario.specs.declared.fault.ScenarioFault.{ScenarioFault}
 use Rattle.sk_scenario.specs.declared.text_fault.TextFault.{TextFault}
 use Rattle.sk_scenario.specs.declared.text_fault.TextFault.TheVariants.{Line}
-use Rattle.sk_scenario.specs.Answers.{Answers, IsFaultOf}
+use Rattle.sk_scenario.specs.Answers.{IsFaultOf}
 use Rattle.sk_scenario.specs.Grammar.{Argument, Asked, asked_of}
 use Rattle.sk_scenario.specs.Scenario.{Names, Script}
 use Rattle.sk_scenario.specs.Reading.{◌>>=◌, Open, Calls, checked, understood, called, inside}
@@ -26,14 +26,17 @@ then_ok given after e = rw e refl
 then_err : (given : Result Script TextFault) (why : TextFault) → given ≡ Err why → (given >>= λ next. Ok (Calls next)) ≡ Err why
 then_err given why e = rw e refl
 
-answered : (result : Result (Unit {0}) ScenarioFault) (given : Result Script TextFault) (after : Script)
-    → Answers (λ none. after) result given → Answers (λ none. Calls after) result (given >>= λ next. Ok (Calls next))
-answered (Ok none) given after h = then_ok given after h
-answered (Err fault) given after (inl memory) = inl memory
-answered (Err fault) given after (inr told) = inr (told.0, told.1, then_err given told.0 told.2)
+bound_fails : (given : Result Script TextFault) (fault : ScenarioFault) → IsFaultOf fault given → IsFaultOf fault (given >>= λ next. Ok (Calls next))
+bound_fails given fault (inl memory) = inl memory
+bound_fails given fault (inr told) = inr (told.0, told.1, then_err given told.0 told.2)
 
-pub inside_calls : (known : Option Names) (n : ℕ) (script after : Script) (line : List ℕ) (here : List (List ℕ)) (said : Option (Option Asked)) (result : Result (Unit {0}) ScenarioFault)
-    → checked asked_of n line ≡ understood n said → Answers (λ none. after) result (added known n script said) → Answers (λ none. Calls after) result (inside known n (Calls script) line here)
-unfolding inside
-inside_calls known n script after line here said result e h =
-    rw (ap (λ r. r >>= λ asked. called known n script asked >>= λ next. Ok (Calls next)) e, bound known n script said) (answered result (added known n script said) after h)
+module _ (known : Option Names) (n : ℕ) (script : Script) (line : List ℕ) (here : List (List ℕ)) (said : Option (Option Asked)) (is : checked asked_of n line ≡ understood n said) where
+  inside_is : inside known n (Calls script) line here ≡ (added known n script said >>= λ next. Ok (Calls next))
+  unfolding inside
+  inside_is = ap (λ r. r >>= λ asked. called known n script asked >>= λ next. Ok (Calls next)) is ∙ bound known n script said
+
+  pub inside_added : (after : Script) → added known n script said ≡ Ok after → inside known n (Calls script) line here ≡ Ok (Calls after)
+  inside_added after h = inside_is ∙ then_ok (added known n script said) after h
+
+  pub inside_fails : (fault : ScenarioFault) → IsFaultOf fault (added known n script said) → IsFaultOf fault (inside known n (Calls script) line here)
+  inside_fails fault h = rw inside_is (bound_fails (added known n script said) fault h)

@@ -1,4 +1,5 @@
 pub mod Adding
+pub mod Passing
 pub mod Decimals
 pub mod Blocks
 pub mod CodeLines

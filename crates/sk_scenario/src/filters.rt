@@ -1,5 +1,5 @@
 //! Lines in a filter's block.
-ghost use Rattle.std.specs.Prelude.{◌≡◌, ◌≢◌, ◌+◌, ◌≤◌, ◌<◌, ◌^◌, [], length, IfOk, IsTrue, MatchResult, Ok, Err};
+ghost use Rattle.std.specs.Prelude.{◌≡◌, ◌≢◌, ◌+◌, ◌≤◌, ◌<◌, ◌^◌, [], length, IfOk, IfSome, IsTrue, MatchResult, Ok, Err};
 ghost use Rattle.sk_text.specs.Lines.{lines_of, words_of, is_printable_byte};
 ghost use Rattle.std.specs.List.{list_all};
 ghost use Rattle.sk_asm.specs.Block.{until_end};
@@ -8,11 +8,11 @@ ghost use Rattle.sk_asm.specs.declared.fault.AsmFault.TheVariants.{Memory};
 ghost use Rattle.sk_scenario.specs.Grammar.{begins_bytes, bytes_of};
 ghost use Rattle.sk_scenario.specs.Reading.{Bytes, Code, understood, limited, fault_of, held, coded, decided, grown};
 ghost use Rattle.sk_scenario.specs.Answers.{Answers, Judges};
-ghost use Rattle.sk_scenario.specs.views.ScenarioCode.{known_seen, block_seen};
+ghost use Rattle.sk_scenario.specs.views.ScenarioCode.{known_seen, block_seen, IsAssembled};
 
 use crate::TextFault;
 use crate::fault::ScenarioFault;
-use crate::state::{Block, Names};
+use crate::state::{Assembled, Block, Names};
 use crate::top::check_line;
 use sk_asm::{AsmFault, assemble_block};
 use sk_insn::write_insns;
@@ -89,27 +89,35 @@ fn hold(known: Option<&Names<'_>>, why: TextFault) -> Result<(), TextFault>
     }
 }
 
-// The image of a block of assembler lines, of which the first is line `n`.
+// Reads a block of assembler lines, of which the first is line `n`. They are passed over together, but for those of a block
+// whose fault waits.
 #[tactic(auto, unfolding(crate::specs::Reading::coded))]
-fn code_image(
+fn assemble<'a>(
     alloc: Global,
     known: Option<&Names<'_>>,
     n: usize,
-    ahead: &[u8],
-) -> Result<Block, ScenarioFault>
+    current: &mut Block,
+    ahead: &'a [u8],
+) -> Result<Option<Assembled<'a>>, ScenarioFault>
     requires first { 1 ≤ n }
     requires numbers { n < 2 ^ 63 }
-    ensures exact { Answers block_seen result (coded (known_seen known.entry) (assembled_lines n (until_end (lines_of ahead.now)))) }
+    ensures exact { Answers (λ none. block_seen current.new) result (coded (known_seen known.entry) (assembled_lines n (until_end (lines_of ahead.now)))) }
+    ensures assembled { IfOk result (λ answer. IfSome answer (λ lines. IsAssembled lines.count lines.rest.now (block_seen current.new) (lines_of ahead.now))) }
 {
     match assemble_block(alloc, n - 1, ahead) {
-        Ok(insns) => {
-            let image = write_insns(alloc, insns.as_slice())?;
-            Ok(Block::Code(image))
+        Ok(code) => {
+            let image = write_insns(alloc, code.insns.as_slice())?;
+            *current = Block::Code(image);
+            Ok(Some(Assembled {
+                count: code.count,
+                rest: code.rest,
+            }))
         }
         Err(fault) => {
             let why = text_fault(fault)?;
             hold(known, why)?;
-            Ok(Block::Code(Vec::new(alloc)))
+            *current = Block::Code(Vec::new(alloc));
+            Ok(None)
         }
     }
 }
@@ -123,28 +131,34 @@ fn begins_bytes(line: &[u8]) -> bool
     }
 }
 
-// The first line that says something decides what the block is of.
+// The first line that says something decides what the block is of. All of the assembler is behind it, so that it stays a
+// function of its own: LLVM would take nothing else into the loop over the lines.
+#[inline(never)]
 #[tactic(auto, unfolding(crate::specs::Reading::decided))]
-pub(crate) fn decide(
+pub(crate) fn decide<'a>(
     alloc: Global,
     known: Option<&Names<'_>>,
     n: usize,
+    current: &mut Block,
     line: &[u8],
-    ahead: &[u8],
-) -> Result<Block, ScenarioFault>
+    ahead: &'a [u8],
+) -> Result<Option<Assembled<'a>>, ScenarioFault>
     requires first { 1 ≤ n }
     requires numbers { n < 2 ^ 63 }
-    ensures exact { Answers block_seen result (decided (known_seen known.entry) n line.now (until_end (lines_of ahead.now))) }
+    ensures exact { Answers (λ none. block_seen current.new) result (decided (known_seen known.entry) n line.now (until_end (lines_of ahead.now))) }
+    ensures assembled { IfOk result (λ answer. IfSome answer (λ lines. IsAssembled lines.count lines.rest.now (block_seen current.new) (lines_of ahead.now))) }
 {
     if is_passed_over(line) {
-        return Ok(Block::Undecided);
+        *current = Block::Undecided;
+        return Ok(None);
     }
     if !begins_bytes(line) {
-        return code_image(alloc, known, n, ahead);
+        return assemble(alloc, known, n, current, ahead);
     }
     let image = image_bytes(alloc, n, line)??;
     judge_image(n, image.as_slice())?;
-    Ok(Block::Bytes(image))
+    *current = Block::Bytes(image);
+    Ok(None)
 }
 
 // An image with the bytes of line `n` behind it.

@@ -1,19 +1,19 @@
 //! The lines, read one after the other.
-ghost use Rattle.std.specs.Prelude.{◌≡◌, ◌+◌, ◌≤◌, ◌<◌, ◌^◌, ℕ, List, Option, length, IsTrue, MatchResult, OnOk, Ok};
+ghost use Rattle.std.specs.Prelude.{◌≡◌, ◌+◌, ◌≤◌, ◌<◌, ◌^◌, ◌∷◌, ℕ, List, Option, false, length, IfOk, IfSome, IsTrue, MatchResult, OnOk, Ok};
 ghost use Rattle.std.specs.List.{list_all};
 ghost use Rattle.sk_text.specs.Lines.{lines_of, is_printable_byte};
-ghost use Rattle.sk_asm.specs.Block.{until_end};
+ghost use Rattle.sk_asm.specs.Block.{is_end, until_end};
 ghost use Rattle.sk_scenario.specs.Scenario.{Names as Known};
-ghost use Rattle.sk_scenario.specs.Reading.{Gained, is_open, decided, inside, finished, within, stepped, closed, reading, nothing_yet, Nothing as NoBlock};
+ghost use Rattle.sk_scenario.specs.Reading.{Gained, is_open, inside, finished, within, stepped, closed, reading, nothing_yet, Nothing as NoBlock};
 ghost use Rattle.sk_scenario.specs.Answers.{Answers, IsFaultOf, Judges};
-ghost use Rattle.sk_scenario.specs.views.ScenarioCode.{known_seen, gained, block_seen};
+ghost use Rattle.sk_scenario.specs.views.ScenarioCode.{known_seen, gained, block_seen, IsAssembled};
 
 use crate::TextFault;
 use crate::calls::{add_call, read_call};
 use crate::fault::ScenarioFault;
 use crate::filters::{decide, grow};
 use crate::scenario::Program;
-use crate::state::{Block, Done, Names};
+use crate::state::{Assembled, Block, Done, Names};
 use crate::top::{check_line, has_printable_lines, read_top, start};
 use indexmap::IndexMap;
 use sk_asm::is_end;
@@ -21,52 +21,38 @@ use sk_text::Lines;
 use std::alloc::{AllocError, Global};
 use std::mem;
 
-// Reads line `n` in a filter's block whose lines said nothing so far. All of the assembler is behind it, so that it stays a
-// function of its own: LLVM would take nothing else into the loop over the lines.
-#[inline(never)]
-fn begin_filter(
-    alloc: Global,
-    known: Option<&Names<'_>>,
-    n: usize,
-    current: &mut Block,
-    line: &[u8],
-    ahead: &[u8],
-) -> Result<(), ScenarioFault>
-    requires first { 1 ≤ n }
-    requires numbers { n < 2 ^ 63 }
-    ensures exact { Answers (λ none. block_seen current.new) result (decided (known_seen known.entry) n line.now (until_end (lines_of ahead.now))) }
-{
-    *current = decide(alloc, known, n, line, ahead)?;
-    Ok(())
-}
-
-// The block that is open, behind line `n`.
+// Reads line `n` in the block that is open, where it is no `end`, or all lines of a block of code.
 #[tactic(auto, unfolding(crate::specs::Reading::inside))]
-fn inside(
+fn inside<'a>(
     alloc: Global,
     known: Option<&Names<'_>>,
     n: usize,
     current: &mut Block,
     line: &[u8],
     is_clean: bool,
-    ahead: &[u8],
-) -> Result<(), ScenarioFault>
+    ahead: &'a [u8],
+) -> Result<Option<Assembled<'a>>, ScenarioFault>
     requires clean { IsTrue is_clean → IsTrue (list_all is_printable_byte line.now) }
     requires first { 1 ≤ n }
     requires numbers { n < 2 ^ 63 }
     ensures exact { Answers (λ none. block_seen current.new) result (inside (known_seen known.entry) n (block_seen current.old) line.now (until_end (lines_of ahead.now))) }
+    ensures assembled { IfOk result (λ answer. IfSome answer (λ lines. IsAssembled lines.count lines.rest.now (block_seen current.new) (lines_of ahead.now))) }
 {
     match current {
-        Block::Nothing => Ok(()),
+        Block::Nothing => Ok(None),
         Block::Undecided => {
             check_line(n, line, is_clean)?;
-            begin_filter(alloc, known, n, current, line, ahead)
+            decide(alloc, known, n, current, line, ahead)
         }
-        Block::Bytes(image) => grow(alloc, n, image, line, is_clean),
-        Block::Code(_) => Ok(()),
+        Block::Bytes(image) => {
+            grow(alloc, n, image, line, is_clean)?;
+            Ok(None)
+        }
+        Block::Code(_) => Ok(None),
         Block::Calls { calls, .. } => {
             let said = read_call(n, line, is_clean)?;
-            add_call(calls, known, n, said)
+            add_call(calls, known, n, said)?;
+            Ok(None)
         }
     }
 }
@@ -100,7 +86,7 @@ fn is_open(current: &Block) -> bool
 
 // Reads line `n` in the block that is open.
 #[tactic(auto, unfolding(crate::specs::Reading::within))]
-fn within(
+fn within<'a>(
     alloc: Global,
     known: Option<&Names<'_>>,
     done: &mut Done<'_>,
@@ -108,18 +94,19 @@ fn within(
     current: &mut Block,
     line: &[u8],
     is_clean: bool,
-    ahead: &[u8],
-) -> Result<(), ScenarioFault>
+    ahead: &'a [u8],
+) -> Result<Option<Assembled<'a>>, ScenarioFault>
     requires clean { IsTrue is_clean → IsTrue (list_all is_printable_byte line.now) }
     requires first { 1 ≤ n }
     requires numbers { n < 2 ^ 63 }
     ensures exact { MatchResult result
         (λ none. within (known_seen known.entry) n (gained done.old) (block_seen current.old) line.now (lines_of ahead.now) ≡ Ok (gained done.new, block_seen current.new))
         (λ fault. IsFaultOf fault (within (known_seen known.entry) n (gained done.old) (block_seen current.old) line.now (lines_of ahead.now))) }
+    ensures assembled { IfOk result (λ answer. IfSome answer (λ lines. (is_end line.now ≡ false) × IsAssembled lines.count lines.rest.now (block_seen current.new) (lines_of ahead.now))) }
 {
     if is_end(line) {
         finish(alloc, done, mem::replace(current, Block::Nothing))?;
-        return Ok(());
+        return Ok(None);
     }
     inside(alloc, known, n, current, line, is_clean, ahead)
 }
@@ -147,21 +134,58 @@ fn step<'a>(
     current: &mut Block,
     line: &'a [u8],
     is_clean: bool,
-    ahead: &[u8],
-) -> Result<(), ScenarioFault>
+    ahead: &'a [u8],
+) -> Result<Option<Assembled<'a>>, ScenarioFault>
     requires clean { IsTrue is_clean → IsTrue (list_all is_printable_byte line.now) }
     requires first { 1 ≤ n }
     requires numbers { n < 2 ^ 63 }
     ensures exact { MatchResult result
         (λ none. stepped (known_seen known.entry) n (gained done.old) (block_seen current.old) line.now (lines_of ahead.now) ≡ Ok (gained done.new, block_seen current.new))
         (λ fault. IsFaultOf fault (stepped (known_seen known.entry) n (gained done.old) (block_seen current.old) line.now (lines_of ahead.now))) }
+    ensures assembled { IfOk result (λ answer. IfSome answer (λ lines. (is_end line.now ≡ false) × IsAssembled lines.count lines.rest.now (block_seen current.new) (lines_of ahead.now))) }
 {
     if is_open(current) {
         return within(alloc, known, done, n, current, line, is_clean, ahead);
     }
     let said = read_top(n, line, is_clean)?;
     *current = start(alloc, done, n, said)?;
-    Ok(())
+    Ok(None)
+}
+
+// Reads the line that was cut off the text ahead, and passes over the others of a block of code.
+#[inline(always)]
+fn take_line<'a>(
+    alloc: Global,
+    known: Option<&Names<'_>>,
+    done: &mut Done<'a>,
+    n: &mut usize,
+    current: &mut Block,
+    line: &'a [u8],
+    is_clean: bool,
+    ahead: &'a [u8],
+    lines: &mut Lines<'a>,
+) -> Result<(), ScenarioFault>
+    requires clean { IsTrue is_clean → IsTrue (list_all is_printable_byte line.now) }
+    requires first { 1 ≤ n.old }
+    requires few { n.old + length (lines_of lines.old.0.now) ≤ 1048576 }
+    requires ahead { lines_of ahead.now ≡ line.now ∷ lines_of lines.old.0.now }
+    ensures exact { MatchResult result
+        (λ none. reading (known_seen known.entry) n.old (gained done.old) (block_seen current.old) (lines_of ahead.now)
+        ≡ reading (known_seen known.entry) (n.new + 1) (gained done.new) (block_seen current.new) (lines_of lines.new.0.now))
+        (λ fault. IsFaultOf fault (reading (known_seen known.entry) n.old (gained done.old) (block_seen current.old) (lines_of ahead.now))) }
+    ensures few { OnOk result (n.new + length (lines_of lines.new.0.now) ≤ n.old + length (lines_of lines.old.0.now)) }
+    ensures fewer { OnOk result (length (lines_of lines.new.0.now) ≤ length (lines_of lines.old.0.now)) }
+    ensures clean { OnOk result (IsTrue (list_all (list_all is_printable_byte) (lines_of lines.old.0.now))
+        → IsTrue (list_all (list_all is_printable_byte) (lines_of lines.new.0.now))) }
+{
+    match step(alloc, known, done, *n, current, line, is_clean, ahead)? {
+        None => Ok(()),
+        Some(Assembled { count, rest }) => {
+            *n = *n - 1 + count;
+            lines.0 = rest;
+            Ok(())
+        }
+    }
 }
 
 // Whether all blocks are closed behind the last line, which line `n` would follow.
@@ -200,15 +224,16 @@ pub(crate) fn read_lines<'a>(
     while let Some(line) = lines.next() {
         n += 1;
         if !is_idle(&current, line) {
-            step(
+            take_line(
                 alloc,
                 known,
                 &mut done,
-                n,
+                &mut n,
                 &mut current,
                 line,
                 is_clean,
                 ahead,
+                &mut lines,
             )?;
         }
         ahead = lines.0;

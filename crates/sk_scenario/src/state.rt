@@ -31,3 +31,10 @@ pub(crate) enum Block {
         calls: Calls,
     },
 }
+
+// The lines of a block of code, which are assembled together: how many they are, and the text behind them.
+#[derive(Clone, Copy)]
+pub(crate) struct Assembled<'a> {
+    pub(crate) count: usize,
+    pub(crate) rest: &'a [u8],
+}

@@ -1,8 +1,9 @@
 -- The code's values as the definitions see them.
-use Rattle.std.specs.Prelude.{ℕ, if◌then◌else◌, Bool, List, [], ◌∷◌, map, replicate, Option, Some, None, Result}
+use Rattle.std.specs.Prelude.{◌≡◌, ℕ, if◌then◌else◌, Bool, List, [], ◌∷◌, length, drop, map, replicate, Option, Some, None, Result}
 use Rattle.std.specs.Borrow.{Bor}
 use Rattle.std.specs.Option.{option_map, option_map_or}
-use Rattle.sk_text.specs.Lines.{words_of}
+use Rattle.sk_text.specs.Lines.{lines_of, words_of}
+use Rattle.sk_asm.specs.Block.{until_end}
 use Rattle.sk_text.specs.Numbers.{number_of as number_said}
 use Rattle.sk_calls.specs.declared.syscall.Syscall.TheVariants as syscall
 use Rattle.sk_calls.specs.Syscalls.{number_of}
@@ -101,3 +102,10 @@ block_seen block.Undecided = Undecided
 block_seen (block.Bytes image) = Bytes image.items
 block_seen (block.Code image) = Code image.items
 block_seen (block.Calls owner setuid calls) = Calls (script_with owner setuid calls)
+
+-- these lines are a block's, up to its `end`, and are assembled
+pub record IsAssembled (count : ℕ) (rest : List ℕ) (block : Open) (here : List (List ℕ)) : Type 0 where
+  pub image : List ℕ
+  pub code : block ≡ Code image
+  pub count_is : count ≡ length (until_end here)
+  pub rest_is : lines_of rest ≡ drop count here
