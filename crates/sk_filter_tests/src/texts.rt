@@ -1,8 +1,8 @@
 //! Each public function at words and texts whose answers the grammar gives.
 use sk_text::{
     HexDigits, HexFault, Line, Lines, Words, bytes_of, bytes_of_text, cut, four_words, hex_half,
-    hex_word, is_clean, is_name, is_number, is_passed_over, is_printable, is_same, no_word,
-    number_up_to, one_word, push_digit, push_long, push_number, push_signed, three_words,
+    hex_word, is_clean, is_name, is_number, is_passed_over, is_printable, is_same, next_decimal,
+    no_word, number_up_to, one_word, push_digit, push_long, push_number, push_signed, three_words,
     two_words,
 };
 use std::test::Fail;
@@ -93,6 +93,24 @@ fn reads_numbers(rt: HostRuntime) {
     ] {
         assert_eq!(rt; number_up_to(word, most), None);
         assert!(rt; !is_number(word));
+    }
+}
+
+#[test]
+fn takes_decimal_words(rt: HostRuntime) {
+    for (text, number, rest) in [
+        (b"10 20".as_slice(), Some(10), b"20".as_slice()),
+        (b"007", Some(7), b""),
+        (b"9999999999999999999", Some(9_999_999_999_999_999_999), b""),
+        (b"10000000000000000000", None, b"10000000000000000000"),
+        (b"1a 2", None, b"1a 2"),
+        (b"0x1", None, b"0x1"),
+        (b" 1", None, b" 1"),
+        (b"", None, b""),
+    ] {
+        let mut words = Words(text);
+        assert_eq!(rt; next_decimal(&mut words), number);
+        assert_eq!(rt; words.0, rest);
     }
 }
 

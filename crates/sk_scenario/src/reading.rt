@@ -1,10 +1,10 @@
 //! The lines, read one after the other.
-ghost use Rattle.std.specs.Prelude.{◌≡◌, ◌+◌, ◌≤◌, ◌<◌, ◌^◌, ◌∷◌, ℕ, List, Option, false, length, IfOk, IfSome, IsTrue, MatchResult, OnOk, Ok};
+ghost use Rattle.std.specs.Prelude.{◌≡◌, ◌+◌, ◌≤◌, ◌<◌, ◌^◌, ◌∷◌, ℕ, [], List, Option, false, length, IfOk, IfSome, IsTrue, MatchResult, OnOk, Ok};
 ghost use Rattle.std.specs.List.{list_all};
 ghost use Rattle.sk_text.specs.Lines.{lines_of, is_printable_byte};
 ghost use Rattle.sk_asm.specs.Block.{is_end, until_end};
 ghost use Rattle.sk_scenario.specs.Scenario.{Names as Known};
-ghost use Rattle.sk_scenario.specs.Reading.{Gained, is_open, inside, finished, within, stepped, closed, reading, nothing_yet, Nothing as NoBlock};
+ghost use Rattle.sk_scenario.specs.Reading.{Gained, Code, is_open, inside, finished, within, stepped, closed, reading, nothing_yet, Nothing as NoBlock};
 ghost use Rattle.sk_scenario.specs.Answers.{Answers, IsFaultOf, Judges};
 ghost use Rattle.sk_scenario.specs.views.ScenarioCode.{known_seen, gained, block_seen, IsAssembled};
 
@@ -117,11 +117,29 @@ fn is_idle(current: &Block, line: &[u8]) -> bool
     ensures same { IsTrue result → (names : Option Known) (n : ℕ) (before : Gained) (here : List (List ℕ))
         → stepped names n before (block_seen current.now) line.now here ≡ Ok (before, block_seen current.now) }
 {
-    match current {
-        Block::Nothing | Block::Undecided | Block::Calls { .. } => line.is_empty(),
-        Block::Bytes(_) => false,
-        Block::Code(_) => !is_end(line),
+    if line.is_empty() {
+        return passes_over_nothing(current);
     }
+    is_assembled(current) && !is_end(line)
+}
+
+// Whether an empty line changes nothing.
+#[inline(always)]
+fn passes_over_nothing(current: &Block) -> bool
+    ensures same { IsTrue result → (names : Option Known) (n : ℕ) (before : Gained) (here : List (List ℕ))
+        → stepped names n before (block_seen current.now) [] here ≡ Ok (before, block_seen current.now) }
+{
+    match current {
+        Block::Bytes(_) => false,
+        Block::Nothing | Block::Undecided | Block::Code(_) | Block::Calls { .. } => true,
+    }
+}
+
+#[inline(always)]
+fn is_assembled(current: &Block) -> bool
+    ensures code { IsTrue result → (image : List ℕ) × (block_seen current.now ≡ Code image) }
+{
+    matches!(current, Block::Code(_))
 }
 
 // Reads line `n`, with which the text ahead begins.

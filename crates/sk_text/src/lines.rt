@@ -1,10 +1,10 @@
 //! Lines and words, cut from a text one after the other.
-ghost use Rattle.std.specs.Prelude.{◌≡◌, ◌==◌, ◌≤◌, ◌+◌, length, take, drop};
+ghost use Rattle.std.specs.Prelude.{◌≡◌, ◌==◌, ◌<◌, ◌≤◌, ◌+◌, length, take, drop};
 ghost use Rattle.std.specs.Iterator.{YieldsFirstRef, item_count};
 ghost use Rattle.std.specs.List.{before_first, after_first, list_all, position_or_len};
 ghost use Rattle.sk_text.specs.Lines.{lines_of, words_of, is_printable_byte, is_clean_byte, begins_comment};
 
-use memchr::memchr;
+use memchr::{memchr, memchr_iter};
 
 /// The lines of a text. The last one may lack its end, and an empty rest is no line.
 #[derive(Drop)]
@@ -23,7 +23,7 @@ impl<'a> Iterator for Lines<'a> {
         if self.0.is_empty() {
             return None;
         }
-        let (line, rest) = cut_at(self.0, end_of_line(self.0));
+        let (line, rest) = cut_line(self.0);
         self.0 = rest;
         Some(line)
     }
@@ -84,16 +84,29 @@ pub(crate) fn cut_at(text: &[u8], at: usize) -> (&[u8], &[u8])
     }
 }
 
-// The place of the first line feed, or the length where there is none. An empty line shows by its first byte.
+// What stands before the first line feed, and what stands behind it. An empty line shows by its first byte.
 #[inline(always)]
-fn end_of_line(text: &[u8]) -> usize
-    ensures within { result ≤ length text.now }
-    ensures first { result ≡ position_or_len (λ b. b == 10) text.now }
+fn cut_line(text: &[u8]) -> (&[u8], &[u8])
+    requires some { 0 < length text.now }
+    ensures front { result.0.now ≡ before_first (λ b. b == 10) text.now }
+    ensures back { result.1.now ≡ after_first (λ b. b == 10) text.now }
 {
-    if text.first() == Some(&b'\n') {
-        return 0;
+    if text[0] == b'\n' {
+        return cut_at(text, 0);
     }
-    far_place(text, b'\n')
+    cut_at(text, near_place(text, b'\n'))
+}
+
+// The place of the first such byte, or the length where there is none. Most lines are short, so the first bytes come first.
+#[inline(always)]
+fn near_place(text: &[u8], byte: u8) -> usize
+    ensures within { result ≤ length text.now }
+    ensures first { result ≡ position_or_len (λ b. b == byte) text.now }
+{
+    match memchr_iter(byte, text).next() {
+        Some(at) => at,
+        None => text.len(),
+    }
 }
 
 // The place of the first such byte, or the length where there is none.
