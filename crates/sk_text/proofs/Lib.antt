@@ -1,6 +1,5 @@
 pub mod Ascii
 pub mod Cuts
 pub mod Decimals
-pub mod Near
 pub mod Reading
 pub mod Clean

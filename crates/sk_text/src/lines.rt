@@ -4,7 +4,7 @@ ghost use Rattle.std.specs.Iterator.{YieldsFirstRef, item_count};
 ghost use Rattle.std.specs.List.{before_first, after_first, list_all, position_or_len};
 ghost use Rattle.sk_text.specs.Lines.{lines_of, words_of, is_printable_byte, is_clean_byte, begins_comment};
 
-use memchr::{memchr, memchr_iter};
+use memchr::memchr;
 
 /// The lines of a text. The last one may lack its end, and an empty rest is no line.
 #[derive(Drop)]
@@ -94,19 +94,7 @@ fn cut_line(text: &[u8]) -> (&[u8], &[u8])
     if text[0] == b'\n' {
         return cut_at(text, 0);
     }
-    cut_at(text, near_place(text, b'\n'))
-}
-
-// The place of the first such byte, or the length where there is none. Most lines are short, so the first bytes come first.
-#[inline(always)]
-fn near_place(text: &[u8], byte: u8) -> usize
-    ensures within { result ≤ length text.now }
-    ensures first { result ≡ position_or_len (λ b. b == byte) text.now }
-{
-    match memchr_iter(byte, text).next() {
-        Some(at) => at,
-        None => text.len(),
-    }
+    cut_at(text, far_place(text, b'\n'))
 }
 
 // The place of the first such byte, or the length where there is none.
