@@ -3,20 +3,21 @@ ghost use Rattle.std.specs.Prelude.{◌≡◌, ◌<◌, ◌≤◌, ℕ, [], ◌�
 ghost use Rattle.std.specs.Option.{option_map};
 ghost use Rattle.std.specs.List.{list_all};
 ghost use Rattle.sk_text.specs.Lines.{is_printable_byte, words_of};
-ghost use Rattle.sk_scenario.specs.Grammar.{NumberOf, HandlerOf, asked_of};
-ghost use Rattle.sk_scenario.specs.Scenario.{argument_value, child_of, call_of, named_by, program_number, number_of as number_of_named};
+ghost use Rattle.sk_scenario.specs.Grammar.{asked_of};
+ghost use Rattle.sk_scenario.specs.Scenario.{call_of};
 ghost use Rattle.sk_scenario.specs.Reading.{checked, understood, resolved, called};
 ghost use Rattle.sk_scenario.specs.declared.text_fault.TextFault.TheVariants.{Limit};
 ghost use Rattle.sk_scenario.specs.Answers.{Answers, Judges};
 ghost use Rattle.sk_scenario.specs.views.Script.{call_with};
-ghost use Rattle.sk_scenario.specs.views.ScenarioCode.{argument_seen, few_seen, few_made, call_seen, fork_seen, more_seen, line_seen, added, names_seen, known_seen, script_with};
+ghost use Rattle.sk_scenario.specs.views.ScenarioCode.{few_seen, few_made, call_seen, fork_seen, more_seen, line_seen, added, names_seen, known_seen, script_with};
 
 use crate::fault::ScenarioFault;
 use crate::line::{Argument, Arguments, ProgramLine};
 use crate::parse::{arguments, child_alone, program_line};
 use crate::state::Names;
 use crate::top::check_line;
-use crate::{Calls, Named, ScriptCall, TextFault};
+use crate::values::{argument_value, child_of};
+use crate::{Calls, ScriptCall, TextFault};
 use sk_calls::{Call, Syscall};
 use sk_text::Words;
 use std::alloc::AllocError;
@@ -38,74 +39,6 @@ pub(crate) fn read_call(n: usize, line: &[u8], is_clean: bool) -> Result<Program
     match program_line(line) {
         Some(said) => Ok(said),
         None => Err(TextFault::Line { n }),
-    }
-}
-
-#[inline(always)]
-fn named_by(names: &Names<'_>, name: &[u8]) -> Option<Named>
-    ensures exact { result ≡ named_by (names_seen names.now) name.now }
-{
-    names.get(name).copied()
-}
-
-fn program_number(what: Named) -> Option<u32>
-    ensures exact { result ≡ program_number what }
-{
-    match what {
-        Named::Filter(_) => None,
-        Named::Program(number) => Some(number),
-    }
-}
-
-fn number_of(what: Named) -> u32
-    ensures exact { result ≡ number_of_named what }
-{
-    match what {
-        Named::Filter(number) | Named::Program(number) => number,
-    }
-}
-
-// The number of the filter or program with this name, as an argument.
-#[inline(never)]
-fn number_named(names: &Names<'_>, name: &[u8]) -> Option<u64>
-    ensures exact { result ≡ argument_value (names_seen names.now) (NumberOf name.now) }
-{
-    let what = named_by(names, name)?;
-    Some(u64::from(number_of(what)))
-}
-
-// The handler that the program with this name is, as an argument.
-#[inline(never)]
-fn handler_named(names: &Names<'_>, name: &[u8]) -> Option<u64>
-    ensures exact { result ≡ argument_value (names_seen names.now) (HandlerOf name.now) }
-{
-    let what = named_by(names, name)?;
-    let number = program_number(what)?;
-    Some(u64::from(number) + 2)
-}
-
-#[inline(always)]
-fn argument_value(names: &Names<'_>, argument: Argument<'_>) -> Option<u64>
-    ensures exact { result ≡ argument_value (names_seen names.now) (argument_seen argument.entry) }
-{
-    match argument {
-        Argument::Plain(value) => Some(value),
-        Argument::NumberOf(name) => number_named(names, name),
-        Argument::HandlerOf(name) => handler_named(names, name),
-    }
-}
-
-#[inline(always)]
-fn child_of(names: &Names<'_>, child: Option<&[u8]>) -> Option<Option<u32>>
-    ensures exact { result ≡ child_of (names_seen names.now) (option_map (λ name. name.now) child.entry) }
-{
-    match child {
-        None => Some(None),
-        Some(name) => {
-            let what = named_by(names, name)?;
-            let number = program_number(what)?;
-            Some(Some(number))
-        }
     }
 }
 

@@ -18,6 +18,7 @@ mod script;
 mod state;
 mod text_fault;
 mod top;
+mod values;
 
 pub use call::{Named, ScriptCall};
 pub use examples::{example_faults, example_limits, example_scenarios};

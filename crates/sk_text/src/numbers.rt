@@ -50,11 +50,19 @@ fn decimal_ahead(text: &[u8]) -> Option<(u64, usize)>
     let mut value = 0;
     for at in 0..most {
         let Some(digit) = char::from(text[at]).to_digit(10) else {
-            return if at > 0 && text[at] == b' ' { Some((value, at)) } else { None };
+            return if at > 0 && text[at] == b' ' {
+                Some((value, at))
+            } else {
+                None
+            };
         };
         value = value * 10 + u64::from(digit);
     }
-    if most > 0 && most == text.len() { Some((value, most)) } else { None }
+    if most > 0 && most == text.len() {
+        Some((value, most))
+    } else {
+        None
+    }
 }
 
 /// Whether a word is a number, of whatever size.
