@@ -1,8 +1,28 @@
 -- Scratch words of which something is known.
-use Rattle.std.proofs.Common.{◌≡◌, ℕ, zero, suc, ◌<◌, List, [], ◌∷◌, length, Option, Some, None, slice_get, get_or, set, arith}
+use Rattle.std.proofs.Common.{◌≡◌, ℕ, zero, suc, ◌<◌, List, [], ◌∷◌, length, Option, Some, None, slice_get, get_or, set, refl, sym, ◌∙◌, arith}
+use Rattle.std.proofs.lemmas.Option.{slice_get-get_or}
 use Rattle.sk_insn.specs.declared.record.Record.{Record}
 use Rattle.sk_survey.specs.declared.known.Known.{Known}
 use Rattle.sk_survey.specs.Following.{Describes, DescribesWord}
+
+-- a word that is set, and the others
+pub word_at : (words : List Known) (k : ℕ) (known : Known) → k < length words → slice_get (set words k known) k ≡ Some known
+word_at [] k known inside = absurd (omega arith)
+word_at (first ∷ words) zero known inside = refl
+word_at (first ∷ words) (suc k) known inside = word_at words k known (omega arith)
+
+pub word_apart : (words : List Known) (k j : ℕ) (known : Known) → (j ≡ k → ⊥) → slice_get (set words k known) j ≡ slice_get words j
+word_apart [] k j known other = refl
+word_apart (first ∷ words) zero zero known other = absurd (other refl)
+word_apart (first ∷ words) zero (suc j) known other = refl
+word_apart (first ∷ words) (suc k) zero known other = refl
+word_apart (first ∷ words) (suc k) (suc j) known other = word_apart words k j known (λ e. other (omega arith))
+
+pub same_at : (words others : List Known) (k : ℕ) (one other : Known) → k < length words → k < length others → slice_get words k ≡ slice_get others k
+    → get_or words k one ≡ get_or others k other
+same_at words others k one other inside inside' same =
+    let e : Some (get_or words k one) ≡ Some (get_or others k other) =
+    sym (slice_get-get_or words k one inside) ∙ same ∙ slice_get-get_or others k other inside' in cc
 
 -- a word of which less is known
 pub word_joined : (words : List Known) (k j : ℕ) (known default : Known) (call : Record) (word : Option ℕ) → k < length words

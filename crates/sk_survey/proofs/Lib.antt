@@ -12,3 +12,4 @@ pub mod ChainEnds
 pub mod WorkedRows
 pub mod Cutting
 pub mod Standing
+pub mod JoinedRows

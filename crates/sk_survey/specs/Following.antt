@@ -35,6 +35,15 @@ pub record DescribesState (knowledge : Knowledge) (call : Record) (s : State) : 
   pub x : Describes knowledge.x call s.x
   pub words : DescribesWords knowledge.words call s.stored
 
+-- what both of two paths know is known where they meet: of A, of X and of each scratch word
+abbrev pub KeepCommonWords : List Known → List Known → List Known → Type 0
+KeepCommonWords words others both = (k : ℕ) → slice_get words k ≡ slice_get others k → slice_get both k ≡ slice_get words k
+
+pub record KeepsCommon (one other both : Knowledge) : Type 0 where
+  pub a : one.a ≡ other.a → both.a ≡ one.a
+  pub x : one.x ≡ other.x → both.x ≡ one.x
+  pub words : KeepCommonWords one.words other.words both.words
+
 -- the same, and of one register or scratch word this
 abbrev pub with_known : Register → Known → Knowledge → Knowledge
 with_known Accumulator known knowledge = record knowledge { a = known }
@@ -127,6 +136,12 @@ DescribedAt slots place call s = DescribedBy (slice_get slots place) call s
 -- nothing is known at a place, as no path has come to it
 abbrev pub IsUnknown : List (Option Knowledge) → ℕ → Type 0
 IsUnknown slots place = (knowledge : Knowledge) → slice_get slots place ≡ Some (Some knowledge) → ⊥
+
+-- one more path comes to a place: what it knows is known there, as far as each path before it knew the same
+abbrev pub JoinsAt : Option (Option Knowledge) → Knowledge → Option (Option Knowledge) → Type 0
+JoinsAt (Some (Some before)) knowledge (Some (Some after)) = KeepsCommon before knowledge after
+JoinsAt (Some None) knowledge (Some (Some after)) = after ≡ knowledge
+JoinsAt before knowledge after = ⊥
 
 -- where an effect goes on, the state that it leaves is known there
 abbrev pub Spreads : ℕ → List (Option Knowledge) → Record → Effect → Type 0

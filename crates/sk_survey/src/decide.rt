@@ -21,6 +21,8 @@ pub(crate) fn decide(
     ensures answer { IfSome result (λ answer. (call : Record) (m n : ℕ) → IsCallOf first last call
         → Describes a call m → Describes right call n → holds comparison m n ≡ answer) }
     ensures settled { IsExact a → IsExact right → IsSome result }
+    ensures parted { (k : ℕ) → result ≡ None → a ≡ Known.Number → right ≡ Known.Is k → comparison ≢ Comparison.CommonBits
+        → IsParted comparison k first last }
 {
     match (a, right) {
         (Known::Is(m), Known::Is(n)) => Some(holds(comparison, m, n)),

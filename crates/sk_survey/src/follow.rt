@@ -161,8 +161,10 @@ impl Knowledge {
 
 /// What is known of A where a test of A and the operand holds.
 fn known_where_it_holds(comparison: Comparison, a: Known, right: Known) -> Known
-    ensures { (call : Record) (m n : ℕ) → Describes a call m → Describes right call n
+    ensures value { (call : Record) (m n : ℕ) → Describes a call m → Describes right call n
         → IsTrue (holds comparison m n) → Describes result call m }
+    ensures equal { comparison ≡ Comparison.Equal → IsExact right → result ≡ right }
+    ensures kept { comparison ≢ Comparison.Equal → result ≡ a }
 {
     match (comparison, right) {
         (Comparison::Equal, Known::Is(_)) => right,
@@ -175,6 +177,7 @@ fn loaded(place: u32, first: u32, last: u32) -> Known
     ensures word { (call : Record) (n : ℕ) → IsCallOf first last call → word_of call place ≡ Some n
         → Describes result call n }
     ensures settled { first ≡ last → (place ≡ 0) ⊎ (place ≡ 4) → IsExact result }
+    ensures number { place ≡ 0 → first ≢ last → result ≡ Known.Number }
 {
     match place {
         0 if first == last => Known::Is(first),

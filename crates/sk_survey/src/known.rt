@@ -2,7 +2,7 @@
 ghost use Rattle.std.specs.Prelude.{◌≡◌, ℕ, ◌<◌, Option};
 ghost use Rattle.sk_insn.specs.declared.record.Record.{Record};
 ghost use Rattle.sk_filter.specs.Meaning.{State};
-ghost use Rattle.sk_survey.specs.Following.{Describes, DescribesWord, DescribesWords, DescribesState, IsWhole, zeros};
+ghost use Rattle.sk_survey.specs.Following.{Describes, DescribesWord, DescribesWords, DescribesState, IsWhole, KeepsCommon, KeepCommonWords, zeros};
 
 /// What is known of a number.
 #[derive(Clone, Copy, Debug, PartialEq, Eq)]
@@ -51,7 +51,7 @@ impl Knowledge {
     pub fn join(&mut self, other: &Knowledge)
         ensures one { (call : Record) (s : State) → DescribesState self.old call s → DescribesState self.new call s }
         ensures other { (call : Record) (s : State) → DescribesState other.now call s → DescribesState self.new call s }
-        ensures same { self.old ≡ other.now → self.new ≡ self.old }
+        ensures common { KeepsCommon self.old other.now self.new }
     {
         self.a = self.a.join(other.a);
         self.x = self.x.join(other.x);
@@ -64,7 +64,7 @@ fn join_words(words: &mut [Known; 16], others: &[Known; 16])
         → DescribesWords words.new call stored }
     ensures other { (call : Record) (stored : ℕ → Option ℕ) → DescribesWords others.now call stored
         → DescribesWords words.new call stored }
-    ensures same { words.old ≡ others.now → words.new ≡ words.old }
+    ensures common { KeepCommonWords words.old others.now words.new }
 {
     for k in 0..16 {
         words[k] = words[k].join(others[k]);

@@ -7,7 +7,7 @@ ghost use Rattle.sk_filter.specs.Meaning.{State, Effect, Ends};
 ghost use Rattle.sk_insn.specs.declared.insn.Insn.{Insn};
 ghost use Rattle.sk_survey.specs.declared.known.Knowledge.{Knowledge};
 ghost use Rattle.sk_survey.specs.Ends.{OnlyComing};
-ghost use Rattle.sk_survey.specs.Following.{DescribesState, DescribedAt, Leads, Spreads, TellsEnd, IsUnknown, led};
+ghost use Rattle.sk_survey.specs.Following.{DescribesState, DescribedAt, JoinsAt, Leads, Spreads, TellsEnd, IsUnknown, led};
 ghost use Rattle.sk_survey.specs.Settling.{Settles, TellsOne};
 ghost use Rattle.sk_survey.specs.Answers.{answers_of, AnswersAmong, IsAmong, AreRising};
 
@@ -92,6 +92,8 @@ fn spread(
         → slice_get slots.new q ≡ slice_get slots.old q }
     ensures alone { (skip : ℕ) → next ≡ Next.Skip skip → IsUnknown slots.old (place + 1 + skip)
         → slice_get slots.new (place + 1 + skip) ≡ Some (Some knowledge.now) }
+    ensures joins { (skip : ℕ) → next ≡ Next.Skip skip
+        → JoinsAt (slice_get slots.old (place + 1 + skip)) knowledge.now (slice_get slots.new (place + 1 + skip)) }
 {
     match next {
         Next::Skip(skip) => join_at(slots, place + 1 + skip as usize, knowledge),
@@ -137,6 +139,7 @@ fn join_at(slots: &mut [Option<Knowledge>], place: usize, knowledge: &Knowledge)
         → DescribedAt slots.new place call s }
     ensures others { (q : ℕ) → q ≢ place → slice_get slots.new q ≡ slice_get slots.old q }
     ensures alone { IsUnknown slots.old place → slice_get slots.new place ≡ Some (Some knowledge.now) }
+    ensures joins { JoinsAt (slice_get slots.old place) knowledge.now (slice_get slots.new place) }
 {
     match &mut slots[place] {
         Some(known) => known.join(knowledge),

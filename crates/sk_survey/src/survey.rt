@@ -28,7 +28,7 @@ impl Survey {
     ghost use Rattle.sk_survey.specs.Ends.{OnlyComing, OnlyVerdicts};
     ghost use Rattle.sk_survey.specs.Settling.{Settles, AllSettle, TellsOne};
     ghost use Rattle.sk_survey.specs.Cutting.{IsCutRound};
-    ghost use Rattle.sk_survey.specs.Surveys.{IsSurveyFrom, StandAlone, Tell};
+    ghost use Rattle.sk_survey.specs.Surveys.{AreJoined, IsSurveyFrom, StandAlone, Tell};
 
     /// One slot for each place of the longest program.
     pub fn new(alloc: Global) -> Result<Survey, AllocError> {
@@ -122,6 +122,7 @@ impl Survey {
     ) -> Result<Vec<Row>, AllocError>
         ensures survey { IfOk result (λ rows. IsSurveyFrom chain.now 0 rows.items) }
         ensures alone { IfOk result (λ rows. StandAlone alone.now rows.items) }
+        ensures joined { IfOk result (λ rows. AreJoined alone.now rows.items) }
     {
         let cuts = cuts(alloc, chain, alone)?;
         let mut rows = Vec::new(alloc);
@@ -153,6 +154,7 @@ impl Survey {
         requires round { All (IsCutRound cuts.now) alone.now }
         ensures told { IfOk result (λ first. Tell chain.now 0 first rows.new.items) }
         ensures alone { IfOk result (λ first. StandAlone alone.now rows.new.items) }
+        ensures joined { IfOk result (λ first. AreJoined alone.now rows.new.items) }
         ensures passed { IfOk result (λ first. All (λ cut. cut ≤ first) cuts.now) }
     {
         let mut first = 0u32;

@@ -1,9 +1,9 @@
-use Rattle.std.proofs.Common.{◌≡◌, ℕ, ◌<◌, inl, inr, Option, refl, length, slice_get, ap, set, length-set, subst, sym, ◌∙◌, arith}
+use Rattle.std.proofs.Common.{◌≡◌, ℕ, ◌<◌, inl, inr, Option, Some, refl, length, slice_get, ap, set, length-set, subst, sym, ◌∙◌, arith}
 use Rattle.std.proofs.lemmas.Bool.{cases_eq}
-use Rattle.std.proofs.lemmas.List.{set-get_or}
+use Rattle.std.proofs.lemmas.Option.{slice_get-get_or}
 use Rattle.sk_insn.specs.declared.record.Record.{Record}
 use Rattle.sk_survey.specs.Following.{DescribesWord}
-use Rattle.sk_survey.proofs.KnownWords.{word_joined, word_set, word_known}
+use Rattle.sk_survey.proofs.KnownWords.{word_at, word_apart, same_at, word_joined, word_set, word_known}
 use Rattle.sk_survey.proofs.known.join_words.Goals as goal
 
 pub loop-k-preserved : goal.loop-k-preserved
@@ -28,8 +28,16 @@ loop-k-preserved c =
             (subst (λ i. DescribesWord (slice_get others i) call word) same is)))
         | inr other ↦ kept j call word (c.loop-k.invariant.other j (omega arith) call word is)
       ];
-      same = λ e.
-          let unchanged = c.loop-k.invariant.same e in
-          let alike = c.join.ensures.same (rw (unchanged ∙ e) refl) in
-          ap (λ word. set words k word) alike ∙ set-get_or words k _ ∙ unchanged;
+      common = λ j e. elim (cases_eq j k) as (λ _. slice_get (set words k known) j ≡ slice_get c.args.words.now j) [
+        | inl same ↦
+            let here : slice_get words k ≡ slice_get others k =
+            c.loop-k.invariant.rest k (omega arith) ∙ subst (λ i. slice_get c.args.words.now i ≡ slice_get others i) same e in
+            subst (λ i. slice_get (set words k known) i ≡ slice_get c.args.words.now i) (sym same)
+            (word_at words k known inside
+            ∙ ap Some (c.join.ensures.same (same_at words others k _ _ inside inside' here))
+            ∙ sym (slice_get-get_or words k _ inside)
+            ∙ c.loop-k.invariant.rest k (omega arith))
+        | inr other ↦ word_apart words k j known other ∙ c.loop-k.invariant.common j e
+      ];
+      rest = λ j after. word_apart words k j known (λ e. omega arith) ∙ c.loop-k.invariant.rest j (omega arith);
     }

@@ -10,5 +10,5 @@ returns-in-None-clause-leads c =
     let insn = c.args.insn.now in
     let right = c.args.operand in
     branch_leads c.args.comparison right insn _ c.args.self.now call s is
-    (λ holds. c.known_where_it_holds.ensures call s.a (operand right insn s) is.a
+    (λ holds. c.known_where_it_holds.ensures.value call s.a (operand right insn s) is.a
     (subst (λ known. Describes known call (operand right insn s)) (sym c.right-right.ensures.operand) (operand_known right insn c.args.self.now call s is)) holds)

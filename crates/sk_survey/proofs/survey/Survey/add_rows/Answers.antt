@@ -28,6 +28,7 @@ loop-cut-preserved c =
                 (w.in_ok-add_row.ensures.told chain 0 so_far.told (omega arith) holds);
             fits = omega arith;
             passed = passed_more cuts i first cut so_far.passed (omega arith) (omega arith);
+            joined = w.in_ok-add_row.ensures.joined so_far.joined;
             alone = w.in_ok-add_row.ensures.alone chain 0 so_far.told so_far.alone
                 (alone_before cuts alone row i c.requires.rising c.requires.round c.loop-cut-test.true so_far.passed (omega arith) (omega arith));
           })
@@ -36,6 +37,7 @@ loop-cut-preserved c =
         fits = so_far.fits;
         passed = passed_more cuts i first first so_far.passed (omega arith) w.if-first-cut.false;
         alone = so_far.alone;
+        joined = so_far.joined;
       })
     ]
 
