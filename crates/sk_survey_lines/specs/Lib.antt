@@ -5,3 +5,4 @@ pub mod Tracing
 pub mod Text
 pub mod Lines
 pub mod NamesLaws
+pub mod Origins
