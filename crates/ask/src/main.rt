@@ -4,7 +4,7 @@
 ghost use Rattle.std.specs.Prelude.{None, ℕ};
 ghost use Rattle.sk_ask_filters.specs.Shelves.{CountsWhy};
 
-use sk_ask::{command, misused};
+use sk_ask::{Trees, command, misused};
 use sk_ask_filters::{Shelf, Unread};
 use sk_io::{Counted, Source, take_up_to};
 use std::alloc::Global;
@@ -102,6 +102,7 @@ fn main(rt: HostRuntime) -> ExitCode {
             alloc,
             words.as_slice(),
             &shelf,
+            &Trees,
             &mut reads,
             &mut out,
             &mut complaints,

@@ -32,15 +32,15 @@ no_call : (held : List ℕ → Option (List ℕ)) (context : Context) (by : Arch
 no_call held context by [] = refl
 no_call held context by (word ∷ others) = inr (inl (Memory, tt, refl))
 
-no_answer : (held : List ℕ → Option (List ℕ)) (context : Context) (word : Word) (asked : Question) → AnswersQuestion held context word asked no_memory
-no_answer held context Calls asked = inr (inl (Memory, tt, refl))
-no_answer held context Filter asked = inr (Memory, inr (inr refl), refl)
-no_answer held context When asked = inr (inl (Memory, tt, refl))
-no_answer held context Diff asked = inr (inl (Memory, inr (inr refl), refl))
-no_answer held context Replay asked = no_log held context (architecture_of asked.arch) asked.names
-no_answer held context Why asked = no_call held context (architecture_of asked.arch) asked.names
-no_answer held context Show asked = inr (Memory, inr (inr refl), refl)
-no_answer held context Arches asked = inr (Memory, inr (inr refl), refl)
+no_answer : (held : List ℕ → Option (List ℕ)) (may_spend : ℕ → Bool) (context : Context) (word : Word) (asked : Question) → AnswersQuestion held may_spend context word asked no_memory
+no_answer held may_spend context Calls asked = inr (inl (Memory, tt, refl))
+no_answer held may_spend context Filter asked = inr (Memory, inr (inr refl), refl)
+no_answer held may_spend context When asked = inr (inl (Memory, tt, refl))
+no_answer held may_spend context Diff asked = inr (inl (Memory, inr (inr refl), refl))
+no_answer held may_spend context Replay asked = no_log held context (architecture_of asked.arch) asked.names
+no_answer held may_spend context Why asked = no_call held context (architecture_of asked.arch) asked.names
+no_answer held may_spend context Show asked = inr (Memory, inr (inr refl), refl)
+no_answer held may_spend context Arches asked = inr (Memory, inr (inr refl), refl)
 
 -- so it is where that ending was come to
 pub no_arches : (held : List ℕ → Option (List ℕ)) (context : Context) (asked : Question) (ending : Ending) → ending ≡ no_memory → AnswersArches held context asked ending
@@ -59,17 +59,17 @@ abbrev context_for : Question → Context
 context_for asked =
     record { capabilities = record { ref_ptr = (0, 0); now = lent asked.caps }; kernel = unwrap_or asked.kernel newest; runc = asked.runc }
 
-no_answer_there : (held : List ℕ → Option (List ℕ)) (word : Word) (asked : Question) → AnswersThere held word asked no_memory
-no_answer_there held word asked =
-    (context_for asked, (lent_now asked.caps, refl, refl), no_answer held (context_for asked) word asked)
+no_answer_there : (held : List ℕ → Option (List ℕ)) (may_spend : ℕ → Bool) (word : Word) (asked : Question) → AnswersThere held may_spend word asked no_memory
+no_answer_there held may_spend word asked =
+    (context_for asked, (lent_now asked.caps, refl, refl), no_answer held may_spend (context_for asked) word asked)
 
-asked_wrong : (held : List ℕ → Option (List ℕ)) (word : Word) (said : Result Question (List ℕ)) (why : Trouble) → Asks (Err why) said → AnswersAsked held word said (ending_of (Err why))
-asked_wrong held word said (Refused line) h = subst (λ s. AnswersAsked held word s (refused line.items)) (sym h) refl
-asked_wrong held word said (Reading line) h = absurd h
-asked_wrong held word (Err line) Memory h = tt
-asked_wrong held word (Ok asked) Memory h = either asked.help _ _ tt (no_answer_there held word asked)
+asked_wrong : (held : List ℕ → Option (List ℕ)) (may_spend : ℕ → Bool) (word : Word) (said : Result Question (List ℕ)) (why : Trouble) → Asks (Err why) said → AnswersAsked held may_spend word said (ending_of (Err why))
+asked_wrong held may_spend word said (Refused line) h = subst (λ s. AnswersAsked held may_spend word s (refused line.items)) (sym h) refl
+asked_wrong held may_spend word said (Reading line) h = absurd h
+asked_wrong held may_spend word (Err line) Memory h = tt
+asked_wrong held may_spend word (Ok asked) Memory h = either asked.help _ _ tt (no_answer_there held may_spend word asked)
 
-pub wrong_in : (held : List ℕ → Option (List ℕ)) (word : Word) (said : Result Question (List ℕ)) (why : Trouble) (result : Result Answer Trouble) → IsErrAnd result (λ given. given ≡ why) → Asks (Err why) said → AnswersAsked held word said (ending_of result)
-wrong_in held word said why (Ok answer) is h = absurd is
-wrong_in held word said why (Err given) is h =
-    subst (λ it. AnswersAsked held word said (ending_of (Err it))) (sym is) (asked_wrong held word said why h)
+pub wrong_in : (held : List ℕ → Option (List ℕ)) (may_spend : ℕ → Bool) (word : Word) (said : Result Question (List ℕ)) (why : Trouble) (result : Result Answer Trouble) → IsErrAnd result (λ given. given ≡ why) → Asks (Err why) said → AnswersAsked held may_spend word said (ending_of result)
+wrong_in held may_spend word said why (Ok answer) is h = absurd is
+wrong_in held may_spend word said why (Err given) is h =
+    subst (λ it. AnswersAsked held may_spend word said (ending_of (Err it))) (sym is) (asked_wrong held may_spend word said why h)

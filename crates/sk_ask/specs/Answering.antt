@@ -71,34 +71,34 @@ AnswersFilter held context asked ending =
 
 -- ---- all words
 
-abbrev pub AnswersQuestion : (List ℕ → Option (List ℕ)) → Context → Word → Question → Ending → Type 0
-AnswersQuestion held context word.Calls asked ending = AnswersCalls held context asked ending
-AnswersQuestion held context word.Filter asked ending = AnswersFilter held context asked ending
-AnswersQuestion held context word.When asked ending = AnswersWhen held context asked ending
-AnswersQuestion held context word.Diff asked ending = AnswersDiff held context asked ending
-AnswersQuestion held context word.Replay asked ending = AnswersReplay held context asked ending
-AnswersQuestion held context word.Why asked ending = AnswersWhy held context asked ending
-AnswersQuestion held context word.Show asked ending = AnswersShow held context asked ending
-AnswersQuestion held context word.Arches asked ending = AnswersArches held context asked ending
+abbrev pub AnswersQuestion : (List ℕ → Option (List ℕ)) → (ℕ → Bool) → Context → Word → Question → Ending → Type 0
+AnswersQuestion held may_spend context word.Calls asked ending = AnswersCalls held context asked ending
+AnswersQuestion held may_spend context word.Filter asked ending = AnswersFilter held context asked ending
+AnswersQuestion held may_spend context word.When asked ending = AnswersWhen held may_spend context asked ending
+AnswersQuestion held may_spend context word.Diff asked ending = AnswersDiff held may_spend context asked ending
+AnswersQuestion held may_spend context word.Replay asked ending = AnswersReplay held context asked ending
+AnswersQuestion held may_spend context word.Why asked ending = AnswersWhy held context asked ending
+AnswersQuestion held may_spend context word.Show asked ending = AnswersShow held context asked ending
+AnswersQuestion held may_spend context word.Arches asked ending = AnswersArches held context asked ending
 
 -- where the profiles among the files are to hold, the words say
-abbrev pub AnswersThere : (List ℕ → Option (List ℕ)) → Word → Question → Ending → Type 0
-AnswersThere held word asked ending =
-    (context : Context) × IsContextOf asked context × AnswersQuestion held context word asked ending
+abbrev pub AnswersThere : (List ℕ → Option (List ℕ)) → (ℕ → Bool) → Word → Question → Ending → Type 0
+AnswersThere held may_spend word asked ending =
+    (context : Context) × IsContextOf asked context × AnswersQuestion held may_spend context word asked ending
 
 -- with `--help` among them the words ask how they are used
-abbrev pub AnswersAsked : (List ℕ → Option (List ℕ)) → Word → Result Question (List ℕ) → Ending → Type 0
-AnswersAsked held word (Err line) ending = ComesTo (refused line) ending
-AnswersAsked held word (Ok asked) ending =
-    MatchBool asked.help (ComesTo (answered [] (word_help_text word) false) ending) (AnswersThere held word asked ending)
+abbrev pub AnswersAsked : (List ℕ → Option (List ℕ)) → (ℕ → Bool) → Word → Result Question (List ℕ) → Ending → Type 0
+AnswersAsked held may_spend word (Err line) ending = ComesTo (refused line) ending
+AnswersAsked held may_spend word (Ok asked) ending =
+    MatchBool asked.help (ComesTo (answered [] (word_help_text word) false) ending) (AnswersThere held may_spend word asked ending)
 
-abbrev pub AnswersWord : (List ℕ → Option (List ℕ)) → List ℕ → Option Word → List (List ℕ) → Ending → Type 0
-AnswersWord held first None words ending =
+abbrev pub AnswersWord : (List ℕ → Option (List ℕ)) → (ℕ → Bool) → List ℕ → Option Word → List (List ℕ) → Ending → Type 0
+AnswersWord held may_spend first None words ending =
     ComesTo (refused (of_word (codes "no word is named ") first)) ending
-AnswersWord held first (Some word) words ending = AnswersAsked held word (asked_of word nothing_asked words) ending
+AnswersWord held may_spend first (Some word) words ending = AnswersAsked held may_spend word (asked_of word nothing_asked words) ending
 
-abbrev pub AnswersWords : (List ℕ → Option (List ℕ)) → List (List ℕ) → Ending → Type 0
-AnswersWords held [] ending = ComesTo (refused (codes "ask: no word is given; see ask --help\n")) ending
-AnswersWords held (first ∷ words) ending =
+abbrev pub AnswersWords : (List ℕ → Option (List ℕ)) → (ℕ → Bool) → List (List ℕ) → Ending → Type 0
+AnswersWords held may_spend [] ending = ComesTo (refused (codes "ask: no word is given; see ask --help\n")) ending
+AnswersWords held may_spend (first ∷ words) ending =
     MatchBool (bytes_eq first (codes "--help")) (ComesTo (answered [] help_text false) ending)
-    (AnswersWord held first (word_named first) words ending)
+    (AnswersWord held may_spend first (word_named first) words ending)

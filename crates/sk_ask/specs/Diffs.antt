@@ -13,6 +13,7 @@ use Rattle.sk_ask_filters.specs.Reading.{ReadsFilters, IsRefusedOf}
 use Rattle.sk_ask.specs.Architectures.{architecture_of, chain_on}
 use Rattle.sk_ask.specs.Asking.{Question}
 use Rattle.sk_ask.specs.Endings.{Ending, answered, refused, no_memory, ComesTo}
+use Rattle.sk_ask.specs.Steps.{MayBeSpent, diff_steps}
 use Rattle.sk_ask.specs.Troubles.{IsTrouble}
 
 abbrev pub relation_asked : Bool → Relation
@@ -29,23 +30,23 @@ EndsAs Holds notes text ending = ending ≡ answered notes text false
 EndsAs Fails notes text ending = ending ≡ answered notes text true
 EndsAs Undecided notes text ending = ComesTo (refused (undecided_text text)) ending
 
--- two chains were compared as they are for an architecture, or memory was refused
-abbrev pub IsDiff : Architecture → Bool → List (List Insn) → List (List Insn) → List ℕ → Ending → Type 0
-IsDiff by stricter old new notes ending =
+-- two chains were compared as they are for an architecture, with the steps that ask gives, or memory was refused
+abbrev pub IsDiff : (ℕ → Bool) → Architecture → Bool → List (List Insn) → List (List Insn) → List ℕ → Ending → Type 0
+IsDiff may_spend by stricter old new notes ending =
     ((is_spent : Bool) × (finding : Finding) × (text : List ℕ)
     × IsComparison by (relation_asked stricter) (chain_on by old) (chain_on by new) is_spent finding text
-    × EndsAs finding notes text ending)
+    × MayBeSpent may_spend diff_steps is_spent × EndsAs finding notes text ending)
     ⊎ (ending ≡ no_memory)
 
 -- the chains of files with these names, and of files with those, are compared; or one of them is refused or not read
-abbrev pub AnswersSides : (List ℕ → Option (List ℕ)) → Context → Architecture → Bool → List (List ℕ) → List (List ℕ) → Ending → Type 0
-AnswersSides held context by stricter names others ending =
+abbrev pub AnswersSides : (List ℕ → Option (List ℕ)) → (ℕ → Bool) → Context → Architecture → Bool → List (List ℕ) → List (List ℕ) → Ending → Type 0
+AnswersSides held may_spend context by stricter names others ending =
     ((found other : Filters) × (old new : List (List Insn)) × (notes more : List ℕ)
     × ReadsFilters held context names found old notes × ReadsFilters held context others other new more
-    × IsDiff by stricter old new (notes ++ more) ending)
+    × IsDiff may_spend by stricter old new (notes ++ more) ending)
     ⊎ (IsTrouble ending (IsRefusedOf held context names) ⊎ IsTrouble ending (IsRefusedOf held context others))
 
 -- the first file has the old chain
-abbrev pub AnswersDiff : (List ℕ → Option (List ℕ)) → Context → Question → Ending → Type 0
-AnswersDiff held context asked ending =
-    AnswersSides held context (architecture_of asked.arch) asked.stricter (take 1 asked.names) (drop 1 asked.names) ending
+abbrev pub AnswersDiff : (List ℕ → Option (List ℕ)) → (ℕ → Bool) → Context → Question → Ending → Type 0
+AnswersDiff held may_spend context asked ending =
+    AnswersSides held may_spend context (architecture_of asked.arch) asked.stricter (take 1 asked.names) (drop 1 asked.names) ending

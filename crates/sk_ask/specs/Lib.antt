@@ -11,6 +11,7 @@ pub mod FilterText
 pub mod Helping
 pub mod Replays
 pub mod Shows
+pub mod Steps
 pub mod Telling
 pub mod Troubles
 pub mod Whens

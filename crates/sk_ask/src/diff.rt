@@ -6,6 +6,7 @@ ghost use Rattle.sk_ask.specs.Endings.{ending_of};
 ghost use Rattle.sk_ask.specs.Asking.{question_of};
 ghost use Rattle.sk_ask.specs.Diffs.{AnswersDiff, AnswersSides, IsDiff, relation_asked, undecided_text};
 
+use crate::analysis::Analysis;
 use crate::answer::Answer;
 use crate::on::{architecture_of, filters_on};
 use crate::words::Asked;
@@ -19,14 +20,15 @@ use std::alloc::{AllocError, Global};
 const MOST_ROWS: u32 = 64;
 
 /// Answers `ask diff`.
-pub fn diff<S: Shelf>(
+pub fn diff<S: Shelf, A: Analysis>(
     alloc: Global,
     asked: &Asked<'_>,
     shelf: &S,
+    analysis: &A,
     context: &Context<'_>,
     reads: &mut u64,
 ) -> Result<Answer, Trouble>
-    ensures told { AnswersDiff (S.held shelf.now) context.now (question_of asked.now) (ending_of result) }
+    ensures told { AnswersDiff (S.held shelf.now) (A.may_spend analysis.now) context.now (question_of asked.now) (ending_of result) }
     ensures counted { CountsReads result reads.old reads.new }
 {
     let (old, new) = sides(&asked.names);
@@ -36,6 +38,7 @@ pub fn diff<S: Shelf>(
         architecture,
         asked.stricter,
         shelf,
+        analysis,
         context,
         reads,
         old,
@@ -43,22 +46,23 @@ pub fn diff<S: Shelf>(
     )
 }
 
-fn diff_of<S: Shelf>(
+fn diff_of<S: Shelf, A: Analysis>(
     alloc: Global,
     architecture: Architecture,
     stricter: bool,
     shelf: &S,
+    analysis: &A,
     context: &Context<'_>,
     reads: &mut u64,
     old: &[String],
     new: &[String],
 ) -> Result<Answer, Trouble>
-    ensures told { AnswersSides (S.held shelf.now) context.now architecture stricter (map string_bytes old.now) (map string_bytes new.now) (ending_of result) }
+    ensures told { AnswersSides (S.held shelf.now) (A.may_spend analysis.now) context.now architecture stricter (map string_bytes old.now) (map string_bytes new.now) (ending_of result) }
     ensures counted { CountsReads result reads.old reads.new }
 {
     let old = filters_in(alloc, shelf, context, reads, old)?;
     let new = filters_in(alloc, shelf, context, reads, new)?;
-    compared(alloc, architecture, stricter, old, new)
+    compared(alloc, analysis, architecture, stricter, old, new)
 }
 
 // The first name, and those behind it.
@@ -69,8 +73,9 @@ fn sides(names: &[String]) -> (&[String], &[String])
     names.split_at(names.len().min(1))
 }
 
-fn compared(
+fn compared<A: Analysis>(
     alloc: Global,
+    analysis: &A,
     architecture: Architecture,
     stricter: bool,
     old: Filters,
@@ -78,12 +83,12 @@ fn compared(
 ) -> Result<Answer, Trouble>
     requires old { IsWithinLimit old.chain }
     requires new { IsWithinLimit new.chain }
-    ensures told { IsDiff architecture stricter old.chain new.chain (old.notes.items ++ new.notes.items) (ending_of result) }
+    ensures told { IsDiff (A.may_spend analysis.now) architecture stricter old.chain new.chain (old.notes.items ++ new.notes.items) (ending_of result) }
 {
     let (old, mut notes) = filters_on(alloc, architecture, old)?;
     let (new, more) = filters_on(alloc, architecture, new)?;
     let mut budgets = Budgets::of_rows(MOST_ROWS);
-    let Comparison { finding, text } = sk_when::diff(
+    let Comparison { finding, text } = analysis.diff(
         alloc,
         architecture,
         relation_asked(stricter),

@@ -6,6 +6,7 @@ ghost use Rattle.sk_ask.specs.Endings.{ending_of};
 ghost use Rattle.sk_ask.specs.Asking.{question_of};
 ghost use Rattle.sk_ask.specs.Whens.{AnswersWhen, IsWhenText, TellsWhenOf};
 
+use crate::analysis::Analysis;
 use crate::answer::Answer;
 use crate::calls::asked_call;
 use crate::filters::asked_filters;
@@ -22,25 +23,27 @@ use std::alloc::{AllocError, Global};
 const MOST_ROWS: u32 = 4;
 
 /// Answers `ask when`.
-pub fn when<S: Shelf>(
+pub fn when<S: Shelf, A: Analysis>(
     alloc: Global,
     asked: &Asked<'_>,
     shelf: &S,
+    analysis: &A,
     context: &Context<'_>,
     reads: &mut u64,
 ) -> Result<Answer, Trouble>
     requires called { asked.now.dot ≡ true → IsSome asked.now.call }
-    ensures told { AnswersWhen (S.held shelf.now) context.now (question_of asked.now) (ending_of result) }
+    ensures told { AnswersWhen (S.held shelf.now) (A.may_spend analysis.now) context.now (question_of asked.now) (ending_of result) }
     ensures counted { CountsReads result reads.old reads.new }
 {
     let architecture = architecture_of(asked.arch);
     let call = asked_call(alloc, architecture, asked.call)?;
     let filters = asked_filters(alloc, asked, shelf, context, reads)?;
-    Ok(told(alloc, architecture, asked.dot, call, filters)?)
+    Ok(told(alloc, analysis, architecture, asked.dot, call, filters)?)
 }
 
-fn told(
+fn told<A: Analysis>(
     alloc: Global,
+    analysis: &A,
     architecture: Architecture,
     dot: bool,
     call: Option<u32>,
@@ -48,29 +51,30 @@ fn told(
 ) -> Result<Answer, AllocError>
     requires limited { IsWithinLimit filters.chain }
     requires called { dot ≡ true → IsSome call }
-    ensures told { IfOk result (λ answer. TellsWhenOf architecture dot call filters.chain filters.notes.items (ending_of (Ok answer))) }
+    ensures told { IfOk result (λ answer. TellsWhenOf (A.may_spend analysis.now) architecture dot call filters.chain filters.notes.items (ending_of (Ok answer))) }
 {
     let (chain, notes) = filters_on(alloc, architecture, filters)?;
     Ok(Answer {
-        text: text_of(alloc, architecture, dot, call, &chain)?.into_bytes(),
+        text: text_of(alloc, analysis, architecture, dot, call, &chain)?.into_bytes(),
         notes,
         denies: false,
     })
 }
 
-fn text_of(
+fn text_of<A: Analysis>(
     alloc: Global,
+    analysis: &A,
     architecture: Architecture,
     dot: bool,
     call: Option<u32>,
     chain: &Chain,
 ) -> Result<String, AllocError>
     requires called { dot ≡ true → IsSome call }
-    ensures text { IfOk result (λ text. IsWhenText architecture dot call chain.now (string_bytes text)) }
+    ensures text { IfOk result (λ text. IsWhenText (A.may_spend analysis.now) architecture dot call chain.now (string_bytes text)) }
 {
     let budgets = &mut Budgets::of_rows(MOST_ROWS);
     match call {
-        Some(nr) if dot => sk_when::dot(alloc, chain, nr, &mut Budget::whole()),
-        _ => sk_when::when(alloc, architecture, chain, call, budgets),
+        Some(nr) if dot => analysis.dot(alloc, chain, nr, &mut Budget::whole()),
+        _ => analysis.when(alloc, architecture, chain, call, budgets),
     }
 }

@@ -1,7 +1,7 @@
 //! Files and writers in memory.
 ghost use Rattle.std.specs.Prelude.{None};
 
-use sk_ask::command;
+use sk_ask::{Trees, command};
 use sk_ask_filters::{Shelf, Unread};
 use sk_io::Counted;
 use std::alloc::{AllocError, Global};
@@ -159,6 +159,7 @@ pub fn run(alloc: Global, given: &[&str], failing: u64) -> Result<Ran, AllocErro
         alloc,
         words.as_slice(),
         &Files,
+        &Trees,
         &mut reads,
         &mut out,
         &mut complaints,

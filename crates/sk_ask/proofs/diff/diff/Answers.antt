@@ -7,6 +7,7 @@ use Rattle.sk_ask.proofs.diff.diff.Goals as goal
 pub returns-clause-told : goal.returns-clause-told
 returns-clause-told g c =
     let held = g.S.Shelf.held c.args.shelf.now in
+    let may_spend = g.A.Analysis.may_spend c.args.analysis.now in
     let context = c.args.context.now in
     let by = architecture_of c.args.asked.now.arch in
     let stricter = c.args.asked.now.stricter in
@@ -16,7 +17,7 @@ returns-clause-told g c =
     let told = c.diff_of.ensures.told in
     let by_name = c.architecture_of-architecture.ensures.architecture in
     let first =
-    subst (λ (old : List (List ℕ)). AnswersSides held context by stricter old behind end) c.sides.ensures.old (rw by_name at told) in
+    subst (λ (old : List (List ℕ)). AnswersSides held may_spend context by stricter old behind end) c.sides.ensures.old (rw by_name at told) in
     let both =
-    subst (λ (new : List (List ℕ)). AnswersSides held context by stricter (take 1 names) new end) c.sides.ensures.new first in
-    subst (λ (all : List (List ℕ)). AnswersSides held context by stricter (take 1 all) (drop 1 all) end) (ap (map string_bytes) c.deref.ensures.value) both
+    subst (λ (new : List (List ℕ)). AnswersSides held may_spend context by stricter (take 1 names) new end) c.sides.ensures.new first in
+    subst (λ (all : List (List ℕ)). AnswersSides held may_spend context by stricter (take 1 all) (drop 1 all) end) (ap (map string_bytes) c.deref.ensures.value) both

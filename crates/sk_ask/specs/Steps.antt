@@ -1,0 +1,16 @@
+-- The steps that `ask` gives to an analysis of chains.
+use Rattle.std.specs.Prelude.{ℕ, Bool, IsTrue}
+
+-- for all rows of `ask when`, for the picture of one call, and for all rows of `ask diff`
+abbrev pub when_steps : ℕ
+when_steps = 4194304
+
+abbrev pub picture_steps : ℕ
+picture_steps = 67108864
+
+abbrev pub diff_steps : ℕ
+diff_steps = 67108864
+
+-- steps were used up only if the analysis may use up so many; it is known of it which numbers these are
+abbrev pub MayBeSpent : (ℕ → Bool) → ℕ → Bool → Type 0
+MayBeSpent may_spend steps is_spent = IsTrue is_spent → IsTrue (may_spend steps)

@@ -1,0 +1,96 @@
+//! The analysis of filters that `ask` stands on: which conditions a verdict has, and whether two chains answer the same.
+ghost use Rattle.std.specs.Prelude.{◌≡◌, ◌==◌, ℕ, Bool, false, IfOk, string_bytes};
+ghost use Rattle.sk_ask.specs.Steps.{MayBeSpent};
+ghost use Rattle.sk_when.specs.Diffs.{IsComparison};
+ghost use Rattle.sk_when.specs.Picture.{IsPicture};
+ghost use Rattle.sk_when.specs.Telling.{TellsWhen};
+
+use sk_call_names::Architecture;
+use sk_filter::Chain;
+use sk_when::{Budget, Budgets, Comparison, Relation};
+use std::alloc::{AllocError, Global};
+
+/// Analyses chains, as far as the steps reach that it is given.
+pub trait Analysis {
+    // Whether it may use up so many steps.
+    ghost may_spend: { Self → ℕ → Bool };
+
+    /// Tells under which conditions on a call each verdict of the chain comes.
+    fn when(
+        &self,
+        alloc: Global,
+        architecture: Architecture,
+        chain: &Chain,
+        call: Option<u32>,
+        budgets: &mut Budgets,
+    ) -> Result<String, AllocError>
+        ensures text { IfOk result (λ text. TellsWhen architecture call chain.now budgets.new.is_spent (string_bytes text)) }
+        ensures spent { budgets.old.is_spent ≡ false → MayBeSpent (may_spend self.now) budgets.old.steps budgets.new.is_spent };
+
+    /// Draws the tree of the chain's verdicts on one call.
+    fn dot(
+        &self,
+        alloc: Global,
+        chain: &Chain,
+        nr: u32,
+        budget: &mut Budget,
+    ) -> Result<String, AllocError>
+        ensures picture { IfOk result (λ text. IsPicture chain.now nr budget.new.steps (string_bytes text)) }
+        ensures spent { MayBeSpent (may_spend self.now) budget.old.steps (budget.new.steps == 0) };
+
+    /// Compares a new chain with an old one on every call.
+    fn diff(
+        &self,
+        alloc: Global,
+        architecture: Architecture,
+        relation: Relation,
+        old: &Chain,
+        new: &Chain,
+        budgets: &mut Budgets,
+    ) -> Result<Comparison, AllocError>
+        ensures compared { IfOk result (λ it. IsComparison architecture relation old.now new.now budgets.new.is_spent it.finding (string_bytes it.text)) }
+        ensures spent { budgets.old.is_spent ≡ false → MayBeSpent (may_spend self.now) budgets.old.steps budgets.new.is_spent };
+}
+
+/// That by decision trees. How many steps it takes is not known.
+#[derive(Clone, Copy, Debug)]
+pub struct Trees;
+
+impl Analysis for Trees {
+    ghost use Rattle.std.specs.Prelude.{true};
+
+    ghost may_spend = { λ _ _. true };
+
+    fn when(
+        &self,
+        alloc: Global,
+        architecture: Architecture,
+        chain: &Chain,
+        call: Option<u32>,
+        budgets: &mut Budgets,
+    ) -> Result<String, AllocError> {
+        sk_when::when(alloc, architecture, chain, call, budgets)
+    }
+
+    fn dot(
+        &self,
+        alloc: Global,
+        chain: &Chain,
+        nr: u32,
+        budget: &mut Budget,
+    ) -> Result<String, AllocError> {
+        sk_when::dot(alloc, chain, nr, budget)
+    }
+
+    fn diff(
+        &self,
+        alloc: Global,
+        architecture: Architecture,
+        relation: Relation,
+        old: &Chain,
+        new: &Chain,
+        budgets: &mut Budgets,
+    ) -> Result<Comparison, AllocError> {
+        sk_when::diff(alloc, architecture, relation, old, new, budgets)
+    }
+}
