@@ -52,7 +52,8 @@ shown_here : (relation : Relation) (old new : List (List Insn)) (numbers : Numbe
     → option_map_or (λ call. true) shown false ≡ true → IsShown relation old new numbers calls verdicts shown
     → (call : Record) × IsNative call × (call.nr ≤ numbers.last) × (stands_on relation old new call ≡ false)
 shown_here relation old new numbers calls verdicts None some is = absurd (true≢false (sym some))
-shown_here relation old new numbers calls verdicts (Some call) some is = (call, is.0.0, is.0.1.1, is.3)
+shown_here relation old new numbers calls None (Some call) some is = absurd is
+shown_here relation old new numbers calls (Some it) (Some call) some is = (call, is.0.0, is.0.1.1, is.3)
 
 found_among : (relation : Relation) (old new : List (List Insn)) (numbers : Numbers) (parts : List Part) → list_any is_shown parts ≡ true
     → All (HoldsOf relation old new numbers) parts → (call : Record) × IsNative call × (call.nr ≤ numbers.last) × (stands_on relation old new call ≡ false)

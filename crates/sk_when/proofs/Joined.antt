@@ -27,7 +27,8 @@ both_numbers one other = record { first = one.first; last = other.last }
 shown_wider : (relation : Relation) (old new : List (List Insn)) (one other : Numbers) (calls : Calls) (verdicts : Option Verdicts) (shown : Option Record)
     → one.last ≤ other.last → IsShown relation old new one calls verdicts shown → IsShown relation old new (both_numbers one other) calls verdicts shown
 shown_wider relation old new one other calls verdicts None wider is = is
-shown_wider relation old new one other calls verdicts (Some call) wider is =
+shown_wider relation old new one other calls None (Some call) wider is = absurd is
+shown_wider relation old new one other calls (Some it) (Some call) wider is =
     ((is.0.0, (is.0.1.0, let below = is.0.1.1 in omega (arith, below, wider))), is.1, is.2, is.3)
 
 holds_both : (relation : Relation) (old new : List (List Insn)) (one other : Numbers) (parts others : List Part) → ArePartsOfOne parts others

@@ -54,15 +54,16 @@ abbrev pub IsOf : Calls → Record → Type 0
 IsOf This call = Unit {0}
 IsOf calls call = meets_calls calls call ≡ true
 
--- a part of a single call shows it, since nothing else says which it is
+-- a part of a single call shows it, since nothing else says which it is; and where a call is shown it is decided
 abbrev pub MayShowNone : Calls → Type 0
 MayShowNone This = ⊥
 MayShowNone calls = Unit {0}
 
 abbrev pub IsShown : Relation → List (List Insn) → List (List Insn) → Numbers → Calls → Option Verdicts → Option Record → Type 0
 IsShown relation old new numbers calls verdicts None = MayShowNone calls
-IsShown relation old new numbers calls verdicts (Some call) =
-    IsCallOf numbers.first numbers.last call × IsOf calls call × AreVerdicts old new verdicts call × (stands_on relation old new call ≡ false)
+IsShown relation old new numbers calls None (Some call) = ⊥
+IsShown relation old new numbers calls (Some it) (Some call) =
+    IsCallOf numbers.first numbers.last call × IsOf calls call × HasVerdicts old new it call × (stands_on relation old new call ≡ false)
 
 -- the calls that the part speaks of have these verdicts, for which the relation fails, and what it shows is one of them
 abbrev pub HoldsOf : Relation → List (List Insn) → List (List Insn) → Numbers → Part → Type 0
