@@ -6,7 +6,7 @@ ghost use Rattle.sk_arches.specs.Answers.{first_of, last_of, AreAnswered, IsAnsw
 use crate::chain::chain_for;
 use sk_call_names::Architecture;
 use sk_filter::Chain;
-use sk_survey::{Row, Survey};
+use sk_survey::{Row, Surveyor};
 use std::alloc::{AllocError, Global};
 
 /// The bit that the numbers of x32 have, and those of x86-64 have not.
@@ -25,7 +25,7 @@ pub fn answered_all(alloc: Global, chain: &Chain) -> Result<Vec<Answered>, Alloc
     requires limited { IsWithinLimit chain.now }
     ensures each { IfOk result (λ all. AreAnswered chain.now all.items) }
 {
-    let mut survey = Survey::new(alloc)?;
+    let mut survey = Surveyor::new(alloc)?;
     let mut all = Vec::with_capacity(alloc, Architecture::ALL.len())?;
     for architecture in &Architecture::ALL {
         all.push(answered_for(alloc, &mut survey, chain, *architecture)?)?;
@@ -36,7 +36,7 @@ pub fn answered_all(alloc: Global, chain: &Chain) -> Result<Vec<Answered>, Alloc
 /// What a chain answers to the calls of one architecture.
 pub fn answered_for(
     alloc: Global,
-    survey: &mut Survey,
+    survey: &mut Surveyor,
     chain: &Chain,
     architecture: Architecture,
 ) -> Result<Answered, AllocError>

@@ -8,14 +8,14 @@ ghost use Rattle.sk_arches.specs.Alike.{AreAlike, IsAlike};
 use crate::chain::chain_for;
 use sk_call_names::Architecture;
 use sk_filter::Chain;
-use sk_survey::Survey;
+use sk_survey::Surveyor;
 use std::alloc::{AllocError, Global};
 
 /// Whether a chain answers the same to the calls of x86-64 with these numbers and to those of another architecture with these
 /// bits set in them.
 pub fn are_judged_alike(
     alloc: Global,
-    survey: &mut Survey,
+    survey: &mut Surveyor,
     chain: &Chain,
     architecture: Architecture,
     bits: u32,
@@ -35,7 +35,7 @@ pub fn are_judged_alike(
 
 fn is_judged_alike(
     alloc: Global,
-    survey: &mut Survey,
+    survey: &mut Surveyor,
     chain: &Chain,
     own: &Chain,
     nr: u32,

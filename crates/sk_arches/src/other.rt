@@ -9,7 +9,7 @@ use crate::chain::chain_by_architecture;
 use crate::text::only_value;
 use sk_call_names::Architecture;
 use sk_filter::Chain;
-use sk_survey::{Row, Survey};
+use sk_survey::{Row, Surveyor};
 use std::alloc::{AllocError, Global};
 
 /// What a chain answers to the calls of every other architecture.
@@ -26,7 +26,7 @@ pub enum Other {
 /// What a chain answers to the calls of all architectures but those of `Architecture::ALL`.
 pub fn answered_other(
     alloc: Global,
-    survey: &mut Survey,
+    survey: &mut Surveyor,
     chain: &Chain,
 ) -> Result<Other, AllocError>
     requires limited { IsWithinLimit chain.now }
@@ -39,7 +39,7 @@ pub fn answered_other(
 }
 
 // The same of the chain that looks for the architecture where the number is.
-fn told_by(alloc: Global, survey: &mut Survey, own: &Chain) -> Result<Other, AllocError>
+fn told_by(alloc: Global, survey: &mut Surveyor, own: &Chain) -> Result<Other, AllocError>
     ensures other { IfOk result (IsOtherOf (Some own.now)) }
 {
     let rows = survey.rows(alloc, own, &audits())?;

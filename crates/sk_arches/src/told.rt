@@ -10,7 +10,7 @@ use crate::text::only_value;
 use sk_call_names::Architecture;
 use sk_call_names::x86_64::numbers;
 use sk_filter::Chain;
-use sk_survey::Survey;
+use sk_survey::Surveyor;
 use std::alloc::{AllocError, Global};
 
 /// What is told of a chain.
@@ -54,7 +54,7 @@ pub fn arches(alloc: Global, chain: &Chain) -> Result<Told, AllocError>
     let all = answered_all(alloc, chain)?;
     let numbers = numbers(alloc)?;
     let named = numbers.as_slice();
-    let mut survey = Survey::new(alloc)?;
+    let mut survey = Surveyor::new(alloc)?;
     let other = answered_other(alloc, &mut survey, chain)?;
     let i386 = are_judged_alike(alloc, &mut survey, chain, Architecture::I386, 0, named)?;
     let x32 = are_judged_alike(alloc, &mut survey, chain, Architecture::X32, X32_BIT, named)?;

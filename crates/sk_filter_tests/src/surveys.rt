@@ -5,7 +5,7 @@ use crate::insns::{
 };
 use sk_insn::Insn;
 use sk_survey::cuts::cuts;
-use sk_survey::{Answers, Survey};
+use sk_survey::{Answers, Surveyor};
 use std::alloc::Global;
 use std::test::Fail;
 
@@ -108,7 +108,7 @@ fn programs(rt: HostRuntime) -> Result<(), Fail> {
         (&word, 1, 1, None),
     ];
     let alloc = rt.alloc();
-    let mut survey = Survey::new(alloc)?;
+    let mut survey = Surveyor::new(alloc)?;
     for (program, first, last, expected) in rows {
         assert!(rt; first <= last);
         let answers = survey.program(alloc, &filter(alloc, program)?, first, last)?;
@@ -120,7 +120,7 @@ fn programs(rt: HostRuntime) -> Result<(), Fail> {
 /// Whether these are the verdicts of the chain of these filters, the newest first.
 fn tells(alloc: Global, programs: &[&[Insn]], expected: &[u32]) -> Result<bool, Fail> {
     let chain = chain_of(alloc, programs)?;
-    let answers = Survey::new(alloc)?.chain(alloc, &chain, 0, u32::MAX)?;
+    let answers = Surveyor::new(alloc)?.chain(alloc, &chain, 0, u32::MAX)?;
     Ok(values(&answers) == Some(expected))
 }
 
@@ -192,7 +192,7 @@ fn rows_of_a_chain(rt: HostRuntime) -> Result<(), Fail> {
     ];
     let alloc = rt.alloc();
     let chain = chain_of(alloc, &[&refuses_getppid()])?;
-    let rows = Survey::new(alloc)?.rows(alloc, &chain, &[39, 0xffff_ffff])?;
+    let rows = Surveyor::new(alloc)?.rows(alloc, &chain, &[39, 0xffff_ffff])?;
     assert_eq!(rt; rows.len(), expected.len());
     for (row, (first, last, value)) in rows.iter().zip(expected) {
         assert_eq!(rt;

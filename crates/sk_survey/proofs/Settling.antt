@@ -20,7 +20,7 @@ use Rattle.sk_survey.specs.declared.known.Knowledge.{Knowledge}
 use Rattle.sk_survey.specs.declared.follow.Next.{Next}
 use Rattle.sk_survey.specs.declared.follow.Next.TheVariants.{Skip, Either, End, FollowingOrZero}
 use Rattle.sk_survey.specs.Answers.{IsOneOf, IsAmong, IsRising, AreRising}
-use Rattle.sk_survey.specs.Ends.{IsFirstOfBoth, IsCome}
+use Rattle.sk_survey.specs.Ends.{IsFirstOfBoth, IsReachable}
 use Rattle.sk_survey.specs.Following.{DescribesState, Leads, TellsEnd, IsWhole, LeadsOneWay, IsUnknown, led, zeros}
 use Rattle.sk_survey.specs.Settling.{loads_argument, without_argument, without_arguments, TellsOne}
 use Rattle.sk_survey.proofs.Preceding.{some_first}
@@ -105,11 +105,11 @@ goes_or_not q (Both place other) = elim (cases_eq q place) [
 
 -- ---- paths to the places that are known
 
-abbrev pub AreCome : List Insn → List (Option Knowledge) → Type 0
-AreCome insns slots = (q : ℕ) (knowledge : Knowledge) → slice_get slots q ≡ Some (Some knowledge) → IsCome insns q
+abbrev pub AreReachable : List Insn → List (Option Knowledge) → Type 0
+AreReachable insns slots = (q : ℕ) (knowledge : Knowledge) → slice_get slots q ≡ Some (Some knowledge) → IsReachable insns q
 
 pub come_first : (insns : List Insn) (slots : List (Option Knowledge)) (knowledge : Knowledge) → ((q : ℕ) → IsUnknown slots q)
-    → AreCome insns (set slots 0 (Some knowledge))
+    → AreReachable insns (set slots 0 (Some knowledge))
 come_first insns slots knowledge unknown q known here = elim (cases_eq q 0) [
   | inl first ↦ ([], first)
   | inr apart ↦ absurd (unknown q known (sym (set_there slots 0 q (Some knowledge) apart) ∙ here))
@@ -119,7 +119,7 @@ pub come_on : (insns : List Insn) (old new : List (Option Knowledge)) (place : �
     → slice_get insns place ≡ Some insn → slice_get old place ≡ Some (Some before) → IsUnknown new place
     → ((q : ℕ) → q ≢ place → (GoesTo q w → ⊥) → slice_get new q ≡ slice_get old q)
     → ((next : ℕ) → GoesTo next w → LeadsTo place next (operation_of insn.code) insn)
-    → AreCome insns old → AreCome insns new
+    → AreReachable insns old → AreReachable insns new
 come_on insns old new place insn before w here slot gone others goes come q known there = elim (goes_or_not q w) [
   | inl to ↦ let path = come place before slot in (place ∷ path.0, ((insn, here, goes q to), path.1))
   | inr not ↦ elim (cases_eq q place) [

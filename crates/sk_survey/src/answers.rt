@@ -65,14 +65,14 @@ impl Answers {
     }
 
     /// What the first of a newer filter's value and an older one's can be.
-    pub(crate) fn before(self, alloc: Global, older: Answers) -> Result<Answers, AllocError>
+    pub(crate) fn with_older(self, alloc: Global, older: Answers) -> Result<Answers, AllocError>
         requires newer { AreRising (answers_of self) }
         requires older { AreRising (answers_of older) }
         ensures rising { IfOk result (λ answers. AreRising (answers_of answers)) }
         ensures first { IfOk result (λ answers. (u s first : ℕ) → IsAmong u (answers_of self)
             → IsAmong s (answers_of older) → preceding (Some u) s ≡ Some first → IsAmong first (answers_of answers)) }
         ensures only { IfOk result (λ answers. OnlyFirsts (answers_of self) (answers_of older) (answers_of answers)) }
-        ensures settled { TellsOne (answers_of self) → TellsOne (answers_of older)
+        ensures one { TellsOne (answers_of self) → TellsOne (answers_of older)
             → IfOk result (λ answers. TellsOne (answers_of answers)) }
     {
         match (self, older) {

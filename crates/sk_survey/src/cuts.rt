@@ -6,7 +6,7 @@ ghost use Rattle.std.specs.List.Sorted.{IsNonDecreasing};
 ghost use Rattle.sk_filter.specs.Chains.{cost_of};
 ghost use Rattle.sk_survey.specs.Cutting.{IsCutRound, AreFew, AreKept};
 
-use crate::numbered::numbered_at;
+use crate::taint::taints_of;
 use sk_filter::Chain;
 use sk_insn::{Comparison, Insn, Operand, Operation, decode};
 use std::alloc::{AllocError, Global};
@@ -83,7 +83,7 @@ fn cut_round(cuts: &mut Vec<u32>, number: u32) -> Result<(), AllocError>
 
 /// Cuts where the tests of a program can change their answers with the number.
 fn cut_in(alloc: Global, cuts: &mut Vec<u32>, insns: &[Insn]) -> Result<(), AllocError> {
-    let places = numbered_at(alloc, insns)?;
+    let places = taints_of(alloc, insns)?;
     for (here, insn) in places.iter().zip(insns) {
         if here.a {
             cut_at(cuts, insn)?;

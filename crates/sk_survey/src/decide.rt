@@ -20,7 +20,7 @@ pub(crate) fn decide(
     requires range { first ≤ last }
     ensures answer { IfSome result (λ answer. (call : Record) (m n : ℕ) → IsCallOf first last call
         → Describes a call m → Describes right call n → holds comparison m n ≡ answer) }
-    ensures settled { IsExact a → IsExact right → IsSome result }
+    ensures exact { IsExact a → IsExact right → IsSome result }
     ensures parted { (k : ℕ) → result ≡ None → a ≡ Known.Number → right ≡ Known.Is k → comparison ≢ Comparison.CommonBits
         → IsParted comparison k first last }
 {

@@ -39,7 +39,7 @@ impl Knowledge {
         ensures goes { (place next : ℕ) → GoesTo next (led place result insn.now)
             → LeadsTo place next (operation_of insn.now.code) insn.now }
         ensures ends { (value : ℕ) → TellsEnd result value → MayEndWith value (operation_of insn.now.code) insn.now }
-        ensures settled { first ≡ last → IsWhole self.old
+        ensures exact { first ≡ last → IsWhole self.old
             → loads_argument (operation_of insn.now.code) insn.now ≡ false → LeadsOneWay result self.new }
     {
         match decode(insn.code) {
@@ -78,7 +78,7 @@ impl Knowledge {
     fn set(&mut self, register: Register, known: Known) -> Next
         ensures knows { self.new ≡ with_known register known self.old }
         ensures next { result ≡ Next.Skip 0 }
-        ensures settled { IsWhole self.old → IsExact known → LeadsOneWay result self.new }
+        ensures exact { IsWhole self.old → IsExact known → LeadsOneWay result self.new }
     {
         match register {
             Register::Accumulator => self.a = known,
@@ -91,7 +91,7 @@ impl Knowledge {
         requires { word < 16 }
         ensures knows { self.new ≡ with_word register word self.old }
         ensures next { result ≡ Next.Skip 0 }
-        ensures settled { IsWhole self.old → LeadsOneWay result self.new }
+        ensures exact { IsWhole self.old → LeadsOneWay result self.new }
     {
         self.words[word as usize] = match register {
             Register::Accumulator => self.a,
@@ -102,7 +102,7 @@ impl Knowledge {
 
     fn right(&self, operand: Operand, k: u32) -> Known
         ensures operand { result ≡ known_operand operand k self.now }
-        ensures settled { IsWhole self.now → IsExact result }
+        ensures exact { IsWhole self.now → IsExact result }
     {
         match operand {
             Operand::Constant => Known::Is(k),
@@ -118,7 +118,7 @@ impl Knowledge {
             → LeadsTo place next (Some (Operation.Compute arithmetic operand)) insn.now }
         ensures ends { (value : ℕ) → TellsEnd result value
             → MayEndWith value (Some (Operation.Compute arithmetic operand)) insn.now }
-        ensures settled { IsWhole self.old → LeadsOneWay result self.new }
+        ensures exact { IsWhole self.old → LeadsOneWay result self.new }
     {
         let right = self.right(operand, insn.k);
         match (arithmetic, right) {
@@ -148,7 +148,7 @@ impl Knowledge {
         ensures goes { (place next : ℕ) → GoesTo next (led place result insn.now)
             → LeadsTo place next (Some (Operation.Branch comparison operand)) insn.now }
         ensures ends { (value : ℕ) → TellsEnd result value → ⊥ }
-        ensures settled { IsWhole self.now → LeadsOneWay result self.now }
+        ensures exact { IsWhole self.now → LeadsOneWay result self.now }
     {
         let right = self.right(operand, insn.k);
         match decide(comparison, self.a, right, first, last) {
@@ -176,7 +176,7 @@ fn known_where_it_holds(comparison: Comparison, a: Known, right: Known) -> Known
 fn loaded(place: u32, first: u32, last: u32) -> Known
     ensures word { (call : Record) (n : ℕ) → IsCallOf first last call → word_of call place ≡ Some n
         → Describes result call n }
-    ensures settled { first ≡ last → (place ≡ 0) ⊎ (place ≡ 4) → IsExact result }
+    ensures exact { first ≡ last → (place ≡ 0) ⊎ (place ≡ 4) → IsExact result }
     ensures number { place ≡ 0 → first ≢ last → result ≡ Known.Number }
 {
     match place {
@@ -191,7 +191,7 @@ fn loaded(place: u32, first: u32, last: u32) -> Known
 fn calculation(arithmetic: Arithmetic, left: Known, right: Known) -> Known
     ensures value { (call : Record) (m n : ℕ) → Describes left call m → Describes right call n
         → Describes result call (calculated arithmetic m n) }
-    ensures settled { IsExact left → IsExact right → (arithmetic ≡ Arithmetic.Divide → right ≢ Known.Is 0)
+    ensures exact { IsExact left → IsExact right → (arithmetic ≡ Arithmetic.Divide → right ≢ Known.Is 0)
         → IsExact result }
 {
     match (left, right) {

@@ -8,13 +8,13 @@ mod follow;
 mod known;
 pub mod laws;
 mod merge;
-mod numbered;
 mod pass;
 mod rows;
 mod survey;
+mod taint;
 mod values;
 
 pub use answers::Answers;
 pub use decide::decide_number;
 pub use rows::Row;
-pub use survey::Survey;
+pub use survey::Surveyor;

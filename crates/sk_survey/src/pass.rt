@@ -6,7 +6,7 @@ ghost use Rattle.sk_filter.specs.Paths.{GoesTo};
 ghost use Rattle.sk_filter.specs.Meaning.{State, Effect, Ends};
 ghost use Rattle.sk_insn.specs.declared.insn.Insn.{Insn};
 ghost use Rattle.sk_survey.specs.declared.known.Knowledge.{Knowledge};
-ghost use Rattle.sk_survey.specs.Ends.{OnlyComing};
+ghost use Rattle.sk_survey.specs.Ends.{OnlyPossible};
 ghost use Rattle.sk_survey.specs.Following.{DescribesState, DescribedAt, JoinsAt, Leads, Spreads, TellsEnd, IsUnknown, led};
 ghost use Rattle.sk_survey.specs.Settling.{Settles, TellsOne};
 ghost use Rattle.sk_survey.specs.Answers.{answers_of, AnswersAmong, IsAmong, AreRising};
@@ -32,7 +32,7 @@ pub(crate) fn program_answers(
     requires range { first ≤ last }
     ensures among { IfOk result (λ answers. AnswersAmong program.now first last (answers_of answers)) }
     ensures rising { IfOk result (λ answers. AreRising (answers_of answers)) }
-    ensures only { IfOk result (λ answers. OnlyComing program.now first last (answers_of answers)) }
+    ensures only { IfOk result (λ answers. OnlyPossible program.now first last (answers_of answers)) }
     ensures settled { first ≡ last → Settles program.now first → IfOk result (λ answers. TellsOne (answers_of answers)) }
     ensures empty { IsOk result → (place : ℕ) → IsUnknown slots.new place }
 {

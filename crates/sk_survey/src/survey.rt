@@ -15,24 +15,24 @@ use sk_filter::{Chain, Checked};
 use sk_insn::{ALLOW, MOST_INSNS};
 use std::alloc::{AllocError, Global};
 
-/// The memory for following a program, which is taken once and used for every number.
+/// Makes surveys. It owns the memory for following a program, which is taken once and used for every number.
 #[derive(Drop)]
-pub struct Survey {
+pub struct Surveyor {
     slots: Vec<Option<Knowledge>>,
     ghost full: { length slots.items ≡ 4096 },
     ghost empty: { (place : ℕ) → IsUnknown slots.items place },
 }
 
-impl Survey {
+impl Surveyor {
     ghost use Rattle.sk_survey.specs.Answers.{answers_of, AnswersAmong, ChainAnswersAmong, AreRising};
-    ghost use Rattle.sk_survey.specs.Ends.{OnlyComing, OnlyVerdicts};
+    ghost use Rattle.sk_survey.specs.Ends.{OnlyPossible, OnlyVerdicts};
     ghost use Rattle.sk_survey.specs.Settling.{Settles, AllSettle, TellsOne};
     ghost use Rattle.sk_survey.specs.Cutting.{IsCutRound};
     ghost use Rattle.sk_survey.specs.Surveys.{AreJoined, IsSurveyFrom, StandAlone, Tell};
 
     /// One slot for each place of the longest program.
-    pub fn new(alloc: Global) -> Result<Survey, AllocError> {
-        Ok(Survey {
+    pub fn new(alloc: Global) -> Result<Surveyor, AllocError> {
+        Ok(Surveyor {
             slots: vec![in alloc; None; MOST_INSNS]?,
         })
     }
@@ -48,7 +48,7 @@ impl Survey {
         requires range { first ≤ last }
         ensures among { IfOk result (λ answers. AnswersAmong program.now first last (answers_of answers)) }
         ensures rising { IfOk result (λ answers. AreRising (answers_of answers)) }
-        ensures only { IfOk result (λ answers. OnlyComing program.now first last (answers_of answers)) }
+        ensures only { IfOk result (λ answers. OnlyPossible program.now first last (answers_of answers)) }
         ensures settled { first ≡ last → Settles program.now first
             → IfOk result (λ answers. TellsOne (answers_of answers)) }
     {
@@ -78,7 +78,7 @@ impl Survey {
         ensures always { first ≡ last → IsTrue (is_always chain.now first)
             → IfOk result (λ answers. answers_of answers ≡ Some (allow ∷ [])) }
     {
-        if is_settled(chain, first, last) {
+        if is_always_allowed(chain, first, last) {
             return Answers::one(alloc, ALLOW);
         }
         self.follow_chain(alloc, chain, first, last)
@@ -106,7 +106,7 @@ impl Survey {
         let mut answers = self.program(alloc, newest, first, last)?;
         for program in programs {
             let older = self.program(alloc, program, first, last)?;
-            let both = answers.before(alloc, older)?;
+            let both = answers.with_older(alloc, older)?;
             answers = both;
         }
         Ok(answers)
@@ -178,9 +178,9 @@ impl Survey {
 }
 
 /// Whether there is one number, and the chain's table tells that all its calls are allowed.
-fn is_settled(chain: &Chain, first: u32, last: u32) -> bool
+fn is_always_allowed(chain: &Chain, first: u32, last: u32) -> bool
     ensures allowed { IsTrue result → (first ≡ last) × IsAlwaysAllowed chain.now first }
-    ensures settled { first ≡ last → IsTrue (is_always chain.now first) → IsTrue result }
+    ensures always { first ≡ last → IsTrue (is_always chain.now first) → IsTrue result }
 {
     first == last && chain.always(first)
 }

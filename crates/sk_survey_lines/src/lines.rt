@@ -10,7 +10,7 @@ use crate::line::{Line, Shown};
 use crate::options::Options;
 use sk_call_names::{Architecture, numbers};
 use sk_filter::Chain;
-use sk_survey::{Answers, Row, Survey};
+use sk_survey::{Answers, Row, Surveyor};
 use std::alloc::{AllocError, Global};
 
 /// The lines that tell what a chain answers.
@@ -44,7 +44,7 @@ pub fn rows_of(
     ensures rows { IfOk result (λ rows. Tell chain.now (first_told call) (end_told call) rows.items) }
     ensures alone { IfOk result (λ rows. All (TellsNamedAlone architecture) rows.items) }
 {
-    let mut survey = Survey::new(alloc)?;
+    let mut survey = Surveyor::new(alloc)?;
     match call {
         None => {
             let named = numbers(alloc, architecture)?;

@@ -128,7 +128,7 @@ loop-place-preserved c =
                 (λ skip is unknown. w.spread.ensures.alone skip is
                 (still_unknown slots (set slots place None) (place + 1 + skip) (set_there slots place (place + 1 + skip) None (λ e. omega arith)) unknown))
                 (λ other among. w.add_end.ensures.only other among)
-                (λ whole loads. w.follow-next.ensures.settled one whole loads)
+                (λ whole loads. w.follow-next.ensures.exact one whole loads)
                 (λ s is. w.follow-next.ensures.leads call s (let e = one in let nr = same.1 in (same.0, (omega arith, omega arith))) is)
                 (c.loop-place.invariant.settled one call value steps same means);
           })

@@ -5,16 +5,16 @@ use std::alloc::{AllocError, Global};
 
 /// Which of A, X and the scratch words may hold what comes from the call's number.
 #[derive(Clone, Copy, Debug)]
-pub(crate) struct Numbered {
+pub(crate) struct Taint {
     pub a: bool,
     x: bool,
     words: bool,
 }
 
-impl Numbered {
+impl Taint {
     /// As a filter starts.
-    fn nothing() -> Numbered {
-        Numbered {
+    fn nothing() -> Taint {
+        Taint {
             a: false,
             x: false,
             words: false,
@@ -22,8 +22,8 @@ impl Numbered {
     }
 
     /// Where ways meet: what either of them may.
-    fn or(self, other: Numbered) -> Numbered {
-        Numbered {
+    fn or(self, other: Taint) -> Taint {
+        Taint {
             a: self.a || other.a,
             x: self.x || other.x,
             words: self.words || other.words,
@@ -38,28 +38,28 @@ impl Numbered {
     }
 
     /// With another value in a register.
-    fn with(self, register: Register, is_numbered: bool) -> Numbered {
+    fn with(self, register: Register, is_tainted: bool) -> Taint {
         match register {
-            Register::Accumulator => Numbered {
-                a: is_numbered,
+            Register::Accumulator => Taint {
+                a: is_tainted,
                 ..self
             },
-            Register::Index => Numbered {
-                x: is_numbered,
+            Register::Index => Taint {
+                x: is_tainted,
                 ..self
             },
         }
     }
 
     /// After an instruction.
-    fn after(self, insn: &Insn) -> Numbered {
+    fn after(self, insn: &Insn) -> Taint {
         match decode(insn.code) {
             Some(Operation::LoadRecord) => self.with(Register::Accumulator, insn.k == 0),
             Some(Operation::LoadConstant(register) | Operation::LoadLength(register)) => self.with(
                 register, false,
             ),
             Some(Operation::LoadScratch(register)) => self.with(register, self.words),
-            Some(Operation::StoreScratch(register)) => Numbered {
+            Some(Operation::StoreScratch(register)) => Taint {
                 words: self.words || self.holds(register),
                 ..self
             },
@@ -75,8 +75,8 @@ impl Numbered {
 }
 
 /// What may come from the number before each instruction. Control only goes forwards, so one pass over the places is enough.
-pub(crate) fn numbered_at(alloc: Global, insns: &[Insn]) -> Result<Vec<Numbered>, AllocError> {
-    let mut places = vec![in alloc; Numbered::nothing(); insns.len()]?;
+pub(crate) fn taints_of(alloc: Global, insns: &[Insn]) -> Result<Vec<Taint>, AllocError> {
+    let mut places = vec![in alloc; Taint::nothing(); insns.len()]?;
     for (place, insn) in insns.iter().enumerate() {
         if let Some(here) = places.get(place) {
             let after = here.after(insn);
@@ -87,7 +87,7 @@ pub(crate) fn numbered_at(alloc: Global, insns: &[Insn]) -> Result<Vec<Numbered>
 }
 
 /// Hands it on to the places where control can go.
-fn spread(places: &mut [Numbered], place: usize, insn: &Insn, after: Numbered) {
+fn spread(places: &mut [Taint], place: usize, insn: &Insn, after: Taint) {
     match decode(insn.code) {
         Some(Operation::ReturnConstant | Operation::ReturnAccumulator) => {}
         Some(Operation::Jump) => join(places, place, insn.k, after),
@@ -99,7 +99,7 @@ fn spread(places: &mut [Numbered], place: usize, insn: &Insn, after: Numbered) {
     }
 }
 
-fn join(places: &mut [Numbered], place: usize, skip: u32, after: Numbered) {
+fn join(places: &mut [Taint], place: usize, skip: u32, after: Taint) {
     let next = place.saturating_add(1).saturating_add(skip as usize);
     if let Some(there) = places.get_mut(next) {
         *there = there.or(after);
