@@ -14,7 +14,7 @@ use Rattle.sk_survey.proofs.Cutting.{alone_before, alone_behind}
 use Rattle.sk_conditions.specs.declared.numbers.Numbers.{Numbers}
 use Rattle.sk_conditions.specs.declared.standing.Relation.{Relation}
 use Rattle.sk_when.specs.declared.piece.Piece.{Piece}
-use Rattle.sk_when.specs.Pieces.{AreCompared, IsNamed, NamedAreAlone, NamedAreAloneIn, ShowsWhereOpen}
+use Rattle.sk_when.specs.Pieces.{AreCompared, IsNamed, NamedAreAlone, NamedAreAloneIn, ShowsWhereItMayFail}
 
 -- the numbers before a beginning, or behind all of them
 abbrev row_of : Numbers → Row
@@ -69,11 +69,11 @@ joined_alone a relation old new pieces from last piece compared unnamed unnamed'
     All-push (NamedAreAloneIn a) pieces (record { numbers = record { first = last.numbers.first; last = piece.numbers.last }; parts = last.parts }) before.0
     (both_alone a last.numbers piece.numbers (last_meets relation old new pieces from piece.numbers.first last compared) unnamed unnamed' before.1 alone)
 
-pub joined_shows : (pieces : List Piece) (last piece : Piece) → All ShowsWhereOpen (pieces ++ last ∷ [])
-    → All ShowsWhereOpen (pieces ++ record { numbers = record { first = last.numbers.first; last = piece.numbers.last }; parts = last.parts } ∷ [])
+pub joined_shows : (pieces : List Piece) (last piece : Piece) → All ShowsWhereItMayFail (pieces ++ last ∷ [])
+    → All ShowsWhereItMayFail (pieces ++ record { numbers = record { first = last.numbers.first; last = piece.numbers.last }; parts = last.parts } ∷ [])
 joined_shows pieces last piece all =
-    let before = all_before ShowsWhereOpen pieces last all in
-    All-push ShowsWhereOpen pieces (record { numbers = record { first = last.numbers.first; last = piece.numbers.last }; parts = last.parts }) before.0 before.1
+    let before = all_before ShowsWhereItMayFail pieces last all in
+    All-push ShowsWhereItMayFail pieces (record { numbers = record { first = last.numbers.first; last = piece.numbers.last }; parts = last.parts }) before.0 before.1
 
 -- no row was spent, the last one neither
 pub not_spent : (before after : Bool) (left : ℕ) → after ≡ (before || (left == 0)) → after ≡ false → (before ≡ false) × (0 < left)

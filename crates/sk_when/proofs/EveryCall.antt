@@ -17,7 +17,7 @@ use Rattle.sk_when.specs.declared.piece.Part.{Part}
 use Rattle.sk_when.specs.declared.piece.Piece.{Piece}
 use Rattle.sk_when.specs.Diffs.{HoldsOnEveryCall, FailsOnACall, FollowedIsDecided}
 use Rattle.sk_conditions.specs.Comparing.{stands_on}
-use Rattle.sk_when.specs.Pieces.{AreCompared, Cover, HoldsOf, IsShown, ShowsWhereOpen, is_apart, is_open, is_shown, has_parts}
+use Rattle.sk_when.specs.Pieces.{AreCompared, Cover, HoldsOf, IsShown, ShowsWhereItMayFail, is_apart, may_fail, shows_call, has_parts}
 
 neither : (a b : Bool) → (a || b) ≡ false → (a ≡ false) × (b ≡ false)
 neither true b e = cc
@@ -37,10 +37,10 @@ stands_here relation old new numbers [] none cover call within = by_test (stands
   by_test false is = absurd (true≢false (sym (cover call within is)))
 
 covers : (relation : Relation) (old new : List (List Insn)) (pieces : List Piece) (from end : ℕ) → AreCompared relation old new from end pieces
-    → list_any is_open pieces ≡ false → (call : Record) → IsNative call → from ≤ call.nr → call.nr < end → stands_on relation old new call ≡ true
+    → list_any may_fail pieces ≡ false → (call : Record) → IsNative call → from ≤ call.nr → call.nr < end → stands_on relation old new call ≡ true
 covers relation old new [] from end compared none call native above below = absurd (omega arith)
 covers relation old new (piece ∷ pieces) from end compared none call native above below =
-    let n = neither (is_open piece) (list_any is_open pieces) none in
+    let n = neither (may_fail piece) (list_any may_fail pieces) none in
     elim (cases_lt piece.numbers.last call.nr) [
       | inl behind ↦ covers relation old new pieces (piece.numbers.last + 1) end compared.3 n.1 call native (omega arith) below
       | inr within ↦
@@ -55,10 +55,10 @@ shown_here relation old new numbers calls verdicts None some is = absurd (true�
 shown_here relation old new numbers calls None (Some call) some is = absurd is
 shown_here relation old new numbers calls (Some it) (Some call) some is = (call, is.0.0, is.0.1.1, is.3)
 
-found_among : (relation : Relation) (old new : List (List Insn)) (numbers : Numbers) (parts : List Part) → list_any is_shown parts ≡ true
+found_among : (relation : Relation) (old new : List (List Insn)) (numbers : Numbers) (parts : List Part) → list_any shows_call parts ≡ true
     → All (HoldsOf relation old new numbers) parts → (call : Record) × IsNative call × (call.nr ≤ numbers.last) × (stands_on relation old new call ≡ false)
 found_among relation old new numbers [] apart hold = absurd (true≢false (sym apart))
-found_among relation old new numbers (part ∷ parts) apart hold = elim (one (is_shown part) (list_any is_shown parts) apart) [
+found_among relation old new numbers (part ∷ parts) apart hold = elim (one (shows_call part) (list_any shows_call parts) apart) [
   | inl here ↦ shown_here relation old new numbers part.calls part.verdicts part.shown here (All-head (HoldsOf relation old new numbers) part parts hold).2
   | inr behind ↦ found_among relation old new numbers parts behind (All-tail (HoldsOf relation old new numbers) part parts hold)
 ]
@@ -92,24 +92,24 @@ first_true false false e = cc
 
 pub holds_on_every_call : HoldsOnEveryCall
 holds_on_every_call architecture relation old new is_spent text it call native below =
-    let none = both_false (list_any is_apart it.pieces) (list_any is_open it.pieces) it.stands in
+    let none = both_false (list_any is_apart it.pieces) (list_any may_fail it.pieces) it.stands in
     covers relation old new it.pieces 0 4294967296 it.compared none.1 call native (omega arith) below
 
 pub fails_on_a_call : FailsOnACall
 fails_on_a_call architecture relation old new is_spent text it =
-    finds relation old new it.pieces 0 4294967296 it.compared (first_true (list_any is_apart it.pieces) (list_any is_open it.pieces) it.stands)
+    finds relation old new it.pieces 0 4294967296 it.compared (first_true (list_any is_apart it.pieces) (list_any may_fail it.pieces) it.stands)
 
 -- pieces of which each that is open shows a call
 one_of : (a b : Bool) → b ≡ true → (a || b) ≡ true
 one_of true b e = refl
 one_of false b e = e
 
-some_shown : (pieces : List Piece) → All ShowsWhereOpen pieces → list_any is_open pieces ≡ true → list_any is_apart pieces ≡ true
+some_shown : (pieces : List Piece) → All ShowsWhereItMayFail pieces → list_any may_fail pieces ≡ true → list_any is_apart pieces ≡ true
 some_shown [] all some = some
-some_shown (piece ∷ pieces) all some = elim (one (is_open piece) (list_any is_open pieces) some) [
-  | inl here ↦ ap (λ b. b || list_any is_apart pieces) (All-head ShowsWhereOpen piece pieces all here)
+some_shown (piece ∷ pieces) all some = elim (one (may_fail piece) (list_any may_fail pieces) some) [
+  | inl here ↦ ap (λ b. b || list_any is_apart pieces) (All-head ShowsWhereItMayFail piece pieces all here)
   | inr behind ↦
-      one_of (is_apart piece) (list_any is_apart pieces) (some_shown pieces (All-tail ShowsWhereOpen piece pieces all) behind)
+      one_of (is_apart piece) (list_any is_apart pieces) (some_shown pieces (All-tail ShowsWhereItMayFail piece pieces all) behind)
 ]
 
 false_true : (a b : Bool) → finding.Undecided ≡ (if a then finding.Fails else if b then finding.Undecided else finding.Holds) → (a ≡ false) × (b ≡ true)
@@ -119,5 +119,5 @@ false_true false false e = cc
 
 pub followed_is_decided : FollowedIsDecided
 followed_is_decided architecture relation old new text follows follows' it =
-    let split = false_true (list_any is_apart it.pieces) (list_any is_open it.pieces) it.stands in
+    let split = false_true (list_any is_apart it.pieces) (list_any may_fail it.pieces) it.stands in
     absurd (true≢false (sym (some_shown it.pieces (it.decided follows follows' refl) split.1) ∙ split.0))

@@ -13,7 +13,7 @@ use Rattle.sk_when.specs.declared.piece.Piece.{Piece}
 use Rattle.sk_when.specs.DiffText.{differences_text, everywhere_text}
 use Rattle.sk_conditions.specs.Comparing.{stands_on}
 use Rattle.sk_conditions.specs.Followed.{AreFollowed}
-use Rattle.sk_when.specs.Pieces.{AreCompared, ShowsWhereOpen, NamedAreAloneIn, finding_of}
+use Rattle.sk_when.specs.Pieces.{AreCompared, ShowsWhereItMayFail, NamedAreAloneIn, finding_of}
 
 abbrev pub text_of : Architecture → Relation → Finding → List Piece → List ℕ
 text_of architecture relation Holds pieces = everywhere_text relation
@@ -27,7 +27,7 @@ pub record IsComparison (architecture : Architecture) (relation : Relation) (old
   pub pieces : List Piece
   pub compared : AreCompared relation old new 0 (2 ^ 32) pieces
   pub alone : All (NamedAreAloneIn architecture) pieces
-  pub decided : All AreFollowed old → All AreFollowed new → is_spent ≡ false → All ShowsWhereOpen pieces
+  pub decided : All AreFollowed old → All AreFollowed new → is_spent ≡ false → All ShowsWhereItMayFail pieces
   pub stands : finding ≡ finding_of pieces
   pub says : text ≡ text_of architecture relation finding pieces
 

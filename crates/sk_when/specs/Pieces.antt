@@ -121,29 +121,29 @@ abbrev pub NamedAreAloneIn : Architecture → Piece → Type 0
 NamedAreAloneIn architecture piece = NamedAreAlone architecture piece.numbers
 
 -- a call is shown on which the relation fails
-abbrev pub is_shown : Part → Bool
-is_shown part = option_map_or (λ call. true) part.shown false
+abbrev pub shows_call : Part → Bool
+shows_call part = option_map_or (λ call. true) part.shown false
 
 abbrev pub is_apart : Piece → Bool
-is_apart piece = list_any is_shown piece.parts.items
+is_apart piece = list_any shows_call piece.parts.items
 
 -- there are calls on which it may fail
 abbrev pub has_parts : List Part → Bool
 has_parts [] = false
 has_parts (part ∷ parts) = true
 
-abbrev pub is_open : Piece → Bool
-is_open piece = has_parts piece.parts.items
+abbrev pub may_fail : Piece → Bool
+may_fail piece = has_parts piece.parts.items
 
 -- where there may be such calls, one is shown
-abbrev pub ShowsWhereOpen : Piece → Type 0
-ShowsWhereOpen piece = is_open piece ≡ true → is_apart piece ≡ true
+abbrev pub ShowsWhereItMayFail : Piece → Type 0
+ShowsWhereItMayFail piece = may_fail piece ≡ true → is_apart piece ≡ true
 
 -- what is said of all pieces
 abbrev pub finding_of : List Piece → Finding
 finding_of pieces =
     if list_any is_apart pieces then finding.Fails
-    else if list_any is_open pieces then finding.Undecided
+    else if list_any may_fail pieces then finding.Undecided
     else finding.Holds
 
 -- no part, or one each of every call, with the same verdicts

@@ -11,7 +11,7 @@ use Rattle.sk_when.specs.declared.piece.Calls.TheVariants.{Every, This}
 use Rattle.sk_when.specs.declared.piece.Part.{Part}
 use Rattle.sk_when.specs.declared.diff_text.Kind.TheVariants.{Looser, Other}
 use Rattle.sk_when.specs.DiffText.{call_text, record_text, outcome_text, calls_text, head_text, kind_of, is_kind}
-use Rattle.sk_when.specs.Pieces.{HoldsOf, is_shown, has_parts, meets_calls}
+use Rattle.sk_when.specs.Pieces.{HoldsOf, shows_call, has_parts, meets_calls}
 
 abbrev pub clone : Record
 clone = native 56 0 (0x10000011 ∷ 0 ∷ 0 ∷ 0xffffffffffffffff ∷ 0 ∷ 1 ∷ [])
@@ -52,8 +52,8 @@ part = record { calls = Every; verdicts = Some refused; shown = None }
 -- what shows no call is no difference that was found, and leaves it undecided; a single call tells nothing of the others, and one
 -- that is not shown is none
 pub record PartsWork : Type 0 where
-  pub unseen : is_shown part ≡ false
-  pub seen : is_shown (record part { shown = Some clone }) ≡ true
+  pub unseen : shows_call part ≡ false
+  pub seen : shows_call (record part { shown = Some clone }) ≡ true
   pub undecided : has_parts (part ∷ []) ≡ true
   pub alike : has_parts [] ≡ false
   pub every : meets_calls Every clone ≡ true

@@ -1,7 +1,7 @@
 //! Two chains compared on every call.
 ghost use Rattle.std.specs.Prelude.{◌≡◌, IfOk, string_bytes};
 ghost use Rattle.std.specs.List.{list_any};
-ghost use Rattle.sk_when.specs.Pieces.{is_apart, is_open, has_parts, finding_of};
+ghost use Rattle.sk_when.specs.Pieces.{is_apart, may_fail, has_parts, finding_of};
 ghost use Rattle.sk_when.specs.Diffs.{IsComparison, text_of};
 
 use crate::diff_text::{differences_text, everywhere_text};
@@ -73,7 +73,7 @@ fn finding_of(pieces: &[Piece]) -> Finding
 {
     if any_apart(pieces) {
         Finding::Fails
-    } else if any_open(pieces) {
+    } else if any_may_fail(pieces) {
         Finding::Undecided
     } else {
         Finding::Holds
@@ -86,8 +86,8 @@ fn any_apart(pieces: &[Piece]) -> bool
     pieces.iter().any(|piece| any_shown(&piece.parts))
 }
 
-fn any_open(pieces: &[Piece]) -> bool
-    ensures any { result ≡ list_any is_open pieces.now }
+fn any_may_fail(pieces: &[Piece]) -> bool
+    ensures any { result ≡ list_any may_fail pieces.now }
 {
     pieces.iter().any(|piece| has_parts(&piece.parts))
 }

@@ -7,7 +7,7 @@ ghost use Rattle.sk_conditions.specs.declared.standing.Comparing.{Comparing};
 ghost use Rattle.sk_conditions.specs.Differing.{TellsDifferences};
 ghost use Rattle.sk_conditions.specs.Followed.{AreFollowed};
 ghost use Rattle.sk_terms.specs.Decisions.{DecidesAs, decided};
-ghost use Rattle.sk_when.specs.Pieces.{Holds, HoldsPart, HoldParts, IsPairOf, SaysOfLine, has_parts, is_apart, is_open, is_shown, part_calls, meeting};
+ghost use Rattle.sk_when.specs.Pieces.{Holds, HoldsPart, HoldParts, IsPairOf, SaysOfLine, has_parts, is_apart, may_fail, shows_call, part_calls, meeting};
 
 use crate::piece::{Calls, Part, Piece};
 use crate::showing::{any_shown, shown_among};
@@ -31,9 +31,9 @@ pub fn piece_of(
     ensures numbers { IfOk result (λ piece. piece.numbers ≡ chains.entry.numbers) }
     ensures holds { IfOk result (Holds chains.entry.relation chains.entry.old.now chains.entry.new.now) }
 
-    // Where the filters are followed and steps are left, a piece that leaves calls open shows one.
+    // Where the filters are followed and steps are left, a piece on whose calls the relation may fail shows one on which it does.
     ensures decided { IfOk result (λ piece. All AreFollowed chains.entry.old.now → All AreFollowed chains.entry.new.now
-        → 0 < budget.new.steps → is_open piece ≡ true → is_apart piece ≡ true) }
+        → 0 < budget.new.steps → may_fail piece ≡ true → is_apart piece ≡ true) }
 {
     let parts = parts_of(alloc, chains, budget)?;
     Ok(Piece {
@@ -50,7 +50,7 @@ fn parts_of(
     requires range { chains.numbers.first ≤ chains.numbers.last }
     ensures hold { IfOk result (λ parts. HoldParts chains.entry parts.items) }
     ensures decided { IfOk result (λ parts. All AreFollowed chains.entry.old.now → All AreFollowed chains.entry.new.now
-        → 0 < budget.new.steps → has_parts parts.items ≡ true → list_any is_shown parts.items ≡ true) }
+        → 0 < budget.new.steps → has_parts parts.items ≡ true → list_any shows_call parts.items ≡ true) }
 {
     match compare(alloc, chains, budget)? {
         Found::Everywhere => Ok(Vec::new(alloc)),
@@ -88,7 +88,7 @@ fn parts_with(
     requires range { chains.numbers.first ≤ chains.numbers.last }
     requires apart { IsApart chains (Found.Apart call) }
     ensures hold { IfOk result (λ parts. HoldParts chains.entry parts.items) }
-    ensures shown { IfOk result (λ parts. list_any is_shown parts.items ≡ true) }
+    ensures shown { IfOk result (λ parts. list_any shows_call parts.items ≡ true) }
 {
     let differences = differ(alloc, chains, budget)?;
     let decision = decide(alloc, &differences.tree)?;
@@ -132,7 +132,7 @@ fn with_shown(
     requires hold { HoldParts chains parts.items }
     requires apart { IsApart chains (Found.Apart call) }
     ensures hold { IfOk result (λ more. HoldParts chains.entry more.items) }
-    ensures shown { IfOk result (λ more. list_any is_shown more.items ≡ true) }
+    ensures shown { IfOk result (λ more. list_any shows_call more.items ≡ true) }
 {
     let mut more = parts;
     if any_shown(&more) {
@@ -146,7 +146,7 @@ fn with_shown(
 fn part_of_call(chains: Comparing<'_>, call: Record) -> Part
     requires apart { IsApart chains (Found.Apart call) }
     ensures holds { HoldsPart chains.entry result }
-    ensures shown { is_shown result ≡ true }
+    ensures shown { shows_call result ≡ true }
 {
     Part {
         calls: Calls::This,

@@ -7,7 +7,7 @@ ghost use Rattle.sk_call_names.specs.Names.{name_on};
 ghost use Rattle.sk_survey.specs.Cutting.{IsCutRound};
 ghost use Rattle.sk_conditions.specs.declared.standing.Relation.{Relation};
 ghost use Rattle.sk_conditions.specs.Followed.{AreFollowed};
-ghost use Rattle.sk_when.specs.Pieces.{AreCompared, Holds, ArePartsOfOne, IsNamed, NamedAreAlone, NamedAreAloneIn, ShowsWhereOpen};
+ghost use Rattle.sk_when.specs.Pieces.{AreCompared, Holds, ArePartsOfOne, IsNamed, NamedAreAlone, NamedAreAloneIn, ShowsWhereItMayFail};
 
 use crate::parts::piece_of;
 use crate::piece::{Calls, Part, Piece};
@@ -29,7 +29,7 @@ pub fn pieces(
     ensures compared { IfOk result (λ pieces. AreCompared relation old.now new.now 0 (2 ^ 32) pieces.items) }
     ensures alone { IfOk result (λ pieces. All (NamedAreAloneIn architecture) pieces.items) }
     ensures decided { IfOk result (λ pieces. All AreFollowed old.now → All AreFollowed new.now → budgets.new.is_spent ≡ false
-        → All ShowsWhereOpen pieces.items) }
+        → All ShowsWhereItMayFail pieces.items) }
 {
     let beginnings = beginnings(alloc, architecture, old, new)?;
     let last = u32::MAX;
@@ -64,7 +64,7 @@ fn push_pieces(
     ensures compared { IfOk result (λ first. AreCompared chains.entry.relation chains.entry.old.now chains.entry.new.now 0 first pieces.new.items) }
     ensures alone { IfOk result (λ first. All (NamedAreAloneIn architecture) pieces.new.items) }
     ensures decided { IfOk result (λ first. All AreFollowed chains.entry.old.now → All AreFollowed chains.entry.new.now → budgets.new.is_spent ≡ false
-        → All ShowsWhereOpen pieces.new.items) }
+        → All ShowsWhereItMayFail pieces.new.items) }
     ensures passed { IfOk result (λ first. All (λ beginning. beginning ≤ first) beginnings.now) }
 {
     let mut first = 0u32;
@@ -99,8 +99,8 @@ fn push_piece(
         → All (NamedAreAloneIn architecture) pieces.old.items → NamedAreAlone architecture chains.entry.numbers
         → All (NamedAreAloneIn architecture) pieces.new.items) }
     ensures decided { OnOk result (All AreFollowed chains.entry.old.now → All AreFollowed chains.entry.new.now
-        → (budgets.old.is_spent ≡ false → All ShowsWhereOpen pieces.old.items) → budgets.new.is_spent ≡ false
-        → All ShowsWhereOpen pieces.new.items) }
+        → (budgets.old.is_spent ≡ false → All ShowsWhereItMayFail pieces.old.items) → budgets.new.is_spent ≡ false
+        → All ShowsWhereItMayFail pieces.new.items) }
 {
     let mut row = budgets.row();
     let piece = piece_of(alloc, chains, &mut row)?;
@@ -117,7 +117,7 @@ fn push(pieces: &mut Vec<Piece>, architecture: Architecture, piece: Piece) -> Re
     ensures alone { OnOk result ((relation : Relation) (old new : List (List Insn)) (from : ℕ)
         → AreCompared relation old new from piece.numbers.first pieces.old.items → All (NamedAreAloneIn architecture) pieces.old.items
         → NamedAreAloneIn architecture piece → All (NamedAreAloneIn architecture) pieces.new.items) }
-    ensures decided { OnOk result (All ShowsWhereOpen pieces.old.items → ShowsWhereOpen piece → All ShowsWhereOpen pieces.new.items) }
+    ensures decided { OnOk result (All ShowsWhereItMayFail pieces.old.items → ShowsWhereItMayFail piece → All ShowsWhereItMayFail pieces.new.items) }
 {
     let Some(last) = pieces.pop() else {
         pieces.push(piece)?;

@@ -3,7 +3,7 @@ ghost use Rattle.std.specs.Prelude.{◌≡◌, true, IfSome, IsTrue};
 ghost use Rattle.std.specs.List.{list_any};
 ghost use Rattle.sk_survey.specs.Answers.{IsCallOf};
 ghost use Rattle.sk_terms.specs.Lines.{meets_line};
-ghost use Rattle.sk_when.specs.Pieces.{HasVerdicts, is_shown};
+ghost use Rattle.sk_when.specs.Pieces.{HasVerdicts, shows_call};
 
 use crate::piece::Part;
 use sk_conditions::{Budget, Comparing, Numbers, Verdicts};
@@ -15,7 +15,7 @@ const STEPS_A_LOOK: u64 = 64;
 
 /// Whether a part shows a call.
 pub fn any_shown(parts: &[Part]) -> bool
-    ensures any { result ≡ list_any is_shown parts.now }
+    ensures any { result ≡ list_any shows_call parts.now }
 {
     parts.iter().any(|part| part.shown.is_some())
 }
