@@ -1,4 +1,4 @@
-//! Where the verdicts of two chains do not stand so to each other, as a tree.
+//! Where a relation between the verdicts of two chains fails, as a tree.
 ghost use Rattle.std.specs.Prelude.{◌≡◌, ◌≤◌, IfOk, OnOk};
 ghost use Rattle.sk_insn.specs.declared.record.Record.{Record};
 ghost use Rattle.sk_survey.specs.Answers.{IsCallOf};
@@ -30,9 +30,9 @@ pub struct Verdicts {
 /// How the verdicts of two chains differ on the calls of some numbers.
 #[derive(Drop)]
 pub struct Differences {
-    /// It tells of a call 0 where they stand so to each other, and else which of the pairs they are, from 1 on.
+    /// It tells of a call 0 where the relation holds, and else which of the pairs the verdicts are, from 1 on.
     pub tree: Tree,
-    /// Pairs that do not stand so.
+    /// Pairs between which it fails.
     pub pairs: Vec<Verdicts>,
     /// Calls on the ways to them. Nothing is promised of these.
     pub calls: Vec<Record>,
@@ -114,7 +114,7 @@ fn differing(
     }
 }
 
-/// What is told of two ends: 0 where they stand so to each other or no call leads there.
+/// What is told of two ends: 0 where the relation holds between them or no call leads there.
 fn end_of(
     how: Asked,
     old: Option<u32>,

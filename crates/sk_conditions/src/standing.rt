@@ -1,4 +1,4 @@
-//! How the verdicts of two chains stand to each other on every call of some numbers.
+//! Whether a relation holds between the verdicts of two chains on every call of some numbers.
 ghost use Rattle.std.specs.Prelude.{◌≡◌, ◌<◌, ◌≤◌, ◌⊎◌, false, IfOk, IsSome};
 ghost use Rattle.std.specs.List.{All};
 ghost use Rattle.sk_insn.specs.declared.record.Record.{Record};
@@ -16,7 +16,7 @@ use sk_filter::{Chain, preceding};
 use sk_insn::Record;
 use std::alloc::{AllocError, Global};
 
-/// How a new verdict has to stand to an old one.
+/// What a new verdict is to be to an old one.
 #[derive(Clone, Copy, Debug, PartialEq, Eq)]
 pub enum Relation {
     /// It is the same.
@@ -28,9 +28,9 @@ pub enum Relation {
 /// What was found of two chains.
 #[derive(Clone, Copy, Debug, PartialEq, Eq)]
 pub enum Found {
-    /// Their verdicts stand so to each other on every call.
+    /// The relation holds between their verdicts on every call.
     Everywhere,
-    /// On this call they do not.
+    /// It fails on this call.
     Apart(Record),
     /// Neither was found.
     Undecided,
@@ -45,8 +45,8 @@ pub struct Comparing<'a> {
     pub numbers: Numbers,
 }
 
-/// Compares the verdicts of two chains on every call of the numbers. A call on which they do not stand so was run through
-/// both. What lies beyond the budget is undecided.
+/// Compares the verdicts of two chains on every call of the numbers. A call on which the relation fails was run
+/// through both. What lies beyond the budget is undecided.
 pub fn compare(
     alloc: Global,
     chains: Comparing<'_>,
@@ -133,8 +133,7 @@ fn both(held: Found, failed: Found) -> Found
     }
 }
 
-/// A call that comes out so in these tests, where one is found on which the verdicts do not stand so to each other; or that
-/// no call comes out so.
+/// A call that comes out so in these tests, where one is found on which the relation fails; or that no call comes out so.
 fn apart(chains: Comparing<'_>, path: &Path, budget: &mut Budget) -> Found
     ensures stands { (old new : Tree) → StandsOn chains.entry old new path.now result }
     ensures decided { AreOfWords path.now → StandNowhere chains.entry path.now → 0 < budget.new.steps → IsDecided result }
@@ -147,7 +146,7 @@ fn apart(chains: Comparing<'_>, path: &Path, budget: &mut Budget) -> Found
     }
 }
 
-/// A call, if the verdicts do not stand so to each other on it.
+/// A call, if the relation fails on it.
 fn shown(chains: Comparing<'_>, call: Record, budget: &mut Budget) -> Found
     ensures apart { IsApart chains.entry result }
     ensures decided { IsCallOf chains.entry.numbers.first chains.entry.numbers.last call → relates_on chains.entry call ≡ false
@@ -168,7 +167,7 @@ fn shown(chains: Comparing<'_>, call: Record, budget: &mut Budget) -> Found
     Found::Apart(call)
 }
 
-/// Whether two verdicts stand so to each other.
+/// Whether the relation holds between two verdicts.
 pub fn stands(relation: Relation, old: u32, new: u32) -> bool
     ensures stands { result ≡ relates relation old new }
 {

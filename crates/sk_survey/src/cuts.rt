@@ -1,5 +1,6 @@
 //! Where the numbers of calls are cut into ranges. It decides which numbers stand alone and how sharp the answers are,
-//! and never whether they are right.
+//! and never whether they are right. So nothing is promised of the constants that filters compare with, but that they are few;
+//! `cuts_of_a_chain` of sk_filter_tests sees which they are.
 ghost use Rattle.std.specs.Prelude.{◌≤◌, ◌+◌, ◌*◌, length, IfOk, OnOk};
 ghost use Rattle.std.specs.List.{All};
 ghost use Rattle.std.specs.List.Sorted.{IsNonDecreasing};

@@ -1,5 +1,5 @@
 //! Where a program tests what comes from the call's number. It decides how sharp answers are, and never whether they are
-//! right.
+//! right, so nothing is promised here; `cuts_of_a_chain` of sk_filter_tests sees cuts that are missing or too many.
 use sk_insn::{Insn, Operand, Operation, Register, decode};
 use std::alloc::{AllocError, Global};
 
