@@ -39,7 +39,7 @@ fn chain_of(alloc: Global, program: &[Insn]) -> Result<Chain, Fail> {
     }
 }
 
-/// Filters, a number, and the text for it.
+// Filters, a number, and the text for it.
 fn rows(alloc: Global) -> Result<Vec<(Vec<Insn>, u32, &'static str)>, Fail> {
     let mut rows = Vec::new(alloc);
 
@@ -212,7 +212,7 @@ fn names(rt: HostRuntime) -> Result<(), Fail> {
     Ok(())
 }
 
-/// clone(2) as above: a term with two ends.
+// clone(2) as above: a term with two ends.
 #[test]
 fn picture(rt: HostRuntime) -> Result<(), Fail> {
     let alloc = rt.alloc();

@@ -35,7 +35,7 @@ fn push_all(text: &mut String, all: &[Answered]) -> Result<(), AllocError>
     Ok(())
 }
 
-/// Appends a line: the architecture, and the verdict on all its calls, or that they are judged one by one.
+// Appends a line: the architecture, and the verdict on all its calls, or that they are judged one by one.
 #[tactic(auto, unfolding(crate::specs::Text::answered_text))]
 fn push_answered(text: &mut String, it: &Answered) -> Result<(), AllocError>
     ensures text { OnOk result (string_bytes text.new ≡ string_bytes text.old ++ answered_text it.now) }

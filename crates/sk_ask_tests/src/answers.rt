@@ -222,7 +222,7 @@ fn a_no_is_an_answer(rt: HostRuntime) -> Result<(), Fail> {
     Ok(())
 }
 
-/// What is passed over in a profile is told beside the answer, and where it can't be written the answer is the same.
+// What is passed over in a profile is told beside the answer, and where it can't be written the answer is the same.
 #[test]
 fn notes_stand_beside_an_answer(rt: HostRuntime) -> Result<(), Fail> {
     let rows: [(&[&str], &[u8], &[u8]); 2] = [
@@ -248,7 +248,7 @@ fn notes_stand_beside_an_answer(rt: HostRuntime) -> Result<(), Fail> {
     Ok(())
 }
 
-/// A filter that answers an argument can't be followed, and that is no answer.
+// A filter that answers an argument can't be followed, and that is no answer.
 #[test]
 fn undecided_is_trouble(rt: HostRuntime) -> Result<(), Fail> {
     let ran = run(rt.alloc(), &["diff", "argument", "argument"], 0)?;
@@ -279,8 +279,8 @@ fn answers_go_to_standard_output(rt: HostRuntime) -> Result<(), Fail> {
     Ok(())
 }
 
-/// All lines of a filter that allows everything: one for each call with a name, one for the numbers between and behind them,
-/// and one that says that it does not look at the architecture.
+// All lines of a filter that allows everything: one for each call with a name, one for the numbers between and behind them,
+// and one that says that it does not look at the architecture.
 #[test]
 fn all_calls(rt: HostRuntime) -> Result<(), Fail> {
     let ran = run(rt.alloc(), &["calls", "all"], 0)?;

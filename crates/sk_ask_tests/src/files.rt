@@ -22,7 +22,7 @@ fn forms(rt: HostRuntime) {
     }
 }
 
-/// Two files, of which the second has lines: where each filter stands, and the first that is refused.
+// Two files, of which the second has lines: where each filter stands, and the first that is refused.
 #[test]
 fn places(rt: HostRuntime) -> Result<(), Fail> {
     let alloc = rt.alloc();

@@ -80,7 +80,7 @@ fn architectures(rt: HostRuntime) {
     );
 }
 
-/// x32 has bit 30 in each number, and arm calls of its own far behind the others.
+// x32 has bit 30 in each number, and arm calls of its own far behind the others.
 #[test]
 fn all_named_calls_elsewhere(rt: HostRuntime) -> Result<(), Fail> {
     let x32 = sk_call_names::numbers(rt.alloc(), Architecture::X32)?;

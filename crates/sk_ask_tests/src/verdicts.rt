@@ -29,7 +29,7 @@ fn verdicts(rt: HostRuntime) -> Result<(), Fail> {
     Ok(())
 }
 
-/// The errors at the ends of the table and around its gaps, by asm-generic/errno-base.h and errno.h.
+// The errors at the ends of the table and around its gaps, by asm-generic/errno-base.h and errno.h.
 #[test]
 fn errors(rt: HostRuntime) {
     let rows: [(u32, Option<&str>); 12] = [

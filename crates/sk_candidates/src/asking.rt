@@ -57,8 +57,8 @@ pub(crate) fn next_beside_waiter<S: ProcStore>(
     next_in_turn(store, noted, waiter, last)
 }
 
-/// The process with the least pid above `after` that can run, where nobody can but those that are noted and the waiter.
-/// The system has not halted.
+// The process with the least pid above `after` that can run, where nobody can but those that are noted and the waiter.
+// The system has not halted.
 #[inline(always)]
 fn first_runnable<S: ProcStore>(
     store: &S,
@@ -82,7 +82,7 @@ fn first_runnable<S: ProcStore>(
     None
 }
 
-/// The next pid above `after` that has to be asked: that of one that is noted, or of the waiter.
+// The next pid above `after` that has to be asked: that of one that is noted, or of the waiter.
 #[inline(always)]
 fn next_candidate(noted: &NumberSet, waiter: Option<u32>, after: u32) -> Option<u32>
     ensures { (test : ℕ → Bool) → NoOtherPasses test noted.now waiter → PassesOver test after result }

@@ -43,7 +43,7 @@ pub(crate) fn is_blocked<S: ProcStore>(store: &S, pid: u32, process: &Proc) -> b
     }
 }
 
-/// Whether a process that waits for this goes on waiting until a child changes.
+// Whether a process that waits for this goes on waiting until a child changes.
 fn keeps_waiting<S: ProcStore>(store: &S, pid: u32, waiting: Waiting) -> bool
     requires nobody { at (S.contents store.now) 0 ≡ None }
     ensures { IsTrue result → KeepsWaiting (S.contents store.now) pid waiting }
@@ -55,7 +55,7 @@ fn keeps_waiting<S: ProcStore>(store: &S, pid: u32, waiting: Waiting) -> bool
     }
 }
 
-/// Whether a child matches the request, and none that does has a status to report.
+// Whether a child matches the request, and none that does has a status to report.
 fn is_still_asking<S: ProcStore>(store: &S, pid: u32, request: Request) -> bool
     requires nobody { at (S.contents store.now) 0 ≡ None }
     ensures { IsTrue result → IsStillAsking (S.contents store.now) pid request }
@@ -77,7 +77,7 @@ fn is_still_asking<S: ProcStore>(store: &S, pid: u32, request: Request) -> bool
     is_matched
 }
 
-/// Whether a wait4(2) with these options reports a process with this body.
+// Whether a wait4(2) with these options reports a process with this body.
 fn has_status(options: WaitOptions, body: &Body) -> bool
     ensures { result ≡ is_some (status_of_body options body.now.note body.now.life) }
 {
@@ -98,7 +98,7 @@ fn has_status_of_note(options: WaitOptions, note: Note) -> bool
     }
 }
 
-/// Whether a status change of the process is still to be reported: it has ended, or was stopped or continued.
+// Whether a status change of the process is still to be reported: it has ended, or was stopped or continued.
 fn has_status_change(body: &Body) -> bool
     ensures { result ≡ has_status_change body.now }
 {

@@ -42,7 +42,7 @@ impl<S: ProcStore> Model for Candidates<S> {
     ghost invariant = { λ c. IsNoted (S.contents c.store) c.noted c.touched };
 }
 
-/// Notes a process, if there can be one with this pid.
+// Notes a process, if there can be one with this pid.
 fn note(noted: &mut NumberSet, pid: u32)
     ensures { Notes pid noted.old noted.new }
 {
@@ -51,7 +51,7 @@ fn note(noted: &mut NumberSet, pid: u32)
     }
 }
 
-/// Takes the note of a process off.
+// Takes the note of a process off.
 fn forget(noted: &mut NumberSet, pid: u32)
     ensures { Forgets pid noted.old noted.new }
 {
@@ -60,7 +60,7 @@ fn forget(noted: &mut NumberSet, pid: u32)
     }
 }
 
-/// Notes a process, or takes its note off where it is blocked or not there.
+// Notes a process, or takes its note off where it is blocked or not there.
 fn look_at<S: ProcStore>(store: &S, noted: &mut NumberSet, pid: u32)
     requires nobody { at (S.contents store.now) 0 ≡ None }
     ensures { LooksAt (S.contents store.now) pid noted.old noted.new }
@@ -71,7 +71,7 @@ fn look_at<S: ProcStore>(store: &S, noted: &mut NumberSet, pid: u32)
     }
 }
 
-/// The same of the process of this pid.
+// The same of the process of this pid.
 fn look_at_process<S: ProcStore>(store: &S, noted: &mut NumberSet, pid: u32, process: &Proc)
     requires nobody { at (S.contents store.now) 0 ≡ None }
     requires own { at (S.contents store.now) pid ≡ Some process.now }
@@ -84,7 +84,7 @@ fn look_at_process<S: ProcStore>(store: &S, noted: &mut NumberSet, pid: u32, pro
     }
 }
 
-/// Looks at the parent that a status change of the process is reported to.
+// Looks at the parent that a status change of the process is reported to.
 fn announce<S: ProcStore>(store: &S, noted: &mut NumberSet, pid: u32, process: &Proc)
     requires nobody { at (S.contents store.now) 0 ≡ None }
     requires own { at (S.contents store.now) pid ≡ Some process.now }
@@ -98,7 +98,7 @@ fn announce<S: ProcStore>(store: &S, noted: &mut NumberSet, pid: u32, process: &
     }
 }
 
-/// Looks at the process that the last change was about, if any, but where the next one is about the same.
+// Looks at the process that the last change was about, if any, but where the next one is about the same.
 #[inline(always)]
 fn update<S: ProcStore>(store: &S, noted: &mut NumberSet, touched: u32, next: u32)
     requires nobody { at (S.contents store.now) 0 ≡ None }
@@ -112,7 +112,7 @@ fn update<S: ProcStore>(store: &S, noted: &mut NumberSet, touched: u32, next: u3
     }
 }
 
-/// The same of a change that was about some process.
+// The same of a change that was about some process.
 #[inline(never)]
 fn update_touched<S: ProcStore>(store: &S, noted: &mut NumberSet, touched: u32, next: u32)
     requires nobody { at (S.contents store.now) 0 ≡ None }

@@ -48,7 +48,7 @@ pub fn signal_due<S: ProcStore>(store: &S, pid: u32) -> Option<u8>
     }
 }
 
-/// The first reason for which an event of this process is not possible, in a system that has not halted.
+// The first reason for which an event of this process is not possible, in a system that has not halted.
 fn reason_for(process: &Proc, event: &Event) -> Option<Reason>
     ensures { result ≡ reason_for process.now event.now }
 {

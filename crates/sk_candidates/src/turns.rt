@@ -42,7 +42,7 @@ pub fn need_to_run<S: ProcStore>(store: &S, pid: u32) -> Option<Need>
     }
 }
 
-/// The same of a running process for which no signal is due, by what it waits in.
+// The same of a running process for which no signal is due, by what it waits in.
 fn need_to_go_on<S: ProcStore>(store: &S, pid: u32, waiting: Waiting) -> Option<Need>
     requires { IsWorld (S.contents store.now) }
     ensures runs { is_some result ≡ waits_no_more (S.contents store.now) pid waiting }
@@ -72,7 +72,7 @@ pub fn need<S: ProcStore>(store: &S, pid: u32) -> Need
     }
 }
 
-/// Whether a wait4(2) with this request would end now. Few are asked, and those that make calls are not to pay for it.
+// Whether a wait4(2) with this request would end now. Few are asked, and those that make calls are not to pay for it.
 #[inline(never)]
 fn asks_no_more<S: ProcStore>(store: &S, pid: u32, request: &Request) -> bool
     requires { IsWorld (S.contents store.now) }

@@ -3,7 +3,7 @@ use crate::Command;
 use std::alloc::{AllocError, Global};
 use std::test::Fail;
 
-/// Jumps to a label behind 255 or 256 instructions.
+// Jumps to a label behind 255 or 256 instructions.
 fn far_jump(rt: &HostRuntime, between: usize) -> Result<Vec<u8>, Fail> {
     let mut text = Vec::new(rt.alloc());
     text.extend_from_slice(b"jeq 1 far +0\n")?;
@@ -221,7 +221,7 @@ fn labels_lie_at_most_255_instructions_ahead(rt: HostRuntime) -> Result<(), Fail
     Ok(())
 }
 
-/// A text of so many instructions.
+// A text of so many instructions.
 fn returns(alloc: Global, count: usize) -> Result<Vec<u8>, AllocError> {
     let mut text = Vec::new(alloc);
     for _ in 0..count {
@@ -269,7 +269,7 @@ fn lines_have_a_limit(rt: HostRuntime) {
     assert_eq!(rt; (answer, held.as_slice()), (Ok(1), refusal));
 }
 
-/// As many line feeds as an input may have.
+// As many line feeds as an input may have.
 #[test]
 fn longest_inputs_are_read(rt: HostRuntime) -> Result<(), Fail> {
     let text = vec![in rt.alloc(); b'\n'; 1_048_576]?;
@@ -286,7 +286,7 @@ fn longest_inputs_are_read(rt: HostRuntime) -> Result<(), Fail> {
     Ok(())
 }
 
-/// One line feed more than an input may have.
+// One line feed more than an input may have.
 #[test]
 fn one_byte_too_many_decides(rt: HostRuntime) -> Result<(), Fail> {
     let text = vec![in rt.alloc(); b'\n'; 1_048_577]?;

@@ -11,7 +11,7 @@ const GETPID: &str = "27000000 3e0000c0";
 
 const GETPPID: &str = "6e000000 3e0000c0";
 
-/// The record of a call, and lines behind it.
+// The record of a call, and lines behind it.
 fn asked(alloc: Global, call: &str, lines: &str) -> Result<Vec<u8>, AllocError> {
     let mut text = Vec::new(alloc);
     text.extend_from_slice(b"record ")?;
@@ -164,7 +164,7 @@ fn filters_answer_worked_rows(rt: HostRuntime) -> Result<(), Fail> {
     Ok(())
 }
 
-/// A filter line for each of so many filters.
+// A filter line for each of so many filters.
 fn with_filters(alloc: Global, filters: usize, insns: usize) -> Result<Vec<u8>, AllocError> {
     let mut text = asked(alloc, GETPID, "")?;
     for _ in 0..filters {
@@ -177,7 +177,7 @@ fn with_filters(alloc: Global, filters: usize, insns: usize) -> Result<Vec<u8>, 
     Ok(text)
 }
 
-/// Thirty-two filters, a thirty-third, and eight of the greatest length.
+// Thirty-two filters, a thirty-third, and eight of the greatest length.
 #[test]
 fn filters_have_their_limits(rt: HostRuntime) -> Result<(), Fail> {
     let rows = [
@@ -244,7 +244,7 @@ fn inputs_are_refused_by_their_first_line(rt: HostRuntime) -> Result<(), Fail> {
     Ok(())
 }
 
-/// Lines before and behind the record, if there is one.
+// Lines before and behind the record, if there is one.
 fn around_record(
     alloc: Global,
     before: &str,

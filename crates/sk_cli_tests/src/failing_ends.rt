@@ -52,7 +52,7 @@ fn run(alloc: Global, command: Command, reader: Reader, writer: Writer) -> Ran {
     }
 }
 
-/// A reader that gives one byte a call and a writer that takes one change nothing.
+// A reader that gives one byte a call and a writer that takes one change nothing.
 #[test]
 fn short_ends_change_nothing(rt: HostRuntime) {
     for &(command, input, status, output) in ANSWERS {
@@ -70,7 +70,7 @@ fn short_ends_change_nothing(rt: HostRuntime) {
     }
 }
 
-/// A reader that fails at each of its calls in turn: nothing is written.
+// A reader that fails at each of its calls in turn: nothing is written.
 #[test]
 fn failing_reads_are_told(rt: HostRuntime) {
     for &(command, input, _, _) in ANSWERS {
@@ -90,8 +90,8 @@ fn failing_reads_are_told(rt: HostRuntime) {
     }
 }
 
-/// A writer that fails, or takes no byte, at each of its calls in turn: what went out is what it took
-/// before.
+// A writer that fails, or takes no byte, at each of its calls in turn: what went out is what it took
+// before.
 #[test]
 fn failing_writes_are_told(rt: HostRuntime) {
     for &(command, input, _, output) in ANSWERS {
@@ -109,7 +109,7 @@ fn failing_writes_are_told(rt: HostRuntime) {
     }
 }
 
-/// A run with a writer that takes one byte a call, until it goes wrong.
+// A run with a writer that takes one byte a call, until it goes wrong.
 fn run_into(alloc: Global, command: Command, input: &str, good: u64, trouble: Trouble) -> Ran {
     let writer = Writer {
         step: 1,
@@ -120,7 +120,7 @@ fn run_into(alloc: Global, command: Command, input: &str, good: u64, trouble: Tr
     run(alloc, command, Reader::new(input.as_bytes()), writer)
 }
 
-/// A reader that never ends: one byte more than the limit decides.
+// A reader that never ends: one byte more than the limit decides.
 #[test]
 fn endless_readers_are_refused(rt: HostRuntime) {
     for command in [Command::Asm, Command::Check, Command::Eval, Command::List] {

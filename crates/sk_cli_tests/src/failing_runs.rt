@@ -28,7 +28,7 @@ fn run(alloc: Global, reader: Reader, writer: Writer) -> Ran {
     }
 }
 
-/// A run of the scenario with a writer that takes at most `step` bytes a call, until it goes wrong.
+// A run of the scenario with a writer that takes at most `step` bytes a call, until it goes wrong.
 fn run_into(alloc: Global, step: usize, good: u64, trouble: Trouble) -> Ran {
     let reader = Reader::new(KEPT.as_bytes());
     let writer = Writer {
@@ -40,7 +40,7 @@ fn run_into(alloc: Global, step: usize, good: u64, trouble: Trouble) -> Ran {
     run(alloc, reader, writer)
 }
 
-/// A reader that gives one byte a call and a writer that takes one change nothing.
+// A reader that gives one byte a call and a writer that takes one change nothing.
 #[test]
 fn short_ends_change_no_report(rt: HostRuntime) {
     let reader = Reader {
@@ -58,7 +58,7 @@ fn short_ends_change_no_report(rt: HostRuntime) {
     );
 }
 
-/// A reader that fails at each of its calls in turn: nothing is written.
+// A reader that fails at each of its calls in turn: nothing is written.
 #[test]
 fn failing_reads_write_nothing(rt: HostRuntime) {
     for good in 0..KEPT.len() as u64 + 1 {
@@ -76,7 +76,7 @@ fn failing_reads_write_nothing(rt: HostRuntime) {
     }
 }
 
-/// A writer that fails, or takes no byte, at each of its calls in turn: what went out is what it took before.
+// A writer that fails, or takes no byte, at each of its calls in turn: what went out is what it took before.
 #[test]
 fn failing_writes_leave_what_was_taken(rt: HostRuntime) {
     for trouble in [Trouble::Error, Trouble::Nothing] {
@@ -95,7 +95,7 @@ fn failing_writes_leave_what_was_taken(rt: HostRuntime) {
     }
 }
 
-/// Each line is one write, where the writer takes all of it.
+// Each line is one write, where the writer takes all of it.
 #[test]
 fn failing_writes_leave_whole_lines(rt: HostRuntime) -> Result<(), Fail> {
     let mut front = Vec::new(rt.alloc());
@@ -112,7 +112,7 @@ fn failing_writes_leave_whole_lines(rt: HostRuntime) -> Result<(), Fail> {
     Ok(())
 }
 
-/// A writer that takes a part of a line, and fails at the rest. Each of the 13 lines takes three such writes and more.
+// A writer that takes a part of a line, and fails at the rest. Each of the 13 lines takes three such writes and more.
 #[test]
 fn failing_writes_leave_a_beginning(rt: HostRuntime) {
     for good in 0..39 {
@@ -160,7 +160,7 @@ fn closed(number: usize, comes_to: Result<&'static str, ScenarioFault>) -> Line 
     }
 }
 
-/// The lines of the scenario. Where a block is open the line behind the last is not understood.
+// The lines of the scenario. Where a block is open the line behind the last is not understood.
 fn lines() -> [Line; 21] {
     [
         open(1, "filter f", &[(8, 8)], 2),
@@ -193,7 +193,7 @@ fn lines() -> [Line; 21] {
 }
 
 impl Line {
-    /// What the scenario comes to where it is cut behind so many bytes of this line.
+    // What the scenario comes to where it is cut behind so many bytes of this line.
     fn cut(&self, length: usize) -> Result<&'static str, ScenarioFault> {
         let is_understood = self
             .understood
@@ -207,7 +207,7 @@ impl Line {
     }
 }
 
-/// What a run on this input comes to: a report, or one fault and no byte.
+// What a run on this input comes to: a report, or one fault and no byte.
 fn holds(alloc: Global, input: &[u8], wanted: Result<&str, ScenarioFault>) -> bool {
     let ran = run(alloc, Reader::new(input), Writer::new(alloc));
     let (answer, held) = match wanted {
@@ -217,7 +217,7 @@ fn holds(alloc: Global, input: &[u8], wanted: Result<&str, ScenarioFault>) -> bo
     ran.answer == answer && ran.held.as_slice() == held.as_bytes()
 }
 
-/// Each beginning of the scenario has a report or one fault, and where it has a fault nothing is written.
+// Each beginning of the scenario has a report or one fault, and where it has a fault nothing is written.
 #[test]
 fn cut_scenarios_have_a_report_or_one_fault(rt: HostRuntime) -> Result<(), Fail> {
     let alloc = rt.alloc();
@@ -244,7 +244,7 @@ fn cut_scenarios_have_a_report_or_one_fault(rt: HostRuntime) -> Result<(), Fail>
     Ok(())
 }
 
-/// As many line feeds as an input may have, and one more.
+// As many line feeds as an input may have, and one more.
 #[test]
 fn one_byte_too_many_is_no_scenario(rt: HostRuntime) -> Result<(), Fail> {
     let alloc = rt.alloc();
@@ -257,7 +257,7 @@ fn one_byte_too_many_is_no_scenario(rt: HostRuntime) -> Result<(), Fail> {
 /// What is told of an input that is too long.
 const TOO_LONG: ScenarioFault = ScenarioFault::Limit { n: 0 };
 
-/// A reader that gives line feeds for ever.
+// A reader that gives line feeds for ever.
 #[test]
 fn endless_readers_give_no_scenario(rt: HostRuntime) {
     let alloc = rt.alloc();

@@ -257,7 +257,7 @@ pub const FAULTS: &[(&str, &str)] = &[
     ("turns 100001\nturns\n", "skern: line 1: over the limit"),
 ];
 
-/// Runs a text over a store, and gives what was answered and what was written.
+// Runs a text over a store, and gives what was answered and what was written.
 fn run<S: ProcStore>(alloc: Global, input: &str) -> (Result<End, EngineFault>, Vec<u8>) {
     let mut reader = Counted::new(Reader::new(input.as_bytes()));
     let mut writer = Counted::new(Writer::new(alloc));
@@ -265,7 +265,7 @@ fn run<S: ProcStore>(alloc: Global, input: &str) -> (Result<End, EngineFault>, V
     (answer, writer.into_inner().held)
 }
 
-/// Whether this is answered and written over a store.
+// Whether this is answered and written over a store.
 fn has_report<S: ProcStore>(alloc: Global, input: &str, report: &str, end: End) -> bool {
     let (answer, held) = run::<S>(alloc, input);
     answer == Ok(end) && held.as_slice() == report.as_bytes()

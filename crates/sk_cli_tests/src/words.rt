@@ -37,7 +37,7 @@ fn words_say_what_to_do(rt: HostRuntime) -> Result<(), Fail> {
     Ok(())
 }
 
-/// What a command wrote, and its status, where its first so many writes failed.
+// What a command wrote, and its status, where its first so many writes failed.
 fn answer(
     alloc: Global,
     given: &[&str],
@@ -77,7 +77,7 @@ fn failures_are_told_once(rt: HostRuntime) -> Result<(), Fail> {
     Ok(())
 }
 
-/// The display text of each fault of a scenario is the line that the program writes of it.
+// The display text of each fault of a scenario is the line that the program writes of it.
 #[test]
 fn faults_are_written_as_they_display(rt: HostRuntime) -> Result<(), Fail> {
     let faults = [
@@ -113,7 +113,7 @@ fn want_of_memory_is_told(rt: HostRuntime) {
     assert_eq!(rt; held.as_slice(), b"skern: out of memory\n".as_slice());
 }
 
-/// The same where the output is written in blocks of so many bytes.
+// The same where the output is written in blocks of so many bytes.
 fn answer_in_blocks(
     alloc: Global,
     block: usize,

@@ -6,7 +6,7 @@ use sk_insn::Insn;
 use std::alloc::{AllocError, Global};
 use std::test::Fail;
 
-/// How many instructions were found valid, or why the program is refused.
+// How many instructions were found valid, or why the program is refused.
 fn outcome(alloc: Global, program: &[Insn]) -> Result<Result<usize, CheckFault>, AllocError> {
     let mut insns = Vec::new(alloc);
     insns.extend_from_slice(program)?;
@@ -104,7 +104,7 @@ fn scratch_words(rt: HostRuntime) -> Result<(), Fail> {
     Ok(())
 }
 
-/// `st 0`, so many times `ldmem 0`, and `reta`.
+// `st 0`, so many times `ldmem 0`, and `reta`.
 fn loads(alloc: Global, count: usize) -> Result<Vec<Insn>, AllocError> {
     let mut insns = Vec::new(alloc);
     insns.push(st(0))?;

@@ -17,7 +17,7 @@ const WITHOUT_CGROUPS: u32 = 0x7c02_0000;
 
 const NAMESPACES: u32 = 0x7e02_0000;
 
-/// clone(2) with one of the flags has an error.
+// clone(2) with one of the flags has an error.
 fn refuses_flags(flags: u32) -> [Insn; 6] {
     [
         ldabs(0),
@@ -39,7 +39,7 @@ fn only(nr: u32) -> Numbers
     }
 }
 
-/// The test of a tree with two ends, and what it tells where the test holds and where it fails.
+// The test of a tree with two ends, and what it tells where the test holds and where it fails.
 fn test_of(tree: &Tree) -> Option<(Test, u32, u32)> {
     match tree {
         Tree::Ask(test, held, failed) => match (&**held, &**failed) {
@@ -87,8 +87,8 @@ fn flags_decide(rt: HostRuntime) -> Result<(), Fail> {
     Ok(())
 }
 
-/// What is found of two filters on the calls of clone(2): whether they answer alike everywhere, and the flags of a call on
-/// which they do not.
+// What is found of two filters on the calls of clone(2): whether they answer alike everywhere, and the flags of a call on
+// which they do not.
 fn found(
     alloc: Global,
     relation: Relation,
@@ -135,7 +135,7 @@ fn filters_are_compared(rt: HostRuntime) -> Result<(), Fail> {
     Ok(())
 }
 
-/// A first argument above 5 that is 3 has this value, which no call gets.
+// A first argument above 5 that is 3 has this value, which no call gets.
 fn never(value: u32) -> [Insn; 6] {
     [
         ldabs(16),

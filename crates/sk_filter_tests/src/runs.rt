@@ -200,7 +200,7 @@ fn walks(rt: HostRuntime) -> Result<(), Fail> {
     Ok(())
 }
 
-/// Each test of the number that a walk follows.
+// Each test of the number that a walk follows.
 fn by_each_test() -> [Insn; 17] {
     [
         ldabs(4),

@@ -16,7 +16,7 @@ fn values(answers: &Answers) -> Option<&[u32]> {
     }
 }
 
-/// Call 110 is refused, and call 9 where the low half of its first argument is 7.
+// Call 110 is refused, and call 9 where the low half of its first argument is 7.
 fn by_number() -> [Insn; 7] {
     [
         ldabs(0),
@@ -29,7 +29,7 @@ fn by_number() -> [Insn; 7] {
     ]
 }
 
-/// Bit 30 of the number is refused.
+// Bit 30 of the number is refused.
 fn by_bit() -> [Insn; 4] {
     [
         ldabs(0),
@@ -39,7 +39,7 @@ fn by_bit() -> [Insn; 4] {
     ]
 }
 
-/// From 400 on all is logged, above 500 it is refused.
+// From 400 on all is logged, above 500 it is refused.
 fn by_size() -> [Insn; 6] {
     [
         ldabs(0),
@@ -51,22 +51,22 @@ fn by_size() -> [Insn; 6] {
     ]
 }
 
-/// The low half of the first argument is the value.
+// The low half of the first argument is the value.
 fn by_argument() -> [Insn; 2] {
     [ldabs(16), reta()]
 }
 
-/// A division of 6 by an argument, which may be 0.
+// A division of 6 by an argument, which may be 0.
 fn by_division() -> [Insn; 5] {
     [ldabs(16), tax(), ldimm(6), divx(), ret(2)]
 }
 
-/// A division of 6 by 3, whose answer is known.
+// A division of 6 by 3, whose answer is known.
 fn by_constant() -> [Insn; 4] {
     [ldximm(3), ldimm(6), divx(), reta()]
 }
 
-/// A scratch word that holds 5 where the argument is 1, and else the argument.
+// A scratch word that holds 5 where the argument is 1, and else the argument.
 fn by_word() -> [Insn; 7] {
     [
         ldabs(16),
@@ -117,7 +117,7 @@ fn programs(rt: HostRuntime) -> Result<(), Fail> {
     Ok(())
 }
 
-/// Whether these are the verdicts of the chain of these filters, the newest first.
+// Whether these are the verdicts of the chain of these filters, the newest first.
 fn tells(alloc: Global, programs: &[&[Insn]], expected: &[u32]) -> Result<bool, Fail> {
     let chain = chain_of(alloc, programs)?;
     let answers = Surveyor::new(alloc)?.chain(alloc, &chain, 0, u32::MAX)?;
@@ -139,7 +139,7 @@ fn chains(rt: HostRuntime) -> Result<(), Fail> {
     Ok(())
 }
 
-/// Whether these are the cuts of the chain of these filters, where 39 stands alone.
+// Whether these are the cuts of the chain of these filters, where 39 stands alone.
 fn cut_at(alloc: Global, programs: &[&[Insn]], expected: &[u32]) -> Result<bool, Fail> {
     let chain = chain_of(alloc, programs)?;
     Ok(cuts(alloc, &chain, &[39])?.as_slice() == expected)

@@ -2,7 +2,7 @@
 use crate::fault::Fault;
 use crate::{ALLOW, FILTERS, FORKS, print_memory};
 use sk_calls::{Call, Syscall};
-use sk_kernel::{Answer, Images, Event, Kernel, Outcome, Stopped};
+use sk_kernel::{Answer, Event, Images, Kernel, Outcome, Stopped};
 use sk_table::{INIT, ListStore};
 use std::alloc::{AllocError, Global};
 

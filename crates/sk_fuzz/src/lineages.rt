@@ -1,13 +1,13 @@
 //! Whether the processes are what their lineages make of them.
 
 use crate::alike::have_rights_alike;
-use crate::images::declared;
 use crate::fault::Fault;
+use crate::images::declared;
 use crate::pair::Pair;
 use crate::tally::{Kind, Tally};
 use sk_calls::{Call, Syscall};
 use sk_insn::Record;
-use sk_kernel::laws::lineage_of;
+use sk_kernel::laws::line;
 use sk_kernel::{Event, Kernel};
 use sk_table::{INIT, ListStore, Proc};
 use std::alloc::Global;
@@ -40,7 +40,7 @@ fn check_lineage(
     if pair.events.len() != pair.answers.len() {
         return Err(Fault::Lineages);
     }
-    let lineage = lineage_of(alloc, &pair.events, &pair.answers, pid)?;
+    let lineage = line(alloc, &pair.events, &pair.answers, pid)?;
     let mut kernel = Kernel::<ListStore>::new(alloc, declared(alloc, filters, false)?)?;
     for call in lineage.calls.iter().filter(|call| may_change_rights(call)) {
         kernel.step(as_init(call))?;

@@ -5,16 +5,16 @@
 
 mod alike;
 mod calls;
-mod images;
 mod fault;
+mod images;
 mod lineages;
 mod pair;
 mod random;
 mod tally;
 
 use calls::call;
-use images::{LONG_FILTER, filters};
 use fault::Fault;
+use images::{LONG_FILTER, filters};
 use lineages::check_lineages;
 use pair::{Pair, bare_call};
 use random::Random;

@@ -1,8 +1,8 @@
 //! Two kernels, one over each store, which are told the same events.
 
 use crate::alike::are_alike;
-use crate::images::declared;
 use crate::fault::Fault;
+use crate::images::declared;
 use crate::tally::{Kind, Tally};
 use sk_calls::{Call, Syscall};
 use sk_kernel::{Answer, Effect, Event, Kernel, Outcome};

@@ -10,7 +10,7 @@ ghost use Rattle.sk_kernel.specs.State.{done_of};
 
 use crate::stepping;
 use sk_candidates::{Candidates, Runner};
-use sk_machine::{Answer, Images, Event, Need};
+use sk_machine::{Answer, Event, Images, Need};
 use sk_world::{Proc, ProcStore};
 use std::alloc::{AllocError, Global};
 use std::marker::Model;

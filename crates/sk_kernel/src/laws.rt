@@ -20,7 +20,7 @@ pub struct Lineage {
 
 /// The lineage of a process, by all events that there were and their answers, the oldest first. It takes memory for the
 /// calls that it tells, and looks at each event once.
-pub fn lineage_of(
+pub fn line(
     alloc: Global,
     events: &[Event],
     answers: &[Answer],

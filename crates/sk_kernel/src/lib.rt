@@ -9,4 +9,4 @@ mod stepping;
 
 pub use kernel::{Kernel, Stopped};
 pub use sk_candidates::Runner;
-pub use sk_machine::{Answer, Images, Effect, Event, Need, Outcome, Mark, Reason};
+pub use sk_machine::{Answer, Effect, Event, Images, Mark, Need, Outcome, Reason};

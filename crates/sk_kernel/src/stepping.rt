@@ -13,7 +13,7 @@ use crate::calls::call;
 use sk_calls::Call;
 use sk_candidates::{reason, signal_due};
 use sk_insn::Record;
-use sk_machine::{Answer, Images, Event, Outcome, end};
+use sk_machine::{Answer, Event, Images, Outcome, end};
 use sk_signal::number::SIGSEGV;
 use sk_syscalls::{deliver, resume};
 use sk_world::ProcStore;

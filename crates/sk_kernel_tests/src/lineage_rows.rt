@@ -7,7 +7,7 @@ use crate::row::{NONE, Row, args_of};
 use sk_calls::Syscall;
 use sk_calls::Syscall::{Fork, Prctl, Setuid};
 use sk_insn::Record;
-use sk_kernel::laws::{Lineage, lineage_of};
+use sk_kernel::laws::{Lineage, line};
 use sk_kernel::{Answer, Event};
 use sk_table::{ListStore, ProcStore, SlotStore};
 use std::process::Abort;
@@ -55,7 +55,7 @@ fn assert_lineages<R: Abort + AllocGlobal>(
 ) -> Result<(), Fail> {
     assert_eq!(rt; answers.len(), events.len());
     for (pid, root, calls) in LINES {
-        let told = lineage_of(rt.alloc(), events, answers, pid)?;
+        let told = line(rt.alloc(), events, answers, pid)?;
         assert_eq!(rt; told.root, root);
         assert!(rt; has_calls(&told, calls), "lineage of {pid}");
     }

@@ -7,7 +7,7 @@ use sk_calls::Syscall::{
     Execve, ExitGroup, Fork, Geteuid, Getppid, Kill, Pause, Prctl, Seccomp, Setuid, Wait4,
 };
 use sk_insn::Record;
-use sk_kernel::laws::{Lineage, lineage_of};
+use sk_kernel::laws::{Lineage, line};
 use sk_kernel::{Answer, Event, Kernel, Need};
 use sk_table::{ListStore, Proc, ProcStore, SlotStore};
 use std::alloc::Global;
@@ -216,7 +216,7 @@ impl<S: ProcStore> Course<S> {
         verdicts: Vec<u32>,
     ) -> Result<Known, Fail> {
         assert_eq!(rt; self.events.len(), self.answers.len());
-        let lineage = lineage_of(rt.alloc(), &self.events, &self.answers, pid)?;
+        let lineage = line(rt.alloc(), &self.events, &self.answers, pid)?;
         Ok(Known { lineage, verdicts })
     }
 }

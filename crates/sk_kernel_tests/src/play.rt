@@ -2,7 +2,7 @@
 use crate::given::Given;
 use crate::picture::{Picture, pictures};
 use crate::row::Row;
-use sk_kernel::{Answer, Images, Event, Kernel, Need};
+use sk_kernel::{Answer, Event, Images, Kernel, Need};
 use sk_signal::SigSet;
 use sk_table::{ListStore, ProcStore, SlotStore};
 use std::alloc::{AllocError, Global};

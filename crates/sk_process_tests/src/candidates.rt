@@ -31,7 +31,7 @@ fn rows<S: ProcStore, R: Abort + AllocGlobal>(rt: &R) -> Result<(), Fail> {
     Ok(())
 }
 
-/// Three children, of which two pause. The turn goes round past them, and comes to one that has a signal due.
+// Three children, of which two pause. The turn goes round past them, and comes to one that has a signal due.
 fn who_waits_is_passed_over<S: ProcStore, R: Abort + AllocGlobal>(rt: &R) -> Result<(), Fail> {
     let mut store: Candidates<S> = after_forks(rt, &[INIT, INIT, INIT])?;
     turns(rt, &store, &[(0, Some(1)), (1, Some(2)), (4, Some(1))]);
@@ -49,7 +49,7 @@ fn who_waits_is_passed_over<S: ProcStore, R: Abort + AllocGlobal>(rt: &R) -> Res
     Ok(())
 }
 
-/// Process 1 waits for two children that pause: nobody can run. One of them ends, and process 1 is told.
+// Process 1 waits for two children that pause: nobody can run. One of them ends, and process 1 is told.
 fn parent_hears_of_the_end_of_its_child<S: ProcStore, R: Abort + AllocGlobal>(
     rt: &R,
 ) -> Result<(), Fail> {
@@ -63,7 +63,7 @@ fn parent_hears_of_the_end_of_its_child<S: ProcStore, R: Abort + AllocGlobal>(
     Ok(())
 }
 
-/// Process 1 waits for its group. Its only child leaves the group, so that nobody is left to wait for.
+// Process 1 waits for its group. Its only child leaves the group, so that nobody is left to wait for.
 fn parent_goes_on_where_no_child_matches<S: ProcStore, R: Abort + AllocGlobal>(
     rt: &R,
 ) -> Result<(), Fail> {
@@ -76,7 +76,7 @@ fn parent_goes_on_where_no_child_matches<S: ProcStore, R: Abort + AllocGlobal>(
     Ok(())
 }
 
-/// What a store keeps is asked of the candidates as of the store.
+// What a store keeps is asked of the candidates as of the store.
 fn candidates_keep_what_the_store_keeps<S: ProcStore, R: Abort + AllocGlobal>(
     rt: &R,
 ) -> Result<(), Fail> {
@@ -112,7 +112,7 @@ fn asks(who: Who) -> Waiting {
     })
 }
 
-/// Each is who comes next after a pid.
+// Each is who comes next after a pid.
 fn turns<S: ProcStore>(rt: &impl Abort, store: &Candidates<S>, rows: &[(u32, Option<u32>)])
     requires { IsWorld store.now }
 {
@@ -122,7 +122,7 @@ fn turns<S: ProcStore>(rt: &impl Abort, store: &Candidates<S>, rows: &[(u32, Opt
     }
 }
 
-/// Makes a process wait for this.
+// Makes a process wait for this.
 fn waits<S: ProcStore>(store: &mut Candidates<S>, pid: u32, waiting: Waiting)
     requires { IsWorld store.old }
     ensures { IsWorld store.new }

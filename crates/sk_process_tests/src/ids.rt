@@ -11,7 +11,7 @@ fn ids(real: u32, effective: u32, saved: u32) -> Creds {
     }
 }
 
-/// The ids before, the one that is taken, and what that comes to. 4294967295 is `(uid_t) -1`.
+// The ids before, the one that is taken, and what that comes to. 4294967295 is `(uid_t) -1`.
 #[test]
 fn one_id_is_taken(rt: HostRuntime) {
     for (before, id, result, after) in [
@@ -30,7 +30,7 @@ fn one_id_is_taken(rt: HostRuntime) {
     }
 }
 
-/// The superuser takes three ids, and cannot come back to them all.
+// The superuser takes three ids, and cannot come back to them all.
 #[test]
 fn ids_given_up_stay_given_up(rt: HostRuntime) {
     let mut creds = ROOT;
@@ -44,7 +44,7 @@ fn ids_given_up_stay_given_up(rt: HostRuntime) {
     }
 }
 
-/// The ids before, the program's owner and set-user-ID bit, and the ids that its execve leaves.
+// The ids before, the program's owner and set-user-ID bit, and the ids that its execve leaves.
 #[test]
 fn execve_leaves_no_saved_id_behind(rt: HostRuntime) {
     let bound = Creds {
@@ -62,7 +62,7 @@ fn execve_leaves_no_saved_id_behind(rt: HostRuntime) {
     }
 }
 
-/// A sender, a target, and whether the one may signal the other.
+// A sender, a target, and whether the one may signal the other.
 #[test]
 fn signals_go_by_the_targets_real_and_saved_ids(rt: HostRuntime) {
     for (sender, target, permitted) in [

@@ -7,8 +7,8 @@ use sk_world::{Body, Creds, INIT, Life, Links, Note, Proc, WaitOptions, Waiting}
 use std::process::Abort;
 use std::test::Fail;
 
-/// A user's process in group and session 7, which has executed a program, blocks SIGUSR1, and has
-/// SIGTERM pending.
+// A user's process in group and session 7, which has executed a program, blocks SIGUSR1, and has
+// SIGTERM pending.
 fn parent(rt: &HostRuntime) -> Proc {
     let mut signals = SigState::new();
     signals.set_mask(SigSet::empty().with(SIGUSR1));

@@ -10,14 +10,14 @@ pub(crate) fn handler() -> Disposition {
     }
 }
 
-/// A process that blocks all that can be blocked.
+// A process that blocks all that can be blocked.
 fn deaf() -> SigState {
     let mut state = SigState::new();
     state.set_mask(SigSet::from_bits_truncate(u64::MAX));
     state
 }
 
-/// The bits of what is pending, and which of it is delivered next.
+// The bits of what is pending, and which of it is delivered next.
 fn due(state: &SigState) -> (u32, Option<u8>) {
     (state.pending().bits(), state.deliverable())
 }
@@ -135,7 +135,7 @@ fn sixteen_handlers_run_inside_one_another(rt: HostRuntime) {
     assert!(rt; !state.pop_frame());
 }
 
-/// SIGUSR1 comes, and its handler runs, with it blocked, which the handler ends.
+// SIGUSR1 comes, and its handler runs, with it blocked, which the handler ends.
 fn assert_handles(rt: &impl Abort, state: &mut SigState) {
     state.generate(SIGUSR1, true);
     assert!(rt; state.deliverable() == Some(SIGUSR1));

@@ -51,7 +51,7 @@ pub fn decide_number(comparison: Comparison, k: u32, first: u32, last: u32) -> O
     }
 }
 
-/// Whether all numbers of the range are the constant, or none is.
+// Whether all numbers of the range are the constant, or none is.
 fn decide_equal(k: u32, first: u32, last: u32) -> Option<bool>
     requires range { first ≤ last }
     ensures answer { IfSome result (λ answer. (nr : ℕ) → first ≤ nr → nr ≤ last
@@ -68,8 +68,8 @@ fn decide_equal(k: u32, first: u32, last: u32) -> Option<bool>
     }
 }
 
-/// Whether all numbers of the range have bits in common with a constant, or none has. It depends on what stands from
-/// the constant's lowest bit on.
+// Whether all numbers of the range have bits in common with a constant, or none has. It depends on what stands from
+// the constant's lowest bit on.
 fn common_bits(k: u32, first: u32, last: u32) -> Option<bool>
     requires range { first ≤ last }
     ensures answer { IfSome result (λ answer. (nr : ℕ) → first ≤ nr → nr ≤ last

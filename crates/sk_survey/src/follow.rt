@@ -159,7 +159,7 @@ impl Knowledge {
     }
 }
 
-/// What is known of A where a test of A and the operand holds.
+// What is known of A where a test of A and the operand holds.
 fn known_where_it_holds(comparison: Comparison, a: Known, right: Known) -> Known
     ensures value { (call : Record) (m n : ℕ) → Describes a call m → Describes right call n
         → IsTrue (holds comparison m n) → Describes result call m }
@@ -172,7 +172,7 @@ fn known_where_it_holds(comparison: Comparison, a: Known, right: Known) -> Known
     }
 }
 
-/// What is known of a word of the record.
+// What is known of a word of the record.
 fn loaded(place: u32, first: u32, last: u32) -> Known
     ensures word { (call : Record) (n : ℕ) → IsCallOf first last call → word_of call place ≡ Some n
         → Describes result call n }
@@ -187,7 +187,7 @@ fn loaded(place: u32, first: u32, last: u32) -> Known
     }
 }
 
-/// What is known of a calculation. A division by 0 has no value.
+// What is known of a calculation. A division by 0 has no value.
 fn calculation(arithmetic: Arithmetic, left: Known, right: Known) -> Known
     ensures value { (call : Record) (m n : ℕ) → Describes left call m → Describes right call n
         → Describes result call (calculated arithmetic m n) }

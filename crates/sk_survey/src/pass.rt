@@ -56,7 +56,7 @@ pub(crate) fn clear(slots: &mut [Option<Knowledge>])
     slots.fill(None);
 }
 
-/// Adds the value with which the filter ends where an instruction leads to an end.
+// Adds the value with which the filter ends where an instruction leads to an end.
 fn add_end(answers: &mut Answers, next: Next) -> Result<(), AllocError>
     requires rising { AreRising (answers_of answers.old) }
     ensures rising { AreRising (answers_of answers.new) }
@@ -73,7 +73,7 @@ fn add_end(answers: &mut Answers, next: Next) -> Result<(), AllocError>
     }
 }
 
-/// Hands what is known after an instruction on to the places where control can go.
+// Hands what is known after an instruction on to the places where control can go.
 fn spread(
     slots: &mut [Option<Knowledge>],
     place: usize,
@@ -106,7 +106,7 @@ fn spread(
     }
 }
 
-/// Joins what is known after a conditional jump whose test holds to the place where it goes.
+// Joins what is known after a conditional jump whose test holds to the place where it goes.
 fn join_where_it_holds(
     slots: &mut [Option<Knowledge>],
     place: usize,
@@ -129,7 +129,7 @@ fn join_where_it_holds(
     );
 }
 
-/// Joins what is known on one more path to a place.
+// Joins what is known on one more path to a place.
 fn join_at(slots: &mut [Option<Knowledge>], place: usize, knowledge: &Knowledge)
     requires slots { length slots.old ≡ 4096 }
     requires place { place < 4096 }

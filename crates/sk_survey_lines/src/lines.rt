@@ -63,7 +63,7 @@ pub fn rows_of(
     }
 }
 
-/// What is shown below a row: calls for each of its values, where they are wanted.
+// What is shown below a row: calls for each of its values, where they are wanted.
 fn shown_of(
     alloc: Global,
     examples: bool,

@@ -34,7 +34,7 @@ impl Origin {
         self.with(call, self.turning(comparison, a, b, held))
     }
 
-    /// A number on which the comparison with b may come out in the other way.
+    // A number on which the comparison with b may come out in the other way.
     fn turning(self, comparison: Comparison, a: u32, b: u32, held: bool) -> u32
         ensures turned { IsTurnedByOrder comparison b held → holds comparison result b ≡ not held }
     {

@@ -11,7 +11,7 @@ ghost use Rattle.sk_machine.specs.Performing.{executing, execve};
 ghost use Rattle.sk_syscalls.specs.views.Own.{ActsOn};
 
 use sk_insn::Record;
-use sk_machine::{Images, Outcome, Mark, register, unsigned};
+use sk_machine::{Images, Mark, Outcome, register, unsigned};
 use sk_world::{Body, Creds, Errno};
 
 /// setuid(2).

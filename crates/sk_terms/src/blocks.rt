@@ -31,14 +31,14 @@ pub fn with_halves(one: Term, other: Term) -> Option<Joined>
     None
 }
 
-/// Whether the term is one number of the higher half alone, or all but one.
+// Whether the term is one number of the higher half alone, or all but one.
 fn is_high(term: Term) -> bool
     ensures high { IsTrue result → (term.first ≡ term.last) × (term.mask % 2 ^ 32 ≡ 0) × (term.first % 2 ^ 32 ≡ 0) }
 {
     term.first == term.last && term.mask % BORDER == 0 && term.first % BORDER == 0
 }
 
-/// The same on more bits, of the lower half, whatever they are.
+// The same on more bits, of the lower half, whatever they are.
 fn widened(term: Term, low: u64) -> Term
     requires one { term.first ≡ term.last }
     requires mask { term.mask % 2 ^ 32 ≡ 0 }
@@ -55,7 +55,7 @@ fn widened(term: Term, low: u64) -> Term
     }
 }
 
-/// A range in which the higher half is one number, and a term on the lower half.
+// A range in which the higher half is one number, and a term on the lower half.
 fn in_block(block: Term, low: Term) -> Option<Joined>
     requires register { block.register ≡ low.register }
     requires mask { block.mask % 2 ^ 32 ≡ low.mask }

@@ -31,7 +31,7 @@ struct Branching {
 }
 
 impl Branching {
-    /// The same as a tree.
+    // The same as a tree.
     fn whole(self) -> Decision
         ensures same { (call : Record) → decided result call ≡ decided_branching self call }
         ensures all { BranchesAll self → DecidesAll result }
@@ -61,8 +61,8 @@ pub fn decide(alloc: Global, tree: &Tree) -> Result<Decision, AllocError>
     }
 }
 
-/// A term of two trees, or one tree where both tell the same. A first term of theirs is put together with it where it leads
-/// to the same tree.
+// A term of two trees, or one tree where both tell the same. A first term of theirs is put together with it where it leads
+// to the same tree.
 fn asked(
     alloc: Global,
     term: Term,
@@ -88,7 +88,7 @@ fn asked(
     }
 }
 
-/// The same where the second tree begins with a term.
+// The same where the second tree begins with a term.
 fn asked_then(
     alloc: Global,
     term: Term,
@@ -113,7 +113,7 @@ fn asked_then(
     asked_first(alloc, term, held, failed.whole())
 }
 
-/// The same, where the first tree may begin with a term.
+// The same, where the first tree may begin with a term.
 fn asked_first(
     alloc: Global,
     term: Term,
@@ -136,7 +136,7 @@ fn asked_first(
     }
 }
 
-/// The same where the first tree begins with a term.
+// The same where the first tree begins with a term.
 fn asked_both(
     alloc: Global,
     term: Term,

@@ -35,7 +35,7 @@ pub fn both(one: Term, other: Term) -> Option<Joined>
     }
 }
 
-/// The same of two terms on bits that differ.
+// The same of two terms on bits that differ.
 fn on_other_bits(one: Term, other: Term) -> Option<Joined>
     requires register { one.register ≡ other.register }
     ensures both { IfSome result (λ it. (call : Record) → holds_joined it call ≡ (holds_term one call && holds_term other call)) }
@@ -83,7 +83,7 @@ pub fn either(one: Term, other: Term) -> Option<Term>
     }
 }
 
-/// Two terms of which the first tells the answer of the second.
+// Two terms of which the first tells the answer of the second.
 fn told_by(one: Term, other: Term) -> Option<Joined>
     requires register { one.register ≡ other.register }
     ensures both { IfSome result (λ it. (call : Record) → holds_joined it call ≡ (holds_term one call && holds_term other call)) }
@@ -97,7 +97,7 @@ fn told_by(one: Term, other: Term) -> Option<Joined>
     None
 }
 
-/// An equality, and a term on some of its bits.
+// An equality, and a term on some of its bits.
 fn covered(one: Term, other: Term) -> Option<Joined>
     requires register { one.register ≡ other.register }
     requires one { is_equality one ≡ true }
@@ -110,7 +110,7 @@ fn covered(one: Term, other: Term) -> Option<Joined>
     Some(Joined::Never)
 }
 
-/// An inequality, and a term on some of its bits that takes no number which it leaves out.
+// An inequality, and a term on some of its bits that takes no number which it leaves out.
 fn spared(one: Term, other: Term) -> Option<Joined>
     requires register { one.register ≡ other.register }
     requires other { is_inequality other ≡ true }
@@ -123,7 +123,7 @@ fn spared(one: Term, other: Term) -> Option<Joined>
     Some(Joined::One(one))
 }
 
-/// Two terms on some bits each, or on the same bits.
+// Two terms on some bits each, or on the same bits.
 fn join(one: Term, other: Term) -> Option<Joined>
     requires register { one.register ≡ other.register }
     ensures both { IfSome result (λ it. (call : Record) → holds_joined it call ≡ (holds_term one call && holds_term other call)) }
@@ -134,7 +134,7 @@ fn join(one: Term, other: Term) -> Option<Joined>
     None
 }
 
-/// Two equalities: all their bits at once, or none where they want a bit otherwise.
+// Two equalities: all their bits at once, or none where they want a bit otherwise.
 fn equal_bits(one: Term, other: Term) -> Option<Joined>
     requires register { one.register ≡ other.register }
     requires one { is_equality one ≡ true }

@@ -59,14 +59,14 @@ pub fn mean(test: Test) -> Option<Meant>
     })
 }
 
-/// The answer of a test of the architecture, for a call of x86-64.
+// The answer of a test of the architecture, for a call of x86-64.
 fn on_architecture(test: Test) -> bool
     ensures answer { test.place ≡ 4 → (call : Record) → IsNative call → holds_on test call ≡ result }
 {
     holds(test.comparison, ARCHITECTURE & test.mask, test.k)
 }
 
-/// What a comparison asks of a word with no other bits than these.
+// What a comparison asks of a word with no other bits than these.
 fn asks(mask: u32, comparison: Comparison, k: u32) -> Asked
     ensures asks { (word : ℕ) → holds comparison (bit_and word mask) k ≡ says result (bit_and word mask) }
 {
@@ -83,7 +83,7 @@ fn asks(mask: u32, comparison: Comparison, k: u32) -> Asked
     }
 }
 
-/// The half of a register that is the word at a place.
+// The half of a register that is the word at a place.
 fn half_at(place: u8) -> Option<Half>
     ensures half { IfSome result (λ half. (call : Record) → word_of call place ≡ Some (half_of half call)) }
     ensures word { IsTrue (is_word place) → (place ≡ 4 → ⊥) → IsSome result }
@@ -97,7 +97,7 @@ fn half_at(place: u8) -> Option<Half>
     })
 }
 
-/// The register whose half stands at a place.
+// The register whose half stands at a place.
 fn register_at(place: u8) -> Register
     ensures register { result ≡ register_at place }
 {
@@ -110,7 +110,7 @@ fn register_at(place: u8) -> Register
     }
 }
 
-/// What is asked of some bits of the lower half of a register.
+// What is asked of some bits of the lower half of a register.
 fn on_low(register: Register, mask: u32, asked: Asked) -> Meant
     ensures meant { (call : Record) → says asked (bit_and (register_of register call % 2 ^ 32) mask) ≡ holds_meant result call }
 {
@@ -123,7 +123,7 @@ fn on_low(register: Register, mask: u32, asked: Asked) -> Meant
     }
 }
 
-/// What is asked of some bits of the higher half of a register.
+// What is asked of some bits of the higher half of a register.
 fn on_high(register: Register, mask: u32, asked: Asked) -> Meant
     ensures meant { (call : Record) → says asked (bit_and (register_of register call / 2 ^ 32 % 2 ^ 32) mask) ≡ holds_meant result call }
 {

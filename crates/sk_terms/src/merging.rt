@@ -34,7 +34,7 @@ pub fn merged(alloc: Global, lines: Vec<Line>) -> Result<Vec<Line>, AllocError>
     Ok(merged)
 }
 
-/// Adds a line that no call meets which meets one of the others.
+// Adds a line that no call meets which meets one of the others.
 fn add(lines: &mut Vec<Line>, line: Line) -> Result<(), AllocError>
     ensures told { OnOk result ((call : Record) → length (told_by lines.old.items call ++ told_alone line call) ≤ 1
         → told_by lines.new.items call ≡ told_by lines.old.items call ++ told_alone line call) }
@@ -48,7 +48,7 @@ fn add(lines: &mut Vec<Line>, line: Line) -> Result<(), AllocError>
     add(lines, both)
 }
 
-/// A line that is met where one of two is which differ in one choice.
+// A line that is met where one of two is which differ in one choice.
 fn together(one: Line, other: Line, at: usize) -> Result<Line, AllocError>
     requires differ { DifferIn one other at }
     ensures value { IfOk result (λ both. both.value ≡ one.value) }

@@ -15,7 +15,7 @@ pub enum Register {
 }
 
 impl Register {
-    /// Where its terms stand in a condition.
+    // Where its terms stand in a condition.
     fn rank(self) -> u16 {
         match self {
             Register::Number => 0,

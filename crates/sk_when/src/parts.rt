@@ -78,7 +78,7 @@ fn undecided() -> Part
     }
 }
 
-/// The parts of some numbers, where the relation fails on this call.
+// The parts of some numbers, where the relation fails on this call.
 fn parts_with(
     alloc: Global,
     chains: Comparing<'_>,
@@ -106,7 +106,7 @@ fn parts_with(
     with_shown(parts, chains, call)
 }
 
-/// A part for each line of the tree.
+// A part for each line of the tree.
 fn on_lines(
     alloc: Global,
     chains: Comparing<'_>,
@@ -123,7 +123,7 @@ fn on_lines(
     Ok(parts)
 }
 
-/// The parts with the call behind them, where none of them shows one.
+// The parts with the call behind them, where none of them shows one.
 fn with_shown(
     parts: Vec<Part>,
     chains: Comparing<'_>,
@@ -142,7 +142,7 @@ fn with_shown(
     Ok(more)
 }
 
-/// The part of a call on which the relation fails.
+// The part of a call on which the relation fails.
 fn part_of_call(chains: Comparing<'_>, call: Record) -> Part
     requires apart { IsApart chains (Found.Apart call) }
     ensures holds { HoldsPart chains.entry result }
@@ -158,7 +158,7 @@ fn part_of_call(chains: Comparing<'_>, call: Record) -> Part
     }
 }
 
-/// The pair that is told of every call, if there is one.
+// The pair that is told of every call, if there is one.
 fn on_every(decision: &Decision, relation: Relation, pairs: &[Verdicts]) -> Option<Verdicts>
     ensures every { IfSome result (λ it. (call : Record) → IsPairOf relation pairs.now (decided decision.now call) it) }
 {
@@ -168,7 +168,7 @@ fn on_every(decision: &Decision, relation: Relation, pairs: &[Verdicts]) -> Opti
     }
 }
 
-/// The pair that an end of the tree of differences numbers, for which the relation fails.
+// The pair that an end of the tree of differences numbers, for which the relation fails.
 fn pair_at(relation: Relation, pairs: &[Verdicts], number: Option<u32>) -> Option<Verdicts>
     ensures pair { IfSome result (IsPairOf relation pairs.now number) }
 {
@@ -206,7 +206,7 @@ fn each_part(
     Ok(parts)
 }
 
-/// The calls that meet a line.
+// The calls that meet a line.
 fn part_of(
     chains: Comparing<'_>,
     line: Line,
@@ -235,7 +235,7 @@ fn undecided_part(line: Line) -> Part
     }
 }
 
-/// The calls that meet a line of which the verdicts are known.
+// The calls that meet a line of which the verdicts are known.
 fn decided_part(
     chains: Comparing<'_>,
     line: Line,

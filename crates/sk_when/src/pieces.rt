@@ -49,7 +49,7 @@ pub fn pieces(
     Ok(pieces)
 }
 
-/// Compares the chains on the calls of the numbers below the last beginning, and tells the first number behind them.
+// Compares the chains on the calls of the numbers below the last beginning, and tells the first number behind them.
 fn push_pieces(
     alloc: Global,
     pieces: &mut Vec<Piece>,
@@ -82,7 +82,7 @@ fn push_pieces(
     Ok(first)
 }
 
-/// Compares the chains on the calls of some numbers, behind the others.
+// Compares the chains on the calls of some numbers, behind the others.
 fn push_piece(
     alloc: Global,
     pieces: &mut Vec<Piece>,
@@ -108,7 +108,7 @@ fn push_piece(
     push(pieces, architecture, piece)
 }
 
-/// Adds a piece behind the others, or to the last one where both say one thing.
+// Adds a piece behind the others, or to the last one where both say one thing.
 fn push(pieces: &mut Vec<Piece>, architecture: Architecture, piece: Piece) -> Result<(), AllocError>
     requires range { piece.numbers.first ≤ piece.numbers.last }
     ensures compared { OnOk result ((relation : Relation) (old new : List (List Insn)) (from : ℕ)
@@ -131,7 +131,7 @@ fn push(pieces: &mut Vec<Piece>, architecture: Architecture, piece: Piece) -> Re
     Ok(())
 }
 
-/// Adds both.
+// Adds both.
 fn push_both(pieces: &mut Vec<Piece>, last: Piece, piece: Piece) -> Result<(), AllocError>
     ensures added { OnOk result (pieces.new.items ≡ (pieces.old.items ++ last ∷ []) ++ piece ∷ []) }
 {
@@ -140,7 +140,7 @@ fn push_both(pieces: &mut Vec<Piece>, last: Piece, piece: Piece) -> Result<(), A
     Ok(())
 }
 
-/// Adds one with the numbers of both, which says what the first one says.
+// Adds one with the numbers of both, which says what the first one says.
 fn push_joined(pieces: &mut Vec<Piece>, last: Piece, piece: Piece) -> Result<(), AllocError>
     ensures added { OnOk result (pieces.new.items ≡ pieces.old.items
         ++ record { numbers = record { first = last.numbers.first; last = piece.numbers.last }; parts = last.parts } ∷ []) }
@@ -155,7 +155,7 @@ fn push_joined(pieces: &mut Vec<Piece>, last: Piece, piece: Piece) -> Result<(),
     Ok(())
 }
 
-/// Whether two pieces say one thing of numbers without a name.
+// Whether two pieces say one thing of numbers without a name.
 fn are_one(architecture: Architecture, one: &Piece, other: &Piece) -> bool
     ensures one { IsTrue result → ArePartsOfOne one.now.parts.items other.now.parts.items }
     ensures unnamed { IsTrue result → (IsNamed architecture one.now.numbers → ⊥) × (IsNamed architecture other.now.numbers → ⊥) }
@@ -171,7 +171,7 @@ fn is_named(architecture: Architecture, numbers: Numbers) -> bool
     numbers.first == numbers.last && name(architecture, numbers.first).is_some()
 }
 
-/// Whether each is one part of all calls, with the same verdicts, or none.
+// Whether each is one part of all calls, with the same verdicts, or none.
 fn say_the_same(parts: &[Part], others: &[Part]) -> bool
     ensures one { IsTrue result → ArePartsOfOne parts.now others.now }
 {
@@ -190,8 +190,8 @@ fn is_every(calls: &Calls) -> bool
     matches!(calls, Calls::Every)
 }
 
-/// The numbers at which the tests of either chain can change their answers, and those round each number with a name, in
-/// rising order. They decide in which pieces the numbers are told, and never what is found of them.
+// The numbers at which the tests of either chain can change their answers, and those round each number with a name, in
+// rising order. They decide in which pieces the numbers are told, and never what is found of them.
 fn beginnings(
     alloc: Global,
     architecture: Architecture,

@@ -43,7 +43,7 @@ pub fn shown_among(
     None
 }
 
-/// Whether the chains answer a call so.
+// Whether the chains answer a call so.
 fn runs_so(chains: Comparing<'_>, pair: Verdicts, call: &Record) -> bool
     ensures runs { IsTrue result → HasVerdicts chains.entry.old.now chains.entry.new.now pair call.now }
 {

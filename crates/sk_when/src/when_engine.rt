@@ -29,7 +29,7 @@ pub fn when(
     when_text(alloc, architecture, &rows)
 }
 
-/// The rows of the chain's survey with their lines.
+// The rows of the chain's survey with their lines.
 fn told_rows(
     alloc: Global,
     architecture: Architecture,

@@ -33,7 +33,7 @@ fn default_actions_end_all_but_process_1(rt: HostRuntime) -> Result<(), Fail> {
     Ok(())
 }
 
-/// A handler ends the call that the process waits in.
+// A handler ends the call that the process waits in.
 #[test]
 fn handler_interrupts_a_wait(rt: HostRuntime) -> Result<(), Fail> {
     let mut store: ListStore = after_forks(&rt, &[INIT, 2])?;
@@ -55,7 +55,7 @@ fn handler_interrupts_a_wait(rt: HostRuntime) -> Result<(), Fail> {
     Ok(())
 }
 
-/// Sixteen handlers run inside one another. For one more there is no room: SIGSEGV, 11.
+// Sixteen handlers run inside one another. For one more there is no room: SIGSEGV, 11.
 #[test]
 fn seventeenth_handler_ends_the_process(rt: HostRuntime) -> Result<(), Fail> {
     let mut store: ListStore = after_forks(&rt, &[INIT])?;
@@ -74,7 +74,7 @@ fn seventeenth_handler_ends_the_process(rt: HostRuntime) -> Result<(), Fail> {
     Ok(())
 }
 
-/// Group 1 is orphaned. Group 3, of a child of 2 in the same session, is not.
+// Group 1 is orphaned. Group 3, of a child of 2 in the same session, is not.
 #[test]
 fn terminal_stops_nobody_in_an_orphaned_group(rt: HostRuntime) -> Result<(), Fail> {
     let mut store: ListStore = after_forks(&rt, &[INIT, 2])?;

@@ -10,7 +10,7 @@ use sk_world::{Creds, Errno};
 use std::process::Abort;
 use std::test::Fail;
 
-/// Makes these calls of kill: each is its caller, whose ids are given, its two arguments, and what it comes to.
+// Makes these calls of kill: each is its caller, whose ids are given, its two arguments, and what it comes to.
 fn come_to(
     rt: &impl Abort,
     store: &mut ListStore,
@@ -25,7 +25,7 @@ fn come_to(
     }
 }
 
-/// 2 is a child of process 1, in its group and session. SIGTERM is 15, SIGCONT 18, SIGKILL 9.
+// 2 is a child of process 1, in its group and session. SIGTERM is 15, SIGCONT 18, SIGKILL 9.
 #[test]
 fn errors_of_kill_come_in_this_order(rt: HostRuntime) -> Result<(), Fail> {
     let mut store: ListStore = after_forks(&rt, &[INIT])?;
@@ -59,7 +59,7 @@ fn all_are_neither_process_1_nor_the_caller(rt: HostRuntime) -> Result<(), Fail>
     Ok(())
 }
 
-/// 1 and 2 are in group 1, 3 in a group of its own. A zombie is there, and gets no signal.
+// 1 and 2 are in group 1, 3 in a group of its own. A zombie is there, and gets no signal.
 #[test]
 fn groups_are_meant_by_0_and_by_their_negated_numbers(rt: HostRuntime) -> Result<(), Fail> {
     let mut store: ListStore = after_forks(&rt, &[INIT, INIT])?;

@@ -11,7 +11,7 @@ use sk_table::{INIT, ListStore, ProcStore, Request, WaitOptions, Waiting, Who};
 use std::process::Abort;
 use std::test::Fail;
 
-/// Makes these calls of wait4 by process 1: each is its argument and its options, and what it comes to.
+// Makes these calls of wait4 by process 1: each is its argument and its options, and what it comes to.
 fn come_to(rt: &impl Abort, store: &mut ListStore, rows: &[(i32, u32, Outcome)])
     requires { IsWorld store.old }
     ensures { IsWorld store.new }
@@ -22,7 +22,7 @@ fn come_to(rt: &impl Abort, store: &mut ListStore, rows: &[(i32, u32, Outcome)])
     }
 }
 
-/// WNOHANG is 1, WUNTRACED 2 and WCONTINUED 8. EINVAL is 22, ESRCH 3 and ECHILD 10.
+// WNOHANG is 1, WUNTRACED 2 and WCONTINUED 8. EINVAL is 22, ESRCH 3 and ECHILD 10.
 #[test]
 fn rows_of_wait4(rt: HostRuntime) -> Result<(), Fail> {
     let mut store = opening::<ListStore>(rt.alloc())?;

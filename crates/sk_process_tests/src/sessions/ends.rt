@@ -9,7 +9,7 @@ use sk_table::{INIT, Life, ListStore, Note};
 use std::process::Abort;
 use std::test::Fail;
 
-/// A shell, 2, leads a session and group 2, and has two jobs: 3 in group 3, and 4 in group 4.
+// A shell, 2, leads a session and group 2, and has two jobs: 3 in group 3, and 4 in group 4.
 #[test]
 fn stopped_job_of_a_shell_that_ends_is_hung_up(rt: HostRuntime) -> Result<(), Fail> {
     let mut store: ListStore = after_forks(&rt, &[INIT])?;
@@ -47,7 +47,7 @@ fn stopped_job_is_hung_up(rt: &impl Abort, store: &mut ListStore)
     );
 }
 
-/// Group 1 is orphaned all along, so its stopped processes stay so.
+// Group 1 is orphaned all along, so its stopped processes stay so.
 #[test]
 fn group_that_was_orphaned_before_is_left(rt: HostRuntime) -> Result<(), Fail> {
     let mut store: ListStore = after_forks(&rt, &[INIT, 2])?;
@@ -60,8 +60,8 @@ fn group_that_was_orphaned_before_is_left(rt: HostRuntime) -> Result<(), Fail> {
     Ok(())
 }
 
-/// The leader of group 2 ties it to the session of process 1. Its end leaves a stopped process of the group alone in
-/// it, which the parent in the group does not tie.
+// The leader of group 2 ties it to the session of process 1. Its end leaves a stopped process of the group alone in
+// it, which the parent in the group does not tie.
 #[test]
 fn member_that_ends_orphans_its_own_group(rt: HostRuntime) -> Result<(), Fail> {
     let mut store: ListStore = after_forks(&rt, &[INIT])?;

@@ -8,7 +8,7 @@ use sk_world::Errno;
 use std::process::Abort;
 use std::test::Fail;
 
-/// Makes these calls of setpgid: each is its caller, its two arguments, and what it comes to.
+// Makes these calls of setpgid: each is its caller, its two arguments, and what it comes to.
 fn come_to(rt: &impl Abort, store: &mut ListStore, rows: &[(u32, i32, i32, Result<u32, Errno>)])
     requires { IsWorld store.old }
     ensures { IsWorld store.new }
@@ -38,7 +38,7 @@ fn groups_are_set_as_the_manual_says(rt: HostRuntime) -> Result<(), Fail> {
     Ok(())
 }
 
-/// The child is 3.
+// The child is 3.
 fn child_of_the_same_session_is_moved(rt: &impl Abort, store: &mut ListStore)
     requires { IsWorld store.old }
 {

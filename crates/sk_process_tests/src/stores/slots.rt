@@ -8,7 +8,7 @@ use std::alloc::AllocError;
 use std::process::Abort;
 use std::test::Fail;
 
-/// Process 1, and two children of it in its group, which were put in in this order: 9 and 5.
+// Process 1, and two children of it in its group, which were put in in this order: 9 and 5.
 fn with_two_children<R: Abort + AllocGlobal>(rt: &R) -> Result<SlotStore, AllocError> {
     let mut store = SlotStore::new(rt.alloc())?;
     for pid in [9, 5] {
@@ -39,14 +39,14 @@ fn slot_of_a_process_that_went_is_used_again(rt: HostRuntime) -> Result<(), Fail
     Ok(())
 }
 
-/// Each is a process, and itself beside each of its children.
+// Each is a process, and itself beside each of its children.
 fn assert_children(rt: &impl Abort, store: &SlotStore, rows: &[(u32, &[(u32, u32)])]) {
     for (parent, children) in rows {
         assert!(rt; store.children(*parent) == *children);
     }
 }
 
-/// Each is a group, and itself beside each of its members.
+// Each is a group, and itself beside each of its members.
 fn assert_members(rt: &impl Abort, store: &SlotStore, rows: &[(u32, &[(u32, u32)])]) {
     for (group, members) in rows {
         assert!(rt; store.members(*group) == *members);
@@ -75,7 +75,7 @@ fn children_and_members_are_lent_in_rising_order(rt: HostRuntime) -> Result<(), 
     Ok(())
 }
 
-/// Forks process 1 until there is no room. The children's pids begin with this one.
+// Forks process 1 until there is no room. The children's pids begin with this one.
 fn fill(rt: &impl Abort, store: &mut SlotStore, first: u32) -> Result<(), AllocError>
     requires { IsWorld store.old.world }
     ensures { IsWorld store.new.world }
@@ -91,7 +91,7 @@ fn fill(rt: &impl Abort, store: &mut SlotStore, first: u32) -> Result<(), AllocE
     Ok(())
 }
 
-/// Ends the children and takes them out.
+// Ends the children and takes them out.
 fn empty(rt: &impl Abort, store: &mut SlotStore, first: u32)
     requires { IsWorld store.old.world }
     ensures { IsWorld store.new.world }
@@ -114,7 +114,7 @@ fn all_slots_are_used_twice(rt: HostRuntime) -> Result<(), Fail> {
     Ok(())
 }
 
-/// Forks process 1, and takes the child out, which has this number.
+// Forks process 1, and takes the child out, which has this number.
 fn come_and_go(rt: &impl Abort, store: &mut SlotStore, number: u32) -> Result<(), AllocError>
     requires { IsWorld store.old.world }
     ensures { IsWorld store.new.world }
@@ -125,7 +125,7 @@ fn come_and_go(rt: &impl Abort, store: &mut SlotStore, number: u32) -> Result<()
     Ok(())
 }
 
-/// So it does until the last number is given. The first child has this one.
+// So it does until the last number is given. The first child has this one.
 fn come_and_go_to_the_last(
     rt: &impl Abort,
     store: &mut SlotStore,
@@ -140,7 +140,7 @@ fn come_and_go_to_the_last(
     Ok(())
 }
 
-/// Process 2 lives on, and process 1 forks until the numbers are all given.
+// Process 2 lives on, and process 1 forks until the numbers are all given.
 #[test]
 fn numbers_come_again_after_32765_forks(rt: HostRuntime) -> Result<(), Fail> {
     let mut store: SlotStore = after_forks(&rt, &[INIT])?;

@@ -39,7 +39,7 @@ pub(crate) fn come_to<R: Abort + AllocGlobal>(
     Ok(())
 }
 
-/// A call of a process that lives.
+// A call of a process that lives.
 fn make_call<R: Abort + AllocGlobal>(
     rt: &R,
     store: &mut ListStore,

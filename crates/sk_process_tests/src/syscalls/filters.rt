@@ -25,8 +25,8 @@ const GET_ACTION_AVAIL: u64 = 2;
 /// The bytes of `ret allow`.
 const ALLOW: [u8; 8] = [0x06, 0, 0, 0, 0, 0, 0xff, 0x7f];
 
-/// The filters of 1 and of 4096 instructions that allow every call, bytes that are no program, and a program that does
-/// not return.
+// The filters of 1 and of 4096 instructions that allow every call, bytes that are no program, and a program that does
+// not return.
 fn declared(rt: &HostRuntime) -> Result<Images, Fail> {
     let alloc = rt.alloc();
     let mut declared = nothing_declared(alloc);
@@ -71,7 +71,7 @@ fn errors_of_attaching_come_in_order(rt: HostRuntime) -> Result<(), Fail> {
     Ok(())
 }
 
-/// Seven filters of 4096 instructions count 28700, and with an eighth there are 32796.
+// Seven filters of 4096 instructions count 28700, and with an eighth there are 32796.
 #[test]
 fn filters_are_attached_up_to_the_path_limit(rt: HostRuntime) -> Result<(), Fail> {
     let mut store = opening::<ListStore>(rt.alloc())?;

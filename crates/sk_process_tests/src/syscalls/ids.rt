@@ -45,7 +45,7 @@ fn ids_are_set_and_told(rt: HostRuntime) -> Result<(), Fail> {
     come_to(&rt, &mut store, &declared, &rows)
 }
 
-/// The first program is set-user-ID and another user's, the second one the superuser's.
+// The first program is set-user-ID and another user's, the second one the superuser's.
 fn programs(rt: &HostRuntime) -> Result<Images, Fail> {
     let mut declared = nothing_declared(rt.alloc());
     for owner in [5, 0] {

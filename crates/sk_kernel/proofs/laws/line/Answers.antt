@@ -4,7 +4,7 @@ use Rattle.sk_machine.specs.declared.event.Event.{Event}
 use Rattle.sk_machine.specs.declared.event.Event.TheVariants.{Call}
 use Rattle.sk_machine.specs.Lineages.{Lineage, calls_added, lineage_before, with_calls, lineage_of, history_of}
 use Rattle.sk_kernel.proofs.Backwards.{lineage_back}
-use Rattle.sk_kernel.proofs.laws.lineage_of.Goals as goal
+use Rattle.sk_kernel.proofs.laws.line.Goals as goal
 use lib.ListN.{get_or}
 
 pub loop-left-preserved : goal.loop-left-preserved

@@ -1,7 +1,7 @@
 use Rattle.std.proofs.Common.{◌≡◌, ◌≤◌, length, reverse}
 use Rattle.std.specs.Prelude.{take}
 use Rattle.sk_machine.specs.Lineages.{lineage_of, with_calls, history_of}
-use Rattle.sk_kernel.proofs.laws.lineage_of.Given as goal
+use Rattle.sk_kernel.proofs.laws.line.Given as goal
 
 abbrev pub invariant-loop-left : goal.invariant-loop-left
 invariant-loop-left l = record {
