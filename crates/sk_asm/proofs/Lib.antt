@@ -7,6 +7,8 @@ pub mod Marks
 pub mod Meaning
 pub mod OneFault
 pub mod Relation
+pub mod Steps
+pub mod FirstLines
 pub mod Turns
 pub mod Words
 pub mod Numerals

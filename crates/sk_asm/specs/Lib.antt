@@ -10,5 +10,6 @@ pub mod Passes
 pub mod Seeing
 pub mod Views
 pub mod Listing
+pub mod NextLine
 pub mod RoundTrip
 pub mod WorkedLines

@@ -1,5 +1,5 @@
 //! What is found in the lines: labels with their places, and instructions.
-ghost use Rattle.std.specs.Prelude.{◌≡◌, [], MatchResult, Ok, Some};
+ghost use Rattle.std.specs.Prelude.{◌≡◌, [], length, MatchResult, Ok, Some};
 ghost use Rattle.std.specs.Option.{option_map};
 ghost use Rattle.sk_asm.specs.Drafts.{Takes, IsUntaken};
 ghost use Rattle.sk_asm.specs.Faults.{Answers, IsAsmFault};
@@ -47,6 +47,14 @@ impl<'a> Found<'a> {
         }
     }
 
+    // The place of the next instruction.
+    #[inline(always)]
+    pub(crate) fn next_place(&self) -> usize
+        ensures place { result ≡ length self.now.insns.items }
+    {
+        self.insns.len()
+    }
+
     // Takes line `n`, where the next instruction has a place, and gives the place of the one after it.
     #[inline(always)]
     pub(crate) fn take(&mut self, n: usize, at: usize, begun: Begun<'a>) -> Result<usize, AsmFault>
@@ -88,7 +96,12 @@ impl<'a> Found<'a> {
 
     #[inline(always)]
     #[tactic(auto, unfolding(crate::specs::Passes::noted))]
-    fn push(&mut self, n: usize, at: usize, given: Option<Insn>) -> Result<usize, AsmFault>
+    pub(crate) fn push(
+        &mut self,
+        n: usize,
+        at: usize,
+        given: Option<Insn>,
+    ) -> Result<usize, AsmFault>
         ensures taken { MatchResult result
             (λ next. Takes n at (option_map Plain given) (seen self.old) (seen self.new) next)
             (λ fault. IsUntaken n at (option_map Plain given) (seen self.old) fault) }

@@ -14,6 +14,7 @@ mod parse;
 mod passes;
 mod printable;
 mod shape;
+mod short;
 mod statement;
 mod value;
 

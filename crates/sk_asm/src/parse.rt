@@ -133,7 +133,7 @@ pub(crate) fn parse_index_comparison<'a>(code: u16, words: Words<'a>) -> Option<
     branch(code, 0, jt, jf)
 }
 
-fn plain(code: u16, k: u32) -> Insn
+pub(crate) fn plain(code: u16, k: u32) -> Insn
     ensures exact { result ≡ insn code 0 0 k }
 {
     Insn {

@@ -1,5 +1,5 @@
 //! The two passes: one over the lines, for their labels and instructions, and one over the instructions, for their jumps.
-ghost use Rattle.std.specs.Prelude.{Err, ◌≡◌, ◌≢◌, ◌+◌, ◌-◌, ◌≤◌, ◌<◌, ◌^◌, length, drop, IfOk, IfErr, List, [], Some};
+ghost use Rattle.std.specs.Prelude.{Err, ◌≡◌, ◌≢◌, ◌+◌, ◌-◌, ◌≤◌, ◌<◌, ◌^◌, length, drop, IfOk, IfErr, MatchResult, List, [], Some};
 ghost use Rattle.sk_asm.specs.Assembly.{Assembles, AssemblesText, Finds};
 ghost use Rattle.sk_asm.specs.Block.{lines_in, until_end};
 ghost use Rattle.sk_insn.specs.declared.insn.Insn.{Insn};
@@ -7,7 +7,10 @@ ghost use Rattle.sk_asm.specs.Faults.{Answers};
 ghost use Rattle.sk_asm.specs.LineFaults.{IsFirstFault, IsFirstTextFault};
 ghost use Rattle.sk_asm.specs.Labels.{Labels as Places, label_place};
 ghost use Rattle.sk_asm.specs.Passes.{labelled, landed, distance, resolved, emitted, assembled, assembled_lines};
+ghost use Rattle.sk_asm.specs.Clean.{AreClean};
 ghost use Rattle.sk_asm.specs.Drafts.{AreAmong, completed};
+ghost use Rattle.sk_asm.specs.NextLine.{MayTake, RefusesLine};
+ghost use Rattle.sk_asm.specs.Seeing.{seen};
 ghost use Rattle.sk_asm.specs.Views.{destination_to, statement, labels_in, jumps_in};
 ghost use Rattle.sk_text.specs.Lines.{lines_of};
 
@@ -16,7 +19,8 @@ use crate::distance::Distance;
 use crate::fault::AsmFault;
 use crate::found::{Found, Labels};
 use crate::parse::check_line;
-use crate::printable::clean_bytes;
+use crate::printable::clean_ahead;
+use crate::short::short_insn;
 use crate::statement::{Jump, Pending};
 use sk_insn::Insn;
 use sk_text::{Lines, MOST_BYTES};
@@ -99,6 +103,7 @@ struct FoundBlock<'a> {
     rest: &'a [u8],
 }
 
+#[tactic(auto, using(crate::proofs::Clean::clean_nowhere))]
 fn find<'a>(
     alloc: Global,
     before: usize,
@@ -115,20 +120,49 @@ fn find<'a>(
 {
     let mut lines = Lines(text);
     let mut found = Found::new(alloc);
-    let mut clean = clean_bytes(text, is_block);
-    let mut at = 0;
+    let mut clean = 0;
     let mut n = before;
-    while let Some(line) = next_line(&mut lines, is_block) {
+    while take_line(&mut found, n, &mut lines, &mut clean, is_block)? {
         n += 1;
-        let begun = check_line(n, line, line.len() <= clean)?;
-        clean = clean.saturating_sub(line.len() + 1);
-        at = found.take(n, at, begun)?;
     }
     Ok(FoundBlock {
         found,
         count: n - before,
         rest: lines.0,
     })
+}
+
+// Takes the next line, if there is one. Before it stand `n`, and so many bytes of the lines that are left are clean.
+#[inline(always)]
+fn take_line<'a>(
+    found: &mut Found<'a>,
+    n: usize,
+    lines: &mut Lines<'a>,
+    clean: &mut usize,
+    is_block: bool,
+) -> Result<bool, AsmFault>
+    requires numbers { n + length (lines_in is_block lines.now.0.now) < 2 ^ 64 }
+    requires clean { AreClean clean.now (lines_in is_block lines.now.0.now) }
+    ensures takes { MatchResult result
+        (λ is_taken. MayTake is_taken is_block (n + 1) lines.old.0.now lines.new.0.now (seen found.old) (seen found.new))
+        (λ fault. RefusesLine is_block (n + 1) lines.old.0.now (seen found.old) fault) }
+    ensures clean { IfOk result (λ _. AreClean clean.new (lines_in is_block lines.new.0.now)) }
+{
+    let at = found.next_place();
+    if let Some(short) = short_insn(lines.0) {
+        *clean = clean.saturating_sub(lines.0.len() - short.rest.len());
+        lines.0 = short.rest;
+        found.push(n + 1, at, Some(short.insn))?;
+        return Ok(true);
+    }
+    *clean = clean_ahead(*clean, lines.0, is_block);
+    let Some(line) = next_line(lines, is_block) else {
+        return Ok(false);
+    };
+    let begun = check_line(n + 1, line, line.len() <= *clean)?;
+    *clean = clean.saturating_sub(line.len() + 1);
+    found.take(n + 1, at, begun)?;
+    Ok(true)
 }
 
 // The instructions, with the distances of these jumps.

@@ -1,4 +1,6 @@
 -- No number and no name stands in the table twice: each call is found by its own, and no other.
+use Rattle.std.proofs.lemmas.Slice.Eq.{bytes_eq-Decides}
+use Rattle.std.specs.Str.{bytes_eq}
 use Rattle.std.proofs.Common.{◌≡◌, ◌∙◌, ℕ, ◌==◌, ap, sym, refl, Bool, true, List, [], ◌∷◌, Some}
 use Rattle.std.specs.Prelude.{find}
 use Rattle.std.specs.Option.{is_some, option_map_or}
@@ -75,3 +77,7 @@ found_passes p (y ∷ xs) x found =
 -- a number for which a call is found is the call's own
 pub number_of-syscall_of : (nr : ℕ) (call : Syscall) → syscall_of nr ≡ Some call → nr ≡ number_of call
 number_of-syscall_of nr call found = eqb-true nr (number_of call) (found_passes (λ c. nr == number_of c) syscalls call found)
+
+-- a name for which a call is found is the call's own
+pub name_of-syscall_named : (name : List ℕ) (call : Syscall) → syscall_named name ≡ Some call → name_of call ≡ name
+name_of-syscall_named name call found = (bytes_eq-Decides (name_of call) name).0 (found_passes (λ c. bytes_eq (name_of c) name) syscalls call found)

@@ -1,9 +1,9 @@
 //! Each public function at words and texts whose answers the grammar gives.
 use sk_text::{
-    HexDigits, HexFault, Line, Lines, Words, bytes_of, bytes_of_text, cut, four_words, hex_half,
-    hex_word, is_clean, is_name, is_number, is_passed_over, is_printable, is_same, next_decimal,
-    no_word, number_up_to, one_word, push_digit, push_long, push_number, push_signed, three_words,
-    two_words,
+    Behind, HexDigits, HexFault, Line, Lines, Words, bytes_of, bytes_of_text, cut, four_words,
+    hex_half, hex_word, is_clean, is_name, is_number, is_passed_over, is_printable, is_same,
+    name_ahead, no_word, number_ahead, number_up_to, one_word, push_digit, push_long, push_number,
+    push_signed, three_words, two_words, word_ahead,
 };
 use std::test::Fail;
 
@@ -96,21 +96,80 @@ fn reads_numbers(rt: HostRuntime) {
     }
 }
 
+// Whether the line goes on, and the text behind.
+fn parted(behind: Behind<'_>) -> (bool, &[u8]) {
+    match behind {
+        Behind::Words(rest) => (true, rest),
+        Behind::Lines(rest) => (false, rest),
+    }
+}
+
 #[test]
-fn takes_decimal_words(rt: HostRuntime) {
-    for (text, number, rest) in [
-        (b"10 20".as_slice(), Some(10), b"20".as_slice()),
-        (b"007", Some(7), b""),
-        (b"9999999999999999999", Some(9_999_999_999_999_999_999), b""),
-        (b"10000000000000000000", None, b"10000000000000000000"),
-        (b"1a 2", None, b"1a 2"),
-        (b"0x1", None, b"0x1"),
-        (b" 1", None, b" 1"),
-        (b"", None, b""),
+fn reads_the_word_ahead(rt: HostRuntime) {
+    for (text, word, goes_on, rest) in [
+        (
+            b"kill 1\nend".as_slice(),
+            b"kill".as_slice(),
+            true,
+            b"1\nend".as_slice(),
+        ),
+        (b"end\nfilter", b"end", false, b"filter"),
+        (b"end", b"end", false, b""),
+        (b"end ", b"end", true, b""),
+        (b"a\tb c", b"a\tb", true, b"c"),
+        (b" a", b"", true, b"a"),
+        (b"\na", b"", false, b"a"),
+        (b"", b"", false, b""),
     ] {
-        let mut words = Words(text);
-        assert_eq!(rt; next_decimal(&mut words), number);
-        assert_eq!(rt; words.0, rest);
+        let ahead = word_ahead(text);
+        assert_eq!(rt; ahead.word, word);
+        assert_eq!(rt; parted(ahead.behind), (goes_on, rest));
+    }
+}
+
+#[test]
+fn reads_the_name_ahead(rt: HostRuntime) {
+    for (text, word) in [
+        (b"a\nend".as_slice(), Some(b"a".as_slice())),
+        (b"z09_- b", Some(b"z09_-")),
+        (
+            b"abcdefghijklmnopqrstuvwxyz012345",
+            Some(b"abcdefghijklmnopqrstuvwxyz012345"),
+        ),
+        (b"abcdefghijklmnopqrstuvwxyz0123456", None),
+        (b"9a", None),
+        (b"a.b", None),
+        (b" a", None),
+        (b"", None),
+    ] {
+        assert_eq!(rt; name_ahead(text).map(|ahead| ahead.word), word);
+    }
+}
+
+#[test]
+fn reads_the_number_ahead(rt: HostRuntime) {
+    for (text, number, goes_on, rest) in [
+        (b"10 20".as_slice(), 10, true, b"20".as_slice()),
+        (b"007\n8", 7, false, b"8"),
+        (
+            b"9999999999999999999",
+            9_999_999_999_999_999_999,
+            false,
+            b"",
+        ),
+    ] {
+        let found = number_ahead(text);
+        assert_eq!(rt; found.map(|it| it.0), Some(number));
+        assert_eq!(rt; found.map(|it| parted(it.1.behind)), Some((goes_on, rest)));
+    }
+    for text in [
+        b"10000000000000000000".as_slice(),
+        b"1a 2",
+        b"0x1",
+        b" 1",
+        b"",
+    ] {
+        assert!(rt; number_ahead(text).is_none());
     }
 }
 

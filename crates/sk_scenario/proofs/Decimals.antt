@@ -1,5 +1,5 @@
 -- A word of decimal digits is an argument.
-use Rattle.std.proofs.Common.{◌≡◌, ◌≤◌, ◌^◌, ◌-◌, ◌∷◌, ◌++◌, ◌∙◌, sym, subst, refl, ℕ, List, Some, codes, drop, length, nat_eq, true, false, IsTrue, inl, inr}
+use Rattle.std.proofs.Common.{◌≡◌, ◌≤◌, ◌^◌, ◌-◌, ◌++◌, ◌∙◌, sym, subst, refl, ℕ, List, Some, codes, drop, length, nat_eq, true, false, IsTrue, inl, inr}
 use Rattle.std.proofs.lemmas.Bool.{cases_Bool, false≢true, eq-eqb, eqb-true, le-leb}
 use Rattle.std.proofs.lemmas.Slice.Eq.{starts_is}
 use Rattle.std.specs.List.{list_all, starts_with}

@@ -9,6 +9,7 @@ pub mod Least
 pub mod Parts
 pub mod Relation
 pub mod States
+pub mod OnePass
 pub mod Steps
 pub mod Told
 pub mod Whole
@@ -17,7 +18,6 @@ pub mod Clean
 pub mod Coding
 pub mod Ends
 pub mod Entries
-pub mod Forks
 pub mod Found
 pub mod Idle
 pub mod Once

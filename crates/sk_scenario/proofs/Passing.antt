@@ -1,5 +1,5 @@
 -- Lines of code that are passed over together.
-use Rattle.std.proofs.Common.{◌≡◌, ◌<◌, ◌≤◌, ◌+◌, ◌-◌, ◌∙◌, ap, arith, refl, sym, subst, suc, zero, ℕ, List, [], ◌∷◌, Option, Result, Ok, Err, false, true, IsTrue, length, drop, inl, inr}
+use Rattle.std.proofs.Common.{◌≡◌, ◌≤◌, ◌+◌, ◌∙◌, ap, arith, refl, sym, subst, suc, zero, ℕ, List, [], ◌∷◌, Option, Result, Ok, false, IsTrue, length, drop, inl, inr}
 use Rattle.std.proofs.lemmas.Bool.{cases_Bool, and_parts}
 use Rattle.std.specs.List.{list_all}
 use Rattle.sk_asm.specs.Block.{is_end, until_end}

@@ -1,3 +1,4 @@
 pub mod ScenarioCode
 pub mod Script
 pub mod Kept
+pub mod OnePass

@@ -5,6 +5,7 @@ ghost use Rattle.sk_calls.specs.Syscalls.{syscall_named};
 use sk_calls::Syscall;
 
 // The call with this name, if the kernel has it.
+#[inline(always)]
 pub(crate) fn call_named(name: &[u8]) -> Option<Syscall>
     ensures call { result ≡ syscall_named name.now }
 {

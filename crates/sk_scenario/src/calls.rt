@@ -1,40 +1,34 @@
 //! Lines in a program's block.
-ghost use Rattle.std.specs.Prelude.{◌≡◌, ◌<◌, ◌≤◌, ℕ, [], ◌∷◌, ◌++◌, length, Bool, IsTrue, MatchResult, OnOk, OnErr, Some, Err};
-ghost use Rattle.std.specs.Option.{option_map};
+ghost use Rattle.std.specs.Prelude.{◌≡◌, ◌<◌, ◌≤◌, ℕ, [], Bool, IsTrue, MatchResult, Some, Err};
 ghost use Rattle.std.specs.List.{list_all};
-ghost use Rattle.sk_text.specs.Lines.{is_printable_byte, words_of};
+ghost use Rattle.sk_text.specs.Lines.{is_printable_byte};
 ghost use Rattle.sk_scenario.specs.Grammar.{asked_of};
 ghost use Rattle.sk_scenario.specs.Scenario.{call_of};
-ghost use Rattle.sk_scenario.specs.Reading.{checked, understood, resolved, called};
+ghost use Rattle.sk_scenario.specs.Reading.{checked, resolved, called};
 ghost use Rattle.sk_scenario.specs.declared.text_fault.TextFault.TheVariants.{Limit};
 ghost use Rattle.sk_scenario.specs.Answers.{Answers, Judges};
 ghost use Rattle.sk_scenario.specs.views.Script.{call_with};
-ghost use Rattle.sk_scenario.specs.views.ScenarioCode.{few_seen, few_made, call_seen, fork_seen, more_seen, line_seen, added, names_seen, known_seen, script_with};
+ghost use Rattle.sk_scenario.specs.views.ScenarioCode.{call_seen, fork_seen, line_seen, names_seen, known_seen, script_with};
 
+use crate::directory::Directory;
 use crate::fault::ScenarioFault;
-use crate::line::{Argument, Arguments, ProgramLine};
-use crate::parse::{arguments, child_alone, program_line};
-use crate::state::Names;
+use crate::line::{Arguments, ProgramLine};
+use crate::parse::program_line;
 use crate::top::check_line;
 use crate::values::{argument_value, child_of};
 use crate::{Calls, ScriptCall, TextFault};
 use sk_calls::{Call, Syscall};
-use sk_text::Words;
 use std::alloc::AllocError;
 
 // The most calls that a program may have.
 const MOST_CALLS: usize = 1000;
 
 // What line `n` says in a program's block.
-#[inline(always)]
 #[tactic(auto, unfolding(crate::specs::Reading::checked))]
 pub(crate) fn read_call(n: usize, line: &[u8], is_clean: bool) -> Result<ProgramLine<'_>, TextFault>
     requires clean { IsTrue is_clean → IsTrue (list_all is_printable_byte line.now) }
-    ensures exact { MatchResult result (λ said. checked asked_of n line.now ≡ understood n (line_seen said)) (λ why. checked asked_of n line.now ≡ Err why) }
+    ensures exact { MatchResult result (λ said. checked asked_of n line.now ≡ Ok (line_seen said)) (λ why. checked asked_of n line.now ≡ Err why) }
 {
-    if let Some(child) = child_alone(line) {
-        return Ok(ProgramLine::Fork(Some(child)));
-    }
     check_line(n, line, is_clean)?;
     match program_line(line) {
         Some(said) => Ok(said),
@@ -43,8 +37,8 @@ pub(crate) fn read_call(n: usize, line: &[u8], is_clean: bool) -> Result<Program
 }
 
 #[tactic(auto, unfolding(crate::specs::Scenario::call_of))]
-fn call_of(names: &Names<'_>, nr: u32, arguments: Arguments<'_>) -> Option<ScriptCall>
-    ensures exact { result ≡ call_of (names_seen names.now) (call_seen nr arguments.entry) }
+fn call_of(names: &Directory<'_>, nr: u32, arguments: Arguments<'_>) -> Option<ScriptCall>
+    ensures exact { result ≡ call_of (names_seen names.now.names) (call_seen nr arguments.entry) }
 {
     let a = argument_value(names, arguments.a)?;
     let b = argument_value(names, arguments.b)?;
@@ -61,25 +55,6 @@ fn call_of(names: &Names<'_>, nr: u32, arguments: Arguments<'_>) -> Option<Scrip
     })
 }
 
-// A call that names two arguments at most.
-#[derive(Clone, Copy)]
-pub(crate) struct FewCall {
-    nr: u32,
-    a: u64,
-    b: u64,
-}
-
-// The same of a call that names two arguments at most.
-#[inline(always)]
-#[tactic(auto, unfolding(crate::specs::Scenario::call_of))]
-fn few_call_of(names: &Names<'_>, nr: u32, a: Argument<'_>, b: Argument<'_>) -> Option<FewCall>
-    ensures exact { option_map few_made result ≡ call_of (names_seen names.now) (few_seen nr a.entry b.entry) }
-{
-    let a = argument_value(names, a)?;
-    let b = argument_value(names, b)?;
-    Some(FewCall { nr, a, b })
-}
-
 // Any call, for a line whose names are not known yet.
 const ANY: ScriptCall = ScriptCall {
     call: Call {
@@ -92,7 +67,7 @@ const ANY: ScriptCall = ScriptCall {
 // The call that line `n` asks for.
 #[tactic(auto, unfolding(crate::specs::Reading::resolved))]
 fn resolve(
-    known: Option<&Names<'_>>,
+    known: Option<&Directory<'_>>,
     n: usize,
     nr: u32,
     arguments: Arguments<'_>,
@@ -108,32 +83,10 @@ fn resolve(
     }
 }
 
-// The call that line `n` asks for, which names two arguments at most.
-#[inline(always)]
-#[tactic(auto, unfolding(crate::specs::Reading::resolved))]
-fn resolve_few(
-    known: Option<&Names<'_>>,
-    n: usize,
-    nr: u32,
-    a: Argument<'_>,
-    b: Argument<'_>,
-) -> Result<FewCall, TextFault>
-    ensures exact { Judges few_made result (resolved (known_seen known.entry) n (few_seen nr a.entry b.entry)) }
-{
-    match known {
-        None => Ok(FewCall { nr: 0, a: 0, b: 0 }),
-        Some(names) => match few_call_of(names, nr, a, b) {
-            Some(made) => Ok(made),
-            None => Err(TextFault::Unresolved { n }),
-        },
-    }
-}
-
 // The number of the fork(2) that line `n` asks for, and the program of its child.
-#[inline(always)]
 #[tactic(auto, unfolding(crate::specs::Reading::resolved, crate::specs::Scenario::call_of))]
 fn resolve_fork(
-    known: Option<&Names<'_>>,
+    known: Option<&Directory<'_>>,
     n: usize,
     child: Option<&[u8]>,
 ) -> Result<(u32, Option<u32>), TextFault>
@@ -148,25 +101,8 @@ fn resolve_fork(
     }
 }
 
-// Puts a call that names two arguments at most behind the others.
-#[inline(always)]
-fn put_few(calls: &mut Calls, made: FewCall) -> Result<(), AllocError>
-    requires few { length calls.old < 1000 }
-    ensures pushed { OnOk result (calls.new ≡ calls.old ++ few_made made ∷ []) }
-    ensures kept { OnErr result (calls.new ≡ calls.old) }
-{
-    let FewCall { nr, a, b } = made;
-    if b != 0 {
-        return calls.put(nr, &[a, b], None);
-    }
-    if a != 0 {
-        return calls.put(nr, &[a], None);
-    }
-    calls.put(nr, &[], None)
-}
-
 // Whether line `n` may ask for a call, behind so many calls.
-fn judge_count(n: usize, count: usize) -> Result<(), TextFault>
+pub(crate) fn judge_count(n: usize, count: usize) -> Result<(), TextFault>
     ensures exact { MatchResult result (λ none. count < 1000) (λ why. (1000 ≤ count) × (why ≡ Limit n)) }
 {
     if count >= MOST_CALLS {
@@ -176,11 +112,10 @@ fn judge_count(n: usize, count: usize) -> Result<(), TextFault>
 }
 
 // Adds the fork(2) that line `n` asks for.
-#[inline(always)]
 #[tactic(auto, unfolding(crate::specs::Reading::called))]
 fn add_fork(
     calls: &mut Calls,
-    known: Option<&Names<'_>>,
+    known: Option<&Directory<'_>>,
     n: usize,
     child: Option<&[u8]>,
 ) -> Result<(), ScenarioFault>
@@ -193,45 +128,18 @@ fn add_fork(
     Ok(())
 }
 
-// Adds the call that line `n` asks for, which names two arguments at most.
-#[inline(always)]
+// Adds another call that line `n` asks for.
 #[tactic(auto, unfolding(crate::specs::Reading::called))]
-fn add_few(
+fn add_other(
     calls: &mut Calls,
-    known: Option<&Names<'_>>,
+    known: Option<&Directory<'_>>,
     n: usize,
     nr: u32,
-    a: Argument<'_>,
-    b: Argument<'_>,
+    arguments: Arguments<'_>,
 ) -> Result<(), ScenarioFault>
     ensures exact { (owner : ℕ) (setuid : Bool) → Answers (λ added. script_with owner setuid calls.new) result
-        (called (known_seen known.entry) n (script_with owner setuid calls.old) (Some (few_seen nr a.entry b.entry))) }
+        (called (known_seen known.entry) n (script_with owner setuid calls.old) (Some (call_seen nr arguments.entry))) }
 {
-    judge_count(n, calls.len())?;
-    let made = resolve_few(known, n, nr, a, b)?;
-    put_few(calls, made)?;
-    Ok(())
-}
-
-// Adds the call that line `n` asks for, which has more words than two for its arguments. It stays a function of its own, as
-// most lines have no need of the room that six arguments take.
-#[inline(never)]
-#[tactic(auto, unfolding(crate::specs::Reading::called))]
-fn add_more(
-    calls: &mut Calls,
-    known: Option<&Names<'_>>,
-    n: usize,
-    nr: u32,
-    a: Argument<'_>,
-    b: Argument<'_>,
-    words: Words<'_>,
-) -> Result<(), ScenarioFault>
-    ensures exact { (owner : ℕ) (setuid : Bool) → Answers (λ added. script_with owner setuid calls.new) result
-        (added (known_seen known.entry) n (script_with owner setuid calls.old) (option_map Some (more_seen nr a.entry b.entry (words_of words.entry.0.now)))) }
-{
-    let Some(arguments) = arguments(a, b, words) else {
-        return Err(ScenarioFault::Line { n });
-    };
     judge_count(n, calls.len())?;
     let made = resolve(known, n, nr, arguments)?;
     calls.push(made)?;
@@ -239,21 +147,19 @@ fn add_more(
 }
 
 // Adds the call that line `n` asks for, if it does.
-#[inline(always)]
 #[tactic(auto, unfolding(crate::specs::Reading::called))]
 pub(crate) fn add_call(
     calls: &mut Calls,
-    known: Option<&Names<'_>>,
+    known: Option<&Directory<'_>>,
     n: usize,
     line: ProgramLine<'_>,
 ) -> Result<(), ScenarioFault>
     ensures exact { (owner : ℕ) (setuid : Bool) → Answers (λ added. script_with owner setuid calls.new) result
-        (added (known_seen known.entry) n (script_with owner setuid calls.old) (line_seen line.entry)) }
+        (called (known_seen known.entry) n (script_with owner setuid calls.old) (line_seen line.entry)) }
 {
     match line {
         ProgramLine::Silent => Ok(()),
         ProgramLine::Fork(child) => add_fork(calls, known, n, child),
-        ProgramLine::Few(nr, a, b) => add_few(calls, known, n, nr, a, b),
-        ProgramLine::More(nr, a, b, others) => add_more(calls, known, n, nr, a, b, Words(others)),
+        ProgramLine::Other(nr, arguments) => add_other(calls, known, n, nr, arguments),
     }
 }

@@ -2,7 +2,7 @@
 ghost use Rattle.std.specs.Prelude.{◌≡◌, ◌∷◌, ◌++◌, [], codes, replicate, Ok, Err};
 ghost use Rattle.sk_scenario.specs.Reading.{scenario_of};
 ghost use Rattle.sk_scenario.specs.Scenario.{IsScenario};
-ghost use Rattle.sk_scenario.specs.laws.WorkedScenarios.{setting_with, script, attaching, attaching_setting, by_number, by_number_setting, arguments, arguments_setting, forks, forks_setting, bytes, bytes_setting, filter_lines, filter_image, cut_behind_getp, cut_behind_getppid, program_with, headings, headings_setting, greatest, greatest_setting, longest, too_long};
+ghost use Rattle.sk_scenario.specs.laws.WorkedScenarios.{setting_with, attaching, attaching_setting, by_number, by_number_setting, arguments, arguments_setting, forks, forks_setting, bytes, bytes_setting, filter_lines, filter_image, cut_behind_getp, cut_behind_getppid, program_with, headings, headings_setting, greatest, greatest_setting, longest, too_long};
 ghost use Rattle.sk_scenario.specs.declared.text_fault.TextFault.TheVariants.{Line, Unresolved, Limit};
 
 /// Short scenarios and what they stand for.

@@ -1,5 +1,5 @@
 //! Lines in a filter's block.
-ghost use Rattle.std.specs.Prelude.{◌≡◌, ◌≢◌, ◌+◌, ◌≤◌, ◌<◌, ◌^◌, [], length, IfOk, IfSome, IsTrue, MatchResult, Ok, Err};
+ghost use Rattle.std.specs.Prelude.{◌≡◌, ◌≢◌, ◌≤◌, ◌<◌, ◌^◌, [], IfOk, IfSome, IsTrue, MatchResult, Ok, Err};
 ghost use Rattle.sk_text.specs.Lines.{lines_of, words_of, is_printable_byte};
 ghost use Rattle.std.specs.List.{list_all};
 ghost use Rattle.sk_asm.specs.Block.{until_end};
@@ -11,8 +11,9 @@ ghost use Rattle.sk_scenario.specs.Answers.{Answers, Judges};
 ghost use Rattle.sk_scenario.specs.views.ScenarioCode.{known_seen, block_seen, IsAssembled};
 
 use crate::TextFault;
+use crate::directory::Directory;
 use crate::fault::ScenarioFault;
-use crate::state::{Assembled, Block, Names};
+use crate::state::{Assembled, Block};
 use crate::top::check_line;
 use sk_asm::{AsmFault, assemble_block};
 use sk_insn::write_insns;
@@ -74,7 +75,7 @@ fn text_fault(fault: AsmFault) -> Result<TextFault, AllocError>
 }
 
 // Passes over a label that is not given, where the names are not known yet.
-fn hold(known: Option<&Names<'_>>, why: TextFault) -> Result<(), TextFault>
+fn hold(known: Option<&Directory<'_>>, why: TextFault) -> Result<(), TextFault>
     ensures exact { MatchResult result
         (λ none. held (known_seen known.entry) why ≡ Ok (Code []))
         (λ other. held (known_seen known.entry) why ≡ Err other) }
@@ -94,7 +95,7 @@ fn hold(known: Option<&Names<'_>>, why: TextFault) -> Result<(), TextFault>
 #[tactic(auto, unfolding(crate::specs::Reading::coded))]
 fn assemble<'a>(
     alloc: Global,
-    known: Option<&Names<'_>>,
+    known: Option<&Directory<'_>>,
     n: usize,
     current: &mut Block,
     ahead: &'a [u8],
@@ -137,7 +138,7 @@ fn begins_bytes(line: &[u8]) -> bool
 #[tactic(auto, unfolding(crate::specs::Reading::decided))]
 pub(crate) fn decide<'a>(
     alloc: Global,
-    known: Option<&Names<'_>>,
+    known: Option<&Directory<'_>>,
     n: usize,
     current: &mut Block,
     line: &[u8],

@@ -4,6 +4,7 @@
 mod call;
 mod call_names;
 mod calls;
+mod directory;
 mod examples;
 mod fault;
 mod filters;
@@ -15,6 +16,7 @@ mod reader;
 mod reading;
 mod scenario;
 mod script;
+mod short;
 mod state;
 mod text_fault;
 mod top;

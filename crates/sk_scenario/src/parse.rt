@@ -1,16 +1,15 @@
 //! Lines as what they say.
-ghost use Rattle.std.specs.Prelude.{◌≡◌, ◌==◌, ◌∷◌, ℕ, drop, Some, None, Ok, IfSome, slice_index};
-ghost use Rattle.std.specs.Option.{option_map, option_map_or};
+ghost use Rattle.std.specs.Prelude.{◌≡◌, ◌==◌, drop, Some, None, slice_index};
+ghost use Rattle.std.specs.Option.{option_map};
 ghost use Rattle.sk_text.specs.Lines.{words_of};
 ghost use Rattle.sk_text.specs.Numbers.{up_to};
-ghost use Rattle.sk_scenario.specs.Grammar.{only_if_name, only_name, setuid_with, setuid_of, owned, program_by, program_of, turns_of, headed, heading_in, heading_of, decimal_of, argument_of, next_argument, arguments_of, asked_with, forked, numbered, asked, asked_in, asked_of};
-ghost use Rattle.sk_scenario.specs.views.ScenarioCode.{heading, argument_seen, arguments_seen, fork_seen, line_seen};
-ghost use Rattle.sk_scenario.specs.Reading.{checked};
+ghost use Rattle.sk_scenario.specs.Grammar.{only_if_name, only_name, setuid_with, setuid_of, owned, program_by, program_of, turns_of, headed, heading_of, decimal_of, argument_of, next_argument, arguments_of, asked_with, forked, numbered, asked, asked_of};
+ghost use Rattle.sk_scenario.specs.views.ScenarioCode.{heading, argument_seen, arguments_seen, line_seen};
 
 use crate::call_names::call_named;
 use crate::line::{Argument, Arguments, ProgramLine, TopLine};
 use sk_calls::Syscall;
-use sk_text::{Words, is_name, is_number, is_same, next_decimal, no_word, number_up_to, one_word};
+use sk_text::{Words, is_name, is_number, is_same, no_word, number_up_to, one_word};
 
 // Whether a comment begins with the word.
 fn is_comment(word: &[u8]) -> bool
@@ -143,9 +142,8 @@ fn decimal_up_to(word: &[u8], most: u64) -> Option<u64>
     number_up_to(word, most)
 }
 
-#[inline(always)]
 #[tactic(auto, unfolding(crate::specs::Grammar::argument_of))]
-fn argument(word: &[u8]) -> Option<Argument<'_>>
+pub(crate) fn argument(word: &[u8]) -> Option<Argument<'_>>
     ensures exact { option_map argument_seen result ≡ argument_of word.now }
 {
     if word.starts_with(b"@") {
@@ -164,10 +162,9 @@ fn argument(word: &[u8]) -> Option<Argument<'_>>
     Some(Argument::Plain(n))
 }
 
-#[inline(always)]
 #[tactic(auto, unfolding(crate::specs::Grammar::asked))]
 fn call_line<'a>(first: &'a [u8], words: Words<'a>) -> Option<ProgramLine<'a>>
-    ensures exact { option_map_or line_seen result None ≡ option_map Some (asked first.now (words_of words.entry.0.now)) }
+    ensures exact { option_map line_seen result ≡ option_map Some (asked first.now (words_of words.entry.0.now)) }
 {
     if is_same(first, b"call") {
         return numbered(words);
@@ -179,28 +176,16 @@ fn call_line<'a>(first: &'a [u8], words: Words<'a>) -> Option<ProgramLine<'a>>
     called_with(call.number(), words)
 }
 
-#[inline(always)]
 fn numbered<'a>(mut words: Words<'a>) -> Option<ProgramLine<'a>>
-    ensures exact { option_map_or line_seen result None ≡ option_map Some (numbered (words_of words.entry.0.now)) }
+    ensures exact { option_map line_seen result ≡ option_map Some (numbered (words_of words.entry.0.now)) }
 {
     let word = words.next()?;
     let nr = number_up_to(word, 0xffff_ffff)?;
     called_with(nr as u32, words)
 }
 
-// The name of a line that is `fork`, a space and a name: found without its words.
-pub(crate) fn child_alone(line: &[u8]) -> Option<&[u8]>
-    ensures exact { IfSome result (λ child. (n : ℕ) → checked asked_of n line.now ≡ Ok (Some (fork_seen (Some child)))) }
-{
-    if !line.starts_with(b"fork ") {
-        return None;
-    }
-    let child = &line[5..];
-    if is_name(child) { Some(child) } else { None }
-}
-
 fn forked<'a>(mut words: Words<'a>) -> Option<ProgramLine<'a>>
-    ensures exact { option_map_or line_seen result None ≡ option_map Some (forked (words_of words.entry.0.now)) }
+    ensures exact { option_map line_seen result ≡ option_map Some (forked (words_of words.entry.0.now)) }
 {
     let Some(word) = words.next() else {
         return Some(ProgramLine::Fork(None));
@@ -210,48 +195,28 @@ fn forked<'a>(mut words: Words<'a>) -> Option<ProgramLine<'a>>
     Some(ProgramLine::Fork(Some(name)))
 }
 
-// Most are decimal numbers, which are read as they are cut.
-#[inline(always)]
 fn next_argument<'a>(words: &mut Words<'a>) -> Option<Argument<'a>>
     ensures first { option_map argument_seen result ≡ next_argument (words_of words.old.0.now) }
     ensures rest { words_of words.new.0.now ≡ drop 1 (words_of words.old.0.now) }
 {
-    if let Some(number) = next_decimal(words) {
-        return Some(Argument::Plain(number));
-    }
     match words.next() {
         None => Some(Argument::Plain(0)),
         Some(word) => argument(word),
     }
 }
 
-#[inline(always)]
-#[tactic(auto, using(sk_text::proofs::Cuts::words_none))]
-fn called_with<'a>(nr: u32, mut words: Words<'a>) -> Option<ProgramLine<'a>>
-    ensures exact { option_map_or line_seen result None ≡ option_map Some (asked_with nr (words_of words.entry.0.now)) }
+fn called_with<'a>(nr: u32, words: Words<'a>) -> Option<ProgramLine<'a>>
+    ensures exact { option_map line_seen result ≡ option_map Some (asked_with nr (words_of words.entry.0.now)) }
 {
-    if words.0.is_empty() {
-        return Some(ProgramLine::Few(nr, Argument::Plain(0), Argument::Plain(0)));
-    }
-    let a = next_argument(&mut words)?;
-    if words.0.is_empty() {
-        return Some(ProgramLine::Few(nr, a, Argument::Plain(0)));
-    }
-    let b = next_argument(&mut words)?;
-    if words.0.is_empty() {
-        return Some(ProgramLine::Few(nr, a, b));
-    }
-    Some(ProgramLine::More(nr, a, b, words.0))
+    let arguments = arguments(words)?;
+    Some(ProgramLine::Other(nr, arguments))
 }
 
-// All arguments of a call, of which the first two are read.
-pub(crate) fn arguments<'a>(
-    a: Argument<'a>,
-    b: Argument<'a>,
-    mut words: Words<'a>,
-) -> Option<Arguments<'a>>
-    ensures exact { option_map arguments_seen result ≡ option_map (λ others. argument_seen a.entry ∷ argument_seen b.entry ∷ others) (arguments_of 4 (words_of words.entry.0.now)) }
+fn arguments<'a>(mut words: Words<'a>) -> Option<Arguments<'a>>
+    ensures exact { option_map arguments_seen result ≡ arguments_of 6 (words_of words.entry.0.now) }
 {
+    let a = next_argument(&mut words)?;
+    let b = next_argument(&mut words)?;
     let c = next_argument(&mut words)?;
     let d = next_argument(&mut words)?;
     let e = next_argument(&mut words)?;
@@ -261,10 +226,9 @@ pub(crate) fn arguments<'a>(
 }
 
 // What a line in a program's block says.
-#[inline(always)]
 #[tactic(auto, unfolding(crate::specs::Grammar::asked_of))]
 pub(crate) fn program_line(line: &[u8]) -> Option<ProgramLine<'_>>
-    ensures exact { option_map_or line_seen result None ≡ asked_of line.now }
+    ensures exact { option_map line_seen result ≡ asked_of line.now }
 {
     let mut words = Words(line);
     let Some(first) = words.next() else {

@@ -10,11 +10,12 @@ ghost use Rattle.sk_scenario.specs.Answers.{Answers, Finds, IsToldOf, Tells};
 ghost use Rattle.sk_scenario.specs.views.ScenarioCode.{gained, names_seen};
 
 use crate::TextFault;
+use crate::directory::Directory;
 use crate::fault::ScenarioFault;
 use crate::names::{are_same, find_names};
 use crate::reading::read_lines;
 use crate::scenario::Scenario;
-use crate::state::{Done, Names};
+use crate::state::Done;
 use sk_text::MOST_BYTES;
 use std::alloc::{AllocError, Global};
 
@@ -45,20 +46,24 @@ fn read_short(alloc: Global, text: &[u8]) -> Result<Scenario, ScenarioFault>
     requires limit { length text.now ≤ 1048576 }
     ensures exact { Answers (λ read. read) result (scenario_of (lines_of text.now)) }
 {
-    let names = find_names(alloc, text)?;
-    match read_once(alloc, &names, text)? {
+    let known = Directory::of(find_names(alloc, text)?);
+    match read_once(alloc, &known, text)? {
         Some(scenario) => Ok(scenario),
         None => read_twice(alloc, text),
     }
 }
 
 // The scenario by one reading, where the lines are one and give these names.
-fn read_once(alloc: Global, names: &Names<'_>, text: &[u8]) -> Result<Option<Scenario>, AllocError>
+fn read_once(
+    alloc: Global,
+    known: &Directory<'_>,
+    text: &[u8],
+) -> Result<Option<Scenario>, AllocError>
     requires limit { length text.now ≤ 1048576 }
     ensures exact { IfOk result (λ answer. IfSome answer (λ read. scenario_of (lines_of text.now) ≡ Ok read)) }
 {
-    match read_again(alloc, names, text) {
-        Ok(second) if are_same(names, &second.names) => Ok(Some(setting(second))),
+    match read_again(alloc, known, text) {
+        Ok(second) if are_same(&known.names, &second.names) => Ok(Some(setting(second))),
         Err(ScenarioFault::Memory) => Err(AllocError),
         _ => Ok(None),
     }
@@ -69,9 +74,10 @@ fn read_twice(alloc: Global, text: &[u8]) -> Result<Scenario, ScenarioFault>
     requires limit { length text.now ≤ 1048576 }
     ensures exact { Answers (λ read. read) result (scenario_of (lines_of text.now)) }
 {
-    let unknown: Option<&Names<'_>> = None;
+    let unknown: Option<&Directory<'_>> = None;
     let first = read_lines(alloc, unknown, text)?;
-    let second = read_again(alloc, &first.names, text)?;
+    let known = Directory::of(first.names);
+    let second = read_again(alloc, &known, text)?;
     Ok(setting(second))
 }
 
@@ -90,11 +96,11 @@ fn setting(read: Done<'_>) -> Scenario
 // The lines of a text, by these names.
 fn read_again<'a>(
     alloc: Global,
-    names: &Names<'_>,
+    known: &Directory<'_>,
     text: &'a [u8],
 ) -> Result<Done<'a>, ScenarioFault>
     requires limit { length text.now ≤ 1048576 }
-    ensures exact { Answers gained result (reading (Some (names_seen names.now)) 1 nothing_yet NoBlock (lines_of text.now)) }
+    ensures exact { Answers gained result (reading (Some (names_seen known.now.names)) 1 nothing_yet NoBlock (lines_of text.now)) }
 {
-    read_lines(alloc, Some(names), text)
+    read_lines(alloc, Some(known), text)
 }

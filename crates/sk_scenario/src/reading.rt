@@ -10,10 +10,12 @@ ghost use Rattle.sk_scenario.specs.views.ScenarioCode.{known_seen, gained, block
 
 use crate::TextFault;
 use crate::calls::{add_call, read_call};
+use crate::directory::Directory;
 use crate::fault::ScenarioFault;
 use crate::filters::{decide, grow};
 use crate::scenario::Program;
-use crate::state::{Assembled, Block, Done, Names};
+use crate::short::take_calls;
+use crate::state::{Assembled, Block, Done};
 use crate::top::{check_line, has_printable_lines, read_top, start};
 use indexmap::IndexMap;
 use sk_asm::is_end;
@@ -25,7 +27,7 @@ use std::mem;
 #[tactic(auto, unfolding(crate::specs::Reading::inside))]
 fn inside<'a>(
     alloc: Global,
-    known: Option<&Names<'_>>,
+    known: Option<&Directory<'_>>,
     n: usize,
     current: &mut Block,
     line: &[u8],
@@ -88,7 +90,7 @@ fn is_open(current: &Block) -> bool
 #[tactic(auto, unfolding(crate::specs::Reading::within))]
 fn within<'a>(
     alloc: Global,
-    known: Option<&Names<'_>>,
+    known: Option<&Directory<'_>>,
     done: &mut Done<'_>,
     n: usize,
     current: &mut Block,
@@ -146,7 +148,7 @@ fn is_assembled(current: &Block) -> bool
 #[tactic(auto, unfolding(crate::specs::Reading::stepped))]
 fn step<'a>(
     alloc: Global,
-    known: Option<&Names<'_>>,
+    known: Option<&Directory<'_>>,
     done: &mut Done<'a>,
     n: usize,
     current: &mut Block,
@@ -170,11 +172,44 @@ fn step<'a>(
     Ok(None)
 }
 
-// Reads the line that was cut off the text ahead, and passes over the others of a block of code.
+// Reads the calls with which the lines go on, where a program is open, the names are known and all lines are printable.
 #[inline(always)]
+fn go_on<'a>(
+    known: Option<&Directory<'_>>,
+    n: &mut usize,
+    current: &mut Block,
+    is_clean: bool,
+    lines: &mut Lines<'a>,
+) -> Result<(), ScenarioFault>
+    requires clean { IsTrue is_clean → IsTrue (list_all (list_all is_printable_byte) (lines_of lines.old.0.now)) }
+    requires few { n.old + length (lines_of lines.old.0.now) ≤ 1048576 }
+    ensures exact { (d : Gained) → MatchResult result
+        (λ none. reading (known_seen known.entry) (n.old + 1) d (block_seen current.old) (lines_of lines.old.0.now)
+        ≡ reading (known_seen known.entry) (n.new + 1) d (block_seen current.new) (lines_of lines.new.0.now))
+        (λ fault. IsFaultOf fault (reading (known_seen known.entry) (n.old + 1) d (block_seen current.old) (lines_of lines.old.0.now))) }
+    ensures few { OnOk result (n.new + length (lines_of lines.new.0.now) ≤ n.old + length (lines_of lines.old.0.now)) }
+    ensures fewer { OnOk result (length (lines_of lines.new.0.now) ≤ length (lines_of lines.old.0.now)) }
+    ensures clean { OnOk result (IsTrue is_clean → IsTrue (list_all (list_all is_printable_byte) (lines_of lines.new.0.now))) }
+{
+    let Some(names) = known else {
+        return Ok(());
+    };
+    match current {
+        Block::Calls { calls, .. } if is_clean => take_calls(calls, names, n, lines),
+        Block::Nothing
+        | Block::Undecided
+        | Block::Bytes(_)
+        | Block::Code(_)
+        | Block::Calls { .. } => Ok(()),
+    }
+}
+
+// Reads the line that was cut off the text ahead, and with it the others of a block of code, or the calls behind it. It stays a
+// function of its own, so that the loop over lines that say nothing is short.
+#[inline(never)]
 fn take_line<'a>(
     alloc: Global,
-    known: Option<&Names<'_>>,
+    known: Option<&Directory<'_>>,
     done: &mut Done<'a>,
     n: &mut usize,
     current: &mut Block,
@@ -183,7 +218,7 @@ fn take_line<'a>(
     ahead: &'a [u8],
     lines: &mut Lines<'a>,
 ) -> Result<(), ScenarioFault>
-    requires clean { IsTrue is_clean → IsTrue (list_all is_printable_byte line.now) }
+    requires clean { IsTrue is_clean → IsTrue (list_all (list_all is_printable_byte) (lines_of ahead.now)) }
     requires first { 1 ≤ n.old }
     requires few { n.old + length (lines_of lines.old.0.now) ≤ 1048576 }
     requires ahead { lines_of ahead.now ≡ line.now ∷ lines_of lines.old.0.now }
@@ -193,11 +228,10 @@ fn take_line<'a>(
         (λ fault. IsFaultOf fault (reading (known_seen known.entry) n.old (gained done.old) (block_seen current.old) (lines_of ahead.now))) }
     ensures few { OnOk result (n.new + length (lines_of lines.new.0.now) ≤ n.old + length (lines_of lines.old.0.now)) }
     ensures fewer { OnOk result (length (lines_of lines.new.0.now) ≤ length (lines_of lines.old.0.now)) }
-    ensures clean { OnOk result (IsTrue (list_all (list_all is_printable_byte) (lines_of lines.old.0.now))
-        → IsTrue (list_all (list_all is_printable_byte) (lines_of lines.new.0.now))) }
+    ensures clean { OnOk result (IsTrue is_clean → IsTrue (list_all (list_all is_printable_byte) (lines_of lines.new.0.now))) }
 {
     match step(alloc, known, done, *n, current, line, is_clean, ahead)? {
-        None => Ok(()),
+        None => go_on(known, n, current, is_clean, lines),
         Some(Assembled { count, rest }) => {
             *n = *n - 1 + count;
             lines.0 = rest;
@@ -221,7 +255,7 @@ fn close(n: usize, current: &Block) -> Result<(), TextFault>
 // The lines of a text, by these names or by none.
 pub(crate) fn read_lines<'a>(
     alloc: Global,
-    known: Option<&Names<'_>>,
+    known: Option<&Directory<'_>>,
     text: &'a [u8],
 ) -> Result<Done<'a>, ScenarioFault>
     requires limit { length text.now ≤ 1048576 }

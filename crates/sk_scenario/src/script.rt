@@ -10,7 +10,7 @@ use std::marker::Model;
 // The most words that a call has: its arguments, and the program of the child.
 const MOST_WORDS: usize = 7;
 
-// A call but for its words: its arguments down to the last that is not 0, and behind them the program of the child.
+// A call but for its words: its arguments, but for zeros at the end, and behind them the program of the child.
 #[derive(Clone, Copy)]
 pub(crate) struct Head {
     nr: u32,

@@ -20,7 +20,7 @@ use sk_text::{is_clean, is_printable, number_up_to};
 use std::alloc::Global;
 
 // The most bytes that a line may have.
-const LONGEST_LINE: usize = 255;
+pub(crate) const LONGEST_LINE: usize = 255;
 
 // The most turns that a scenario may have.
 const MOST_TURNS: u64 = 100_000;

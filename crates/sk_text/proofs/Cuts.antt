@@ -6,7 +6,7 @@ use Rattle.std.proofs.lemmas.List.Splits.{slice_split_first}
 use Rattle.std.specs.List.{concat, slice_split, onto_first, before_first, after_first, position_or_len}
 use Rattle.sk_text.specs.Lines.{lines_of, words_of, has_bytes}
 
-one_further : (n : ℕ) → 1 + n ≡ suc n
+pub one_further : (n : ℕ) → 1 + n ≡ suc n
 one_further n = omega arith
 
 two_further : (n : ℕ) → 1 + n + 1 ≡ suc (n + 1)
@@ -14,10 +14,10 @@ two_further n = omega arith
 
 -- ---- the first place of a test
 
-before_first-no : (p : ℕ → Bool) (b : ℕ) (rest : List ℕ) → p b ≡ false → before_first p (b ∷ rest) ≡ b ∷ before_first p rest
+pub before_first-no : (p : ℕ → Bool) (b : ℕ) (rest : List ℕ) → p b ≡ false → before_first p (b ∷ rest) ≡ b ∷ before_first p rest
 before_first-no p b rest f = rw (f, one_further) refl
 
-after_first-no : (p : ℕ → Bool) (b : ℕ) (rest : List ℕ) → p b ≡ false → after_first p (b ∷ rest) ≡ after_first p rest
+pub after_first-no : (p : ℕ → Bool) (b : ℕ) (rest : List ℕ) → p b ≡ false → after_first p (b ∷ rest) ≡ after_first p rest
 after_first-no p b rest f = rw (f, two_further) refl
 
 -- ---- lines

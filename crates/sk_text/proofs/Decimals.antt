@@ -1,18 +1,18 @@
 -- A decimal number at the beginning of a text is its first word.
-use Rattle.std.proofs.Common.{◌≡◌, ◌<◌, ◌≤◌, ◌+◌, ◌*◌, ◌^◌, ◌==◌, ◌&&◌, ◌∙◌, ap, arith, sym, subst, refl, suc, zero, ℕ, codes, nat_eq, List, [], ◌∷◌, ◌++◌, length, Option, Some, None, true, false, IsTrue, take, drop, get_or, slice_index, add-one, inl, inr}
-use Rattle.std.proofs.lemmas.Bool.{cases_Bool, and_parts, and_from, false≢true, eq-eqb, eqb-true, ltb-true, lt-ltb}
+use Rattle.std.proofs.Common.{◌≡◌, ◌<◌, ◌≤◌, ◌+◌, ◌*◌, ◌^◌, ◌==◌, ◌∙◌, ap, arith, sym, subst, refl, suc, zero, ℕ, codes, nat_eq, List, [], ◌∷◌, ◌++◌, length, Some, true, false, IsTrue, take, drop, get_or, add-one, inl, inr}
+use Rattle.std.proofs.lemmas.Bool.{cases_Bool, and_parts, and_from, false≢true, eq-eqb, eqb-true, lt-ltb}
 use Rattle.std.proofs.lemmas.Slice.Eq.{starts_is}
 use Rattle.std.proofs.lemmas.List.{take_more, length-take-le, get_or-take}
 use Rattle.std.proofs.lemmas.List.Folds.{list_all_more}
 use Rattle.std.proofs.lemmas.List.Sums.{position_or_len_is}
-use Rattle.std.proofs.Math.Nat.{pow-suc, pow-le-pow_right, mul-le-mul_left}
+use Rattle.std.proofs.Math.Nat.{pow-suc, pow-le-pow_right}
 use Rattle.std.specs.Char.{digit_value}
-use Rattle.std.specs.List.{list_all, before_first, after_first, position_or_len, starts_with}
+use Rattle.std.specs.List.{list_all, position_or_len, starts_with}
 use Rattle.std.specs.Str.Parse.{digits_value, digits_value_after}
-use Rattle.sk_text.specs.Lines.{words_of}
-use Rattle.sk_text.specs.Numbers.{is_digit_in, number_in, number_of}
+use Rattle.sk_text.specs.Hexadecimal.{is_blank}
+use Rattle.sk_text.specs.Numbers.{is_digit_in, number_of}
 use Rattle.sk_text.specs.views.Decimals.{IsDecimal}
-use Rattle.sk_text.proofs.Cuts.{words_take, bytes_some}
+use Rattle.sk_text.proofs.Cuts.{bytes_some}
 
 -- ---- one digit more
 
@@ -42,33 +42,28 @@ smaller value at digit small one = let more = pow-suc 10 at in rw (add-one, more
 
 -- ---- the first word
 
-no_space : (text : List ℕ) (count k : ℕ) → count ≤ length text → IsTrue (list_all (is_digit_in 10) (take count text)) → k < count → (get_or text k 0 == 32) ≡ false
-no_space text count k within digits below = elim (cases_Bool (get_or text k 0 == 32)) [
-  | inr f ↦ f
-  | inl t ↦
-      let space : get_or (take count text) k 0 ≡ 32 = get_or-take count text k 0 below ∙ eqb-true _ _ t in
-      let length_is = length-take-le count text within in
-      absurd (false≢true (sym (ap (is_digit_in 10) space) ∙ each (take count text) k digits (omega (arith, below, length_is))))
+no_digit : (b : ℕ) → is_digit_in 10 b ≡ true → is_blank b ≡ false
+no_digit b digit = elim (cases_Bool (b == 32)) [
+  | inl space ↦ absurd (false≢true (sym (ap (is_digit_in 10) (eqb-true b 32 space)) ∙ digit))
+  | inr plain ↦ elim (cases_Bool (b == 10)) [
+    | inl feed ↦ absurd (false≢true (sym (ap (is_digit_in 10) (eqb-true b 10 feed)) ∙ digit))
+    | inr other ↦ rw (plain, other) refl
+  ]
 ]
+
+no_blank : (text : List ℕ) (count k : ℕ) → count ≤ length text → IsTrue (list_all (is_digit_in 10) (take count text)) → k < count → is_blank (get_or text k 0) ≡ false
+no_blank text count k within digits below =
+    let length_is = length-take-le count text within in
+    rw (sym (get_or-take count text k 0 below)) (no_digit (get_or (take count text) k 0) (each (take count text) k digits (omega (arith, below, length_is))))
   where
     each : (digits : List ℕ) (k : ℕ) → list_all (is_digit_in 10) digits ≡ true → k < length digits → is_digit_in 10 (get_or digits k 0) ≡ true
     each [] k all below = absurd (omega (arith, below))
     each (d ∷ digits) zero all below = (and_parts (is_digit_in 10 d) (list_all (is_digit_in 10) digits) all).0
     each (d ∷ digits) (suc k) all below = each digits k (and_parts (is_digit_in 10 d) (list_all (is_digit_in 10) digits) all).1 (omega (arith, below))
 
-module _ (text : List ℕ) (count number : ℕ) (is : IsDecimal text count number) (some : 0 < count) (within : count ≤ length text)
-    (end : count < length text → slice_index text count ≡ 32) where
-  place : position_or_len (λ b. b == 32) text ≡ count
-  place = position_or_len_is (λ b. b == 32) text count 0 within (λ k below. no_space text count k within is.digits below) (λ lt. eq-eqb _ _ (end lt))
-
-  pub words_behind : words_of text ≡ before_first (λ b. b == 32) text ∷ words_of (drop (count + 1) text)
-  words_behind =
-      let first : before_first (λ b. b == 32) text ≡ take count text = ap (λ n. take n text) place in
-      let long = ap length first ∙ length-take-le count text within in
-      words_take text (omega (arith, long, some)) ∙ ap (λ n. before_first (λ b. b == 32) text ∷ words_of (drop (n + 1) text)) place
-
-  pub digits_are : IsTrue (list_all (is_digit_in 10) (before_first (λ b. b == 32) text))
-  digits_are = subst (λ n. IsTrue (list_all (is_digit_in 10) (take n text))) (sym place) is.digits
+module _ (text : List ℕ) (count number : ℕ) (is : IsDecimal text count number) (some : 0 < count) (within : count ≤ length text) where
+  pub blank_place : (count < length text → is_blank (get_or text count 0) ≡ true) → count ≡ position_or_len is_blank text
+  blank_place end = sym (position_or_len_is is_blank text count 0 within (λ k below. no_blank text count k within is.digits below) end)
 
   no_mark : (word : List ℕ) → list_all (is_digit_in 10) word ≡ true → starts_with nat_eq word (codes "0x") ≡ false
   no_mark word all = elim (cases_Bool (starts_with nat_eq word (codes "0x"))) [
@@ -78,9 +73,8 @@ module _ (text : List ℕ) (count number : ℕ) (is : IsDecimal text count numbe
         absurd (false≢true (subst (λ w. list_all (is_digit_in 10) w ≡ true) marked all))
   ]
 
-  pub number_is : number_of (before_first (λ b. b == 32) text) ≡ Some number
+  pub number_taken : number_of (take count text) ≡ Some number
   unfolding number_of
-  number_is =
-      let first : before_first (λ b. b == 32) text ≡ take count text = ap (λ n. take n text) place in
+  number_taken =
       let long = length-take-le count text within in
-      rw (first, no_mark (take count text) is.digits, bytes_some (take count text) (omega (arith, long, some)), is.digits, is.value) refl
+      rw (no_mark (take count text) is.digits, bytes_some (take count text) (omega (arith, long, some)), is.digits, is.value) refl

@@ -1,3 +1,4 @@
+pub mod FirstLine
 pub mod Ascii
 pub mod Cuts
 pub mod Decimals

@@ -1,3 +1,4 @@
+pub mod FirstLine
 pub mod Hexadecimal
 pub mod Lines
 pub mod Numbers

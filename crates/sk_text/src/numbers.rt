@@ -1,12 +1,10 @@
 //! Words that are numbers.
-ghost use Rattle.std.specs.Prelude.{◌≡◌, ◌<◌, ◌≤◌, ◌+◌, ◌*◌, ◌==◌, ◌&&◌, ◌∷◌, Some, None, is_some, length, slice_index, IfSome, IsTrue};
+ghost use Rattle.std.specs.Prelude.{◌≡◌, ◌<◌, ◌≤◌, ◌+◌, ◌*◌, ◌==◌, ◌&&◌, Some, None, is_some, length, IfSome};
 ghost use Rattle.std.specs.Option.{SomeIff};
-ghost use Rattle.std.specs.List.{before_first, list_all};
-ghost use Rattle.sk_text.specs.Lines.{has_bytes, words_of};
+ghost use Rattle.std.specs.List.{list_all};
+ghost use Rattle.sk_text.specs.Lines.{has_bytes};
 ghost use Rattle.sk_text.specs.views.Decimals.{IsDecimal};
 ghost use Rattle.sk_text.specs.Numbers.{is_digit_in, number_in, number_of, up_to};
-
-use crate::lines::{Words, cut_at};
 
 // So many decimal digits write no number above 64 bits.
 const MOST_DIGITS: usize = 19;
@@ -24,37 +22,19 @@ pub fn number_up_to(word: &[u8], most: u64) -> Option<u64>
     digits_up_to(digits, radix, most)
 }
 
-/// The number that the next word is, where nothing stands before it and it is at most 19 decimal digits. Where it is not,
-/// the words stay as they are.
+// The number that the decimal digits are with which a text begins, and how many they are, where no digit follows. Where
+// they are 19 and the text goes on, none is answered.
 #[inline(always)]
-pub fn next_decimal(words: &mut Words<'_>) -> Option<u64>
-    ensures words { IfSome result (λ _. words_of words.old.0.now ≡ before_first (λ b. b == 32) words.old.0.now ∷ words_of words.new.0.now) }
-    ensures digits { IfSome result (λ _. IsTrue (list_all (is_digit_in 10) (before_first (λ b. b == 32) words.old.0.now))) }
-    ensures number { IfSome result (λ number. number_of (before_first (λ b. b == 32) words.old.0.now) ≡ Some number) }
-    ensures kept { result ≡ None → words.new.0.now ≡ words.old.0.now }
-{
-    let (number, count) = decimal_ahead(words.0)?;
-    words.0 = cut_at(words.0, count).1;
-    Some(number)
-}
-
-// The decimal number with which a text begins, where a space or the end is behind it, and how many digits it has.
-#[inline(always)]
-fn decimal_ahead(text: &[u8]) -> Option<(u64, usize)>
+pub(crate) fn digits_ahead(text: &[u8]) -> Option<(u64, usize)>
     ensures digits { IfSome result (λ ahead. IsDecimal text.now ahead.1 ahead.0) }
     ensures some { IfSome result (λ ahead. 0 < ahead.1) }
     ensures within { IfSome result (λ ahead. ahead.1 ≤ length text.now) }
-    ensures end { IfSome result (λ ahead. ahead.1 < length text.now → slice_index text.now ahead.1 ≡ 32) }
 {
     let most = text.len().min(MOST_DIGITS);
     let mut value = 0;
     for at in 0..most {
         let Some(digit) = char::from(text[at]).to_digit(10) else {
-            return if at > 0 && text[at] == b' ' {
-                Some((value, at))
-            } else {
-                None
-            };
+            return if at > 0 { Some((value, at)) } else { None };
         };
         value = value * 10 + u64::from(digit);
     }

@@ -1,8 +1,8 @@
 -- The code's values as the definitions see them.
-use Rattle.std.specs.Prelude.{◌≡◌, ℕ, if◌then◌else◌, Bool, List, [], ◌∷◌, length, drop, map, replicate, Option, Some, None, Result}
+use Rattle.std.specs.Prelude.{◌≡◌, ℕ, if◌then◌else◌, Bool, List, [], ◌∷◌, length, drop, map, replicate, Option, Some, None}
 use Rattle.std.specs.Borrow.{Bor}
 use Rattle.std.specs.Option.{option_map, option_map_or}
-use Rattle.sk_text.specs.Lines.{lines_of, words_of}
+use Rattle.sk_text.specs.Lines.{lines_of}
 use Rattle.sk_asm.specs.Block.{until_end}
 use Rattle.sk_text.specs.Numbers.{number_of as number_said}
 use Rattle.sk_calls.specs.declared.syscall.Syscall.TheVariants as syscall
@@ -18,16 +18,15 @@ use Rattle.std.specs.declared.hash.FoldHasher.{FoldHasher}
 use Rattle.std.specs.declared.hash.BuildHasherDefault.{BuildHasherDefault}
 use Rattle.indexmap.specs.IndexMap.{IndexMap}
 use Rattle.sk_scenario.specs.declared.call.ScriptCall.{ScriptCall}
-use Rattle.sk_scenario.specs.declared.calls.FewCall.{FewCall}
 use Rattle.sk_scenario.specs.declared.call.Named.{Named}
 use Rattle.sk_scenario.specs.declared.call.Named.TheVariants as named
-use Rattle.sk_scenario.specs.declared.text_fault.TextFault.{TextFault}
+use Rattle.sk_scenario.specs.declared.directory.Directory.{Directory}
 use Rattle.sk_scenario.specs.declared.state.Done.{Done}
 use Rattle.sk_scenario.specs.declared.state.Block.{Block}
 use Rattle.sk_scenario.specs.declared.state.Block.TheVariants as block
 use Rattle.sk_scenario.specs.Scenario.{Script, Names}
-use Rattle.sk_scenario.specs.Reading.{◌>>=◌, understood, called, Gained, Open, Nothing, Undecided, Bytes, Code, Calls}
-use Rattle.sk_scenario.specs.Grammar.{Heading, Alone, Opens, Silent, Turns, Subreapers, Filter, Program, Argument, Plain, NumberOf, HandlerOf, Asked, arguments_of}
+use Rattle.sk_scenario.specs.Reading.{Gained, Open, Nothing, Undecided, Bytes, Code, Calls}
+use Rattle.sk_scenario.specs.Grammar.{Heading, Alone, Opens, Silent, Turns, Subreapers, Filter, Program, Argument, Plain, NumberOf, HandlerOf, Asked}
 
 abbrev pub heading : TopLine → Heading
 heading top.Silent = Alone Silent
@@ -51,27 +50,10 @@ fork_seen child = record { nr = number_of syscall.Fork; arguments = replicate 6 
 abbrev pub call_seen : ℕ → Arguments → Asked
 call_seen nr arguments = record { nr = nr; arguments = arguments_seen arguments; child = None }
 
-abbrev pub few_seen : ℕ → CodeArgument → CodeArgument → Asked
-few_seen nr a b =
-    record { nr = nr; arguments = argument_seen a ∷ argument_seen b ∷ Plain 0 ∷ Plain 0 ∷ Plain 0 ∷ Plain 0 ∷ []; child = None }
-
-abbrev pub few_made : FewCall → ScriptCall
-few_made made = record { call = record { nr = made.nr; args = made.a ∷ made.b ∷ 0 ∷ 0 ∷ 0 ∷ 0 ∷ [] }; script = None }
-
--- a call with two arguments and those that words are, where these are understood
-abbrev pub more_seen : ℕ → CodeArgument → CodeArgument → List (List ℕ) → Option Asked
-more_seen nr a b words =
-    option_map (λ others. record { nr = nr; arguments = argument_seen a ∷ argument_seen b ∷ others; child = None }) (arguments_of 4 words)
-
-abbrev pub line_seen : ProgramLine → Option (Option Asked)
-line_seen program.Silent = Some None
-line_seen (program.Fork child) = Some (Some (fork_seen child))
-line_seen (program.Few nr a b) = Some (Some (few_seen nr a b))
-line_seen (program.More nr a b words) = option_map Some (more_seen nr a b (words_of words.now))
-
--- a script with the call that line n asks for, if it is understood
-abbrev pub added : Option Names → ℕ → Script → Option (Option Asked) → Result Script TextFault
-added known n script said = understood n said >>= called known n script
+abbrev pub line_seen : ProgramLine → Option Asked
+line_seen program.Silent = None
+line_seen (program.Fork child) = Some (fork_seen child)
+line_seen (program.Other nr arguments) = Some (call_seen nr arguments)
 
 -- ---- what was read
 
@@ -81,8 +63,8 @@ script_with owner setuid calls = record { owner = owner; setuid = setuid; calls 
 abbrev pub names_seen : IndexMap (Bor (List ℕ)) Named (BuildHasherDefault FoldHasher) → Names
 names_seen names = map (λ entry. (entry.0.now, entry.1)) names.entries
 
-abbrev pub known_seen : Option (Bor (IndexMap (Bor (List ℕ)) Named (BuildHasherDefault FoldHasher))) → Option Names
-known_seen known = option_map (λ names. names_seen names.now) known
+abbrev pub known_seen : Option (Bor Directory) → Option Names
+known_seen known = option_map (λ directory. names_seen directory.now.names) known
 
 abbrev pub gained : Done → Gained
 gained d = record {

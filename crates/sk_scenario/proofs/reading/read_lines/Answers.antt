@@ -28,7 +28,7 @@ loop-line-preserved c =
           let fewer = taken.few in
           rw (w.done-is, w.current-is, w.n-is, w.lines-is) (record {
             few = omega (arith, fewer, one, few);
-            clean = λ is. taken.clean (first_printable _ _ _ c.in-Some.ensures.steps (c.loop-line.invariant.clean is)).1;
+            clean = taken.clean;
             same = refl;
             so_far = turn_goes _ _ _ _ _ _ _ c.loop-line.invariant.same c.loop-line.invariant.so_far _ taken.exact;
           })

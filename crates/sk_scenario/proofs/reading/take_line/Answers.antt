@@ -1,6 +1,6 @@
-use Rattle.std.proofs.Common.{◌≡◌, ◌+◌, ◌-◌, arith, length, rules}
+use Rattle.std.proofs.Common.{◌≡◌, ◌+◌, ◌-◌, arith}
 use Rattle.std.proofs.lemmas.Result.{err_from_is_err_and}
-use Rattle.sk_text.specs.Lines.{lines_of}
+use Rattle.sk_scenario.proofs.Clean.{first_printable}
 use Rattle.sk_scenario.proofs.Passing.{one_read, one_fails, count_few, lines_left, clean_left, count_more, all_read}
 use Rattle.sk_scenario.proofs.reading.take_line.Goals as goal
 
@@ -16,7 +16,7 @@ overflow_add-n c =
     omega (arith, few, c.requires.few)
 
 pub returns-in-None-clause-exact : goal.returns-in-None-clause-exact
-returns-in-None-clause-exact c = one_read _ _ _ _ _ _ _ c.requires.ahead _ c.in_ok-step.ensures.exact
+returns-in-None-clause-exact c = rw (one_read _ _ _ _ _ _ _ c.requires.ahead _ c.in_ok-step.ensures.exact) (c.go_on.ensures.exact _)
 
 pub returns-in-Some-clause-exact : goal.returns-in-Some-clause-exact
 returns-in-Some-clause-exact c =
@@ -40,4 +40,4 @@ returns-in-Some-clause-fewer c =
 pub returns-in-Some-clause-clean : goal.returns-in-Some-clause-clean
 returns-in-Some-clause-clean c =
     let is = rw c.in-Some.is at c.in_ok-step.ensures.assembled in
-    clean_left _ _ _ _ _ _ c.requires.ahead is.0 is.1
+    λ clean. clean_left _ _ _ _ _ _ c.requires.ahead is.0 is.1 (first_printable _ _ _ c.requires.ahead (c.requires.clean clean)).1
