@@ -51,12 +51,12 @@ digits-visible (digit ∷ digits) all =
 
 -- ---- a number alone
 
-number-some : (word : List ℕ) (number : ℕ) → number_of word ≡ Some number → 0 < length word
+pub number-some : (word : List ℕ) (number : ℕ) → number_of word ≡ Some number → 0 < length word
 unfolding number_of
 number-some [] number h = cc
 number-some (b ∷ rest) number h = omega arith
 
-value-some : (word : List ℕ) (value : ℕ) → returned_value word ≡ Some value → 0 < length word
+pub value-some : (word : List ℕ) (value : ℕ) → returned_value word ≡ Some value → 0 < length word
 unfolding returned_value action_value number_of
 value-some [] value h = cc
 value-some (b ∷ rest) value h = omega arith
@@ -65,9 +65,9 @@ module _ (text word rest : List ℕ) (begins : BeginsWith text word rest true) w
   nothing_more : after_first (λ b. b == 32) (first_line text) ≡ []
   nothing_more = begins.others
 
-  pub number-alone : (number : ℕ) → number_of word ≡ Some number → words_of (first_line text) ≡ before_first (λ b. b == 32) (first_line text) ∷ []
-  number-alone number is =
-      let some = number-some word number is in
+  -- a word of at least one byte, with nothing behind it, is all words of its line
+  pub word-alone : 0 < length word → words_of (first_line text) ≡ before_first (λ b. b == 32) (first_line text) ∷ []
+  word-alone some =
       let long = ap length begins.first in
       words_take (first_line text) (omega (arith, some, long))
       ∙ ap (λ l. before_first (λ b. b == 32) (first_line text) ∷ words_of l) nothing_more
@@ -77,13 +77,6 @@ module _ (text word rest : List ℕ) (begins : BeginsWith text word rest true) w
       pieces-printable (first_line text)
       (subst (λ l. list_all is_printable_byte l ≡ true) (sym begins.first) (word-printable word (digits-visible word digits)))
       (subst (λ l. list_all is_printable_byte l ≡ true) (sym nothing_more) refl)
-
-  pub value-alone : (value : ℕ) → returned_value word ≡ Some value → words_of (first_line text) ≡ before_first (λ b. b == 32) (first_line text) ∷ []
-  value-alone value is =
-      let some = value-some word value is in
-      let long = ap length begins.first in
-      words_take (first_line text) (omega (arith, some, long))
-      ∙ ap (λ l. before_first (λ b. b == 32) (first_line text) ∷ words_of l) nothing_more
 
   pub word-alone-printable : IsTrue (list_all is_printable_byte word) → IsTrue (list_all is_printable_byte (first_line text))
   word-alone-printable printable =
