@@ -1,6 +1,6 @@
 -- A text begins with what stands before its first blank.
-use Rattle.std.proofs.Common.{◌≡◌, ◌<◌, ◌≤◌, ◌+◌, ◌==◌, ◌∙◌, ap, arith, sym, subst, refl, ℕ, suc, zero, List, [], ◌∷◌, length, Bool, true, false, cond, inl, inr, take, drop, get_or, take_all, IsTrue, ◌++◌}
-use Rattle.std.proofs.lemmas.Bool.{cases_Bool, eqb-true, false≢true, and_from, lt-ltb}
+use Rattle.std.proofs.Common.{◌≡◌, ◌<◌, ◌≤◌, ◌+◌, ◌==◌, ◌∙◌, ap, arith, sym, subst, refl, ℕ, suc, zero, List, [], ◌∷◌, length, Bool, true, false, cond, inl, inr, take, drop, get_or, take_all, IsTrue, ◌++◌, nat_lt, ◌&&◌}
+use Rattle.std.proofs.lemmas.Bool.{cases_Bool, eqb-true, false≢true, and_from, and_parts, lt-ltb, ltb-true}
 use Rattle.std.proofs.lemmas.List.{drop_all, length-take-le}
 use Rattle.std.proofs.lemmas.List.Sums.{position_or_len_is}
 use Rattle.std.specs.List.{before_first, after_first, list_all, position_or_len}
@@ -132,3 +132,49 @@ name_taken (b ∷ text) (suc count) some few within bytes letter =
     let room = lt-ltb (length (take count text)) 32 (omega (arith, long, few)) in
     let others = all_bytes text count (omega (arith, within)) (λ k below. bytes (suc k) (omega (arith, below))) in
     rw (letter, room, others) refl
+
+-- bytes of a name up to the first that is none are the whole first word, where all its bytes may stand in a name
+all_word : (text : List ℕ) (count : ℕ) → list_all is_name_byte (before_first is_blank text) ≡ true → count ≤ length text
+    → ((k : ℕ) → k < count → is_name_byte (get_or text k 0) ≡ true) → (count < length text → is_name_byte (get_or text count 0) ≡ false)
+    → (length (before_first is_blank text) ≡ count) × (count < length text → is_blank (get_or text count 0) ≡ true)
+all_word [] zero all within bytes other = (refl, λ below. absurd (omega (arith, below)))
+all_word [] (suc count) all within bytes other = absurd (omega (arith, within))
+all_word (b ∷ rest) zero all within bytes other = elim (cases_Bool (is_blank b)) [
+  | inl blank ↦ let nothing : before_first is_blank (b ∷ rest) ≡ [] = rw blank refl in (ap length nothing, λ _. blank)
+  | inr plain ↦
+      let word = before_first-no is_blank b rest plain in
+      let parts = and_parts (is_name_byte b) (list_all is_name_byte (before_first is_blank rest)) (sym (ap (list_all is_name_byte) word) ∙ all) in
+      absurd (false≢true (sym (other (omega arith)) ∙ parts.0))
+]
+all_word (b ∷ rest) (suc count) all within bytes other =
+    let plain = no_blank b (bytes 0 (omega arith)) in
+    let word = before_first-no is_blank b rest plain in
+    let parts = and_parts (is_name_byte b) (list_all is_name_byte (before_first is_blank rest)) (sym (ap (list_all is_name_byte) word) ∙ all) in
+    let next = all_word rest count parts.1 (omega (arith, within)) (λ k below. bytes (suc k) (omega (arith, below))) (λ below. other (omega (arith, below))) in
+    (ap length word ∙ ap suc next.0, λ below. next.1 (omega (arith, below)))
+
+-- what a name is, part by part
+name_parts : (first : ℕ) (rest : List ℕ) → is_name (first ∷ rest) ≡ true → (is_letter first ≡ true) × (length rest < 32) × (list_all is_name_byte (first ∷ rest) ≡ true)
+unfolding is_name is_name_byte
+name_parts first rest name =
+    let parts = and_parts (is_letter first && nat_lt (length rest) 32) (list_all is_name_byte rest) name in
+    let others = and_parts (is_letter first) (nat_lt (length rest) 32) parts.0 in
+    (others.0, ltb-true (length rest) 32 others.1, rw (others.0, parts.1) refl)
+
+-- where the first word is a name, it is the bytes of a name up to the first that is none
+pub named : (text : List ℕ) (count : ℕ) → is_name (before_first is_blank text) ≡ true → count ≤ length text
+    → ((k : ℕ) → k < count → is_name_byte (get_or text k 0) ≡ true) → (count < length text → is_name_byte (get_or text count 0) ≡ false)
+    → (0 < count) × (count ≤ 32) × (is_letter (get_or text 0 0) ≡ true) × (count < length text → is_blank (get_or text count 0) ≡ true)
+unfolding is_name
+named [] count name within bytes other = absurd (false≢true name)
+named (b ∷ rest) count name within bytes other = elim (cases_Bool (is_blank b)) [
+  | inl blank ↦
+      let nothing : before_first is_blank (b ∷ rest) ≡ [] = rw blank refl in
+      absurd (false≢true (sym (ap is_name nothing) ∙ name))
+  | inr plain ↦
+      let word = before_first-no is_blank b rest plain in
+      let parts = name_parts b (before_first is_blank rest) (sym (ap is_name word) ∙ name) in
+      let all = all_word (b ∷ rest) count (ap (list_all is_name_byte) word ∙ parts.2) within bytes other in
+      let long = ap length word in
+      (omega (arith, all.0, long), omega (arith, all.0, long, parts.1), parts.0, all.1)
+]

@@ -1,6 +1,6 @@
 //! A text word by word, up to the end of its first line, so that lines of few words need not be cut before they are read.
-ghost use Rattle.std.specs.Prelude.{◌≡◌, ◌<◌, ◌≤◌, ◌^◌, ℕ, true, get_or, Some, length, take, slice_index, IfSome, IsTrue};
-ghost use Rattle.std.specs.List.{list_all, position_or_len};
+ghost use Rattle.std.specs.Prelude.{◌≡◌, ◌<◌, ◌≤◌, ◌^◌, ℕ, true, false, get_or, None, Some, length, take, slice_index, IfSome, IsTrue};
+ghost use Rattle.std.specs.List.{before_first, list_all, position_or_len};
 ghost use Rattle.sk_text.specs.FirstLine.{Begins};
 ghost use Rattle.sk_text.specs.Hexadecimal.{is_blank};
 ghost use Rattle.sk_text.specs.Numbers.{is_digit_in, number_of};
@@ -59,6 +59,7 @@ pub fn number_ahead(text: &[u8]) -> Option<(u64, Ahead<'_>)>
 pub fn name_ahead(text: &[u8]) -> Option<Ahead<'_>>
     ensures begins { IfSome result (λ ahead. Begins text.now ahead.word.now ahead.behind) }
     ensures name { IfSome result (λ ahead. IsTrue (is_name ahead.word.now)) }
+    ensures none { result ≡ None → is_name (before_first is_blank text.now) ≡ false }
 {
     let count = name_length(text);
     if count == 0 || count > LONGEST_NAME || !is_letter(text[0]) || !ends_word(text, count) {
@@ -72,6 +73,7 @@ pub fn name_ahead(text: &[u8]) -> Option<Ahead<'_>>
 fn name_length(text: &[u8]) -> usize
     ensures within { result ≤ length text.now }
     ensures bytes { (k : ℕ) → k < result → is_name_byte (get_or text.now k 0) ≡ true }
+    ensures other { result < length text.now → is_name_byte (get_or text.now result 0) ≡ false }
 {
     for (at, byte) in text.iter().enumerate() {
         if !is_name_byte(*byte) {
@@ -85,6 +87,8 @@ fn name_length(text: &[u8]) -> usize
 #[inline(always)]
 fn ends_word(text: &[u8], at: usize) -> bool
     ensures blank { IsTrue result → at < length text.now → IsTrue (is_blank (slice_index text.now at)) }
+    ensures within { result ≡ false → at < length text.now }
+    ensures other { result ≡ false → is_blank (get_or text.now at 0) ≡ false }
 {
     at >= text.len() || is_blank(text[at])
 }
