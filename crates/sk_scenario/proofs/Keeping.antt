@@ -1,7 +1,7 @@
 -- Calls that are kept say what was put in, also with words behind theirs.
-use Rattle.std.proofs.Common.{◌≡◌, ◌∙◌, ◌≤◌, ◌<◌, ◌+◌, ◌*◌, ap, arith, refl, sym, ℕ, zero, suc, List, [], ◌∷◌, ◌++◌, Option, Some, None, length, map, take, inl, inr, slice_get, slice_index}
+use Rattle.std.proofs.Common.{append-nil, ◌≡◌, ◌∙◌, ◌≤◌, ◌<◌, ◌+◌, ◌*◌, ap, arith, refl, sym, ℕ, zero, suc, List, [], ◌∷◌, ◌++◌, Option, Some, None, false, length, map, take, inl, inr, slice_get, slice_index}
 use Rattle.std.specs.Option.{is_some}
-use Rattle.std.proofs.lemmas.Bool.{cases_Bool, cases_lt, lt-ltb, le-ltb}
+use Rattle.std.proofs.lemmas.Bool.{cases_Bool, false≢true, cases_lt, lt-ltb, le-ltb}
 use Rattle.std.proofs.lemmas.List.{get_or-append-add, get_or-take, get_or_past, length-append, length-take-le, map-append}
 use Rattle.std.proofs.Math.ListN.{get_or, get_or-append}
 use Rattle.std.proofs.Math.Seq.{get_or-append_seam}
@@ -102,6 +102,21 @@ module _ (old args : List ℕ) where
   kept_is nr None = same_parts nr _ _ _ _ (arguments_are []) refl
   kept_is nr (Some script) = same_parts nr _ _ _ _ (arguments_are (script ∷ [])) (ap Some (script_word script))
 
+pub unsaid : (script : Option ℕ) → is_some script ≡ false → script ≡ None
+unsaid None h = refl
+unsaid (Some script) h = absurd (false≢true (sym h))
+
+-- arguments that stand among the words already
+module _ (words args : List ℕ) (first : ℕ) (same : (k : ℕ) → k < length args → slice_index words (first + k) ≡ slice_index args k) where
+  word_there : (at : ℕ) → word_kept words first (length args) at ≡ slice_index args at
+  word_there at = elim (cases_lt at (length args)) [
+    | inl lt ↦ let t = lt-ltb at (length args) lt in rw t (same at lt)
+    | inr le ↦ let f = le-ltb at (length args) le in rw f (sym (get_or_past args at 0 le))
+  ]
+
+  pub repeated_is : (nr : ℕ) → call_kept words (record { nr = nr; first = first; count = length args; has_script = false }) ≡ call_with nr args None
+  repeated_is nr = same_parts nr _ _ _ _ (six _ _ _ _ _ _ _ _ _ _ _ _ (word_there 0) (word_there 1) (word_there 2) (word_there 3) (word_there 4) (word_there 5)) refl
+
 -- what is left out behind the last that is not 0 is 0
 module _ (args : List ℕ) (count : ℕ) (few : count ≤ 6) (len : length args ≡ 6) (rest : (k : ℕ) → count ≤ k → slice_index args k ≡ 0) where
   taken : length (take count args) ≡ count
@@ -117,6 +132,9 @@ module _ (args : List ℕ) (count : ℕ) (few : count ≤ 6) (len : length args 
   shortened nr script = same_parts nr _ _ _ _ (six _ _ _ _ _ _ _ _ _ _ _ _ (left_out 0) (left_out 1) (left_out 2) (left_out 3) (left_out 4) (left_out 5) ∙ args_are args len) refl
 
 -- ---- one call more
+
+pub as_they_are : (words : List ℕ) → Grows words words
+as_they_are words = record { more = []; behind = sym (append-nil words); few = omega arith }
 
 module _ (words after : List ℕ) (heads : List Head) (head : Head) (all : AreWithin words heads) (grows : Grows words after) where
   pub pushed_within : IsWithin after head → AreWithin after (heads ++ head ∷ [])

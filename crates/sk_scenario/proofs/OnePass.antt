@@ -1,6 +1,6 @@
 -- Lines of a program that are read in one pass.
-use Rattle.std.proofs.Common.{◌≡◌, ◌<◌, ◌≤◌, ◌+◌, ◌-◌, ◌^◌, ◌==◌, ◌&&◌, ◌∙◌, ap, arith, refl, sym, subst, suc, zero, ℕ, List, [], ◌∷◌, ◌++◌, Option, Some, None, is_some, Ok, Err, false, true, IsTrue, Bool, length, take, replicate, codes, append_assoc, slice_set, slice_index, nat_le, if◌then◌else◌, inl, inr, drop, nat_eq, get_or, ◌||◌}
-use Rattle.std.proofs.lemmas.Bool.{cases_Bool, false≢true, eqb-true, eq-eqb, lt-ltb, le-leb, le-ltb}
+use Rattle.std.proofs.Common.{append-nil, ◌≡◌, ◌<◌, ◌≤◌, ◌+◌, ◌-◌, ◌^◌, ◌==◌, ◌&&◌, ◌∙◌, ap, arith, refl, sym, subst, suc, zero, ℕ, List, [], ◌∷◌, ◌++◌, Option, Some, None, is_some, Ok, Err, false, true, IsTrue, Bool, length, take, replicate, codes, append_assoc, slice_set, slice_index, nat_le, if◌then◌else◌, inl, inr, drop, nat_eq, get_or, ◌||◌}
+use Rattle.std.proofs.lemmas.Bool.{cases_Bool, false≢true, eqb-true, eq-eqb, lt-ltb, le-leb, le-ltb, leb-true}
 use Rattle.std.proofs.lemmas.List.{length-take, length-take-le, length-drop, length-set}
 use Rattle.std.specs.List.{list_all, before_first, after_first, position_or_len, starts_with}
 use Rattle.std.specs.Borrow.{Bor}
@@ -22,11 +22,11 @@ use Rattle.std.specs.Option.{IfSome, option_map_or}
 use Rattle.std.proofs.lemmas.Slice.Eq.{bytes_eq-Decides, starts_is}
 use Rattle.sk_scenario.specs.declared.call.ScriptCall.{ScriptCall}
 use Rattle.sk_scenario.specs.declared.text_fault.TextFault.TheVariants.{Limit}
-use Rattle.sk_scenario.specs.Grammar.{Plain, Asked, asked, asked_of, asked_with, forked, numbered}
-use Rattle.sk_scenario.specs.Scenario.{Names, Script, argument_values, child_of, call_of}
-use Rattle.sk_scenario.specs.Reading.{Gained, Calls, with_call, reading, checked, called, resolved, inside, within, stepped}
+use Rattle.sk_scenario.specs.Grammar.{Plain, Asked, heading_of, bytes_of, asked, asked_of, asked_with, forked, numbered}
+use Rattle.sk_scenario.specs.Scenario.{Names, Script, argument_values, child_of, call_of, longest_image}
+use Rattle.sk_scenario.specs.Reading.{Gained, Open, Nothing, Undecided, Bytes, Code, Calls, with_call, reading, checked, started, remarked, decided, called, resolved, inside, within, stepped}
 use Rattle.sk_scenario.specs.views.Script.{call_with}
-use Rattle.sk_scenario.specs.views.OnePass.{words_left, HaveValues, IsValue, IsNext, IsRead, IsShort, HasWordsOf, PassesSilent, AsksFor}
+use Rattle.sk_scenario.specs.views.OnePass.{words_left, HaveValues, IsValue, IsNext, IsRead, IsShort, HasWordsOf, stays, PassesSilent, AsksFor}
 use Rattle.sk_scenario.proofs.Clean.{first_printable}
 use Rattle.sk_scenario.proofs.Passing.{one_read}
 use Rattle.sk_scenario.proofs.Steps.{plain-is}
@@ -354,20 +354,27 @@ module _ (text line : List ℕ) (same : HasWordsOf text line) where
       let some = read.some in
       record { read = record { behind = behind_is; goes_on = rw words read.goes_on; some = omega (arith, less, some) }; short = omega (arith, size, within, near) }
 
-  pub silent_asks : begins_comment (words_of (first_line line)) ≡ true → asked_of (first_line text) ≡ Some None
-  unfolding asked_of
-  silent_asks silent = let words = same.words in rw (words, silent) refl
+  pub silent_says : begins_comment (words_of (first_line line)) ≡ true → begins_comment (words_of (first_line text)) ≡ true
+  silent_says silent = let words = same.words in rw words silent
 
 -- ---- the calls of a block, one by one
 
 pub lines_behind : (text rest : List ℕ) → 0 < length text → behind_line text ≡ rest → lines_of text ≡ first_line text ∷ lines_of rest
 lines_behind text rest some behind = lines_first text some ∙ ap (λ l. first_line text ∷ lines_of l) behind
 
-module _ (known : Option Names) (n : ℕ) (d : Gained) (script : Script) (line : List ℕ) (here : List (List ℕ)) (goes_on : is_end line ≡ false) (short : length line ≤ 255)
-    (printable : IsTrue (list_all is_printable_byte line)) where
-  one_silent : asked_of line ≡ Some None → stepped known n d (Calls script) line here ≡ Ok (d, Calls script)
-  unfolding stepped within inside checked called
-  one_silent says = let plain = plain-is n line short printable in rw (goes_on, plain, says) refl
+module _ (known : Option Names) (n : ℕ) (d : Gained) (line : List ℕ) (here : List (List ℕ)) (goes_on : is_end line ≡ false) (short : length line ≤ 255)
+    (printable : IsTrue (list_all is_printable_byte line)) (says : begins_comment (words_of line) ≡ true) where
+  one_silent : (block : Open) → IsTrue (stays block) → stepped known n d block line here ≡ Ok (d, block)
+  unfolding stepped within inside checked heading_of started remarked decided bytes_of asked_of called
+  one_silent Nothing few = let plain = plain-is n line short printable in rw (plain, says) refl
+  one_silent Undecided few = let plain = plain-is n line short printable in rw (goes_on, plain, says) refl
+  one_silent (Bytes image) few =
+      let plain = plain-is n line short printable in
+      let same = append-nil image in
+      let fits = le-ltb longest_image (length image) (leb-true (length image) longest_image few) in
+      rw (goes_on, plain, says, same, fits) refl
+  one_silent (Code image) few = rw goes_on refl
+  one_silent (Calls script) few = let plain = plain-is n line short printable in rw (goes_on, plain, says) refl
 
 module _ (names : Names) (n : ℕ) (d : Gained) (script : Script) (line : List ℕ) (here : List (List ℕ)) (goes_on : is_end line ≡ false) (short : length line ≤ 255)
     (printable : IsTrue (list_all is_printable_byte line)) (call : ScriptCall) (asks : AsksFor names (λ said. asked_of line ≡ Some (Some said)) call) where
@@ -388,7 +395,7 @@ module _ (names : Names) (n : ℕ) (d : Gained) (script : Script) (line : List �
       let full = le-ltb (length script.calls) 1000 many in
       rw (goes_on, plain, said, full) refl
 
-module _ (known : Option Names) (n : ℕ) (d : Gained) (script : Script) (text rest : List ℕ) (line : IsShort text rest) (clean : IsTrue (list_all (list_all is_printable_byte) (lines_of text))) where
+module _ (text rest : List ℕ) (line : IsShort text rest) (clean : IsTrue (list_all (list_all is_printable_byte) (lines_of text))) where
   cut : lines_of text ≡ first_line text ∷ lines_of rest
   cut = lines_behind text rest line.read.some line.read.behind
 
@@ -398,38 +405,39 @@ module _ (known : Option Names) (n : ℕ) (d : Gained) (script : Script) (text r
   goes_on : is_end (first_line text) ≡ false
   goes_on = ends_not (first_line text) line.read.goes_on
 
-  silent_read : asked_of (first_line text) ≡ Some None → reading known n d (Calls script) (lines_of text) ≡ reading known (n + 1) d (Calls script) (lines_of rest)
-  silent_read says = one_read known n d (Calls script) (lines_of text) (lines_of rest) (first_line text) cut (d, Calls script)
-      (one_silent known n d script (first_line text) (lines_of text) goes_on line.short printable says)
+  silent_read : (known : Option Names) (n : ℕ) (d : Gained) (block : Open) → IsTrue (stays block) → begins_comment (words_of (first_line text)) ≡ true
+      → reading known n d block (lines_of text) ≡ reading known (n + 1) d block (lines_of rest)
+  silent_read known n d block stays says = one_read known n d block (lines_of text) (lines_of rest) (first_line text) cut (d, block)
+      (one_silent known n d (first_line text) (lines_of text) goes_on line.short printable says block stays)
 
 module _ (names : Names) (n : ℕ) (d : Gained) (script : Script) (text rest : List ℕ) (line : IsShort text rest) (clean : IsTrue (list_all (list_all is_printable_byte) (lines_of text)))
     (call : ScriptCall) (asks : AsksFor names (λ said. asked_of (first_line text) ≡ Some (Some said)) call) where
   pub call_read : length script.calls < 1000
       → reading (Some names) n d (Calls script) (lines_of text) ≡ reading (Some names) (n + 1) d (Calls (with_call script call)) (lines_of rest)
-  call_read few = one_read (Some names) n d (Calls script) (lines_of text) (lines_of rest) (first_line text) (cut (Some names) n d script text rest line clean) (d, Calls (with_call script call))
-      (one_call names n d script (first_line text) (lines_of text) (goes_on (Some names) n d script text rest line clean) line.short (printable (Some names) n d script text rest line clean) call asks few)
+  call_read few = one_read (Some names) n d (Calls script) (lines_of text) (lines_of rest) (first_line text) (cut text rest line clean) (d, Calls (with_call script call))
+      (one_call names n d script (first_line text) (lines_of text) (goes_on text rest line clean) line.short (printable text rest line clean) call asks few)
 
   pub calls_full : 1000 ≤ length script.calls → reading (Some names) n d (Calls script) (lines_of text) ≡ Err (Limit n)
   unfolding reading
   calls_full many =
       rw (
-        cut (Some names) n d script text rest line clean,
-        one_many names n d script (first_line text) (first_line text ∷ lines_of rest) (goes_on (Some names) n d script text rest line clean) line.short (printable (Some names) n d script text rest line clean) call asks many,
+        cut text rest line clean,
+        one_many names n d script (first_line text) (first_line text ∷ lines_of rest) (goes_on text rest line clean) line.short (printable text rest line clean) call asks many,
       ) refl
 
 -- ---- lines that are passed over
 
 pub none_passed : (text : List ℕ) (n : ℕ) → PassesSilent text n text n
-none_passed text n = record { same = λ known d script clean. refl; clean = λ clean. clean; few = omega arith; fewer = omega arith }
+none_passed text n = record { same = λ known d block stays clean. refl; clean = λ clean. clean; few = omega arith; fewer = omega arith }
 
-pub one_passed : (text rest behind : List ℕ) (n count : ℕ) → PassesSilent text n rest count → asked_of (first_line rest) ≡ Some None → IsShort rest behind → PassesSilent text n behind (count + 1)
+pub one_passed : (text rest behind : List ℕ) (n count : ℕ) → PassesSilent text n rest count → begins_comment (words_of (first_line rest)) ≡ true → IsShort rest behind → PassesSilent text n behind (count + 1)
 one_passed text rest behind n count passed says line =
     let cut_is = lines_behind rest behind line.read.some line.read.behind in
     let one = ap length cut_is in
     let few = passed.few in
     let fewer = passed.fewer in
     record {
-      same = λ known d script clean. passed.same known d script clean ∙ silent_read known (count + 1) d script rest behind line (passed.clean clean) says;
+      same = λ known d block stays clean. passed.same known d block stays clean ∙ silent_read rest behind line (passed.clean clean) known (count + 1) d block stays says;
       clean = λ clean. (first_printable (lines_of rest) (first_line rest) (lines_of behind) cut_is (passed.clean clean)).1;
       few = omega (arith, one, few);
       fewer = omega (arith, one, fewer);

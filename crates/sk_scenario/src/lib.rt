@@ -17,6 +17,7 @@ mod reading;
 mod scenario;
 mod script;
 mod short;
+mod silent;
 mod state;
 mod text_fault;
 mod top;

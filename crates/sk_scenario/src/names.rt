@@ -7,7 +7,7 @@ use crate::line::TopLine;
 use crate::parse::top_line;
 use crate::state::Names;
 use memchr::memmem::Finder;
-use memchr::memrchr;
+use memchr::{memchr2, memrchr};
 use sk_asm::is_end;
 use sk_text::{Lines, is_same};
 use std::alloc::{AllocError, Global};
@@ -73,16 +73,6 @@ fn behind_block<'a>(end: &Finder<'_>, text: &'a [u8]) -> &'a [u8] {
     &[]
 }
 
-// The text behind the empty lines with which it begins.
-fn behind_empty_lines(text: &[u8]) -> &[u8] {
-    for (at, byte) in text.iter().enumerate() {
-        if *byte != b'\n' {
-            return &text[at..];
-        }
-    }
-    &[]
-}
-
 // The names of a text. No contract says which: whoever reads the text by them finds its names once more, and
 // compares.
 pub(crate) fn find_names(alloc: Global, text: &[u8]) -> Result<Names<'_>, AllocError> {
@@ -97,7 +87,11 @@ pub(crate) fn find_names(alloc: Global, text: &[u8]) -> Result<Names<'_>, AllocE
         if found.names.len() > MOST_NAMES {
             break;
         }
-        rest = Lines(behind_empty_lines(rest.0));
+        // `filter` and `program` have one of these.
+        let Some(place) = memchr2(b'f', b'p', rest.0) else {
+            break;
+        };
+        rest = Lines(from_line_of(rest.0, place));
         let Some(line) = rest.next() else {
             break;
         };

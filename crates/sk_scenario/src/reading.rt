@@ -8,13 +8,14 @@ ghost use Rattle.sk_scenario.specs.Reading.{Gained, Code, is_open, inside, finis
 ghost use Rattle.sk_scenario.specs.Answers.{Answers, IsFaultOf, Judges};
 ghost use Rattle.sk_scenario.specs.views.ScenarioCode.{known_seen, gained, block_seen, IsAssembled};
 
-use crate::TextFault;
+use crate::{Calls, TextFault};
 use crate::calls::{add_call, read_call};
 use crate::directory::Directory;
 use crate::fault::ScenarioFault;
 use crate::filters::{decide, grow};
 use crate::scenario::Program;
 use crate::short::take_calls;
+use crate::silent::pass_silent;
 use crate::state::{Assembled, Block, Done};
 use crate::top::{check_line, has_printable_lines, read_top, start};
 use indexmap::IndexMap;
@@ -71,11 +72,15 @@ fn finish(alloc: Global, done: &mut Done<'_>, current: Block) -> Result<(), Allo
             owner,
             setuid,
             calls,
-        } => done.programs.push(Program {
-            owner,
-            setuid,
-            calls,
-        })?,
+        } => {
+            let packed = calls.packed(alloc)?;
+            done.room = calls;
+            done.programs.push(Program {
+                owner,
+                setuid,
+                calls: packed,
+            })?;
+        }
     }
     Ok(())
 }
@@ -172,7 +177,8 @@ fn step<'a>(
     Ok(None)
 }
 
-// Reads the calls with which the lines go on, where a program is open, the names are known and all lines are printable.
+// Reads the calls with which the lines go on, where a program is open, or passes over lines that say nothing, where the names
+// are known and all lines are printable.
 #[inline(always)]
 fn go_on<'a>(
     known: Option<&Directory<'_>>,
@@ -196,6 +202,10 @@ fn go_on<'a>(
     };
     match current {
         Block::Calls { calls, .. } if is_clean => take_calls(calls, names, n, lines),
+        Block::Nothing | Block::Undecided if is_clean => {
+            lines.0 = pass_silent(lines.0, n);
+            Ok(())
+        }
         Block::Nothing
         | Block::Undecided
         | Block::Bytes(_)
@@ -267,6 +277,7 @@ pub(crate) fn read_lines<'a>(
         names: IndexMap::new(alloc),
         filters: Vec::new(alloc),
         programs: Vec::new(alloc),
+        room: Calls::new(alloc),
     };
     let mut current = Block::Nothing;
     let mut n = 0;

@@ -1,6 +1,6 @@
 //! The calls of a program, kept closely: most of their registers are 0.
-ghost use Rattle.std.specs.Prelude.{◌≡◌, ◌+◌, ◌<◌, ◌≤◌, ◌^◌, ℕ, [], ◌∷◌, ◌++◌, IfSome, IsTrue, OnOk, OnErr, length, slice_get, slice_index, vec_len, vec_capacity};
-ghost use Rattle.sk_scenario.specs.views.Script.{arguments_kept, script_kept, call_kept, call_with, words_of_script, IsWithin, Grows};
+ghost use Rattle.std.specs.Prelude.{◌≡◌, ◌+◌, ◌<◌, ◌≤◌, ◌^◌, ℕ, [], ◌∷◌, ◌++◌, IfOk, IfSome, IsTrue, OnOk, OnErr, length, slice_get, slice_index, vec_len, vec_capacity};
+ghost use Rattle.sk_scenario.specs.views.Script.{arguments_kept, script_kept, call_kept, call_with, words_of_script, AreWithin, IsWithin, Grows};
 
 use crate::ScriptCall;
 use sk_calls::Call;
@@ -53,6 +53,24 @@ impl Calls {
         }
     }
 
+    // The same calls, in no more room than they take.
+    pub(crate) fn packed(&self, alloc: Global) -> Result<Calls, AllocError>
+        ensures same { IfOk result (λ packed. packed ≡ self.now) }
+    {
+        Ok(Calls {
+            heads: copied(alloc, self.heads.as_slice())?,
+            words: copied(alloc, self.words.as_slice())?,
+        })
+    }
+
+    // Leaves no call. The room stays.
+    pub(crate) fn clear(&mut self)
+        ensures { self.new ≡ [] }
+    {
+        self.heads.clear();
+        self.words.clear();
+    }
+
     /// How many calls there are, at most 1000.
     pub fn len(&self) -> usize
         ensures count { result ≡ length self.now }
@@ -98,11 +116,24 @@ impl Calls {
         ensures kept { OnErr result (self.new ≡ self.old) }
     {
         self.heads.reserve(1)?;
+        let repeated = repeated(self.heads.as_slice(), self.words.as_slice(), nr, arguments, script);
+        if let Some(head) = repeated {
+            self.heads.push_reserved(head);
+            return Ok(());
+        }
         self.words.reserve(MOST_WORDS)?;
         let head = keep(&mut self.words, nr, arguments, script);
         self.heads.push_reserved(head);
         Ok(())
     }
+}
+
+fn copied<T: Copy>(alloc: Global, items: &[T]) -> Result<Vec<T>, AllocError>
+    ensures same { IfOk result (λ copied. copied.items ≡ items.now) }
+{
+    let mut copied = Vec::with_capacity(alloc, items.len())?;
+    copied.extend_from_slice(items)?;
+    Ok(copied)
 }
 
 #[inline(always)]
@@ -180,6 +211,46 @@ fn some_arguments(words: &[u64], first: usize, count: u8) -> [u64; 6]
             words[first + 5],
         ],
     }
+}
+
+// The call, where its words are those of the last one, as they are where a line is repeated.
+#[inline(always)]
+fn repeated(
+    heads: &[Head],
+    words: &[u64],
+    nr: u32,
+    arguments: &[u64],
+    script: Option<u32>,
+) -> Option<Head>
+    requires within { AreWithin words.now heads.now }
+    ensures within { IfSome result (λ head. IsWithin words.now head) }
+    ensures same { IfSome result (λ head. call_kept words.now head ≡ call_with nr arguments.now script) }
+{
+    if arguments.is_empty() || script.is_some() {
+        return None;
+    }
+    let last = heads.last()?;
+    if last.has_script || last.count as usize != arguments.len() {
+        return None;
+    }
+    if !stand_at(words, last.first as usize, arguments) {
+        return None;
+    }
+    Some(Head { nr, ..*last })
+}
+
+// Whether these are the words from a place on.
+#[inline(always)]
+fn stand_at(words: &[u64], first: usize, arguments: &[u64]) -> bool
+    requires within { first + length arguments.now ≤ length words.now }
+    ensures same { IsTrue result → (k : ℕ) → k < length arguments.now → slice_index words.now (first + k) ≡ slice_index arguments.now k }
+{
+    for at in 0..arguments.len() {
+        if words[first + at] != arguments[at] {
+            return false;
+        }
+    }
+    true
 }
 
 // Puts the words of a call behind the others, and answers what else it is.

@@ -14,6 +14,8 @@ pub(crate) struct Done<'a> {
     pub(crate) names: Names<'a>,
     pub(crate) filters: Vec<Vec<u8>>,
     pub(crate) programs: Vec<Program>,
+    // room for the calls of the next program
+    pub(crate) room: Calls,
 }
 
 // The block that is open.

@@ -18,6 +18,7 @@ use crate::state::{Block, Done};
 use crate::{Calls, Named, TextFault};
 use sk_text::{is_clean, is_printable, number_up_to};
 use std::alloc::Global;
+use std::mem;
 
 // The most bytes that a line may have.
 pub(crate) const LONGEST_LINE: usize = 255;
@@ -168,10 +169,12 @@ pub(crate) fn start<'a>(
         TopLine::Program(name, owner, setuid) => {
             let count = done.programs.len();
             give(done, n, name, true, count)?;
+            let mut calls = mem::replace(&mut done.room, Calls::new(alloc));
+            calls.clear();
             Ok(Block::Calls {
                 owner,
                 setuid,
-                calls: Calls::new(alloc),
+                calls,
             })
         }
     }

@@ -1,5 +1,5 @@
 -- Lines of a program as they are read in one pass, word by word.
-use Rattle.std.specs.Prelude.{◌≡◌, ◌<◌, ◌≤◌, ◌+◌, ◌∷◌, ℕ, false, List, length, IsTrue, Option, Some}
+use Rattle.std.specs.Prelude.{◌≡◌, ◌<◌, ◌≤◌, ◌+◌, ◌∷◌, ℕ, nat_le, Bool, true, false, List, length, IsTrue, Option, Some}
 use Rattle.std.specs.List.{list_all}
 use Rattle.sk_text.specs.Lines.{lines_of, words_of, is_printable_byte}
 use Rattle.sk_text.specs.FirstLine.{first_line, behind_line, line_left, text_left}
@@ -7,8 +7,8 @@ use Rattle.sk_text.specs.declared.ahead.Behind.{Behind}
 use Rattle.sk_asm.specs.Block.{are_end}
 use Rattle.sk_scenario.specs.declared.call.ScriptCall.{ScriptCall}
 use Rattle.sk_scenario.specs.Grammar.{Argument, Asked, argument_of, arguments_of}
-use Rattle.sk_scenario.specs.Scenario.{Names, Script, argument_value, argument_values, call_of}
-use Rattle.sk_scenario.specs.Reading.{Gained, Calls, reading}
+use Rattle.sk_scenario.specs.Scenario.{Names, argument_value, argument_values, call_of, longest_image}
+use Rattle.sk_scenario.specs.Reading.{Gained, Open, Nothing, Undecided, Bytes, Code, Calls, reading}
 
 -- the words of the line that stand behind a word of it
 abbrev pub words_left : Behind → List (List ℕ)
@@ -56,10 +56,18 @@ pub record HasWordsOf (text line : List ℕ) : Type 0 where
   pub behind : behind_line text ≡ behind_line line
   pub less : length line ≤ length text
 
--- the lines that were passed over, so many, change nothing where a program is open
+-- whether a block stays as it is at lines that say nothing; one of bytes does where they are not too many already
+abbrev pub stays : Open → Bool
+stays Nothing = true
+stays Undecided = true
+stays (Bytes image) = nat_le (length image) longest_image
+stays (Code image) = true
+stays (Calls script) = true
+
+-- the lines that were passed over, so many, change nothing
 pub record PassesSilent (text : List ℕ) (n : ℕ) (rest : List ℕ) (count : ℕ) : Type 0 where
-  pub same : (known : Option Names) (d : Gained) (script : Script) → IsTrue (list_all (list_all is_printable_byte) (lines_of text))
-      → reading known (n + 1) d (Calls script) (lines_of text) ≡ reading known (count + 1) d (Calls script) (lines_of rest)
+  pub same : (known : Option Names) (d : Gained) (block : Open) → IsTrue (stays block) → IsTrue (list_all (list_all is_printable_byte) (lines_of text))
+      → reading known (n + 1) d block (lines_of text) ≡ reading known (count + 1) d block (lines_of rest)
   pub clean : IsTrue (list_all (list_all is_printable_byte) (lines_of text)) → IsTrue (list_all (list_all is_printable_byte) (lines_of rest))
   pub few : count + length (lines_of rest) ≤ n + length (lines_of text)
   pub fewer : length (lines_of rest) ≤ length (lines_of text)

@@ -50,5 +50,5 @@ loop-short-preserved c =
       clean = passed.clean clean;
       so_far = λ owner setuid d. c.loop-short.invariant.so_far owner setuid d
           ∙ rw pushed (call_read _ _ d (script_with owner setuid c.loop-short.calls) _ _ short.line c.loop-short.invariant.clean _ short.call (subst (λ n. n < 1000) c.len.ensures.count c.in_ok-judge_count.ensures.exact)
-          ∙ passed.same _ d _ clean);
+          ∙ passed.same _ d _ refl clean);
     }

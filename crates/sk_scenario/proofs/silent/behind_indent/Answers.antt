@@ -1,6 +1,6 @@
 use Rattle.std.proofs.Common.{◌-◌, ◌≤◌, arith, drop, length, length-drop, take_all}
 use Rattle.sk_scenario.proofs.OnePass.{less_a_space}
-use Rattle.sk_scenario.proofs.short.behind_indent.Goals as goal
+use Rattle.sk_scenario.proofs.silent.behind_indent.Goals as goal
 
 pub loop-line-preserved : goal.loop-line-preserved
 loop-line-preserved c =

@@ -1,6 +1,6 @@
 use Rattle.std.proofs.Common.{arith, ap, length}
 use Rattle.sk_scenario.proofs.OnePass.{lines_behind, one_passed}
-use Rattle.sk_scenario.proofs.short.silent_lines.Goals as goal
+use Rattle.sk_scenario.proofs.silent.silent_lines.Goals as goal
 
 pub loop-behind-smaller : goal.loop-behind-smaller
 loop-behind-smaller c =

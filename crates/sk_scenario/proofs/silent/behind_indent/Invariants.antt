@@ -1,6 +1,6 @@
 use Rattle.std.proofs.Common.{length}
 use Rattle.sk_scenario.specs.views.OnePass.{HasWordsOf}
-use Rattle.sk_scenario.proofs.short.behind_indent.Given as goal
+use Rattle.sk_scenario.proofs.silent.behind_indent.Given as goal
 
 -- only spaces were passed
 abbrev pub invariant-loop-line : goal.invariant-loop-line

@@ -1,7 +1,7 @@
 use Rattle.std.proofs.Common.{length}
 use Rattle.sk_text.specs.Lines.{lines_of}
 use Rattle.sk_scenario.specs.views.OnePass.{PassesSilent}
-use Rattle.sk_scenario.proofs.short.silent_lines.Given as goal
+use Rattle.sk_scenario.proofs.silent.silent_lines.Given as goal
 
 -- the lines so far are passed over
 abbrev pub invariant-loop-behind : goal.invariant-loop-behind
