@@ -3,6 +3,7 @@ pub mod Passing
 pub mod Decimals
 pub mod Blocks
 pub mod CodeLines
+pub mod Joining
 pub mod Judging
 pub mod Keeping
 pub mod Least

@@ -1,14 +1,18 @@
 -- Lines of a program that are read in one pass.
-use Rattle.std.proofs.Common.{append-nil, ◌≡◌, ◌<◌, ◌≤◌, ◌+◌, ◌-◌, ◌^◌, ◌==◌, ◌&&◌, ◌∙◌, ap, arith, refl, sym, subst, suc, zero, ℕ, List, [], ◌∷◌, ◌++◌, Option, Some, None, is_some, Ok, Err, false, true, IsTrue, Bool, length, take, replicate, codes, append_assoc, slice_set, slice_index, nat_le, if◌then◌else◌, inl, inr, drop, nat_eq, get_or, ◌||◌}
+use Rattle.std.proofs.Common.{append-nil, Result, ◌/◌, ◌%◌, ◌≡◌, ◌<◌, ◌≤◌, ◌+◌, ◌-◌, ◌^◌, ◌==◌, ◌&&◌, ◌∙◌, ap, arith, refl, sym, subst, suc, zero, ℕ, List, [], ◌∷◌, ◌++◌, Option, Some, None, is_some, Ok, Err, false, true, IsTrue, Bool, length, take, replicate, codes, append_assoc, slice_set, slice_index, nat_le, if◌then◌else◌, inl, inr, drop, nat_eq, get_or, ◌||◌}
 use Rattle.std.proofs.lemmas.Bool.{cases_Bool, false≢true, eqb-true, eq-eqb, lt-ltb, le-leb, le-ltb, leb-true}
 use Rattle.std.proofs.lemmas.List.{length-take, length-take-le, length-drop, length-set}
-use Rattle.std.specs.List.{list_all, before_first, after_first, position_or_len, starts_with}
+use Rattle.std.specs.List.{concat, list_all, before_first, after_first, position_or_len, starts_with}
 use Rattle.std.specs.Borrow.{Bor}
 use Rattle.std.specs.Str.{bytes_eq}
 use Rattle.sk_asm.specs.Block.{is_end, are_end}
 use Rattle.sk_text.specs.FirstLine.{BeginsWith, Begins, first_line, behind_line, text_left}
 use Rattle.sk_text.specs.Lines.{lines_of, words_of, begins_comment, is_printable_byte}
+use Rattle.sk_text.specs.Hexadecimal.{bytes_in}
 use Rattle.sk_text.specs.Numbers.{number_of}
+use Rattle.hex.specs.Hex.{decode_sized}
+use Rattle.hex.specs.declared.error.FromHexError.{FromHexError}
+use Rattle.std.specs.Result.{is_err, MatchResult}
 use Rattle.sk_text.specs.Words.{is_name}
 use Rattle.sk_text.specs.declared.ahead.Behind.{Behind}
 use Rattle.sk_text.specs.declared.ahead.Behind.TheVariants.{Words, Lines}
@@ -26,7 +30,7 @@ use Rattle.sk_scenario.specs.Grammar.{Plain, Asked, heading_of, bytes_of, asked,
 use Rattle.sk_scenario.specs.Scenario.{Names, Script, argument_values, child_of, call_of, longest_image}
 use Rattle.sk_scenario.specs.Reading.{Gained, Open, Nothing, Undecided, Bytes, Code, Calls, with_call, reading, checked, started, remarked, decided, called, resolved, inside, within, stepped}
 use Rattle.sk_scenario.specs.views.Script.{call_with}
-use Rattle.sk_scenario.specs.views.OnePass.{words_left, HaveValues, IsValue, IsNext, IsRead, IsShort, HasWordsOf, stays, PassesSilent, AsksFor}
+use Rattle.sk_scenario.specs.views.OnePass.{words_left, HaveValues, IsValue, IsNext, IsRead, IsShort, HasWordsOf, stays, PassesSilent, AsksFor, AddsBytes}
 use Rattle.sk_scenario.proofs.Clean.{first_printable}
 use Rattle.sk_scenario.proofs.Passing.{one_read}
 use Rattle.sk_scenario.proofs.Steps.{plain-is}
@@ -242,9 +246,13 @@ with_values names nr count words values six few have =
 begins_fork : (rest : List ℕ) → BeginsWith (codes "fork " ++ rest) (codes "fork") rest false
 begins_fork rest = further_at (codes "fork " ++ rest) 4 refl (omega arith) refl
 
+pub starts_as : (text front behind : List ℕ) → IsTrue (starts_with nat_eq text front) → behind ≡ drop (length front) text → text ≡ front ++ behind
+starts_as text front behind starts cut =
+    (starts_is (λ a b. (eqb-true a b, eq-eqb a b)) text front (starts_with nat_eq text front) refl).0 starts ∙ ap (λ l. front ++ l) (sym cut)
+
 module _ (text behind : List ℕ) (fork : IsTrue (starts_with nat_eq text (codes "fork "))) (cut : behind ≡ drop 5 text) where
   text_is : text ≡ codes "fork " ++ behind
-  text_is = (starts_is (λ a b. (eqb-true a b, eq-eqb a b)) text (codes "fork ") (starts_with nat_eq text (codes "fork ")) refl).0 fork ∙ ap (λ l. codes "fork " ++ l) (sym cut)
+  text_is = starts_as text (codes "fork ") behind fork cut
 
   pub fork_begins : BeginsWith text (codes "fork") behind false
   fork_begins = rw text_is (begins_fork behind)
@@ -442,3 +450,73 @@ one_passed text rest behind n count passed says line =
       few = omega (arith, one, few);
       fewer = omega (arith, one, fewer);
     }
+
+-- ---- a line of bytes
+
+begins_bytes_line : (rest : List ℕ) → BeginsWith (codes "bytes " ++ rest) (codes "bytes") rest false
+begins_bytes_line rest = further_at (codes "bytes " ++ rest) 5 refl (omega arith) refl
+
+sized : (digits : List ℕ) (size : ℕ) (bytes : List ℕ) → decode_sized digits size ≡ Ok bytes → bytes_in digits ≡ Some bytes
+unfolding bytes_in
+sized digits size bytes h = elim (cases_Bool (length digits % 2 == 1)) [
+  | inl odd ↦ let none = rw odd at h in cc
+  | inr even ↦ elim (cases_Bool (length digits / 2 == size)) [
+      | inl fits ↦ let whole = rw (even, fits) at h in rw (even, whole) refl
+      | inr other ↦ let none = rw (even, other) at h in cc
+    ]
+]
+
+pub decoded_bytes : (digits : List ℕ) (size : ℕ) (result : Result (Unit {0}) FromHexError) (bytes : List ℕ)
+    → MatchResult (decode_sized digits size) (λ given. (result ≡ Ok tt) × (bytes ≡ given)) (λ fault. result ≡ Err fault) → is_err result ≡ false → bytes_in digits ≡ Some bytes
+decoded_bytes digits size result bytes h well = go (decode_sized digits size) refl h
+  where
+    go : (decoded : Result (List ℕ) FromHexError) → decode_sized digits size ≡ decoded
+        → MatchResult decoded (λ given. (result ≡ Ok tt) × (bytes ≡ given)) (λ fault. result ≡ Err fault) → bytes_in digits ≡ Some bytes
+    go (Ok given) is h = sized digits size given is ∙ ap Some (sym h.1)
+    go (Err fault) is h = let none = rw h at well in absurd (false≢true (sym none))
+
+module _ (text behind rest : List ℕ) (starts : IsTrue (starts_with nat_eq text (codes "bytes "))) (cut : behind ≡ drop 6 text) (left : behind_line behind ≡ rest)
+    (near : length text - length rest ≤ 255) where
+  bytes_text : text ≡ codes "bytes " ++ behind
+  bytes_text = starts_as text (codes "bytes ") behind starts cut
+
+  bytes_begin : BeginsWith text (codes "bytes") behind false
+  bytes_begin = rw bytes_text (begins_bytes_line behind)
+
+  bytes_words : words_of (first_line text) ≡ codes "bytes" ∷ words_of (first_line behind)
+  bytes_words = first_words text (codes "bytes") behind false bytes_begin (omega arith)
+
+  bytes_read : IsRead text rest
+  bytes_read = record {
+    behind = bytes_begin.behind ∙ left;
+    goes_on = rw bytes_words (open_words (codes "bytes") (words_of (first_line behind)) refl);
+    some = let long = ap length bytes_text in omega (arith, long);
+  }
+
+  bytes_said : (digits bytes : List ℕ) → digits ≡ concat (words_of (first_line behind)) → bytes_in digits ≡ Some bytes → bytes_of (first_line text) ≡ Some bytes
+  unfolding bytes_of
+  bytes_said digits bytes joined written = let said = subst (λ l. bytes_in l ≡ Some bytes) joined written in rw (bytes_words, said) refl
+
+  pub bytes_added : (image grown digits bytes : List ℕ) → digits ≡ concat (words_of (first_line behind)) → bytes_in digits ≡ Some bytes
+      → grown ≡ image ++ bytes → length grown ≤ longest_image → AddsBytes text rest image grown
+  bytes_added image grown digits bytes joined written grown_is fits = record {
+    bytes = bytes;
+    said = bytes_said digits bytes joined written;
+    line = behind_short text text (own_words text) rest bytes_read near;
+    grown_is = grown_is;
+    fits = fits;
+  }
+
+module _ (known : Option Names) (n : ℕ) (d : Gained) (text rest image grown : List ℕ) (adds : AddsBytes text rest image grown) (clean : IsTrue (list_all (list_all is_printable_byte) (lines_of text))) where
+  one_grown : stepped known n d (Bytes image) (first_line text) (lines_of text) ≡ Ok (d, Bytes grown)
+  unfolding stepped within inside checked
+  one_grown =
+      let inner = goes_on text rest adds.line clean in
+      let plain = plain-is n (first_line text) adds.line.short (printable text rest adds.line clean) in
+      let said = adds.said in
+      let grown_is = adds.grown_is in
+      let fits = le-ltb longest_image (length (image ++ adds.bytes)) (subst (λ l. length l ≤ longest_image) grown_is adds.fits) in
+      rw (inner, plain, said, fits, grown_is) refl
+
+  pub bytes_go_on : reading known n d (Bytes image) (lines_of text) ≡ reading known (n + 1) d (Bytes grown) (lines_of rest)
+  bytes_go_on = one_read known n d (Bytes image) (lines_of text) (lines_of rest) (first_line text) (cut text rest adds.line clean) (d, Bytes grown) one_grown

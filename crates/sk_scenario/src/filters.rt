@@ -21,7 +21,7 @@ use sk_text::{HexFault, Words, bytes_of, is_passed_over, is_same};
 use std::alloc::{AllocError, Global};
 
 // The most bytes that a filter's image may have.
-const LONGEST_IMAGE: usize = 32776;
+pub(crate) const LONGEST_IMAGE: usize = 32776;
 
 // The bytes that line `n` adds to an image.
 #[tactic(auto, unfolding(crate::specs::Grammar::bytes_of))]

@@ -8,6 +8,7 @@ mod directory;
 mod examples;
 mod fault;
 mod filters;
+mod image;
 pub mod laws;
 mod line;
 mod names;

@@ -12,7 +12,8 @@ use crate::{Calls, TextFault};
 use crate::calls::{add_call, read_call};
 use crate::directory::Directory;
 use crate::fault::ScenarioFault;
-use crate::filters::{decide, grow};
+use crate::filters::{LONGEST_IMAGE, decide, grow};
+use crate::image::take_bytes;
 use crate::scenario::Program;
 use crate::short::take_calls;
 use crate::silent::pass_silent;
@@ -204,6 +205,10 @@ fn go_on<'a>(
         Block::Calls { calls, .. } if is_clean => take_calls(calls, names, n, lines),
         Block::Nothing | Block::Undecided if is_clean => {
             lines.0 = pass_silent(lines.0, n);
+            Ok(())
+        }
+        Block::Bytes(image) if is_clean && image.len() <= LONGEST_IMAGE => {
+            take_bytes(image, n, lines)?;
             Ok(())
         }
         Block::Nothing

@@ -1,12 +1,12 @@
 -- Lines of a program as they are read in one pass, word by word.
-use Rattle.std.specs.Prelude.{◌≡◌, ◌<◌, ◌≤◌, ◌+◌, ◌∷◌, ℕ, nat_le, Bool, true, false, List, length, IsTrue, Option, Some}
+use Rattle.std.specs.Prelude.{◌≡◌, ◌<◌, ◌≤◌, ◌+◌, ◌∷◌, ◌++◌, ℕ, nat_le, Bool, true, false, List, length, IsTrue, Option, Some}
 use Rattle.std.specs.List.{list_all}
 use Rattle.sk_text.specs.Lines.{lines_of, words_of, is_printable_byte}
 use Rattle.sk_text.specs.FirstLine.{first_line, behind_line, line_left, text_left}
 use Rattle.sk_text.specs.declared.ahead.Behind.{Behind}
 use Rattle.sk_asm.specs.Block.{are_end}
 use Rattle.sk_scenario.specs.declared.call.ScriptCall.{ScriptCall}
-use Rattle.sk_scenario.specs.Grammar.{Argument, Asked, argument_of, arguments_of}
+use Rattle.sk_scenario.specs.Grammar.{Argument, Asked, argument_of, arguments_of, bytes_of}
 use Rattle.sk_scenario.specs.Scenario.{Names, argument_value, argument_values, call_of, longest_image}
 use Rattle.sk_scenario.specs.Reading.{Gained, Open, Nothing, Undecided, Bytes, Code, Calls, reading}
 
@@ -71,3 +71,11 @@ pub record PassesSilent (text : List ℕ) (n : ℕ) (rest : List ℕ) (count : �
   pub clean : IsTrue (list_all (list_all is_printable_byte) (lines_of text)) → IsTrue (list_all (list_all is_printable_byte) (lines_of rest))
   pub few : count + length (lines_of rest) ≤ n + length (lines_of text)
   pub fewer : length (lines_of rest) ≤ length (lines_of text)
+
+-- the first line of a text is read, and its bytes stand behind an image
+pub record AddsBytes (text rest image grown : List ℕ) : Type 0 where
+  pub bytes : List ℕ
+  pub said : bytes_of (first_line text) ≡ Some bytes
+  pub line : IsShort text rest
+  pub grown_is : grown ≡ image ++ bytes
+  pub fits : length grown ≤ longest_image
