@@ -1,7 +1,7 @@
 -- Lines of a program that are read in one pass.
 use Rattle.std.proofs.Common.{append-nil, Result, ◌/◌, ◌%◌, ◌≡◌, ◌<◌, ◌≤◌, ◌+◌, ◌-◌, ◌^◌, ◌==◌, ◌&&◌, ◌∙◌, ap, arith, refl, sym, subst, suc, zero, ℕ, List, [], ◌∷◌, ◌++◌, Option, Some, None, is_some, Ok, Err, false, true, IsTrue, Bool, length, take, replicate, codes, append_assoc, slice_set, slice_index, nat_le, if◌then◌else◌, inl, inr, drop, nat_eq, get_or, ◌||◌}
 use Rattle.std.proofs.lemmas.Bool.{cases_Bool, false≢true, eqb-true, eq-eqb, lt-ltb, le-leb, le-ltb, leb-true}
-use Rattle.std.proofs.lemmas.List.{length-take, length-take-le, length-drop, length-set}
+use Rattle.std.proofs.lemmas.List.{length-take, length-take-le, length-drop, length-set, take_more_set}
 use Rattle.std.specs.List.{concat, list_all, before_first, after_first, position_or_len, starts_with}
 use Rattle.std.specs.Borrow.{Bor}
 use Rattle.std.specs.Str.{bytes_eq}
@@ -94,13 +94,6 @@ pub record AreRead (names : Names) (initial : Behind) (values : List ℕ) (count
 pub none_read : (names : Names) (behind : Behind) (values : List ℕ) → length values ≡ 6 → AreRead names behind values 0 behind
 none_read names behind values six = record { six = six; so_far = λ others h. h; behind_is = refl }
 
-take_set : (values : List ℕ) (count value : ℕ) → count < length values → take (count + 1) (slice_set values count value) ≡ take count values ++ value ∷ []
-take_set [] count value h = absurd (omega (arith, h))
-take_set (first ∷ values) zero value h = refl
-take_set (first ∷ values) (suc count) value h =
-    let next : suc count + 1 ≡ suc (count + 1) = omega arith in
-    rw next (ap (λ l. first ∷ l) (take_set values count value (omega (arith, h))))
-
 module _ (names : Names) (initial : Behind) (values : List ℕ) (count : ℕ) where
   pub all_read : (rest : Bor (List ℕ)) → AreRead names initial values count (Lines rest) → HaveValues names 6 (words_left initial) (take count values ++ replicate (6 - count) 0)
   all_read rest read = read.so_far (replicate (6 - count) 0) (none_left names (6 - count))
@@ -115,7 +108,7 @@ module _ (names : Names) (initial : Behind) (values : List ℕ) (count : ℕ) wh
       let left : 6 - count ≡ suc (6 - (count + 1)) = omega (arith, few) in
       let words = is.words in
       let six = read.six in
-      let taken_is = take_set values count value (omega (arith, few, six)) in
+      let taken_is = take_more_set values count value (omega (arith, few, six)) in
       record {
         six = length-set values count value ∙ six;
         so_far = λ others more.

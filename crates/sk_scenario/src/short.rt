@@ -263,10 +263,11 @@ fn behind_end(text: &[u8]) -> Option<&[u8]>
 fn value_ahead<'a>(names: &Directory<'_>, text: &'a [u8]) -> Option<(u64, Behind<'a>)>
     ensures value { IfSome result (λ found. IsNext (names_seen names.now.names) text.now found.0 found.1) }
 {
-    if let Some((number, ahead)) = number_ahead(text) {
+    let line = behind_spaces(text);
+    if let Some((number, ahead)) = number_ahead(line) {
         return Some((number, ahead.behind));
     }
-    let Ahead { word, behind } = word_ahead(behind_spaces(text));
+    let Ahead { word, behind } = word_ahead(line);
     if word.is_empty() {
         return None;
     }
