@@ -1,3 +1,4 @@
+pub mod Aheads
 pub mod Blocks
 pub mod Clean
 pub mod Ends

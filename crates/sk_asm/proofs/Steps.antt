@@ -1,58 +1,42 @@
 -- One step of the first pass, by how its line was read, and what it does to what all lines give.
-use Rattle.std.proofs.Common.{◌≡◌, ◌<◌, ◌+◌, ◌∙◌, ap, arith, sym, subst, ℕ, List, ◌∷◌, ◌-◌, refl, drop, Bool, true, false, Some, Result, Ok, Err, length}
-use Rattle.sk_insn.specs.declared.insn.Insn.{Insn}
-use Rattle.sk_text.specs.FirstLine.{behind_line, first_line}
+use Rattle.std.proofs.Common.{◌≡◌, ◌+◌, ◌∙◌, ap, arith, sym, subst, ℕ, List, refl, drop, Bool, true, false, Some, Result, Ok, Err, length}
+use Rattle.sk_text.specs.FirstLine.{first_line}
 use Rattle.sk_text.specs.Lines.{lines_of}
 use Rattle.sk_asm.specs.declared.fault.AsmFault.{AsmFault}
-use Rattle.sk_asm.specs.Assembly.{SaysLine}
 use Rattle.sk_asm.specs.Block.{lines_in}
-use Rattle.sk_asm.specs.Clean.{AreClean}
-use Rattle.sk_asm.specs.Drafts.{IsUntaken, Seen, Takes, completed}
+use Rattle.sk_asm.specs.Drafts.{Seen, Takes, completed}
 use Rattle.sk_asm.specs.Faults.{◌>>=◌, IsAsmFault}
-use Rattle.sk_asm.specs.Grammar.{Statement, Plain}
+use Rattle.sk_asm.specs.FirstLine.{RefusesFirst, TakesFirst}
+use Rattle.sk_asm.specs.Grammar.{Statement}
 use Rattle.sk_asm.specs.Labels.{Labels}
 use Rattle.sk_asm.specs.NextLine.{HasNoLine, MayTake, RefusesLine, TakesLine}
 use Rattle.sk_asm.specs.Passes.{checked, emitted, labelled, noted}
 use Rattle.sk_asm.proofs.Blocks.{drop_one_more}
-use Rattle.sk_asm.proofs.FirstLines.{clean-behind, plain-cut, plain-whole}
+use Rattle.sk_asm.proofs.FirstLines.{first-cut, first-whole}
 use Rattle.sk_asm.proofs.Meaning.{checked-says}
 use Rattle.sk_asm.proofs.Turns.{FoundSoFar, IsAsmFault-along, found-end, found-taken, labelled-end, labelled-taken}
 
--- ---- a line that was read as one instruction
+-- ---- a line that was read in one pass
 
-module _ (is_block : Bool) (n at : ℕ) (text rest : List ℕ) (given : Insn) (old : Seen)
-    (says : SaysLine (first_line text) (Plain given)) (behind : behind_line text ≡ rest) (size : at ≡ length old.insns) where
-  pub plain-taken : (new : Seen) (next : ℕ) → Takes n at (Some (Plain given)) old new next → TakesLine is_block n text rest old new
-  plain-taken new next h = record {
-    line = first_line text;
-    given = Some (Plain given);
-    next = next;
-    cut = record {
-      block = plain-cut text given says is_block ∙ ap (λ l. first_line text ∷ lines_in is_block l) behind;
-      whole = plain-whole text given says ∙ ap (λ l. first_line text ∷ lines_of l) behind;
-    };
-    said = checked-says n (first_line text) (Plain given) says;
-    taken = subst (λ k. Takes n k (Some (Plain given)) old new next) size h;
-  }
+pub first-taken : (is_block : Bool) (n at : ℕ) (text rest : List ℕ) (old new : Seen) → at ≡ length old.insns → TakesFirst n at text rest old new → TakesLine is_block n text rest old new
+first-taken is_block n at text rest old new size h = record {
+  line = first_line text;
+  given = Some h.said;
+  next = h.next;
+  cut = record { block = first-cut text rest h.said h.first is_block; whole = first-whole text rest h.said h.first };
+  said = checked-says n (first_line text) h.said h.first.says;
+  taken = subst (λ k. Takes n k (Some h.said) old new h.next) size h.taken;
+}
 
-  pub plain-refused : (fault : AsmFault) → IsUntaken n at (Some (Plain given)) old fault → RefusesLine is_block n text old fault
-  plain-refused fault h = record {
-    line = first_line text;
-    rest = lines_in is_block (behind_line text);
-    cut = plain-cut text given says is_block;
-    refused =
-        let known = checked-says n (first_line text) (Plain given) says in
-        rw known (subst (λ k. IsAsmFault fault (noted n old.labels k (Plain given))) size h);
-  }
-
-pub plain-clean : (is_block : Bool) (text rest : List ℕ) (given : Insn) (sure left : ℕ) → SaysLine (first_line text) (Plain given) → behind_line text ≡ rest
-    → AreClean sure (lines_in is_block text) → left ≡ sure - (length text - length rest) → AreClean left (lines_in is_block rest)
-plain-clean is_block text rest given sure left says behind all less =
-    let size = ap length behind in
-    subst (λ l. AreClean left (lines_in is_block l)) behind (clean-behind text given says is_block sure left all (omega (arith, size, less)))
-
-pub plain-within : (is_block : Bool) (text : List ℕ) (given : Insn) (n most : ℕ) → SaysLine (first_line text) (Plain given) → n + length (lines_in is_block text) < most → n + 1 < most
-plain-within is_block text given n most says within = let some = ap length (plain-cut text given says is_block) in omega (arith, some, within)
+pub first-refused : (is_block : Bool) (n at : ℕ) (text : List ℕ) (old : Seen) (fault : AsmFault) → at ≡ length old.insns → RefusesFirst n at text old fault → RefusesLine is_block n text old fault
+first-refused is_block n at text old fault size h = record {
+  line = first_line text;
+  rest = lines_in is_block h.rest;
+  cut = first-cut text h.rest h.said h.first is_block;
+  refused =
+      let known = checked-says n (first_line text) h.said h.first.says in
+      rw known (subst (λ k. IsAsmFault fault (noted n old.labels k h.said)) size h.refused);
+}
 
 -- ---- what a step does to what all lines give
 

@@ -1,8 +1,10 @@
+pub mod Ahead
 pub mod Assembly
 pub mod Block
 pub mod Clean
 pub mod Drafts
 pub mod Faults
+pub mod FirstLine
 pub mod Grammar
 pub mod Labels
 pub mod LineFaults

@@ -161,7 +161,13 @@ impl<'a> Found<'a> {
     }
 
     #[tactic(auto, unfolding(crate::specs::Passes::noted))]
-    fn push_jump(&mut self, n: usize, at: usize, given: Option<Jump<'a>>) -> Result<usize, AsmFault>
+    #[inline(always)]
+    pub(crate) fn push_jump(
+        &mut self,
+        n: usize,
+        at: usize,
+        given: Option<Jump<'a>>,
+    ) -> Result<usize, AsmFault>
         ensures taken { MatchResult result
             (λ next. Takes n at (option_map statement given.entry) (seen self.old) (seen self.new) next)
             (λ fault. IsUntaken n at (option_map statement given.entry) (seen self.old) fault) }
@@ -190,14 +196,20 @@ fn count(n: usize, at: usize) -> Result<usize, AsmFault>
 }
 
 // Gives a label the place.
-fn mark<'a>(labels: &mut Labels<'a>, n: usize, at: usize, name: &'a [u8]) -> Result<usize, AsmFault>
+#[inline(never)]
+pub(crate) fn mark<'a>(
+    labels: &mut Labels<'a>,
+    n: usize,
+    at: usize,
+    name: &'a [u8],
+) -> Result<usize, AsmFault>
     ensures exact { MatchResult result
         (λ next. marked n (labels_in labels.old) at name.now ≡ Ok (labels_in labels.new, next))
         (λ fault. IsAsmFault fault (marked n (labels_in labels.old) at name.now)) }
 {
-    if labels.contains_key(name) {
+    let given = labels.insert(name, at)?;
+    if given.is_some() {
         return Err(AsmFault::Twice { n });
     }
-    labels.insert(name, at)?;
     Ok(at)
 }

@@ -7,6 +7,7 @@ mod distance;
 mod examples;
 mod fault;
 mod found;
+mod jump;
 pub mod laws;
 mod line;
 mod listing;
@@ -16,6 +17,7 @@ mod printable;
 mod shape;
 mod short;
 mod statement;
+mod taking;
 mod value;
 
 pub use block::is_end;

@@ -20,7 +20,6 @@ use crate::fault::AsmFault;
 use crate::found::{Found, Labels};
 use crate::parse::check_line;
 use crate::printable::clean_ahead;
-use crate::short::short_insn;
 use crate::statement::{Jump, Pending};
 use sk_insn::Insn;
 use sk_text::{Lines, MOST_BYTES};
@@ -149,10 +148,9 @@ fn take_line<'a>(
     ensures clean { IfOk result (λ _. AreClean clean.new (lines_in is_block lines.new.0.now)) }
 {
     let at = found.next_place();
-    if let Some(short) = short_insn(lines.0) {
-        *clean = clean.saturating_sub(lines.0.len() - short.rest.len());
-        lines.0 = short.rest;
-        found.push(n + 1, at, Some(short.insn))?;
+    if let Some(rest) = found.take_first(n, at, lines.0)? {
+        *clean = clean.saturating_sub(lines.0.len() - rest.len());
+        lines.0 = rest;
         return Ok(true);
     }
     *clean = clean_ahead(*clean, lines.0, is_block);

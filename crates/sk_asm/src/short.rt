@@ -1,7 +1,7 @@
 //! Instructions of one or two words, which are read in one pass over a text and not cut into lines first.
 ghost use Rattle.std.specs.Prelude.{◌≡◌, ◌==◌, ◌∷◌, [], IfSome, IsTrue, Some};
 ghost use Rattle.std.specs.List.{before_first, list_all};
-ghost use Rattle.sk_asm.specs.Assembly.{SaysLine};
+ghost use Rattle.sk_asm.specs.Ahead.{IsNamed, SaysFirst};
 ghost use Rattle.sk_asm.specs.Grammar.{Plain, returned_value, shape_of, shaped, u32_of};
 ghost use Rattle.sk_insn.specs.Operations.{code_of};
 ghost use Rattle.sk_text.specs.FirstLine.{behind_line, first_line, line_left, text_left};
@@ -9,7 +9,7 @@ ghost use Rattle.sk_text.specs.Lines.{is_printable_byte, words_of};
 
 use crate::parse::{LONGEST_LINE, plain};
 use crate::shape::Shape;
-use crate::value::returned;
+use crate::value::{action_value, u32_of};
 use sk_insn::{Insn, Operation};
 use sk_text::{Ahead, Behind, is_printable, number_ahead, word_ahead};
 
@@ -21,18 +21,16 @@ pub(crate) struct Short<'a> {
 }
 
 // The instruction at the beginning of a text, where its first line is the name of an operation, alone or with one space and one
-// word. None is answered where the line says anything else, and may be answered where it says the same in other words. Names
-// that begin with a j are those of jumps, which have other words.
+// word. None is answered where the line says anything else, and may be answered where it says the same in other words.
 #[inline(always)]
-pub(crate) fn short_insn(text: &[u8]) -> Option<Short<'_>>
-    ensures says { IfSome result (λ short. SaysLine (first_line text.now) (Plain short.insn)) }
-    ensures behind { IfSome result (λ short. behind_line text.now ≡ short.rest.now) }
+pub(crate) fn short_insn<'a>(
+    text: &'a [u8],
+    operation: Operation,
+    behind: Behind<'a>,
+) -> Option<Short<'a>>
+    requires named { IsNamed text.now operation behind }
+    ensures says { IfSome result (λ short. SaysFirst text.now short.rest.now (Plain short.insn)) }
 {
-    if text.first() == Some(&b'j') {
-        return None;
-    }
-    let Ahead { word, behind } = word_ahead(text);
-    let operation = Operation::named(word)?;
     let short = short_form(operation, behind)?;
     if text.len() - short.rest.len() > LONGEST_LINE {
         return None;
@@ -101,14 +99,29 @@ fn last_action(text: &[u8]) -> Option<(u32, &[u8])>
 
 // What a filter returns by this word, where it is printable. The answer fits in registers, so that a caller keeps no place for it.
 #[inline(never)]
+#[tactic(auto, using(crate::proofs::FirstLines::number_printable), unfolding(crate::specs::Grammar::returned_value))]
 fn printable_value(word: &[u8]) -> Option<u32>
     ensures value { IfSome result (λ value. returned_value word.now ≡ Some value) }
     ensures printable { IfSome result (λ _. IsTrue (list_all is_printable_byte word.now)) }
 {
+    if let Some(number) = number(word) {
+        return Some(number);
+    }
     if !is_printable(word) {
         return None;
     }
-    returned(word)
+    action_value(word)
+}
+
+// The number that a word is. A word whose first byte stands behind the digits shows by it that it is none.
+#[inline(always)]
+fn number(word: &[u8]) -> Option<u32>
+    ensures value { result ≡ u32_of word.now }
+{
+    match word.first() {
+        Some(byte) if *byte > b'9' => None,
+        _ => u32_of(word),
+    }
 }
 
 // The number that stands at the beginning of a text and ends its first line, and the text behind that line.

@@ -32,6 +32,7 @@ pub(crate) fn u32_of(word: &[u8]) -> Option<u32>
 }
 
 // The name of a label that a word gives.
+#[inline(always)]
 #[tactic(auto, unfolding(crate::specs::Grammar::label_of))]
 pub(crate) fn label(word: &[u8]) -> Option<&[u8]>
     ensures name { option_map (λ name. name.now) result ≡ label_of word.now }
@@ -66,7 +67,7 @@ fn action_with(name: &[u8], data: &[u8]) -> Option<u32>
 }
 
 #[tactic(auto, unfolding(crate::specs::Grammar::action_value))]
-fn action_value(word: &[u8]) -> Option<u32>
+pub(crate) fn action_value(word: &[u8]) -> Option<u32>
     ensures value { result ≡ action_value word.now }
 {
     if word.contains(&b'/') {
