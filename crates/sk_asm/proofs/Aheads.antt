@@ -12,7 +12,7 @@ use Rattle.sk_text.specs.declared.ahead.Behind.{Behind}
 use Rattle.sk_text.specs.declared.ahead.Behind.TheVariants.{Words, Lines}
 use Rattle.sk_text.proofs.Cuts.{before_first-no, after_first-no, words_take}
 use Rattle.sk_asm.specs.Ahead.{IsAhead, SaysFirst, first_word}
-use Rattle.sk_asm.specs.Grammar.{Further, Labelled, Marks, destination_of, label_of, spoken, statement_of}
+use Rattle.sk_asm.specs.Grammar.{Further, Labelled, Marks, Silent, destination_of, label_of, spoken, statement_of}
 use Rattle.sk_asm.proofs.FirstLines.{digits-visible, number-some, pieces-printable, word-alone, word-alone-printable, word-behind, word-first, word-others, word-some}
 use Rattle.sk_asm.proofs.Words.{word-printable}
 
@@ -186,5 +186,17 @@ label-first text word rest name begins given =
             (colon-printable word (length word - 1) (omega (arith, front, cut)) (name-printable (take (length word - 1) word) gives.name) gives.colon);
         understood = rw (words, comment, given) refl;
       };
+      behind = begins.behind;
+    }
+
+pub empty-first : (text word rest : List ℕ) → BeginsWith text word rest true → length word ≡ 0 → (length text ≡ 0 → ⊥) → SaysFirst text rest Silent
+unfolding statement_of spoken
+empty-first [] word rest begins none some = absurd (some refl)
+empty-first (byte ∷ text) (other ∷ word) rest begins none some = absurd (omega (arith, none))
+empty-first (byte ∷ text) [] rest begins none some =
+    let whole = begins.whole in
+    record {
+      some = omega arith;
+      says = record { short = rw whole (omega arith); printable = rw whole refl; understood = rw whole refl };
       behind = begins.behind;
     }

@@ -77,6 +77,7 @@ impl<'a> Found<'a> {
         Ok(Some(short.rest))
     }
 
+    // An empty line says nothing.
     #[inline(always)]
     fn take_first_label(
         &mut self,
@@ -95,6 +96,9 @@ impl<'a> Found<'a> {
         let Behind::Lines(rest) = behind else {
             return Ok(None);
         };
+        if word.is_empty() && !text.is_empty() {
+            return Ok(Some(rest));
+        }
         let Some(name) = label(word) else {
             return Ok(None);
         };
