@@ -65,7 +65,9 @@ fn take_line<'a>(
     let Some((count, rest)) = digits_ahead(&text[6..], digits) else {
         return Ok(None);
     };
-    if text.len() - rest.len() > LONGEST_LINE || image.len() + count / 2 > LONGEST_IMAGE {
+    let size = text.len() - rest.len();
+    let grown = image.len() + count / 2;
+    if size > LONGEST_LINE || grown > LONGEST_IMAGE {
         return Ok(None);
     }
     let mut bytes = [0; MOST_BYTES];

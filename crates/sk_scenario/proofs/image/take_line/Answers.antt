@@ -17,8 +17,8 @@ returns-then-is_pushed c =
     let size = ap length pushed.1 ∙ length-append image.items bytes in
     let count = c.len.ensures in
     let kept = image.ok.0 in
-    let limit = c.if-len-count-gt-LONGEST_IMAGE.false in
+    let limit = c.if-grown-gt-LONGEST_IMAGE.false in
     record {
-      taken = bytes_added text _ c.in-Some.rest.now starts cut c.in-Some.ensures.behind c.if-text-rest-gt-LONGEST_LINE.false image.items _ _ bytes c.in-Some.ensures.digits pushed.0 pushed.1
+      taken = bytes_added text _ c.in-Some.rest.now starts cut c.in-Some.ensures.behind c.if-size-gt-LONGEST_LINE.false image.items _ _ bytes c.in-Some.ensures.digits pushed.0 pushed.1
           (omega (arith, room, within, size, count, kept, limit));
     }
