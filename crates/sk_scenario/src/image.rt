@@ -1,10 +1,9 @@
 //! Lines of a filter's bytes that are read in one pass over the text, without cutting a line off first.
-ghost use Rattle.std.specs.Prelude.{◌≡◌, ◌≢◌, ◌<◌, ◌≤◌, ◌+◌, ◌++◌, ℕ, List, Option, length, take, IfOk, IfSome, IsTrue, false, MatchOption, MatchResult, OnOk, Ok, Some};
+ghost use Rattle.std.specs.Prelude.{◌≡◌, ◌<◌, ◌≤◌, ◌+◌, ◌++◌, Option, length, take, IfOk, IfSome, IsTrue, false, MatchOption, OnOk, Ok, Some};
 ghost use Rattle.std.specs.List.{concat, list_all};
 ghost use Rattle.sk_text.specs.FirstLine.{first_line, behind_line};
 ghost use Rattle.sk_text.specs.Hexadecimal.{bytes_in};
 ghost use Rattle.sk_text.specs.Lines.{lines_of, words_of, is_printable_byte};
-ghost use Rattle.sk_scenario.specs.Grammar.{bytes_of};
 ghost use Rattle.sk_scenario.specs.Scenario.{Names};
 ghost use Rattle.sk_scenario.specs.Reading.{Gained, Bytes, reading};
 ghost use Rattle.sk_scenario.specs.views.OnePass.{AddsBytes};

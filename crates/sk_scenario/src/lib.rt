@@ -22,7 +22,9 @@ mod silent;
 mod state;
 mod text_fault;
 mod top;
+mod unchanged;
 mod values;
+mod words;
 
 pub use call::{Named, ScriptCall};
 pub use examples::{example_faults, example_limits, example_scenarios};

@@ -1,9 +1,8 @@
 //! The lines, read one after the other.
-ghost use Rattle.std.specs.Prelude.{◌≡◌, ◌+◌, ◌≤◌, ◌<◌, ◌^◌, ◌∷◌, ℕ, [], List, Option, false, length, IfOk, IfSome, IsTrue, MatchResult, OnOk, Ok};
+ghost use Rattle.std.specs.Prelude.{◌≡◌, ◌+◌, ◌≤◌, ◌<◌, ◌^◌, ◌∷◌, Option, false, length, IfOk, IfSome, IsTrue, MatchResult, OnOk, Ok};
 ghost use Rattle.std.specs.List.{list_all};
 ghost use Rattle.sk_text.specs.Lines.{lines_of, is_printable_byte};
 ghost use Rattle.sk_asm.specs.Block.{is_end, until_end};
-ghost use Rattle.sk_scenario.specs.Scenario.{Names as Known};
 ghost use Rattle.sk_scenario.specs.Reading.{Gained, Code, is_open, inside, finished, within, stepped, closed, reading, nothing_yet, Nothing as NoBlock};
 ghost use Rattle.sk_scenario.specs.Answers.{Answers, IsFaultOf, Judges};
 ghost use Rattle.sk_scenario.specs.views.ScenarioCode.{known_seen, gained, block_seen, IsAssembled};
@@ -19,6 +18,7 @@ use crate::short::take_calls;
 use crate::silent::pass_silent;
 use crate::state::{Assembled, Block, Done};
 use crate::top::{check_line, has_printable_lines, read_top, start};
+use crate::unchanged::is_idle;
 use indexmap::IndexMap;
 use sk_asm::is_end;
 use sk_text::Lines;
@@ -117,37 +117,6 @@ fn within<'a>(
         return Ok(None);
     }
     inside(alloc, known, n, current, line, is_clean, ahead)
-}
-
-// Whether a line changes nothing: an empty one, but for one among bytes, or one of code that is assembled already.
-#[inline(always)]
-fn is_idle(current: &Block, line: &[u8]) -> bool
-    ensures same { IsTrue result → (names : Option Known) (n : ℕ) (before : Gained) (here : List (List ℕ))
-        → stepped names n before (block_seen current.now) line.now here ≡ Ok (before, block_seen current.now) }
-{
-    if line.is_empty() {
-        return passes_over_nothing(current);
-    }
-    is_assembled(current) && !is_end(line)
-}
-
-// Whether an empty line changes nothing.
-#[inline(always)]
-fn passes_over_nothing(current: &Block) -> bool
-    ensures same { IsTrue result → (names : Option Known) (n : ℕ) (before : Gained) (here : List (List ℕ))
-        → stepped names n before (block_seen current.now) [] here ≡ Ok (before, block_seen current.now) }
-{
-    match current {
-        Block::Bytes(_) => false,
-        Block::Nothing | Block::Undecided | Block::Code(_) | Block::Calls { .. } => true,
-    }
-}
-
-#[inline(always)]
-fn is_assembled(current: &Block) -> bool
-    ensures code { IsTrue result → (image : List ℕ) × (block_seen current.now ≡ Code image) }
-{
-    matches!(current, Block::Code(_))
 }
 
 // Reads line `n`, with which the text ahead begins.

@@ -1,16 +1,15 @@
 //! Calls of a program that are read in one pass over the text, without cutting a line off first.
-ghost use Rattle.std.specs.Prelude.{◌≡◌, ◌==◌, ◌||◌, ◌<◌, ◌≤◌, ◌+◌, ◌-◌, ℕ, List, [], ◌∷◌, ◌++◌, codes, nat_eq, true, false, length, take, get_or, replicate, Bool, IfSome, IsTrue, MatchResult, OnOk, Some};
+ghost use Rattle.std.specs.Prelude.{◌≡◌, ◌==◌, ◌<◌, ◌≤◌, ◌+◌, ◌-◌, ℕ, List, [], ◌∷◌, ◌++◌, codes, nat_eq, false, length, take, replicate, Bool, IfSome, IsTrue, MatchResult, OnOk, Some};
 ghost use Rattle.std.specs.Str.{bytes_eq};
 ghost use Rattle.std.specs.List.{list_all, starts_with};
 ghost use Rattle.sk_text.specs.FirstLine.{first_line, behind_line, text_left};
 ghost use Rattle.sk_text.specs.Lines.{lines_of, words_of, is_printable_byte, begins_comment};
-ghost use Rattle.sk_asm.specs.Block.{are_end};
 ghost use Rattle.sk_scenario.specs.Grammar.{asked, asked_of, asked_with, forked, numbered};
 ghost use Rattle.sk_scenario.specs.Reading.{Gained, Calls as OpenCalls, reading};
 ghost use Rattle.sk_scenario.specs.Answers.{IsFaultOf};
 ghost use Rattle.sk_scenario.specs.views.ScenarioCode.{names_seen, script_with};
 ghost use Rattle.sk_scenario.specs.views.Script.{call_with};
-ghost use Rattle.sk_scenario.specs.views.OnePass.{words_left, HaveValues, IsValue, IsNext, IsRead, IsShort, HasWordsOf, PassesSilent, AsksFor};
+ghost use Rattle.sk_scenario.specs.views.OnePass.{words_left, HaveValues, IsValue, IsNext, IsRead, IsShort, AsksFor};
 
 use crate::Calls;
 use crate::call_names::call_named;

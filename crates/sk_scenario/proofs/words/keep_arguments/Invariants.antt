@@ -1,5 +1,5 @@
 use Rattle.std.proofs.Common.{◌≡◌, ◌+◌, ◌++◌, take, vec_len, vec_capacity}
-use Rattle.sk_scenario.proofs.script.keep_arguments.Given as goal
+use Rattle.sk_scenario.proofs.words.keep_arguments.Given as goal
 
 -- the arguments so far stand behind the words that were there
 abbrev pub invariant-loop-at : goal.invariant-loop-at

@@ -7,7 +7,7 @@ use Rattle.sk_scenario.specs.Scenario.{Names}
 use Rattle.sk_scenario.specs.Reading.{Gained, stepped}
 use Rattle.sk_scenario.specs.views.ScenarioCode.{block_seen}
 use Rattle.sk_scenario.proofs.Idle.{idle_top, idle_undecided, idle_call, idle_empty_code}
-use Rattle.sk_scenario.proofs.reading.passes_over_nothing.Goals as goal
+use Rattle.sk_scenario.proofs.unchanged.passes_over_nothing.Goals as goal
 
 idle : (current : Block)
     → (current ≡ block.Nothing) ⊎ ((current ≡ block.Undecided) ⊎ (((x : Vec ℕ Global) × (current ≡ block.Code x)) ⊎ ((x : ℕ) × (y : Bool) × (z : Calls) × (current ≡ block.Calls x y z))))

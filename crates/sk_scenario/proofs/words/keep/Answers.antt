@@ -2,7 +2,7 @@ use Rattle.std.proofs.Common.{◌∙◌, ◌++◌, ap}
 use Rattle.std.proofs.lemmas.List.{append_assoc}
 use Rattle.sk_scenario.specs.views.Script.{words_of_script}
 use Rattle.sk_scenario.proofs.Keeping.{kept_is}
-use Rattle.sk_scenario.proofs.script.keep.Goals as goal
+use Rattle.sk_scenario.proofs.words.keep.Goals as goal
 
 pub returns-clause-same : goal.returns-clause-same
 returns-clause-same c =

@@ -1,5 +1,5 @@
 use Rattle.std.proofs.Common.{◌≡◌, ◌≤◌, ℕ, slice_index}
-use Rattle.sk_scenario.proofs.script.count_of_many.Given as goal
+use Rattle.sk_scenario.proofs.words.count_of_many.Given as goal
 
 -- what stands behind is 0
 abbrev pub invariant-loop-count : goal.invariant-loop-count

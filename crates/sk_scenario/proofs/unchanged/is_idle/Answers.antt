@@ -1,7 +1,7 @@
 use Rattle.std.proofs.Common.{◌≡◌, ◌∙◌, sym, refl, ℕ, List, [], ◌∷◌, length, arith}
 use Rattle.std.proofs.lemmas.Bool.{eqb-true, not-true}
 use Rattle.sk_scenario.proofs.Idle.{idle_code}
-use Rattle.sk_scenario.proofs.reading.is_idle.Goals as goal
+use Rattle.sk_scenario.proofs.unchanged.is_idle.Goals as goal
 
 none : (line : List ℕ) → length line ≡ 0 → line ≡ []
 none [] h = refl

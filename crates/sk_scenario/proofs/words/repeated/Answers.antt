@@ -1,6 +1,6 @@
 use Rattle.std.proofs.Common.{◌∙◌, ◌-◌, arith, sym, length}
 use Rattle.sk_scenario.proofs.Keeping.{within_at, repeated_is, unsaid}
-use Rattle.sk_scenario.proofs.script.repeated.Goals as goal
+use Rattle.sk_scenario.proofs.words.repeated.Goals as goal
 
 pub stand_at-requires : goal.stand_at-requires
 stand_at-requires c =

@@ -1,5 +1,5 @@
 use Rattle.std.proofs.Common.{◌≡◌, ◌+◌, ◌<◌, ℕ, slice_index}
-use Rattle.sk_scenario.proofs.script.stand_at.Given as goal
+use Rattle.sk_scenario.proofs.words.stand_at.Given as goal
 
 -- those so far are the same
 abbrev pub invariant-loop-at : goal.invariant-loop-at
