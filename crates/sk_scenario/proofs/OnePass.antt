@@ -454,9 +454,9 @@ unfolding bytes_in
 sized digits size bytes h = elim (cases_Bool (length digits % 2 == 1)) [
   | inl odd ↦ let none = rw odd at h in cc
   | inr even ↦ elim (cases_Bool (length digits / 2 == size)) [
-      | inl fits ↦ let whole = rw (even, fits) at h in rw (even, whole) refl
-      | inr other ↦ let none = rw (even, other) at h in cc
-    ]
+    | inl fits ↦ let whole = rw (even, fits) at h in rw (even, whole) refl
+    | inr other ↦ let none = rw (even, other) at h in cc
+  ]
 ]
 
 pub decoded_bytes : (digits : List ℕ) (size : ℕ) (result : Result (Unit {0}) FromHexError) (bytes : List ℕ)

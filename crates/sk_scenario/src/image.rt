@@ -71,11 +71,7 @@ fn take_line<'a>(
     }
     let mut bytes = [0; MOST_BYTES];
     let is_pushed = push_digits(image, &digits[..count], &mut bytes[..count / 2])?;
-    if is_pushed {
-        Ok(Some(rest))
-    } else {
-        Ok(None)
-    }
+    if is_pushed { Ok(Some(rest)) } else { Ok(None) }
 }
 
 // Puts the bytes that digits write behind an image, where they write as many as there is room for beside it.
@@ -94,10 +90,7 @@ fn push_digits(image: &mut Vec<u8>, digits: &[u8], bytes: &mut [u8]) -> Result<b
 
 // Joins the words of a text's first line, and answers how many bytes they have, and the text behind the line.
 #[inline(always)]
-fn digits_ahead<'a>(
-    text: &'a [u8],
-    digits: &mut [u8; LONGEST_LINE],
-) -> Option<(usize, &'a [u8])>
+fn digits_ahead<'a>(text: &'a [u8], digits: &mut [u8; LONGEST_LINE]) -> Option<(usize, &'a [u8])>
     ensures digits { IfSome result (λ found. take found.0 digits.new ≡ concat (words_of (first_line text.now))) }
     ensures behind { IfSome result (λ found. behind_line text.now ≡ found.1.now) }
     ensures few { IfSome result (λ found. found.0 ≤ 255) }

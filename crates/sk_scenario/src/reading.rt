@@ -7,7 +7,6 @@ ghost use Rattle.sk_scenario.specs.Reading.{Gained, Code, is_open, inside, finis
 ghost use Rattle.sk_scenario.specs.Answers.{Answers, IsFaultOf, Judges};
 ghost use Rattle.sk_scenario.specs.views.ScenarioCode.{known_seen, gained, block_seen, IsAssembled};
 
-use crate::{Calls, TextFault};
 use crate::calls::{add_call, read_call};
 use crate::directory::Directory;
 use crate::fault::ScenarioFault;
@@ -19,6 +18,7 @@ use crate::silent::pass_silent;
 use crate::state::{Assembled, Block, Done};
 use crate::top::{check_line, has_printable_lines, read_top, start};
 use crate::unchanged::is_idle;
+use crate::{Calls, TextFault};
 use indexmap::IndexMap;
 use sk_asm::is_end;
 use sk_text::Lines;

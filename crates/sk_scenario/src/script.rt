@@ -117,7 +117,13 @@ impl Calls {
         ensures kept { OnErr result (self.new ≡ self.old) }
     {
         self.heads.reserve(1)?;
-        let repeated = repeated(self.heads.as_slice(), self.words.as_slice(), nr, arguments, script);
+        let repeated = repeated(
+            self.heads.as_slice(),
+            self.words.as_slice(),
+            nr,
+            arguments,
+            script,
+        );
         if let Some(head) = repeated {
             self.heads.push_reserved(head);
             return Ok(());
