@@ -11,7 +11,7 @@ use Rattle.sk_arches.specs.ChainsFor.{chain_for, of_architecture}
 use Rattle.sk_arches.proofs.Chains.{chains_for_architectures}
 use Rattle.sk_arches.specs.Answers.{OneVerdictIsOfEachCall, only_value}
 
-fits : (a : Architecture) → audit_of a < 2 ^ 32
+pub fits : (a : Architecture) → audit_of a < 2 ^ 32
 fits by.X86_64 = omega arith
 fits by.X32 = omega arith
 fits by.I386 = omega arith

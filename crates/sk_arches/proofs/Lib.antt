@@ -5,5 +5,7 @@ mod Meanings
 pub mod Unseen
 mod Valid
 pub mod Words
-mod EachCall
+pub mod EachCall
+pub mod Settled
+pub mod Worked
 mod OtherCalls

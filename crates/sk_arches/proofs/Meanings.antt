@@ -1,15 +1,14 @@
 -- A filter with a change of its loads means to another record what the filter means to a record, where each load loads the same.
-use Rattle.std.proofs.Common.{◌≡◌, ◌≢◌, ℕ, zero, suc, ◌⊎◌, List, [], ◌∷◌, map, slice_get, Option, Some, None, inl, inr, refl, sym, ap, ◌∙◌}
+use Rattle.std.proofs.Common.{◌≡◌, ℕ, zero, suc, List, [], ◌∷◌, map, slice_get, Option, Some, None, inl, inr, refl, sym, ap, ◌∙◌}
 use Rattle.sk_insn.specs.declared.insn.Insn.{Insn}
 use Rattle.sk_insn.specs.declared.record.Record.{Record}
 use Rattle.sk_insn.specs.declared.operation.Register.TheVariants.{Accumulator}
-use Rattle.sk_insn.specs.declared.operation.Operand.TheVariants.{Constant, IndexRegister}
-use Rattle.sk_insn.specs.declared.operation.Arithmetic.TheVariants.{Divide}
 use Rattle.sk_insn.specs.declared.operation.Operation.{Operation}
-use Rattle.sk_insn.specs.declared.operation.Operation.TheVariants.{LoadRecord, LoadConstant, LoadScratch, LoadLength, StoreScratch, Compute, Negate, Jump, Branch, ReturnConstant, ReturnAccumulator, CopyToIndex, CopyToAccumulator}
+use Rattle.sk_insn.specs.declared.operation.Operation.TheVariants.{LoadRecord, LoadConstant}
 use Rattle.sk_insn.specs.Operations.{operation_of}
 use Rattle.sk_insn.specs.Record.{word_of}
 use Rattle.sk_filter.specs.Meaning.{State, effect, loaded, meaning, meaning_of, start, then_follows}
+use Rattle.sk_survey.proofs.Narrower.{is_load, same_effect}
 use Rattle.sk_arches.proofs.Alike.{ChangesLoads, IsLoad, StandsFor}
 
 -- what a load loads
@@ -27,30 +26,6 @@ loads : (insn : Insn) (call : Record) (s : State) → IsLoad insn
     → effect (operation_of insn.code) insn call s ≡ loaded Accumulator s (word_loaded (operation_of insn.code) insn call)
 loads insn call s (inl is) = ap (λ o. effect o insn call s) is ∙ ap (λ o. loaded Accumulator s (word_loaded o insn call)) (sym is)
 loads insn call s (inr is) = ap (λ o. effect o insn call s) is.0 ∙ ap (λ o. loaded Accumulator s (word_loaded o insn call)) (sym is.0)
-
--- what loads no word of the record does the same on each
-same_effect : (o : Option Operation) (insn : Insn) (call other : Record) (s : State) → o ≢ Some LoadRecord → effect o insn other s ≡ effect o insn call s
-same_effect None insn call other s apart = refl
-same_effect (Some LoadRecord) insn call other s apart = absurd (apart refl)
-same_effect (Some (LoadConstant r)) insn call other s apart = refl
-same_effect (Some (LoadScratch r)) insn call other s apart = refl
-same_effect (Some (LoadLength r)) insn call other s apart = refl
-same_effect (Some (StoreScratch r)) insn call other s apart = refl
-same_effect (Some (Compute arithmetic Constant)) insn call other s apart = refl
-same_effect (Some (Compute Divide IndexRegister)) insn call other s apart = refl
-same_effect (Some (Compute arithmetic IndexRegister)) insn call other s apart = refl
-same_effect (Some Negate) insn call other s apart = refl
-same_effect (Some Jump) insn call other s apart = refl
-same_effect (Some (Branch comparison right)) insn call other s apart = refl
-same_effect (Some ReturnConstant) insn call other s apart = refl
-same_effect (Some ReturnAccumulator) insn call other s apart = refl
-same_effect (Some CopyToIndex) insn call other s apart = refl
-same_effect (Some CopyToAccumulator) insn call other s apart = refl
-
-is_load : (o : Option Operation) → (o ≡ Some LoadRecord) ⊎ (o ≢ Some LoadRecord)
-is_load None = inr (λ e. cc)
-is_load (Some LoadRecord) = inl refl
-is_load (Some operation) = inr (λ e. cc)
 
 step : (insn changed : Insn) (call other : Record) (s : State) → StandsFor changed insn → LoadsAlike call other insn changed
     → effect (operation_of changed.code) changed other s ≡ effect (operation_of insn.code) insn call s

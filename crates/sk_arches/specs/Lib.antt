@@ -7,3 +7,5 @@ pub mod Other
 pub mod Alike
 pub mod Text
 pub mod Told
+pub mod Settled
+pub mod Worked

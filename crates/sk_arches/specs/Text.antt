@@ -43,6 +43,10 @@ warning_text by =
 abbrev pub warnings_text : Told → List ℕ
 warnings_text it = (if it.i386 then warning_text architecture.I386 else []) ++ (if it.x32 then warning_text architecture.X32 else [])
 
--- a line for each architecture and one for every other, and the warnings where the calls of x86-64 are judged call by call
+-- they are told where the calls of x86-64 are judged call by call
+abbrev pub warned_text : Told → List ℕ
+warned_text it = if judges_calls it.all.items then warnings_text it else []
+
+-- a line for each architecture and one for every other, and the warnings
 abbrev pub arches_text : Told → List ℕ
-arches_text it = flat_map answered_text it.all.items ++ (other_text it.other ++ (if judges_calls it.all.items then warnings_text it else []))
+arches_text it = flat_map answered_text it.all.items ++ (other_text it.other ++ warned_text it)

@@ -5,6 +5,8 @@ ghost use Rattle.sk_arches.specs.ChainsFor.{ChainsForArchitectures};
 ghost use Rattle.sk_arches.specs.Looks.{UnseenArchitectures};
 ghost use Rattle.sk_arches.specs.Answers.{OneVerdictIsOfEachCall};
 ghost use Rattle.sk_arches.specs.Other.{OtherVerdictIsOfEachCall};
+ghost use Rattle.sk_arches.specs.Settled.{OneVerdictIsTold};
+ghost use Rattle.sk_arches.specs.Worked.{WarnsWhereItIsWritten, WorkedNumbers};
 
 /// What a chain for an architecture answers to a call of x86-64, the chain itself answers to the same call of that architecture.
 pub fn chains_for_architectures()
@@ -35,4 +37,21 @@ pub fn one_verdict_is_of_each_call()
 /// Where one verdict is told of the architectures that have no name, each of their calls gets it.
 pub fn other_verdict_is_of_each_call()
     ensures law { OtherVerdictIsOfEachCall }
+{}
+
+/// Where each filter answers the calls of an architecture by it alone, the verdict that they get is told and written.
+pub fn one_verdict_is_told()
+    ensures law { OneVerdictIsTold }
+{}
+
+/// There is something to warn of exactly where a warning is written.
+#[tactic(auto, using(crate::proofs::Worked::warns_where_it_is_written))]
+pub fn warns_where_it_is_written()
+    ensures law { WarnsWhereItIsWritten }
+{}
+
+/// The definitions take for calls of an architecture what was worked out by hand.
+#[tactic(auto, using(crate::proofs::Worked::worked_numbers))]
+pub fn worked_numbers()
+    ensures law { WorkedNumbers }
 {}

@@ -8,7 +8,7 @@ use Rattle.sk_insn.specs.declared.operation.Comparison.TheVariants.{Equal, Great
 use Rattle.sk_insn.specs.declared.operation.Operation.TheVariants.{LoadRecord, LoadConstant, Compute, Jump, Branch, ReturnConstant, CopyToIndex}
 use Rattle.sk_call_names.specs.declared.architecture.Architecture.TheVariants as architecture
 use Rattle.sk_filter.specs.WorkedMeanings.{call_of, compares, does, getpid, refuses_getppid}
-use Rattle.sk_show.specs.declared.held.Held.TheVariants.{Number}
+use Rattle.sk_show.specs.declared.held.Held.TheVariants.{Number, Other}
 use Rattle.sk_show.specs.declared.tracing.Step.{Step}
 use Rattle.sk_show.specs.Paths.{path_of}
 use Rattle.sk_show.specs.PathText.{compared_text, filter_text, filters_text, verdict_line}
@@ -71,6 +71,14 @@ pub record WorkedPaths : Type 0 where
       ++ (codes "   1 jeq 110 +0 +1            A=64 X=0  64 != 110 iopl: to 3\n"
       ++ (codes "   3 ret 0x7fff0000           A=64 X=0\n"
       ++ codes "  allow\n")))
+  pub is_equal : compared_text architecture.X86_64 Other Equal 5 5 ≡ codes "5 == 5"
+  pub is_another : compared_text architecture.X86_64 Other Equal 5 6 ≡ codes "5 != 6"
+  pub is_greater : compared_text architecture.X86_64 Other Greater 6 5 ≡ codes "6 > 5"
+  pub is_not_greater : compared_text architecture.X86_64 Other Greater 5 5 ≡ codes "5 <= 5"
+  pub is_at_least : compared_text architecture.X86_64 Other GreaterOrEqual 5 5 ≡ codes "5 >= 5"
+  pub is_less : compared_text architecture.X86_64 Other GreaterOrEqual 4 5 ≡ codes "4 < 5"
+  pub has_a_bit : compared_text architecture.X86_64 Other CommonBits 6 4 ≡ codes "6 & 4 != 0"
+  pub has_none : compared_text architecture.X86_64 Other CommonBits 3 4 ≡ codes "3 & 4 == 0"
   pub names_none_without_the_bit_of_x32 :
       compared_text architecture.X32 Number Equal 110 110 ≡ codes "110 == 110"
   pub names_one_with_it :

@@ -1,5 +1,5 @@
--- How far the pass has followed a filter that answers a number without its arguments: nothing is known but the one
--- state of its run.
+-- How far the pass has followed a filter that answers calls by what they have in common: nothing is known but the one state of
+-- its run.
 use Rattle.std.proofs.Common.{◌≡◌, ◌≢◌, ℕ, zero, suc, ◌+◌, ◌<◌, ◌≤◌, ◌⊎◌, inl, inr, Bool, true, false, if◌then◌else◌, List, [], ◌∷◌, length, Option, Some, None, slice_get, replicate, set, refl, sym, ap, subst, ◌∙◌, arith}
 use Rattle.std.specs.Prelude.{ℤ, ◌<ℤ◌}
 use Rattle.std.specs.Int.{cast_signed, w32}
@@ -22,9 +22,9 @@ use Rattle.sk_survey.specs.declared.follow.Next.TheVariants.{Skip, Either, End, 
 use Rattle.sk_survey.specs.Answers.{IsOneOf, IsAmong, IsRising, AreRising}
 use Rattle.sk_survey.specs.Ends.{IsFirstOfBoth, IsReachable}
 use Rattle.sk_survey.specs.Following.{DescribesState, Leads, TellsEnd, IsWhole, LeadsOneWay, IsUnknown, led, zeros}
-use Rattle.sk_survey.specs.Settling.{loads_argument, without_argument, without_arguments, TellsOne}
+use Rattle.sk_survey.specs.Settling.{loads_other, without_other, without_others, TellsOne}
 use Rattle.sk_survey.proofs.Preceding.{some_first}
-use Rattle.sk_survey.proofs.WithoutArguments.{bare, no_operation, here_without, zeros_without}
+use Rattle.sk_survey.proofs.WithoutOthers.{bare, no_operation, here_without, zeros_without}
 
 -- ---- one value
 
@@ -131,7 +131,7 @@ come_on insns old new place insn before w here slot gone others goes come q know
 -- ---- the run
 
 -- from a place on there is the one that the run comes to, and no other is known
-pub record IsSettling (insns : List Insn) (slots : List (Option Knowledge)) (from : ℕ) (call : Record) (value : ℕ) : Type 0 where
+pub record IsSettling (first last : ℕ) (insns : List Insn) (slots : List (Option Knowledge)) (from : ℕ) (call : Record) (value : ℕ) : Type 0 where
   pub place : ℕ
   pub state : State
   pub steps : ℕ
@@ -142,18 +142,18 @@ pub record IsSettling (insns : List Insn) (slots : List (Option Knowledge)) (fro
   pub whole : IsWhole knowledge
   pub known : DescribesState knowledge call state
   pub alone : (q : ℕ) → q ≢ place → IsUnknown slots q
-  pub means : meaning (without_arguments insns) place call state ≡ Returned value steps
+  pub means : meaning (without_others first last insns) place call state ≡ Returned value steps
 
 -- no value is told but the run's, and it has come to it or is on its way
-abbrev pub IsSettled : List Insn → List (Option Knowledge) → Option (List ℕ) → ℕ → Record → ℕ → Type 0
-IsSettled insns slots values from call value =
-    OnlyTells values value × (((q : ℕ) → IsUnknown slots q) ⊎ IsSettling insns slots from call value)
+abbrev pub IsSettled : ℕ → ℕ → List Insn → List (Option Knowledge) → Option (List ℕ) → ℕ → Record → ℕ → Type 0
+IsSettled first last insns slots values from call value =
+    OnlyTells values value × (((q : ℕ) → IsUnknown slots q) ⊎ IsSettling first last insns slots from call value)
 
-pub starts_settling : (insns : List Insn) → IsValid insns → (slots : List (Option Knowledge)) (knowledge : Knowledge) (values : Option (List ℕ))
+pub starts_settling : (first last : ℕ) (insns : List Insn) → IsValid insns → (slots : List (Option Knowledge)) (knowledge : Knowledge) (values : Option (List ℕ))
     (call : Record) (value steps : ℕ) → 0 < length slots → ((q : ℕ) → IsUnknown slots q) → IsWhole knowledge → DescribesState knowledge call zeros
-    → OnlyTells values value → meaning_of (without_arguments insns) call ≡ Returned value steps
-    → IsSettled insns (set slots 0 (Some knowledge)) values 0 call value
-starts_settling insns valid slots knowledge values call value steps some unknown whole known only means = (
+    → OnlyTells values value → meaning_of (without_others first last insns) call ≡ Returned value steps
+    → IsSettled first last insns (set slots 0 (Some knowledge)) values 0 call value
+starts_settling first last insns valid slots knowledge values call value steps some unknown whole known only means = (
   only,
   inr (record {
     place = 0;
@@ -166,15 +166,15 @@ starts_settling insns valid slots knowledge values call value steps some unknown
     whole = whole;
     known = known;
     alone = λ q other. still_unknown slots (set slots 0 (Some knowledge)) q (set_there slots 0 q (Some knowledge) other) (unknown q);
-    means = sym (zeros_without insns call valid) ∙ means;
+    means = sym (zeros_without first last insns call valid) ∙ means;
   }),
 )
 
 -- past a place where nothing is known
-pub settled_past : (insns : List Insn) (slots : List (Option Knowledge)) (values : Option (List ℕ)) (place : ℕ) (call : Record) (value : ℕ)
-    → slice_get slots place ≡ Some None → IsSettled insns slots values place call value → IsSettled insns slots values (place + 1) call value
-settled_past insns slots values place call value none (only, inl unknown) = (only, inl unknown)
-settled_past insns slots values place call value none (only, inr way) = (
+pub settled_past : (first last : ℕ) (insns : List Insn) (slots : List (Option Knowledge)) (values : Option (List ℕ)) (place : ℕ) (call : Record) (value : ℕ)
+    → slice_get slots place ≡ Some None → IsSettled first last insns slots values place call value → IsSettled first last insns slots values (place + 1) call value
+settled_past first last insns slots values place call value none (only, inl unknown) = (only, inl unknown)
+settled_past first last insns slots values place call value none (only, inr way) = (
   only,
   inr (record {
     place = way.place;
@@ -200,7 +200,7 @@ one_more (Returned value' k) value steps e = (k, cc)
 one_more Stuck value steps e = cc
 
 -- past an instruction that leads one way
-one_way : (insns : List Insn) → IsValid insns → (old new : List (Option Knowledge)) (values values' : Option (List ℕ)) (place : ℕ) (insn : Insn)
+one_way : (first last : ℕ) (insns : List Insn) → IsValid insns → (old new : List (Option Knowledge)) (values values' : Option (List ℕ)) (place : ℕ) (insn : Insn)
     (after : Knowledge) (next : Next) (call : Record) (value : ℕ) (s : State) (e : Effect) (steps : ℕ)
     → slice_get insns place ≡ Some insn → effect (operation_of insn.code) insn call s ≡ e
     → ((q : ℕ) → q ≢ place → IsUnknown old q)
@@ -209,11 +209,11 @@ one_way : (insns : List Insn) → IsValid insns → (old new : List (Option Know
     → ((skip : ℕ) → next ≡ Skip skip → IsUnknown old (place + 1 + skip) → slice_get new (place + 1 + skip) ≡ Some (Some after))
     → ((other : ℕ) → IsAmong other values' → IsAmong other values ⊎ TellsEnd next other)
     → OnlyTells values value → LeadsOneWay next after → Leads next insn after call e
-    → then_follows e (λ skip s. meaning (without_arguments insns) (place + (1 + skip)) call s) ≡ Returned value steps
-    → IsSettled insns new values' (place + 1) call value
-one_way insns valid old new values values' place insn after (Skip skip) call value s e steps here is unknown others gone alone tells only whole (s', does, known) means =
-    let follows = λ (skip : ℕ) (s : State). meaning (without_arguments insns) (place + (1 + skip)) call s in
-    let more = one_more (meaning (without_arguments insns) (place + (1 + skip)) call s') value steps (sym (ap (λ e. then_follows e follows) does) ∙ means) in
+    → then_follows e (λ skip s. meaning (without_others first last insns) (place + (1 + skip)) call s) ≡ Returned value steps
+    → IsSettled first last insns new values' (place + 1) call value
+one_way first last insns valid old new values values' place insn after (Skip skip) call value s e steps here is unknown others gone alone tells only whole (s', does, known) means =
+    let follows = λ (skip : ℕ) (s : State). meaning (without_others first last insns) (place + (1 + skip)) call s in
+    let more = one_more (meaning (without_others first last insns) (place + (1 + skip)) call s') value steps (sym (ap (λ e. then_follows e follows) does) ∙ means) in
     let at : place + 1 + skip ≡ place + (1 + skip) = omega arith in (
       λ other among. elim (tells other among) [ inl before ↦ only other before | inr none ↦ absurd none ],
       inr (record {
@@ -233,8 +233,8 @@ one_way insns valid old new values values' place insn after (Skip skip) call val
         means = more.1;
       }),
     )
-one_way insns valid old new values values' place insn after (End (Is k)) call value s e steps here is unknown others gone alone tells only exact (v, does, v_is) means =
-    let follows = λ (skip : ℕ) (s : State). meaning (without_arguments insns) (place + (1 + skip)) call s in
+one_way first last insns valid old new values values' place insn after (End (Is k)) call value s e steps here is unknown others gone alone tells only exact (v, does, v_is) means =
+    let follows = λ (skip : ℕ) (s : State). meaning (without_others first last insns) (place + (1 + skip)) call s in
     let returns : Returned v 1 ≡ Returned value steps = sym (ap (λ e. then_follows e follows) does) ∙ means in
     let same : k ≡ value = cc in (
       λ other among. elim (tells other among) [ inl before ↦ only other before | inr is ↦ is ∙ same ],
@@ -243,48 +243,48 @@ one_way insns valid old new values values' place insn after (End (Is k)) call va
         | inr apart ↦ still_unknown old new q (others q apart (λ goes. goes)) (unknown q apart)
       ]),
     )
-one_way insns valid old new values values' place insn after (End Any) call value s e steps here is unknown others gone alone tells only exact leads means = absurd exact
-one_way insns valid old new values values' place insn after (End Number) call value s e steps here is unknown others gone alone tells only exact leads means = absurd exact
-one_way insns valid old new values values' place insn after (Either a) call value s e steps here is unknown others gone alone tells only whole leads means = absurd whole
-one_way insns valid old new values values' place insn after FollowingOrZero call value s e steps here is unknown others gone alone tells only whole leads means = absurd whole
+one_way first last insns valid old new values values' place insn after (End Any) call value s e steps here is unknown others gone alone tells only exact leads means = absurd exact
+one_way first last insns valid old new values values' place insn after (End Number) call value s e steps here is unknown others gone alone tells only exact leads means = absurd exact
+one_way first last insns valid old new values values' place insn after (Either a) call value s e steps here is unknown others gone alone tells only whole leads means = absurd whole
+one_way first last insns valid old new values values' place insn after FollowingOrZero call value s e steps here is unknown others gone alone tells only whole leads means = absurd whole
 
 -- past a place where something is known
-pub settled_on : (insns : List Insn) → IsValid insns → (old new : List (Option Knowledge)) (values values' : Option (List ℕ)) (place : ℕ) (insn : Insn)
+pub settled_on : (first last : ℕ) (insns : List Insn) → IsValid insns → (old new : List (Option Knowledge)) (values values' : Option (List ℕ)) (place : ℕ) (insn : Insn)
     (before after : Knowledge) (next : Next) (call : Record) (value : ℕ)
     → slice_get insns place ≡ Some insn → slice_get old place ≡ Some (Some before)
     → ((q : ℕ) → q ≢ place → (GoesTo q (led place next insn) → ⊥) → slice_get new q ≡ slice_get old q)
     → IsUnknown new place
     → ((skip : ℕ) → next ≡ Skip skip → IsUnknown old (place + 1 + skip) → slice_get new (place + 1 + skip) ≡ Some (Some after))
     → ((other : ℕ) → IsAmong other values' → IsAmong other values ⊎ TellsEnd next other)
-    → (IsWhole before → loads_argument (operation_of insn.code) insn ≡ false → LeadsOneWay next after)
+    → (IsWhole before → loads_other first last (operation_of insn.code) insn ≡ false → LeadsOneWay next after)
     → ((s : State) → DescribesState before call s → Leads next insn after call (effect (operation_of insn.code) insn call s))
-    → IsSettled insns old values place call value → IsSettled insns new values' (place + 1) call value
-settled_on insns valid old new values values' place insn before after next call value here slot others gone alone tells settles leads (only, inl unknown) =
+    → IsSettled first last insns old values place call value → IsSettled first last insns new values' (place + 1) call value
+settled_on first last insns valid old new values values' place insn before after next call value here slot others gone alone tells settles leads (only, inl unknown) =
     absurd (unknown place before slot)
-settled_on insns valid old new values values' place insn before after next call value here slot others gone alone tells settles leads (only, inr way) =
-    elim (cases_eq way.place place) as (λ _. IsSettled insns new values' (place + 1) call value) [
+settled_on first last insns valid old new values values' place insn before after next call value here slot others gone alone tells settles leads (only, inr way) =
+    elim (cases_eq way.place place) as (λ _. IsSettled first last insns new values' (place + 1) call value) [
       | inr other ↦ absurd (way.alone place (λ e. other (sym e)) before slot)
       | inl same ↦
           let found : Some (Some way.knowledge) ≡ Some (Some before) = sym way.here ∙ ap (slice_get old) same ∙ slot in
           let is : way.knowledge ≡ before = cc in
           by_test way.state way.steps (subst IsWhole is way.whole) (subst (λ k. DescribesState k call way.state) is way.known)
           (λ q apart. way.alone q (λ e. apart (e ∙ same)))
-          (loads_argument (operation_of insn.code) insn) refl
-          (sym (meaning_at (without_arguments insns) place (without_argument insn) call way.state (here_without insns place insn here))
-          ∙ ap (λ q. meaning (without_arguments insns) q call way.state) (sym same) ∙ way.means)
+          (loads_other first last (operation_of insn.code) insn) refl
+          (sym (meaning_at (without_others first last insns) place (without_other first last insn) call way.state (here_without first last insns place insn here))
+          ∙ ap (λ q. meaning (without_others first last insns) q call way.state) (sym same) ∙ way.means)
     ]
   where
     by_test : (s : State) (steps : ℕ) → IsWhole before → DescribesState before call s → ((q : ℕ) → q ≢ place → IsUnknown old q)
-        → (b : Bool) → loads_argument (operation_of insn.code) insn ≡ b
-        → then_follows (effect (operation_of (if b then bare insn else insn).code) (if b then bare insn else insn) call s) (λ skip s. meaning (without_arguments insns) (place + (1 + skip)) call s)
+        → (b : Bool) → loads_other first last (operation_of insn.code) insn ≡ b
+        → then_follows (effect (operation_of (if b then bare insn else insn).code) (if b then bare insn else insn) call s) (λ skip s. meaning (without_others first last insns) (place + (1 + skip)) call s)
         ≡ Returned value steps
-        → IsSettled insns new values' (place + 1) call value
+        → IsSettled first last insns new values' (place + 1) call value
     by_test s steps whole known unknown true e means =
         let stuck : Stuck ≡ Returned value steps =
-        sym (ap (λ o. then_follows (effect o (bare insn) call s) (λ skip s. meaning (without_arguments insns) (place + (1 + skip)) call s)) no_operation) ∙ means in
+        sym (ap (λ o. then_follows (effect o (bare insn) call s) (λ skip s. meaning (without_others first last insns) (place + (1 + skip)) call s)) no_operation) ∙ means in
         cc
     by_test s steps whole known unknown false e means =
-        one_way insns valid old new values values' place insn after next call value s (effect (operation_of insn.code) insn call s) steps here refl
+        one_way first last insns valid old new values values' place insn after next call value s (effect (operation_of insn.code) insn call s) steps here refl
         unknown others gone alone tells only (settles whole e) (leads s known) means
 
 -- as the slots begin

@@ -2,7 +2,9 @@ pub mod Answers
 pub mod Ends
 pub mod Settling
 pub mod WorkedEnds
+pub mod WorkedCuts
 pub mod Surveys
 pub mod Following
 pub mod AnswersLaws
+pub mod Turning
 pub mod Cutting

@@ -9,7 +9,7 @@ ghost use Rattle.sk_filter.specs.Meaning.{State, effect, calculated, holds};
 ghost use Rattle.sk_survey.specs.Answers.{IsCallOf};
 ghost use Rattle.sk_survey.specs.Ends.{MayEndWith};
 ghost use Rattle.sk_survey.specs.Following.{Describes, DescribesState, Leads, TellsEnd, IsExact, IsWhole, LeadsOneWay, led, known_operand, with_known, with_word};
-ghost use Rattle.sk_survey.specs.Settling.{loads_argument};
+ghost use Rattle.sk_survey.specs.Settling.{is_common_word, loads_other};
 
 use crate::decide::decide;
 use crate::known::{Knowledge, Known};
@@ -39,8 +39,8 @@ impl Knowledge {
         ensures goes { (place next : ℕ) → GoesTo next (led place result insn.now)
             → LeadsTo place next (operation_of insn.now.code) insn.now }
         ensures ends { (value : ℕ) → TellsEnd result value → MayEndWith value (operation_of insn.now.code) insn.now }
-        ensures exact { first ≡ last → IsWhole self.old
-            → loads_argument (operation_of insn.now.code) insn.now ≡ false → LeadsOneWay result self.new }
+        ensures exact { IsWhole self.old → loads_other first last (operation_of insn.now.code) insn.now ≡ false
+            → LeadsOneWay result self.new }
     {
         match decode(insn.code) {
             Some(Operation::LoadRecord) => self.set(
@@ -176,7 +176,7 @@ fn known_where_it_holds(comparison: Comparison, a: Known, right: Known) -> Known
 fn loaded(place: u32, first: u32, last: u32) -> Known
     ensures word { (call : Record) (n : ℕ) → IsCallOf first last call → word_of call place ≡ Some n
         → Describes result call n }
-    ensures exact { first ≡ last → (place ≡ 0) ⊎ (place ≡ 4) → IsExact result }
+    ensures exact { IsTrue (is_common_word first last place) → IsExact result }
     ensures number { place ≡ 0 → first ≢ last → result ≡ Known.Number }
 {
     match place {

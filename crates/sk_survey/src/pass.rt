@@ -33,7 +33,7 @@ pub(crate) fn program_answers(
     ensures among { IfOk result (λ answers. AnswersAmong program.now first last (answers_of answers)) }
     ensures rising { IfOk result (λ answers. AreRising (answers_of answers)) }
     ensures only { IfOk result (λ answers. OnlyPossible program.now first last (answers_of answers)) }
-    ensures settled { first ≡ last → Settles program.now first → IfOk result (λ answers. TellsOne (answers_of answers)) }
+    ensures settled { Settles program.now first last → IfOk result (λ answers. TellsOne (answers_of answers)) }
     ensures empty { IsOk result → (place : ℕ) → IsUnknown slots.new place }
 {
     let mut answers = Answers::Among(Vec::new(alloc));

@@ -4,5 +4,6 @@ pub mod ExamplesLaws
 pub mod Tracing
 pub mod Text
 pub mod Lines
+pub mod LinesLaws
 pub mod NamesLaws
 pub mod Origins

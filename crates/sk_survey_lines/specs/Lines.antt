@@ -1,5 +1,5 @@
 -- What the lines of a survey say of the chains.
-use Rattle.std.specs.Prelude.{ℕ, ◌≡◌, ◌+◌, ◌^◌, Bool, true, false, is_some, IsTrue, List, [], map, Option, Some, None, IfSome}
+use Rattle.std.specs.Prelude.{ℕ, ◌≡◌, ◌+◌, ◌^◌, Bool, true, false, is_some, IsTrue, List, [], map, Option, Some, None, IfSome, IsSomeAnd}
 use Rattle.std.specs.List.{All}
 use Rattle.sk_insn.specs.declared.insn.Insn.{Insn}
 use Rattle.sk_call_names.specs.declared.architecture.Architecture.{Architecture}
@@ -7,7 +7,7 @@ use Rattle.sk_call_names.specs.Names.{name_on}
 use Rattle.sk_survey.specs.declared.rows.Row.{Row}
 use Rattle.sk_survey.specs.Answers.{answers_of}
 use Rattle.sk_survey.specs.Surveys.{Tell, TellsAlone}
-use Rattle.sk_survey_lines.specs.Examples.{IsExample}
+use Rattle.sk_survey_lines.specs.Examples.{IsExample, IsShownBy, plain_call}
 use Rattle.sk_survey_lines.specs.declared.line.Line.{Line}
 use Rattle.sk_survey_lines.specs.declared.line.Shown.{Shown}
 use Rattle.sk_survey_lines.specs.declared.options.Options.{Options}
@@ -30,9 +30,13 @@ wanted_values false values = []
 wanted_values true None = []
 wanted_values true (Some values) = values
 
--- a call that is shown has one of the row's numbers, and the verdict on it is the value
-abbrev pub IsShown : List (List Insn) → Row → Shown → Type 0
-IsShown programs row shown = IfSome shown.found (IsExample programs row.first row.last shown.value)
+-- a call that is shown has one of the row's numbers, and the verdict on it is the value; where the value is the verdict on the
+-- first number's call with no other word than 0, that call is shown
+pub record IsShown (programs : List (List Insn)) (row : Row) (shown : Shown) : Type 0 where
+  pub found : IfSome shown.found (IsExample programs row.first row.last shown.value)
+  pub plain :
+      IsShownBy programs row.first row.last shown.value (plain_call row.first)
+      → IsSomeAnd shown.found (λ example. example.call ≡ plain_call row.first)
 
 -- below a row stand its values, each with a call that was found for it or without one
 pub record Shows (programs : List (List Insn)) (examples : Bool) (row : Row) (shown : List Shown) : Type 0 where

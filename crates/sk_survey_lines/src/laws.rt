@@ -1,5 +1,6 @@
 //! Laws on examples, and on the lines of a survey. No program calls these functions: the contract of each is the law.
 ghost use Rattle.sk_survey_lines.specs.ExamplesLaws.{EndsAreMeanings, RunsEndOnce, ValuesComeFromOne, VerdictsComeFromTheLeast};
+ghost use Rattle.sk_survey_lines.specs.LinesLaws.{SomeCallIsShown};
 ghost use Rattle.sk_survey_lines.specs.NamesLaws.{NameIsOfEach, NoNameIsHidden, NamedHasARow};
 
 /// A filter whose run ends with a value means that value.
@@ -28,4 +29,10 @@ pub fn names_are_right()
     ensures each { NameIsOfEach }
     ensures hidden { NoNameIsHidden }
     ensures row { NamedHasARow }
+{}
+
+/// Below a row with values a call is shown for one of them, where there is a filter.
+#[tactic(auto, using(crate::proofs::ShownCalls::some_call_is_shown))]
+pub fn some_call_is_shown()
+    ensures law { SomeCallIsShown }
 {}

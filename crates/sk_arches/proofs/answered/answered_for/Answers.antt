@@ -15,7 +15,7 @@ returns c =
           among = c.in_ok-answers.ensures.among;
           rising = c.in_ok-answers.ensures.rising;
           only = c.in_ok-answers.ensures.only;
-          settled = λ same settles. c.in_ok-answers.ensures.settled same settles;
+          settled = c.in_ok-answers.ensures.settled;
         });
       };
       architecture = refl;

@@ -3,7 +3,7 @@ use Rattle.std.proofs.lemmas.Option.{slice_get-get_or}
 use Rattle.sk_insn.specs.declared.insn.Insn.{Insn}
 use Rattle.sk_filter.proofs.ValidPrograms.{valid_count, valid_fits, valid_leads}
 use Rattle.std.proofs.lemmas.Bool.{cases_eq, cases_lt}
-use Rattle.sk_survey.specs.Answers.{IsCallOf, IsOneOf, IsRising, answers_of}
+use Rattle.sk_survey.specs.Answers.{IsOneOf, IsRising, answers_of}
 use Rattle.sk_survey.specs.Following.{IsUnknown, led, zeros}
 use Rattle.sk_survey.proofs.Settling.{starts_settling, settled_past, settled_on, one_told, set_here, set_there, still_unknown, unknown_none, led_ahead, come_first, come_on}
 use Rattle.sk_survey.proofs.Reaching.{arrives, starts, unknown_place, known_place, led_inside, described_here, described_other}
@@ -26,8 +26,8 @@ loop-place-init c = record {
       let some = (valid_count c.args.program.now c.insns-insn-items.ensures.valid).0 in
       let apart : q ≢ 0 = λ e. elim where_from [ inl below ↦ omega arith | inr past ↦ omega arith ] in
       still_unknown c.args.slots.now _ q (set_there c.args.slots.now 0 q (Some c.at_start.result) apart) (c.requires.empty q);
-  settled = λ one call value steps same means.
-      starts_settling c.args.program.now c.insns-insn-items.ensures.valid c.args.slots.now c.at_start.result (Some c.new.result.items) call value steps
+  settled = λ call value steps within means.
+      starts_settling c.args.first c.args.last c.args.program.now c.insns-insn-items.ensures.valid c.args.slots.now c.at_start.result (Some c.new.result.items) call value steps
       (let long = c.requires.slots in omega arith) c.requires.empty c.at_start.ensures.whole (c.at_start.ensures.zeros call)
       (λ other among. absurd (subst (IsOneOf other) c.new.ensures.items among)) means;
 }
@@ -118,8 +118,8 @@ loop-place-preserved c =
                   | inr apart ↦ still_unknown slots (set slots place None) q (set_there slots place q None apart)
                       (c.loop-place.invariant.empty q (elim where_from [ inl below ↦ inl (omega arith) | inr past ↦ inr past ]))
                 ]);
-            settled = λ one call value steps same means.
-                settled_on program valid slots w.spread.new.slots _ _ place insn w.in-Some.knowledge w.follow-next.new.self w.follow-next.result call value here
+            settled = λ call value steps within means.
+                settled_on c.args.first c.args.last program valid slots w.spread.new.slots _ _ place insn w.in-Some.knowledge w.follow-next.new.self w.follow-next.result call value here
                 (slot ∙ ap Some w.in-Some.is)
                 (λ q apart not_led. w.spread.ensures.others q not_led ∙ set_there slots place q None apart)
                 (still_unknown (set slots place None) w.spread.new.slots place
@@ -128,9 +128,9 @@ loop-place-preserved c =
                 (λ skip is unknown. w.spread.ensures.alone skip is
                 (still_unknown slots (set slots place None) (place + 1 + skip) (set_there slots place (place + 1 + skip) None (λ e. omega arith)) unknown))
                 (λ other among. w.add_end.ensures.only other among)
-                (λ whole loads. w.follow-next.ensures.exact one whole loads)
-                (λ s is. w.follow-next.ensures.leads call s (let e = one in let nr = same.1 in (same.0, (omega arith, omega arith))) is)
-                (c.loop-place.invariant.settled one call value steps same means);
+                (λ whole loads. w.follow-next.ensures.exact whole loads)
+                (λ s is. w.follow-next.ensures.leads call s within is)
+                (c.loop-place.invariant.settled call value steps within means);
           })
       | in_default w ↦
           rw (w.slots-is, w.answers-is) (record {
@@ -142,9 +142,9 @@ loop-place-preserved c =
               | inl same ↦ unknown_none slots q (subst (λ q. slice_get slots q ≡ Some None) (sym same) (slot ∙ ap Some w.in_default.is))
               | inr apart ↦ c.loop-place.invariant.empty q (elim where_from [ inl below ↦ inl (omega arith) | inr past ↦ inr past ])
             ];
-            settled = λ one call value steps same means.
-                settled_past program slots _ place call value (slot ∙ ap Some w.in_default.is)
-                (c.loop-place.invariant.settled one call value steps same means);
+            settled = λ call value steps within means.
+                settled_past c.args.first c.args.last program slots _ place call value (slot ∙ ap Some w.in_default.is)
+                (c.loop-place.invariant.settled call value steps within means);
           })
     ]
 
@@ -152,24 +152,22 @@ pub returns-clause-only : goal.returns-clause-only
 returns-clause-only c =
     λ value among. (
       c.loop-place.invariant.only value among,
-      λ one other settles. (c.loop-place.invariant.settled one settles.0 other settles.2.0 settles.1 settles.2.1).0 value among,
+      λ other settles. (c.loop-place.invariant.settled settles.0 other settles.2.0 settles.1 settles.2.1).0 value among,
     )
 
 pub returns-clause-settled : goal.returns-clause-settled
 returns-clause-settled c =
-    λ one settles.
+    λ settles.
     let value = settles.0 in
     let on = settles.1 in
     let call = on.0 in
-    let native = on.1.0 in
-    let same = on.1.1 in
+    let within = on.1 in
     let program = c.args.program.now in
     let long = ap length c.insns-insn-items.ensures.insns in
     let test = c.loop-place-test.false in
     let past : length program ≤ c.loop-place.place = omega arith in
-    let within : IsCallOf c.args.first c.args.last call = (native, (omega arith, omega arith)) in
     one_told (answers_of c.loop-place.answers) value _
-    (c.loop-place.invariant.settled one call value on.2.0 on.1 on.2.1).0
+    (c.loop-place.invariant.settled call value on.2.0 within on.2.1).0
     (arrives program c.loop-place.slots _ call c.loop-place.place past (c.loop-place.invariant.followed call within))
     c.loop-place.invariant.rising
 

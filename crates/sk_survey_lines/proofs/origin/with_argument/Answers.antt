@@ -1,4 +1,4 @@
-use Rattle.std.proofs.Common.{rules, ◌≡◌, ◌-◌, ◌/◌, set, refl, sym, subst, arith}
+use Rattle.std.proofs.Common.{rules, ◌-◌, ◌/◌, set, refl, sym, subst, arith}
 use Rattle.sk_survey_lines.specs.Origins.{HasWord}
 use Rattle.sk_survey_lines.proofs.OtherWords.{argument_word}
 use Rattle.sk_survey_lines.proofs.origin.with_argument.Goals as goal

@@ -1,4 +1,4 @@
-use Rattle.std.proofs.Common.{◌≡◌, sym, subst, arith}
+use Rattle.std.proofs.Common.{sym, subst, arith}
 use Rattle.sk_survey_lines.specs.Origins.{HasWord}
 use Rattle.sk_survey_lines.proofs.OtherWords.{number_word}
 use Rattle.sk_survey_lines.proofs.origin.with_word.Goals as goal
