@@ -3,8 +3,8 @@
 
 check_random_profiles.py [COUNT [SEED]]: makes so many profiles without contradictions, 1,000 where nothing is said, and runs
 the filter that `ask filter` writes of each, with --runc or without, on calls at the borders of what its rules compare. An entry that contradicts an
-earlier one is refused with both numbers, and left out here: that is judged too, since the two have to be for one call and to
-say different things. Prints each problem, and at last 'N passed, M failed'."""
+earlier one is refused with both numbers and a call that fits both, and left out here: that is judged too, since the two have to
+say different things of that call. Prints each problem, and at last 'N passed, M failed'."""
 import random
 import re
 import subprocess
@@ -15,7 +15,7 @@ from check_calls import ARCHITECTURE, LIMIT, PROGRAM, instructions, judge, resul
 from random_profiles import Profile, calls, profile
 
 OTHERS = "ask: -: x86-64's part alone: its other architectures have no filter here\n"
-CLASH = re.compile(r"ask: -: entries (\d+) and (\d+) of syscalls clash\b.*\n")
+CLASH = re.compile(r"ask: -: entries (\d+) and (\d+) of syscalls clash: both fit (\w+)\((.*)\), and they say different things\n")
 
 
 def ask_filter(given: Profile) -> tuple[int, bytes, str]:
@@ -32,12 +32,13 @@ def words_of(number: int, args: tuple[int, ...]) -> list[int]:
     return [number, ARCHITECTURE, 0, 0, *(half for it in args for half in (it % LIMIT, it // LIMIT))]
 
 
-def problem_of_clash(given: Profile, first: int, second: int) -> str | None:
-    """What is wrong with a refusal that names these two entries."""
+def problem_of_clash(given: Profile, first: int, second: int, name: str, args: tuple[int, ...]) -> str | None:
+    """What is wrong with a refusal that names these two entries and this call."""
     if not 0 < first < second <= len(given.rules):
         return f"entries {first} and {second} of {len(given.rules)}"
-    one, other = given.rules[first - 1], given.rules[second - 1]
-    return None if one.name == other.name and one.action != other.action else f"{one} and {other} do not contradict each other"
+    both = [given.rules[it - 1] for it in (first, second)]
+    fit = all(it.name == name and it in given.given() and all(asked.holds(args) for asked in it.conditions) for it in both)
+    return None if fit and both[0].action != both[1].action else f"{both[0]} and {both[1]} do not clash on {name}{args}"
 
 
 def check_profile(number: int, seed: int) -> list[str]:
@@ -49,7 +50,7 @@ def check_profile(number: int, seed: int) -> list[str]:
         clash = CLASH.fullmatch(complaint)
         if not clash or status != 2 or image:
             break
-        problem = problem_of_clash(given, int(clash[1]), int(clash[2]))
+        problem = problem_of_clash(given, int(clash[1]), int(clash[2]), clash[3], tuple(int(it, 16) for it in clash[4].split(", ")))
         if problem:
             return [problem]
         at = int(clash[2]) - 1

@@ -1,14 +1,20 @@
 """Random profiles as container runtimes have them, what they say of a call, and calls at the borders of what they compare.
 
-The values stand at the borders of 32 and 64 bits on purpose. What a profile says is the OCI runtime specification's
-config-linux.md: a rule without conditions for a call, before the first whose conditions all hold, before the default. Where
-runc attaches the filter, numbers above the greatest that is named are refused before (its patchbpf/enosys_linux.go)."""
+The values stand at the borders of 32 and 64 bits on purpose. What a profile says is told as runc goes through it: which rules
+it gives to libseccomp (matchCall of libcontainer/seccomp/seccomp_linux.go), what libseccomp keeps of them (seccomp_rule_add(3)),
+and what it has stand before the filter (libcontainer/seccomp/patchbpf/enosys_linux.go). runc 1.1.5 with libseccomp 2.5.4 was
+seen to do so."""
 import json
 import random
 from typing import NamedTuple
 
 MOST = 2**64 - 1
-NAMES = {"read": 0, "write": 1, "open": 2, "close": 3, "clone": 56, "fork": 57, "personality": 135, "futex": 202, "pidfd_open": 434}
+NAMES = {
+    "read": 0, "write": 1, "open": 2, "close": 3, "clone": 56, "fork": 57, "uselib": 134, "personality": 135, "futex": 202,
+    "vserver": 236, "pidfd_open": 434,
+}
+# Calls that asm/unistd_x32.h does not have.
+NOT_OF_X32 = ("uselib", "vserver")
 VALUES = [
     0, 1, 2, 5, 7, 8, 0xFF, 0x100, 0xFFFF, 0x7FFFFFFF, 0x80000000, 0xFFFFFFFE, 0xFFFFFFFF, 0x100000000, 0x100000001, 0x200000005,
     0x1FFFFFFFF, 0xFFFFFFFF00000000, 0x8000000000000000, MOST - 1, MOST,
@@ -18,7 +24,7 @@ MASKS = [*VALUES, 3, 0xF0, 0x7E020000]
 ACTIONS = {
     ("SCMP_ACT_ALLOW", None): 0x7FFF0000, ("SCMP_ACT_ERRNO", 1): 0x50001, ("SCMP_ACT_ERRNO", 5): 0x50005,
     ("SCMP_ACT_ERRNO", 38): 0x50026, ("SCMP_ACT_KILL_PROCESS", None): 0x80000000, ("SCMP_ACT_TRAP", None): 0x30000,
-    ("SCMP_ACT_LOG", None): 0x7FFC0000,
+    ("SCMP_ACT_LOG", None): 0x7FFC0000, ("SCMP_ACT_TRACE", 65535): 0x7FF0FFFF,
 }
 OF_RULES = list(ACTIONS)[:4]
 TESTS = {
@@ -33,7 +39,7 @@ TESTS = {
 # Numbers of the x32 ABI are no calls of x86-64: libseccomp kills the thread.
 FIRST_X32, LAST_X32, KILL_THREAD = 0x40000000, 0xFFFFFFFE, 0
 # What runc answers to a number that it knows no call of, and the defaults at which it does not.
-NO_CALL, PERFORMED = 0x50026, ("SCMP_ACT_ALLOW", "SCMP_ACT_LOG")
+NO_CALL, PERFORMED = 0x50026, ("SCMP_ACT_ALLOW", "SCMP_ACT_LOG", "SCMP_ACT_TRACE")
 
 
 class Condition(NamedTuple):
@@ -81,13 +87,36 @@ class Profile(NamedTuple):
     def text(self) -> str:
         return json.dumps(self.document())
 
+    def given(self) -> list[Rule]:
+        """The rules that runc gives to libseccomp: it skips a redundant one, whose action and number are the default's."""
+        return [it for it in self.rules if ACTIONS[it.action] != ACTIONS[self.default]]
+
+    def kept(self) -> dict[int, list[Rule]]:
+        """What libseccomp keeps for each number, rule by rule. One for all calls takes the place of those with conditions, and
+        nothing is added to it."""
+        chains: dict[int, list[Rule]] = {}
+        for rule in self.given():
+            chain = chains.setdefault(NAMES[rule.name], [])
+            if any(not it.conditions for it in chain):
+                continue
+            if not rule.conditions:
+                chain.clear()
+            chain.append(rule)
+        return chains
+
+    def last_call(self, is_x32: bool) -> int:
+        """The greatest number of a named call, by which runc has the numbers above it fail, or 0: also of the rules that it
+        skips. Numbers of x32 are those of x86-64 with bit 30; a few calls have numbers of their own there, none of these."""
+        numbers = [NAMES[it.name] for it in self.rules if not (is_x32 and it.name in NOT_OF_X32)]
+        return max((it | FIRST_X32 * is_x32 for it in numbers), default=0)
+
     def is_unknown(self, number: int) -> bool:
-        """Whether runc has the call fail by itself."""
+        """Whether runc has the call fail by itself. Of the numbers of x32 only -1 is asked about: the filter is for x86-64."""
         if not self.runc or self.default[0] in PERFORMED:
             return False
         if number & FIRST_X32:
-            return self.x32 and number > LAST_X32
-        return 0 < max((NAMES[it.name] for it in self.rules), default=0) < number
+            return self.x32 and number > LAST_X32 and 0 < self.last_call(True) < number
+        return 0 < self.last_call(False) < number
 
     def says(self, number: int, args: tuple[int, ...]) -> int:
         """The value that a filter is to return for this call."""
@@ -95,10 +124,8 @@ class Profile(NamedTuple):
             return NO_CALL
         if FIRST_X32 <= number <= LAST_X32:
             return KILL_THREAD
-        rules = [it for it in self.rules if NAMES[it.name] == number]
-        plain = [it for it in rules if not it.conditions]
-        fitting = [*plain, *(it for it in rules if all(condition.holds(args) for condition in it.conditions))]
-        return ACTIONS[fitting[0].action if fitting else self.default]
+        fitting = (it for it in self.kept().get(number, ()) if all(asked.holds(args) for asked in it.conditions))
+        return ACTIONS[next((it.action for it in fitting), self.default)]
 
 
 def condition(dice: random.Random, index: int) -> Condition:
@@ -109,15 +136,16 @@ def condition(dice: random.Random, index: int) -> Condition:
     return Condition(index, op, mask, dice.choice(VALUES) & mask)
 
 
-def rule(dice: random.Random, name: str) -> Rule:
+def rule(dice: random.Random, name: str, default: tuple[str, int | None]) -> Rule:
     indexes = sorted(dice.sample(range(6), dice.choice([0, 1, 1, 1, 2, 2, 3])))
-    return Rule(name, dice.choice(OF_RULES), tuple(condition(dice, it) for it in indexes))
+    return Rule(name, dice.choice([*OF_RULES, default]), tuple(condition(dice, it) for it in indexes))
 
 
 def profile(dice: random.Random) -> Profile:
     """Some calls, with some rules each. Two of them may contradict each other."""
     names = dice.sample(list(NAMES), dice.randint(1, 5))
-    return Profile(dice.choice(list(ACTIONS)), tuple(rule(dice, it) for it in names for _ in range(dice.randint(1, 5))))
+    default = dice.choice(list(ACTIONS))
+    return Profile(default, tuple(rule(dice, it, default) for it in names for _ in range(dice.randint(1, 5))))
 
 
 def calls(given: Profile, dice: random.Random) -> list[tuple[int, tuple[int, ...]]]:

@@ -121,31 +121,31 @@ const REFUSED: &[(&[u8], &str)] = &[
     ),
     (
         b"{\"defaultAction\": \"SCMP_ACT_ERRNO\", \"defaultErrnoRet\": 4095}",
-        "defaultErrnoRet: expected a number up to 4094",
+        "defaultErrnoRet: expected a number up to 4094, or beside SCMP_ACT_TRACE up to 65535",
     ),
     (
         b"{\"defaultAction\": \"SCMP_ACT_ERRNO\", \"defaultErrnoRet\": -1}",
-        "defaultErrnoRet: expected a number up to 4094",
+        "defaultErrnoRet: expected a number up to 4094, or beside SCMP_ACT_TRACE up to 65535",
     ),
     (
         b"{\"defaultAction\": \"SCMP_ACT_ERRNO\", \"defaultErrnoRet\": 1.0}",
-        "defaultErrnoRet: expected a number up to 4094",
+        "defaultErrnoRet: expected a number up to 4094, or beside SCMP_ACT_TRACE up to 65535",
     ),
     (
         b"{\"defaultAction\": \"SCMP_ACT_ERRNO\", \"defaultErrnoRet\": 1e2}",
-        "defaultErrnoRet: expected a number up to 4094",
+        "defaultErrnoRet: expected a number up to 4094, or beside SCMP_ACT_TRACE up to 65535",
     ),
     (
         b"{\"defaultAction\": \"SCMP_ACT_ERRNO\", \"defaultErrnoRet\": \"38\"}",
-        "defaultErrnoRet: expected a number up to 4094",
+        "defaultErrnoRet: expected a number up to 4094, or beside SCMP_ACT_TRACE up to 65535",
     ),
     (
         b"{\"defaultAction\": \"SCMP_ACT_ERRNO\", \"defaultErrnoRet\": 65536}",
-        "defaultErrnoRet: expected a number up to 4094",
+        "defaultErrnoRet: expected a number up to 4094, or beside SCMP_ACT_TRACE up to 65535",
     ),
     (
         b"{\"defaultAction\": \"SCMP_ACT_ERRNO\", \"defaultErrnoRet\": true}",
-        "defaultErrnoRet: expected a number up to 4094",
+        "defaultErrnoRet: expected a number up to 4094, or beside SCMP_ACT_TRACE up to 65535",
     ),
     (
         b"{\"defaultAction\": \"SCMP_ACT_ALLOW\", \"defaultErrnoRet\": 1}",
@@ -261,7 +261,7 @@ const REFUSED: &[(&[u8], &str)] = &[
     ),
     (
         b"{\"defaultAction\": \"SCMP_ACT_ERRNO\", \"syscalls\": [{\"names\": [\"read\"], \"action\": \"SCMP_ACT_ALLOW\"}, {\"names\": [\"read\"], \"action\": \"SCMP_ACT_ERRNO\", \"errnoRet\": 4095}]}",
-        "entry 2 of syscalls: errnoRet: expected a number up to 4094",
+        "entry 2 of syscalls: errnoRet: expected a number up to 4094, or beside SCMP_ACT_TRACE up to 65535",
     ),
     (
         b"{\"defaultAction\": \"SCMP_ACT_ERRNO\", \"syscalls\": [{\"names\": [\"read\"], \"action\": \"SCMP_ACT_ALLOW\"}, {\"names\": [\"read\"], \"action\": \"SCMP_ACT_ERRNO\", \"errnoRet\": 1, \"errno\": \"ENOSYS\"}]}",
@@ -353,15 +353,55 @@ const REFUSED: &[(&[u8], &str)] = &[
     ),
     (
         b"{\"defaultAction\": \"SCMP_ACT_ERRNO\", \"syscalls\": [{\"names\": [\"clone\"], \"action\": \"SCMP_ACT_ALLOW\", \"args\": [{\"index\": 0, \"value\": 1, \"op\": \"SCMP_CMP_EQ\"}]}, {\"names\": [\"clone\"], \"action\": \"SCMP_ACT_LOG\", \"args\": [{\"index\": 1, \"value\": 2, \"op\": \"SCMP_CMP_EQ\"}]}]}",
-        "entries 1 and 2 of syscalls clash on clone: some call fits both, and they say different things",
+        "entries 1 and 2 of syscalls clash: both fit clone(0x1, 0x2, 0x0, 0x0, 0x0, 0x0), and they say different things",
     ),
     (
         b"{\"defaultAction\": \"SCMP_ACT_ERRNO\", \"syscalls\": [{\"names\": [\"read\"], \"action\": \"SCMP_ACT_ALLOW\"}, {\"names\": [\"setns\"], \"action\": \"SCMP_ACT_ALLOW\", \"args\": [{\"index\": 0, \"value\": 5, \"op\": \"SCMP_CMP_GT\"}]}, {\"names\": [\"read\"], \"action\": \"SCMP_ACT_ALLOW\"}, {\"names\": [\"setns\"], \"action\": \"SCMP_ACT_LOG\", \"args\": [{\"index\": 0, \"value\": 10, \"op\": \"SCMP_CMP_GT\"}]}]}",
-        "entries 2 and 4 of syscalls clash on setns: some call fits both, and they say different things",
+        "entries 2 and 4 of syscalls clash: both fit setns(0xb, 0x0, 0x0, 0x0, 0x0, 0x0), and they say different things",
     ),
     (
         b"{\"defaultAction\": \"SCMP_ACT_ERRNO\", \"syscalls\": [{\"names\": [\"read\"], \"action\": \"SCMP_ACT_ALLOW\", \"args\": [{\"index\": 0, \"value\": 1, \"op\": \"SCMP_CMP_EQ\"}]}, {\"names\": [\"write\", \"open\", \"mseal\"], \"action\": \"SCMP_ACT_LOG\", \"args\": [{\"index\": 2, \"value\": 7, \"op\": \"SCMP_CMP_NE\"}]}, {\"names\": [\"mseal\"], \"action\": \"SCMP_ACT_TRAP\", \"args\": [{\"index\": 2, \"value\": 8, \"op\": \"SCMP_CMP_EQ\"}]}]}",
-        "entries 2 and 3 of syscalls clash on mseal: some call fits both, and they say different things",
+        "entries 2 and 3 of syscalls clash: both fit mseal(0x0, 0x0, 0x8, 0x0, 0x0, 0x0), and they say different things",
+    ),
+    (
+        b"{\"defaultAction\": \"SCMP_ACT_ERRNO\", \"syscalls\": [{\"names\": [\"getpid\"], \"action\": \"SCMP_ACT_ALLOW\", \"args\": [{\"index\": 0, \"value\": 1, \"op\": \"SCMP_CMP_LT\"}]}, {\"names\": [\"getpid\"], \"action\": \"SCMP_ACT_LOG\", \"args\": [{\"index\": 0, \"value\": 0, \"op\": \"SCMP_CMP_NE\"}]}]}",
+        "a filter",
+    ),
+    (
+        b"{\"defaultAction\": \"SCMP_ACT_ERRNO\", \"syscalls\": [{\"names\": [\"getpid\"], \"action\": \"SCMP_ACT_ALLOW\", \"args\": [{\"index\": 0, \"value\": 240, \"valueTwo\": 16, \"op\": \"SCMP_CMP_MASKED_EQ\"}]}, {\"names\": [\"getpid\"], \"action\": \"SCMP_ACT_LOG\", \"args\": [{\"index\": 0, \"value\": 16, \"op\": \"SCMP_CMP_LT\"}]}]}",
+        "a filter",
+    ),
+    (
+        b"{\"defaultAction\": \"SCMP_ACT_ALLOW\", \"syscalls\": [{\"names\": [\"getpid\"], \"action\": \"SCMP_ACT_ERRNO\", \"args\": [{\"index\": 0, \"value\": 255, \"valueTwo\": 16, \"op\": \"SCMP_CMP_MASKED_EQ\"}]}, {\"names\": [\"getpid\"], \"action\": \"SCMP_ACT_KILL_PROCESS\", \"args\": [{\"index\": 0, \"value\": 5, \"op\": \"SCMP_CMP_LT\"}]}]}",
+        "a filter",
+    ),
+    (
+        b"{\"defaultAction\": \"SCMP_ACT_ERRNO\", \"syscalls\": [{\"names\": [\"getpid\"], \"action\": \"SCMP_ACT_ALLOW\", \"args\": [{\"index\": 0, \"value\": 5, \"op\": \"SCMP_CMP_LE\"}]}, {\"names\": [\"getpid\"], \"action\": \"SCMP_ACT_LOG\", \"args\": [{\"index\": 0, \"value\": 5, \"op\": \"SCMP_CMP_GT\"}]}]}",
+        "a filter",
+    ),
+    (
+        b"{\"defaultAction\": \"SCMP_ACT_ERRNO\", \"syscalls\": [{\"names\": [\"getpid\"], \"action\": \"SCMP_ACT_ALLOW\", \"args\": [{\"index\": 0, \"value\": 1, \"valueTwo\": 0, \"op\": \"SCMP_CMP_MASKED_EQ\"}]}, {\"names\": [\"getpid\"], \"action\": \"SCMP_ACT_LOG\", \"args\": [{\"index\": 0, \"value\": 1, \"valueTwo\": 1, \"op\": \"SCMP_CMP_MASKED_EQ\"}]}]}",
+        "a filter",
+    ),
+    (
+        b"{\"defaultAction\": \"SCMP_ACT_ERRNO\", \"syscalls\": [{\"names\": [\"getpid\"], \"action\": \"SCMP_ACT_ALLOW\", \"args\": [{\"index\": 0, \"value\": 5, \"op\": \"SCMP_CMP_GT\"}]}, {\"names\": [\"getpid\"], \"action\": \"SCMP_ACT_ERRNO\", \"args\": [{\"index\": 0, \"value\": 10, \"op\": \"SCMP_CMP_GT\"}]}]}",
+        "a filter",
+    ),
+    (
+        b"{\"defaultAction\": \"SCMP_ACT_ERRNO\", \"syscalls\": [{\"names\": [\"getpid\"], \"action\": \"SCMP_ACT_ALLOW\", \"args\": [{\"index\": 0, \"value\": 240, \"valueTwo\": 16, \"op\": \"SCMP_CMP_MASKED_EQ\"}]}, {\"names\": [\"getpid\"], \"action\": \"SCMP_ACT_LOG\", \"args\": [{\"index\": 0, \"value\": 17, \"op\": \"SCMP_CMP_LT\"}]}]}",
+        "entries 1 and 2 of syscalls clash: both fit getpid(0x10, 0x0, 0x0, 0x0, 0x0, 0x0), and they say different things",
+    ),
+    (
+        b"{\"defaultAction\": \"SCMP_ACT_ERRNO\", \"syscalls\": [{\"names\": [\"getpid\"], \"action\": \"SCMP_ACT_ALLOW\", \"args\": [{\"index\": 0, \"value\": 9223372036854775808, \"valueTwo\": 9223372036854775808, \"op\": \"SCMP_CMP_MASKED_EQ\"}]}, {\"names\": [\"getpid\"], \"action\": \"SCMP_ACT_LOG\", \"args\": [{\"index\": 0, \"value\": 9223372036854775808, \"op\": \"SCMP_CMP_NE\"}]}]}",
+        "entries 1 and 2 of syscalls clash: both fit getpid(0x8000000000000001, 0x0, 0x0, 0x0, 0x0, 0x0), and they say different things",
+    ),
+    (
+        b"{\"defaultAction\": \"SCMP_ACT_ERRNO\", \"syscalls\": [{\"names\": [\"getpid\"], \"action\": \"SCMP_ACT_ALLOW\", \"args\": [{\"index\": 0, \"value\": 12, \"valueTwo\": 4, \"op\": \"SCMP_CMP_MASKED_EQ\"}]}, {\"names\": [\"getpid\"], \"action\": \"SCMP_ACT_LOG\", \"args\": [{\"index\": 0, \"value\": 3, \"valueTwo\": 2, \"op\": \"SCMP_CMP_MASKED_EQ\"}]}]}",
+        "entries 1 and 2 of syscalls clash: both fit getpid(0x6, 0x0, 0x0, 0x0, 0x0, 0x0), and they say different things",
+    ),
+    (
+        b"{\"defaultAction\": \"SCMP_ACT_ERRNO\", \"syscalls\": [{\"names\": [\"getpid\"], \"action\": \"SCMP_ACT_ALLOW\", \"args\": [{\"index\": 0, \"value\": 240, \"valueTwo\": 16, \"op\": \"SCMP_CMP_MASKED_EQ\"}, {\"index\": 5, \"value\": 18446744073709551615, \"op\": \"SCMP_CMP_GE\"}]}, {\"names\": [\"getpid\"], \"action\": \"SCMP_ACT_LOG\", \"args\": [{\"index\": 0, \"value\": 32, \"op\": \"SCMP_CMP_GE\"}, {\"index\": 1, \"value\": 0, \"op\": \"SCMP_CMP_NE\"}]}]}",
+        "entries 1 and 2 of syscalls clash: both fit getpid(0x110, 0x1, 0x0, 0x0, 0x0, 0xffffffffffffffff), and they say different things",
     ),
 ];
 

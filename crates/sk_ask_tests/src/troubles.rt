@@ -217,7 +217,7 @@ const TROUBLES: &[(&[&str], &[u8])] = &[
     ),
     (
         &["diff", "all", "clash"],
-        b"ask: clash: entries 2 and 3 of syscalls clash on write: some call fits both, and they say different things\n",
+        b"ask: clash: entries 2 and 3 of syscalls clash: both fit write(0x1, 0x2, 0x0, 0x0, 0x0, 0x0), and they say different things\n",
     ),
     (
         &["show", "profile", "profile"],

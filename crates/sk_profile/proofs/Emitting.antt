@@ -158,7 +158,7 @@ one_more P xs n x inside is all here =
 pub index_inside : (arm : ArmOfCode) (index value number : ℕ) → arm_of arm ≡ asks index value number → IsArmOfCode arm → index < 6
 index_inside arm index value number is good =
     let conditions = ap (λ (arm : Arm). arm.conditions) is in
-    All-head (λ (c : Condition). c.index < 6) (record { index = index; test = Is; value = number }) [] (subst (All (λ (c : Condition). c.index < 6)) conditions good.0)
+    All-head (λ (c : Condition). c.index < 6) (record { index = index; test = Is; value = number }) [] (subst (All (λ (c : Condition). c.index < 6)) conditions good.0.0)
 
 pub joined_arms : (index value upper first : ℕ) (others : List ArmOfCode) → All (Asks index value upper) others
     → map (asks index value) (first ∷ map asked_for others) ≡ asks index value first ∷ map arm_of others
@@ -280,7 +280,7 @@ leaf_of saying good false e =
           none = λ all. absurd (both_ways _ e (each_answers saying.otherwise arms (of_code saying.otherwise arms all)));
         },
       );
-      good = All-map IsPiece (λ arm. Single (arm_of arm)) arms (All-weaker IsArmOfCode (λ arm. IsPiece (Single (arm_of arm))) (λ arm is. is.0) arms good);
+      good = All-map IsPiece (λ arm. Single (arm_of arm)) arms (All-weaker IsArmOfCode (λ arm. IsPiece (Single (arm_of arm))) (λ arm is. is.0.0) arms good);
     }
 
 some_tree : (before : SayingOfCode) (rows : List RowOfCode) → AreRows before rows → SomeTree before rows

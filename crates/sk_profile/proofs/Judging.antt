@@ -14,9 +14,10 @@ pub good_rule : (rule : RuleOfCode) → is_good (rule_of rule) ≡ true → IsGo
 good_rule rule e =
     let parts = and_parts _ _ e in
     let others = and_parts _ _ parts.1 in
-    let all = AllPass-from_list_all (λ (c : Condition). nat_lt c.index 6) rule.conditions.items others.1 in record {
+    let more = and_parts _ _ others.1 in
+    let all = AllPass-from_list_all (λ (c : Condition). nat_lt c.index 6) rule.conditions.items more.1 in record {
       number = ltb-true rule.number 1024 parts.0;
-      indices = λ k d less. ltb-true _ 6 (all k d less);
+      asked = (λ k d less. ltb-true _ 6 (all k d less), more.0);
       few = leb-true (length rule.conditions.items) 6 others.0;
     }
 

@@ -13,3 +13,4 @@ pub mod Places
 pub mod Clearing
 pub mod Judging
 pub mod Worked
+pub mod Least

@@ -1,12 +1,14 @@
 -- Arms by their places among others.
-use Rattle.std.proofs.Common.{◌≡◌, ℕ, zero, suc, ◌+◌, true, false, List, [], ◌∷◌, length, drop, map, Some, slice_get, refl, sym, ap, ◌∙◌, arith}
-use Rattle.std.specs.List.{list_any}
+use Rattle.std.proofs.Common.{◌≡◌, ℕ, zero, suc, ◌+◌, ◌^◌, ◌<◌, List, [], ◌∷◌, length, drop, map, Some, slice_get, refl, sym, ap, ◌∙◌, subst, arith}
+use Rattle.std.specs.List.{All}
+use Rattle.std.proofs.lemmas.List.Elements.{All-nil, All-cons}
 use Rattle.std.specs.Option.{option_map}
 use Rattle.std.proofs.lemmas.Option.{slice_get-map}
 use Rattle.sk_profile.specs.declared.saying.Arm.{Arm as ArmOfCode}
 use Rattle.sk_profile.specs.Sayings.{Arm}
 use Rattle.sk_profile.specs.CodeViews.{arm_of}
-use Rattle.sk_profile.specs.Clashes.{may_clash, never_clash, IsClashAt, MayClash}
+use Rattle.sk_profile.specs.declared.fault.Clash.{Clash}
+use Rattle.sk_profile.specs.Clashes.{ClashesWith, ClashesWithNone, IsClash}
 
 at_drop : {X : Type 0} (n : ℕ) (xs : List X) (k : ℕ) → slice_get (drop n xs) k ≡ slice_get xs (n + k)
 at_drop zero xs k = ap (slice_get xs) (omega arith)
@@ -35,41 +37,32 @@ behind arms rest place k is =
     ∙ ap (option_map arm_of) (sym (at_drop place arms k) ∙ ap (λ (xs : List ArmOfCode). slice_get xs k) (sym is))
     ∙ sym (slice_get-map arm_of rest k)
 
-pub found : (arms left rest : List ArmOfCode) (arm : ArmOfCode) (first k : ℕ) → left ≡ drop first arms → left ≡ arm ∷ rest → IsClashAt (arm_of arm) (map arm_of rest) k
-    → MayClash (map arm_of arms) first (first + 1 + k)
-found arms left rest arm first k is steps it =
-    let more : rest ≡ drop (first + 1) arms = drop_more first arms rest arm (sym is ∙ steps) in (
-      arm_of arm,
-      here arm_of arms left rest arm first is steps,
-      omega arith,
-      (it.0, behind arms rest (first + 1) k more ∙ it.1, it.2),
-    )
+pub found : (arms left rest : List ArmOfCode) (arm : ArmOfCode) (it : Clash) (place : ℕ) → left ≡ drop it.first arms → left ≡ arm ∷ rest → it.second ≡ it.first + 1 + place → it.number < 2 ^ 32
+    → ClashesWith (arm_of arm) (map arm_of rest) place it.args → IsClash (map arm_of arms) it
+found arms left rest arm it place is steps second low clash =
+    let more : rest ≡ drop (it.first + 1) arms = drop_more it.first arms rest arm (sym is ∙ steps) in record {
+      one = arm_of arm;
+      other = clash.other;
+      at_first = here arm_of arms left rest arm it.first is steps;
+      at_second = ap (slice_get (map arm_of arms)) second ∙ behind arms rest (it.first + 1) place more ∙ clash.at_place;
+      order = omega (arith, second);
+      fits = clash.fits it.number low;
+      differ = clash.differ;
+    }
 
--- one that does not clash more
-pub none_more : (one : Arm) (left rest whole : List ArmOfCode) (other : ArmOfCode) → left ≡ other ∷ rest → may_clash one (arm_of other) ≡ false
-    → list_any (may_clash one) (map arm_of left) ≡ list_any (may_clash one) (map arm_of whole) → list_any (may_clash one) (map arm_of rest) ≡ list_any (may_clash one) (map arm_of whole)
-none_more one left rest whole other steps free so_far =
-    let first : list_any (may_clash one) (map arm_of (other ∷ rest)) ≡ list_any (may_clash one) (map arm_of rest) = rw free refl in
-    sym first ∙ ap (λ (arms : List ArmOfCode). list_any (may_clash one) (map arm_of arms)) (sym steps) ∙ so_far
+-- one more that does not clash
+pub none_more : (one : Arm) (left rest whole : List ArmOfCode) (other : ArmOfCode) → left ≡ other ∷ rest → ClashesWithNone one (arm_of other)
+    → (All (λ (other : ArmOfCode). ClashesWithNone one (arm_of other)) left → All (λ (other : ArmOfCode). ClashesWithNone one (arm_of other)) whole)
+    → All (λ (other : ArmOfCode). ClashesWithNone one (arm_of other)) rest → All (λ (other : ArmOfCode). ClashesWithNone one (arm_of other)) whole
+none_more one left rest whole other steps free so_far more =
+    let P : ArmOfCode → Type 0 = λ other. ClashesWithNone one (arm_of other) in
+    so_far (subst (All P) (sym steps) (All-cons P other rest free more))
 
-pub arm_more : (left rest whole : List ArmOfCode) (arm : ArmOfCode) → left ≡ arm ∷ rest → list_any (may_clash (arm_of arm)) (map arm_of rest) ≡ false
-    → never_clash (map arm_of left) ≡ never_clash (map arm_of whole) → never_clash (map arm_of rest) ≡ never_clash (map arm_of whole)
-unfolding never_clash
-arm_more left rest whole arm steps free so_far =
-    let first : never_clash (map arm_of (arm ∷ rest)) ≡ never_clash (map arm_of rest) = rw free refl in
-    sym first ∙ ap (λ (arms : List ArmOfCode). never_clash (map arm_of arms)) (sym steps) ∙ so_far
-
-none_left : (left : List ArmOfCode) → length left ≡ 0 → never_clash (map arm_of left) ≡ true
-unfolding never_clash
-none_left [] e = refl
-none_left (arm ∷ left) e = absurd (omega (arith, e))
-
-pub nothing_left : (left whole : List ArmOfCode) → length left ≡ 0 → never_clash (map arm_of left) ≡ never_clash (map arm_of whole) → never_clash (map arm_of whole) ≡ true
-nothing_left left whole e so_far = sym so_far ∙ none_left left e
-
-no_other : (one : Arm) (left : List ArmOfCode) → length left ≡ 0 → list_any (may_clash one) (map arm_of left) ≡ false
-no_other one [] e = refl
+no_other : (one : Arm) (left : List ArmOfCode) → length left ≡ 0 → All (λ (other : ArmOfCode). ClashesWithNone one (arm_of other)) left
+no_other one [] e = All-nil (λ (other : ArmOfCode). ClashesWithNone one (arm_of other))
 no_other one (arm ∷ left) e = absurd (omega (arith, e))
 
-pub none_at_all : (one : Arm) (left whole : List ArmOfCode) → length left ≡ 0 → list_any (may_clash one) (map arm_of left) ≡ list_any (may_clash one) (map arm_of whole) → list_any (may_clash one) (map arm_of whole) ≡ false
-none_at_all one left whole e so_far = sym so_far ∙ no_other one left e
+pub none_at_all : (one : Arm) (left whole : List ArmOfCode) → length left ≡ 0
+    → (All (λ (other : ArmOfCode). ClashesWithNone one (arm_of other)) left → All (λ (other : ArmOfCode). ClashesWithNone one (arm_of other)) whole)
+    → All (λ (other : ArmOfCode). ClashesWithNone one (arm_of other)) whole
+none_at_all one left whole e so_far = so_far (no_other one left e)

@@ -1,7 +1,8 @@
 -- What rows say from one more start on, and behind the last.
 use Rattle.std.proofs.Common.{◌≡◌, ◌≢◌, ◌==◌, ◌&&◌, ℕ, ◌+◌, ◌*◌, ◌/◌, ◌%◌, ◌-◌, ◌<◌, ◌≤◌, nat_le, ◌^◌, inl, inr, Bool, true, false, if◌then◌else◌, List, [], ◌∷◌, ◌++◌, map, length, Some, None, slice_get, refl, sym, ap, ◌∙◌, subst, arith, append_assoc}
-use Rattle.std.specs.Prelude.{All}
-use Rattle.std.proofs.lemmas.Bool.{cases_lt, leb-true, leb-false, le-leb, lt-leb, lt-ltb, le-ltb, eq-eqb, ne_eqb}
+use Rattle.std.specs.Prelude.{All, ◌||◌}
+use Rattle.std.specs.List.{list_any}
+use Rattle.std.proofs.lemmas.Bool.{cases_lt, leb-true, leb-false, le-leb, lt-leb, lt-ltb, le-ltb, ne_eqb}
 use Rattle.std.proofs.lemmas.List.{map-append}
 use Rattle.std.proofs.lemmas.List.Elements.{All-nil, All-cons, All-head, All-tail, All-append}
 use Rattle.sk_profile.specs.declared.saying.Row.{Row as RowOfCode}
@@ -11,7 +12,7 @@ use Rattle.sk_profile.specs.declared.saying.Saying.{Saying as SayingOfCode}
 use Rattle.sk_profile.specs.CodeViews.{saying_of, row_of, IsSayingOfCode, IsRowOfCode, AreRising, AreRows}
 use Rattle.sk_profile.specs.declared.profile.Rule.{Rule as RuleOfCode}
 use Rattle.sk_profile.specs.declared.profile.Profile.{Profile as ProfileOfCode}
-use Rattle.sk_profile.specs.Profiles.{Profile, plain_rule, arms_for, arm_of_rule, saying_of_rules, saying_for, always, is_x32, no_call, greater, greatest, has_x32_bit, is_unknown}
+use Rattle.sk_profile.specs.Profiles.{Profile, is_for, plain_rule, arms_for, arm_of_rule, saying_of_rules, saying_for, always, is_x32, no_call, greater, greatest, has_x32_bit, is_unknown}
 use Rattle.sk_profile.specs.Views.{rule_of, profile_of}
 use Rattle.sk_profile.specs.Rows.{StartBelow, IsGood, AreGood}
 
@@ -83,21 +84,21 @@ still_rows before rows new row is below good all = subst (AreRows before) (sym i
 })
 
 -- above all numbers of rules the default is said
-no_plain : (rules : List RuleOfCode) (nr : ℕ) → All IsGood rules → 1024 ≤ nr → plain_rule (map rule_of rules) nr ≡ None
-no_plain [] nr good up = refl
-no_plain (rule ∷ rules) nr good up =
+no_plain : (default : ℕ) (rules : List RuleOfCode) (nr : ℕ) → All IsGood rules → 1024 ≤ nr → plain_rule default (map rule_of rules) nr ≡ None
+no_plain default [] nr good up = refl
+no_plain default (rule ∷ rules) nr good up =
     let number = (All-head IsGood rule rules good).number in
-    rw (ne_eqb rule.number nr (λ e. absurd (omega (arith, number, up, e)))) (no_plain rules nr (All-tail IsGood rule rules good) up)
+    rw (ne_eqb rule.number nr (λ e. absurd (omega (arith, number, up, e)))) (no_plain default rules nr (All-tail IsGood rule rules good) up)
 
-no_arms : (rules : List RuleOfCode) (nr : ℕ) → All IsGood rules → 1024 ≤ nr → arms_for (map rule_of rules) nr ≡ []
-no_arms [] nr good up = refl
-no_arms (rule ∷ rules) nr good up =
+no_arms : (default : ℕ) (rules : List RuleOfCode) (nr : ℕ) → All IsGood rules → 1024 ≤ nr → arms_for default (map rule_of rules) nr ≡ []
+no_arms default [] nr good up = refl
+no_arms default (rule ∷ rules) nr good up =
     let number = (All-head IsGood rule rules good).number in
-    rw (ne_eqb rule.number nr (λ e. absurd (omega (arith, number, up, e)))) (no_arms rules nr (All-tail IsGood rule rules good) up)
+    rw (ne_eqb rule.number nr (λ e. absurd (omega (arith, number, up, e)))) (no_arms default rules nr (All-tail IsGood rule rules good) up)
 
 pub default_above : (profile : ProfileOfCode) (nr : ℕ) → AreGood profile → 1024 ≤ nr → saying_of_rules (profile_of profile) nr ≡ record { arms = []; otherwise = profile.default }
 default_above profile nr good up =
-    rw (no_plain profile.rules.items nr good up) (rw (no_arms profile.rules.items nr good up) refl)
+    rw (no_plain profile.default profile.rules.items nr good up) (rw (no_arms profile.default profile.rules.items nr good up) refl)
 
 -- ---- what runc says
 
@@ -154,11 +155,10 @@ quotient nr k low high = omega (arith, low, high)
 
 -- numbers of x32 but for -1 are not runc's
 known_x32 : (profile : Profile) (nr : ℕ) → has_x32_bit nr ≡ true → nr ≢ 0xffffffff → is_unknown profile nr ≡ false
-known_x32 profile nr bit unlike = rw bit (rw (ne_eqb nr 0xffffffff unlike) (by profile.stub profile.x32)) where
-  by : (stub x32 : Bool) → (stub && (x32 && false)) ≡ false
-  by true true = refl
-  by true false = refl
-  by false x32 = refl
+known_x32 profile nr bit unlike = rw bit (rw (ne_eqb nr 0xffffffff unlike) (by profile.stub)) where
+  by : (stub : Bool) → (stub && false) ≡ false
+  by true = refl
+  by false = refl
 
 -- a part of the numbers of which the same is said but for runc
 part : (profile : Profile) (start nr value : ℕ) → is_unknown profile start ≡ is_unknown profile nr → (is_unknown profile nr ≡ false → saying_for profile nr ≡ always value)
@@ -243,22 +243,29 @@ all_said profile said nr good low fits =
     (λ known. said_default profile nr good known (rw (le-leb 0x40000000 nr (omega (arith, from)), le-ltb nr 0xffffffff from) refl) (omega (arith, from))))
 
 -- one rule more among the arms, where it is for the number
-pub with_rule : (old new : List Arm) (left rest whole : List RuleOfCode) (rule : RuleOfCode) (nr : ℕ) → new ≡ old ++ arm_of_rule (rule_of rule) ∷ [] → left ≡ rule ∷ rest → rule.number ≡ nr
-    → old ++ arms_for (map rule_of left) nr ≡ arms_for (map rule_of whole) nr → new ++ arms_for (map rule_of rest) nr ≡ arms_for (map rule_of whole) nr
-with_rule old new left rest whole rule nr is steps for_it so_far =
-    let first : arms_for (map rule_of (rule ∷ rest)) nr ≡ arm_of_rule (rule_of rule) ∷ arms_for (map rule_of rest) nr = rw (eq-eqb rule.number nr for_it) refl in
-    ap (λ arms. arms ++ arms_for (map rule_of rest) nr) is
-    ∙ append_assoc old (arm_of_rule (rule_of rule) ∷ []) (arms_for (map rule_of rest) nr)
+pub with_rule : (old new : List Arm) (left rest whole : List RuleOfCode) (rule : RuleOfCode) (default nr : ℕ) → new ≡ old ++ arm_of_rule (rule_of rule) ∷ [] → left ≡ rule ∷ rest
+    → is_for default nr (rule_of rule) ≡ true → old ++ arms_for default (map rule_of left) nr ≡ arms_for default (map rule_of whole) nr
+    → new ++ arms_for default (map rule_of rest) nr ≡ arms_for default (map rule_of whole) nr
+with_rule old new left rest whole rule default nr is steps for_it so_far =
+    let first : arms_for default (map rule_of (rule ∷ rest)) nr ≡ arm_of_rule (rule_of rule) ∷ arms_for default (map rule_of rest) nr = rw for_it refl in
+    ap (λ arms. arms ++ arms_for default (map rule_of rest) nr) is
+    ∙ append_assoc old (arm_of_rule (rule_of rule) ∷ []) (arms_for default (map rule_of rest) nr)
     ∙ ap (λ arms. old ++ arms) (sym first)
-    ∙ ap (λ rules. old ++ arms_for (map rule_of rules) nr) (sym steps)
+    ∙ ap (λ rules. old ++ arms_for default (map rule_of rules) nr) (sym steps)
     ∙ so_far
 
 -- and where it is not
-pub without_rule : (arms : List Arm) (left rest whole : List RuleOfCode) (rule : RuleOfCode) (nr : ℕ) → left ≡ rule ∷ rest → (rule.number ≡ nr → ⊥)
-    → arms ++ arms_for (map rule_of left) nr ≡ arms_for (map rule_of whole) nr → arms ++ arms_for (map rule_of rest) nr ≡ arms_for (map rule_of whole) nr
-without_rule arms left rest whole rule nr steps not_for_it so_far =
-    let first : arms_for (map rule_of (rule ∷ rest)) nr ≡ arms_for (map rule_of rest) nr = rw (ne_eqb rule.number nr not_for_it) refl in
-    ap (λ more. arms ++ more) (sym first) ∙ ap (λ rules. arms ++ arms_for (map rule_of rules) nr) (sym steps) ∙ so_far
+pub without_rule : (arms : List Arm) (left rest whole : List RuleOfCode) (rule : RuleOfCode) (default nr : ℕ) → left ≡ rule ∷ rest → is_for default nr (rule_of rule) ≡ false
+    → arms ++ arms_for default (map rule_of left) nr ≡ arms_for default (map rule_of whole) nr
+    → arms ++ arms_for default (map rule_of rest) nr ≡ arms_for default (map rule_of whole) nr
+without_rule arms left rest whole rule default nr steps not_for_it so_far =
+    let first : arms_for default (map rule_of (rule ∷ rest)) nr ≡ arms_for default (map rule_of rest) nr = rw not_for_it refl in
+    ap (λ more. arms ++ more) (sym first) ∙ ap (λ rules. arms ++ arms_for default (map rule_of rules) nr) (sym steps) ∙ so_far
+
+-- any of items is one that is seen through a view
+pub any_of_view : {X Y : Type 0} → (p : Y → Bool) (view : X → Y) (xs : List X) → list_any p (map view xs) ≡ list_any (λ x. p (view x)) xs
+any_of_view p view [] = refl
+any_of_view p view (x ∷ xs) = ap (λ b. p (view x) || b) (any_of_view p view xs)
 
 -- one number more of which the right is said
 pub says_more : (new old right : ℕ → Saying) (at : ℕ) (now : Saying) → ((nr : ℕ) → new nr ≡ (if nat_le at nr then now else old nr)) → now ≡ right at

@@ -1,5 +1,7 @@
 -- Each worked number is what the definition computes.
-use Rattle.std.proofs.Common.{refl}
+use Rattle.std.proofs.Common.{◌==◌, bit_and, refl, arith}
+use Rattle.std.proofs.lemmas.Bool.{both_ways, eqb-true, eq-eqb, leb-true, ltb-true, not-true}
+use Rattle.std.proofs.lemmas.Nat.{and_le_l}
 use Rattle.sk_profile.specs.WorkedNumbers.{WorkedNumbers}
 
 pub worked_numbers : WorkedNumbers
@@ -22,6 +24,34 @@ worked_numbers = record {
   only_0 = refl;
   none = refl;
   only_1 = refl;
+  none_of_x32 = refl;
+  none_in_x32 = refl;
+  one_in_x32 = refl;
+  first_in_x32 = refl;
+  said_by_default = refl;
+  said_after = refl;
+  another_error = refl;
+  with_conditions = refl;
+  no_arm = refl;
+  other_arm = refl;
+  names_it = refl;
+  names_itself = refl;
+  behind_it = refl;
+  plain_goes_first = refl;
+  equal = refl;
+  not_equal = refl;
+  less = refl;
+  less_or_equal = refl;
+  greater = refl;
+  greater_or_equal = refl;
+  masked_equal = refl;
+  masked_unequal = refl;
+  at_most_and_above = λ n one other. let a = leb-true n 5 one in let b = ltb-true 5 n other in absurd (omega (arith, a, b));
+  two_masks = λ n one other. let a = eqb-true (bit_and n 1) 0 one in let b = eqb-true (bit_and n 1) 1 other in absurd (omega (arith, a, b));
+  below_and_not = λ n one other. let a = ltb-true n 1 one in both_ways (n == 0) (not-true (n == 0) other) (eq-eqb n 0 (omega (arith, a)));
+  mask_and_below = λ n one other. let a = eqb-true (bit_and n 0xf0) 0x10 one in let b = and_le_l n 0xf0 in let c = ltb-true n 0x10 other in absurd (omega (arith, a, b, c));
+  meets_mask = refl;
+  meets_below = refl;
   not_runc = refl;
   not_runc_half = refl;
   not_runc_minus_one = refl;

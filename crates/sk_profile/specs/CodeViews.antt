@@ -1,11 +1,11 @@
 -- The rows of the code as rows of the definition.
-use Rattle.std.specs.Prelude.{ℕ, ◌≡◌, ◌≤◌, ◌<◌, List, [], ◌∷◌, ◌++◌, map, flat_map, All, length}
+use Rattle.std.specs.Prelude.{ℕ, ◌≡◌, ◌≤◌, ◌<◌, List, [], ◌∷◌, ◌++◌, map, flat_map, All, length, true}
 use Rattle.sk_insn.specs.declared.insn.Insn.{Insn}
 use Rattle.sk_profile.specs.declared.condition.Condition.{Condition}
 use Rattle.sk_profile.specs.declared.saying.Arm.{Arm as ArmOfCode}
 use Rattle.sk_profile.specs.declared.saying.Saying.{Saying as SayingOfCode}
 use Rattle.sk_profile.specs.declared.saying.Row.{Row as RowOfCode}
-use Rattle.sk_profile.specs.Sayings.{Arm, Saying, asks, Piece, arms_of, Shows, Tree}
+use Rattle.sk_profile.specs.Sayings.{Arm, Saying, are_apart, asks, Piece, arms_of, Shows, Tree}
 use Rattle.sk_profile.specs.CodeRows.{Row, Cuts}
 use Rattle.sk_profile.specs.Code.{high, piece_code, saying_code, tree_code}
 use Rattle.sk_profile.specs.Means.{IsPiece, IsTree}
@@ -20,8 +20,11 @@ abbrev pub row_of : RowOfCode → Row
 row_of row = record { start = row.start; saying = saying_of row.saying }
 
 -- conditions on the six arguments, each on one of its own
+abbrev pub AreAsked : List Condition → Type 0
+AreAsked conditions = All (λ (c : Condition). c.index < 6) conditions × (are_apart conditions ≡ true)
+
 abbrev pub IsArmOfCode : ArmOfCode → Type 0
-IsArmOfCode arm = All (λ (c : Condition). c.index < 6) arm.conditions.items × (length arm.conditions.items ≤ 6)
+IsArmOfCode arm = AreAsked arm.conditions.items × (length arm.conditions.items ≤ 6)
 
 abbrev pub IsSayingOfCode : SayingOfCode → Type 0
 IsSayingOfCode saying = All IsArmOfCode saying.arms.items

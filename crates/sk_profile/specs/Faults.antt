@@ -6,17 +6,19 @@ use Rattle.sk_profile.specs.declared.build.CodeFault.TheVariants as code
 use Rattle.sk_profile.specs.declared.condition.Condition.{Condition}
 use Rattle.sk_profile.specs.declared.fault.ProfileFault.{ProfileFault}
 use Rattle.sk_profile.specs.declared.fault.ProfileFault.TheVariants.{Rule as WrongRule, Clashes, TooLong, Memory}
-use Rattle.sk_profile.specs.Clashes.{MayClash}
+use Rattle.sk_profile.specs.Clashes.{IsClash}
 use Rattle.sk_profile.specs.Profiles.{Rule, Profile, saying_for}
+use Rattle.sk_profile.specs.Sayings.{are_apart}
 
 abbrev pub of_code : CodeFault → ProfileFault
 of_code code.TooLong = TooLong
 of_code code.Memory = Memory
 
--- a rule for a call of x86-64, with conditions on its six arguments, at most six
+-- a rule for a call of x86-64, with conditions on its six arguments, each on another one, and so at most six
 abbrev pub is_good : Rule → Bool
 is_good rule =
-    nat_lt rule.number 1024 && (nat_le (length rule.conditions) 6 && list_all (λ (c : Condition). nat_lt c.index 6) rule.conditions)
+    nat_lt rule.number 1024
+    && (nat_le (length rule.conditions) 6 && (are_apart rule.conditions && list_all (λ (c : Condition). nat_lt c.index 6) rule.conditions))
 
 -- the rule at a place is none
 abbrev pub IsWrongAt : List Rule → ℕ → Type 0
@@ -24,6 +26,6 @@ IsWrongAt rules place = (rule : Rule) × (slice_get rules place ≡ Some rule) �
 
 abbrev pub IsFaultOf : Profile → ProfileFault → Type 0
 IsFaultOf profile (WrongRule place) = IsWrongAt profile.rules place
-IsFaultOf profile (Clashes it) = MayClash (saying_for profile it.number).arms it.first it.second
+IsFaultOf profile (Clashes it) = IsClash (saying_for profile it.number).arms it
 IsFaultOf profile TooLong = ⊤
 IsFaultOf profile Memory = ⊤

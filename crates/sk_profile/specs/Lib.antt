@@ -7,6 +7,7 @@ pub mod WorkedCode
 pub mod Profiles
 pub mod Views
 pub mod Rows
+pub mod Meeting
 pub mod Clashes
 pub mod Faults
 pub mod WorkedNumbers

@@ -1,11 +1,10 @@
 -- Rows of what is said of the numbers of calls.
 use Rattle.std.specs.Prelude.{ℕ, ◌≡◌, ◌^◌, ◌<◌, ◌≤◌, List, map, length, All}
-use Rattle.sk_profile.specs.declared.condition.Condition.{Condition}
 use Rattle.sk_profile.specs.declared.saying.Row.{Row}
 use Rattle.sk_profile.specs.Sayings.{Saying}
 use Rattle.sk_profile.specs.Code.{filter_code}
 use Rattle.sk_profile.specs.CodeRows.{saying_in}
-use Rattle.sk_profile.specs.CodeViews.{saying_of, row_of, IsOverlong}
+use Rattle.sk_profile.specs.CodeViews.{saying_of, row_of, AreAsked, IsOverlong}
 use Rattle.sk_profile.specs.declared.profile.Profile.{Profile as ProfileOfCode}
 use Rattle.sk_profile.specs.declared.profile.Rule.{Rule}
 use Rattle.sk_profile.specs.declared.rows.Rows.{Rows}
@@ -27,10 +26,10 @@ pub record HasLongTree (profile : Profile) : Type 0 where
   pub few : length rows.rows.items ≤ 1028
   pub long : IsOverlong (filter_code profile.bad) rows.before rows.rows.items
 
--- a rule for a call of x86-64, with conditions on its six arguments, at most six
+-- a rule for a call of x86-64, with conditions on its six arguments, each on another one, and so at most six
 pub record IsGood (rule : Rule) : Type 0 where
   pub number : rule.number < 1024
-  pub indices : All (λ (c : Condition). c.index < 6) rule.conditions.items
+  pub asked : AreAsked rule.conditions.items
   pub few : length rule.conditions.items ≤ 6
 
 abbrev pub AreGood : ProfileOfCode → Type 0

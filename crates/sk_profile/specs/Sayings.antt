@@ -1,6 +1,7 @@
 -- What a profile says of a call, once its rules stand by the number of the call: the first arm whose conditions all
 -- hold answers, and otherwise what is left (runtime-spec, config-linux.md, "Seccomp"; seccomp_rule_add(3)).
 use Rattle.std.specs.Prelude.{ℕ, ◌≡◌, All, ◌==◌, ◌&&◌, Bool, true, nat_lt, nat_le, not, if◌then◌else◌, bit_and, List, [], ◌∷◌, map, flat_map, slice_index_or}
+use Rattle.std.specs.List.{list_any}
 use Rattle.sk_insn.specs.declared.record.Record.{Record}
 use Rattle.sk_profile.specs.declared.condition.Condition.{Condition}
 use Rattle.sk_profile.specs.declared.condition.Test.{Test}
@@ -24,6 +25,15 @@ holds_of c call = compares c.test (slice_index_or call.args c.index 0) c.value
 abbrev pub all_hold : List Condition → Record → Bool
 all_hold [] call = true
 all_hold (c ∷ conditions) call = holds_of c call && all_hold conditions call
+
+-- whether it is on the argument with this index
+abbrev pub is_on : ℕ → Condition → Bool
+is_on index c = c.index == index
+
+-- each condition is on another argument
+abbrev pub are_apart : List Condition → Bool
+are_apart [] = true
+are_apart (c ∷ conditions) = not (list_any (is_on c.index) conditions) && are_apart conditions
 
 -- what is answered where all conditions hold
 pub record Arm : Type 0 where

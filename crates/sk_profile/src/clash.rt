@@ -1,23 +1,45 @@
-//! Rules with conditions that may fit one call and say different things of it.
-ghost use Rattle.std.specs.Prelude.{◌≡◌, map, true, false, IfSome, IfNone};
-ghost use Rattle.sk_profile.specs.CodeViews.{arm_of};
-ghost use Rattle.sk_profile.specs.Clashes.{range_of, ranges_apart, not_met, masks_apart, excludes, told_apart, may_clash, never_clash, IsClashAt, MayClash};
-ghost use Rattle.sk_profile.specs.Sayings.{compares};
-ghost use Rattle.std.specs.List.{list_any};
+//! Rules with conditions that fit one call and say different things of it.
+ghost use Rattle.std.specs.Prelude.{ℕ, ◌≡◌, ◌≢◌, ◌^◌, ◌<◌, map, true, All, IfSome, IfNone};
+ghost use Rattle.sk_insn.specs.declared.record.Record.{Record};
+ghost use Rattle.sk_insn.specs.Record.{native};
+ghost use Rattle.sk_profile.specs.declared.condition.Condition.{Condition};
+ghost use Rattle.sk_profile.specs.declared.saying.Arm.{Arm};
+ghost use Rattle.sk_profile.specs.CodeViews.{arm_of, AreAsked, IsArmOfCode};
+ghost use Rattle.sk_profile.specs.Clashes.{AreClear, FitsBoth, IsClash, ClashesWith, ClashesWithNone};
+ghost use Rattle.sk_profile.specs.Meeting.{meets, meets_on, MeetsBoth};
 
+use crate::common::common;
 use crate::condition::{Condition, Test};
+use crate::fault::Clash;
 use crate::saying::Arm;
 
-// The places of two arms that may fit one call and have different values, if there are such.
-pub(crate) fn clash(arms: &[Arm]) -> Option<(usize, usize)>
-    ensures none { IfNone result (never_clash (map arm_of arms.now) ≡ true) }
-    ensures clash { IfSome result (λ it. MayClash (map arm_of arms.now) it.0 it.1) }
+// One of other arms, by its place, with the arguments of a call that it fits too.
+#[derive(Clone, Copy)]
+struct Other {
+    place: usize,
+    args: [u64; 6],
+}
+
+// Two arms for a number that fit one call and have different values, if there are such.
+#[tactic(auto, using(crate::proofs::Clearing::first_good, crate::proofs::Clearing::rest_good))]
+pub(crate) fn clash(number: u32, arms: &[Arm]) -> Option<Clash>
+    requires arms { All IsArmOfCode arms.now }
+    ensures none { IfNone result (AreClear (map arm_of arms.now)) }
+    ensures clash { IfSome result (IsClash (map arm_of arms.now)) }
+    ensures number { IfSome result (λ it. it.number ≡ number) }
 {
     let mut first = 0;
     let mut left = arms;
     while let Some((arm, rest)) = left.split_first() {
-        if let Some(behind) = clash_with(arm, rest) {
-            return Some((first, first + 1 + behind));
+        if let Some(other) = clash_with(arm, rest) {
+            let second = first + 1 + other.place;
+            let args = other.args;
+            return Some(Clash {
+                number,
+                first,
+                second,
+                args,
+            });
         }
         first += 1;
         left = rest;
@@ -25,16 +47,19 @@ pub(crate) fn clash(arms: &[Arm]) -> Option<(usize, usize)>
     None
 }
 
-// The place of one that may clash with the arm.
-fn clash_with(arm: &Arm, others: &[Arm]) -> Option<usize>
-    ensures none { IfNone result (list_any (may_clash (arm_of arm.now)) (map arm_of others.now) ≡ false) }
-    ensures place { IfSome result (IsClashAt (arm_of arm.now) (map arm_of others.now)) }
+// The first that clashes with the arm.
+#[tactic(auto, using(crate::proofs::Clearing::first_good))]
+fn clash_with(arm: &Arm, others: &[Arm]) -> Option<Other>
+    requires arm { IsArmOfCode arm.now }
+    requires others { All IsArmOfCode others.now }
+    ensures none { IfNone result (All (λ (other : Arm). ClashesWithNone (arm_of arm.now) (arm_of other)) others.now) }
+    ensures place { IfSome result (λ it. ClashesWith (arm_of arm.now) (map arm_of others.now) it.place it.args) }
 {
     let mut place = 0;
     let mut left = others;
     while let Some((other, rest)) = left.split_first() {
-        if may_clash(arm, other) {
-            return Some(place);
+        if let Some(args) = clashing(arm, other) {
+            return Some(Other { place, args });
         }
         place += 1;
         left = rest;
@@ -42,85 +67,64 @@ fn clash_with(arm: &Arm, others: &[Arm]) -> Option<usize>
     None
 }
 
-fn may_clash(one: &Arm, other: &Arm) -> bool
-    ensures may { result ≡ may_clash (arm_of one.now) (arm_of other.now) }
+// The arguments of a call that both fit, where they have different values.
+fn clashing(one: &Arm, other: &Arm) -> Option<[u64; 6]>
+    requires one { IsArmOfCode one.now }
+    requires other { IsArmOfCode other.now }
+    ensures none { IfNone result (ClashesWithNone (arm_of one.now) (arm_of other.now)) }
+    ensures fits { IfSome result (λ args. (nr : ℕ) → nr < 2 ^ 32 → FitsBoth one.now.conditions.items other.now.conditions.items (native nr 0 args)) }
+    ensures differ { IfSome result (λ _. one.now.value ≢ other.now.value) }
 {
-    one.value != other.value && !told_apart(&one.conditions, &other.conditions)
-}
-
-fn told_apart(conditions: &[Condition], others: &[Condition]) -> bool
-    ensures apart { result ≡ told_apart conditions.now others.now }
-{
-    conditions.iter().any(|one| excluded(*one, others))
-}
-
-fn excluded(one: Condition, others: &[Condition]) -> bool
-    ensures any { result ≡ list_any (excludes one) others.now }
-{
-    others.iter().any(|other| excludes(one, *other))
-}
-
-fn excludes(one: Condition, other: Condition) -> bool
-    ensures excludes { result ≡ excludes one other }
-{
-    one.index == other.index
-        && (ranges_apart(range_of(one), range_of(other))
-            || not_met(one, other)
-            || not_met(other, one)
-            || masks_apart(one, other))
-}
-
-// The least and the greatest number that a comparison may let an argument be.
-fn range_of(condition: Condition) -> Option<(u64, u64)>
-    ensures range { result ≡ range_of condition }
-{
-    let value = condition.value;
-    match condition.test {
-        Test::Is => Some((value, value)),
-        Test::IsNot | Test::Masked(_) => Some((0, u64::MAX)),
-        Test::Below => Some((0, value.checked_sub(1)?)),
-        Test::AtMost => Some((0, value)),
-        Test::Above => Some((value.checked_add(1)?, u64::MAX)),
-        Test::AtLeast => Some((value, u64::MAX)),
+    if one.value == other.value {
+        return None;
     }
+    fitting(&one.conditions, &other.conditions)
 }
 
-fn ranges_apart(range: Option<(u64, u64)>, other: Option<(u64, u64)>) -> bool
-    ensures apart { result ≡ ranges_apart range other }
+// The arguments of a call that all conditions hold of, if there is one.
+fn fitting(conditions: &[Condition], others: &[Condition]) -> Option<[u64; 6]>
+    requires asked { AreAsked conditions.now }
+    requires others { AreAsked others.now }
+    ensures none { IfNone result ((call : Record) → FitsBoth conditions.now others.now call → ⊥) }
+    ensures fits { IfSome result (λ args. (nr : ℕ) → nr < 2 ^ 32 → FitsBoth conditions.now others.now (native nr 0 args)) }
 {
-    match (range, other) {
-        (Some((first, last)), Some((from, to))) => last < from || to < first,
-        (_, _) => true,
+    let first = argument(conditions, others, 0)?;
+    let second = argument(conditions, others, 1)?;
+    let third = argument(conditions, others, 2)?;
+    let fourth = argument(conditions, others, 3)?;
+    let fifth = argument(conditions, others, 4)?;
+    let sixth = argument(conditions, others, 5)?;
+    Some([first, second, third, fourth, fifth, sixth])
+}
+
+// What the argument with this index may be.
+#[tactic(auto, using(crate::proofs::Clearing::both_on, crate::proofs::Clearing::none_on_both))]
+fn argument(conditions: &[Condition], others: &[Condition], index: u8) -> Option<u64>
+    requires asked { AreAsked conditions.now }
+    requires others { AreAsked others.now }
+    ensures both { IfSome result (MeetsBoth conditions.now others.now index) }
+    ensures none { IfNone result ((number : ℕ) → number < 2 ^ 64 → meets_on index conditions.now number ≡ true → meets_on index others.now number ≡ true → ⊥) }
+{
+    let one = on(conditions, index);
+    let other = on(others, index);
+    common(one, other)
+}
+
+// The condition on the argument with this index; where there is none, one that holds of every number.
+#[tactic(auto, using(crate::proofs::Clearing::on_this, crate::proofs::Clearing::on_others, crate::proofs::Clearing::on_nothing, crate::proofs::Clearing::asked_rest))]
+fn on(conditions: &[Condition], index: u8) -> Condition
+    requires asked { AreAsked conditions.now }
+    ensures same { (number : ℕ) → meets_on index conditions.now number ≡ meets result number }
+{
+    let Some((condition, rest)) = conditions.split_first() else {
+        return Condition {
+            index,
+            test: Test::AtLeast,
+            value: 0,
+        };
+    };
+    if condition.index == index {
+        return *condition;
     }
-}
-
-fn not_met(one: Condition, other: Condition) -> bool
-    ensures not_met { result ≡ not_met one other }
-{
-    one.test == Test::Is && !compares(other.test, one.value, other.value)
-}
-
-fn compares(test: Test, number: u64, value: u64) -> bool
-    ensures compares { result ≡ compares test number value }
-{
-    match test {
-        Test::Is => number == value,
-        Test::IsNot => number != value,
-        Test::Below => number < value,
-        Test::AtMost => number <= value,
-        Test::Above => number > value,
-        Test::AtLeast => number >= value,
-        Test::Masked(mask) => number & mask == value,
-    }
-}
-
-fn masks_apart(one: Condition, other: Condition) -> bool
-    ensures apart { result ≡ masks_apart one.test one.value other.test other.value }
-{
-    match (one.test, other.test) {
-        (Test::Masked(mask), Test::Masked(other_mask)) => {
-            one.value & other_mask != other.value & mask
-        }
-        (_, _) => false,
-    }
+    on(rest, index)
 }

@@ -2,20 +2,21 @@
 use crate::build::CodeFault;
 use std::alloc::{AllocError, AllocFailed};
 
-/// A number, and the places of two rules among those for the number.
+/// A number, the places of two rules among those that count for the number, and the arguments of a call that both fit.
 #[derive(Clone, Copy, Debug, PartialEq, Eq)]
 pub struct Clash {
     pub number: u32,
     pub first: usize,
     pub second: usize,
+    pub args: [u64; 6],
 }
 
 /// Why a profile has no filter.
 #[derive(Clone, Copy, Debug, PartialEq, Eq)]
 pub enum ProfileFault {
-    /// The rule at this place is for no call of x86-64, or has a condition on a seventh argument, or more than six.
+    /// The rule at this place is for no call of x86-64, or has a condition on a seventh argument, or two on one.
     Rule(usize),
-    /// Two rules for a number have conditions that may fit one call, and different values.
+    /// Two rules for a number have conditions that fit one call, and different values.
     Clashes(Clash),
     /// The filter would have more than 4096 instructions.
     TooLong,

@@ -2,7 +2,7 @@
 ghost use Rattle.std.specs.Prelude.{◌≡◌, ◌++◌, ◌∷◌, map, All, IfOk, OnOk, []};
 ghost use Rattle.std.specs.Option.{option_map};
 ghost use Rattle.sk_profile.specs.CodeViews.{arm_of, saying_of, IsArmOfCode, IsSayingOfCode};
-ghost use Rattle.sk_profile.specs.Profiles.{plain_rule, arms_for, arm_of_rule, saying_of_rules};
+ghost use Rattle.sk_profile.specs.Profiles.{is_for, plain_rule, arms_for, arm_of_rule, saying_of_rules};
 ghost use Rattle.sk_profile.specs.Rows.{AreGood, IsGood};
 ghost use Rattle.sk_profile.specs.Views.{rule_of, profile_of};
 
@@ -17,10 +17,10 @@ pub fn saying(alloc: Global, profile: &Profile, nr: u32) -> Result<Saying, Alloc
     ensures saying { IfOk result (λ saying. saying_of saying ≡ saying_of_rules (profile_of profile.now) nr) }
     ensures good { IfOk result IsSayingOfCode }
 {
-    match plain_value(&profile.rules, nr) {
+    match plain_value(profile.default, &profile.rules, nr) {
         Some(value) => Ok(plain(alloc, value)),
         None => Ok(Saying {
-            arms: arms(alloc, &profile.rules, nr)?,
+            arms: arms(alloc, profile.default, &profile.rules, nr)?,
             otherwise: profile.default,
         }),
     }
@@ -38,12 +38,12 @@ pub fn plain(alloc: Global, value: u32) -> Saying
 }
 
 // The value of the first rule for the number that has no conditions.
-fn plain_value(rules: &[Rule], nr: u32) -> Option<u32>
-    ensures value { result ≡ option_map (λ rule. rule.value) (plain_rule (map rule_of rules.now) nr) }
+fn plain_value(default: u32, rules: &[Rule], nr: u32) -> Option<u32>
+    ensures value { result ≡ option_map (λ rule. rule.value) (plain_rule default (map rule_of rules.now) nr) }
 {
     let mut left = rules;
     while let Some((rule, rest)) = left.split_first() {
-        if rule.number == nr && rule.conditions.is_empty() {
+        if is_for(default, nr, rule) && rule.conditions.is_empty() {
             return Some(rule.value);
         }
         left = rest;
@@ -51,16 +51,23 @@ fn plain_value(rules: &[Rule], nr: u32) -> Option<u32>
     None
 }
 
+// Whether the rule is for the number and says something else than the default.
+fn is_for(default: u32, nr: u32, rule: &Rule) -> bool
+    ensures is_for { result ≡ is_for default nr (rule_of rule.now) }
+{
+    rule.number == nr && rule.value != default
+}
+
 // The rules for the number.
-fn arms(alloc: Global, rules: &[Rule], nr: u32) -> Result<Vec<Arm>, AllocError>
+fn arms(alloc: Global, default: u32, rules: &[Rule], nr: u32) -> Result<Vec<Arm>, AllocError>
     requires good { All IsGood rules.now }
     ensures good { IfOk result (λ arms. All IsArmOfCode arms.items) }
-    ensures arms { IfOk result (λ arms. map arm_of arms.items ≡ arms_for (map rule_of rules.now) nr) }
+    ensures arms { IfOk result (λ arms. map arm_of arms.items ≡ arms_for default (map rule_of rules.now) nr) }
 {
     let mut arms = Vec::new(alloc);
     let mut left = rules;
     while let Some((rule, rest)) = left.split_first() {
-        if rule.number == nr {
+        if is_for(default, nr, rule) {
             push_arm(alloc, &mut arms, rule)?;
         }
         left = rest;

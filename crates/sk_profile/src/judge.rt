@@ -1,9 +1,10 @@
 //! Which rules a profile may have.
 ghost use Rattle.std.specs.Prelude.{◌≡◌, nat_lt, IfSome, IfNone};
-ghost use Rattle.std.specs.List.{list_all};
+ghost use Rattle.std.specs.List.{list_all, list_any};
 ghost use Rattle.sk_profile.specs.declared.condition.Condition.{Condition};
 ghost use Rattle.sk_profile.specs.Faults.{is_good, IsWrongAt};
 ghost use Rattle.sk_profile.specs.Rows.{AreGood};
+ghost use Rattle.sk_profile.specs.Sayings.{are_apart, is_on};
 ghost use Rattle.sk_profile.specs.Views.{profile_of, rule_of};
 
 use crate::condition::Condition;
@@ -30,7 +31,10 @@ pub fn wrong_rule(profile: &Profile) -> Option<usize>
 fn is_good(rule: &Rule) -> bool
     ensures good { result ≡ is_good (rule_of rule.now) }
 {
-    rule.number < NUMBERS && rule.conditions.len() <= 6 && are_asked(&rule.conditions)
+    rule.number < NUMBERS
+        && rule.conditions.len() <= 6
+        && are_apart(&rule.conditions)
+        && are_asked(&rule.conditions)
 }
 
 // Whether each condition is on one of six arguments.
@@ -38,4 +42,24 @@ fn are_asked(conditions: &[Condition]) -> bool
     ensures all { result ≡ list_all (λ (c : Condition). nat_lt c.index 6) conditions.now }
 {
     conditions.iter().all(|condition| condition.index < 6)
+}
+
+/// Whether each condition is on another argument.
+pub fn are_apart(conditions: &[Condition]) -> bool
+    ensures apart { result ≡ are_apart conditions.now }
+{
+    let mut left = conditions;
+    while let Some((condition, rest)) = left.split_first() {
+        if is_on_any(condition.index, rest) {
+            return false;
+        }
+        left = rest;
+    }
+    true
+}
+
+fn is_on_any(index: u8, conditions: &[Condition]) -> bool
+    ensures any { result ≡ list_any (is_on index) conditions.now }
+{
+    conditions.iter().any(|condition| condition.index == index)
 }

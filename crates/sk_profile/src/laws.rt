@@ -2,7 +2,6 @@
 ghost use Rattle.sk_profile.specs.Means.{CodeAnswersOthers, CodeMeansTree};
 ghost use Rattle.sk_profile.specs.CodeRows.{CutsSayTheSame};
 ghost use Rattle.sk_profile.specs.WorkedCode.{WorkedCode};
-ghost use Rattle.sk_profile.specs.Clashes.{NeverClashIsClear};
 ghost use Rattle.sk_profile.specs.WorkedNumbers.{WorkedNumbers};
 
 /// The code of a tree answers to every call what the tree says.
@@ -24,12 +23,6 @@ pub fn cuts_say_the_same()
 #[tactic(auto, using(crate::proofs::WorkedCode::worked_code))]
 pub fn worked_code()
     ensures law { WorkedCode }
-{}
-
-/// Of arms that never clash those that fit a call say the same of it, so that their order does not matter.
-#[tactic(auto, using(crate::proofs::Clearing::never_clash_is_clear))]
-pub fn never_clash_is_clear()
-    ensures law { NeverClashIsClear }
 {}
 
 /// The definition says of numbers what was worked out by hand.

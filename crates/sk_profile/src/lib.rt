@@ -4,6 +4,7 @@
 
 mod build;
 mod clash;
+mod common;
 mod condition;
 mod emit;
 mod fault;
@@ -22,5 +23,6 @@ mod weights;
 pub use condition::{Condition, Test};
 pub use fault::{Clash, ProfileFault};
 pub use filter::profile_filter;
+pub use judge::are_apart;
 pub use profile::{Profile, Rule};
 pub use weights::OFTEN;

@@ -11,7 +11,7 @@ ghost use Rattle.sk_profile.specs.Views.{profile_of};
 ghost use Rattle.sk_profile.specs.Rows.{said_at, StartBelow, AreGood};
 
 use crate::clash::clash;
-use crate::fault::{Clash, ProfileFault};
+use crate::fault::ProfileFault;
 use crate::from_rules::{plain, saying};
 use crate::profile::Profile;
 use crate::saying::{Row, Saying};
@@ -66,8 +66,8 @@ pub fn rows_of(alloc: Global, profile: &Profile) -> Result<Rows, ProfileFault>
     Ok(unruled_from(alloc, profile, top, to_past_x32, PAST_X32, default)?)
 }
 
-// What is said of the calls with a number, if no two rules may clash there.
-#[tactic(auto, using(crate::proofs::Clearing::never_clash_is_clear, crate::proofs::Clearing::clash_of))]
+// What is said of the calls with a number, if no two rules clash there.
+#[tactic(auto, using(crate::proofs::Clearing::clear_without_arms, crate::proofs::Clearing::clash_of))]
 fn clear_saying(alloc: Global, profile: &Profile, top: u32, nr: u32) -> Result<Saying, ProfileFault>
     requires good { AreGood profile.now }
     requires top { top ≡ greatest (profile_of profile.now).rules }
@@ -82,13 +82,9 @@ fn clear_saying(alloc: Global, profile: &Profile, top: u32, nr: u32) -> Result<S
         return Ok(plain(alloc, NO_CALL));
     }
     let said = saying(alloc, profile, nr)?;
-    match clash(&said.arms) {
+    match clash(nr, &said.arms) {
         None => Ok(said),
-        Some((first, second)) => Err(ProfileFault::Clashes(Clash {
-            number: nr,
-            first,
-            second,
-        })),
+        Some(it) => Err(ProfileFault::Clashes(it)),
     }
 }
 

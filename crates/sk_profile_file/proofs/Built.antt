@@ -1,12 +1,12 @@
 -- What a profile is made into, step by step.
-use Rattle.std.proofs.Common.{◌≡◌, ℕ, ◌<◌, ◌≤◌, List, length, slice_get, Some, Result, Ok, Err, true, false, get_or, subst, rules, arith}
+use Rattle.std.proofs.Common.{◌≡◌, ℕ, ◌<◌, ◌≤◌, List, length, slice_get, Some, Result, Ok, Err, true, false, get_or, refl, subst, rules, arith}
 use Rattle.std.specs.List.{All}
 use Rattle.std.specs.Str.{IsUtf8}
 use Rattle.std.proofs.lemmas.Option.{slice_get-get_or, slice_get_past}
 use Rattle.std.proofs.Math.Logic.{⊎_elim}
 use Rattle.std.proofs.lemmas.Bool.{cases_lt}
 use Rattle.json.specs.Json.{Json}
-use Rattle.sk_profile.specs.Clashes.{MayClash}
+use Rattle.sk_profile.specs.Clashes.{IsClash}
 use Rattle.sk_profile.specs.declared.fault.Clash.{Clash as ClashOfRules}
 use Rattle.sk_profile.specs.declared.fault.ProfileFault.{ProfileFault}
 use Rattle.sk_profile.specs.declared.fault.ProfileFault.TheVariants.{Rule as WrongRule, Clashes as ClashesOfRules}
@@ -36,11 +36,11 @@ pub found-within : {X : Type 0} → (xs : List X) (k : ℕ) (x : X) → slice_ge
 found-within xs k x h =
     ⊎_elim (λ less. less) (λ more. let none = slice_get_past xs k more in absurd (search (rules, h, none))) (cases_lt k (length xs))
 
-pub clash-within : (arms : List Arm) (first second most : ℕ) → MayClash arms first second → length arms ≤ most → (first < most) × (second < most)
-clash-within arms first second most clash h =
-    let one = found-within arms first clash.0 clash.1 in
-    let other = found-within arms second clash.3.0 clash.3.1 in
-    (omega arith, omega arith)
+pub clash-within : (arms : List Arm) (it : ClashOfRules) (most : ℕ) → IsClash arms it → length arms ≤ most → (it.first < most) × (it.second < most)
+clash-within arms it most clash h =
+    let one = found-within arms it.first clash.one clash.at_first in
+    let other = found-within arms it.second clash.other clash.at_second in
+    (omega (arith, one, h), omega (arith, other, h))
 
 -- no rule of a profile that is read is one that no filter can be made of
 good-nowhere : (all : List Rule) (k : ℕ) (rule : Rule) → All (λ rule. is_good rule ≡ true) all → slice_get all k ≡ Some rule → is_good rule ≡ false → ⊥
@@ -59,8 +59,8 @@ no_wrong_rule context j profile fault place said is why =
 
 -- each rule that clashes has an entry that it comes from
 pub clash_has_origins : (context : Context) (j : Json) (profile : Profile) (fault : ProfileFault) (it : ClashOfRules) (origins : List ℕ)
-    → profile_in context j ≡ Ok profile → fault ≡ ClashesOfRules it → IsFaultOf profile fault → HasOrigins context j it.number origins
+    → profile_in context j ≡ Ok profile → fault ≡ ClashesOfRules it → IsFaultOf profile fault → HasOrigins context j profile.default it.number origins
     → (it.first < length origins) × (it.second < length origins)
 clash_has_origins context j profile fault it origins said is why enough =
-    let clash : MayClash (saying_for profile it.number).arms it.first it.second = subst (IsFaultOf profile) is why in
-    clash-within (saying_for profile it.number).arms it.first it.second (length origins) clash (enough profile said)
+    let clash : IsClash (saying_for profile it.number).arms it = subst (IsFaultOf profile) is why in
+    clash-within (saying_for profile it.number).arms it (length origins) clash (enough profile said refl)

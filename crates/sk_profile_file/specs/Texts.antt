@@ -1,7 +1,7 @@
 -- What is said of a profile that is refused, behind its file's name: where, what is wrong, and what was expected. Entries and
 -- the rest are counted from 1 on.
-use Rattle.std.specs.Prelude.{ℕ, ◌+◌, ◌++◌, List, [], codes, Option, Some, None}
-use Rattle.std.specs.Fmt.{decimal}
+use Rattle.std.specs.Prelude.{ℕ, ◌+◌, ◌++◌, false, List, [], ◌∷◌, codes, flat_map, Option, Some, None}
+use Rattle.std.specs.Fmt.{decimal, radix_digits}
 use Rattle.sk_call_names.specs.X86_64.{name_of}
 use Rattle.sk_profile_json.specs.declared.fault.Fault.{Fault}
 use Rattle.sk_profile_json.specs.declared.fault.Field.{Field}
@@ -37,7 +37,7 @@ keys_text (place.Argument entry argument) = codes "index, value, valueTwo or op"
 -- what a field may be
 abbrev pub expected_text : Field → List ℕ
 expected_text field.DefaultAction = codes "an action as SCMP_ACT_ERRNO, and not SCMP_ACT_NOTIFY"
-expected_text field.DefaultErrnoRet = codes "a number up to 4094"
+expected_text field.DefaultErrnoRet = codes "a number up to 4094, or beside SCMP_ACT_TRACE up to 65535"
 expected_text field.DefaultErrno = codes "the name of an error"
 expected_text field.Architectures = codes "a list of names as SCMP_ARCH_X86, with SCMP_ARCH_X86_64 among them"
 expected_text field.ArchMap = codes "a list of objects with architecture and subArchitectures, one of them for SCMP_ARCH_X86_64"
@@ -50,7 +50,7 @@ expected_text field.Syscalls = codes "a list of entries"
 expected_text field.Names = codes "a list of names of calls, with one at least"
 expected_text field.Name = codes "the name of a call"
 expected_text field.Action = codes "an action as SCMP_ACT_ALLOW"
-expected_text field.ErrnoRet = codes "a number up to 4094"
+expected_text field.ErrnoRet = codes "a number up to 4094, or beside SCMP_ACT_TRACE up to 65535"
 expected_text field.Errno = codes "the name of an error"
 expected_text field.Args = codes "a list of comparisons"
 expected_text field.Comment = codes "a text"
@@ -94,13 +94,20 @@ abbrev pub call_text : ℕ → Option (List ℕ) → List ℕ
 call_text nr None = decimal nr
 call_text nr (Some name) = name
 
+unfoldable pub argument_text : ℕ → List ℕ
+argument_text argument = codes "0x" ++ radix_digits 16 false argument
+
+abbrev pub arguments_text : List ℕ → List ℕ
+arguments_text [] = []
+arguments_text (first ∷ others) = argument_text first ++ flat_map (λ other. codes ", " ++ argument_text other) others
+
 abbrev pub both_text : ℕ → ℕ → List ℕ
 both_text first second = codes "entries " ++ decimal (first + 1) ++ codes " and " ++ decimal (second + 1) ++ codes " of syscalls"
 
 abbrev pub clash_text : Clash → List ℕ
 clash_text it =
-    both_text it.first it.second ++ codes " clash on " ++ call_text it.number (name_of it.number)
-    ++ codes ": some call fits both, and they say different things"
+    both_text it.first it.second ++ codes " clash: both fit " ++ (call_text it.number (name_of it.number) ++ (codes "(" ++ (arguments_text it.args
+    ++ codes "), and they say different things")))
 
 abbrev pub refusal_text : Refusal → List ℕ
 refusal_text NotText = codes "is no text in UTF-8: expected the JSON of a profile"

@@ -9,13 +9,14 @@ pub struct Made {
     pub notes: Vec<String>,
 }
 
-/// A call's number, and two entries of `syscalls`, from 0 on, with rules for it that some call may fit both, and that say
-/// different things.
+/// A call's number, two entries of `syscalls`, from 0 on, with rules for it that say different things, and the arguments of a
+/// call that both rules fit.
 #[derive(Clone, Copy, Debug, PartialEq, Eq)]
 pub struct Clash {
     pub number: u32,
     pub first: usize,
     pub second: usize,
+    pub args: [u64; 6],
 }
 
 /// Why a profile has no filter.

@@ -90,7 +90,7 @@ fn built(
         Ok(insns) => Ok(Ok(image_of(alloc, &insns)?)),
         Err(ProfileFault::Rule(_)) => unreachable!(),
         Err(ProfileFault::Clashes(it)) => {
-            let origins = origins_of(alloc, context, it.number, value)?;
+            let origins = origins_of(alloc, context, profile.default, it.number, value)?;
             Ok(Err(Refusal::Clashes(clash_of(&origins, it))))
         }
         Err(ProfileFault::TooLong) => Ok(Err(Refusal::TooLong)),
@@ -105,10 +105,13 @@ fn clash_of(origins: &[usize], it: sk_profile::Clash) -> Clash
     ensures number { result.number ≡ it.number }
     ensures first { slice_get origins.now it.first ≡ Some result.first }
     ensures second { slice_get origins.now it.second ≡ Some result.second }
+    ensures args { result.args ≡ it.args }
 {
+    let args = it.args;
     Clash {
         number: it.number,
         first: origins[it.first],
         second: origins[it.second],
+        args,
     }
 }

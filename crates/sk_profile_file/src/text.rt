@@ -1,8 +1,8 @@
 //! What is said of a profile that is refused.
-ghost use Rattle.std.specs.Prelude.{◌≡◌, ◌+◌, ◌++◌, IfOk, OnOk, codes, string_bytes};
+ghost use Rattle.std.specs.Prelude.{◌≡◌, ◌+◌, ◌++◌, IfOk, OnOk, codes, flat_map, string_bytes};
 ghost use Rattle.std.specs.Fmt.{decimal};
 ghost use Rattle.sk_call_names.specs.X86_64.{name_of};
-ghost use Rattle.sk_profile_file.specs.Texts.{refusal_text, clash_text, both_text, call_text, fault_text, place_text, wrong_text, entry_text, keys_text, expected_text, contradiction_text};
+ghost use Rattle.sk_profile_file.specs.Texts.{refusal_text, clash_text, argument_text, arguments_text, both_text, call_text, fault_text, place_text, wrong_text, entry_text, keys_text, expected_text, contradiction_text};
 
 use crate::answer::{Clash, Refusal};
 use sk_call_names::x86_64::name;
@@ -36,9 +36,45 @@ fn push_clash(text: &mut String, it: Clash) -> Result<(), AllocError>
     ensures text { OnOk result (string_bytes text.new ≡ string_bytes text.old ++ clash_text it) }
 {
     push_both(text, it.first, it.second)?;
-    text.push_str(" clash on ")?;
+    text.push_str(" clash: both fit ")?;
     push_call(text, it.number)?;
-    text.push_str(": some call fits both, and they say different things")
+    text.push_str("(")?;
+    push_arguments(text, &it.args)?;
+    text.push_str("), and they say different things")
+}
+
+fn push_arguments(text: &mut String, args: &[u64]) -> Result<(), AllocError>
+    ensures text { OnOk result (string_bytes text.new ≡ string_bytes text.old ++ arguments_text args.now) }
+{
+    let Some((first, others)) = args.split_first() else {
+        return Ok(());
+    };
+    push_argument(text, *first)?;
+    push_others(text, others)
+}
+
+fn push_others(text: &mut String, args: &[u64]) -> Result<(), AllocError>
+    ensures text { OnOk result (string_bytes text.new ≡
+        string_bytes text.old ++ flat_map (λ other. codes ", " ++ argument_text other) args.now) }
+{
+    for argument in args {
+        push_other(text, *argument)?;
+    }
+    Ok(())
+}
+
+fn push_other(text: &mut String, argument: u64) -> Result<(), AllocError>
+    ensures text { OnOk result (string_bytes text.new ≡ string_bytes text.old ++ (codes ", " ++ argument_text argument)) }
+{
+    text.push_str(", ")?;
+    push_argument(text, argument)
+}
+
+#[tactic(auto, unfolding(crate::specs::Texts::argument_text))]
+fn push_argument(text: &mut String, argument: u64) -> Result<(), AllocError>
+    ensures text { OnOk result (string_bytes text.new ≡ string_bytes text.old ++ argument_text argument) }
+{
+    write!(text, "0x{argument:x}")
 }
 
 fn push_both(text: &mut String, first: usize, second: usize) -> Result<(), AllocError>
@@ -146,7 +182,8 @@ fn expected_text(field: Field) -> &'static str
 {
     match field {
         Field::DefaultAction => "an action as SCMP_ACT_ERRNO, and not SCMP_ACT_NOTIFY",
-        Field::DefaultErrnoRet | Field::ErrnoRet => "a number up to 4094",
+        Field::DefaultErrnoRet | Field::ErrnoRet =>
+            "a number up to 4094, or beside SCMP_ACT_TRACE up to 65535",
         Field::DefaultErrno | Field::Errno => "the name of an error",
         Field::Architectures =>
             "a list of names as SCMP_ARCH_X86, with SCMP_ARCH_X86_64 among them",

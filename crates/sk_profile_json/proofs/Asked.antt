@@ -11,10 +11,11 @@ use Rattle.json.specs.Json.{Json}
 use Rattle.sk_profile.specs.declared.condition.Condition.{Condition}
 use Rattle.sk_profile.specs.declared.condition.Test.{Test}
 use Rattle.sk_profile.specs.declared.condition.Test.TheVariants.{Is, IsNot, Below, AtMost, Above, AtLeast, Masked}
+use Rattle.sk_profile.specs.Sayings.{are_apart, is_on}
 use Rattle.sk_profile_json.specs.declared.fault.Field.TheVariants as field
 use Rattle.sk_profile_json.specs.declared.fault.Wrong.{Wrong}
 use Rattle.sk_profile_json.specs.Arguments.{condition_of, condition_if, comparison_in, condition_with, operator_in, greatest_index, greatest_value, argument_fields}
-use Rattle.sk_profile_json.specs.Conditions.{conditions_of, are_apart, is_on}
+use Rattle.sk_profile_json.specs.Conditions.{conditions_of}
 use Rattle.sk_profile_json.specs.Fields.{result_then, wrong_keys, number_in, required}
 use Rattle.sk_profile_json.proofs.Bounded.{number_in-most}
 

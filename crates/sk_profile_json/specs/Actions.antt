@@ -35,9 +35,10 @@ takes_number other = false
 abbrev pub eperm : ℕ
 eperm = 1
 
--- the greatest number of an error that libseccomp takes
-abbrev pub greatest_error : ℕ
-greatest_error = 4094
+-- the greatest number that libseccomp takes: an error's is less than MAX_ERRNO, and a tracer's may be any of 16 bits
+abbrev pub greatest_number : Action → ℕ
+greatest_number Trace = 65535
+greatest_number other = 4094
 
 -- the value that a filter answers
 abbrev pub value_with : Action → Option ℕ → ℕ
@@ -46,10 +47,18 @@ value_with action given = unwrap_or (value_of action) 0 + (if takes_number actio
 abbrev pub action_in : Field → Json → Result Action Wrong
 action_in field j = result_then (λ name. taken field (action_named name)) (result_then (required field) (text_in field j))
 
+-- errors that have two names, by that which goes with the number here: errno(3)
+abbrev pub first_name : List ℕ → List ℕ
+first_name name =
+    if bytes_eq name (codes "EWOULDBLOCK") then codes "EAGAIN"
+    else if bytes_eq name (codes "EDEADLOCK") then codes "EDEADLK"
+    else if bytes_eq name (codes "ENOTSUP") then codes "EOPNOTSUPP"
+    else name
+
 -- an error's name, if it stands, is that of the number, which stands too: podman goes by the name, and docker by the number
 abbrev pub is_name_of : List ℕ → Option (List ℕ) → Bool
 is_name_of name None = false
-is_name_of name (Some known) = bytes_eq known name
+is_name_of name (Some known) = bytes_eq known (first_name name)
 
 abbrev pub agree : Option ℕ → Option (List ℕ) → Bool
 agree given None = true
@@ -66,4 +75,4 @@ value_if errno_ret errno action given name =
 -- the value for an action, with the number and the name of its error in these fields
 abbrev pub value_in : Field → Field → Action → Json → Result ℕ Wrong
 value_in errno_ret errno action j =
-    result_then (λ given. result_then (value_if errno_ret errno action given) (text_in errno j)) (number_in greatest_error errno_ret j)
+    result_then (λ given. result_then (value_if errno_ret errno action given) (text_in errno j)) (number_in (greatest_number action) errno_ret j)

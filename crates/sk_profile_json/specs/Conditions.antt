@@ -1,7 +1,6 @@
--- An entry's `args`: all hold of a call that the entry is for. Each is on another argument, since the runtimes differ where two
--- are on one: either is enough for runc and crun, and libseccomp refuses the rule.
-use Rattle.std.specs.Prelude.{ℕ, ◌==◌, ◌&&◌, ◌+◌, not, Bool, true, List, [], ◌∷◌, Option, Some, None, Result, Ok, Err}
-use Rattle.std.specs.List.{list_any, filter_map}
+-- An entry's `args`: all hold of a call that the entry is for.
+use Rattle.std.specs.Prelude.{ℕ, ◌+◌, List, [], ◌∷◌, Option, Some, None, Result, Ok, Err}
+use Rattle.std.specs.List.{filter_map}
 use Rattle.std.specs.Option.{option_or}
 use Rattle.std.specs.Result.{result_ok}
 use Rattle.json.specs.Json.{Json}
@@ -22,11 +21,3 @@ wrong_argument place (j ∷ js) = option_or (wrong_at place (condition_of j)) (w
 -- the conditions that arguments are
 abbrev pub conditions_of : List Json → List Condition
 conditions_of arguments = filter_map (λ j. result_ok (condition_of j)) arguments
-
-abbrev pub is_on : ℕ → Condition → Bool
-is_on index condition = condition.index == index
-
--- each on another argument
-abbrev pub are_apart : List Condition → Bool
-are_apart [] = true
-are_apart (c ∷ conditions) = not (list_any (is_on c.index) conditions) && are_apart conditions

@@ -22,7 +22,8 @@ use Rattle.sk_profile_json.specs.declared.fault.Wrong.{Wrong}
 use Rattle.sk_profile_json.specs.declared.fault.Wrong.TheVariants.{NotTaken, Contradicts}
 use Rattle.sk_profile_json.specs.Actions.{action_in, value_in}
 use Rattle.sk_profile_json.specs.Architectures.{wrong_lists}
-use Rattle.sk_profile_json.specs.Conditions.{wrong_argument, conditions_of, are_apart}
+use Rattle.sk_profile.specs.Sayings.{are_apart}
+use Rattle.sk_profile_json.specs.Conditions.{wrong_argument, conditions_of}
 use Rattle.sk_profile_json.specs.Contexts.{counts}
 use Rattle.sk_profile_json.specs.Entries.{Entry, entry_of, rules_for, is_told}
 use Rattle.sk_profile_json.specs.Fields.{result_then, list_in, wrong_keys}
@@ -38,7 +39,8 @@ rules_if at rules (Ok true) = Ok rules
 rules_if at rules (Ok false) = Ok []
 rules_if at rules (Err wrong) = Err (fault_at (place.Entry at) wrong)
 
--- two conditions on one argument contradict the field
+-- two conditions on one argument contradict the field, since the runtimes differ there: either is enough for runc and crun,
+-- and libseccomp refuses the rule
 abbrev pub rules_with : Context → ℕ → Json → Entry → List Condition → Result (List Rule) Fault
 rules_with context at j entry conditions =
     if are_apart conditions then rules_if at (rules_for conditions entry.value entry.names) (counts context j)

@@ -1,11 +1,11 @@
 -- Profiles that are worked out by hand.
-use Rattle.std.specs.Prelude.{ℕ, ◌≡◌, Bool, true, false, List, [], ◌∷◌, codes, Some, None, Result, Ok, Err}
+use Rattle.std.specs.Prelude.{ℕ, ◌≡◌, Bool, true, false, List, [], ◌∷◌, map, codes, Some, None, Result, Ok, Err}
 use Rattle.std.specs.Borrow.{Bor}
 use Rattle.std.specs.Option.{option_map}
 use Rattle.json.specs.Json.{Json, document, null, string, number, array, object, Items, no_items, item, Members, no_members, member}
 use Rattle.sk_profile.specs.declared.condition.Condition.{Condition}
 use Rattle.sk_profile.specs.declared.condition.Test.{Test}
-use Rattle.sk_profile.specs.declared.condition.Test.TheVariants.{Is, Above, Masked}
+use Rattle.sk_profile.specs.declared.condition.Test.TheVariants.{Is, IsNot, Below, AtMost, Above, AtLeast, Masked}
 use Rattle.sk_profile.specs.Profiles.{Rule, Profile}
 use Rattle.sk_profile_json.specs.declared.context.Context.{Context}
 use Rattle.sk_profile_json.specs.declared.context.Kernel.{Kernel}
@@ -127,6 +127,41 @@ maps name = listed (object (members_from ((codes "architecture", string name) �
 abbrev pub x86_64 : List ℕ
 x86_64 = codes "SCMP_ARCH_X86_64"
 
+abbrev pub texts : List (List ℕ) → Json
+texts names = listed (map (λ name. string name) names)
+
+-- the architectures of config-linux.md, in its order
+abbrev pub every_architecture : Json
+every_architecture = texts (
+    codes "SCMP_ARCH_X86" ∷ codes "SCMP_ARCH_X86_64" ∷ codes "SCMP_ARCH_X32" ∷ codes "SCMP_ARCH_ARM" ∷ codes "SCMP_ARCH_AARCH64" ∷
+    codes "SCMP_ARCH_MIPS" ∷ codes "SCMP_ARCH_MIPS64" ∷ codes "SCMP_ARCH_MIPS64N32" ∷ codes "SCMP_ARCH_MIPSEL" ∷ codes "SCMP_ARCH_MIPSEL64" ∷ codes "SCMP_ARCH_MIPSEL64N32" ∷
+    codes "SCMP_ARCH_PPC" ∷ codes "SCMP_ARCH_PPC64" ∷ codes "SCMP_ARCH_PPC64LE" ∷ codes "SCMP_ARCH_S390" ∷ codes "SCMP_ARCH_S390X" ∷ codes "SCMP_ARCH_PARISC" ∷ codes "SCMP_ARCH_PARISC64" ∷
+    codes "SCMP_ARCH_RISCV64" ∷ codes "SCMP_ARCH_LOONGARCH64" ∷ codes "SCMP_ARCH_M68K" ∷ codes "SCMP_ARCH_SH" ∷ codes "SCMP_ARCH_SHEB" ∷ [])
+
+-- x32 stands below the one architecture, and x86-64 for itself
+abbrev pub x32_below : List ℕ → Json
+x32_below name =
+    listed (object (members_from ((codes "architecture", string name) ∷ (codes "subArchitectures", texts (codes "SCMP_ARCH_X32" ∷ [])) ∷ []))
+    ∷ object (members_from ((codes "architecture", string x86_64) ∷ [])) ∷ [])
+
+-- the call may be made where neither of these is so
+abbrev pub unless : List (List ℕ × Json) → Json
+unless excluded = allowing (codes "ptrace") ((codes "excludes", object (members_from excluded)) ∷ [])
+
+-- the first argument of read(2) is compared with 5
+abbrev pub by_operator : List ℕ → Json
+by_operator op = refusing (allowing_where (codes "read") (argument (codes "0") (codes "5") op [] ∷ []) ∷ [])
+
+abbrev pub compared : Test → Result Profile Fault
+compared test = says (rule 0 (condition 0 test 5 ∷ []) 0x7fff0000 ∷ []) 0x50001
+
+-- an error by its number and its name
+abbrev pub named_error : List ℕ → List ℕ → Json
+named_error number_text name = refusing (failing ((codes "errnoRet", number number_text) ∷ (codes "errno", string name) ∷ []) ∷ [])
+
+abbrev pub ptrace : Result Profile Fault
+ptrace = says (rule 101 [] 0x7fff0000 ∷ []) 0x50001
+
 -- ---- the rows
 
 pub record WorkedProfiles : Type 0 where
@@ -148,6 +183,27 @@ pub record WorkedProfiles : Type 0 where
   pub older_kill : profile_in plain (profile (codes "SCMP_ACT_KILL") []) ≡ says [] 0
   pub kill_process : profile_in plain (profile (codes "SCMP_ACT_KILL_PROCESS") []) ≡ says [] 0x80000000
   pub trace : profile_in plain (profile (codes "SCMP_ACT_TRACE") []) ≡ says [] 0x7ff00001
+  pub kill_thread : profile_in plain (profile (codes "SCMP_ACT_KILL_THREAD") []) ≡ says [] 0
+  pub trap : profile_in plain (profile (codes "SCMP_ACT_TRAP") []) ≡ says [] 0x30000
+  pub told : profile_in plain (refusing (entry (codes "read") (codes "SCMP_ACT_NOTIFY") [] ∷ [])) ≡ says (rule 0 [] 0x7fc00000 ∷ []) 0x50001
+  pub number_for_told : profile_in plain (refusing (entry (codes "read") (codes "SCMP_ACT_NOTIFY") ((codes "errnoRet", number (codes "1")) ∷ []) ∷ []))
+      ≡ wrong (place.Entry 0) (Contradicts field.ErrnoRet)
+  -- a tracer is told a number of 16 bits
+  pub traced_number : profile_in plain (profile (codes "SCMP_ACT_TRACE") ((codes "defaultErrnoRet", number (codes "65535")) ∷ [])) ≡ says [] 0x7ff0ffff
+  pub no_traced_number : profile_in plain (profile (codes "SCMP_ACT_TRACE") ((codes "defaultErrnoRet", number (codes "65536")) ∷ []))
+      ≡ wrong place.Profile (NotTaken field.DefaultErrnoRet)
+  -- errors that errno(3) has two names for
+  pub would_block : profile_in plain (named_error (codes "11") (codes "EWOULDBLOCK")) ≡ says (rule 435 [] 0x5000b ∷ []) 0x50001
+  pub not_supported : profile_in plain (named_error (codes "95") (codes "ENOTSUP")) ≡ says (rule 435 [] 0x5005f ∷ []) 0x50001
+  pub deadlock : profile_in plain (named_error (codes "35") (codes "EDEADLOCK")) ≡ says (rule 435 [] 0x50023 ∷ []) 0x50001
+  pub other_error : profile_in plain (named_error (codes "11") (codes "ENOTSUP")) ≡ wrong (place.Entry 0) (Contradicts field.Errno)
+  -- operators
+  pub not_equal : profile_in plain (by_operator (codes "SCMP_CMP_NE")) ≡ compared IsNot
+  pub less : profile_in plain (by_operator (codes "SCMP_CMP_LT")) ≡ compared Below
+  pub less_or_equal : profile_in plain (by_operator (codes "SCMP_CMP_LE")) ≡ compared AtMost
+  pub equal : profile_in plain (by_operator (codes "SCMP_CMP_EQ")) ≡ compared Is
+  pub greater_or_equal : profile_in plain (by_operator (codes "SCMP_CMP_GE")) ≡ compared AtLeast
+  pub greater : profile_in plain (by_operator (codes "SCMP_CMP_GT")) ≡ compared Above
   pub enosys : profile_in plain (refusing (failing ((codes "errnoRet", number (codes "38")) ∷ (codes "errno", string (codes "ENOSYS")) ∷ []) ∷ []))
       ≡ says (rule 435 [] 0x50026 ∷ []) 0x50001
   pub greatest : profile_in plain (profile (codes "SCMP_ACT_ERRNO") ((codes "defaultErrnoRet", number (codes "4094")) ∷ [])) ≡ says [] 0x50ffe
@@ -160,6 +216,27 @@ pub record WorkedProfiles : Type 0 where
   pub with_a_capability : profile_in admin (refusing (with_caps (codes "CAP_SYS_ADMIN") ∷ [])) ≡ says (rule 101 [] 0x7fff0000 ∷ []) 0x50001
   pub without_it : profile_in plain (refusing (with_caps (codes "CAP_SYS_ADMIN") ∷ [])) ≡ says [] 0x50001
   pub with_another : profile_in admin (refusing (with_caps (codes "CAP_SYS_BOOT") ∷ [])) ≡ says [] 0x50001
+  pub with_one_of_two : profile_in admin (refusing (allowing (codes "ptrace") ((codes "includes", object (members_from ((codes "caps", texts (codes "CAP_SYS_BOOT" ∷ codes "CAP_SYS_ADMIN" ∷ [])) ∷ []))) ∷ []) ∷ []))
+      ≡ says [] 0x50001
+  pub unless_one_of_two : profile_in admin (refusing (unless ((codes "caps", texts (codes "CAP_SYS_BOOT" ∷ codes "CAP_SYS_ADMIN" ∷ [])) ∷ []) ∷ [])) ≡ says [] 0x50001
+  pub unless_another : profile_in admin (refusing (unless ((codes "caps", texts (codes "CAP_SYS_BOOT" ∷ [])) ∷ []) ∷ [])) ≡ ptrace
+  pub unless_this_arch : profile_in plain (refusing (unless ((codes "arches", texts (codes "amd64" ∷ [])) ∷ []) ∷ [])) ≡ says [] 0x50001
+  pub unless_another_arch : profile_in plain (refusing (unless ((codes "arches", texts (codes "arm64" ∷ [])) ∷ []) ∷ [])) ≡ ptrace
+  pub unless_this_kernel : profile_in plain (refusing (unless ((codes "minKernel", string (codes "5.4")) ∷ []) ∷ [])) ≡ says [] 0x50001
+  pub unless_a_later_one : profile_in plain (refusing (unless ((codes "minKernel", string (codes "5.5")) ∷ []) ∷ [])) ≡ ptrace
+  pub major_goes_first : profile_in plain (refusing (ptrace_from (codes "4.20") ∷ [])) ≡ ptrace
+  pub major_is_later : profile_in plain (refusing (ptrace_from (codes "6.1") ∷ [])) ≡ says [] 0x50001
+  -- every key
+  pub all_keys : profile_in plain (profile (codes "SCMP_ACT_ERRNO") (
+      (codes "defaultErrnoRet", number (codes "38")) ∷ (codes "defaultErrno", string (codes "ENOSYS")) ∷ (codes "architectures", texts (x86_64 ∷ []))
+      ∷ (codes "archMap", listed []) ∷ (codes "flags", texts (codes "SECCOMP_FILTER_FLAG_LOG" ∷ [])) ∷ (codes "listenerPath", string (codes "/run/listener"))
+      ∷ (codes "listenerMetadata", string (codes "from here")) ∷ (
+        codes "syscalls",
+        listed (entry (codes "read") (codes "SCMP_ACT_ERRNO") (
+            (codes "errnoRet", number (codes "5")) ∷ (codes "errno", string (codes "EIO")) ∷ (codes "args", listed []) ∷ (codes "comment", string (codes "none"))
+            ∷ (codes "includes", object no_members) ∷ (codes "excludes", object no_members) ∷ []) ∷ []),
+      ) ∷ []))
+      ≡ says (rule 0 [] 0x50005 ∷ []) 0x50026
   -- what is refused of the profile
   pub no_object : profile_in plain (listed []) ≡ wrong place.Profile NotAnObject
   pub unknown_key : profile_in plain (profile (codes "SCMP_ACT_LOG") ((codes "default", null) ∷ [])) ≡ wrong place.Profile (UnknownKey 1)
@@ -167,6 +244,9 @@ pub record WorkedProfiles : Type 0 where
       ≡ wrong place.Profile (Contradicts field.ArchMap)
   pub named : profile_in plain (profile (codes "SCMP_ACT_LOG") ((codes "architectures", architectures x86_64) ∷ [])) ≡ says [] 0x7ffc0000
   pub mapped : profile_in plain (profile (codes "SCMP_ACT_LOG") ((codes "archMap", maps x86_64) ∷ [])) ≡ says_there false true 0x7ffc0000
+  pub every_name : profile_in plain (profile (codes "SCMP_ACT_LOG") ((codes "architectures", every_architecture) ∷ [])) ≡ says_there false true 0x7ffc0000
+  pub x32_of_x86_64 : profile_in plain (profile (codes "SCMP_ACT_LOG") ((codes "archMap", x32_below x86_64) ∷ [])) ≡ says_there false true 0x7ffc0000
+  pub x32_of_another : profile_in plain (profile (codes "SCMP_ACT_LOG") ((codes "archMap", x32_below (codes "SCMP_ARCH_AARCH64")) ∷ [])) ≡ says_there false false 0x7ffc0000
   -- runc's instructions stand where architectures are named and the default performs nothing
   pub stub : profile_in by_runc (profile (codes "SCMP_ACT_ERRNO") ((codes "architectures", architectures x86_64) ∷ [])) ≡ says_there true false 0x50001
   pub stub_with_x32 : profile_in by_runc (profile (codes "SCMP_ACT_TRAP") ((codes "archMap", maps x86_64) ∷ [])) ≡ says_there true true 0x30000
@@ -205,6 +285,9 @@ pub record WorkedProfiles : Type 0 where
       ≡ wrong (place.Entry 1) (Contradicts field.Errno)
   pub seventh_argument : profile_in plain (refusing (clone ∷ allowing_where (codes "read") (argument (codes "6") (codes "0") eq [] ∷ []) ∷ []))
       ≡ wrong (place.Argument 1 0) (NotTaken field.Index)
+  pub seventh_where_left_out : profile_in plain (refusing (clone ∷ allowing (codes "read") (
+      (codes "args", listed (argument (codes "6") (codes "0") eq [] ∷ [])) ∷ (codes "excludes", object (members_from ((codes "arches", texts (codes "amd64" ∷ [])) ∷ []))) ∷ []) ∷ []))
+      ≡ wrong (place.Argument 1 0) (NotTaken field.Index)
   pub no_operator : profile_in plain (refusing (clone ∷ allowing_where (codes "read") (argument (codes "0") (codes "0") (codes "EQ") [] ∷ []) ∷ []))
       ≡ wrong (place.Argument 1 0) (NotTaken field.Op)
   pub below_zero : profile_in plain (refusing (clone ∷ allowing_where (codes "read") (argument (codes "0") (codes "-1") eq [] ∷ []) ∷ []))
@@ -220,8 +303,10 @@ pub record WorkedProfiles : Type 0 where
       argument (codes "2") (codes "1") eq [] ∷ argument (codes "2") (codes "2") eq [] ∷ []) ∷ []))
       ≡ wrong (place.Entry 1) (Contradicts field.Args)
   pub no_version : profile_in plain (refusing (clone ∷ ptrace_from (codes "4") ∷ [])) ≡ wrong (place.Entry 1) (NotTaken field.Includes)
+  pub empty_version : profile_in plain (refusing (clone ∷ ptrace_from [] ∷ [])) ≡ wrong (place.Entry 1) (NotTaken field.Includes)
   -- versions
   pub version : kernel_of (codes "6.12") ≡ Some (kernel 6 12)
+  pub more_than_a_byte : kernel_of (codes "6.256") ≡ Some (kernel 6 256)
   pub three_numbers : kernel_of (codes "6.12.1") ≡ None
   pub hexadecimal : kernel_of (codes "0x6.1") ≡ None
   pub nothing_behind : kernel_of (codes "6.") ≡ None

@@ -2,7 +2,7 @@
 ghost use Rattle.std.specs.Prelude.{◌≡◌, ◌≤◌, IfSome};
 ghost use Rattle.std.specs.Option.{option_map};
 ghost use Rattle.json.specs.Value.{value_view};
-ghost use Rattle.sk_profile_json.specs.Actions.{action_named, takes_number, value_with, greatest_error, action_in, value_in, agree, is_name_of};
+ghost use Rattle.sk_profile_json.specs.Actions.{action_named, takes_number, value_with, greatest_number, action_in, value_in, agree, first_name, is_name_of};
 ghost use Rattle.sk_filter.specs.Errors.{error_named};
 
 use crate::fault::{Field, Wrong};
@@ -10,9 +10,6 @@ use crate::fields::{number, text};
 use json::Value;
 use sk_filter::error_name;
 use sk_insn::Action;
-
-/// The greatest number of an error that libseccomp takes.
-const GREATEST_ERROR: u64 = 4094;
 
 /// The error that stands where a profile gives none: EPERM.
 const EPERM: u64 = 1;
@@ -41,9 +38,20 @@ pub(crate) fn takes_number(action: Action) -> bool
     matches!(action, Action::Errno | Action::Trace)
 }
 
+// The greatest number that libseccomp takes beside an action.
+fn greatest_number(action: Action) -> u64
+    ensures greatest { result ≡ greatest_number action }
+    ensures small { result ≤ 65535 }
+{
+    match action {
+        Action::Trace => 65535,
+        _ => 4094,
+    }
+}
+
 /// The value that a filter answers for an action, with the number of an error if it has one.
 pub(crate) fn value_with(action: Action, number: Option<u64>) -> u32
-    requires small { IfSome number (λ n. n ≤ greatest_error) }
+    requires small { IfSome number (λ n. n ≤ greatest_number action) }
     ensures value { result ≡ value_with action number }
 {
     let data = if takes_number(action) {
@@ -71,7 +79,7 @@ pub(crate) fn value(
 ) -> Result<u32, Wrong>
     ensures value { result ≡ value_in errno_ret errno action (value_view object.now) }
 {
-    let given = number(object, errno_ret, GREATEST_ERROR)?;
+    let given = number(object, errno_ret, greatest_number(action))?;
     let name = text(object, errno)?;
     if given.is_some() && !takes_number(action) {
         return Err(Wrong::Contradicts(errno_ret));
@@ -84,7 +92,7 @@ pub(crate) fn value(
 
 // Whether an error's name is that of its number.
 fn agree(given: Option<u64>, name: Option<&str>) -> bool
-    requires small { IfSome given (λ n. n ≤ greatest_error) }
+    requires small { IfSome given (λ n. n ≤ 65535) }
     ensures agree { result ≡ agree given (option_map (λ s. s.now) name.entry) }
 {
     match (given, name) {
@@ -99,6 +107,18 @@ fn is_name_of(name: &str, number: u32) -> bool
 {
     match error_name(number) {
         None => false,
-        Some(known) => known == name,
+        Some(known) => known == first_name(name),
+    }
+}
+
+// Of an error with two names that which goes with its number.
+fn first_name(name: &str) -> &str
+    ensures first { result.now ≡ first_name name.now }
+{
+    match name {
+        "EWOULDBLOCK" => "EAGAIN",
+        "EDEADLOCK" => "EDEADLK",
+        "ENOTSUP" => "EOPNOTSUPP",
+        _ => name,
     }
 }

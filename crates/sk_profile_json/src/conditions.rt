@@ -1,8 +1,8 @@
 //! The arguments of an entry: conditions on a call.
 ghost use Rattle.std.specs.Prelude.{◌≡◌, ◌++◌, [], map, IfOk, OnOk};
 ghost use Rattle.json.specs.Value.{value_view};
-ghost use Rattle.sk_profile_json.specs.Conditions.{wrong_argument, conditions_of, are_apart, is_on};
-ghost use Rattle.std.specs.List.{list_any, cons_option};
+ghost use Rattle.sk_profile_json.specs.Conditions.{wrong_argument, conditions_of};
+ghost use Rattle.std.specs.List.{cons_option};
 ghost use Rattle.std.specs.Result.{result_ok};
 ghost use Rattle.sk_profile_json.specs.Arguments.{condition_of};
 
@@ -52,24 +52,4 @@ fn push_condition(conditions: &mut Vec<Condition>, argument: &Value<'_>) -> Resu
         conditions.push(condition)?;
     }
     Ok(())
-}
-
-/// Whether each condition is on another argument.
-pub(crate) fn are_apart(conditions: &[Condition]) -> bool
-    ensures apart { result ≡ are_apart conditions.now }
-{
-    let mut left = conditions;
-    while let Some((condition, rest)) = left.split_first() {
-        if is_on_any(condition.index, rest) {
-            return false;
-        }
-        left = rest;
-    }
-    true
-}
-
-fn is_on_any(index: u8, conditions: &[Condition]) -> bool
-    ensures any { result ≡ list_any (is_on index) conditions.now }
-{
-    conditions.iter().any(|condition| condition.index == index)
 }

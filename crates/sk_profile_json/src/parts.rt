@@ -33,7 +33,8 @@ pub fn counted_names<'v, 'a>(context: &Context<'_>, entry: &'v Value<'a>) -> &'v
     }
 }
 
-fn is_counted(context: &Context<'_>, entry: &Value<'_>) -> bool
+/// Whether an entry counts.
+pub(crate) fn is_counted(context: &Context<'_>, entry: &Value<'_>) -> bool
     ensures counted { result ≡ is_yes (counts context.now (value_view entry.now)) }
 {
     counts(context, entry).unwrap_or(false)

@@ -10,13 +10,13 @@ ghost use Rattle.sk_profile.specs.Views.{rule_of};
 ghost use Rattle.sk_profile_json.specs.Entries.{rule_for, rules_for};
 ghost use Rattle.sk_profile_json.specs.Wholes.{entry_rules, rules_from, before, fault_at, IsFault};
 
-use crate::conditions::{WrongArgument, are_apart, conditions_of, wrong_argument};
+use crate::conditions::{WrongArgument, conditions_of, wrong_argument};
 use crate::context::{Context, counts};
 use crate::entry::{Entry, entry_of};
 use crate::fault::{Fault, Field, Place, ReadFault, Wrong};
 use json::Value;
 use sk_call_names::x86_64::number;
-use sk_profile::{Condition, Rule};
+use sk_profile::{Condition, Rule, are_apart};
 use std::alloc::{AllocError, Global};
 
 /// The rules of these entries, in their order.

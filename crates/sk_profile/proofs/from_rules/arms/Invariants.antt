@@ -10,7 +10,7 @@ abbrev pub invariant-loop-rule : goal.invariant-loop-rule
 invariant-loop-rule l = record {
   left : All IsGood l.left;
   good : All IsArmOfCode l.arms.items;
-  arms : map arm_of l.arms.items ++ arms_for (map rule_of l.left) l.nr ≡ arms_for (map rule_of l.rules) l.nr;
+  arms : map arm_of l.arms.items ++ arms_for l.default (map rule_of l.left) l.nr ≡ arms_for l.default (map rule_of l.rules) l.nr;
 }
 
 abbrev pub decreases-loop-rule : goal.decreases-loop-rule

@@ -4,7 +4,7 @@ use Rattle.sk_profile.specs.Views.{rule_of}
 use Rattle.sk_profile.proofs.from_rules.plain_value.Given as goal
 
 abbrev pub invariant-loop-rule : goal.invariant-loop-rule
-invariant-loop-rule l = plain_rule (map rule_of l.left) l.nr ≡ plain_rule (map rule_of l.rules) l.nr
+invariant-loop-rule l = plain_rule l.default (map rule_of l.left) l.nr ≡ plain_rule l.default (map rule_of l.rules) l.nr
 
 abbrev pub decreases-loop-rule : goal.decreases-loop-rule
 decreases-loop-rule l = length l.left

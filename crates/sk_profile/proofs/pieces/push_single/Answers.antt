@@ -10,6 +10,6 @@ returns c = record {
     piece = Single (arm_of c.args.arm.now);
     code = one_arm _ _ _ _ (grind (arith, c.in_ok-push.ensures.items, c.in_ok-push_conditions.ensures.code, c.deref.ensures.value, c.answer.ensures.insn));
     has = refl;
-    good = c.requires.arm.0;
+    good = c.requires.arm.0.0;
   };
 }

@@ -5,5 +5,5 @@ use Rattle.sk_profile_json.proofs.origins.origins_from.Given as goal
 
 abbrev pub invariant-loop-place : goal.invariant-loop-place
 invariant-loop-place l =
-    l.origins.items ++ origins_from l.context l.number l.place (drop l.place (map value_view l.entries))
-    ≡ origins_from l.context l.number 0 (map value_view l.entries)
+    l.origins.items ++ origins_from l.context l.default l.number l.place (drop l.place (map value_view l.entries))
+    ≡ origins_from l.context l.default l.number 0 (map value_view l.entries)
