@@ -152,7 +152,7 @@ def judged(row, folder):
         if any(value is None and f"${name}" in row.command for name, value in given.items()):
             return None
         script = "set -o pipefail\n" + PRELUDE + narrow(folder) + row.command
-        env = {**os.environ, **{name: value or "" for name, value in given.items()}}
+        env = {**os.environ, "SKERN_PROVED": "1", **{name: value or "" for name, value in given.items()}}
         ran = subprocess.run(["bash", "-c", script], cwd=folder, env=env, stdin=subprocess.DEVNULL, capture_output=True,
                              text=True, timeout=SECONDS, check=False)
     return [f"{what} is {it!r} and not {wanted!r}" for what, it, wanted, is_so in (

@@ -1,11 +1,13 @@
 """The crates of the repository: what crates.txt says of them, and which are proved as they stand."""
 import os
+import re
 import subprocess
 from collections.abc import Iterator
 
 TOP = os.path.dirname(os.path.dirname(os.path.realpath(__file__)))
 # What a proof reads.
 PARTS = ("src", "specs", "proofs")
+TEST = re.compile(rb"^\s*#\s*\[\s*test\s*\]", re.M)
 PROCESSORS = len(os.sched_getaffinity(0))
 
 
@@ -26,8 +28,22 @@ def lines_of(name: str, ending: str = "") -> int:
     return count
 
 
+def has_tests(name: str) -> bool:
+    for path in files_of(name):
+        with open(path, "rb") as file:
+            if path.endswith(".rt") and TEST.search(file.read()):
+                return True
+    return False
+
+
 def is_program(name: str) -> bool:
     return os.path.isfile(f"{TOP}/crates/{name}/src/main.rt")
+
+
+def seconds_of(name: str) -> float:
+    """A guess how long one processor takes to prove a crate: some of it goes with its lines of code. It orders the work, and
+    tells what is left of it."""
+    return 25 + 0.12 * lines_of(name, ".rt")
 
 
 def places(bytes_each: int, most: int = PROCESSORS) -> int:
@@ -73,6 +89,34 @@ class Crates:
             found += [it for it in [*self.below(use), use] if it not in found]
         return found
 
+    def below_all(self, names: list[str]) -> list[str]:
+        """The crates below these, each once and behind those that it uses."""
+        return list(dict.fromkeys(below for it in names for below in self.below(it)))
+
+    def chains(self, names: list[str]) -> dict[str, float]:
+        """How long each of these crates takes with the longest chain of those that wait for it, where each stands behind
+        those that it uses."""
+        chain: dict[str, float] = {}
+        for name in reversed(names):
+            above = [chain[it] for it in names if name in self.uses(it)]
+            chain[name] = seconds_of(name) + max(above, default=0)
+        return chain
+
+    def minutes_to_prove(self, programs: list[str]) -> int:
+        """A guess how long it takes to prove these programs, beside what is proved already."""
+        left = [it for it in [*self.below_all(programs), *programs] if not self.is_stamped(it)]
+        longest = max(self.chains(left).values(), default=0)
+        return round(max(longest, sum(map(seconds_of, left)) / PROCESSORS) / 60) or 1
+
+    def is_stamped(self, name: str) -> bool:
+        """Whether the library has the stamp of a proof that is younger than what it read. Where a file was changed meanwhile,
+        there is none."""
+        try:
+            proved = os.path.getmtime(f"{TOP}/crates/{name}/out/rlib/stamp")
+        except OSError:
+            return False
+        return os.path.getmtime(f"{TOP}/crates.txt") <= proved and self.is_older(name, proved)
+
     def is_proved(self, name: str) -> bool:
         """Whether the crate was proved after each file of it and of those below was written. Only what is proved is built."""
         out = f"{TOP}/crates/{name}/out"
@@ -82,6 +126,15 @@ class Crates:
             return False
         # rt writes the stamp once it has seen that no file changed meanwhile. What rt ci builds has none.
         return self.is_older(name, os.path.getmtime(next(it for it in (f"{out}/rlib/stamp", made) if os.path.exists(it))))
+
+    def is_built(self, name: str) -> bool:
+        """Whether the proved program is as young as all that it stands on. What was written while it was built is newer than
+        the file `built`, and may be older than the program."""
+        out = f"{TOP}/crates/{name}/out"
+        if not os.access(f"{out}/{name}", os.X_OK):
+            return False
+        built = os.path.getmtime(next(it for it in (f"{out}/built", f"{out}/{name}") if os.path.exists(it)))
+        return os.path.getmtime(f"{TOP}/crates.txt") <= built and self.is_older(name, built)
 
     def is_older(self, name: str, moment: float) -> bool:
         """Whether each file of the crate and of those below was written by then."""
