@@ -3,7 +3,8 @@
 documents name is there, and that each example in them prints what they say, in the repository and in the archive that
 tools/package makes of it.
 
-Prints each problem, and at last 'N passed, M failed'."""
+check_documents.py [FOLDER PAGE ..]: with a folder, only runs the commands of these pages, in the folder, and looks at what
+they print. Prints each problem, and at last 'N passed, M failed'."""
 import os
 import pathlib
 import re
@@ -161,13 +162,23 @@ def commands_run(document, text, paths):
                 beside_a_process(document, line)
             elif line == "./bench/run":
                 ends_well(document, line, "./bench/run --as-built --turns 1")
-            elif not line.startswith("./gate"):
+            elif not line.startswith(("./gate", "./test", "./prove")):
                 ends_well(document, line, re.sub(r"\bFILE\b", EXPORT, line))
 
 
+def run_in(folder, document, text):
+    """Runs what a page shows in a folder that need not be this repository: all but the commands of the prover, the tests, the
+    gate and the measurements, which stand in the repository alone."""
+    examples(document, text, folder)
+    for line in (line for block in blocks(text, "sh") for line in block.splitlines()):
+        if re.search(r"\bPID\b", line):
+            beside_a_process(document, line, folder)
+        elif not re.match(r"rt |\./(gate|test|prove|bench/)|tools/|cd ", line):
+            ends_well(document, line, re.sub(r"\bFILE\b", EXPORT, line), folder)
+
+
 def in_archive():
-    """The pages of the archive, their commands run in it as it is unpacked: all but those of the prover, the gate and the
-    measurements, which stand in the repository alone."""
+    """The pages of the archive, their commands run in it as it is unpacked."""
     with tempfile.TemporaryDirectory() as room:
         made = subprocess.run(["tools/package", "--as-built", room], cwd=ROOT, capture_output=True, text=True, timeout=3000)
         judge([f"tools/package ends with status {made.returncode}\n{made.stdout[-400:]}{made.stderr[-400:]}"] if made.returncode else [], "archive")
@@ -177,13 +188,7 @@ def in_archive():
         subprocess.run(["tar", "-xzf", archive, "-C", room], check=True)
         folder = pathlib.Path(archive.removesuffix(".tar.gz"))
         for page in sorted(folder.rglob("*.md")):
-            document, text = f"archive: {page.relative_to(folder)}", page.read_text(encoding="utf-8")
-            examples(document, text, folder)
-            for line in (line for block in blocks(text, "sh") for line in block.splitlines()):
-                if re.search(r"\bPID\b", line):
-                    beside_a_process(document, line, folder)
-                elif not re.match(r"rt |\./gate|\./bench/|tools/|cd ", line):
-                    ends_well(document, line, re.sub(r"\bFILE\b", EXPORT, line), folder)
+            run_in(folder, f"archive: {page.relative_to(folder)}", page.read_text(encoding="utf-8"))
 
 
 def check(document, paths):
@@ -194,7 +199,8 @@ def check(document, paths):
     commands_run(document, text, paths)
 
 
-def main():
+def check_all():
+    os.environ["SKERN_PROVED"] = "1"
     paths = tracked()
     judge(list(citations(paths)), "the repository stands alone")
     known = {word for path in paths if path.startswith("crates") for word in re.findall(r"[A-Za-z_]\w*", read(path) + path)}
@@ -206,9 +212,17 @@ def main():
     with ThreadPoolExecutor(2) as pool:
         list(pool.map(lambda path: check(path, paths), documents))
     in_archive()
+
+
+def main(words):
+    if words:
+        for document in words[1:]:
+            run_in(words[0], document, read(document))
+    else:
+        check_all()
     print(f"{results['passed']} passed, {results['failed']} failed")
     return 1 if results["failed"] else 0
 
 
 if __name__ == "__main__":
-    sys.exit(main())
+    sys.exit(main(sys.argv[1:]))
