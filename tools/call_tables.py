@@ -1,7 +1,6 @@
 """The tables of the names that calls have on other architectures than x86-64, for tools/call_names: how they are made, and what
 they are compared with. They stand in crates/sk_call_names/src/tables, a file for each, and hold runs of numbers that follow
-each other. Names that several of them have alike stand once: in late.rt those of the numbers from 424 on, and in generic.rt
-those of the architectures that have the generic numbers of Linux."""
+each other: the first number of each, and its names in one text. A text is dear to prove by its number, and hardly by its length."""
 import re
 import subprocess
 from pathlib import Path
@@ -20,23 +19,23 @@ DEFINED = {
     "s390x": "__s390x__ __LP64__ __SIZEOF_POINTER__=8",
     "loongarch64": "__loongarch__ __loongarch_grlen=64 __LP64__ __SIZEOF_POINTER__=8",
 }
-# Those whose numbers are the generic ones of Linux, as asm-generic/unistd.h had them.
-GENERIC = ("aarch64", "riscv64", "loongarch64")
 # The names that libseccomp has for architectures.
 RESOLVED = {"i386": "x86"}
 MADE_BY = "`tools/call_names` makes them from headers of Linux."
 X32_BIT = 1 << 30
-# The first number that the calls of all architectures share, and the first that none but x32 and arm have.
-FIRST_LATE, FIRST_OWN = 424, 512
+# The most numbers of a run: it ends below each multiple of it.
+MOST = 16
 # What the headers define beside calls: where numbers begin, how many there are, and those that no call has.
 NO_CALL = re.compile(r"\w*[A-Z]\w*|syscalls|arch_specific_syscall|(reserved|unused)\d+")
+CALL = re.compile(r"\w*[A-Z]\w*|syscalls|arch_specific_syscall|(reserved|unused)\d+")
 # The calls that an architecture has since Linux 6.1, below the last number that it had then.
 SINCE = {"memfd_secret", "riscv_hwprobe", "uretprobe"}
 CALL = re.compile(r"__(?:ARM_)?NR_(\w+)")
 MACRO = re.compile(r"#define (\w+)(?: (.*))?")
 TERMS = re.compile(r"[\w()+|\s]*\w[\w()+|\s]*")
-NAMES = re.compile(r"const (\w+): &\[&str\] = &\[([^\]]*)\];\n")
-RUN = re.compile(r"    \((\d+), (\w+)\),\n")
+FIRSTS = re.compile(r"pub const \w+_FIRSTS: &\[u32\] = &\[([\d,\s]*)\];\n")
+NAMES = re.compile(r"pub const \w+_NAMES: &\[&str\] = &\[([\w\s\",]*)\];\n")
+TEXT = re.compile(r'"([\w ]*)"')
 AUDIT = re.compile(r"((?:Architecture::\w+(?: \| )?)+) => (0x[0-9A-F_]+),")
 
 
@@ -100,92 +99,49 @@ def read(path):
 
 def calls_of_table(architecture):
     """The names of a table, by their numbers, x32's without its bit."""
-    lists = {}
-    for file in ("generic", "late", architecture):
-        if (FOLDER / f"{file}.rt").exists():
-            lists.update((name, re.findall(r"\w+", names)) for name, names in NAMES.findall(read(FOLDER / f"{file}.rt")))
+    text = read(FOLDER / f"{architecture}.rt")
+    firsts, names = FIRSTS.search(text), NAMES.search(text)
+    if not firsts or not names:
+        raise Trouble(f"the table of {architecture} has no runs")
+    numbers = [int(it) for it in re.findall(r"\d+", firsts[1])]
+    texts = [it.split(" ") for it in TEXT.findall(names[1])]
+    if not numbers or len(numbers) != len(texts):
+        raise Trouble(f"the table of {architecture} has {len(numbers)} numbers, and names of {len(texts)} runs")
     calls = {}
-    for first, name in RUN.findall(read(FOLDER / f"{architecture}.rt")):
-        if name not in lists:
-            raise Trouble(f"the table of {architecture} has no {name}")
-        calls.update(enumerate(lists[name], int(first)))
-    if not calls:
-        raise Trouble(f"the table of {architecture} has no names")
+    for first, run in zip(numbers, texts):
+        if calls and first <= max(calls):
+            raise Trouble(f"the table of {architecture} has {first} behind {max(calls)}")
+        calls.update(enumerate(run, first))
     return calls
 
 
-def sharing(tables, architecture, number):
-    """The architectures whose tables have the same name for a number, of those that may share theirs with this one."""
-    late = number >= FIRST_LATE
-    group = tables if late else GENERIC if architecture in GENERIC else [architecture]
-    name = tables[architecture][number]
-    return late, tuple(it for it in group if it in tables and tables[it].get(number) == name)
-
-
-def runs_of(tables, architecture):
-    """The runs of a table, each with its first number, those that share it, and its names."""
+def runs_of(calls):
+    """The runs of a table, each with its first number and its names."""
     runs = []
-    calls = tables[architecture]
     for number in sorted(calls):
-        shared = sharing(tables, architecture, number)
-        if runs and number - 1 in calls and runs[-1][1] == shared:
-            runs[-1][2].append(calls[number])
+        if number % MOST and number - 1 in calls:
+            runs[-1][1].append(calls[number])
         else:
-            runs.append((number, shared, [calls[number]]))
+            runs.append((number, [calls[number]]))
     return runs
 
 
-def file_of(architecture, run):
-    """The file that has the names of a run, and what they are called there."""
-    first, (late, shared), _ = run
-    if len(shared) == 1:
-        return architecture, f"{architecture.upper()}_{first}"
-    return ("late", f"LATE_{first}") if late else ("generic", f"GENERIC_{first}")
-
-
-def names_text(name, run, is_shared):
-    first, (_, shared), names = run
-    about = f"names of numbers {first} to {first + len(names) - 1}" if len(names) > 1 else f"name of number {first}"
-    names = "".join(f'    "{it}",\n' for it in names)
-    of = f" on {', '.join(shared[:-1])} and {shared[-1]}" if is_shared else ""
-    return f"/// The {about}{of}.\n{'pub ' if is_shared else ''}const {name}: &[&str] = &[\n{names}];\n"
-
-
-def table_text(architecture, runs):
-    files = [file_of(architecture, run) for run in runs]
-    used = "".join(
-        f"use super::{file}::{{{', '.join(name for it, name in files if it == file)}}};\n"
-        for file in ("generic", "late") if any(it == file for it, _ in files))
-    rows = "".join(f"    ({run[0]}, {name}),\n" for run, (_, name) in zip(runs, files))
-    own = [names_text(name, run, False) for run, (file, name) in zip(runs, files) if file == architecture]
+def table_text(architecture, calls):
+    runs = runs_of(calls)
+    firsts = "".join(f"    {first},\n" for first, _ in runs)
+    names = "".join(f'    "{" ".join(run)}",\n' for _, run in runs)
+    name = architecture.upper()
     without = ", without the bit that they all have" if architecture == "x32" else ""
     return (f"//! The names of the calls on {architecture}, by their numbers{without}. {MADE_BY}\n"
-            f"{used}use crate::runs::Run;\n\n"
-            f"/// The runs of numbers that have names.\npub const {architecture.upper()}: &[Run] = &[\n{rows}];\n\n" + "\n".join(own))
-
-
-def shared_text(file, tables):
-    about = {"generic": "the generic numbers of Linux, which architectures share",
-             "late": f"the numbers from {FIRST_LATE} on, which all architectures share"}
-    found = {}
-    for architecture in tables:
-        for run in runs_of(tables, architecture):
-            where, name = file_of(architecture, run)
-            if where == file and found.setdefault(name, run) != run:
-                raise Trouble(f"two runs are {name}")
-    parts = [names_text(name, found[name], True) for name in sorted(found, key=lambda it: found[it][0])]
-    return f"//! The names of {about[file]}. {MADE_BY}\n" + "\n".join(parts)
+            f"/// The first number of each run.\npub const {name}_FIRSTS: &[u32] = &[\n{firsts}];\n\n"
+            f"/// The names of each run.\npub const {name}_NAMES: &[&str] = &[\n{names}];\n")
 
 
 def write(architecture, include):
-    tables = {it: calls_of_table(it) for it in DEFINED if it != architecture and (FOLDER / f"{it}.rt").exists()}
-    tables[architecture] = calls_of_headers(architecture, include)
-    texts = {it: table_text(it, runs_of(tables, it)) for it in tables}
-    texts |= {it: shared_text(it, tables) for it in ("generic", "late")}
-    for file, text in texts.items():
-        (FOLDER / f"{file}.rt").write_text(text, encoding="ascii")
+    calls = calls_of_headers(architecture, include)
+    (FOLDER / f"{architecture}.rt").write_text(table_text(architecture, calls), encoding="ascii")
     subprocess.run(["rt", "fmt"], cwd=FOLDER.parent.parent, check=True)
-    print(f"{len(tables[architecture])} calls of {architecture} are in the table")
+    print(f"{len(calls)} calls of {architecture} are in the table")
     return 0
 
 
@@ -201,13 +157,11 @@ def told(wrong, well):
 
 
 def check(architecture, include):
-    """Whether the table is that of the headers, but for calls of a newer Linux."""
+    """Whether the table is that of the headers, and no more."""
     header, table = calls_of_headers(architecture, include), calls_of_table(architecture)
-    last = max(number for number in header if number < FIRST_OWN)
-    newer = {it for it in table if it not in header and (last < it < FIRST_OWN or table[it] in SINCE)}
     wrong = [f"{it}: {header.get(it, 'no call')} in the headers, {table.get(it, 'no call')} in the table of {architecture}"
-             for it in sorted(set(header) | (set(table) - newer)) if header.get(it) != table.get(it)]
-    return told(wrong, f"{architecture}: {len(table) - len(newer)} calls are those of the headers, {len(newer)} are newer")
+             for it in sorted({*header, *table}) if header.get(it) != table.get(it)]
+    return told(wrong, f"{architecture}: {len(table)} calls are those of the headers")
 
 
 def resolved(architecture, word):

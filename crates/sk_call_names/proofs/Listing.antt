@@ -1,9 +1,9 @@
 -- All numbers of a table, run by run.
-use Rattle.std.proofs.Common.{◌≡◌, ℕ, zero, suc, ◌+◌, ◌-◌, ◌^◌, ◌<◌, ◌≤◌, List, [], ◌∷◌, ◌++◌, length, map, get_or, drop, arith, ap, sym, ◌∙◌, append_assoc}
+use Rattle.std.proofs.Common.{◌≡◌, ℕ, zero, suc, ◌+◌, ◌-◌, ◌^◌, ◌<◌, ◌≤◌, List, [], ◌∷◌, ◌++◌, arith, ap, sym, ◌∙◌, append_assoc}
 use Rattle.std.specs.Prelude.{IsTrue}
 use Rattle.std.specs.List.{range_with_len}
-use Rattle.sk_call_names.specs.Names.{plain, end_of, are_apart, numbers_at, numbers_in}
-use Rattle.sk_call_names.proofs.Lookups.{Coded, rest_of, apart_next}
+use Rattle.sk_call_names.specs.Names.{Run, end_of, are_apart, numbers_at, numbers_in}
+use Rattle.sk_call_names.proofs.Lookups.{apart_next}
 
 -- the first of so many
 first_of_range : (first count : ℕ) → 0 < count → range_with_len first count ≡ first ∷ range_with_len (first + 1) (count - 1)
@@ -24,19 +24,14 @@ one_number numbers next all number end less is so_far =
     ∙ so_far
 
 -- one run more
-pub one_run : (numbers next all : List ℕ) (base : ℕ) (runs : List Coded) (k : ℕ) (d : Coded) → k < length runs
-    → next ≡ numbers ++ numbers_at base (plain (get_or runs k d)) → numbers ++ numbers_in base (map plain (drop k runs)) ≡ all
-    → next ++ numbers_in base (map plain (drop (k + 1) runs)) ≡ all
-one_run numbers next all base runs k d h is so_far =
-    ap (λ xs. xs ++ numbers_in base (map plain (drop (k + 1) runs))) is
-    ∙ append_assoc numbers (numbers_at base (plain (get_or runs k d))) (numbers_in base (map plain (drop (k + 1) runs)))
-    ∙ ap (λ rest. numbers ++ numbers_in base rest) (sym (rest_of runs k d h))
+pub one_run : (numbers next all : List ℕ) (base : ℕ) (runs later : List Run) (run : Run) → runs ≡ run ∷ later → next ≡ numbers ++ numbers_at base run
+    → numbers ++ numbers_in base runs ≡ all → next ++ numbers_in base later ≡ all
+one_run numbers next all base runs later run first is so_far =
+    ap (λ xs. xs ++ numbers_in base later) is
+    ∙ append_assoc numbers (numbers_at base run) (numbers_in base later)
+    ∙ ap (λ rest. numbers ++ numbers_in base rest) (sym first)
     ∙ so_far
 
 -- its numbers have 32 bits
-pub run_fits : (base : ℕ) (runs : List Coded) (k : ℕ) (d : Coded) → base ≤ 2 ^ 30 → k < length runs → IsTrue (are_apart 0 (map plain (drop k runs)))
-    → base + end_of (plain (get_or runs k d)) ≤ 2 ^ 31
-run_fits base runs k d low h apart = let end = (apart_next runs k d h apart).0 in omega (arith, low, end)
-
-pub still_apart : (runs : List Coded) (k : ℕ) (d : Coded) → k < length runs → IsTrue (are_apart 0 (map plain (drop k runs))) → IsTrue (are_apart 0 (map plain (drop (k + 1) runs)))
-still_apart runs k d h apart = (apart_next runs k d h apart).1
+pub run_fits : (base : ℕ) (runs later : List Run) (run : Run) → base ≤ 2 ^ 30 → runs ≡ run ∷ later → IsTrue (are_apart 0 runs) → base + end_of run ≤ 2 ^ 31
+run_fits base runs later run low first apart = let end = (apart_next runs later run first apart).0 in omega (arith, low, end)

@@ -1,15 +1,14 @@
 -- Tables of runs: a number's name, a name's number, and runs that are apart.
-use Rattle.std.proofs.Common.{◌≡◌, ◌≢◌, ℕ, suc, ◌+◌, ◌-◌, ◌^◌, ◌<◌, ◌≤◌, ◌&&◌, nat_le, Bool, true, false, List, [], ◌∷◌, length, map, get_or, drop, slice_get, Option, Some, None, arith, ap, sym, refl, ◌∙◌, drop-cons}
+use Rattle.std.proofs.Common.{◌≡◌, ◌≢◌, ℕ, ◌+◌, ◌-◌, ◌^◌, ◌<◌, ◌≤◌, ◌&&◌, nat_le, Bool, true, false, List, [], ◌∷◌, slice_get, Option, Some, None, arith, ap, sym, refl, ◌∙◌}
 use Rattle.std.specs.Prelude.{IsTrue}
 use Rattle.std.specs.Option.{option_or, option_map_or, is_some}
 use Rattle.std.specs.Cmp.Derive.{both_true}
-use Rattle.std.specs.Borrow.{Bor}
 use Rattle.std.proofs.Math.Logic.{⊎_elim}
 use Rattle.std.proofs.Math.Dec.{leb-zero}
-use Rattle.std.proofs.lemmas.Bool.{cases_lt, lt-ltb, le-ltb, leb-true, false≢true}
+use Rattle.std.proofs.lemmas.Bool.{cases_lt, lt-ltb, le-ltb, le-leb, leb-true, leb-false, false≢true}
 use Rattle.std.proofs.lemmas.Option.{slice_get_past}
 use Rattle.sk_call_names.proofs.Places.{at, is_at, nowhere}
-use Rattle.sk_call_names.specs.Names.{Run, plain, end_of, name_at, name_in, number_at, number_in, are_apart}
+use Rattle.sk_call_names.specs.Names.{Run, end_of, name_at, name_in, number_at, number_in, are_apart}
 
 -- ---- a run
 
@@ -47,32 +46,13 @@ pub no_number : (wanted : List ℕ) → number_in [] wanted ≡ None
 unfolding number_in
 no_number wanted = refl
 
-abbrev pub Coded : Type 0
-Coded = ℕ × Bor (List (Bor (List ℕ)))
+pub number_here : (all later : List Run) (run : Run) (wanted : List ℕ) (nr : ℕ) → all ≡ run ∷ later → Some nr ≡ number_at run wanted → number_in all wanted ≡ Some nr
+number_here all later run wanted nr first is =
+    ap (λ runs. number_in runs wanted) first ∙ number_first run later wanted ∙ ap (λ found. option_or found (number_in later wanted)) (sym is)
 
--- the runs from one on, as the code has them
-pub rest_of : (runs : List Coded) (k : ℕ) (d : Coded) → k < length runs → map plain (drop k runs) ≡ plain (get_or runs k d) ∷ map plain (drop (k + 1) runs)
-rest_of runs k d h =
-    let e : suc k ≡ k + 1 = omega arith in
-    ap (map plain) (drop-cons runs k d h) ∙ ap (λ n. plain (get_or runs k d) ∷ map plain (drop n runs)) e
-
-name_next : (runs : List Coded) (k nr : ℕ) (d : Coded) → k < length runs → name_in (map plain (drop k runs)) nr ≡ option_or (name_at (plain (get_or runs k d)) nr) (name_in (map plain (drop (k + 1) runs)) nr)
-name_next runs k nr d h = ap (λ rest. name_in rest nr) (rest_of runs k d h) ∙ name_first (plain (get_or runs k d)) (map plain (drop (k + 1) runs)) nr
-
-number_next : (runs : List Coded) (k : ℕ) (wanted : List ℕ) (d : Coded) → k < length runs → number_in (map plain (drop k runs)) wanted ≡ option_or (number_at (plain (get_or runs k d)) wanted) (number_in (map plain (drop (k + 1) runs)) wanted)
-number_next runs k wanted d h = ap (λ rest. number_in rest wanted) (rest_of runs k d h) ∙ number_first (plain (get_or runs k d)) (map plain (drop (k + 1) runs)) wanted
-
-pub name_here : (runs : List Coded) (k nr : ℕ) (d : Coded) (name : List ℕ) → k < length runs → Some name ≡ name_at (plain (get_or runs k d)) nr → name_in (map plain (drop k runs)) nr ≡ Some name
-name_here runs k nr d name h is = name_next runs k nr d h ∙ ap (λ found. option_or found (name_in (map plain (drop (k + 1) runs)) nr)) (sym is)
-
-pub name_later : (runs : List Coded) (k nr : ℕ) (d : Coded) → k < length runs → None ≡ name_at (plain (get_or runs k d)) nr → name_in (map plain (drop k runs)) nr ≡ name_in (map plain (drop (k + 1) runs)) nr
-name_later runs k nr d h is = name_next runs k nr d h ∙ ap (λ found. option_or found (name_in (map plain (drop (k + 1) runs)) nr)) (sym is)
-
-pub number_here : (runs : List Coded) (k : ℕ) (wanted : List ℕ) (d : Coded) (nr : ℕ) → k < length runs → Some nr ≡ number_at (plain (get_or runs k d)) wanted → number_in (map plain (drop k runs)) wanted ≡ Some nr
-number_here runs k wanted d nr h is = number_next runs k wanted d h ∙ ap (λ found. option_or found (number_in (map plain (drop (k + 1) runs)) wanted)) (sym is)
-
-pub number_later : (runs : List Coded) (k : ℕ) (wanted : List ℕ) (d : Coded) → k < length runs → None ≡ number_at (plain (get_or runs k d)) wanted → number_in (map plain (drop k runs)) wanted ≡ number_in (map plain (drop (k + 1) runs)) wanted
-number_later runs k wanted d h is = number_next runs k wanted d h ∙ ap (λ found. option_or found (number_in (map plain (drop (k + 1) runs)) wanted)) (sym is)
+pub number_later : (all later : List Run) (run : Run) (wanted : List ℕ) → all ≡ run ∷ later → None ≡ number_at run wanted → number_in all wanted ≡ number_in later wanted
+number_later all later run wanted first is =
+    ap (λ runs. number_in runs wanted) first ∙ number_first run later wanted ∙ ap (λ found. option_or found (number_in later wanted)) (sym is)
 
 -- ---- runs that are apart
 
@@ -96,11 +76,11 @@ apart_from_zero : (from : ℕ) (runs : List Run) → IsTrue (are_apart from runs
 apart_from_zero from [] h = leb-zero (2 ^ 30)
 apart_from_zero from (run ∷ runs) h = both_true (leb-zero run.0) (apart_first from run runs h).1
 
--- the run at a place ends low enough, and those behind it are apart
-pub apart_next : (runs : List Coded) (k : ℕ) (d : Coded) → k < length runs → IsTrue (are_apart 0 (map plain (drop k runs))) → (end_of (plain (get_or runs k d)) ≤ 2 ^ 30) × IsTrue (are_apart 0 (map plain (drop (k + 1) runs)))
-apart_next runs k d h apart =
-    let parts = apart_first 0 (plain (get_or runs k d)) (map plain (drop (k + 1) runs)) (rw (rest_of runs k d h) at apart) in
-    (apart_low (end_of (plain (get_or runs k d))) (map plain (drop (k + 1) runs)) parts.1, apart_from_zero (end_of (plain (get_or runs k d))) (map plain (drop (k + 1) runs)) parts.1)
+-- the first run ends low enough, and those behind it are apart
+pub apart_next : (all later : List Run) (run : Run) → all ≡ run ∷ later → IsTrue (are_apart 0 all) → (end_of run ≤ 2 ^ 30) × IsTrue (are_apart 0 later)
+apart_next all later run first apart =
+    let parts = apart_first 0 run later (rw first at apart) in
+    (apart_low (end_of run) later parts.1, apart_from_zero (end_of run) later parts.1)
 
 unnamed_below : (from : ℕ) (runs : List Run) (nr : ℕ) → IsTrue (are_apart from runs) → nr < from → name_in runs nr ≡ None
 unnamed_below from [] nr h less = no_name nr
@@ -144,6 +124,40 @@ number_not_first run runs wanted h =
 name_not_first : (run : Run) (runs : List Run) (nr : ℕ) → name_at run nr ≡ None → name_in (run ∷ runs) nr ≡ name_in runs nr
 name_not_first run runs nr h = name_first run runs nr ∙ ap (λ found. option_or found (name_in runs nr)) h
 
+some_or_none : (found : Option (List ℕ)) → option_or found None ≡ found
+some_or_none None = refl
+some_or_none (Some name) = refl
+
+-- where no run behind the first begins by a number, the first has its name or none has
+pub name_here : (all later : List Run) (run : Run) (nr : ℕ) → all ≡ run ∷ later → IsTrue (are_apart 0 all)
+    → ((next : Run) (more : List Run) → later ≡ next ∷ more → false ≡ nat_le next.0 nr) → name_in all nr ≡ name_at run nr
+name_here all later run nr first apart behind =
+    ap (λ runs. name_in runs nr) first ∙ name_first run later nr
+    ∙ ap (option_or (name_at run nr)) (none_behind later (apart_first 0 run later (rw first at apart)).1 behind)
+    ∙ some_or_none (name_at run nr)
+  where
+    none_behind : (later : List Run) → IsTrue (are_apart (end_of run) later)
+        → ((next : Run) (more : List Run) → later ≡ next ∷ more → false ≡ nat_le next.0 nr) → name_in later nr ≡ None
+    none_behind [] apart behind = no_name nr
+    none_behind (next ∷ more) apart behind =
+        let less : nr < next.0 = leb-false next.0 nr (sym (behind next more refl)) in
+        let parts = apart_first (end_of run) next more apart in
+        unnamed_below next.0 (next ∷ more) nr (both_true (le-leb next.0 next.0 (omega arith)) parts.1) less
+
+-- and where the next one begins by it, the first has not
+pub name_later : (all later : List Run) (run : Run) (nr : ℕ) → all ≡ run ∷ later → IsTrue (are_apart 0 all) → (later ≡ [] → true ≡ false)
+    → ((next : Run) (more : List Run) → later ≡ next ∷ more → true ≡ nat_le next.0 nr) → name_in all nr ≡ name_in later nr
+name_later all later run nr first apart some behind =
+    ap (λ runs. name_in runs nr) first ∙ name_not_first run later nr (unnamed_past run nr (past later (apart_first 0 run later (rw first at apart)).1 some behind))
+  where
+    past : (later : List Run) → IsTrue (are_apart (end_of run) later) → (later ≡ [] → true ≡ false)
+        → ((next : Run) (more : List Run) → later ≡ next ∷ more → true ≡ nat_le next.0 nr) → end_of run ≤ nr
+    past [] apart some behind = absurd (false≢true (sym (some refl)))
+    past (next ∷ more) apart some behind =
+        let begins : next.0 ≤ nr = leb-true next.0 nr (sym (behind next more refl)) in
+        let low = (apart_first (end_of run) next more apart).0 in
+        omega (arith, begins, low)
+
 name_by_first : (run : Run) (runs : List Run) (nr : ℕ) (name : List ℕ) → name_at run nr ≡ Some name → name_in (run ∷ runs) nr ≡ Some name
 name_by_first run runs nr name h = name_first run runs nr ∙ ap (λ found. option_or found (name_in runs nr)) h
 
@@ -177,15 +191,11 @@ number_is_low run wanted nr is =
     let less = (is_at run.1 wanted place there).0 in
     omega (arith, e, less))
 
-pub number_here_is_low : (runs : List Coded) (k : ℕ) (wanted : List ℕ) (d : Coded) (nr : ℕ) → k < length runs → IsTrue (are_apart 0 (map plain (drop k runs))) → Some nr ≡ number_at (plain (get_or runs k d)) wanted → nr < 2 ^ 30
-number_here_is_low runs k wanted d nr h apart is =
-    let low = (apart_next runs k d h apart).0 in
-    let within = number_is_low (plain (get_or runs k d)) wanted nr (sym is) in
+pub number_here_is_low : (all later : List Run) (run : Run) (wanted : List ℕ) (nr : ℕ) → all ≡ run ∷ later → IsTrue (are_apart 0 all) → Some nr ≡ number_at run wanted → nr < 2 ^ 30
+number_here_is_low all later run wanted nr first apart is =
+    let low = (apart_next all later run first apart).0 in
+    let within = number_is_low run wanted nr (sym is) in
     omega (arith, low, within)
-
--- the runs behind one that has not the name
-pub apart_later : (runs : List Coded) (k : ℕ) (wanted : List ℕ) (d : Coded) → k < length runs → IsTrue (are_apart 0 (map plain (drop k runs))) → None ≡ number_at (plain (get_or runs k d)) wanted → IsTrue (are_apart 0 (map plain (drop (k + 1) runs)))
-apart_later runs k wanted d h apart is = (apart_next runs k d h apart).1
 
 -- ---- a name without a number
 

@@ -1,29 +1,30 @@
 -- The names and numbers of the calls of Linux on each architecture, by its table of runs.
-use Rattle.std.specs.Prelude.{ℕ, ◌+◌, ◌-◌, ◌^◌, ◌&&◌, nat_lt, nat_le, Bool, if◌then◌else◌, List, [], ◌∷◌, length, map, flat_map, position, Option, None, slice_get}
-use Rattle.std.specs.List.{range_with_len}
+use Rattle.std.specs.Prelude.{ℕ, ◌+◌, ◌-◌, ◌^◌, ◌==◌, ◌&&◌, nat_lt, nat_le, Bool, if◌then◌else◌, List, [], ◌∷◌, length, map, flat_map, position, Option, None, slice_get}
+use Rattle.std.specs.List.{range_with_len, slice_split, zip}
 use Rattle.std.specs.Option.{option_map, option_or}
-use Rattle.std.specs.Borrow.{Bor}
 use Rattle.std.specs.Str.{bytes_eq}
 use Rattle.sk_call_names.specs.X86_64.{name_of, named_from, names_end, number_named}
 use Rattle.sk_call_names.specs.declared.architecture.Architecture.{Architecture}
 use Rattle.sk_call_names.specs.declared.architecture.Architecture.TheVariants as architecture
-use Rattle.sk_call_names.specs.declared.tables.aarch64.TheConstants.{AARCH64}
-use Rattle.sk_call_names.specs.declared.tables.arm.TheConstants.{ARM}
-use Rattle.sk_call_names.specs.declared.tables.i386.TheConstants.{I386}
-use Rattle.sk_call_names.specs.declared.tables.loongarch64.TheConstants.{LOONGARCH64}
-use Rattle.sk_call_names.specs.declared.tables.ppc64le.TheConstants.{PPC64LE}
-use Rattle.sk_call_names.specs.declared.tables.riscv64.TheConstants.{RISCV64}
-use Rattle.sk_call_names.specs.declared.tables.s390x.TheConstants.{S390X}
-use Rattle.sk_call_names.specs.declared.tables.x32.TheConstants.{X32}
+use Rattle.sk_call_names.specs.declared.runs.Run.{Run as CodeRun}
+use Rattle.sk_call_names.specs.declared.runs.Table.{Table}
+use Rattle.sk_call_names.specs.declared.tables.aarch64.TheConstants.{AARCH64_FIRSTS, AARCH64_NAMES}
+use Rattle.sk_call_names.specs.declared.tables.arm.TheConstants.{ARM_FIRSTS, ARM_NAMES}
+use Rattle.sk_call_names.specs.declared.tables.i386.TheConstants.{I386_FIRSTS, I386_NAMES}
+use Rattle.sk_call_names.specs.declared.tables.loongarch64.TheConstants.{LOONGARCH64_FIRSTS, LOONGARCH64_NAMES}
+use Rattle.sk_call_names.specs.declared.tables.ppc64le.TheConstants.{PPC64LE_FIRSTS, PPC64LE_NAMES}
+use Rattle.sk_call_names.specs.declared.tables.riscv64.TheConstants.{RISCV64_FIRSTS, RISCV64_NAMES}
+use Rattle.sk_call_names.specs.declared.tables.s390x.TheConstants.{S390X_FIRSTS, S390X_NAMES}
+use Rattle.sk_call_names.specs.declared.tables.x32.TheConstants.{X32_FIRSTS, X32_NAMES}
 
 -- ---- a run: its first number, and the names of that and of those behind it
 
 abbrev pub Run : Type 0
 Run = ℕ × List (List ℕ)
 
--- a run as the code has it
-abbrev pub plain : ℕ × Bor (List (Bor (List ℕ))) → Run
-plain run = (run.0, map (λ name. name.now) run.1.now)
+-- the names in a text, which stand with a space (32) between each two
+abbrev pub names_in : List ℕ → List (List ℕ)
+names_in text = slice_split (λ byte. byte == 32) text
 
 -- no number of the run is from here on
 abbrev pub end_of : Run → ℕ
@@ -61,21 +62,21 @@ are_apart from (run ∷ runs) = nat_le from run.0 && are_apart (end_of run) runs
 
 -- ---- an architecture
 
--- the runs of a table in src/tables
-abbrev pub table : List (ℕ × record { now : List record { now : List ℕ } }) → List Run
-table runs = map (λ run. (run.0, map (λ name. name.now) run.1.now)) runs
+-- the runs of a table in src/tables, by their first numbers and the texts of their names
+abbrev pub table : List ℕ → List (record { now : List ℕ }) → List Run
+table firsts texts = zip firsts (map (λ text. names_in text.now) texts)
 
 -- the runs of its numbers, but for x86-64, which has a table of its own
 unfoldable pub runs_of : Architecture → List Run
 runs_of architecture.X86_64 = []
-runs_of architecture.X32 = table X32.now
-runs_of architecture.I386 = table I386.now
-runs_of architecture.Aarch64 = table AARCH64.now
-runs_of architecture.Arm = table ARM.now
-runs_of architecture.Riscv64 = table RISCV64.now
-runs_of architecture.Ppc64le = table PPC64LE.now
-runs_of architecture.S390x = table S390X.now
-runs_of architecture.Loongarch64 = table LOONGARCH64.now
+runs_of architecture.X32 = table X32_FIRSTS.now X32_NAMES.now
+runs_of architecture.I386 = table I386_FIRSTS.now I386_NAMES.now
+runs_of architecture.Aarch64 = table AARCH64_FIRSTS.now AARCH64_NAMES.now
+runs_of architecture.Arm = table ARM_FIRSTS.now ARM_NAMES.now
+runs_of architecture.Riscv64 = table RISCV64_FIRSTS.now RISCV64_NAMES.now
+runs_of architecture.Ppc64le = table PPC64LE_FIRSTS.now PPC64LE_NAMES.now
+runs_of architecture.S390x = table S390X_FIRSTS.now S390X_NAMES.now
+runs_of architecture.Loongarch64 = table LOONGARCH64_FIRSTS.now LOONGARCH64_NAMES.now
 
 -- the name of a number; the numbers of x32 have bit 30, which its table leaves out
 unfoldable pub name_on : Architecture → ℕ → Option (List ℕ)
@@ -94,3 +95,11 @@ unfoldable pub numbers_on : Architecture → List ℕ
 numbers_on architecture.X86_64 = named_from names_end 0
 numbers_on architecture.X32 = numbers_in (2 ^ 30) (runs_of architecture.X32)
 numbers_on other = numbers_in 0 (runs_of other)
+
+-- ---- as the code has them
+
+abbrev pub run_of : CodeRun → Run
+run_of run = (run.first, names_in run.names.now)
+
+abbrev pub runs_in : Table → List Run
+runs_in table = zip table.firsts.now (map (λ text. names_in text.now) table.names.now)

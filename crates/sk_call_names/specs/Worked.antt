@@ -45,6 +45,7 @@ WorkedGeneric =
     (number_on architecture.Aarch64 (codes "execve") ≡ Some 221)
     × (number_on architecture.Riscv64 (codes "execve") ≡ Some 221)
     × (number_on architecture.Loongarch64 (codes "execve") ≡ Some 221)
+    × (number_on architecture.Aarch64 (codes "flock") ≡ Some 32)
     × (name_on architecture.Aarch64 38 ≡ Some (codes "renameat"))
     × (name_on architecture.Riscv64 38 ≡ None)
     × (name_on architecture.Riscv64 259 ≡ Some (codes "riscv_flush_icache"))
@@ -54,6 +55,8 @@ WorkedGeneric =
 abbrev pub WorkedOthers : Type 0
 WorkedOthers =
     (number_on architecture.Ppc64le (codes "execve") ≡ Some 11)
+    × (name_on architecture.Ppc64le 7 ≡ Some (codes "waitpid"))
+    × (name_on architecture.Ppc64le 448 ≡ Some (codes "process_mrelease"))
     × (number_on architecture.Ppc64le (codes "seccomp") ≡ Some 358)
     × (number_on architecture.S390x (codes "execve") ≡ Some 11)
     × (number_on architecture.S390x (codes "seccomp") ≡ Some 348)

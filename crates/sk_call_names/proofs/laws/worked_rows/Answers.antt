@@ -20,8 +20,8 @@ returns-clause-arm c = (refl, refl, refl)
 
 pub returns-clause-generic : goal.returns-clause-generic
 unfolding name_at number_at name_in number_in runs_of name_on number_on
-returns-clause-generic c = (refl, refl, refl, refl, refl, refl, refl, refl)
+returns-clause-generic c = (refl, refl, refl, refl, refl, refl, refl, refl, refl)
 
 pub returns-clause-others : goal.returns-clause-others
 unfolding name_at number_at name_in number_in runs_of name_on number_on
-returns-clause-others c = (refl, refl, refl, refl)
+returns-clause-others c = (refl, refl, refl, refl, refl, refl)

@@ -1,6 +1,12 @@
 use Rattle.std.proofs.Common.{sym, ◌∙◌}
-use Rattle.sk_call_names.proofs.Naming.{name_of_native, name_below_bit, name_with_bit, name_of_other}
+use Rattle.sk_call_names.proofs.Naming.{table_is_apart, name_of_native, name_below_bit, name_with_bit, name_of_other}
 use Rattle.sk_call_names.proofs.names.name.Goals as goal
+
+pub name_in-requires : goal.name_in-requires
+name_in-requires c = record { apart = table_is_apart _ c.args.architecture c.table_of.ensures.runs }
+
+pub name_in-requires-in_default : goal.name_in-requires-in_default
+name_in-requires-in_default c = record { apart = table_is_apart _ c.args.architecture c.table_of-in_default.ensures.runs }
 
 pub returns-in-X86_64 : goal.returns-in-X86_64
 returns-in-X86_64 c = record { name = c.name.ensures.name ∙ sym (name_of_native c.args.architecture c.args.number c.in-X86_64.is) }

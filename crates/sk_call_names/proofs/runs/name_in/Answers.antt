@@ -1,19 +1,25 @@
-use Rattle.std.proofs.Common.{map, sym, ap, ◌∙◌}
-use Rattle.std.proofs.Math.ListN.{drop_of_length-le}
-use Rattle.sk_call_names.specs.Names.{plain, name_in}
-use Rattle.sk_call_names.proofs.Lookups.{name_here, name_later, no_name}
+use Rattle.std.proofs.Common.{sym, ap, ◌∙◌}
+use Rattle.sk_call_names.specs.Names.{run_of, runs_in, name_in}
+use Rattle.sk_call_names.proofs.Lookups.{apart_next, name_here, name_later, no_name}
 use Rattle.sk_call_names.proofs.runs.name_in.Goals as goal
 
-pub returns-in-Some : goal.returns-in-Some
-returns-in-Some c =
-    let here = name_here c.args.runs.now c.loop-run.run-index c.args.nr _ _ c.loop-run-test.true c.in-Some.ensures.name in
-    record { name = sym (c.loop-run.invariant ∙ here) }
+pub returns-then-not-begins_by : goal.returns-then-not-begins_by
+returns-then-not-begins_by c =
+    let here =
+    name_here (runs_in c.loop-run.rest) (runs_in c.in-Some.later) (run_of c.in-Some.run') c.args.nr c.in-Some.ensures.some
+    c.loop-run.invariant.apart c.if-not-begins_by.ensures.first
+    in
+    record { name = c.name_at.ensures.name ∙ sym (c.loop-run.invariant.same ∙ here) }
 
 pub loop-run-preserved : goal.loop-run-preserved
-loop-run-preserved c =
-    c.loop-run.invariant ∙ name_later c.args.runs.now c.loop-run.run-index c.args.nr _ c.loop-run-test.true c.in_default.ensures.name
+loop-run-preserved c = record {
+  same = c.loop-run.invariant.same
+      ∙ name_later (runs_in c.loop-run.rest) (runs_in c.in-Some.later) (run_of c.in-Some.run') c.args.nr c.in-Some.ensures.some
+      c.loop-run.invariant.apart c.if-not-begins_by.ensures.empty c.if-not-begins_by.ensures.first;
+  apart = (apart_next (runs_in c.loop-run.rest) (runs_in c.in-Some.later) (run_of c.in-Some.run') c.in-Some.ensures.some c.loop-run.invariant.apart).1;
+}
 
 pub returns : goal.returns
-returns c =
-    let rest = drop_of_length-le c.args.runs.now c.loop-run-test.false in
-    record { name = sym (c.loop-run.invariant ∙ ap (λ runs. name_in (map plain runs) c.args.nr) rest ∙ no_name c.args.nr) }
+returns c = record {
+  name = sym (c.loop-run.invariant.same ∙ ap (λ runs. name_in runs c.args.nr) c.in_default.ensures.none ∙ no_name c.args.nr);
+}

@@ -1,6 +1,13 @@
-use Rattle.std.proofs.Common.{◌≡◌, map, drop}
-use Rattle.sk_call_names.specs.Names.{plain, name_in}
+use Rattle.std.proofs.Common.{◌≡◌, length}
+use Rattle.std.specs.Prelude.{IsTrue}
+use Rattle.sk_call_names.specs.Names.{runs_in, name_in, are_apart}
 use Rattle.sk_call_names.proofs.runs.name_in.Given as goal
 
 abbrev pub invariant-loop-run : goal.invariant-loop-run
-invariant-loop-run l = name_in (map plain l.runs) l.nr ≡ name_in (map plain (drop l.run-index l.runs)) l.nr
+invariant-loop-run l = record {
+  same : name_in (runs_in l.table) l.nr ≡ name_in (runs_in l.rest) l.nr;
+  apart : IsTrue (are_apart 0 (runs_in l.rest));
+}
+
+abbrev pub decreases-loop-run : goal.decreases-loop-run
+decreases-loop-run l = length (runs_in l.rest)

@@ -1,10 +1,13 @@
-use Rattle.std.proofs.Common.{◌≡◌, ◌++◌, map, drop}
+use Rattle.std.proofs.Common.{◌≡◌, ◌++◌, length}
 use Rattle.std.specs.Prelude.{IsTrue}
-use Rattle.sk_call_names.specs.Names.{plain, numbers_in, are_apart}
+use Rattle.sk_call_names.specs.Names.{runs_in, numbers_in, are_apart}
 use Rattle.sk_call_names.proofs.runs.numbers_in.Given as goal
 
 abbrev pub invariant-loop-run : goal.invariant-loop-run
 invariant-loop-run l = record {
-  so_far : l.numbers.items ++ numbers_in l.base (map plain (drop l.run-index l.runs)) ≡ numbers_in l.base (map plain l.runs);
-  apart : IsTrue (are_apart 0 (map plain (drop l.run-index l.runs)));
+  so_far : l.numbers.items ++ numbers_in l.base (runs_in l.rest) ≡ numbers_in l.base (runs_in l.table);
+  apart : IsTrue (are_apart 0 (runs_in l.rest));
 }
+
+abbrev pub decreases-loop-run : goal.decreases-loop-run
+decreases-loop-run l = length (runs_in l.rest)
