@@ -108,6 +108,7 @@ COMPARED = [
     Row("mkdir $room/asm; { printf '#define __NR_%s\\n' 'read 3' 'write 4' 'execve 12'; for it in $(seq 1000 1300); do echo \"#define __NR_call$it $it\"; "
         "done; } > $room/asm/unistd.h; tools/call_names --arch i386 --check $room | grep '^1[12]:'", 1, "",
         r"11: no call in the headers, execve in the table of i386\n12: execve in the headers, chdir in the table of i386\n"),
+    Row("tools/check_call_names.py $room", 1, "", r"check_call_names.py: \S+: linux/version.h can't be read: [\s\S]*\n0 passed, 1 failed\n"),
     Row("tools/call_names --audit $room", 2, r"call_names: \S+: linux/audit.h can't be read: [\s\S]*", ""),
     Row("tools/other_architectures.py $room/none", 2, r"other_architectures.py: .*\n", ""),
 ]
