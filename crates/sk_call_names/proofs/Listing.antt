@@ -2,7 +2,8 @@
 use Rattle.std.proofs.Common.{◌≡◌, ℕ, zero, suc, ◌+◌, ◌-◌, ◌^◌, ◌<◌, ◌≤◌, List, [], ◌∷◌, ◌++◌, arith, ap, sym, ◌∙◌, append_assoc}
 use Rattle.std.specs.Prelude.{IsTrue}
 use Rattle.std.specs.List.{range_with_len}
-use Rattle.sk_call_names.specs.Names.{Run, end_of, are_apart, numbers_at, numbers_in}
+use Rattle.sk_call_names.specs.Names.{Run}
+use Rattle.sk_call_names.specs.Numbers.{end_of, are_apart, numbers_at, numbers_in}
 use Rattle.sk_call_names.proofs.Lookups.{apart_next}
 
 -- the first of so many

@@ -8,7 +8,8 @@ use Rattle.std.proofs.Math.Dec.{leb-zero}
 use Rattle.std.proofs.lemmas.Bool.{cases_lt, lt-ltb, le-ltb, le-leb, leb-true, leb-false, false≢true}
 use Rattle.std.proofs.lemmas.Option.{slice_get_past}
 use Rattle.sk_call_names.proofs.Places.{at, is_at, nowhere}
-use Rattle.sk_call_names.specs.Names.{Run, end_of, name_at, name_in, number_at, number_in, are_apart}
+use Rattle.sk_call_names.specs.Names.{Run, name_at, name_in, number_at, number_in}
+use Rattle.sk_call_names.specs.Numbers.{end_of, are_apart}
 
 -- ---- a run
 

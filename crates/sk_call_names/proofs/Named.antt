@@ -9,7 +9,8 @@ use Rattle.sk_call_names.specs.declared.x86_64.names.TheConstants.{LATE}
 use Rattle.sk_call_names.specs.X86_64.{name_of, named_from, names_end}
 use Rattle.sk_call_names.specs.declared.architecture.Architecture.{Architecture}
 use Rattle.sk_call_names.specs.declared.architecture.Architecture.TheVariants as architecture
-use Rattle.sk_call_names.specs.Names.{Run, end_of, name_at, name_in, name_on, numbers_at, numbers_in, numbers_on, runs_of}
+use Rattle.sk_call_names.specs.Names.{Run, name_at, name_in, name_on, runs_of}
+use Rattle.sk_call_names.specs.Numbers.{end_of, numbers_at, numbers_in, numbers_on}
 
 -- ---- x86-64
 

@@ -6,7 +6,8 @@ use Rattle.std.proofs.lemmas.Bool.{cases_lt, lt-ltb, le-ltb}
 use Rattle.sk_call_names.specs.X86_64.{name_of, named_from, names_end, number_named}
 use Rattle.sk_call_names.specs.declared.architecture.Architecture.{Architecture}
 use Rattle.sk_call_names.specs.declared.architecture.Architecture.TheVariants as architecture
-use Rattle.sk_call_names.specs.Names.{Run, are_apart, name_in, number_in, numbers_in, runs_of, name_on, number_on, numbers_on}
+use Rattle.sk_call_names.specs.Names.{Run, name_in, number_in, runs_of, name_on, number_on}
+use Rattle.sk_call_names.specs.Numbers.{are_apart, numbers_in, numbers_on}
 use Rattle.sk_call_names.proofs.Lookups.{none≢some}
 
 apart_of : (a : Architecture) → IsTrue (are_apart 0 (runs_of a))

@@ -1,13 +1,11 @@
 -- The names and numbers of the calls of Linux on each architecture, by its table of runs.
-use Rattle.std.specs.Prelude.{ℕ, ◌+◌, ◌-◌, ◌^◌, ◌==◌, ◌&&◌, nat_lt, nat_le, Bool, if◌then◌else◌, List, [], ◌∷◌, length, map, flat_map, position, Option, None, slice_get}
-use Rattle.std.specs.List.{range_with_len, slice_split, zip}
+use Rattle.std.specs.Prelude.{ℕ, ◌+◌, ◌-◌, ◌^◌, ◌==◌, nat_lt, if◌then◌else◌, List, [], ◌∷◌, map, position, Option, None, slice_get}
+use Rattle.std.specs.List.{slice_split, zip}
 use Rattle.std.specs.Option.{option_map, option_or}
 use Rattle.std.specs.Str.{bytes_eq}
-use Rattle.sk_call_names.specs.X86_64.{name_of, named_from, names_end, number_named}
+use Rattle.sk_call_names.specs.X86_64.{name_of, number_named}
 use Rattle.sk_call_names.specs.declared.architecture.Architecture.{Architecture}
 use Rattle.sk_call_names.specs.declared.architecture.Architecture.TheVariants as architecture
-use Rattle.sk_call_names.specs.declared.runs.Run.{Run as CodeRun}
-use Rattle.sk_call_names.specs.declared.runs.Table.{Table}
 use Rattle.sk_call_names.specs.declared.tables.aarch64.TheConstants.{AARCH64_FIRSTS, AARCH64_NAMES}
 use Rattle.sk_call_names.specs.declared.tables.arm.TheConstants.{ARM_FIRSTS, ARM_NAMES}
 use Rattle.sk_call_names.specs.declared.tables.i386.TheConstants.{I386_FIRSTS, I386_NAMES}
@@ -26,10 +24,6 @@ Run = ℕ × List (List ℕ)
 abbrev pub names_in : List ℕ → List (List ℕ)
 names_in text = slice_split (λ byte. byte == 32) text
 
--- no number of the run is from here on
-abbrev pub end_of : Run → ℕ
-end_of run = run.0 + length run.1
-
 unfoldable pub name_at : Run → ℕ → Option (List ℕ)
 name_at run nr = if nat_lt nr run.0 then None else slice_get run.1 (nr - run.0)
 
@@ -47,18 +41,6 @@ name_in (run ∷ runs) nr = option_or (name_at run nr) (name_in runs nr)
 unfoldable pub number_in : List Run → List ℕ → Option ℕ
 number_in [] wanted = None
 number_in (run ∷ runs) wanted = option_or (number_at run wanted) (number_in runs wanted)
-
--- the numbers of a run, each behind a base
-abbrev pub numbers_at : ℕ → Run → List ℕ
-numbers_at base run = range_with_len (base + run.0) (length run.1)
-
-abbrev pub numbers_in : ℕ → List Run → List ℕ
-numbers_in base runs = flat_map (numbers_at base) runs
-
--- each run begins where the one before it has ended, or later, and the last has ended where bit 30 begins
-abbrev pub are_apart : ℕ → List Run → Bool
-are_apart from [] = nat_le from (2 ^ 30)
-are_apart from (run ∷ runs) = nat_le from run.0 && are_apart (end_of run) runs
 
 -- ---- an architecture
 
@@ -89,17 +71,3 @@ unfoldable pub number_on : Architecture → List ℕ → Option ℕ
 number_on architecture.X86_64 wanted = number_named wanted
 number_on architecture.X32 wanted = option_map (λ nr. 2 ^ 30 + nr) (number_in (runs_of architecture.X32) wanted)
 number_on other wanted = number_in (runs_of other) wanted
-
--- all numbers that have a name, in rising order
-unfoldable pub numbers_on : Architecture → List ℕ
-numbers_on architecture.X86_64 = named_from names_end 0
-numbers_on architecture.X32 = numbers_in (2 ^ 30) (runs_of architecture.X32)
-numbers_on other = numbers_in 0 (runs_of other)
-
--- ---- as the code has them
-
-abbrev pub run_of : CodeRun → Run
-run_of run = (run.first, names_in run.names.now)
-
-abbrev pub runs_in : Table → List Run
-runs_in table = zip table.firsts.now (map (λ text. names_in text.now) table.names.now)

@@ -2,7 +2,8 @@
 ghost use Rattle.std.specs.Prelude.{◌≡◌, ◌≢◌, ℕ, is_some, IfNone, IfOk, IfSome, IsTrue};
 ghost use Rattle.std.specs.List.{Contains};
 ghost use Rattle.std.specs.Option.{option_map};
-ghost use Rattle.sk_call_names.specs.Names.{name_on, number_on, numbers_on};
+ghost use Rattle.sk_call_names.specs.Names.{name_on, number_on};
+ghost use Rattle.sk_call_names.specs.Numbers.{numbers_on};
 
 use crate::architecture::Architecture;
 use crate::runs::{name_in, number_in, numbers_in};

@@ -2,7 +2,8 @@
 ghost use Rattle.std.specs.Prelude.{◌≡◌, ◌≢◌, ℕ, ◌+◌, ◌^◌, ◌<◌, ◌≤◌, ◌++◌, [], ◌∷◌, List, false, nat_le, length, position, slice_get, IfNone, IfOk, IfSome, IsTrue, OnOk};
 ghost use Rattle.std.specs.Option.{option_map};
 ghost use Rattle.std.specs.Str.{bytes_eq};
-ghost use Rattle.sk_call_names.specs.Names.{run_of, runs_in, end_of, name_at, name_in, names_in, number_at, number_in, numbers_at, numbers_in, are_apart};
+ghost use Rattle.sk_call_names.specs.Names.{name_at, name_in, names_in, number_at, number_in};
+ghost use Rattle.sk_call_names.specs.Numbers.{run_of, runs_in, end_of, numbers_at, numbers_in, are_apart};
 
 use std::alloc::{AllocError, Global};
 

@@ -1,6 +1,7 @@
 //! The table of each architecture.
 ghost use Rattle.std.specs.Prelude.{◌≡◌};
-ghost use Rattle.sk_call_names.specs.Names.{runs_in, runs_of};
+ghost use Rattle.sk_call_names.specs.Names.{runs_of};
+ghost use Rattle.sk_call_names.specs.Numbers.{runs_in};
 
 mod aarch64;
 mod arm;

@@ -2,7 +2,8 @@ use Rattle.std.proofs.Common.{◌≡◌, ℕ, List, is_some, IsTrue, rules, sym,
 use Rattle.std.specs.List.{Contains}
 use Rattle.std.proofs.lemmas.Result.{IfOk-weaker}
 use Rattle.sk_call_names.specs.declared.architecture.Architecture.{Architecture}
-use Rattle.sk_call_names.specs.Names.{name_on, numbers_on}
+use Rattle.sk_call_names.specs.Names.{name_on}
+use Rattle.sk_call_names.specs.Numbers.{numbers_on}
 use Rattle.sk_call_names.proofs.Named.{each_is_there}
 use Rattle.sk_call_names.proofs.Naming.{table_is_apart, numbers_of_native, numbers_with_bit, numbers_of_other}
 use Rattle.sk_call_names.proofs.names.numbers.Goals as goal

@@ -1,5 +1,6 @@
 use Rattle.std.proofs.Common.{sym, ap, ◌∙◌}
-use Rattle.sk_call_names.specs.Names.{run_of, runs_in, name_in}
+use Rattle.sk_call_names.specs.Names.{name_in}
+use Rattle.sk_call_names.specs.Numbers.{run_of, runs_in}
 use Rattle.sk_call_names.proofs.Lookups.{apart_next, name_here, name_later, no_name}
 use Rattle.sk_call_names.proofs.runs.name_in.Goals as goal
 

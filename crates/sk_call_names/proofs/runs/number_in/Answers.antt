@@ -1,5 +1,6 @@
 use Rattle.std.proofs.Common.{sym, ap, ◌∙◌}
-use Rattle.sk_call_names.specs.Names.{run_of, runs_in, number_in}
+use Rattle.sk_call_names.specs.Names.{number_in}
+use Rattle.sk_call_names.specs.Numbers.{run_of, runs_in}
 use Rattle.sk_call_names.proofs.Lookups.{number_here, number_later, no_number, apart_next, number_here_is_low, number_is_named, none_is_named}
 use Rattle.sk_call_names.proofs.runs.number_in.Goals as goal
 

@@ -1,6 +1,7 @@
 use Rattle.std.proofs.Common.{◌≡◌, length}
 use Rattle.std.specs.Prelude.{IsTrue}
-use Rattle.sk_call_names.specs.Names.{runs_in, number_in, are_apart}
+use Rattle.sk_call_names.specs.Names.{number_in}
+use Rattle.sk_call_names.specs.Numbers.{runs_in, are_apart}
 use Rattle.sk_call_names.proofs.runs.number_in.Given as goal
 
 abbrev pub invariant-loop-run : goal.invariant-loop-run

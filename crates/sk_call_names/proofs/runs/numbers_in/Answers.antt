@@ -1,4 +1,4 @@
-use Rattle.sk_call_names.specs.Names.{run_of, runs_in}
+use Rattle.sk_call_names.specs.Numbers.{run_of, runs_in}
 use Rattle.sk_call_names.proofs.Listing.{one_run, run_fits}
 use Rattle.sk_call_names.proofs.Lookups.{apart_next}
 use Rattle.sk_call_names.proofs.runs.numbers_in.Goals as goal

@@ -1,6 +1,6 @@
 use Rattle.std.proofs.Common.{◌≡◌, ◌++◌, length}
 use Rattle.std.specs.Prelude.{IsTrue}
-use Rattle.sk_call_names.specs.Names.{runs_in, numbers_in, are_apart}
+use Rattle.sk_call_names.specs.Numbers.{runs_in, numbers_in, are_apart}
 use Rattle.sk_call_names.proofs.runs.numbers_in.Given as goal
 
 abbrev pub invariant-loop-run : goal.invariant-loop-run
