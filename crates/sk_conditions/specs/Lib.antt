@@ -8,4 +8,5 @@ pub mod Pairs
 pub mod WorkedComparisons
 pub mod WorkedChains
 pub mod WorkedPaths
+pub mod WorkedFollowed
 pub mod Followed

@@ -1,9 +1,11 @@
 -- What is said of all pieces holds of every call.
-use Rattle.std.proofs.Common.{ℕ, ◌≡◌, ◌+◌, ◌≤◌, ◌<◌, true, false, Bool, ◌||◌, ◌⊎◌, if◌then◌else◌, inl, inr, List, [], ◌∷◌, Option, Some, None, refl, sym, ap, ◌∙◌, arith}
+use Rattle.std.proofs.lemmas.Int.{ints}
+use Rattle.std.proofs.Common.{ℕ, ◌≡◌, ◌+◌, ◌≤◌, ◌<◌, true, false, Bool, ◌||◌, ◌⊎◌, if◌then◌else◌, inl, inr, List, [], ◌∷◌, Option, Some, None, refl, sym, ap, subst, ◌∙◌, arith}
+use Rattle.std.specs.Prelude.{ℤ, int_le}
 use Rattle.std.specs.List.{All, list_any}
 use Rattle.std.specs.Option.{option_map_or}
-use Rattle.std.proofs.lemmas.Bool.{cases_lt, true≢false}
-use Rattle.std.proofs.lemmas.List.Elements.{All-head, All-tail}
+use Rattle.std.proofs.lemmas.Bool.{cases_lt, eq-eqb, true≢false}
+use Rattle.std.proofs.lemmas.List.Elements.{All-nil, All-head, All-tail}
 use Rattle.sk_insn.specs.declared.insn.Insn.{Insn}
 use Rattle.sk_insn.specs.declared.record.Record.{Record}
 use Rattle.sk_insn.specs.Record.{IsNative}
@@ -11,13 +13,15 @@ use Rattle.sk_survey.specs.Answers.{IsCallOf}
 use Rattle.sk_conditions.specs.declared.differences.Verdicts.{Verdicts}
 use Rattle.sk_conditions.specs.declared.numbers.Numbers.{Numbers}
 use Rattle.sk_conditions.specs.declared.standing.Relation.{Relation}
+use Rattle.sk_conditions.specs.declared.standing.Relation.TheVariants.{Same, AsStrict}
+use Rattle.sk_filter.specs.Verdict.{precedence_of, verdict_of}
 use Rattle.sk_when.specs.declared.diff_engine.Finding.TheVariants as finding
 use Rattle.sk_when.specs.declared.piece.Calls.{Calls}
 use Rattle.sk_when.specs.declared.piece.Part.{Part}
 use Rattle.sk_when.specs.declared.piece.Piece.{Piece}
 use Rattle.sk_when.specs.Diffs.{HoldsOnEveryCall, FailsOnACall, FollowedIsDecided}
-use Rattle.sk_conditions.specs.Comparing.{stands_on}
-use Rattle.sk_when.specs.Pieces.{AreCompared, Cover, HoldsOf, IsShown, ShowsWhereItMayFail, is_apart, may_fail, shows_call, has_parts}
+use Rattle.sk_conditions.specs.Comparing.{relates, stands_on}
+use Rattle.sk_when.specs.Pieces.{AreCompared, Cover, Holds, HoldsOf, IsShown, ShowsWhereItMayFail, finding_of, is_apart, may_fail, shows_call, has_parts}
 
 neither : (a b : Bool) → (a || b) ≡ false → (a ≡ false) × (b ≡ false)
 neither true b e = cc
@@ -121,3 +125,39 @@ pub followed_is_decided : FollowedIsDecided
 followed_is_decided architecture relation old new text follows follows' it =
     let split = false_true (list_any is_apart it.pieces) (list_any may_fail it.pieces) it.stands in
     absurd (true≢false (sym (some_shown it.pieces (it.decided follows follows' refl) split.1) ∙ split.0))
+
+-- a verdict beside itself
+at_most_itself : (a : ℤ) → int_le a a ≡ true
+at_most_itself a = grind (arith, ints)
+
+relates_itself : (relation : Relation) (value : ℕ) → relates relation value value ≡ true
+relates_itself Same value = eq-eqb value value refl
+relates_itself AsStrict value = at_most_itself (precedence_of value)
+
+stands_beside_itself : (relation : Relation) (programs : List (List Insn)) (call : Record) → stands_on relation programs programs call ≡ true
+stands_beside_itself relation programs call = relates_itself relation (verdict_of programs call)
+
+pub nothing_apart : (relation : Relation) (programs : List (List Insn)) (piece : Piece) → piece.parts.items ≡ [] → Holds relation programs programs piece
+nothing_apart relation programs piece none =
+    subst (λ (parts : List Part). All (HoldsOf relation programs programs piece.numbers) parts × Cover relation programs programs piece.numbers parts) (sym none) (
+      All-nil (HoldsOf relation programs programs piece.numbers),
+      λ call within differs. absurd (true≢false (sym (stands_beside_itself relation programs call) ∙ differs)),
+    )
+
+-- of the same filters no call is shown, and so there is nothing open
+finding_of_none : (a b : Bool) → a ≡ false → b ≡ false → (if a then finding.Fails else if b then finding.Undecided else finding.Holds) ≡ finding.Holds
+finding_of_none true b none still = absurd (true≢false none)
+finding_of_none false true none still = absurd (true≢false still)
+finding_of_none false false none still = refl
+
+pub same_holds : (relation : Relation) (programs : List (List Insn)) (pieces : List Piece) → AreCompared relation programs programs 0 4294967296 pieces
+    → All ShowsWhereItMayFail pieces → finding_of pieces ≡ finding.Holds
+same_holds relation programs pieces compared shows = finding_of_none (list_any is_apart pieces) (list_any may_fail pieces) (none (list_any is_apart pieces) refl) (never (list_any may_fail pieces) refl) where
+  none : (b : Bool) → list_any is_apart pieces ≡ b → list_any is_apart pieces ≡ false
+  none false is = is
+  none true is = let call = finds relation programs programs pieces 0 4294967296 compared is in
+      absurd (true≢false (sym (stands_beside_itself relation programs call.0) ∙ call.3))
+
+  never : (b : Bool) → list_any may_fail pieces ≡ b → list_any may_fail pieces ≡ false
+  never false is = is
+  never true is = absurd (true≢false (sym (some_shown pieces shows is) ∙ none (list_any is_apart pieces) refl))

@@ -6,3 +6,5 @@ pub mod Joined
 pub mod Alone
 pub mod PartsTold
 pub mod WorkedDiffs
+pub mod SameInsns
+pub mod WorkedTexts

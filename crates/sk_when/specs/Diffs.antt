@@ -21,7 +21,8 @@ text_of architecture relation Fails pieces = differences_text architecture piece
 text_of architecture relation Undecided pieces = differences_text architecture pieces
 
 -- pieces of all numbers were compared, those with a name on the architecture each alone, and this is what is said of them;
--- where the filters are followed, and the steps of no piece were spent, nothing is left undecided
+-- where the filters are followed, and the steps of no piece were spent, nothing is left undecided; and of the same filters it is
+-- said that the relation holds, whatever they do
 pub record IsComparison (architecture : Architecture) (relation : Relation) (old new : List (List Insn)) (is_spent : Bool) (finding : Finding)
     (text : List ℕ) : Type 0 where
   pub pieces : List Piece
@@ -29,6 +30,7 @@ pub record IsComparison (architecture : Architecture) (relation : Relation) (old
   pub alone : All (NamedAreAloneIn architecture) pieces
   pub decided : All AreFollowed old → All AreFollowed new → is_spent ≡ false → All ShowsWhereItMayFail pieces
   pub stands : finding ≡ finding_of pieces
+  pub same : old ≡ new → finding ≡ Holds
   pub says : text ≡ text_of architecture relation finding pieces
 
 -- where it is said that the relation holds, it does on every call of x86-64

@@ -7,3 +7,4 @@ pub mod Diffs
 pub mod DiffText
 pub mod Pieces
 pub mod WorkedDiffs
+pub mod WorkedTexts

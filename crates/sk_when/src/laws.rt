@@ -2,6 +2,7 @@
 ghost use Rattle.sk_when.specs.WorkedRows.{RowsWork};
 ghost use Rattle.sk_when.specs.Diffs.{HoldsOnEveryCall, FailsOnACall, FollowedIsDecided};
 ghost use Rattle.sk_when.specs.WorkedDiffs.{CallsWork, DifferencesWork, PartsWork};
+ghost use Rattle.sk_when.specs.WorkedTexts.{ColoursWork, OrderWorks, FindingsWork};
 
 /// What is told of a filter that compares a word again, and that has a path which no call takes.
 pub fn worked_rows()
@@ -28,4 +29,11 @@ pub fn worked_differences()
     ensures calls { CallsWork }
     ensures differences { DifferencesWork }
     ensures parts { PartsWork }
+{}
+
+/// What is drawn and written, and what is found of several pieces, worked out by hand.
+pub fn worked_texts()
+    ensures colours { ColoursWork }
+    ensures order { OrderWorks }
+    ensures findings { FindingsWork }
 {}

@@ -10,6 +10,7 @@ mod picture;
 mod piece;
 mod pieces;
 mod row;
+mod same_filters;
 mod showing;
 mod when_engine;
 mod when_text;

@@ -11,6 +11,7 @@ ghost use Rattle.sk_when.specs.Pieces.{AreCompared, Holds, ArePartsOfOne, IsName
 
 use crate::parts::piece_of;
 use crate::piece::{Calls, Part, Piece};
+use crate::same_filters::have_same_filters;
 use sk_call_names::{Architecture, name, numbers};
 use sk_conditions::{Budgets, Comparing, Numbers, Relation};
 use sk_filter::Chain;
@@ -30,7 +31,9 @@ pub fn pieces(
     ensures alone { IfOk result (λ pieces. All (NamedAreAloneIn architecture) pieces.items) }
     ensures decided { IfOk result (λ pieces. All AreFollowed old.now → All AreFollowed new.now → budgets.new.is_spent ≡ false
         → All ShowsWhereItMayFail pieces.items) }
+    ensures same { IfOk result (λ pieces. old.now ≡ new.now → All ShowsWhereItMayFail pieces.items) }
 {
+    let are_same = have_same_filters(old, new);
     let beginnings = beginnings(alloc, architecture, old, new)?;
     let last = u32::MAX;
     let all = Comparing {
@@ -40,12 +43,20 @@ pub fn pieces(
         numbers: Numbers { first: 0, last },
     };
     let mut pieces = Vec::new(alloc);
-    let first = push_pieces(alloc, &mut pieces, architecture, all, &beginnings, budgets)?;
+    let first = push_pieces(
+        alloc,
+        &mut pieces,
+        architecture,
+        all,
+        are_same,
+        &beginnings,
+        budgets,
+    )?;
     let behind = Comparing {
         numbers: Numbers { first, last },
         ..all
     };
-    push_piece(alloc, &mut pieces, architecture, behind, budgets)?;
+    push_piece(alloc, &mut pieces, architecture, behind, are_same, budgets)?;
     Ok(pieces)
 }
 
@@ -55,9 +66,11 @@ fn push_pieces(
     pieces: &mut Vec<Piece>,
     architecture: Architecture,
     chains: Comparing<'_>,
+    are_same: bool,
     beginnings: &[u32],
     budgets: &mut Budgets,
 ) -> Result<u32, AllocError>
+    requires same { IsTrue are_same → chains.old.now ≡ chains.new.now }
     requires none { pieces.old.items ≡ [] }
     requires rising { IsNonDecreasing beginnings.now }
     requires round { (nr : ℕ) → IsTrue (is_some (name_on architecture nr)) → IsCutRound beginnings.now nr }
@@ -65,6 +78,7 @@ fn push_pieces(
     ensures alone { IfOk result (λ first. All (NamedAreAloneIn architecture) pieces.new.items) }
     ensures decided { IfOk result (λ first. All AreFollowed chains.entry.old.now → All AreFollowed chains.entry.new.now → budgets.new.is_spent ≡ false
         → All ShowsWhereItMayFail pieces.new.items) }
+    ensures same { IfOk result (λ first. IsTrue are_same → All ShowsWhereItMayFail pieces.new.items) }
     ensures passed { IfOk result (λ first. All (λ beginning. beginning ≤ first) beginnings.now) }
 {
     let mut first = 0u32;
@@ -75,7 +89,7 @@ fn push_pieces(
                 numbers: Numbers { first, last },
                 ..chains
             };
-            push_piece(alloc, pieces, architecture, next, budgets)?;
+            push_piece(alloc, pieces, architecture, next, are_same, budgets)?;
             first = *beginning;
         }
     }
@@ -88,9 +102,11 @@ fn push_piece(
     pieces: &mut Vec<Piece>,
     architecture: Architecture,
     chains: Comparing<'_>,
+    are_same: bool,
     budgets: &mut Budgets,
 ) -> Result<(), AllocError>
     requires range { chains.numbers.first ≤ chains.numbers.last }
+    requires same { IsTrue are_same → chains.old.now ≡ chains.new.now }
     ensures compared { OnOk result ((from : ℕ)
         → AreCompared chains.entry.relation chains.entry.old.now chains.entry.new.now from chains.entry.numbers.first pieces.old.items
         → AreCompared chains.entry.relation chains.entry.old.now chains.entry.new.now from (chains.entry.numbers.last + 1) pieces.new.items) }
@@ -101,11 +117,47 @@ fn push_piece(
     ensures decided { OnOk result (All AreFollowed chains.entry.old.now → All AreFollowed chains.entry.new.now
         → (budgets.old.is_spent ≡ false → All ShowsWhereItMayFail pieces.old.items) → budgets.new.is_spent ≡ false
         → All ShowsWhereItMayFail pieces.new.items) }
+    ensures same { OnOk result (IsTrue are_same → All ShowsWhereItMayFail pieces.old.items → All ShowsWhereItMayFail pieces.new.items) }
 {
+    let piece = next_piece(alloc, chains, are_same, budgets)?;
+    push(pieces, architecture, piece)
+}
+
+// The piece of some numbers. Of a chain beside itself nothing has to be followed.
+fn next_piece(
+    alloc: Global,
+    chains: Comparing<'_>,
+    are_same: bool,
+    budgets: &mut Budgets,
+) -> Result<Piece, AllocError>
+    requires range { chains.numbers.first ≤ chains.numbers.last }
+    requires same { IsTrue are_same → chains.old.now ≡ chains.new.now }
+    ensures numbers { IfOk result (λ piece. piece.numbers ≡ chains.entry.numbers) }
+    ensures holds { IfOk result (Holds chains.entry.relation chains.entry.old.now chains.entry.new.now) }
+    ensures decided { IfOk result (λ piece. All AreFollowed chains.entry.old.now → All AreFollowed chains.entry.new.now
+        → budgets.new.is_spent ≡ false → ShowsWhereItMayFail piece) }
+    ensures same { IfOk result (λ piece. IsTrue are_same → ShowsWhereItMayFail piece) }
+    ensures spent { budgets.new.is_spent ≡ false → budgets.old.is_spent ≡ false }
+{
+    if are_same {
+        return Ok(without_parts(alloc, chains.numbers));
+    }
     let mut row = budgets.row();
     let piece = piece_of(alloc, chains, &mut row)?;
     budgets.put_back(row);
-    push(pieces, architecture, piece)
+    Ok(piece)
+}
+
+// What is said of some numbers where both chains have the same filters.
+fn without_parts(alloc: Global, numbers: Numbers) -> Piece
+    ensures numbers { result.numbers ≡ numbers }
+    ensures holds { (relation : Relation) (programs : List (List Insn)) → Holds relation programs programs result }
+    ensures shows { ShowsWhereItMayFail result }
+{
+    Piece {
+        numbers,
+        parts: Vec::new(alloc),
+    }
 }
 
 // Adds a piece behind the others, or to the last one where both say one thing.

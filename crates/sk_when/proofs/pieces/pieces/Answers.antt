@@ -10,3 +10,8 @@ returns-clause-alone c =
     c.in_ok-push_piece.ensures.alone 0 before.compared before.alone
     (named_behind c.args.architecture c.in_ok-beginnings.beginnings.items (record { first = c.in_ok-first.first; last = 4294967295 })
     c.in_ok-beginnings.ensures.round passed (omega arith))
+
+pub returns-clause-same : goal.returns-clause-same
+returns-clause-same c = λ same.
+    let is = c.have_same_filters-are_same.ensures.same.1 same in
+    c.in_ok-push_piece.ensures.same is (c.in_ok-first.ensures.same is)

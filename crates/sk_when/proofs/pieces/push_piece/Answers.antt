@@ -1,8 +1,7 @@
-use Rattle.std.proofs.Common.{sym, subst, ◌∙◌}
+use Rattle.std.proofs.Common.{sym, subst}
 use Rattle.std.proofs.lemmas.Result.{on_ok_weaker}
 use Rattle.sk_conditions.specs.declared.numbers.Numbers.{Numbers}
 use Rattle.sk_when.specs.Pieces.{AreCompared, NamedAreAlone}
-use Rattle.sk_when.proofs.Alone.{not_spent}
 use Rattle.sk_when.proofs.pieces.push_piece.Goals as goal
 
 pub returns-clause-alone : goal.returns-clause-alone
@@ -17,5 +16,8 @@ returns-clause-alone c =
 pub returns-clause-decided : goal.returns-clause-decided
 returns-clause-decided c =
     on_ok_weaker c.push.result (λ pushed follows follows' before unspent.
-    let left = not_spent _ _ _ c.put_back.ensures.spent unspent in
-    pushed (before (sym c.row-row.ensures.spent ∙ left.0)) (c.in_ok-piece.ensures.decided follows follows' left.1)) c.push.ensures.decided
+    pushed (before (c.next_piece.ensures.spent unspent)) (c.in_ok-piece.ensures.decided follows follows' unspent)) c.push.ensures.decided
+
+pub returns-clause-same : goal.returns-clause-same
+returns-clause-same c =
+    on_ok_weaker c.push.result (λ pushed same before. pushed before (c.in_ok-piece.ensures.same same)) c.push.ensures.decided

@@ -31,6 +31,7 @@ loop-beginning-preserved c =
             alone = pushed.alone 0 so_far.compared so_far.alone
                 (named_before a cuts numbers i c.requires.rising c.requires.round c.loop-beginning-test.true so_far.passed (omega arith) (omega arith));
             decided = λ follows follows' unspent. pushed.decided follows follows' (so_far.decided follows follows') unspent;
+            same = λ is. pushed.same is (so_far.same is);
           })
       | else-first-beginning w ↦ rw (w.pieces-is, w.first-is, w.budgets-is) (record {
         compared = so_far.compared;
@@ -38,6 +39,7 @@ loop-beginning-preserved c =
         passed = passed_more cuts i first first so_far.passed (omega arith) w.if-first-beginning.false;
         alone = so_far.alone;
         decided = so_far.decided;
+        same = so_far.same;
       })
     ]
 

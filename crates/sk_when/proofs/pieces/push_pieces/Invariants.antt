@@ -1,4 +1,4 @@
-use Rattle.std.proofs.Common.{ℕ, ◌≡◌, ◌≤◌, ◌<◌, false, get_or}
+use Rattle.std.proofs.Common.{ℕ, ◌≡◌, ◌≤◌, ◌<◌, false, IsTrue, get_or}
 use Rattle.std.specs.List.{All}
 use Rattle.sk_conditions.specs.Followed.{AreFollowed}
 use Rattle.sk_when.specs.Pieces.{AreCompared, NamedAreAloneIn, ShowsWhereItMayFail}
@@ -11,4 +11,5 @@ invariant-loop-beginning l = record {
   passed : (k : ℕ) → k < l.beginning-index → get_or l.beginnings k 0 ≤ l.first;
   alone : All (NamedAreAloneIn l.architecture) l.pieces.items;
   decided : All AreFollowed l.chains.old.now → All AreFollowed l.chains.new.now → l.budgets.is_spent ≡ false → All ShowsWhereItMayFail l.pieces.items;
+  same : IsTrue l.are_same → All ShowsWhereItMayFail l.pieces.items;
 }
