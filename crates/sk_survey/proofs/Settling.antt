@@ -20,8 +20,8 @@ use Rattle.sk_survey.specs.declared.known.Knowledge.{Knowledge}
 use Rattle.sk_survey.specs.declared.follow.Next.{Next}
 use Rattle.sk_survey.specs.declared.follow.Next.TheVariants.{Skip, Either, End, FollowingOrZero}
 use Rattle.sk_survey.specs.Answers.{IsOneOf, IsAmong, IsRising, AreRising}
-use Rattle.sk_survey.specs.Ends.{IsFirstOfBoth, IsReachable}
-use Rattle.sk_survey.specs.Following.{DescribesState, Leads, TellsEnd, IsWhole, LeadsOneWay, IsUnknown, led, zeros}
+use Rattle.sk_survey.specs.Ends.{IsReachable}
+use Rattle.sk_survey.specs.Following.{DescribesState, Leads, TellsEnd, IsWhole, LeadsOneWay, IsUnknown, led, zeros, IsFirstOfBoth}
 use Rattle.sk_survey.specs.Settling.{loads_other, without_other, without_others, TellsOne}
 use Rattle.sk_survey.proofs.Preceding.{some_first}
 use Rattle.sk_survey.proofs.WithoutOthers.{bare, no_operation, here_without, zeros_without}

@@ -1,4 +1,5 @@
--- What the pass knows of the states of a machine, while it follows every call with one of some numbers.
+-- What the pass knows of the states of a machine, while it follows every call with one of some numbers, and of the values of two
+-- filters.
 use Rattle.std.specs.Prelude.{ℕ, ◌≡◌, ◌+◌, ◌<◌, ◌≤◌, ◌⊎◌, true, false, List, Option, Some, None, slice_get, slice_set}
 use Rattle.sk_insn.specs.declared.insn.Insn.{Insn}
 use Rattle.sk_insn.specs.declared.record.Record.{Record}
@@ -9,6 +10,10 @@ use Rattle.sk_insn.specs.declared.operation.Operand.{Operand}
 use Rattle.sk_insn.specs.declared.operation.Operand.TheVariants.{Constant, IndexRegister}
 use Rattle.sk_filter.specs.Paths.{Onward, Nowhere, To, Either as Both}
 use Rattle.sk_filter.specs.Meaning.{State, Effect, GoesOn, Ends, holds}
+use Rattle.sk_filter.specs.Preceding.{preceding}
+use Rattle.sk_survey.specs.declared.merge.Side.{Side}
+use Rattle.sk_survey.specs.declared.merge.Side.TheVariants.{Newer, Older}
+use Rattle.sk_survey.specs.Answers.{IsOneOf}
 use Rattle.sk_survey.specs.declared.known.Known.{Known}
 use Rattle.sk_survey.specs.declared.known.Known.TheVariants.{Any, Number, Is}
 use Rattle.sk_survey.specs.declared.known.Knowledge.{Knowledge}
@@ -147,3 +152,18 @@ JoinsAt before knowledge after = ⊥
 abbrev pub Spreads : ℕ → List (Option Knowledge) → Record → Effect → Type 0
 Spreads place slots call (GoesOn skip s) = DescribedAt slots (place + (1 + skip)) call s
 Spreads place slots call e = Unit {0}
+
+-- which comes first of a value of this side and one of the other
+abbrev pub first_beside : Side → ℕ → ℕ → Option ℕ
+first_beside Newer value other = preceding (Some value) other
+first_beside Older value other = preceding (Some other) value
+
+-- the value is the first of one of these, of a newer filter, and one of those, of an older filter
+abbrev pub IsFirstOfBoth : List ℕ → List ℕ → ℕ → Type 0
+IsFirstOfBoth newer older value = (u : ℕ) × (s : ℕ) × IsOneOf u newer × IsOneOf s older × (preceding (Some u) s ≡ Some value)
+
+-- where values are told of both, no value is told but such a one
+abbrev pub OnlyFirsts : Option (List ℕ) → Option (List ℕ) → Option (List ℕ) → Type 0
+OnlyFirsts (Some newer) (Some older) (Some values) = (value : ℕ) → IsOneOf value values → IsFirstOfBoth newer older value
+OnlyFirsts (Some newer) (Some older) None = ⊥
+OnlyFirsts newer older values = Unit {0}

@@ -5,9 +5,8 @@ ghost use Rattle.std.specs.Str.{bytes_eq};
 ghost use Rattle.sk_insn.specs.declared.record.Record.{Record};
 ghost use Rattle.sk_filter.specs.Preceding.{preceding};
 ghost use Rattle.sk_survey.specs.Answers.{answers_of, IsAmong, AreRising};
-ghost use Rattle.sk_survey.specs.Ends.{OnlyFirsts};
 ghost use Rattle.sk_survey.specs.Settling.{TellsOne};
-ghost use Rattle.sk_survey.specs.Following.{Describes, StandsFor};
+ghost use Rattle.sk_survey.specs.Following.{Describes, StandsFor, OnlyFirsts};
 
 use crate::known::Known;
 use crate::merge::merge;
