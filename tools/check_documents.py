@@ -124,7 +124,7 @@ def ends_well(document, said, command, folder=ROOT):
 def beside_a_process(document, line, folder=ROOT):
     """A command with the word PID, on a process that has attached a filter."""
     with tempfile.TemporaryFile("w+") as lines:
-        subprocess.run(["./ask", "filter", "examples/filters/docker-default-linear.hex"], cwd=folder, stdout=lines, check=True)
+        lines.write(f"filter {''.join(read('examples/filters/docker-default-linear.hex').split())}\n")
         lines.seek(0)
         with subprocess.Popen(["examples/attach", "sleep", "100"], cwd=folder, stdin=lines, stderr=subprocess.PIPE, text=True) as process:
             status = pathlib.Path(f"/proc/{process.pid}/status")

@@ -46,6 +46,12 @@ def seconds_of(name: str) -> float:
     return 25 + 0.12 * lines_of(name, ".rt")
 
 
+def about(seconds: float) -> str:
+    """A time in words, as a guess."""
+    minutes = round(seconds / 60)
+    return f"some {minutes} minutes" if minutes > 1 else "a minute"
+
+
 def places(bytes_each: int, most: int = PROCESSORS) -> int:
     """How many jobs there is room for, by the processors and by what free memory holds."""
     with open("/proc/meminfo", encoding="ascii") as file:
@@ -102,11 +108,11 @@ class Crates:
             chain[name] = seconds_of(name) + max(above, default=0)
         return chain
 
-    def minutes_to_prove(self, programs: list[str]) -> int:
+    def time_to_prove(self, programs: list[str]) -> float:
         """A guess how long it takes to prove these programs, beside what is proved already."""
         left = [it for it in [*self.below_all(programs), *programs] if not self.is_stamped(it)]
         longest = max(self.chains(left).values(), default=0)
-        return round(max(longest, sum(map(seconds_of, left)) / PROCESSORS) / 60) or 1
+        return max(longest, sum(map(seconds_of, left)) / PROCESSORS)
 
     def is_stamped(self, name: str) -> bool:
         """Whether the library has the stamp of a proof that is younger than what it read. Where a file was changed meanwhile,

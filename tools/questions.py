@@ -46,7 +46,10 @@ def stage(store: str, programs: list[str]) -> str:
 
 
 def asked(store: str) -> list[str]:
-    """The programs of the questions that are not answered."""
+    """The programs of the questions that are not answered. Where skern is built for one of them it takes those on filters."""
+    if os.path.isdir(f"{store}/asked/skern") and os.listdir(f"{store}/asked/skern"):
+        for it in os.listdir(f"{store}/asked/filters"):
+            os.rename(f"{store}/asked/filters/{it}", f"{store}/asked/skern/{it}")
     return [it for it in os.listdir(f"{store}/asked") if os.listdir(f"{store}/asked/{it}")]
 
 
