@@ -1,5 +1,5 @@
 -- What rows say from one more start on, and behind the last.
-use Rattle.std.proofs.Common.{◌≡◌, ◌≢◌, ◌==◌, ◌&&◌, ℕ, ◌+◌, ◌*◌, ◌/◌, ◌%◌, ◌-◌, ◌<◌, ◌≤◌, nat_le, ◌^◌, inl, inr, Bool, true, false, if◌then◌else◌, List, [], ◌∷◌, ◌++◌, map, length, Some, None, slice_get, refl, sym, ap, ◌∙◌, subst, arith, append_assoc}
+use Rattle.std.proofs.Common.{zero, suc, ◌≡◌, ◌≢◌, ◌==◌, ◌&&◌, ℕ, ◌+◌, ◌*◌, ◌/◌, ◌%◌, ◌-◌, ◌<◌, ◌≤◌, nat_le, ◌^◌, inl, inr, Bool, true, false, if◌then◌else◌, List, [], ◌∷◌, ◌++◌, map, length, Some, None, slice_get, refl, sym, ap, ◌∙◌, subst, arith, append_assoc}
 use Rattle.std.specs.Prelude.{All, ◌||◌}
 use Rattle.std.specs.List.{list_any}
 use Rattle.std.proofs.lemmas.Bool.{cases_lt, leb-true, leb-false, le-leb, lt-leb, lt-ltb, le-ltb, ne_eqb}
@@ -9,12 +9,13 @@ use Rattle.sk_profile.specs.declared.saying.Row.{Row as RowOfCode}
 use Rattle.sk_profile.specs.Sayings.{Arm, Saying}
 use Rattle.sk_profile.specs.CodeRows.{saying_in}
 use Rattle.sk_profile.specs.declared.saying.Saying.{Saying as SayingOfCode}
-use Rattle.sk_profile.specs.CodeViews.{saying_of, row_of, IsSayingOfCode, IsRowOfCode, AreRising, AreRows}
+use Rattle.sk_profile.specs.CodeViews.{arm_of, saying_of, row_of, IsSayingOfCode, IsRowOfCode, AreRising, AreRows}
 use Rattle.sk_profile.specs.declared.profile.Rule.{Rule as RuleOfCode}
 use Rattle.sk_profile.specs.declared.profile.Profile.{Profile as ProfileOfCode}
 use Rattle.sk_profile.specs.Profiles.{Profile, is_for, plain_rule, arms_for, arm_of_rule, saying_of_rules, saying_for, always, is_x32, no_call, greater, greatest, has_x32_bit, is_unknown}
 use Rattle.sk_profile.specs.Views.{rule_of, profile_of}
-use Rattle.sk_profile.specs.Rows.{StartBelow, IsGood, AreGood}
+use Rattle.sk_profile.specs.Rows.{has_no_arms, says_same, changes, StartBelow, IsGood, AreGood}
+use Rattle.sk_profile.specs.declared.saying.Arm.{Arm as ArmOfCode}
 
 by_start : (start nr : ℕ) (old new : Saying) (r : ℕ) (rest : Saying) → r < start
     → (if nat_le r nr then (if nat_le start nr then new else rest) else old) ≡ (if nat_le start nr then new else (if nat_le r nr then rest else old))
@@ -275,6 +276,37 @@ says_more new old right at now says is so_far nr less =
       | inl below ↦ says nr ∙ rw (lt-leb at nr below) (so_far nr below)
       | inr up ↦ let same : at ≡ nr = omega (arith, less, up) in says nr ∙ rw (le-leb at nr up) (is ∙ ap right same)
     ]
+
+-- a row more at most, whatever was said before
+pub one_more_row : (old new : ℕ) (same : Bool) → new ≤ old + (if same then 0 else 1) → new ≤ old + 1
+one_more_row old new true less = omega (arith, less)
+one_more_row old new false less = less
+
+-- five rows more at most
+pub five_more : (most a b c d e f : ℕ) → a ≤ most → b ≤ a + 1 → c ≤ b + 1 → d ≤ c + 1 → e ≤ d + 1 → f ≤ e + 1 → f ≤ most + 5
+five_more most a b c d e f few one two three four five = omega (arith, few, one, two, three, four, five)
+
+-- without arms, of the code and of the definition
+pub without_arms : (arms : List ArmOfCode) → has_no_arms (map arm_of arms) ≡ (length arms == 0)
+without_arms [] = refl
+without_arms (arm ∷ arms) = sym (ne_eqb (length (arm ∷ arms)) 0 (λ e. absurd (omega (arith, e))))
+
+-- a row more where something else is said
+pub row_of_change : (old new : ℕ) (before last now : Saying) → new ≡ old + 1 → before ≡ last → says_same last now ≡ false → new ≤ old + (if says_same before now then 0 else 1)
+row_of_change old new before last now more is other = rw (ap (λ said. says_same said now) is ∙ other) (omega (arith, more))
+
+pub change_more : (profile : Profile) (nr old new : ℕ) (before now : Saying) → 0 < nr → before ≡ saying_for profile (nr - 1) → now ≡ saying_for profile nr
+    → old ≤ changes profile (nr - 1) → new ≤ old + (if says_same before now then 0 else 1) → new ≤ changes profile (nr + 1 - 1)
+unfolding changes
+change_more profile zero old new before now some is at few more = absurd (omega (arith, some))
+change_more profile (suc nr) old new before now some is at few more =
+    let last : suc nr - 1 ≡ nr = omega arith in
+    let next : suc nr + 1 - 1 ≡ suc nr = omega arith in
+    let one : before ≡ saying_for profile nr = is ∙ ap (saying_for profile) last in
+    let so_far = subst (λ n. old ≤ changes profile n) last few in
+    let there : new ≤ old + (if says_same (saying_for profile nr) (saying_for profile (suc nr)) then 0 else 1) =
+    subst (λ said. new ≤ old + (if says_same (saying_for profile nr) said then 0 else 1)) at (subst (λ said. new ≤ old + (if says_same said now then 0 else 1)) one more) in
+    subst (λ n. new ≤ changes profile n) (sym next) (omega (arith, so_far, there))
 
 pub holds_more : (P : ℕ → Type 0) (at : ℕ) → P at → ((nr : ℕ) → nr < at → P nr) → (nr : ℕ) → nr < at + 1 → P nr
 holds_more P at now so_far nr less =

@@ -1,5 +1,5 @@
 //! The numbers of calls in rows of which the same is said.
-ghost use Rattle.std.specs.Prelude.{ℕ, ◌≡◌, ◌≤◌, ◌<◌, ◌+◌, ◌^◌, nat_le, if◌then◌else◌, map, All, length, ◌≢◌, IfOk, IfErr, OnOk, IsTrue};
+ghost use Rattle.std.specs.Prelude.{ℕ, ◌≡◌, ◌≤◌, ◌<◌, ◌+◌, ◌-◌, ◌^◌, nat_le, if◌then◌else◌, map, All, length, ◌≢◌, IfOk, IfErr, OnOk, IsTrue};
 ghost use Rattle.sk_profile.specs.declared.saying.Row.{Row};
 ghost use Rattle.sk_profile.specs.CodeRows.{saying_in};
 ghost use Rattle.sk_profile.specs.CodeViews.{saying_of, row_of, AreRows, IsSayingOfCode};
@@ -8,7 +8,7 @@ ghost use Rattle.sk_profile.specs.declared.fault.ProfileFault.TheVariants.{TooLo
 ghost use Rattle.sk_profile.specs.Faults.{IsFaultOf};
 ghost use Rattle.sk_profile.specs.Profiles.{always, greatest, is_unknown, no_call, saying_for};
 ghost use Rattle.sk_profile.specs.Views.{profile_of};
-ghost use Rattle.sk_profile.specs.Rows.{said_at, StartBelow, AreGood};
+ghost use Rattle.sk_profile.specs.Rows.{said_at, says_same, changes, StartBelow, AreGood};
 
 use crate::clash::clash;
 use crate::fault::ProfileFault;
@@ -46,7 +46,7 @@ pub fn rows_of(alloc: Global, profile: &Profile) -> Result<Rows, ProfileFault>
     ensures fault { IfErr result (IsFaultOf (profile_of profile.now)) }
     ensures says { IfOk result (λ rows. (nr : ℕ) → nr < 2 ^ 32 → said_at rows nr ≡ saying_for (profile_of profile.now) nr) }
     ensures rows { IfOk result (λ rows. AreRows rows.before rows.rows.items) }
-    ensures few { IfOk result (λ rows. length rows.rows.items ≤ 1028) }
+    ensures few { IfOk result (λ rows. length rows.rows.items ≤ changes (profile_of profile.now) 1023 + 5) }
     ensures short { IfErr result (λ fault. fault ≢ TooLong) }
 {
     let top = greatest(&profile.rules);
@@ -112,6 +112,7 @@ fn unruled_from(
 }
 
 // From a number on this value.
+#[tactic(auto, using(crate::proofs::Starts::one_more_row))]
 fn value_from(alloc: Global, rows: Rows, start: u32, value: u32) -> Result<Rows, AllocError>
     requires behind { StartBelow start rows.rows.items }
     ensures says { IfOk result (λ more. (nr : ℕ) → said_at more nr ≡ if nat_le start nr then always value else said_at rows nr) }
@@ -128,7 +129,7 @@ fn said_from(mut rows: Rows, start: u32, saying: Saying) -> Result<Rows, AllocEr
     requires good { IsSayingOfCode saying }
     ensures says { IfOk result (λ more. (nr : ℕ) → said_at more nr ≡ if nat_le start nr then saying_of saying else said_at rows nr) }
     ensures start { IfOk result (λ more. StartBelow (start + 1) more.rows.items) }
-    ensures few { IfOk result (λ more. length more.rows.items ≤ length rows.rows.items + 1) }
+    ensures few { IfOk result (λ more. length more.rows.items ≤ length rows.rows.items + (if says_same (said_at rows (start - 1)) (saying_of saying) then 0 else 1)) }
     ensures rows { IfOk result (λ more. AreRows rows.before rows.rows.items → AreRows more.before more.rows.items) }
 {
     if is_same(last(&rows), &saying) {
@@ -149,8 +150,10 @@ fn last(rows: &Rows) -> &Saying
 }
 
 // Whether the same value is said of all calls.
+#[tactic(auto, using(crate::proofs::Starts::without_arms))]
 fn is_same(one: &Saying, other: &Saying) -> bool
     ensures same { IsTrue result → saying_of one.now ≡ saying_of other.now }
+    ensures exact { result ≡ says_same (saying_of one.now) (saying_of other.now) }
 {
     one.arms.is_empty() && other.arms.is_empty() && one.otherwise == other.otherwise
 }

@@ -11,6 +11,8 @@ use Rattle.sk_profile_file.specs.WorkedFiles.{WorkedFiles}
 pub worked_files : WorkedFiles
 unfolding json_on_literals number_of name_of number_named is_elsewhere error_named capability
 worked_files = record {
+  all_by_name = refl;
+  docker_by_name = refl;
   unknown_name = refl;
   no_rule_of_it = refl;
   held = refl;

@@ -61,7 +61,30 @@ tracing = codes "{\"defaultAction\": \"SCMP_ACT_ERRNO\", \"syscalls\": [{\"names
 abbrev pub of_two_architectures : List ℕ
 of_two_architectures = codes "{\"defaultAction\": \"SCMP_ACT_ERRNO\", \"architectures\": [\"SCMP_ARCH_X86\", \"SCMP_ARCH_X86_64\"]}"
 
+-- the capabilities of linux/capability.h, in the order of their numbers
+abbrev pub of_linux : List (List ℕ)
+of_linux =
+    codes "CAP_CHOWN" ∷ codes "CAP_DAC_OVERRIDE" ∷ codes "CAP_DAC_READ_SEARCH" ∷ codes "CAP_FOWNER" ∷
+    codes "CAP_FSETID" ∷ codes "CAP_KILL" ∷ codes "CAP_SETGID" ∷ codes "CAP_SETUID" ∷ codes "CAP_SETPCAP" ∷
+    codes "CAP_LINUX_IMMUTABLE" ∷ codes "CAP_NET_BIND_SERVICE" ∷ codes "CAP_NET_BROADCAST" ∷ codes "CAP_NET_ADMIN" ∷
+    codes "CAP_NET_RAW" ∷ codes "CAP_IPC_LOCK" ∷ codes "CAP_IPC_OWNER" ∷ codes "CAP_SYS_MODULE" ∷
+    codes "CAP_SYS_RAWIO" ∷ codes "CAP_SYS_CHROOT" ∷ codes "CAP_SYS_PTRACE" ∷ codes "CAP_SYS_PACCT" ∷
+    codes "CAP_SYS_ADMIN" ∷ codes "CAP_SYS_BOOT" ∷ codes "CAP_SYS_NICE" ∷ codes "CAP_SYS_RESOURCE" ∷
+    codes "CAP_SYS_TIME" ∷ codes "CAP_SYS_TTY_CONFIG" ∷ codes "CAP_MKNOD" ∷ codes "CAP_LEASE" ∷
+    codes "CAP_AUDIT_WRITE" ∷ codes "CAP_AUDIT_CONTROL" ∷ codes "CAP_SETFCAP" ∷ codes "CAP_MAC_OVERRIDE" ∷
+    codes "CAP_MAC_ADMIN" ∷ codes "CAP_SYSLOG" ∷ codes "CAP_WAKE_ALARM" ∷ codes "CAP_BLOCK_SUSPEND" ∷
+    codes "CAP_AUDIT_READ" ∷ codes "CAP_PERFMON" ∷ codes "CAP_BPF" ∷ codes "CAP_CHECKPOINT_RESTORE" ∷ []
+
+-- those that docker leaves to a container: moby's oci/caps/defaults.go, in the order of their names
+abbrev pub of_docker : List (List ℕ)
+of_docker =
+    codes "CAP_AUDIT_WRITE" ∷ codes "CAP_CHOWN" ∷ codes "CAP_DAC_OVERRIDE" ∷ codes "CAP_FOWNER" ∷
+    codes "CAP_FSETID" ∷ codes "CAP_KILL" ∷ codes "CAP_MKNOD" ∷ codes "CAP_NET_BIND_SERVICE" ∷ codes "CAP_NET_RAW" ∷
+    codes "CAP_SETFCAP" ∷ codes "CAP_SETGID" ∷ codes "CAP_SETPCAP" ∷ codes "CAP_SETUID" ∷ codes "CAP_SYS_CHROOT" ∷ []
+
 pub record WorkedFiles : Type 0 where
+  pub all_by_name : capability (codes "all") ≡ Some of_linux
+  pub docker_by_name : capability (codes "docker") ≡ Some of_docker
   -- a name that no table has
   pub unknown_name : told plain mistyped ≡ Some (unknown_text 0 (codes "opennat") ∷ [])
   pub no_rule_of_it : said plain mistyped ≡ allows (0 ∷ [])

@@ -189,11 +189,6 @@ fn expected_text(field: Field) -> &'static str
             "a list of names as SCMP_ARCH_X86, with SCMP_ARCH_X86_64 among them",
         Field::ArchMap =>
             "a list of objects with architecture and subArchitectures, one of them for SCMP_ARCH_X86_64",
-        Field::Architecture => "a name as SCMP_ARCH_X86_64",
-        Field::SubArchitectures => "a list of names as SCMP_ARCH_X86",
-        Field::Flags => "a list of flags",
-        Field::ListenerPath => "a path",
-        Field::ListenerMetadata | Field::Comment => "a text",
         Field::Syscalls => "a list of entries",
         Field::Names => "a list of names of calls, with one at least",
         Field::Name => "the name of a call",
@@ -201,11 +196,10 @@ fn expected_text(field: Field) -> &'static str
         Field::Args => "a list of comparisons",
         Field::Includes | Field::Excludes =>
             "an object with lists of names arches and caps, and a version minKernel as 4.8",
-        Field::Arches | Field::Caps => "a list of names",
-        Field::MinKernel => "a version as 4.8",
         Field::Index => "the number of an argument, from 0 to 5",
         Field::Value | Field::ValueTwo => "a number up to 18446744073709551615",
         Field::Op => "an operator as SCMP_CMP_EQ",
+        _ => "another value",
     }
 }
 
