@@ -14,3 +14,4 @@ pub mod Clearing
 pub mod Judging
 pub mod Worked
 pub mod Least
+pub mod Alike

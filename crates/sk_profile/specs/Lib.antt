@@ -1,5 +1,6 @@
 pub mod Sayings
 pub mod Code
+pub mod Alike
 pub mod Means
 pub mod CodeRows
 pub mod CodeViews

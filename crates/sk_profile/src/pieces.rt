@@ -1,9 +1,10 @@
 //! The instructions of what is said of the calls of one number. Arms that ask one argument for numbers with the same upper
 //! half, and have the same value, test that half once.
-ghost use Rattle.std.specs.Prelude.{◌≡◌, ◌+◌, ◌<◌, ◌≤◌, ◌++◌, ◌∷◌, [], length, map, take, drop, OnOk, IfOk, IfSome, IsTrue, All};
+ghost use Rattle.std.specs.Prelude.{◌≡◌, false, slice_get, Some, IfNone, ◌+◌, ◌<◌, ◌≤◌, ◌++◌, ◌∷◌, [], length, map, take, drop, OnOk, IfOk, IfSome, IsTrue, All};
 ghost use Rattle.sk_insn.specs.declared.operation.Comparison.TheVariants.{Equal};
 ghost use Rattle.sk_profile.specs.declared.saying.Arm.{Arm};
 ghost use Rattle.sk_profile.specs.Sayings.{asks};
+ghost use Rattle.sk_profile.specs.Alike.{asks_for_one, is_alike};
 ghost use Rattle.sk_profile.specs.Code.{branch, high, low, lows_code, passed_over};
 ghost use Rattle.sk_profile.specs.CodeViews.{arm_of, saying_of, asked_for, Asks, PutsPiece, PutsPieces, PutsSaying, IsArmOfCode, IsSayingOfCode};
 
@@ -63,8 +64,10 @@ fn number_of(arm: &Arm) -> u64
 }
 
 // Which argument an arm with one condition compares for equality, with which number, and its value.
+#[tactic(auto, using(crate::proofs::Alike::asks_nothing, crate::proofs::Alike::asks_more, crate::proofs::Alike::asks_otherwise))]
 fn asked_by(arm: &Arm) -> Option<Question>
     ensures asks { IfSome result (λ it. arm_of arm.now ≡ asks it.index it.value it.number) }
+    ensures none { IfNone result (asks_for_one (arm_of arm.now).conditions ≡ false) }
 {
     let condition = arm.conditions.first()?;
     if arm.conditions.len() != 1 || condition.test != Test::Is {
@@ -78,14 +81,16 @@ fn asked_by(arm: &Arm) -> Option<Question>
 }
 
 // Whether the arm asks the same argument for a number with the same upper half, and has the same value.
+#[tactic(auto, using(crate::proofs::Alike::of_another, crate::proofs::Alike::of_alike))]
 fn is_like(first: Question, arm: &Arm) -> bool
     ensures like { IsTrue result → Asks first.index first.value (high first.number) arm.now }
+    ensures exact { result ≡ is_alike first.index first.value (high first.number) (arm_of arm.now) }
 {
     match asked_by(arm) {
         Some(other) => {
             first.index == other.index
-                && first.value == other.value
                 && first.number / 0x1_0000_0000 == other.number / 0x1_0000_0000
+                && first.value == other.value
         }
         None => false,
     }
@@ -96,6 +101,7 @@ fn alike(first: Question, arms: &[Arm]) -> usize
     ensures inside { result ≤ length arms.now }
     ensures few { result ≤ MOST_JOINED }
     ensures like { All (Asks first.index first.value (high first.number)) (take result arms.now) }
+    ensures most { result < MOST_JOINED → (next : Arm) → slice_get arms.now result ≡ Some next → is_alike first.index first.value (high first.number) (arm_of next) ≡ false }
 {
     for (at, arm) in arms.iter().enumerate() {
         if at == MOST_JOINED || !is_like(first, arm) {
