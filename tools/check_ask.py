@@ -443,7 +443,7 @@ NO_JSON, TOO_LONG = "is no JSON: expected the JSON of a profile, no more than 12
 NO_WORD = "no word of struct seccomp_data begins at k: expected a multiple of 4 below 64"
 ONE = [
     ("nofile", "nofile: no such file"), ("''", ": no such file"), ("folder", "folder: is a folder"), (".", ".: is a folder"),
-    ("raw/x", "raw/x: can't be opened"), ("\"$(printf 'a\\nb')\"", "a?b: no such file"), ("\"$(printf 'a\\xff')\"", "a word is not UTF-8"),
+    ("raw/x", "raw/x: can't be opened"), ("\"$(printf 'a\\nb')\"", "a?b: no such file"), ("\"$(printf 'a\\x7fb')\"", "a?b: no such file"), ("\"$(printf 'a\\xff')\"", "a word is not UTF-8"),
     ("mib_and_one", "mib_and_one: has more than 1048576 bytes"), ("/dev/zero", "/dev/zero: has more than 1048576 bytes"),
     ("- <&-", "-: reading failed"), ("- < folder", "-: reading failed"), ("- < odd", f"-: {ODD}"),
     *[(name, f"{name}: {NO_FILTER}") for name in ("empty", "blank", "comments", "mib", "/dev/null")],
@@ -478,6 +478,7 @@ ONE = [
 ]
 # And of several that are one chain.
 SEVERAL = [
+    ("nofile folder", "nofile: no such file"), ("folder nofile", "folder: is a folder"), ("raw folder nofile", "folder: is a folder"),
     ("raw nofile", "nofile: no such file"), ("nofile word", "nofile: no such file"), ("word nofile", "nofile: no such file"),
     ("all empty", f"empty: {NO_FILTER}"), ("- - < raw", f"-: {NO_FILTER}"), ("raw digits odd", f"odd: {ODD}"), ("code word", f"word: line 2: {NO_LINE}"),
     ("thirty_two raw", "raw: one filter too many: expected at most 32 in all files"),
@@ -498,11 +499,12 @@ UNREAD = [
     *[trouble(f"ask {asking} {files}", says) for asking in ASKING for files, says in ONE + SEVERAL],
     *[trouble(command.format(ask=f"ask {asking}"), says) for asking in (*ASKING, "diff all") for command, says in MADE],
     *[trouble(f"ask diff {files}", says) for file, says in ONE for files in (f"all {file}", f"{file} all")],
-    trouble("ask diff word nofile", f"word: line 2: {NO_LINE}"), trouble("ask diff code word", f"code: line 2: instruction 2: {NO_CODE}"),
+    trouble("ask diff word nofile", f"word: line 2: {NO_LINE}"), trouble("ask diff nofile folder", "nofile: no such file"),
+    trouble("ask diff folder nofile", "folder: is a folder"), trouble("ask diff code word", f"code: line 2: instruction 2: {NO_CODE}"),
 ]
 # What is said of a LOG.
 LOGS = [
-    ("nolog nofile", "nolog: no such file"), ("'' all", ": no such file"), ("folder all", "folder: is a folder"), ("log/x all", "log/x: can't be opened"),
+    ("nolog nofile", "nolog: no such file"), ("folder nofile", "folder: is a folder"), ("'' all", ": no such file"), ("folder all", "folder: is a folder"), ("log/x all", "log/x: can't be opened"),
     ("\"$(printf 'a\\nb')\" all", "a?b: no such file"), ("- all <&-", "-: reading failed"), ("- all < folder", "-: reading failed"),
     ("- - < log", f"-: {NO_FILTER}"), ("- all < empty", f"-: {NO_CALL}"), ("<(cat empty) all", f"/dev/fd/63: {NO_CALL}"),
     ("/dev/zero all", "/dev/zero: has more than 268435456 bytes"), ("all log", f"log: line 1: {NO_LINE}"), ("empty empty", f"empty: {NO_FILTER}"),

@@ -1,11 +1,12 @@
 //! The program `ask`, over the files and the standard streams of the system.
 #![tactic(auto)]
 
-ghost use Rattle.std.specs.Prelude.{None, ℕ};
-ghost use Rattle.sk_ask_filters.specs.Shelves.{CountsWhy};
+ghost use Rattle.std.specs.Prelude.{ℕ};
+ghost use Rattle.sk_ask_filters.specs.Shelves.{unknown};
+ghost use Rattle.sk_ask_filters.specs.Taking.{CountsWhy};
 
 use sk_ask::{Trees, command, misused};
-use sk_ask_filters::{Shelf, Unread};
+use sk_ask_filters::{Shelf, Unopened, Unread};
 use sk_io::{Counted, Source, take_up_to};
 use std::alloc::Global;
 use std::env::Env;
@@ -38,7 +39,7 @@ impl<F: Read, I: Read> Read for End<F, I> {
 
 impl<R: Files + Input> Shelf for Host<'_, R> {
     // Nothing is known of the system's files.
-    ghost held = { λ _ _. None };
+    ghost held = { λ _ _. unknown };
 
     fn take(
         &self,
@@ -74,11 +75,11 @@ fn unopened(kind: ErrorKind) -> Unread
     ensures { (reads : ℕ) → CountsWhy result reads reads }
 {
     match kind {
-        ErrorKind::NotFound => Unread::Missing,
-        ErrorKind::PermissionDenied => Unread::Forbidden,
-        ErrorKind::IsADirectory => Unread::Folder,
+        ErrorKind::NotFound => Unread::Unopened(Unopened::Missing),
+        ErrorKind::PermissionDenied => Unread::Unopened(Unopened::Forbidden),
+        ErrorKind::IsADirectory => Unread::Unopened(Unopened::Folder),
         ErrorKind::OutOfMemory => Unread::Memory,
-        _ => Unread::Unopened,
+        _ => Unread::Unopened(Unopened::Other),
     }
 }
 

@@ -1,22 +1,21 @@
 -- What the program answers to its words.
-use Rattle.std.specs.Prelude.{ℕ, ◌≡◌, ◌⊎◌, ◌&&◌, is_none, not, Bool, true, false, List, [], ◌∷◌, codes, Option, Some, None, Result, Ok, Err}
+use Rattle.std.specs.Prelude.{ℕ, ◌≡◌, ◌&&◌, is_none, not, Bool, true, false, List, [], ◌∷◌, codes, Option, Some, None, Result, Ok, Err}
 use Rattle.std.specs.Bool.{MatchBool}
 use Rattle.std.specs.Str.{bytes_eq}
 use Rattle.sk_insn.specs.declared.insn.Insn.{Insn}
 use Rattle.sk_arches.specs.Looks.{looks_at_architecture}
-use Rattle.sk_ask_filters.specs.Filters.{Filters}
 use Rattle.sk_survey_lines.specs.declared.line.Line.{Line}
 use Rattle.sk_survey_lines.specs.declared.options.Options.{Options}
 use Rattle.sk_survey_lines.specs.Lines.{AreLinesOf}
 use Rattle.sk_profile_json.specs.declared.context.Context.{Context}
 use Rattle.sk_ask_filters.specs.Complaints.{of_word}
-use Rattle.sk_ask_filters.specs.Reading.{ReadsFilters, IsRefusedOf}
+use Rattle.sk_ask_filters.specs.Shelves.{Held}
 use Rattle.sk_ask.specs.declared.word.Word.{Word}
 use Rattle.sk_ask.specs.declared.word.Word.TheVariants as word
 use Rattle.sk_ask.specs.Asking.{Question, asked_of, nothing_asked, word_named}
 use Rattle.sk_ask.specs.Arches.{AnswersArches}
 use Rattle.sk_ask.specs.Architectures.{architecture_of, chain_on}
-use Rattle.sk_ask.specs.Calls.{IsAskedCall, IsNoCall}
+use Rattle.sk_ask.specs.Calls.{OfCall}
 use Rattle.sk_ask.specs.CallsText.{calls_text}
 use Rattle.sk_ask.specs.Contexts.{IsContextOf}
 use Rattle.sk_ask.specs.Endings.{Ending, answered, refused, ComesTo}
@@ -25,7 +24,7 @@ use Rattle.sk_ask.specs.FilterText.{filter_lines}
 use Rattle.sk_ask.specs.Helping.{help_text, word_help_text}
 use Rattle.sk_ask.specs.Replays.{AnswersReplay}
 use Rattle.sk_ask.specs.Shows.{AnswersShow}
-use Rattle.sk_ask.specs.Troubles.{IsTrouble}
+use Rattle.sk_ask.specs.Troubles.{OfFiles}
 use Rattle.sk_ask.specs.Whens.{AnswersWhen}
 use Rattle.sk_ask.specs.Whys.{AnswersWhy}
 
@@ -41,18 +40,12 @@ TellsSurvey options chain notes ending =
     (lines : List Line) × AreLinesOf options (chain_on options.architecture chain) lines
     × (ending ≡ answered notes (calls_text options.architecture lines (is_unseen options chain)) false)
 
--- those of all calls, or that of the one that is asked for
-abbrev pub IsSurvey : Question → List (List Insn) → List ℕ → Ending → Type 0
-IsSurvey asked chain notes ending =
-    (call : Option ℕ) × IsAskedCall (architecture_of asked.arch) asked.call call
-    × TellsSurvey (record { architecture = architecture_of asked.arch; call = call; examples = asked.examples }) chain notes ending
-
--- a survey of the chain that the files make; or no call has the name, or a file is refused or not read
-abbrev pub AnswersCalls : (List ℕ → Option (List ℕ)) → Context → Question → Ending → Type 0
+-- a survey of all calls, or of the one that is asked for, on the chain that the files make
+abbrev pub AnswersCalls : (List ℕ → Held) → Context → Question → Ending → Type 0
 AnswersCalls held context asked ending =
-    ((found : Filters) × (chain : List (List Insn)) × (notes : List ℕ)
-    × ReadsFilters held context asked.names found chain notes × IsSurvey asked chain notes ending)
-    ⊎ (IsTrouble ending (λ why. IsNoCall (architecture_of asked.arch) why asked.call) ⊎ IsTrouble ending (IsRefusedOf held context asked.names))
+    OfCall (architecture_of asked.arch) asked.call ending (λ call.
+    OfFiles held context asked.names ending (λ found chain notes.
+    TellsSurvey (record { architecture = architecture_of asked.arch; call = call; examples = asked.examples }) chain notes ending))
 
 -- ---- filter
 
@@ -63,15 +56,13 @@ Gives true (image ∷ []) notes ending = ComesTo (answered notes image false) en
 Gives true images notes ending =
     ComesTo (refused (of_word (codes "filter: the FILEs hold several filters: expected one with ") (codes "--raw"))) ending
 
-abbrev pub AnswersFilter : (List ℕ → Option (List ℕ)) → Context → Question → Ending → Type 0
-AnswersFilter held context asked ending =
-    ((found : Filters) × (chain : List (List Insn)) × (notes : List ℕ)
-    × ReadsFilters held context asked.names found chain notes × Gives asked.raw found.images notes ending)
-    ⊎ IsTrouble ending (IsRefusedOf held context asked.names)
+-- those in the files
+abbrev pub AnswersFilter : (List ℕ → Held) → Context → Question → Ending → Type 0
+AnswersFilter held context asked ending = OfFiles held context asked.names ending (λ found chain notes. Gives asked.raw found.images notes ending)
 
 -- ---- all words
 
-abbrev pub AnswersQuestion : (List ℕ → Option (List ℕ)) → (ℕ → Bool) → Context → Word → Question → Ending → Type 0
+abbrev pub AnswersQuestion : (List ℕ → Held) → (ℕ → Bool) → Context → Word → Question → Ending → Type 0
 AnswersQuestion held may_spend context word.Calls asked ending = AnswersCalls held context asked ending
 AnswersQuestion held may_spend context word.Filter asked ending = AnswersFilter held context asked ending
 AnswersQuestion held may_spend context word.When asked ending = AnswersWhen held may_spend context asked ending
@@ -82,22 +73,22 @@ AnswersQuestion held may_spend context word.Show asked ending = AnswersShow held
 AnswersQuestion held may_spend context word.Arches asked ending = AnswersArches held context asked ending
 
 -- where the profiles among the files are to hold, the words say
-abbrev pub AnswersThere : (List ℕ → Option (List ℕ)) → (ℕ → Bool) → Word → Question → Ending → Type 0
+abbrev pub AnswersThere : (List ℕ → Held) → (ℕ → Bool) → Word → Question → Ending → Type 0
 AnswersThere held may_spend word asked ending =
     (context : Context) × IsContextOf asked context × AnswersQuestion held may_spend context word asked ending
 
 -- with `--help` among them the words ask how they are used
-abbrev pub AnswersAsked : (List ℕ → Option (List ℕ)) → (ℕ → Bool) → Word → Result Question (List ℕ) → Ending → Type 0
+abbrev pub AnswersAsked : (List ℕ → Held) → (ℕ → Bool) → Word → Result Question (List ℕ) → Ending → Type 0
 AnswersAsked held may_spend word (Err line) ending = ComesTo (refused line) ending
 AnswersAsked held may_spend word (Ok asked) ending =
     MatchBool asked.help (ComesTo (answered [] (word_help_text word) false) ending) (AnswersThere held may_spend word asked ending)
 
-abbrev pub AnswersWord : (List ℕ → Option (List ℕ)) → (ℕ → Bool) → List ℕ → Option Word → List (List ℕ) → Ending → Type 0
+abbrev pub AnswersWord : (List ℕ → Held) → (ℕ → Bool) → List ℕ → Option Word → List (List ℕ) → Ending → Type 0
 AnswersWord held may_spend first None words ending =
     ComesTo (refused (of_word (codes "no word is named ") first)) ending
 AnswersWord held may_spend first (Some word) words ending = AnswersAsked held may_spend word (asked_of word nothing_asked words) ending
 
-abbrev pub AnswersWords : (List ℕ → Option (List ℕ)) → (ℕ → Bool) → List (List ℕ) → Ending → Type 0
+abbrev pub AnswersWords : (List ℕ → Held) → (ℕ → Bool) → List (List ℕ) → Ending → Type 0
 AnswersWords held may_spend [] ending = ComesTo (refused (codes "ask: no word is given; see ask --help\n")) ending
 AnswersWords held may_spend (first ∷ words) ending =
     MatchBool (bytes_eq first (codes "--help")) (ComesTo (answered [] help_text false) ending)

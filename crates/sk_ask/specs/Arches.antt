@@ -1,23 +1,19 @@
 -- What `ask arches` answers.
-use Rattle.std.specs.Prelude.{ℕ, ◌≡◌, ◌⊎◌, List, Option}
+use Rattle.std.specs.Prelude.{ℕ, ◌≡◌, List}
 use Rattle.sk_insn.specs.declared.insn.Insn.{Insn}
 use Rattle.sk_arches.specs.declared.told.Told.{Told}
 use Rattle.sk_arches.specs.Told.{IsTold, warns}
 use Rattle.sk_arches.specs.Text.{arches_text}
-use Rattle.sk_ask_filters.specs.Filters.{Filters}
 use Rattle.sk_profile_json.specs.declared.context.Context.{Context}
-use Rattle.sk_ask_filters.specs.Reading.{ReadsFilters, IsRefusedOf}
+use Rattle.sk_ask_filters.specs.Shelves.{Held}
 use Rattle.sk_ask.specs.Asking.{Question}
 use Rattle.sk_ask.specs.Endings.{Ending, answered}
-use Rattle.sk_ask.specs.Troubles.{IsTrouble}
+use Rattle.sk_ask.specs.Troubles.{OfFiles}
 
 -- a text tells what the chain answers to each architecture: no where it warns
 abbrev pub TellsArches : List (List Insn) → List ℕ → Ending → Type 0
 TellsArches chain notes ending = (told : Told) × IsTold chain told × (ending ≡ answered notes (arches_text told) (warns told))
 
--- the chain that the files make; or a file is refused or not read
-abbrev pub AnswersArches : (List ℕ → Option (List ℕ)) → Context → Question → Ending → Type 0
-AnswersArches held context asked ending =
-    ((found : Filters) × (chain : List (List Insn)) × (notes : List ℕ)
-    × ReadsFilters held context asked.names found chain notes × TellsArches chain notes ending)
-    ⊎ IsTrouble ending (IsRefusedOf held context asked.names)
+-- that of the chain that the files make
+abbrev pub AnswersArches : (List ℕ → Held) → Context → Question → Ending → Type 0
+AnswersArches held context asked ending = OfFiles held context asked.names ending (λ found chain notes. TellsArches chain notes ending)

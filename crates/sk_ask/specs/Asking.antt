@@ -1,16 +1,12 @@
 -- What words ask.
-use Rattle.std.specs.Prelude.{ℕ, ◌≡◌, ◌≤◌, ◌==◌, ◌&&◌, ◌++◌, nat_lt, is_some, IsSome, not, Bool, true, false, if◌then◌else◌, List, [], ◌∷◌, length, slice_get, codes, map, string_bytes, slice_index, Option, Some, None, Result, Ok, Err, ⊤}
+use Rattle.std.specs.Prelude.{ℕ, ◌==◌, ◌&&◌, ◌++◌, nat_lt, is_some, not, Bool, true, false, if◌then◌else◌, List, [], ◌∷◌, length, slice_get, codes, slice_index, Option, Some, None, Result, Ok, Err}
 use Rattle.std.specs.Str.{bytes_eq}
-use Rattle.std.specs.Option.{option_map}
 use Rattle.sk_call_names.specs.declared.architecture.Architecture.{Architecture}
 use Rattle.sk_call_names.specs.Architectures.{architecture_named, is_big_endian_of}
 use Rattle.sk_profile_json.specs.declared.context.Kernel.{Kernel as Version}
 use Rattle.sk_profile_json.specs.Contexts.{kernel_of}
 use Rattle.sk_profile_file.specs.Capabilities.{capability}
-use Rattle.sk_ask_filters.specs.declared.trouble.Trouble.{Trouble}
-use Rattle.sk_ask_filters.specs.declared.trouble.Trouble.TheVariants.{Refused, Reading, Memory}
 use Rattle.sk_ask_filters.specs.Complaints.{of_word}
-use Rattle.sk_ask.specs.declared.words.Asked.{Asked}
 use Rattle.sk_ask.specs.declared.word.Valued.{Valued}
 use Rattle.sk_ask.specs.declared.word.Valued.TheVariants.{Call, Cap, Kernel, Arch}
 use Rattle.sk_ask.specs.declared.word.Word.{Word}
@@ -263,35 +259,3 @@ asked_of word asked (text ∷ words) = elim (with_word word asked text) [
   | Err line ↦ Err line
   | Ok more ↦ asked_of word more words
 ]
-
--- ---- what the code's answers say
-
-abbrev pub question_of : Asked → Question
-question_of asked = record {
-  call = option_map (λ call. call.now) asked.call;
-  caps = map (λ name. name.now) asked.caps.items;
-  kernel = asked.kernel;
-  arch = asked.arch;
-  awaits = asked.awaits;
-  runc = asked.runc;
-  examples = asked.examples;
-  dot = asked.dot;
-  raw = asked.raw;
-  stricter = asked.stricter;
-  help = asked.help;
-  names = map string_bytes asked.names.items;
-}
-
-abbrev pub Asks : Result Asked Trouble → Result Question (List ℕ) → Type 0
-Asks (Ok asked) said = said ≡ Ok (question_of asked)
-Asks (Err (Refused line)) said = said ≡ Err line.items
-Asks (Err (Reading line)) said = ⊥
-Asks (Err Memory) said = ⊤
-
--- but for `--help` there are as many names as the word wants
-abbrev pub HasNames : Word → Asked → Type 0
-HasNames word asked = asked.help ≡ false → length (wanted word) ≤ length asked.names.items
-
--- but for `--help` a call is named where a picture is asked for
-abbrev pub HasCall : Asked → Type 0
-HasCall asked = asked.help ≡ false → asked.dot ≡ true → IsSome asked.call

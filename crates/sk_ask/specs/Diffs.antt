@@ -1,5 +1,5 @@
 -- What `ask diff` answers.
-use Rattle.std.specs.Prelude.{ℕ, ◌≡◌, ◌⊎◌, ◌++◌, Bool, true, false, List, codes, take, drop, Option}
+use Rattle.std.specs.Prelude.{ℕ, ◌≡◌, ◌⊎◌, ◌++◌, Bool, true, false, List, codes, take, drop}
 use Rattle.sk_insn.specs.declared.insn.Insn.{Insn}
 use Rattle.sk_call_names.specs.declared.architecture.Architecture.{Architecture}
 use Rattle.sk_conditions.specs.declared.standing.Relation.{Relation}
@@ -7,14 +7,13 @@ use Rattle.sk_conditions.specs.declared.standing.Relation.TheVariants.{Same, AsS
 use Rattle.sk_when.specs.declared.diff_engine.Finding.{Finding}
 use Rattle.sk_when.specs.declared.diff_engine.Finding.TheVariants.{Holds, Fails, Undecided}
 use Rattle.sk_when.specs.Diffs.{IsComparison}
-use Rattle.sk_ask_filters.specs.Filters.{Filters}
 use Rattle.sk_profile_json.specs.declared.context.Context.{Context}
-use Rattle.sk_ask_filters.specs.Reading.{ReadsFilters, IsRefusedOf}
+use Rattle.sk_ask_filters.specs.Shelves.{Held}
 use Rattle.sk_ask.specs.Architectures.{architecture_of, chain_on}
 use Rattle.sk_ask.specs.Asking.{Question}
 use Rattle.sk_ask.specs.Endings.{Ending, answered, refused, no_memory, ComesTo}
 use Rattle.sk_ask.specs.Steps.{MayBeSpent, diff_steps}
-use Rattle.sk_ask.specs.Troubles.{IsTrouble}
+use Rattle.sk_ask.specs.Troubles.{OfFiles}
 
 abbrev pub relation_asked : Bool → Relation
 relation_asked false = Same
@@ -38,15 +37,13 @@ IsDiff may_spend by stricter old new notes ending =
     × MayBeSpent may_spend diff_steps is_spent × EndsAs finding notes text ending)
     ⊎ (ending ≡ no_memory)
 
--- the chains of files with these names, and of files with those, are compared; or one of them is refused or not read
-abbrev pub AnswersSides : (List ℕ → Option (List ℕ)) → (ℕ → Bool) → Context → Architecture → Bool → List (List ℕ) → List (List ℕ) → Ending → Type 0
+-- the chain of files with these names is compared with that of files with those
+abbrev pub AnswersSides : (List ℕ → Held) → (ℕ → Bool) → Context → Architecture → Bool → List (List ℕ) → List (List ℕ) → Ending → Type 0
 AnswersSides held may_spend context by stricter names others ending =
-    ((found other : Filters) × (old new : List (List Insn)) × (notes more : List ℕ)
-    × ReadsFilters held context names found old notes × ReadsFilters held context others other new more
-    × IsDiff may_spend by stricter old new (notes ++ more) ending)
-    ⊎ (IsTrouble ending (IsRefusedOf held context names) ⊎ IsTrouble ending (IsRefusedOf held context others))
+    OfFiles held context names ending (λ found old notes.
+    OfFiles held context others ending (λ other new more. IsDiff may_spend by stricter old new (notes ++ more) ending))
 
 -- the first file has the old chain
-abbrev pub AnswersDiff : (List ℕ → Option (List ℕ)) → (ℕ → Bool) → Context → Question → Ending → Type 0
+abbrev pub AnswersDiff : (List ℕ → Held) → (ℕ → Bool) → Context → Question → Ending → Type 0
 AnswersDiff held may_spend context asked ending =
     AnswersSides held may_spend context (architecture_of asked.arch) asked.stricter (take 1 asked.names) (drop 1 asked.names) ending

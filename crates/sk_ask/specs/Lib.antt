@@ -1,6 +1,7 @@
 pub mod Answering
 pub mod Arches
 pub mod Architectures
+pub mod Asked
 pub mod Asking
 pub mod Calls
 pub mod CallsText

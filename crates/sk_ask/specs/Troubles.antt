@@ -1,5 +1,10 @@
 -- Endings without an answer, by their reasons.
-use Rattle.std.specs.Prelude.{ℕ, ◌≡◌, List, [], ◌∷◌, Err}
+use Rattle.std.specs.Prelude.{ℕ, ◌≡◌, ◌⊎◌, List, [], ◌∷◌, Err}
+use Rattle.sk_insn.specs.declared.insn.Insn.{Insn}
+use Rattle.sk_profile_json.specs.declared.context.Context.{Context}
+use Rattle.sk_ask_filters.specs.Filters.{Filters}
+use Rattle.sk_ask_filters.specs.Reading.{ReadsFilters, IsRefusedOf}
+use Rattle.sk_ask_filters.specs.Shelves.{Held}
 use Rattle.sk_ask_filters.specs.declared.trouble.Trouble.{Trouble}
 use Rattle.sk_ask.specs.Endings.{Ending, ending_of, no_memory}
 
@@ -12,3 +17,10 @@ IsTrouble ending P = (why : Trouble) × P why × (ending ≡ ending_of (Err why)
 abbrev pub OfFirst : List (List ℕ) → Ending → (List ℕ → List (List ℕ) → Type 0) → Type 0
 OfFirst [] ending P = ending ≡ no_memory
 OfFirst (first ∷ others) ending P = P first others
+
+-- the files with these names make a chain, and what is so of their filters, of the chain and of what is told of profiles is so;
+-- or one of them is refused or not read
+abbrev pub OfFiles : (List ℕ → Held) → Context → List (List ℕ) → Ending → (Filters → List (List Insn) → List ℕ → Type 0) → Type 0
+OfFiles held context names ending P =
+    ((found : Filters) × (chain : List (List Insn)) × (notes : List ℕ) × ReadsFilters held context names found chain notes × P found chain notes)
+    ⊎ IsTrouble ending (IsRefusedOf held context names)

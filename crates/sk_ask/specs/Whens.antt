@@ -1,18 +1,17 @@
 -- What `ask when` answers.
-use Rattle.std.specs.Prelude.{ℕ, ◌≡◌, ◌==◌, ◌⊎◌, Bool, true, false, List, Option, Some, None}
+use Rattle.std.specs.Prelude.{ℕ, ◌≡◌, ◌==◌, Bool, true, false, List, Option, Some, None}
 use Rattle.sk_insn.specs.declared.insn.Insn.{Insn}
 use Rattle.sk_call_names.specs.declared.architecture.Architecture.{Architecture}
 use Rattle.sk_when.specs.Picture.{IsPicture}
 use Rattle.sk_when.specs.Telling.{TellsWhen}
-use Rattle.sk_ask_filters.specs.Filters.{Filters}
 use Rattle.sk_profile_json.specs.declared.context.Context.{Context}
-use Rattle.sk_ask_filters.specs.Reading.{ReadsFilters, IsRefusedOf}
+use Rattle.sk_ask_filters.specs.Shelves.{Held}
 use Rattle.sk_ask.specs.Architectures.{architecture_of, chain_on}
 use Rattle.sk_ask.specs.Asking.{Question}
-use Rattle.sk_ask.specs.Calls.{IsAskedCall, IsNoCall}
+use Rattle.sk_ask.specs.Calls.{OfCall}
 use Rattle.sk_ask.specs.Endings.{Ending, answered}
 use Rattle.sk_ask.specs.Steps.{MayBeSpent, when_steps, picture_steps}
-use Rattle.sk_ask.specs.Troubles.{IsTrouble}
+use Rattle.sk_ask.specs.Troubles.{OfFiles}
 
 -- a text is the picture of the call's tree where `--dot` asks for one, and else it tells the conditions of the chain's verdicts,
 -- each as far as the steps reach that ask gives
@@ -28,10 +27,9 @@ abbrev pub TellsWhenOf : (ℕ → Bool) → Architecture → Bool → Option ℕ
 TellsWhenOf may_spend by dot call chain notes ending =
     (text : List ℕ) × IsWhenText may_spend by dot call (chain_on by chain) text × (ending ≡ answered notes text false)
 
--- the conditions or the picture of the chain that the files make; or no call has the name, or a file is refused or not read
-abbrev pub AnswersWhen : (List ℕ → Option (List ℕ)) → (ℕ → Bool) → Context → Question → Ending → Type 0
+-- the conditions or the picture of the chain that the files make
+abbrev pub AnswersWhen : (List ℕ → Held) → (ℕ → Bool) → Context → Question → Ending → Type 0
 AnswersWhen held may_spend context asked ending =
-    ((found : Filters) × (chain : List (List Insn)) × (notes : List ℕ) × ReadsFilters held context asked.names found chain notes
-    × (call : Option ℕ) × IsAskedCall (architecture_of asked.arch) asked.call call
-    × TellsWhenOf may_spend (architecture_of asked.arch) asked.dot call chain notes ending)
-    ⊎ (IsTrouble ending (λ why. IsNoCall (architecture_of asked.arch) why asked.call) ⊎ IsTrouble ending (IsRefusedOf held context asked.names))
+    OfCall (architecture_of asked.arch) asked.call ending (λ call.
+    OfFiles held context asked.names ending (λ found chain notes.
+    TellsWhenOf may_spend (architecture_of asked.arch) asked.dot call chain notes ending))

@@ -2,7 +2,8 @@
 ghost use Rattle.std.specs.Prelude.{◌≡◌, ◌≤◌, true, false, [], IfOk, IsSome, Ok, length, map, string_bytes};
 ghost use Rattle.sk_ask_filters.specs.Counts.{CountsReads};
 ghost use Rattle.sk_ask.specs.Answering.{AnswersWords, AnswersAsked, AnswersThere, AnswersQuestion};
-ghost use Rattle.sk_ask.specs.Asking.{question_of, asked_of, nothing_asked, tells_calls, wanted};
+ghost use Rattle.sk_ask.specs.Asking.{asked_of, nothing_asked, tells_calls, wanted};
+ghost use Rattle.sk_ask.specs.Asked.{question_of};
 ghost use Rattle.sk_ask.specs.Endings.{Complains, answered, ending_of, wordless_line, written};
 ghost use Rattle.sk_ask.specs.Telling.{Told};
 

@@ -1,7 +1,8 @@
 //! Whether all is there that a word of `ask` wants.
 ghost use Rattle.std.specs.Prelude.{◌≡◌, IfOk, slice_get};
 ghost use Rattle.std.specs.Option.{option_map};
-ghost use Rattle.sk_ask.specs.Asking.{tells_arguments, is_turned, ended, complete, understood, named, none_missing, two_named, missing, wanted, question_of, Asks, HasCall, HasNames};
+ghost use Rattle.sk_ask.specs.Asking.{tells_arguments, is_turned, ended, complete, understood, named, none_missing, two_named, missing, wanted};
+ghost use Rattle.sk_ask.specs.Asked.{question_of, Asks, HasCall, HasNames};
 
 use crate::word::Word;
 use crate::words::{Asked, expected_line};

@@ -3,7 +3,7 @@ ghost use Rattle.std.specs.Prelude.{◌≡◌, ◌++◌, take, drop, map, string
 ghost use Rattle.sk_filter.specs.Chains.{IsWithinLimit};
 ghost use Rattle.sk_ask_filters.specs.Counts.{CountsReads};
 ghost use Rattle.sk_ask.specs.Endings.{ending_of};
-ghost use Rattle.sk_ask.specs.Asking.{question_of};
+ghost use Rattle.sk_ask.specs.Asked.{question_of};
 ghost use Rattle.sk_ask.specs.Diffs.{AnswersDiff, AnswersSides, IsDiff, relation_asked, undecided_text};
 
 use crate::analysis::Analysis;

@@ -2,7 +2,8 @@
 ghost use Rattle.std.specs.Prelude.{◌≡◌, ◌≤◌, length, map, string_bytes};
 ghost use Rattle.sk_ask_filters.specs.Counts.{CountsReads};
 ghost use Rattle.sk_ask.specs.Endings.{ComesTo, ending_of};
-ghost use Rattle.sk_ask.specs.Asking.{question_of, wanted};
+ghost use Rattle.sk_ask.specs.Asking.{wanted};
+ghost use Rattle.sk_ask.specs.Asked.{question_of};
 ghost use Rattle.sk_ask.specs.Replays.{AnswersReplay, AnswersLog, replayed};
 
 use crate::answer::Answer;

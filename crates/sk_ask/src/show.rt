@@ -1,7 +1,7 @@
 //! `ask show`: the listing of one filter for people.
 ghost use Rattle.sk_ask_filters.specs.Counts.{CountsReads};
 ghost use Rattle.sk_ask.specs.Endings.{ending_of};
-ghost use Rattle.sk_ask.specs.Asking.{question_of};
+ghost use Rattle.sk_ask.specs.Asked.{question_of};
 ghost use Rattle.sk_ask.specs.Shows.{AnswersShow, Shows};
 
 use crate::answer::Answer;

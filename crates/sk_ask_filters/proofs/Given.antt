@@ -21,7 +21,8 @@ use Rattle.sk_ask_filters.specs.Filters.{Filters, no_filters, with_filter, with_
 use Rattle.sk_ask_filters.specs.Forms.{form_of, without_returns}
 use Rattle.sk_ask_filters.specs.Lines.{says}
 use Rattle.sk_ask_filters.specs.declared.found.Found.{Found}
-use Rattle.sk_ask_filters.specs.Finding.{Finds, filters_of, found_in}
+use Rattle.sk_ask_filters.specs.Finding.{filters_of}
+use Rattle.sk_ask_filters.specs.Answers.{Finds, found_in}
 use Rattle.sk_ask_filters.specs.Given.{ArePlaced, AreGiven, IsGiven}
 
 -- ---- steps

@@ -1,24 +1,7 @@
--- What the code's answers say of what was found.
-use Rattle.std.specs.Prelude.{ℕ, ◌≡◌, List, map, Vec, Option, Result, Ok, Err}
-use Rattle.std.specs.Global.{Global}
-use Rattle.std.specs.Option.{option_map}
-use Rattle.sk_ask_filters.specs.declared.fault.LineFault.{LineFault}
-use Rattle.sk_ask_filters.specs.declared.fault.Refused.{Refused}
+-- What was found, as the code has it.
+use Rattle.std.specs.Prelude.{map}
 use Rattle.sk_ask_filters.specs.declared.found.Found.{Found}
 use Rattle.sk_ask_filters.specs.Filters.{Filters}
 
 abbrev pub filters_of : Found → Filters
 filters_of found = record { images = map (λ image. image.items) found.images.items; places = found.places.items }
-
-abbrev pub found_in : Result Found Refused → Result Filters Refused
-found_in (Ok found) = Ok (filters_of found)
-found_in (Err refused) = Err refused
-
--- the filters are found, or it is this file that is refused
-abbrev pub Finds : Result Found Refused → Result Filters Refused → Type 0
-Finds (Ok found) filters = filters ≡ Ok (filters_of found)
-Finds (Err refused) filters = filters ≡ Err refused
-
-abbrev pub Says : Result (Option (Vec ℕ Global)) LineFault → Result (Option (List ℕ)) LineFault → Type 0
-Says (Ok image) said = said ≡ Ok (option_map (λ image. image.items) image)
-Says (Err fault) said = said ≡ Err fault

@@ -7,6 +7,8 @@ pub mod Texts
 pub mod Complaints
 pub mod Counts
 pub mod Shelves
+pub mod Taking
 pub mod Expanding
 pub mod Reading
+pub mod Answers
 pub mod Images

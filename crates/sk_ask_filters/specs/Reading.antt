@@ -1,5 +1,5 @@
 -- What is known of filters that were read from files by their names.
-use Rattle.std.specs.Prelude.{ℕ, ◌≡◌, ◌⊎◌, List, Option, Some, Result, Ok, Err, slice_get, ⊤}
+use Rattle.std.specs.Prelude.{ℕ, ◌≡◌, ◌⊎◌, List, Some, Result, Ok, Err, slice_get, ⊤}
 use Rattle.sk_insn.specs.declared.insn.Insn.{Insn}
 use Rattle.sk_ask_filters.specs.declared.fault.Refused.{Refused}
 use Rattle.sk_ask_filters.specs.Filters.{Filters, filters_in, chain_of}
@@ -11,7 +11,7 @@ use Rattle.sk_ask_filters.specs.declared.trouble.Trouble.TheVariants as trouble
 use Rattle.sk_profile_json.specs.declared.context.Context.{Context}
 use Rattle.sk_ask_filters.specs.Complaints.{about}
 use Rattle.sk_ask_filters.specs.Expanding.{StandFor, IsFirstWithout}
-use Rattle.sk_ask_filters.specs.Shelves.{AreHeld, IsUnreadOf}
+use Rattle.sk_ask_filters.specs.Shelves.{Held, AreContents, IsUnreadOf}
 
 -- the line that refuses one of the files with these names, which names it
 abbrev pub IsRefusal : List (List ℕ) → Refused → List ℕ → Type 0
@@ -36,10 +36,6 @@ judged files = elim (filters_in files) [
 abbrev pub pair_of : Given → Filters × List (List Insn)
 pair_of given = (filters_of given.found, given.chain)
 
-abbrev pub Judges : Result Given Refused → Result (Filters × List (List Insn)) Refused → Type 0
-Judges (Ok given) said = said ≡ Ok (pair_of given)
-Judges (Err refused) said = said ≡ Err refused
-
 -- of files with these names
 abbrev pub IsReadAs : List (List ℕ) → Result Given Trouble → Result (Filters × List (List Insn)) Refused → Type 0
 IsReadAs names (Ok given) said = said ≡ Ok (pair_of given)
@@ -51,9 +47,9 @@ IsReadAs names (Err trouble.Memory) said = ⊤
 
 -- these are the filters in the files with these names, and their chain, where a profile stands for its filter; and these lines
 -- are told of the profiles
-abbrev pub ReadsFilters : (List ℕ → Option (List ℕ)) → Context → List (List ℕ) → Filters → List (List Insn) → List ℕ → Type 0
+abbrev pub ReadsFilters : (List ℕ → Held) → Context → List (List ℕ) → Filters → List (List Insn) → List ℕ → Type 0
 ReadsFilters held context names found chain notes =
-    (files images : List (List ℕ)) × AreHeld held names files
+    (files images : List (List ℕ)) × AreContents 1048576 held names files
     × StandFor context names files images notes × (judged images ≡ Ok (found, chain))
 
 -- what the files stand for is refused, and the line names the file
@@ -63,8 +59,8 @@ IsRefusedIn context names files why =
 
 -- one of the files, of at most 1048576 bytes each, is not read, or stands for nothing, or what they stand for is refused, or
 -- memory
-abbrev pub IsRefusedOf : (List ℕ → Option (List ℕ)) → Context → List (List ℕ) → Trouble → Type 0
+abbrev pub IsRefusedOf : (List ℕ → Held) → Context → List (List ℕ) → Trouble → Type 0
 IsRefusedOf held context names why =
     IsUnreadOf 1048576 held names why
-    ⊎ (((files : List (List ℕ)) × AreHeld held names files × (IsFirstWithout context names files why ⊎ IsRefusedIn context names files why))
+    ⊎ (((files : List (List ℕ)) × AreContents 1048576 held names files × (IsFirstWithout context names files why ⊎ IsRefusedIn context names files why))
     ⊎ (why ≡ trouble.Memory))

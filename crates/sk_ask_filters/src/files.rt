@@ -1,7 +1,7 @@
 //! Several files, one after the other.
 ghost use Rattle.std.specs.Prelude.{◌≡◌, IfOk, length, map};
 ghost use Rattle.sk_ask_filters.specs.Filters.{filters_in};
-ghost use Rattle.sk_ask_filters.specs.Finding.{Finds, found_in};
+ghost use Rattle.sk_ask_filters.specs.Answers.{Finds, found_in};
 ghost use Rattle.sk_ask_filters.specs.Given.{AreGiven};
 
 use crate::fault::Refused;

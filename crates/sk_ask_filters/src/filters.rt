@@ -4,7 +4,8 @@ ghost use Rattle.sk_ask_filters.specs.Filters.{chain_of};
 ghost use Rattle.sk_ask_filters.specs.Finding.{filters_of};
 ghost use Rattle.sk_ask_filters.specs.Given.{ArePlaced};
 ghost use Rattle.sk_ask_filters.specs.Counts.{CountsReads};
-ghost use Rattle.sk_ask_filters.specs.Reading.{ReadsFilters, IsRefusal, IsRefusedOf, IsReadAs, Judges, judged, with_chain};
+ghost use Rattle.sk_ask_filters.specs.Reading.{ReadsFilters, IsRefusal, IsRefusedOf, IsReadAs, judged, with_chain};
+ghost use Rattle.sk_ask_filters.specs.Answers.{Judges};
 
 use crate::attaching::attach;
 use crate::complaint::about;

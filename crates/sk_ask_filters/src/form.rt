@@ -4,7 +4,8 @@ ghost use Rattle.std.specs.List.{list_all};
 ghost use Rattle.sk_text.specs.Hexadecimal.{hex_text_bytes};
 ghost use Rattle.sk_ask_filters.specs.Forms.{form_of, is_digit_or_blank, without_returns};
 ghost use Rattle.sk_ask_filters.specs.Filters.{with_file, with_digits, some_more};
-ghost use Rattle.sk_ask_filters.specs.Finding.{filters_of, found_in, Finds};
+ghost use Rattle.sk_ask_filters.specs.Finding.{filters_of};
+ghost use Rattle.sk_ask_filters.specs.Answers.{found_in, Finds};
 
 use crate::fault::{FileFault, Refused};
 use crate::found::{Found, Place, with_filter};

@@ -1,7 +1,8 @@
 //! Filters that were found in files, one after the other.
 ghost use Rattle.std.specs.Prelude.{◌≡◌, IfOk};
 ghost use Rattle.sk_ask_filters.specs.Filters.{with_filter, no_filters};
-ghost use Rattle.sk_ask_filters.specs.Finding.{filters_of, Finds};
+ghost use Rattle.sk_ask_filters.specs.Finding.{filters_of};
+ghost use Rattle.sk_ask_filters.specs.Answers.{Finds};
 
 use crate::fault::{FileFault, Refused};
 use sk_engines::MOST_FILTERS;

@@ -24,6 +24,6 @@ pub use files::find;
 pub use filters::{Filters, filters_in};
 pub use form::{Form, form_of};
 pub use found::{Found, Place};
-pub use shelf::{MOST_LOG_BYTES, Shelf, Unread, content};
+pub use shelf::{MOST_LOG_BYTES, Shelf, Unopened, Unread, content};
 pub use text::fault_text;
 pub use trouble::Trouble;

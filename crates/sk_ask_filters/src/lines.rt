@@ -4,7 +4,8 @@ ghost use Rattle.sk_text.specs.Lines.{lines_of, words_of};
 ghost use Rattle.sk_text.specs.Hexadecimal.{hex_bytes};
 ghost use Rattle.sk_ask_filters.specs.Lines.{says, filter_says};
 ghost use Rattle.sk_ask_filters.specs.Filters.{with_line, with_lines};
-ghost use Rattle.sk_ask_filters.specs.Finding.{filters_of, Finds, Says};
+ghost use Rattle.sk_ask_filters.specs.Finding.{filters_of};
+ghost use Rattle.sk_ask_filters.specs.Answers.{Finds, Says};
 
 use crate::fault::{FileFault, LineFault, Refused};
 use crate::found::{Found, Place, with_filter};

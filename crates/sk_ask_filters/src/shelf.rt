@@ -1,8 +1,9 @@
 //! Files by their names, and their bytes.
-ghost use Rattle.std.specs.Prelude.{◌≡◌, ◌≤◌, ◌<◌, ◌^◌, ◌-◌, ℕ, List, Option, take, IfOk, IfErr, IfSome, OnOk, ◌++◌, [], ◌∷◌, length, map, string_bytes, vec_len};
+ghost use Rattle.std.specs.Prelude.{◌≡◌, ◌≤◌, ◌<◌, ◌^◌, ◌-◌, ℕ, List, IfOk, IfErr, OnOk, ◌++◌, [], ◌∷◌, codes, length, map, string_bytes, vec_len};
 ghost use Rattle.sk_ask_filters.specs.Counts.{CountsReads, CountsTrouble};
 ghost use Rattle.sk_ask_filters.specs.Complaints.{about};
-ghost use Rattle.sk_ask_filters.specs.Shelves.{AreHeld, CountsUnread, CountsWhy, IsUnknownWhere, IsUnread, IsUnreadOf, too_long_text, unread_text};
+ghost use Rattle.sk_ask_filters.specs.Shelves.{Held, AreContents, IsContent, IsUnread, IsUnreadOf, too_long_text, unopened_text};
+ghost use Rattle.sk_ask_filters.specs.Taking.{CountsUnread, CountsWhy, IsTaken, IsUntaken};
 
 use crate::complaint::about;
 use crate::trouble::Trouble;
@@ -12,8 +13,8 @@ use std::alloc::{AllocError, Global};
 
 /// Where files are read, each once, by their names.
 pub trait Shelf {
-    // The bytes of the file with this name, where they are known.
-    ghost held: { Self → List ℕ → Option (List ℕ) };
+    // What is known of the file with this name.
+    ghost held: { Self → List ℕ → Held };
 
     /// The first `most` bytes of the file with this name, or all where it has fewer. It is opened once, and a read that fails
     /// is counted.
@@ -24,23 +25,29 @@ pub trait Shelf {
         name: &str,
         most: usize,
     ) -> Result<Vec<u8>, Unread>
-        ensures bytes { IfOk result (λ bytes. IfSome (held self.now name.now) (λ whole. bytes.items ≡ take most whole)) }
-        ensures limit { IfOk result (λ bytes. vec_len bytes ≤ most) }
-        ensures unknown { IfErr result (λ why. IsUnknownWhere why (held self.now name.now)) }
+        ensures taken { IfOk result (λ bytes. IsTaken most (held self.now name.now) bytes.items) }
+        ensures untaken { IfErr result (IsUntaken (held self.now name.now)) }
         ensures counted { CountsUnread result reads.old reads.new };
 }
 
-/// Why the bytes of a file are not there.
+/// Why a file can't be opened.
 #[derive(Clone, Copy, Debug, PartialEq, Eq)]
-pub enum Unread {
+pub enum Unopened {
     /// No file has the name.
     Missing,
     /// It may not be read.
     Forbidden,
     /// It is a folder.
     Folder,
-    /// It can't be opened for another reason.
-    Unopened,
+    /// There is another reason.
+    Other,
+}
+
+/// Why the bytes of a file are not there.
+#[derive(Clone, Copy, Debug, PartialEq, Eq)]
+pub enum Unread {
+    /// It can't be opened.
+    Unopened(Unopened),
     /// A read failed.
     Reading,
     /// Memory was refused.
@@ -48,10 +55,11 @@ pub enum Unread {
 }
 
 impl From<ReadFault> for Unread {
-    ghost use Rattle.std.specs.Prelude.{◌≡◌};
-    ghost use Rattle.sk_ask_filters.specs.Shelves.{of_reading};
+    ghost use Rattle.std.specs.Prelude.{◌≡◌, ◌⊎◌};
+    ghost use Rattle.sk_io.specs.declared.source.ReadFault.TheVariants as fault;
+    ghost use Rattle.sk_ask_filters.specs.declared.shelf.Unread.TheVariants as unread;
 
-    ghost from_gives = { λ fault unread. unread ≡ of_reading fault };
+    ghost from_gives = { λ of why. ((of ≡ fault.Read) × (why ≡ unread.Reading)) ⊎ ((of ≡ fault.Memory) × (why ≡ unread.Memory)) };
 
     fn from(fault: ReadFault) -> Unread {
         match fault {
@@ -65,7 +73,7 @@ impl From<ReadFault> for Unread {
 pub const MOST_LOG_BYTES: usize = 268_435_456;
 
 /// What the file with this name holds, which may have so many bytes.
-#[tactic(auto, using(crate::proofs::Wholes::held_whole, crate::proofs::Wholes::is_longer))]
+#[tactic(auto, using(crate::proofs::Wholes::is_content))]
 pub fn content<S: Shelf>(
     alloc: Global,
     shelf: &S,
@@ -74,12 +82,12 @@ pub fn content<S: Shelf>(
     most: usize,
 ) -> Result<Vec<u8>, Trouble>
     requires limit { most < 2 ^ 64 - 1 }
-    ensures held { IfOk result (λ bytes. IfSome (S.held shelf.now name.now) (λ whole. bytes.items ≡ whole)) }
+    ensures content { IfOk result (λ bytes. IsContent most (S.held shelf.now name.now) bytes.items) }
     ensures unread { IfErr result (IsUnread most (S.held shelf.now name.now) name.now) }
     ensures counted { CountsReads result reads.old reads.new }
 {
     // It is made before the read: where one has failed no memory may be asked for.
-    let failed = about(alloc, name, unread_text(Unread::Reading))?;
+    let failed = about(alloc, name, "reading failed")?;
     match shelf.take(alloc, reads, name, most + 1) {
         Ok(bytes) if bytes.len() > most => Err(Trouble::Refused(too_long(alloc, name, most)?)),
         Ok(bytes) => Ok(bytes),
@@ -96,32 +104,28 @@ fn too_long(alloc: Global, name: &str, most: usize) -> Result<Vec<u8>, AllocErro
 
 // Why there is no content, where a line is made for a read that failed.
 fn untaken(alloc: Global, name: &str, unread: Unread, failed: Vec<u8>) -> Trouble
-    requires { failed.items ≡ about name.now (unread_text Unread.Reading) }
-    ensures unread { (most : ℕ) → (held : Option (List ℕ)) → IsUnknownWhere unread held → IsUnread most held name.now result }
+    requires { failed.items ≡ about name.now (codes "reading failed") }
+    ensures unread { (most : ℕ) → (held : Held) → IsUntaken held unread → IsUnread most held name.now result }
     ensures counted { (old : ℕ) → (new : ℕ) → CountsWhy unread old new → CountsTrouble result old new }
 {
     match unread {
         Unread::Reading => Trouble::Reading(failed),
         Unread::Memory => Trouble::Memory,
-        Unread::Missing | Unread::Forbidden | Unread::Folder | Unread::Unopened => {
-            match about(alloc, name, unread_text(unread)) {
-                Ok(line) => Trouble::Refused(line),
-                Err(AllocError) => Trouble::Memory,
-            }
-        }
+        Unread::Unopened(why) => match about(alloc, name, unopened_text(why)) {
+            Ok(line) => Trouble::Refused(line),
+            Err(AllocError) => Trouble::Memory,
+        },
     }
 }
 
-fn unread_text(unread: Unread) -> &'static str
-    ensures text { result.now ≡ unread_text unread }
+fn unopened_text(why: Unopened) -> &'static str
+    ensures text { result.now ≡ unopened_text why }
 {
-    match unread {
-        Unread::Missing => "no such file",
-        Unread::Forbidden => "may not be read",
-        Unread::Folder => "is a folder",
-        Unread::Unopened => "can't be opened",
-        Unread::Reading => "reading failed",
-        Unread::Memory => "out of memory",
+    match why {
+        Unopened::Missing => "no such file",
+        Unopened::Forbidden => "may not be read",
+        Unopened::Folder => "is a folder",
+        Unopened::Other => "can't be opened",
     }
 }
 
@@ -132,7 +136,7 @@ pub fn contents<S: Shelf>(
     reads: &mut u64,
     names: &[String],
 ) -> Result<Vec<Vec<u8>>, Trouble>
-    ensures held { IfOk result (λ files. AreHeld (S.held shelf.now) (map string_bytes names.now) (map (λ file. file.items) files.items)) }
+    ensures contents { IfOk result (λ files. AreContents MOST_BYTES (S.held shelf.now) (map string_bytes names.now) (map (λ file. file.items) files.items)) }
     ensures each { IfOk result (λ files. vec_len files ≡ length names.now) }
     ensures unread { IfErr result (IsUnreadOf MOST_BYTES (S.held shelf.now) (map string_bytes names.now)) }
     ensures counted { CountsReads result reads.old reads.new }

@@ -104,6 +104,19 @@ const ANSWERS: &[(&[&str], &[u8])] = &[
         b"; 0 nr\n    ldabs 0\n; 1 mkdir\n    jeq 39 +0 at3\n; 2 errno/1 EPERM\n    ret 0x00050001\nat3:\n; 3 allow\n    ret 0x7fff0000\n",
     ),
     (
+        &["show", "all", "--arch", "s390x"],
+        b"; 0 allow\n    ret 0x7fff0000\n",
+    ),
+    (
+        &["calls", "--call", "getpid", "sixteen", "sixteen"],
+        b"39 getpid allow\n",
+    ),
+    (
+        &["calls", "--call", "read", "kernels"],
+        b"0 read errno/1 EPERM\n",
+    ),
+    (&["calls", "--call", "write", "kernels"], b"1 write allow\n"),
+    (
         &["arches", "guarded"],
         b"x86-64 judged call by call\nx32 allow\ni386 kill_process\naarch64 kill_process\narm kill_process\nriscv64 kill_process\nppc64le kill_process\ns390x kill_process\nloongarch64 kill_process\nany other kill_process\n",
     ),

@@ -1,8 +1,9 @@
 //! Files and writers in memory.
-ghost use Rattle.std.specs.Prelude.{None};
+ghost use Rattle.std.specs.Prelude.{◌≡◌, IfErr, IfOk, vec_len};
+ghost use Rattle.sk_ask_filters.specs.Shelves.{unknown};
 
 use sk_ask::{Trees, command};
-use sk_ask_filters::{Shelf, Unread};
+use sk_ask_filters::{Shelf, Unopened, Unread};
 use sk_io::Counted;
 use std::alloc::{AllocError, Global};
 use std::io;
@@ -14,7 +15,7 @@ pub const GETPID: &[u8] = b"2000000000000000150000012700000006000000010005000600
 /// Everything is allowed, as raw bytes.
 pub const ALL: &[u8] = &[6, 0, 0, 0, 0, 0, 0xff, 0x7f];
 
-/// The files that each row may name. A read of `fails` fails.
+/// The files that each row may name, beside `mib_and_one`, which has a byte more than a mebibyte. A read of `fails` fails.
 const FILES: &[(&str, &[u8])] = &[
     ("getpid", GETPID),
     ("all", ALL),
@@ -41,6 +42,16 @@ const FILES: &[(&str, &[u8])] = &[
     ),
     ("cut", b"7 getpid() = 0x7\n7 read(0x3, 0x7f\n"),
     ("empty", b""),
+    (
+        "sixteen",
+        b"filter 060000000000ff7f\nfilter 060000000000ff7f\nfilter 060000000000ff7f\nfilter 060000000000ff7f\nfilter 060000000000ff7f\nfilter 060000000000ff7f\nfilter 060000000000ff7f\nfilter 060000000000ff7f\nfilter 060000000000ff7f\nfilter 060000000000ff7f\nfilter 060000000000ff7f\nfilter 060000000000ff7f\nfilter 060000000000ff7f\nfilter 060000000000ff7f\nfilter 060000000000ff7f\nfilter 060000000000ff7f",
+    ),
+    (
+        "kernels",
+        b"{\"defaultAction\": \"SCMP_ACT_ALLOW\", \"syscalls\": [
+            {\"names\": [\"read\"], \"action\": \"SCMP_ACT_ERRNO\", \"includes\": {\"minKernel\": \"6.12\"}},
+            {\"names\": [\"write\"], \"action\": \"SCMP_ACT_ERRNO\", \"includes\": {\"minKernel\": \"6.13\"}}]}",
+    ),
     ("words", b"; one\nhello\n"),
     ("code", b"# two\nfilter 2100000000000000060000000000ff7f"),
     (
@@ -80,11 +91,23 @@ const FILES: &[(&str, &[u8])] = &[
     ),
 ];
 
+// So many spaces.
+fn blanks(alloc: Global, count: usize) -> Result<Vec<u8>, Unread>
+    ensures each { IfOk result (λ bytes. vec_len bytes ≡ count) }
+    ensures memory { IfErr result (λ why. why ≡ Unread.Memory) }
+{
+    let mut bytes = Vec::new(alloc);
+    match bytes.resize(count, b' ') {
+        Ok(()) => Ok(bytes),
+        Err(AllocError) => Err(Unread::Memory),
+    }
+}
+
 /// A shelf with these files.
 pub struct Files;
 
 impl Shelf for Files {
-    ghost held = { λ _ _. None };
+    ghost held = { λ _ _. unknown };
 
     fn take(
         &self,
@@ -101,11 +124,14 @@ impl Shelf for Files {
                 };
             }
         }
+        if name.as_bytes() == b"mib_and_one".as_slice() {
+            return blanks(alloc, most.min(1_048_577));
+        }
         if name.as_bytes() == b"fails".as_slice() {
             *reads = reads.saturating_add(1);
             return Err(Unread::Reading);
         }
-        Err(Unread::Missing)
+        Err(Unread::Unopened(Unopened::Missing))
     }
 }
 

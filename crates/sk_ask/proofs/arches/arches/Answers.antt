@@ -1,7 +1,7 @@
 use Rattle.std.proofs.Common.{rules, inl}
 use Rattle.sk_ask_filters.specs.Finding.{filters_of}
 use Rattle.sk_ask_filters.proofs.Limits.{judged_within}
-use Rattle.sk_ask.specs.Asking.{question_of}
+use Rattle.sk_ask.specs.Asked.{question_of}
 use Rattle.sk_ask.proofs.Refusing.{no_arches}
 use Rattle.sk_ask.proofs.arches.arches.Goals as goal
 

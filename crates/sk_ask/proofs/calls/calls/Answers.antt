@@ -14,9 +14,13 @@ returns-clause-told g c =
     let call = c.in_ok-call.ensures.call in
     let survey = c.in_ok-survey.ensures.survey in
     inl (
-      filters_of c.in_ok-filters.filters.found,
-      c.in_ok-filters.filters.chain,
-      c.in_ok-filters.filters.notes.items,
-      c.in_ok-filters.ensures.read,
-      (c.in_ok-call.call, rw by at call, rw by at survey),
+      c.in_ok-call.call,
+      rw by at call,
+      inl (
+        filters_of c.in_ok-filters.filters.found,
+        c.in_ok-filters.filters.chain,
+        c.in_ok-filters.filters.notes.items,
+        c.in_ok-filters.ensures.read,
+        rw by at survey,
+      ),
     )

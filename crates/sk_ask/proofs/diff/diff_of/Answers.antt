@@ -1,6 +1,7 @@
-use Rattle.std.proofs.Common.{inl}
+use Rattle.std.proofs.Common.{inl, inr}
 use Rattle.sk_ask_filters.specs.Finding.{filters_of}
 use Rattle.sk_ask_filters.proofs.Limits.{judged_within}
+use Rattle.sk_ask.proofs.Troubles.{handed_on}
 use Rattle.sk_ask.proofs.diff.diff_of.Goals as goal
 
 pub compared-requires : goal.compared-requires
@@ -13,12 +14,18 @@ pub returns-clause-told : goal.returns-clause-told
 returns-clause-told g c =
     inl (
       filters_of c.in_ok-old.old.found,
-      filters_of c.in_ok-new.new.found,
       c.in_ok-old.old.chain,
-      c.in_ok-new.new.chain,
       c.in_ok-old.old.notes.items,
-      c.in_ok-new.new.notes.items,
       c.in_ok-old.ensures.read,
-      c.in_ok-new.ensures.read,
-      c.compared.ensures.told,
+      inl (filters_of c.in_ok-new.new.found, c.in_ok-new.new.chain, c.in_ok-new.new.notes.items, c.in_ok-new.ensures.read, c.compared.ensures.told),
+    )
+
+pub returns-in_err-new-clause-told : goal.returns-in_err-new-clause-told
+returns-in_err-new-clause-told g c =
+    inl (
+      filters_of c.in_ok-old.old.found,
+      c.in_ok-old.old.chain,
+      c.in_ok-old.old.notes.items,
+      c.in_ok-old.ensures.read,
+      inr (handed_on c.from_residual-in_err-new.result _ _ c.from_residual-in_err-new.ensures.1 c.in_err-new.ensures.refused),
     )

@@ -7,10 +7,12 @@ returns-clause-told g c =
     let told = c.replayed.ensures.told in
     inl (
       c.in_ok-log.log.items,
-      filters_of c.in_ok-filters.filters.found,
-      c.in_ok-filters.filters.chain,
-      c.in_ok-filters.filters.notes.items,
-      c.in_ok-log.ensures.held,
-      c.in_ok-filters.ensures.read,
-      rw c.deref.ensures.value at told,
+      c.in_ok-log.ensures.content,
+      inl (
+        filters_of c.in_ok-filters.filters.found,
+        c.in_ok-filters.filters.chain,
+        c.in_ok-filters.filters.notes.items,
+        c.in_ok-filters.ensures.read,
+        rw c.deref.ensures.value at told,
+      ),
     )

@@ -6,10 +6,12 @@ pub returns-clause-told : goal.returns-clause-told
 returns-clause-told g c =
     inl (
       c.in_ok-call.call,
-      filters_of c.in_ok-filters.filters.found,
-      c.in_ok-filters.filters.chain,
-      c.in_ok-filters.filters.notes.items,
       c.in_ok-call.ensures.call,
-      c.in_ok-filters.ensures.read,
-      c.in_ok-path.ensures.told,
+      inl (
+        filters_of c.in_ok-filters.filters.found,
+        c.in_ok-filters.filters.chain,
+        c.in_ok-filters.filters.notes.items,
+        c.in_ok-filters.ensures.read,
+        c.in_ok-path.ensures.told,
+      ),
     )

@@ -1,5 +1,6 @@
 use Rattle.std.proofs.Common.{◌≡◌, map, length, string_bytes}
-use Rattle.sk_ask.specs.Asking.{asked_of, nothing_asked, question_of}
+use Rattle.sk_ask.specs.Asking.{asked_of, nothing_asked}
+use Rattle.sk_ask.specs.Asked.{question_of}
 use Rattle.sk_ask.proofs.words.asked_in.Given as goal
 
 abbrev pub invariant-loop-text : goal.invariant-loop-text
