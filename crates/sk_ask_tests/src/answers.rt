@@ -5,6 +5,10 @@ use std::test::Fail;
 /// The words, and the whole answer.
 const ANSWERS: &[(&[&str], &[u8])] = &[
     (
+        &["diff", "argument", "argument"],
+        b"the same on every call\n",
+    ),
+    (
         &["calls", "--call", "getpid", "getpid"],
         b"39 getpid errno/1 EPERM\n",
     ),
@@ -261,10 +265,10 @@ fn notes_stand_beside_an_answer(rt: HostRuntime) -> Result<(), Fail> {
     Ok(())
 }
 
-// A filter that answers an argument can't be followed, and that is no answer.
+// Two filters that answer an argument can't be followed, and that is no answer.
 #[test]
 fn undecided_is_trouble(rt: HostRuntime) -> Result<(), Fail> {
-    let ran = run(rt.alloc(), &["diff", "argument", "argument"], 0)?;
+    let ran = run(rt.alloc(), &["diff", "argument", "copied"], 0)?;
     assert_eq!(rt; (ran.status, ran.out.len()), (2, 0));
     assert!(rt;
         ran.complaints.starts_with(
