@@ -34,45 +34,6 @@ const TROUBLES: &[(&[&str], &[u8])] = &[
         b"ask: no call is named 010\n",
     ),
     (&["calls", "a\nb"], b"ask: a?b: no such file\n"),
-    (&["calls", "a\x7fb~"], b"ask: a?b~: no such file\n"),
-    (
-        &["calls", "nofile", "other"],
-        b"ask: nofile: no such file\n",
-    ),
-    (&["filter", "words", "other"], b"ask: other: no such file\n"),
-    (
-        &["replay", "other", "nofile"],
-        b"ask: other: no such file\n",
-    ),
-    (&["diff", "other", "nofile"], b"ask: other: no such file\n"),
-    (
-        &["calls", "--call", "mseal2", "nofile"],
-        b"ask: no call is named mseal2\n",
-    ),
-    (
-        &["calls", "mib_and_one"],
-        b"ask: mib_and_one: has more than 1048576 bytes\n",
-    ),
-    (
-        &["filter", "sixteen", "sixteen", "words"],
-        b"ask: words: line 2: expected filter HEX\n",
-    ),
-    (
-        &["filter", "sixteen", "sixteen", "two"],
-        b"ask: two: line 2: one filter too many: expected at most 32 in all files\n",
-    ),
-    (
-        &["why", "--arch", "s390x", "read", "nofile"],
-        b"ask: why: arguments with their highest byte first are not followed: --arch s390x\n",
-    ),
-    (
-        &["replay", "--arch", "s390x", "log", "nofile"],
-        b"ask: replay: arguments with their highest byte first are not followed: --arch s390x\n",
-    ),
-    (
-        &["diff", "--arch", "s390x", "all", "nofile"],
-        b"ask: diff: arguments with their highest byte first are not followed: --arch s390x\n",
-    ),
     (&["when"], b"ask: when: no FILE is given\n"),
     (
         &["when", "all", "--call"],
@@ -268,9 +229,70 @@ const TROUBLES: &[(&[&str], &[u8])] = &[
     ),
 ];
 
+// Where several things are wrong, the first is told.
+const FIRST_TROUBLES: &[(&[&str], &[u8])] = &[
+    (&["calls", "a\x7fb~"], b"ask: a?b~: no such file\n"),
+    (
+        &["calls", "nofile", "other"],
+        b"ask: nofile: no such file\n",
+    ),
+    (&["filter", "words", "other"], b"ask: other: no such file\n"),
+    (
+        &["replay", "other", "nofile"],
+        b"ask: other: no such file\n",
+    ),
+    (&["diff", "other", "nofile"], b"ask: other: no such file\n"),
+    (
+        &["calls", "--call", "mseal2", "nofile"],
+        b"ask: no call is named mseal2\n",
+    ),
+    (
+        &["calls", "mib_and_one"],
+        b"ask: mib_and_one: has more than 1048576 bytes\n",
+    ),
+    (
+        &["filter", "sixteen", "sixteen", "words"],
+        b"ask: words: line 2: expected filter HEX\n",
+    ),
+    (
+        &["filter", "sixteen", "sixteen", "two"],
+        b"ask: two: line 2: one filter too many: expected at most 32 in all files\n",
+    ),
+    (
+        &["why", "--arch", "s390x", "read", "nofile"],
+        b"ask: why: arguments with their highest byte first are not followed: --arch s390x\n",
+    ),
+    (
+        &["replay", "--arch", "s390x", "log", "nofile"],
+        b"ask: replay: arguments with their highest byte first are not followed: --arch s390x\n",
+    ),
+    (
+        &["diff", "--arch", "s390x", "all", "nofile"],
+        b"ask: diff: arguments with their highest byte first are not followed: --arch s390x\n",
+    ),
+];
+
 #[test]
 fn trouble_leaves_no_answer(rt: HostRuntime) -> Result<(), Fail> {
     for &(words, line) in TROUBLES {
+        let ran = run(rt.alloc(), words, 0)?;
+        assert_eq!(rt;
+            (
+                ran.status,
+                ran.out.len(),
+                ran.complaints.as_slice(),
+                ran.reads
+            ),
+            (2, 0, line, 0),
+            "at {words:?}"
+        );
+    }
+    Ok(())
+}
+
+#[test]
+fn the_first_trouble_is_told(rt: HostRuntime) -> Result<(), Fail> {
+    for &(words, line) in FIRST_TROUBLES {
         let ran = run(rt.alloc(), words, 0)?;
         assert_eq!(rt;
             (
