@@ -351,6 +351,10 @@ const REFUSED: &[(&[u8], &str)] = &[
         b"{\"defaultAction\": \"SCMP_ACT_ERRNO\", \"syscalls\": [{\"names\": [\"read\"], \"action\": \"SCMP_ACT_ALLOW\"}, {\"names\": [\"read\"], \"action\": \"SCMP_ACT_ALLOW\", \"args\": [{\"index\": 0, \"value\": 1, \"op\": \"SCMP_CMP_EQ\"}, {\"index\": 0, \"value\": 1, \"op\": \"SCMP_CMP_EQ\"}]}]}",
         "entry 2 of syscalls: args: expected one comparison of each argument at most",
     ),
+];
+
+/// The file of a profile with two rules for a call, and whether they clash: where both fit one call, and say different things.
+const CLASHES: &[(&[u8], &str)] = &[
     (
         b"{\"defaultAction\": \"SCMP_ACT_ERRNO\", \"syscalls\": [{\"names\": [\"clone\"], \"action\": \"SCMP_ACT_ALLOW\", \"args\": [{\"index\": 0, \"value\": 1, \"op\": \"SCMP_CMP_EQ\"}]}, {\"names\": [\"clone\"], \"action\": \"SCMP_ACT_LOG\", \"args\": [{\"index\": 1, \"value\": 2, \"op\": \"SCMP_CMP_EQ\"}]}]}",
         "entries 1 and 2 of syscalls clash: both fit clone(0x1, 0x2, 0x0, 0x0, 0x0, 0x0), and they say different things",
@@ -415,6 +419,15 @@ fn refusal(alloc: Global, file: &[u8]) -> Result<String, AllocError> {
 #[test]
 fn refusals(rt: HostRuntime) -> Result<(), Fail> {
     for (file, said) in REFUSED {
+        let told = refusal(rt.alloc(), file)?;
+        assert_eq!(rt; told.as_str(), *said);
+    }
+    Ok(())
+}
+
+#[test]
+fn clashes(rt: HostRuntime) -> Result<(), Fail> {
+    for (file, said) in CLASHES {
         let told = refusal(rt.alloc(), file)?;
         assert_eq!(rt; told.as_str(), *said);
     }
