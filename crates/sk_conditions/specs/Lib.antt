@@ -10,3 +10,4 @@ pub mod WorkedChains
 pub mod WorkedPaths
 pub mod WorkedFollowed
 pub mod Followed
+pub mod Meeting
