@@ -11,3 +11,4 @@ pub mod WorkedPaths
 pub mod WorkedFollowed
 pub mod Followed
 pub mod Meeting
+pub mod Ways

@@ -16,6 +16,7 @@ mod some_words;
 mod standing;
 mod test;
 mod tree;
+mod way;
 mod witness;
 
 pub use budget::{Budget, Budgets};
@@ -23,6 +24,6 @@ pub use chains::chain_tree;
 pub use differences::{Differences, Verdicts, differ};
 pub use explore::program_tree;
 pub use numbers::Numbers;
-pub use standing::{Comparing, Found, Relation, compare, stands};
+pub use standing::{Comparing, Relation, stands};
 pub use test::Test;
 pub use tree::Tree;
