@@ -1,5 +1,5 @@
 -- Ways with a call at hand, and the calls that come to the ends of a tree.
-use Rattle.std.proofs.Common.{◌≡◌, ℕ, zero, suc, ◌*◌, ◌<◌, ◌≤◌, Bool, true, false, not, if◌then◌else◌, List, [], ◌∷◌, ◌++◌, length, slice_index_or, Some, Result, Ok, Err, IfOk, sym, subst, ap, ◌∙◌, refl, arith}
+use Rattle.std.proofs.Common.{◌≡◌, ℕ, zero, suc, ◌*◌, ◌<◌, ◌≤◌, Bool, true, false, not, if◌then◌else◌, List, [], ◌∷◌, ◌++◌, length, slice_index_or, Some, Result, Ok, Err, IfOk, sym, subst, ap, ◌∙◌, refl, arith, append-nil}
 use Rattle.std.specs.Prelude.{filter}
 use Rattle.std.specs.List.{All}
 use Rattle.std.proofs.lemmas.List.{append_assoc}
@@ -66,13 +66,9 @@ keeps_none p (x ∷ xs) all =
     ap (λ b. if b then x ∷ filter p xs else filter p xs) (all 0 x (omega arith))
     ∙ keeps_none p xs (λ k d less. all (suc k) d (omega (arith, less)))
 
-nothing_behind : {A : Type 0} (xs : List A) → xs ++ [] ≡ xs
-nothing_behind [] = refl
-nothing_behind (x ∷ xs) = ap (λ ys. x ∷ ys) (nothing_behind xs)
-
 keeps_first : {A : Type 0} (p : A → Bool) (xs ys : List A) → All (λ x. p x ≡ true) xs → All (λ x. p x ≡ false) ys → filter p (xs ++ ys) ≡ xs
 keeps_first p xs ys pass fail =
-    filter-append p xs ys ∙ ap (λ zs. zs ++ filter p ys) (keeps_all p xs pass) ∙ ap (λ zs. xs ++ zs) (keeps_none p ys fail) ∙ nothing_behind xs
+    filter-append p xs ys ∙ ap (λ zs. zs ++ filter p ys) (keeps_all p xs pass) ∙ ap (λ zs. xs ++ zs) (keeps_none p ys fail) ∙ append-nil xs
 
 keeps_last : {A : Type 0} (p : A → Bool) (xs ys : List A) → All (λ x. p x ≡ false) xs → All (λ x. p x ≡ true) ys → filter p (xs ++ ys) ≡ ys
 keeps_last p xs ys fail pass =

@@ -12,3 +12,4 @@ pub mod WorkedFollowed
 pub mod Followed
 pub mod Meeting
 pub mod Ways
+pub mod WorkedWords

@@ -4,7 +4,7 @@ ghost use Rattle.std.specs.Prelude.{◌≡◌};
 use crate::filters::{chain_of, filter};
 use crate::insns::{ALLOW, EPERM, branch, jeq, ldabs, ret, with_k};
 use sk_conditions::{
-    Budget, Comparing, Found, Numbers, Relation, Test, Tree, chain_tree, compare, program_tree,
+    Budget, Budgets, Comparing, Numbers, Relation, Test, Tree, Verdicts, chain_tree, differ, program_tree,
 };
 use sk_insn::{Comparison, Insn};
 use std::alloc::Global;
@@ -87,49 +87,95 @@ fn flags_decide(rt: HostRuntime) -> Result<(), Fail> {
     Ok(())
 }
 
-// What is found of two filters on the calls of clone(2): whether they answer alike everywhere, and the flags of a call on
-// which they do not.
+// Whether a tree tells a value of each call.
+fn tells_all(tree: &Tree) -> bool {
+    match tree {
+        Tree::Is(_) => true,
+        Tree::Untold => false,
+        Tree::Ask(_, held, failed) => tells_all(held) && tells_all(failed),
+    }
+}
+
+/// What is found of two chains on the calls of clone(2).
+#[derive(Clone, Copy, PartialEq, Eq)]
+struct Told {
+    /// Whether it is told of each call whether the relation holds.
+    is_told: bool,
+    /// The first pair of verdicts between which it fails.
+    fails: Option<Verdicts>,
+    /// The flags for namespaces of the first call at hand that the two chains answer otherwise.
+    flags: Option<u64>,
+}
+
 fn found(
     alloc: Global,
     relation: Relation,
-    old: &[Insn],
-    new: &[Insn],
+    old: &[&[Insn]],
+    new: &[&[Insn]],
     mut budget: Budget,
-) -> Result<(bool, Option<u64>), Fail> {
-    let (old, new) = (chain_of(alloc, &[old])?, chain_of(alloc, &[new])?);
+) -> Result<Told, Fail> {
+    let (old, new) = (chain_of(alloc, old)?, chain_of(alloc, new)?);
     let chains = Comparing {
         relation,
         old: &old,
         new: &new,
         numbers: only(CLONE),
     };
-    Ok(match compare(alloc, chains, &mut budget)? {
-        Found::Everywhere => (true, None),
-        Found::Apart(call) => (false, Some(call.args[0])),
-        Found::Undecided => (false, None),
+    let differences = differ(alloc, chains, &mut budget)?;
+    let mut flags = None;
+    for call in &differences.calls {
+        if flags.is_none() && old.verdict(call) != new.verdict(call) {
+            flags = Some(call.args[0] & u64::from(NAMESPACES));
+        }
+    }
+    Ok(Told {
+        is_told: tells_all(&differences.tree),
+        fails: differences.pairs.first().copied(),
+        flags,
     })
 }
+
+/// All verdicts are told, and they are the same.
+const SAME: Told = Told {
+    is_told: true,
+    fails: None,
+    flags: None,
+};
 
 #[test]
 fn filters_are_compared(rt: HostRuntime) -> Result<(), Fail> {
     let alloc = rt.alloc();
     let (few, all) = (refuses_flags(WITHOUT_CGROUPS), refuses_flags(NAMESPACES));
     let returned = [ldabs(16), with_k(0x16, 0)];
+    let whole = Budget::whole;
     let told = (
-        found(alloc, Relation::Same, &all, &all, Budget::whole())?,
-        found(alloc, Relation::AsStrict, &few, &all, Budget::whole())?,
-        found(alloc, Relation::Same, &few, &all, Budget::whole())?,
-        found(alloc, Relation::AsStrict, &all, &few, Budget::whole())?,
-        found(alloc, Relation::Same, &returned, &returned, Budget::whole())?,
+        found(alloc, Relation::Same, &[&all], &[&all], whole())?,
+        found(alloc, Relation::AsStrict, &[&few], &[&all], whole())?,
+        found(alloc, Relation::Same, &[&few], &[&all], whole())?,
+        found(alloc, Relation::AsStrict, &[&all], &[&few], whole())?,
+        found(alloc, Relation::Same, &[&returned], &[&returned], whole())?,
     );
-    let of_cgroups = (false, Some(0x0200_0000));
+    let of_cgroups = |fails: Option<Verdicts>| Told {
+        is_told: true,
+        fails,
+        flags: Some(0x0200_0000),
+    };
     assert!(rt;
         told == (
-            (true, None),
-            (true, None),
-            of_cgroups,
-            of_cgroups,
-            (false, None)
+            SAME,
+            of_cgroups(None),
+            of_cgroups(Some(Verdicts {
+                old: ALLOW,
+                new: EPERM,
+            })),
+            of_cgroups(Some(Verdicts {
+                old: EPERM,
+                new: ALLOW,
+            })),
+            Told {
+                is_told: false,
+                ..SAME
+            }
         )
     );
     Ok(())
@@ -150,14 +196,51 @@ fn never(value: u32) -> [Insn; 6] {
 #[test]
 fn no_word_meets_both_tests(rt: HostRuntime) -> Result<(), Fail> {
     let alloc = rt.alloc();
+    let (refuses, allows) = (never(EPERM), never(ALLOW));
     let told = found(
         alloc,
         Relation::Same,
-        &never(EPERM),
-        &never(ALLOW),
+        &[&refuses],
+        &[&allows],
         Budget::whole(),
     )?;
-    assert!(rt; told == (true, None));
+    assert!(rt; told == SAME);
+    Ok(())
+}
+
+// A first argument above 200 has an error. It is compared with smaller numbers before, which changes nothing.
+fn compares_often(alloc: Global) -> Result<Vec<Insn>, Fail> {
+    let mut insns = Vec::new(alloc);
+    insns.push(ldabs(16))?;
+    for least in 0..24 {
+        insns.push(branch(0x25, least, 0, 0))?;
+    }
+    insns.extend_from_slice(&above_200()[1..])?;
+    Ok(insns)
+}
+
+fn above_200() -> [Insn; 4] {
+    [
+        ldabs(16),
+        branch(0x25, 200, 0, 1),
+        ret(EPERM),
+        ret(ALLOW),
+    ]
+}
+
+// Of 2^24 ways through the filter calls take 25.
+#[test]
+fn ways_that_no_call_takes_cost_nothing(rt: HostRuntime) -> Result<(), Fail> {
+    let alloc = rt.alloc();
+    let often = compares_often(alloc)?;
+    let told = found(
+        alloc,
+        Relation::Same,
+        &[&often],
+        &[&above_200(), &[ret(ALLOW)]],
+        Budgets::of_rows(1).row(),
+    )?;
+    assert!(rt; told == SAME);
     Ok(())
 }
 
@@ -165,12 +248,17 @@ fn no_word_meets_both_tests(rt: HostRuntime) -> Result<(), Fail> {
 fn a_small_budget_leaves_it_undecided(rt: HostRuntime) -> Result<(), Fail> {
     let alloc = rt.alloc();
     let all = refuses_flags(NAMESPACES);
-    let none = (false, None);
-    let told = (
-        found(alloc, Relation::Same, &all, &all, Budget { steps: 0 })?,
-        found(alloc, Relation::Same, &all, &all, Budget { steps: 40 })?,
-        found(alloc, Relation::Same, &all, &all, Budget { steps: 400 })?,
+    let with = |steps: u64| found(
+        alloc,
+        Relation::Same,
+        &[&all],
+        &[&all],
+        Budget { steps },
     );
-    assert!(rt; told == (none, none, (true, None)));
+    let untold = Told {
+        is_told: false,
+        ..SAME
+    };
+    assert!(rt; (with(0)?, with(40)?, with(400)?) == (untold, untold, SAME));
     Ok(())
 }
