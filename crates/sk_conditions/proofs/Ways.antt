@@ -48,10 +48,10 @@ met_at_end numbers path words tree comes end =
       one_is (IsOn numbers path) call (on_way numbers path call words comes refl refl (words_there (λ i. slice_index_or words i 0) comes.1.2)),
       at_end tree end,
     ) where
-  at_end : (tree : Tree) → IsEnd tree → EachEndIsMet (record_from (λ i. slice_index_or words i 0) ∷ []) tree
-  at_end (Is value) end = omega arith
-  at_end Untold end = omega arith
-  at_end (Ask' test p held q failed) end = absurd end
+      at_end : (tree : Tree) → IsEnd tree → EachEndIsMet (record_from (λ i. slice_index_or words i 0) ∷ []) tree
+      at_end (Is value) end = omega arith
+      at_end Untold end = omega arith
+      at_end (Ask' test p held q failed) end = absurd end
 
 -- calls that pass, before others that do not
 keeps_all : {A : Type 0} (p : A → Bool) (xs : List A) → All (λ x. p x ≡ true) xs → filter p xs ≡ xs

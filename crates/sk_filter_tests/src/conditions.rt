@@ -4,7 +4,8 @@ ghost use Rattle.std.specs.Prelude.{◌≡◌};
 use crate::filters::{chain_of, filter};
 use crate::insns::{ALLOW, EPERM, branch, jeq, ldabs, ret, with_k};
 use sk_conditions::{
-    Budget, Budgets, Comparing, Numbers, Relation, Test, Tree, Verdicts, chain_tree, differ, program_tree,
+    Budget, Budgets, Comparing, Numbers, Relation, Test, Tree, Verdicts, chain_tree, differ,
+    program_tree,
 };
 use sk_insn::{Comparison, Insn};
 use std::alloc::Global;
@@ -220,12 +221,7 @@ fn compares_often(alloc: Global) -> Result<Vec<Insn>, Fail> {
 }
 
 fn above_200() -> [Insn; 4] {
-    [
-        ldabs(16),
-        branch(0x25, 200, 0, 1),
-        ret(EPERM),
-        ret(ALLOW),
-    ]
+    [ldabs(16), branch(0x25, 200, 0, 1), ret(EPERM), ret(ALLOW)]
 }
 
 // Of 2^24 ways through the filter calls take 25.
@@ -248,13 +244,7 @@ fn ways_that_no_call_takes_cost_nothing(rt: HostRuntime) -> Result<(), Fail> {
 fn a_small_budget_leaves_it_undecided(rt: HostRuntime) -> Result<(), Fail> {
     let alloc = rt.alloc();
     let all = refuses_flags(NAMESPACES);
-    let with = |steps: u64| found(
-        alloc,
-        Relation::Same,
-        &[&all],
-        &[&all],
-        Budget { steps },
-    );
+    let with = |steps: u64| found(alloc, Relation::Same, &[&all], &[&all], Budget { steps });
     let untold = Told {
         is_told: false,
         ..SAME
