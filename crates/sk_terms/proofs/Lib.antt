@@ -1,5 +1,6 @@
 pub mod Masks
 pub mod Halves
+pub mod Ends
 pub mod Meeting
 pub mod Together
 pub mod Borders

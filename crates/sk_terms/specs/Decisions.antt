@@ -1,5 +1,5 @@
 -- Trees of terms, and what they tell of a call.
-use Rattle.std.specs.Prelude.{ℕ, if◌then◌else◌, box_value, Option, Some, None}
+use Rattle.std.specs.Prelude.{ℕ, ◌<◌, not, if◌then◌else◌, box_value, List, length, filter, Option, Some, None}
 use Rattle.sk_insn.specs.declared.record.Record.{Record}
 use Rattle.sk_insn.specs.Record.{IsNative}
 use Rattle.sk_conditions.specs.declared.tree.Tree.{Tree}
@@ -32,3 +32,16 @@ BranchesAll it = DecidesAll (box_value it.held) × DecidesAll (box_value it.fail
 -- what a tree of tests tells rightly of a call of x86-64, this one does not tell otherwise
 abbrev pub DecidesAs : Decision → Tree → Type 0
 DecidesAs decision tree = (call : Record) → IsNative call → (value : ℕ) → Agrees (told tree call) value → Agrees (decided decision call) value
+
+-- one of these calls at least comes to each end of a tree of terms: a term parts them into those on which it holds, and the others
+abbrev pub EachEndIsMetBy : List Record → Decision → Type 0
+EachEndIsMetBy calls (Is value) = 0 < length calls
+EachEndIsMetBy calls Untold = 0 < length calls
+EachEndIsMetBy calls (Ask' term p held q failed) =
+    EachEndIsMetBy (filter (λ call. holds_term term call) calls) held × EachEndIsMetBy (filter (λ call. not (holds_term term call)) calls) failed
+
+-- so it does of one that begins with a term
+abbrev pub EachBranchIsMetBy : List Record → Branching → Type 0
+EachBranchIsMetBy calls it =
+    EachEndIsMetBy (filter (λ call. holds_term it.term call) calls) (box_value it.held)
+    × EachEndIsMetBy (filter (λ call. not (holds_term it.term call)) calls) (box_value it.failed)

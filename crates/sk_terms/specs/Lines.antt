@@ -1,6 +1,6 @@
 -- Lines of terms, and what they tell of a call.
-use Rattle.std.specs.Prelude.{ℕ, ◌==◌, Bool, true, false, if◌then◌else◌, List, [], ◌∷◌, map, filter, Option, Some, None}
-use Rattle.std.specs.List.{list_all, list_any}
+use Rattle.std.specs.Prelude.{ℕ, ◌≡◌, ◌==◌, Bool, true, false, if◌then◌else◌, List, [], ◌∷◌, map, filter, Option, Some, None}
+use Rattle.std.specs.List.{Any, list_all, list_any}
 use Rattle.sk_insn.specs.declared.record.Record.{Record}
 use Rattle.sk_terms.specs.declared.choices.Choice.{Choice}
 use Rattle.sk_terms.specs.declared.clause.Clause.{Clause}
@@ -48,3 +48,11 @@ shown (End otherwise) value = if same_end value otherwise then [] else value ∷
 -- the value of a line that a call meets
 abbrev pub told_alone : Line → Record → List (Option ℕ)
 told_alone line call = if meets_line line call then line.value ∷ [] else []
+
+-- one of the calls meets the line
+abbrev pub IsMetBy : List Record → Line → Type 0
+IsMetBy calls line = list_any (λ call. meets_line line call) calls ≡ true
+
+-- the value is that of one of the lines
+abbrev pub IsValueOf : List Line → Option ℕ → Type 0
+IsValueOf lines value = Any (λ line. line.value ≡ value) lines

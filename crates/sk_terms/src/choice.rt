@@ -1,4 +1,9 @@
 //! Which verdict gets the line `else`: the one whose lines are the longest to read. Whichever it is, the lines are exact.
+ghost use Rattle.std.specs.Prelude.{◌≡◌, ◌<◌, ◌⊎◌, List, length, IfOk, IfSome, OnOk};
+ghost use Rattle.std.specs.List.{All};
+ghost use Rattle.sk_terms.specs.declared.lines.Line.{Line};
+ghost use Rattle.sk_terms.specs.Lines.{IsValueOf};
+
 use crate::lines::Line;
 use crate::term::Term;
 use sk_filter::preceding;
@@ -11,35 +16,58 @@ struct Weight {
     weight: u64,
 }
 
-/// The value whose lines are the longest to read.
-pub fn heaviest(alloc: Global, lines: &[Line]) -> Result<Option<u32>, AllocError> {
+/// The value whose lines are the longest to read: that of one of the lines, where there are some.
+pub fn heaviest(alloc: Global, lines: &[Line]) -> Result<Option<u32>, AllocError>
+    ensures found { IfOk result (λ value. 0 < length lines.now → IsValueOf lines.now value) }
+{
     let mut weights: Vec<Weight> = Vec::new(alloc);
     for line in lines {
         add(&mut weights, line)?;
     }
-    let mut most = Weight {
-        value: None,
-        weight: 0,
-    };
-    for weight in &weights {
-        most = heavier(most, *weight);
-    }
-    Ok(most.value)
+    Ok(most_of(&weights))
 }
 
-fn add(weights: &mut Vec<Weight>, line: &Line) -> Result<(), AllocError> {
-    let more = weight_of(line);
-    for weight in weights.iter_mut() {
-        if weight.value == line.value {
-            weight.weight = weight.weight.saturating_add(more);
-            return Ok(());
-        }
+// The value with the greatest weight.
+fn most_of(weights: &[Weight]) -> Option<u32>
+    ensures found { (lines : List Line) → All (λ weight. IsValueOf lines weight.value) weights.now → 0 < length weights.now → IsValueOf lines result }
+{
+    let Some((first, others)) = weights.split_first() else {
+        return None;
+    };
+    let mut most = *first;
+    for weight in others {
+        most = heavier(most, *weight);
     }
-    weights.push(Weight {
-        value: line.value,
-        weight: more,
-    })?;
+    most.value
+}
+
+// One line more.
+fn add(weights: &mut Vec<Weight>, line: &Line) -> Result<(), AllocError>
+    ensures values { OnOk result ((lines : List Line) → All (λ weight. IsValueOf lines weight.value) weights.old.items → IsValueOf lines line.now.value
+        → All (λ weight. IsValueOf lines weight.value) weights.new.items) }
+    ensures some { OnOk result (0 < length weights.new.items) }
+{
+    let more = weight_of(line);
+    let Some(at) = place_of(weights, line.value) else {
+        weights.push(Weight {
+            value: line.value,
+            weight: more,
+        })?;
+        return Ok(());
+    };
+    let weight = weights[at];
+    weights[at] = Weight {
+        weight: weight.weight.saturating_add(more),
+        ..weight
+    };
     Ok(())
+}
+
+// Where the weight of a value stands.
+fn place_of(weights: &[Weight], value: Option<u32>) -> Option<usize>
+    ensures there { IfSome result (λ at. at < length weights.now) }
+{
+    weights.iter().position(|weight| weight.value == value)
 }
 
 // A term with a range that it leaves out reads hard.
@@ -60,7 +88,9 @@ fn weight_of_terms(terms: &[Term]) -> u64 {
     weight
 }
 
-fn heavier(one: Weight, other: Weight) -> Weight {
+fn heavier(one: Weight, other: Weight) -> Weight
+    ensures one { (result ≡ one) ⊎ (result ≡ other) }
+{
     if one.weight < other.weight || one.weight == other.weight && precedes(other, one) {
         other
     } else {

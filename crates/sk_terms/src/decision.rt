@@ -1,9 +1,12 @@
 //! A tree of terms, in which neighbouring terms are put together.
-ghost use Rattle.std.specs.Prelude.{◌≡◌, ℕ, if◌then◌else◌, IfOk, IsTrue};
+ghost use Rattle.std.specs.Prelude.{◌≡◌, ℕ, not, if◌then◌else◌, List, filter, IfOk, IsTrue};
+ghost use Rattle.std.specs.List.{All};
 ghost use Rattle.sk_insn.specs.declared.record.Record.{Record};
+ghost use Rattle.sk_insn.specs.Record.{IsNative};
 ghost use Rattle.sk_terms.specs.Terms.{holds_term};
 ghost use Rattle.sk_conditions.specs.Followed.{TellsAll};
-ghost use Rattle.sk_terms.specs.Decisions.{decided, decided_branching, DecidesAs, DecidesAll, BranchesAll};
+ghost use Rattle.sk_conditions.specs.Meeting.{EachEndIsMet};
+ghost use Rattle.sk_terms.specs.Decisions.{decided, decided_branching, DecidesAs, DecidesAll, BranchesAll, EachEndIsMetBy, EachBranchIsMetBy};
 
 use crate::joining::{as_one, either};
 use crate::meaning::{Meant, mean};
@@ -35,6 +38,7 @@ impl Branching {
     fn whole(self) -> Decision
         ensures same { (call : Record) → decided result call ≡ decided_branching self call }
         ensures all { BranchesAll self → DecidesAll result }
+        ensures met { (calls : List Record) → EachBranchIsMetBy calls self → EachEndIsMetBy calls result }
     {
         Decision::Ask(self.term, self.held, self.failed)
     }
@@ -44,6 +48,7 @@ impl Branching {
 pub fn decide(alloc: Global, tree: &Tree) -> Result<Decision, AllocError>
     ensures decides { IfOk result (λ decision. DecidesAs decision tree.now) }
     ensures all { IfOk result (λ decision. TellsAll tree.now → DecidesAll decision) }
+    ensures met { IfOk result (λ decision. (calls : List Record) → All IsNative calls → EachEndIsMet calls tree.now → EachEndIsMetBy calls decision) }
 {
     match tree {
         Tree::Is(value) => Ok(Decision::Is(*value)),
@@ -71,6 +76,8 @@ fn asked(
 ) -> Result<Decision, AllocError>
     ensures decided { IfOk result (λ it. (call : Record) → decided it call ≡ if holds_term term call then decided held call else decided failed call) }
     ensures all { IfOk result (λ it. DecidesAll held → DecidesAll failed → DecidesAll it) }
+    ensures met { IfOk result (λ it. (calls : List Record) → EachEndIsMetBy (filter (λ call. holds_term term call) calls) held
+        → EachEndIsMetBy (filter (λ call. not (holds_term term call)) calls) failed → EachEndIsMetBy calls it) }
 {
     if same(&held, &failed) {
         return Ok(held);
@@ -97,6 +104,8 @@ fn asked_then(
 ) -> Result<Decision, AllocError>
     ensures decided { IfOk result (λ it. (call : Record) → decided it call ≡ if holds_term term call then decided held call else decided_branching failed call) }
     ensures all { IfOk result (λ it. DecidesAll held → BranchesAll failed → DecidesAll it) }
+    ensures met { IfOk result (λ it. (calls : List Record) → EachEndIsMetBy (filter (λ call. holds_term term call) calls) held
+        → EachBranchIsMetBy (filter (λ call. not (holds_term term call)) calls) failed → EachEndIsMetBy calls it) }
 {
     if same(&held, &failed.held) {
         if let Some(joined) = either(term, failed.term) {
@@ -122,6 +131,8 @@ fn asked_first(
 ) -> Result<Decision, AllocError>
     ensures decided { IfOk result (λ it. (call : Record) → decided it call ≡ if holds_term term call then decided held call else decided failed call) }
     ensures all { IfOk result (λ it. DecidesAll held → DecidesAll failed → DecidesAll it) }
+    ensures met { IfOk result (λ it. (calls : List Record) → EachEndIsMetBy (filter (λ call. holds_term term call) calls) held
+        → EachEndIsMetBy (filter (λ call. not (holds_term term call)) calls) failed → EachEndIsMetBy calls it) }
 {
     match held {
         Decision::Ask(next, up, down) => {
@@ -145,6 +156,8 @@ fn asked_both(
 ) -> Result<Decision, AllocError>
     ensures decided { IfOk result (λ it. (call : Record) → decided it call ≡ if holds_term term call then decided_branching held call else decided failed call) }
     ensures all { IfOk result (λ it. BranchesAll held → DecidesAll failed → DecidesAll it) }
+    ensures met { IfOk result (λ it. (calls : List Record) → EachBranchIsMetBy (filter (λ call. holds_term term call) calls) held
+        → EachEndIsMetBy (filter (λ call. not (holds_term term call)) calls) failed → EachEndIsMetBy calls it) }
 {
     if same(&failed, &held.failed) {
         if let Some(joined) = as_one(term, held.term) {
@@ -165,6 +178,8 @@ fn asked_both(
 fn fork(alloc: Global, term: Term, held: Decision, failed: Decision) -> Result<Decision, AllocError>
     ensures decided { IfOk result (λ it. (call : Record) → decided it call ≡ if holds_term term call then decided held call else decided failed call) }
     ensures all { IfOk result (λ it. DecidesAll held → DecidesAll failed → DecidesAll it) }
+    ensures met { IfOk result (λ it. (calls : List Record) → EachEndIsMetBy (filter (λ call. holds_term term call) calls) held
+        → EachEndIsMetBy (filter (λ call. not (holds_term term call)) calls) failed → EachEndIsMetBy calls it) }
 {
     Ok(Decision::Ask(term, Box::new(alloc, held)?, Box::new(alloc, failed)?))
 }

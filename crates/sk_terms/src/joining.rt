@@ -1,5 +1,5 @@
 //! Two terms that are one term together.
-ghost use Rattle.std.specs.Prelude.{◌≡◌, ◌&&◌, ◌||◌, true, bit_and, IfSome, IsTrue};
+ghost use Rattle.std.specs.Prelude.{◌≡◌, ◌&&◌, ◌||◌, true, bit_and, IfSome, IsSome, IsTrue};
 ghost use Rattle.sk_insn.specs.declared.record.Record.{Record};
 ghost use Rattle.sk_terms.specs.Terms.{holds_term, holds_joined, is_equality, is_inequality};
 
@@ -16,9 +16,10 @@ pub enum Joined {
     One(Term),
 }
 
-/// What two terms come to where both hold, if that is seen.
+/// What two terms come to where both hold, if that is seen. Of two ranges on the same bits of a register it is.
 pub fn both(one: Term, other: Term) -> Option<Joined>
     ensures both { IfSome result (λ it. (call : Record) → holds_joined it call ≡ (holds_term one call && holds_term other call)) }
+    ensures ranges { one.register ≡ other.register → one.mask ≡ other.mask → one.inside ≡ true → other.inside ≡ true → IsSome result }
 {
     if one.register != other.register {
         return None;

@@ -1,8 +1,9 @@
 //! The ends of a tree of terms, each with the terms on the way.
-ghost use Rattle.std.specs.Prelude.{◌≡◌, ◌++◌, if◌then◌else◌, [], ◌∷◌, IfOk, OnOk};
+ghost use Rattle.std.specs.Prelude.{◌≡◌, ◌<◌, ◌++◌, if◌then◌else◌, List, [], ◌∷◌, length, filter, IfOk, OnOk};
+ghost use Rattle.std.specs.List.{All};
 ghost use Rattle.sk_insn.specs.declared.record.Record.{Record};
-ghost use Rattle.sk_terms.specs.Decisions.{decided};
-ghost use Rattle.sk_terms.specs.Lines.{meets_all, meets_clause, told_by, shown, same_end};
+ghost use Rattle.sk_terms.specs.Decisions.{decided, EachEndIsMetBy};
+ghost use Rattle.sk_terms.specs.Lines.{meets_all, meets_clause, told_by, shown, same_end, IsMetBy};
 
 use crate::choices::{Choice, choices_of};
 use crate::clause::{Clause, with_other_term, with_term};
@@ -34,6 +35,7 @@ pub fn lines_of(
     left_out: LeftOut,
 ) -> Result<Vec<Line>, AllocError>
     ensures told { IfOk result (λ lines. (call : Record) → told_by lines.items call ≡ shown left_out (decided decision.now call)) }
+    ensures met { IfOk result (λ lines. (calls : List Record) → EachEndIsMetBy calls decision.now → All (IsMetBy calls) lines.items) }
 {
     let mut lines = Vec::new(alloc);
     let every = Clause::All(Vec::new(alloc));
@@ -51,6 +53,8 @@ pub fn add_lines(
 ) -> Result<(), AllocError>
     ensures told { OnOk result ((call : Record) → told_by lines.new.items call
         ≡ told_by lines.old.items call ++ (if meets_clause clause call then shown left_out (decided decision.now call) else [])) }
+    ensures met { OnOk result ((calls : List Record) → EachEndIsMetBy (filter (λ call. meets_clause clause call) calls) decision.now
+        → All (IsMetBy calls) lines.old.items → All (IsMetBy calls) lines.new.items) }
 {
     let Clause::All(terms) = clause else {
         return Ok(());
@@ -77,6 +81,8 @@ fn add_end(
 ) -> Result<(), AllocError>
     ensures told { OnOk result ((call : Record) → told_by lines.new.items call
         ≡ told_by lines.old.items call ++ (if meets_all terms.items call then shown left_out value else [])) }
+    ensures met { OnOk result ((calls : List Record) → 0 < length (filter (λ call. meets_all terms.items call) calls)
+        → All (IsMetBy calls) lines.old.items → All (IsMetBy calls) lines.new.items) }
 {
     if is_left_out(left_out, value) {
         return Ok(());

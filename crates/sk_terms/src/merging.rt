@@ -1,9 +1,9 @@
 //! Lines of one value that differ in one choice, told as one line.
-ghost use Rattle.std.specs.Prelude.{◌≡◌, ◌≤◌, ◌<◌, ◌+◌, ◌++◌, ◌||◌, length, take, slice_index_or, true, IfOk, OnOk, IfSome, IsTrue};
-ghost use Rattle.std.specs.List.{remove, list_any};
+ghost use Rattle.std.specs.Prelude.{◌≡◌, ◌≤◌, ◌<◌, ◌+◌, ◌++◌, ◌||◌, List, length, take, slice_index_or, true, IfOk, OnOk, IfSome, IsTrue};
+ghost use Rattle.std.specs.List.{All, remove, list_any};
 ghost use Rattle.sk_insn.specs.declared.record.Record.{Record};
 ghost use Rattle.sk_terms.specs.Terms.{holds_term};
-ghost use Rattle.sk_terms.specs.Lines.{holds_choice, meets_choices, meets_line, told_by, told_alone};
+ghost use Rattle.sk_terms.specs.Lines.{holds_choice, meets_choices, meets_line, told_by, told_alone, IsMetBy};
 ghost use Rattle.sk_terms.specs.Merging.{DifferIn};
 
 use crate::choices::{Choice, with_terms};
@@ -26,6 +26,7 @@ struct Partner {
 /// Lines of which each call meets one at most, those of one value put together that differ in one choice and stay short.
 pub fn merged(alloc: Global, lines: Vec<Line>) -> Result<Vec<Line>, AllocError>
     ensures told { IfOk result (λ merged. (call : Record) → length (told_by lines.items call) ≤ 1 → told_by merged.items call ≡ told_by lines.items call) }
+    ensures met { IfOk result (λ merged. (calls : List Record) → All (IsMetBy calls) lines.items → All (IsMetBy calls) merged.items) }
 {
     let mut merged = Vec::with_capacity(alloc, lines.len())?;
     for line in lines {
@@ -38,6 +39,7 @@ pub fn merged(alloc: Global, lines: Vec<Line>) -> Result<Vec<Line>, AllocError>
 fn add(lines: &mut Vec<Line>, line: Line) -> Result<(), AllocError>
     ensures told { OnOk result ((call : Record) → length (told_by lines.old.items call ++ told_alone line call) ≤ 1
         → told_by lines.new.items call ≡ told_by lines.old.items call ++ told_alone line call) }
+    ensures met { OnOk result ((calls : List Record) → All (IsMetBy calls) lines.old.items → IsMetBy calls line → All (IsMetBy calls) lines.new.items) }
 {
     let Some(partner) = partner_of(lines, &line) else {
         lines.push(line)?;

@@ -1,5 +1,5 @@
 //! Two terms on the same bits.
-ghost use Rattle.std.specs.Prelude.{◌≡◌, ◌&&◌, true, false, IfSome};
+ghost use Rattle.std.specs.Prelude.{◌≡◌, ◌&&◌, true, false, IfSome, IsSome};
 ghost use Rattle.sk_insn.specs.declared.record.Record.{Record};
 ghost use Rattle.sk_terms.specs.Terms.{holds_term, holds_joined};
 
@@ -11,6 +11,7 @@ pub fn on_same_bits(one: Term, other: Term) -> Option<Joined>
     requires register { one.register ≡ other.register }
     requires bits { one.mask ≡ other.mask }
     ensures both { IfSome result (λ it. (call : Record) → holds_joined it call ≡ (holds_term one call && holds_term other call)) }
+    ensures ranges { one.inside ≡ true → other.inside ≡ true → IsSome result }
 {
     match (one.inside, other.inside) {
         (true, true) => Some(within_both(one, other)),
