@@ -1,4 +1,4 @@
--- Pieces of numbers with a name, and pieces that show a call where they are open, with one more behind them.
+-- Pieces of numbers with a name, and pieces of which each part is decided, with one more behind them.
 use Rattle.std.proofs.Common.{ℕ, zero, suc, ◌≡◌, ◌==◌, ◌||◌, ◌+◌, ◌^◌, ◌≤◌, ◌<◌, inl, inr, Bool, true, false, is_some, IsTrue, List, [], ◌∷◌, ◌++◌, length, get_or, refl, sym, subst, ◌∙◌, arith}
 use Rattle.std.specs.List.{All}
 use Rattle.std.specs.List.Sorted.{IsNonDecreasing}
@@ -14,7 +14,7 @@ use Rattle.sk_survey.proofs.Cutting.{alone_before, alone_behind}
 use Rattle.sk_conditions.specs.declared.numbers.Numbers.{Numbers}
 use Rattle.sk_conditions.specs.declared.standing.Relation.{Relation}
 use Rattle.sk_when.specs.declared.piece.Piece.{Piece}
-use Rattle.sk_when.specs.Pieces.{AreCompared, IsNamed, NamedAreAlone, NamedAreAloneIn, ShowsWhereItMayFail}
+use Rattle.sk_when.specs.Pieces.{AreCompared, IsNamed, NamedAreAlone, NamedAreAloneIn, AreDecided}
 
 -- the numbers before a beginning, or behind all of them
 abbrev row_of : Numbers → Row
@@ -69,11 +69,11 @@ joined_alone a relation old new pieces from last piece compared unnamed unnamed'
     All-push (NamedAreAloneIn a) pieces (record { numbers = record { first = last.numbers.first; last = piece.numbers.last }; parts = last.parts }) before.0
     (both_alone a last.numbers piece.numbers (last_meets relation old new pieces from piece.numbers.first last compared) unnamed unnamed' before.1 alone)
 
-pub joined_shows : (pieces : List Piece) (last piece : Piece) → All ShowsWhereItMayFail (pieces ++ last ∷ [])
-    → All ShowsWhereItMayFail (pieces ++ record { numbers = record { first = last.numbers.first; last = piece.numbers.last }; parts = last.parts } ∷ [])
-joined_shows pieces last piece all =
-    let before = all_before ShowsWhereItMayFail pieces last all in
-    All-push ShowsWhereItMayFail pieces (record { numbers = record { first = last.numbers.first; last = piece.numbers.last }; parts = last.parts }) before.0 before.1
+pub joined_decided : (pieces : List Piece) (last piece : Piece) → All AreDecided (pieces ++ last ∷ [])
+    → All AreDecided (pieces ++ record { numbers = record { first = last.numbers.first; last = piece.numbers.last }; parts = last.parts } ∷ [])
+joined_decided pieces last piece all =
+    let before = all_before AreDecided pieces last all in
+    All-push AreDecided pieces (record { numbers = record { first = last.numbers.first; last = piece.numbers.last }; parts = last.parts }) before.0 before.1
 
 -- no row was spent, the last one neither
 pub not_spent : (before after : Bool) (left : ℕ) → after ≡ (before || (left == 0)) → after ≡ false → (before ≡ false) × (0 < left)

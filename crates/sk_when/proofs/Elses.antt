@@ -31,7 +31,7 @@ of_either true one other is is' = is
 of_either false one other is is' = is'
 
 -- a tree with a value at each end tells one of each call, and where the verdict is told it is this
-some_value : (decision : Decision) (call : Record) → DecidesAll decision → (value : ℕ) × (decided decision call ≡ Some value)
+pub some_value : (decision : Decision) (call : Record) → DecidesAll decision → (value : ℕ) × (decided decision call ≡ Some value)
 some_value (Is value) call all = (value, refl)
 some_value Untold call all = absurd all
 some_value (Ask' term p held q failed) call all =

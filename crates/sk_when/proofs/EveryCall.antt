@@ -1,27 +1,27 @@
 -- What is said of all pieces holds of every call.
 use Rattle.std.proofs.lemmas.Int.{ints}
-use Rattle.std.proofs.Common.{ℕ, ◌≡◌, ◌+◌, ◌≤◌, ◌<◌, true, false, Bool, ◌||◌, ◌⊎◌, if◌then◌else◌, inl, inr, List, [], ◌∷◌, Option, Some, None, refl, sym, ap, subst, ◌∙◌, arith}
+use Rattle.std.proofs.Common.{ℕ, ◌≡◌, ◌+◌, ◌≤◌, ◌<◌, true, false, Bool, ◌||◌, ◌⊎◌, if◌then◌else◌, inl, inr, List, [], ◌∷◌, refl, sym, ap, subst, ◌∙◌, arith}
 use Rattle.std.specs.Prelude.{ℤ, int_le}
 use Rattle.std.specs.List.{All, list_any}
-use Rattle.std.specs.Option.{option_map_or}
 use Rattle.std.proofs.lemmas.Bool.{cases_lt, eq-eqb, true≢false}
 use Rattle.std.proofs.lemmas.List.Elements.{All-nil, All-head, All-tail}
 use Rattle.sk_insn.specs.declared.insn.Insn.{Insn}
 use Rattle.sk_insn.specs.declared.record.Record.{Record}
 use Rattle.sk_insn.specs.Record.{IsNative}
 use Rattle.sk_survey.specs.Answers.{IsCallOf}
-use Rattle.sk_conditions.specs.declared.differences.Verdicts.{Verdicts}
 use Rattle.sk_conditions.specs.declared.numbers.Numbers.{Numbers}
 use Rattle.sk_conditions.specs.declared.standing.Relation.{Relation}
 use Rattle.sk_conditions.specs.declared.standing.Relation.TheVariants.{Same, AsStrict}
 use Rattle.sk_filter.specs.Verdict.{precedence_of, verdict_of}
 use Rattle.sk_when.specs.declared.diff_engine.Finding.TheVariants as finding
 use Rattle.sk_when.specs.declared.piece.Calls.{Calls}
+use Rattle.sk_when.specs.declared.piece.Outcome.{Outcome}
+use Rattle.sk_when.specs.declared.piece.Outcome.TheVariants.{Undecided, Apart}
 use Rattle.sk_when.specs.declared.piece.Part.{Part}
 use Rattle.sk_when.specs.declared.piece.Piece.{Piece}
 use Rattle.sk_when.specs.Diffs.{HoldsOnEveryCall, FailsOnACall, FollowedIsDecided}
-use Rattle.sk_conditions.specs.Comparing.{relates, stands_on}
-use Rattle.sk_when.specs.Pieces.{AreCompared, Cover, Holds, HoldsOf, IsShown, ShowsWhereItMayFail, finding_of, is_apart, may_fail, shows_call, has_parts}
+use Rattle.sk_conditions.specs.Comparing.{as_it_ends, relates}
+use Rattle.sk_when.specs.Pieces.{AreCompared, AreDecided, Cover, Holds, HoldsOf, IsShown, IsSo, finding_of, is_apart, is_decided, may_fail, shows_call, stands_on, has_parts}
 
 neither : (a b : Bool) → (a || b) ≡ false → (a ≡ false) × (b ≡ false)
 neither true b e = cc
@@ -52,18 +52,22 @@ covers relation old new (piece ∷ pieces) from end compared none call native ab
     ]
 
 -- a call that a part shows
-shown_here : (relation : Relation) (old new : List (List Insn)) (numbers : Numbers) (calls : Calls) (verdicts : Option Verdicts) (shown : Option Record)
-    → option_map_or (λ call. true) shown false ≡ true → IsShown relation old new numbers calls verdicts shown
-    → (call : Record) × IsNative call × (call.nr ≤ numbers.last) × (stands_on relation old new call ≡ false)
-shown_here relation old new numbers calls verdicts None some is = absurd (true≢false (sym some))
-shown_here relation old new numbers calls None (Some call) some is = absurd is
-shown_here relation old new numbers calls (Some it) (Some call) some is = (call, is.0.0, is.0.1.1, is.3)
+shown_here : (relation : Relation) (old new : List (List Insn)) (numbers : Numbers) (calls : Calls) (outcome : Outcome) → is_decided outcome ≡ true
+    → IsSo relation old new numbers calls outcome → (call : Record) × IsNative call × (call.nr ≤ numbers.last) × (stands_on relation old new call ≡ false)
+shown_here relation old new numbers calls Undecided some is = absurd (true≢false (sym some))
+shown_here relation old new numbers calls (Apart it call) some is =
+    let verdicts = is.0 call is.2.0 is.2.1 in (
+      call,
+      is.2.0.0,
+      is.2.0.1.1,
+      ap (λ n. relates relation n (verdict_of new call)) verdicts.0 ∙ ap (relates relation it.old) verdicts.1 ∙ is.1,
+    )
 
 found_among : (relation : Relation) (old new : List (List Insn)) (numbers : Numbers) (parts : List Part) → list_any shows_call parts ≡ true
     → All (HoldsOf relation old new numbers) parts → (call : Record) × IsNative call × (call.nr ≤ numbers.last) × (stands_on relation old new call ≡ false)
 found_among relation old new numbers [] apart hold = absurd (true≢false (sym apart))
 found_among relation old new numbers (part ∷ parts) apart hold = elim (one (shows_call part) (list_any shows_call parts) apart) [
-  | inl here ↦ shown_here relation old new numbers part.calls part.verdicts part.shown here (All-head (HoldsOf relation old new numbers) part parts hold).2
+  | inl here ↦ shown_here relation old new numbers part.calls part.outcome here (All-head (HoldsOf relation old new numbers) part parts hold)
   | inr behind ↦ found_among relation old new numbers parts behind (All-tail (HoldsOf relation old new numbers) part parts hold)
 ]
 
@@ -103,17 +107,21 @@ pub fails_on_a_call : FailsOnACall
 fails_on_a_call architecture relation old new is_spent text it =
     finds relation old new it.pieces 0 4294967296 it.compared (first_true (list_any is_apart it.pieces) (list_any may_fail it.pieces) it.stands)
 
--- pieces of which each that is open shows a call
+-- pieces of which each part shows a call
 one_of : (a b : Bool) → b ≡ true → (a || b) ≡ true
 one_of true b e = refl
 one_of false b e = e
 
-some_shown : (pieces : List Piece) → All ShowsWhereItMayFail pieces → list_any may_fail pieces ≡ true → list_any is_apart pieces ≡ true
+shows_one : (parts : List Part) → All IsShown parts → has_parts parts ≡ true → list_any shows_call parts ≡ true
+shows_one [] all some = absurd (true≢false (sym some))
+shows_one (part ∷ parts) all some = ap (λ b. b || list_any shows_call parts) (All-head IsShown part parts all)
+
+some_shown : (pieces : List Piece) → All AreDecided pieces → list_any may_fail pieces ≡ true → list_any is_apart pieces ≡ true
 some_shown [] all some = some
 some_shown (piece ∷ pieces) all some = elim (one (may_fail piece) (list_any may_fail pieces) some) [
-  | inl here ↦ ap (λ b. b || list_any is_apart pieces) (All-head ShowsWhereItMayFail piece pieces all here)
+  | inl here ↦ ap (λ b. b || list_any is_apart pieces) (shows_one piece.parts.items (All-head AreDecided piece pieces all) here)
   | inr behind ↦
-      one_of (is_apart piece) (list_any is_apart pieces) (some_shown pieces (All-tail ShowsWhereItMayFail piece pieces all) behind)
+      one_of (is_apart piece) (list_any is_apart pieces) (some_shown pieces (All-tail AreDecided piece pieces all) behind)
 ]
 
 false_true : (a b : Bool) → finding.Undecided ≡ (if a then finding.Fails else if b then finding.Undecided else finding.Holds) → (a ≡ false) × (b ≡ true)
@@ -122,9 +130,13 @@ false_true false true e = (refl, refl)
 false_true false false e = cc
 
 pub followed_is_decided : FollowedIsDecided
-followed_is_decided architecture relation old new text follows follows' it =
-    let split = false_true (list_any is_apart it.pieces) (list_any may_fail it.pieces) it.stands in
-    absurd (true≢false (sym (some_shown it.pieces (it.decided follows follows' refl) split.1) ∙ split.0))
+followed_is_decided architecture relation old new finding text follows follows' it =
+    let all = it.decided follows follows' refl in (
+      λ undecided.
+          let split = false_true (list_any is_apart it.pieces) (list_any may_fail it.pieces) (sym undecided ∙ it.stands) in
+          true≢false (sym (some_shown it.pieces all split.1) ∙ split.0),
+      all,
+    )
 
 -- a verdict beside itself
 at_most_itself : (a : ℤ) → int_le a a ≡ true
@@ -132,7 +144,7 @@ at_most_itself a = grind (arith, ints)
 
 relates_itself : (relation : Relation) (value : ℕ) → relates relation value value ≡ true
 relates_itself Same value = eq-eqb value value refl
-relates_itself AsStrict value = at_most_itself (precedence_of value)
+relates_itself AsStrict value = at_most_itself (precedence_of (as_it_ends value))
 
 stands_beside_itself : (relation : Relation) (programs : List (List Insn)) (call : Record) → stands_on relation programs programs call ≡ true
 stands_beside_itself relation programs call = relates_itself relation (verdict_of programs call)
@@ -151,7 +163,7 @@ finding_of_none false true none still = absurd (true≢false still)
 finding_of_none false false none still = refl
 
 pub same_holds : (relation : Relation) (programs : List (List Insn)) (pieces : List Piece) → AreCompared relation programs programs 0 4294967296 pieces
-    → All ShowsWhereItMayFail pieces → finding_of pieces ≡ finding.Holds
+    → All AreDecided pieces → finding_of pieces ≡ finding.Holds
 same_holds relation programs pieces compared shows = finding_of_none (list_any is_apart pieces) (list_any may_fail pieces) (none (list_any is_apart pieces) refl) (never (list_any may_fail pieces) refl) where
   none : (b : Bool) → list_any is_apart pieces ≡ b → list_any is_apart pieces ≡ false
   none false is = is

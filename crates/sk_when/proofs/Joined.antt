@@ -1,17 +1,17 @@
 -- Pieces with one more behind them, alone or as a part of the last one.
-use Rattle.std.proofs.Common.{ℕ, ◌≡◌, ◌+◌, ◌≤◌, inl, inr, List, [], ◌∷◌, ◌++◌, Option, Some, None, refl, sym, ap, subst, arith}
+use Rattle.std.proofs.Common.{ℕ, ◌≡◌, ◌+◌, ◌≤◌, inl, inr, List, [], ◌∷◌, ◌++◌, refl, sym, ap, subst, arith}
 use Rattle.std.specs.List.{All, list_any}
 use Rattle.std.proofs.lemmas.Bool.{cases_lt}
 use Rattle.std.proofs.lemmas.List.Elements.{All-nil, All-cons, All-head}
 use Rattle.sk_insn.specs.declared.insn.Insn.{Insn}
-use Rattle.sk_insn.specs.declared.record.Record.{Record}
-use Rattle.sk_conditions.specs.declared.differences.Verdicts.{Verdicts}
 use Rattle.sk_conditions.specs.declared.numbers.Numbers.{Numbers}
 use Rattle.sk_conditions.specs.declared.standing.Relation.{Relation}
-use Rattle.sk_when.specs.declared.piece.Calls.{Calls}
+use Rattle.sk_when.specs.declared.piece.Calls.TheVariants.{Every}
+use Rattle.sk_when.specs.declared.piece.Outcome.{Outcome}
+use Rattle.sk_when.specs.declared.piece.Outcome.TheVariants.{Undecided, Apart}
 use Rattle.sk_when.specs.declared.piece.Part.{Part}
 use Rattle.sk_when.specs.declared.piece.Piece.{Piece}
-use Rattle.sk_when.specs.Pieces.{AreCompared, AreVerdicts, ArePartsOfOne, Cover, Holds, HoldsOf, IsShown, meets_calls}
+use Rattle.sk_when.specs.Pieces.{AreAlike, AreCompared, ArePartsOfOne, Cover, HasVerdicts, Holds, HoldsOf, IsSo, meets_calls}
 
 pub one_more : (relation : Relation) (old new : List (List Insn)) (pieces : List Piece) (from : ℕ) (piece : Piece)
     → AreCompared relation old new from piece.numbers.first pieces → piece.numbers.first ≤ piece.numbers.last
@@ -24,12 +24,22 @@ one_more relation old new (before ∷ pieces) from piece so_far rises holds =
 abbrev both_numbers : Numbers → Numbers → Numbers
 both_numbers one other = record { first = one.first; last = other.last }
 
-shown_wider : (relation : Relation) (old new : List (List Insn)) (one other : Numbers) (calls : Calls) (verdicts : Option Verdicts) (shown : Option Record)
-    → one.last ≤ other.last → IsShown relation old new one calls verdicts shown → IsShown relation old new (both_numbers one other) calls verdicts shown
-shown_wider relation old new one other calls verdicts None wider is = is
-shown_wider relation old new one other calls None (Some call) wider is = absurd is
-shown_wider relation old new one other calls (Some it) (Some call) wider is =
-    ((is.0.0, (is.0.1.0, let below = is.0.1.1 in omega (arith, below, wider))), is.1, is.2, is.3)
+-- what holds of the calls of both, and the call of the first
+so_of_both : (relation : Relation) (old new : List (List Insn)) (one other : Numbers) (outcome another : Outcome) → AreAlike outcome another
+    → one.last + 1 ≡ other.first → other.first ≤ other.last → IsSo relation old new one Every outcome → IsSo relation old new other Every another
+    → IsSo relation old new (both_numbers one other) Every outcome
+so_of_both relation old new one other Undecided another are meet rises is is' = tt
+so_of_both relation old new one other (Apart it call) Undecided are meet rises is is' = absurd are
+so_of_both relation old new one other (Apart it call) (Apart it' call') are meet rises is is' =
+    let below = is.2.0.1.1 in (
+      λ at within every. elim (cases_lt one.last at.nr) [
+        | inl behind ↦
+            subst (λ v. HasVerdicts old new v at) (sym are) (is'.0 at (within.0, (omega (arith, behind, meet), within.1.1)) refl)
+        | inr here ↦ is.0 at (within.0, (within.1.0, here)) refl
+      ],
+      is.1,
+      ((is.2.0.0, (is.2.0.1.0, omega (arith, below, meet, rises))), refl),
+    )
 
 holds_both : (relation : Relation) (old new : List (List Insn)) (one other : Numbers) (parts others : List Part) → ArePartsOfOne parts others
     → one.last + 1 ≡ other.first → other.first ≤ other.last
@@ -44,17 +54,12 @@ holds_both relation old new one other [] [] are meet rises (hold, cover) (holds,
   ],
 )
 holds_both relation old new one other (part ∷ []) (another ∷ []) are meet rises (hold, cover) (holds, covers) = (
-  All-cons (HoldsOf relation old new (both_numbers one other)) part [] (
-    λ call within met. elim (cases_lt one.last call.nr) [
-      | inl behind ↦
-          subst (λ v. AreVerdicts old new v call) (sym are.2)
-          ((All-head (HoldsOf relation old new other) another [] holds).0 call (within.0, (omega (arith, behind, meet), within.1.1)) (ap (λ c. meets_calls c call) are.1))
-      | inr here ↦ (All-head (HoldsOf relation old new one) part [] hold).0 call (within.0, (within.1.0, here)) met
-    ],
-    (All-head (HoldsOf relation old new one) part [] hold).1,
-    shown_wider relation old new one other part.calls part.verdicts part.shown (omega (arith, meet, rises))
-        (All-head (HoldsOf relation old new one) part [] hold).2,
-  ) (All-nil (HoldsOf relation old new (both_numbers one other))),
+  All-cons (HoldsOf relation old new (both_numbers one other)) part []
+      (subst (λ calls. IsSo relation old new (both_numbers one other) calls part.outcome) (sym are.0)
+      (so_of_both relation old new one other part.outcome another.outcome are.2 meet rises
+      (subst (λ calls. IsSo relation old new one calls part.outcome) are.0 (All-head (HoldsOf relation old new one) part [] hold))
+      (subst (λ calls. IsSo relation old new other calls another.outcome) are.1 (All-head (HoldsOf relation old new other) another [] holds))))
+      (All-nil (HoldsOf relation old new (both_numbers one other))),
   λ call within differs. ap (λ c. list_any (λ calls. meets_calls calls call) (c ∷ [])) are.0,
 )
 holds_both relation old new one other [] (another ∷ others) are meet rises hold holds = absurd are

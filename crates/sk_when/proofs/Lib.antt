@@ -1,4 +1,6 @@
 pub mod Elses
+pub mod RowsMet
+pub mod Places
 pub mod Rows
 pub mod WorkedRows
 pub mod EveryCall

@@ -1,40 +1,32 @@
 -- The parts of a piece, of what a tree and its lines tell.
-use Rattle.std.proofs.Common.{◌≡◌, ℕ, zero, suc, ◌+◌, ◌||◌, ◌⊎◌, inl, inr, Bool, true, false, if◌then◌else◌, List, [], ◌∷◌, ◌++◌, map, filter, Option, Some, None, sym, ap, ◌∙◌, subst, refl, arith, append_assoc}
-use Rattle.std.specs.Prelude.{IfSome}
+use Rattle.std.proofs.Common.{◌≡◌, ℕ, zero, suc, ◌+◌, ◌||◌, Bool, true, false, if◌then◌else◌, List, [], ◌∷◌, get_or, Option, Some, None, sym, ap, ◌∙◌, subst, refl, arith}
+use Rattle.std.specs.Prelude.{IsSome}
 use Rattle.std.specs.List.{All, list_any}
 use Rattle.std.proofs.lemmas.Bool.{true≢false, ne_eqb}
-use Rattle.std.proofs.lemmas.List.{map-append}
-use Rattle.std.proofs.lemmas.List.Elements.{All-nil, All-cons, All-head, All-tail, All-push, All-same, All-weaker}
-use Rattle.std.proofs.lemmas.List.Folds.{list_any-append}
+use Rattle.std.proofs.lemmas.List.Elements.{All-contains, All-weaker}
 use Rattle.sk_insn.specs.declared.record.Record.{Record}
 use Rattle.sk_filter.specs.Verdict.{verdict_of}
 use Rattle.sk_survey.specs.Answers.{IsCallOf}
 use Rattle.sk_conditions.specs.declared.differences.Differences.{Differences}
 use Rattle.sk_conditions.specs.declared.differences.Verdicts.{Verdicts}
 use Rattle.sk_conditions.specs.declared.standing.Comparing.{Comparing}
-use Rattle.sk_conditions.specs.declared.standing.Found.TheVariants.{Apart}
 use Rattle.sk_conditions.specs.declared.standing.Relation.{Relation}
-use Rattle.sk_conditions.specs.Comparing.{IsApart, relates}
+use Rattle.sk_conditions.specs.Comparing.{relates}
 use Rattle.sk_conditions.specs.Conditions.{Agrees, told}
 use Rattle.sk_conditions.specs.Differing.{SaysOf, TellsDifferences}
 use Rattle.sk_terms.specs.declared.decision.Decision.{Decision}
-use Rattle.sk_terms.specs.declared.decision.Decision.TheVariants.{Is}
 use Rattle.sk_terms.specs.declared.lines.LeftOut.TheVariants.{End}
 use Rattle.sk_terms.specs.declared.lines.Line.{Line}
-use Rattle.sk_terms.specs.Decisions.{DecidesAs, decided}
-use Rattle.sk_terms.specs.Lines.{meets_line, shown, told_by}
+use Rattle.sk_terms.specs.Decisions.{DecidesAll, DecidesAs, decided}
+use Rattle.sk_terms.specs.Lines.{IsMetBy, meets_line, shown, told_by}
+use Rattle.sk_when.specs.declared.parts.Said.TheVariants.{Unknown}
 use Rattle.sk_when.specs.declared.piece.Calls.{Calls}
-use Rattle.sk_when.specs.declared.piece.Calls.TheVariants.{Every, Meeting}
+use Rattle.sk_when.specs.declared.piece.Outcome.{Outcome}
+use Rattle.sk_when.specs.declared.piece.Outcome.TheVariants.{Undecided, Apart}
 use Rattle.sk_when.specs.declared.piece.Part.{Part}
-use Rattle.sk_when.specs.Pieces.{HasVerdicts, HoldParts, HoldsPart, IsPairOf, IsShown, SaysOfLine, meeting, meets_calls, part_calls}
-
-pub if_some : {X : Type 0} (P Q : X → Type 0) (r : Option X) → ((x : X) → P x → Q x) → IfSome r P → IfSome r Q
-if_some P Q None more is = is
-if_some P Q (Some x) more is = more x is
-
-pub pair_of_every : (relation : Relation) (pairs : List Verdicts) (decision : Decision) (number : ℕ) (it : Verdicts) → decision ≡ Is number
-    → IsPairOf relation pairs (Some number) it → (call : Record) → IsPairOf relation pairs (decided decision call) it
-pair_of_every relation pairs decision number it is pair call = subst (λ d. IsPairOf relation pairs (decided d call) it) (sym is) pair
+use Rattle.sk_when.specs.Pieces.{Fails, HasVerdicts, HoldsPart, IsPairOf, Says, SaysOfLine, ShowsOf, meets_calls}
+use Rattle.sk_when.proofs.Elses.{some_value}
+use Rattle.sk_when.proofs.RowsMet.{Tells, each_tells, found, one_line}
 
 -- what a tree says of two verdicts its decision says too
 same_number : (t : Option ℕ) (n : ℕ) → ((value : ℕ) → Agrees t value → n ≡ value) → t ≡ Some n
@@ -53,25 +45,6 @@ decided_says chains it decision tells decides call within =
     says_of chains.relation it.pairs.items (verdict_of chains.old.now call) (verdict_of chains.new.now call) (told it.tree call) (decided decision call)
     (decides call within.0) (tells call within)
 
--- one pair of verdicts on every call
-pub every_holds : (chains : Comparing) (it : Differences) (decision : Decision) (pair : Verdicts) (call : Record) → TellsDifferences chains it
-    → DecidesAs decision it.tree → ((call : Record) → IsPairOf chains.relation it.pairs.items (decided decision call) pair) → IsApart chains (Apart call)
-    → HoldParts chains (record { calls = Every; verdicts = Some pair; shown = Some call } ∷ [])
-every_holds chains it decision pair call tells decides every apart = (
-  All-cons (HoldsPart chains) (record { calls = Every; verdicts = Some pair; shown = Some call }) [] (
-    λ other within met. has other within,
-    (every call).1,
-    (apart.0, refl, has call apart.0, apart.1),
-  )
-      (All-nil (HoldsPart chains)),
-  λ other within differs. refl,
-)
-  where
-    has : (other : Record) → IsCallOf chains.numbers.first chains.numbers.last other
-        → (verdict_of chains.old.now other ≡ pair.old) × (verdict_of chains.new.now other ≡ pair.new)
-    has other within =
-        (every other).0 (verdict_of chains.old.now other) (verdict_of chains.new.now other) (decided_says chains it decision tells decides other within)
-
 -- the ends that get a line
 shown_none : shown (End (Some 0)) None ≡ None ∷ []
 shown_none = refl
@@ -79,51 +52,15 @@ shown_none = refl
 shown_some : (i : ℕ) → shown (End (Some 0)) (Some (suc i)) ≡ Some (suc i) ∷ []
 shown_some i = ap (λ b. if b then [] else Some (suc i) ∷ []) (ne_eqb (suc i) 0 (λ e. absurd (omega (arith, e))))
 
--- of all lines that a call meets the values are the one that is told, if it is told
-AtMost : List (Option ℕ) → Option ℕ → Type 0
-AtMost values d = (values ≡ []) ⊎ (values ≡ d ∷ [])
-
-at_most : (d : Option ℕ) (values : List (Option ℕ)) → values ≡ shown (End (Some 0)) d → AtMost values d
-unfolding AtMost
-at_most None values e = inr (e ∙ shown_none)
-at_most (Some zero) values e = inl e
-at_most (Some (suc i)) values e = inr (e ∙ shown_some i)
-
-head_of : (line : Line) (lines : List Line) (call : Record) (d : Option ℕ) (b : Bool) → meets_line line call ≡ b
-    → AtMost (if b then line.value ∷ told_by lines call else told_by lines call) d → (meets_line line call ≡ true → d ≡ line.value) × AtMost (told_by lines call) d
-unfolding AtMost
-head_of line lines call d true is (inl e) = cc
-head_of line lines call d true is (inr e) = (λ met. cc, inl cc)
-head_of line lines call d false is so = (λ met. absurd (true≢false (sym met ∙ is)), so)
-
-one_line : (line : Line) (lines : List Line) (call : Record)
-    → told_by (line ∷ lines) call ≡ (if meets_line line call then line.value ∷ told_by lines call else told_by lines call)
-one_line line lines call = by_test (meets_line line call) where
-  by_test : (b : Bool)
-      → map (λ (it : Line). it.value) (if b then line ∷ filter (λ it. meets_line it call) lines else filter (λ it. meets_line it call) lines)
-      ≡ (if b then line.value ∷ told_by lines call else told_by lines call)
-  by_test true = refl
-  by_test false = refl
-
-each_tells : (lines : List Line) (d : Record → Option ℕ) → ((call : Record) → AtMost (told_by lines call) (d call))
-    → All (λ line. (call : Record) → meets_line line call ≡ true → d call ≡ line.value) lines
-each_tells [] d most = All-nil (λ line. (call : Record) → meets_line line call ≡ true → d call ≡ line.value)
-each_tells (line ∷ lines) d most =
-    All-cons (λ line. (call : Record) → meets_line line call ≡ true → d call ≡ line.value) line lines (λ call met. (of_head call).0 met)
-    (each_tells lines d (λ call. (of_head call).1))
-  where
-    of_head : (call : Record) → (meets_line line call ≡ true → d call ≡ line.value) × AtMost (told_by lines call) (d call)
-    of_head call = head_of line lines call (d call) (meets_line line call) refl (subst (λ xs. AtMost xs (d call)) (one_line line lines call) (most call))
-
 -- so the lines of a tree that tells the differences say of their calls how the verdicts stand
 pub lines_say : (chains : Comparing) (it : Differences) (decision : Decision) (lines : List Line) → TellsDifferences chains it → DecidesAs decision it.tree
     → ((call : Record) → told_by lines call ≡ shown (End (Some 0)) (decided decision call)) → All (SaysOfLine chains it.pairs.items) lines
 lines_say chains it decision lines tells decides told =
-    All-weaker (λ line. (call : Record) → meets_line line call ≡ true → decided decision call ≡ line.value) (SaysOfLine chains it.pairs.items)
+    All-weaker (Tells (decided decision)) (SaysOfLine chains it.pairs.items)
     (λ line same call within met.
     subst (SaysOf chains.relation it.pairs.items (verdict_of chains.old.now call) (verdict_of chains.new.now call)) (same call met)
     (decided_says chains it decision tells decides call within))
-    lines (each_tells lines (decided decision) (λ call. at_most (decided decision call) (told_by lines call) (told call)))
+    lines (each_tells lines (End (Some 0)) (decided decision) told)
 
 -- a call of which a line tells something meets it
 some_head : (line : Line) (lines : List Line) (call : Record) (value : Option ℕ) (b : Bool) → meets_line line call ≡ b
@@ -144,77 +81,61 @@ some_end relation pairs old new None says differs = (None, shown_none)
 some_end relation pairs old new (Some zero) says differs = absurd (true≢false (sym says ∙ differs))
 some_end relation pairs old new (Some (suc i)) says differs = (Some (suc i), shown_some i)
 
--- parts that speak of the calls of lines
-any_of_parts : (parts : List Part) (call : Record) → list_any (λ part. meets_calls part.calls call) parts ≡ list_any (λ calls. meets_calls calls call) (map part_calls parts)
-any_of_parts [] call = refl
-any_of_parts (part ∷ parts) call = ap (λ b. meets_calls part.calls call || b) (any_of_parts parts call)
+-- a call on which the relation fails meets a line
+pub lines_cover : (chains : Comparing) (it : Differences) (decision : Decision) (lines : List Line) → TellsDifferences chains it → DecidesAs decision it.tree
+    → ((call : Record) → told_by lines call ≡ shown (End (Some 0)) (decided decision call)) → (call : Record) → Fails chains call
+    → list_any (λ line. meets_line line call) lines ≡ true
+lines_cover chains it decision lines tells decides told call fails =
+    let value = some_end chains.relation it.pairs.items (verdict_of chains.old.now call) (verdict_of chains.new.now call) (decided decision call)
+    (decided_says chains it decision tells decides call fails.0) fails.1 in
+    some_line lines call value.0 (told call ∙ value.1)
 
-any_of_lines : (lines : List Line) (call : Record) → list_any (λ calls. meets_calls calls call) (map meeting lines) ≡ list_any (λ line. meets_line line call) lines
-any_of_lines [] call = refl
-any_of_lines (line ∷ lines) call = ap (λ b. meets_line line call || b) (any_of_lines lines call)
+-- a line that a call meets has a value, where one is told of each call
+pub values_are_told : (decision : Decision) (calls : List Record) (lines : List Line) → DecidesAll decision
+    → ((call : Record) → told_by lines call ≡ shown (End (Some 0)) (decided decision call)) → All (IsMetBy calls) lines → All (λ line. IsSome line.value) lines
+values_are_told decision calls lines all told met k other less =
+    let line = get_or lines k other in
+    let it = found (λ call. Unit {0}) (λ call. meets_line line call) calls (λ i call inside. tt) (met k other less) in
+    let is = some_value decision it.0 all in
+    subst IsSome (sym is.1 ∙ each_tells lines (End (Some 0)) (decided decision) told k other less it.0 it.2) refl
 
-pub lines_hold : (chains : Comparing) (it : Differences) (decision : Decision) (lines : List Line) (parts : List Part) → TellsDifferences chains it
-    → DecidesAs decision it.tree → ((call : Record) → told_by lines call ≡ shown (End (Some 0)) (decided decision call))
-    → map part_calls parts ≡ map meeting lines → All (HoldsPart chains) parts → HoldParts chains parts
-lines_hold chains it decision lines parts tells decides told calls hold = (
-  hold,
-  λ call within differs.
-      let value = some_end chains.relation it.pairs.items (verdict_of chains.old.now call) (verdict_of chains.new.now call) (decided decision call)
-      (decided_says chains it decision tells decides call within) differs in
-      any_of_parts parts call ∙ ap (list_any (λ calls. meets_calls calls call)) calls ∙ any_of_lines lines call
-      ∙ some_line lines call value.0 (told call ∙ value.1),
+-- the part of a line whose verdicts are known, and the relation fails
+pub apart_holds : (chains : Comparing) (pairs : List Verdicts) (line : Line) (pair : Verdicts) (among : List Record) (calls : Calls) (outcome : Outcome)
+    → SaysOfLine chains pairs line → IsPairOf chains.relation pairs line.value pair → All (IsCallOf chains.numbers.first chains.numbers.last) among
+    → ((call : Record) → meets_calls calls call ≡ meets_line line call) → ShowsOf line among pair outcome
+    → HoldsPart chains (record { calls = calls; outcome = outcome })
+apart_holds chains pairs line pair among calls Undecided says is within meets shows = tt
+apart_holds chains pairs line pair among calls (Apart it call) says is within meets shows = (
+  λ other inside met.
+      subst (λ p. HasVerdicts chains.old.now chains.new.now p other) (sym shows.0)
+      (is.0 (verdict_of chains.old.now other) (verdict_of chains.new.now other) (says other inside (sym (meets other) ∙ met))),
+  subst (λ (p : Verdicts). relates chains.relation p.old p.new ≡ false) (sym shows.0) is.1,
+  (All-contains (IsCallOf chains.numbers.first chains.numbers.last) among call within shows.1, meets call ∙ shows.2),
 )
 
-pub one_part_more : (chains : Comparing) (parts next : List Part) (part : Part) → next ≡ parts ++ part ∷ [] → HoldParts chains parts → HoldsPart chains part
-    → HoldParts chains next
-one_part_more chains parts next part is hold holds = (
-  All-same (HoldsPart chains) next (parts ++ part ∷ []) is (All-push (HoldsPart chains) parts part hold.0 holds),
-  λ call within differs.
-      ap (list_any (λ part. meets_calls part.calls call)) is
-      ∙ list_any-append (λ part. meets_calls part.calls call) parts (part ∷ [])
-      ∙ ap (λ b. b || list_any (λ part. meets_calls part.calls call) (part ∷ [])) (hold.1 call within differs),
-)
+-- a line with a value that a call meets is never one of which nothing is known
+pub never_unknown : (chains : Comparing) (pairs : List Verdicts) (line : Line) (calls : List Record) → SaysOfLine chains pairs line
+    → All (IsCallOf chains.numbers.first chains.numbers.last) calls → Says chains.relation pairs line.value Unknown → IsMetBy calls line → IsSome line.value → ⊥
+never_unknown chains pairs line calls says within unknown met some =
+    let it = found (IsCallOf chains.numbers.first chains.numbers.last) (λ call. meets_line line call) calls within met in
+    true≢false (sym (subst IsSome (unknown (verdict_of chains.old.now it.0) (verdict_of chains.new.now it.0) (says it.0 it.1 it.2)) some))
 
--- the loop over the lines
-pub one_line_more : (parts next : List Part) (part : Part) (line : Line) (left rest : List Line) (all : List Calls) → next ≡ parts ++ part ∷ []
-    → part.calls ≡ Meeting line → left ≡ line ∷ rest → map part_calls parts ++ map meeting left ≡ all → map part_calls next ++ map meeting rest ≡ all
-one_line_more parts next part line left rest all is same steps so_far =
-    ap (λ xs. map part_calls xs ++ map meeting rest) is
-    ∙ ap (λ xs. xs ++ map meeting rest) (map-append part_calls parts (part ∷ []))
-    ∙ append_assoc (map part_calls parts) (part.calls ∷ []) (map meeting rest)
-    ∙ ap (λ r. map part_calls parts ++ (r ∷ map meeting rest)) same
-    ∙ ap (λ xs. map part_calls parts ++ map meeting xs) (sym steps)
-    ∙ so_far
+or_true : (a : Bool) → (a || true) ≡ true
+or_true true = refl
+or_true false = refl
 
-pub still_hold : (chains : Comparing) (parts next : List Part) (part : Part) → next ≡ parts ++ part ∷ [] → All (HoldsPart chains) parts
-    → HoldsPart chains part → All (HoldsPart chains) next
-still_hold chains parts next part is hold holds = All-same (HoldsPart chains) next (parts ++ part ∷ []) is (All-push (HoldsPart chains) parts part hold holds)
+of_three : (a b c d : Bool) → ((a || b) ≡ true → d ≡ true) → (a || (b || c)) ≡ true → (d || c) ≡ true
+of_three true b c d added any = ap (λ x. x || c) (added refl)
+of_three false true c d added any = ap (λ x. x || c) (added refl)
+of_three false false true d added any = or_true d
+of_three false false false d added any = cc
 
-pub rest_say : (chains : Comparing) (pairs : List Verdicts) (left rest : List Line) (line : Line) → left ≡ line ∷ rest → All (SaysOfLine chains pairs) left
-    → (SaysOfLine chains pairs line) × All (SaysOfLine chains pairs) rest
-rest_say chains pairs left rest line steps say =
-    let all : All (SaysOfLine chains pairs) (line ∷ rest) = All-same (SaysOfLine chains pairs) (line ∷ rest) left (sym steps) say in
-    (All-head (SaysOfLine chains pairs) line rest all, All-tail (SaysOfLine chains pairs) line rest all)
-
--- the part of a line whose verdicts are known
-shown_so : (chains : Comparing) (line : Line) (pair : Verdicts) (shown : Option Record) → relates chains.relation pair.old pair.new ≡ false
-    → IfSome shown (IsCallOf chains.numbers.first chains.numbers.last) → IfSome shown (λ call. meets_line line call ≡ true)
-    → IfSome shown (HasVerdicts chains.old.now chains.new.now pair)
-    → IsShown chains.relation chains.old.now chains.new.now chains.numbers (Meeting line) (Some pair) shown
-shown_so chains line pair None apart within meets has = tt
-shown_so chains line pair (Some call) apart within meets has = (
-  within,
-  meets,
-  has,
-  ap (λ n. relates chains.relation n (verdict_of chains.new.now call)) has.0 ∙ ap (relates chains.relation pair.old) has.1 ∙ apart,
-)
-
-pub part_told : (chains : Comparing) (pairs : List Verdicts) (line : Line) (pair : Verdicts) (shown : Option Record) → SaysOfLine chains pairs line
-    → IsPairOf chains.relation pairs line.value pair
-    → IfSome shown (IsCallOf chains.numbers.first chains.numbers.last) → IfSome shown (λ call. meets_line line call ≡ true)
-    → IfSome shown (HasVerdicts chains.old.now chains.new.now pair) → HoldsPart chains (record { calls = Meeting line; verdicts = Some pair; shown = shown })
-part_told chains pairs line pair shown says is within meets has = (
-  λ call in_them met. is.0 (verdict_of chains.old.now call) (verdict_of chains.new.now call) (says call in_them met),
-  is.1,
-  shown_so chains line pair shown is.1 within meets has,
-)
+-- the loop over the lines: a call that meets the next line, or one behind it
+pub next_covers : (parts next : List Part) (line : Line) (left rest : List Line) (call : Record) → left ≡ line ∷ rest
+    → ((list_any (λ it. meets_calls it.calls call) parts || meets_line line call) ≡ true → list_any (λ it. meets_calls it.calls call) next ≡ true)
+    → (list_any (λ it. meets_calls it.calls call) parts || list_any (λ it. meets_line it call) left) ≡ true
+    → (list_any (λ it. meets_calls it.calls call) next || list_any (λ it. meets_line it call) rest) ≡ true
+next_covers parts next line left rest call steps added before =
+    of_three (list_any (λ it. meets_calls it.calls call) parts) (meets_line line call) (list_any (λ it. meets_line it call) rest)
+    (list_any (λ it. meets_calls it.calls call) next) added
+    (sym (ap (λ lines. list_any (λ it. meets_calls it.calls call) parts || list_any (λ it. meets_line it call) lines) steps) ∙ before)

@@ -1,5 +1,6 @@
 -- Each worked example is what the definitions compute.
-use Rattle.std.proofs.Common.{refl}
+use Rattle.std.proofs.Common.{arith, refl}
+use Rattle.std.proofs.lemmas.Bool.{true≢false}
 use Rattle.std.specs.Fmt.{digits}
 use Rattle.hex.specs.Hex.{encode_with}
 use Rattle.sk_insn.specs.Actions.{action_of}
@@ -20,7 +21,6 @@ unfolding digits action_of operation_of verdict_text error_named verdicts_text h
 differences_work = record {
   verdicts = refl;
   unknown = refl;
-  this_one = refl;
   stricter = refl;
   looser = refl;
   neither = refl;
@@ -30,12 +30,13 @@ differences_work = record {
 }
 
 pub parts_work : PartsWork
+unfolding action_of operation_of
 parts_work = record {
   unseen = refl;
   seen = refl;
   undecided = refl;
   alike = refl;
   every = refl;
-  others = refl;
-  single = λ relation old new numbers holds. holds.2;
+  as_strict = λ old new holds. true≢false holds.1;
+  elsewhere = λ relation old new holds. let above = holds.2.0.1.0 in absurd (omega (arith, above));
 }

@@ -3,6 +3,7 @@ use Rattle.std.proofs.Common.{ℕ, ◌≡◌, ◌++◌, ◌||◌, false, if◌th
 use Rattle.std.specs.Prelude.{codes, flat_map}
 use Rattle.std.specs.Fmt.{digits}
 use Rattle.std.specs.List.{list_any}
+use Rattle.hex.specs.Hex.{encode_with}
 use Rattle.sk_insn.specs.Actions.{action_of}
 use Rattle.sk_insn.specs.Operations.{operation_of}
 use Rattle.sk_call_names.specs.X86_64.{name_of}
@@ -17,9 +18,10 @@ use Rattle.sk_when.specs.declared.diff_engine.Finding.{Finding}
 use Rattle.sk_when.specs.declared.diff_engine.Finding.TheVariants as finding
 use Rattle.sk_when.specs.declared.piece.Part.{Part}
 use Rattle.sk_when.specs.declared.piece.Piece.{Piece}
-use Rattle.sk_when.specs.DiffText.{verdicts_text, head_text, kind_text, part_text, piece_text, differences_text}
+use Rattle.sk_when.specs.DiffText.{argument_text, call_text, verdicts_text, head_text, kind_text, part_text, piece_text, differences_text, record_text}
 use Rattle.sk_when.specs.Pieces.{shows_call, has_parts, finding_of}
-use Rattle.sk_when.specs.WorkedTexts.{ColoursWork, OrderWorks, FindingsWork, HasParts, undecided, stricter, looser, shown}
+use Rattle.sk_when.specs.WorkedDiffs.{clone}
+use Rattle.sk_when.specs.WorkedTexts.{ColoursWork, OrderWorks, FindingsWork, HasParts, undecided, stricter, looser}
 
 pub colours_work : ColoursWork
 colours_work = record { runs = refl; kills = refl; others = refl }
@@ -42,9 +44,9 @@ numbers_are : (parts : List Part) (piece : Piece) → HasParts parts piece → p
 numbers_are parts piece has = λ i. record { first = has.first i; last = has.last i }
 
 written : text_of_parts clone_numbers (undecided ∷ stricter ∷ looser ∷ [])
-    ≡ codes "56 clone: errno/1 EPERM -> allow\n  no call was found\n"
-    ++ (codes "56 clone: allow -> errno/1 EPERM\n  no call was found\n" ++ codes "56 clone: undecided\n")
-unfolding digits action_of operation_of verdict_text error_named verdicts_text head_text part_text kind_text name_of name_on
+    ≡ codes "56 clone: errno/1 EPERM -> allow\n" ++ (record_text architecture.X86_64 clone
+    ++ (codes "56 clone: allow -> errno/1 EPERM\n" ++ (record_text architecture.X86_64 clone ++ codes "56 clone: undecided\n")))
+unfolding digits encode_with action_of operation_of verdict_text error_named verdicts_text head_text part_text kind_text record_text call_text argument_text name_of name_on
 written = refl
 
 pub order_works : OrderWorks
@@ -72,8 +74,8 @@ found parts others one other has has' = ap (λ ps. of_two ps other.parts.items) 
 
 pub findings_work : FindingsWork
 findings_work = record {
-  behind = λ one other has has'. found (undecided ∷ []) (shown ∷ []) one other has has';
-  before = λ one other has has'. found (shown ∷ []) (undecided ∷ []) one other has has';
+  behind = λ one other has has'. found (undecided ∷ []) (looser ∷ []) one other has has';
+  before = λ one other has has'. found (looser ∷ []) (undecided ∷ []) one other has has';
   beside = λ piece has. ap of_one has.items;
   unseen = λ piece has. ap of_one has.items;
   left_open = λ one other has has'. found [] (undecided ∷ []) one other has has';

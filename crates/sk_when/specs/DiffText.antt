@@ -1,5 +1,5 @@
 -- The text of a comparison: each difference with a call that shows it.
-use Rattle.std.specs.Prelude.{ℕ, ◌==◌, ◌++◌, Bool, true, false, if◌then◌else◌, List, [], Option, Some, None, codes, flat_map}
+use Rattle.std.specs.Prelude.{ℕ, ◌==◌, ◌++◌, Bool, true, false, if◌then◌else◌, List, [], codes, flat_map}
 use Rattle.std.specs.Fmt.{decimal, digits}
 use Rattle.std.specs.Option.{option_map_or}
 use Rattle.hex.specs.Hex.{encode_lower}
@@ -17,7 +17,9 @@ use Rattle.sk_conditions.specs.declared.standing.Relation.TheVariants.{Same, AsS
 use Rattle.sk_conditions.specs.Comparing.{relates}
 use Rattle.sk_terms.specs.Text.{condition_text}
 use Rattle.sk_when.specs.declared.piece.Calls.{Calls}
-use Rattle.sk_when.specs.declared.piece.Calls.TheVariants.{Every, Meeting, This}
+use Rattle.sk_when.specs.declared.piece.Calls.TheVariants.{Every, Meeting}
+use Rattle.sk_when.specs.declared.piece.Outcome.{Outcome}
+use Rattle.sk_when.specs.declared.piece.Outcome.TheVariants as outcome
 use Rattle.sk_when.specs.declared.piece.Part.{Part}
 use Rattle.sk_when.specs.declared.piece.Piece.{Piece}
 use Rattle.sk_when.specs.declared.diff_text.Kind.{Kind}
@@ -47,15 +49,14 @@ call_text architecture call =
 unfoldable pub verdicts_text : Verdicts → List ℕ
 verdicts_text it = verdict_text it.old ++ (codes " -> " ++ verdict_text it.new)
 
-abbrev pub outcome_text : Option Verdicts → List ℕ
-outcome_text None = codes "undecided"
-outcome_text (Some it) = verdicts_text it
+abbrev pub outcome_text : Outcome → List ℕ
+outcome_text outcome.Undecided = codes "undecided"
+outcome_text (outcome.Apart it call) = verdicts_text it
 
 -- under which condition of C, where it is not every call
 abbrev pub calls_text : Calls → List ℕ
 calls_text Every = []
 calls_text (Meeting line) = codes " where " ++ condition_text line
-calls_text This = codes " on this call"
 
 -- the same call, of an architecture
 abbrev pub of_architecture : Architecture → Record → Record
@@ -66,10 +67,9 @@ unfoldable pub record_text : Architecture → Record → List ℕ
 record_text architecture call =
     codes "  record " ++ (encode_lower (record_bytes (of_architecture architecture call)) ++ (codes "\n  " ++ (call_text architecture call ++ codes "\n")))
 
-abbrev pub shown_text : Architecture → Option Verdicts → Option Record → List ℕ
-shown_text architecture verdicts (Some call) = record_text architecture call
-shown_text architecture (Some it) None = codes "  no call was found\n"
-shown_text architecture None None = []
+abbrev pub shown_text : Architecture → Outcome → List ℕ
+shown_text architecture outcome.Undecided = []
+shown_text architecture (outcome.Apart it call) = record_text architecture call
 
 -- numbers, with the name that a single one has on the architecture
 unfoldable pub head_text : Architecture → Numbers → List ℕ
@@ -80,12 +80,12 @@ head_text architecture numbers =
 unfoldable pub part_text : Architecture → Numbers → Part → List ℕ
 part_text architecture numbers part =
     head_text architecture numbers
-    ++ (codes ": " ++ (outcome_text part.verdicts ++ (calls_text part.calls ++ (codes "\n" ++ shown_text architecture part.verdicts part.shown))))
+    ++ (codes ": " ++ (outcome_text part.outcome ++ (calls_text part.calls ++ (codes "\n" ++ shown_text architecture part.outcome))))
 
 -- the new chain does not answer as strictly as the old one, or it does, or it is undecided
-abbrev pub kind_of : Option Verdicts → Kind
-kind_of None = Undecided
-kind_of (Some it) = if relates AsStrict it.old it.new then Other else Looser
+abbrev pub kind_of : Outcome → Kind
+kind_of outcome.Undecided = Undecided
+kind_of (outcome.Apart it call) = if relates AsStrict it.old it.new then Other else Looser
 
 abbrev pub is_kind : Kind → Kind → Bool
 is_kind Looser Looser = true
@@ -95,7 +95,7 @@ is_kind one it = false
 
 unfoldable pub kind_text : Architecture → Kind → Numbers → Part → List ℕ
 kind_text architecture kind numbers part =
-    if is_kind (kind_of part.verdicts) kind then part_text architecture numbers part else []
+    if is_kind (kind_of part.outcome) kind then part_text architecture numbers part else []
 
 unfoldable pub piece_text : Architecture → Kind → Piece → List ℕ
 piece_text architecture kind piece = flat_map (kind_text architecture kind piece.numbers) piece.parts.items

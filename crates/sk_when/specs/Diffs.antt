@@ -11,9 +11,8 @@ use Rattle.sk_when.specs.declared.diff_engine.Finding.{Finding}
 use Rattle.sk_when.specs.declared.diff_engine.Finding.TheVariants.{Holds, Fails, Undecided}
 use Rattle.sk_when.specs.declared.piece.Piece.{Piece}
 use Rattle.sk_when.specs.DiffText.{differences_text, everywhere_text}
-use Rattle.sk_conditions.specs.Comparing.{stands_on}
 use Rattle.sk_conditions.specs.Followed.{AreFollowed}
-use Rattle.sk_when.specs.Pieces.{AreCompared, ShowsWhereItMayFail, NamedAreAloneIn, finding_of}
+use Rattle.sk_when.specs.Pieces.{AreCompared, AreDecided, NamedAreAloneIn, finding_of, stands_on}
 
 abbrev pub text_of : Architecture → Relation → Finding → List Piece → List ℕ
 text_of architecture relation Holds pieces = everywhere_text relation
@@ -21,14 +20,14 @@ text_of architecture relation Fails pieces = differences_text architecture piece
 text_of architecture relation Undecided pieces = differences_text architecture pieces
 
 -- pieces of all numbers were compared, those with a name on the architecture each alone, and this is what is said of them;
--- where the filters are followed, and the steps of no piece were spent, nothing is left undecided; and of the same filters it is
--- said that the relation holds, whatever they do
+-- where the filters are followed, and the steps of no piece were spent, each part is decided; and of the same filters it is said
+-- that the relation holds, whatever they do
 pub record IsComparison (architecture : Architecture) (relation : Relation) (old new : List (List Insn)) (is_spent : Bool) (finding : Finding)
     (text : List ℕ) : Type 0 where
   pub pieces : List Piece
   pub compared : AreCompared relation old new 0 (2 ^ 32) pieces
   pub alone : All (NamedAreAloneIn architecture) pieces
-  pub decided : All AreFollowed old → All AreFollowed new → is_spent ≡ false → All ShowsWhereItMayFail pieces
+  pub decided : All AreFollowed old → All AreFollowed new → is_spent ≡ false → All AreDecided pieces
   pub stands : finding ≡ finding_of pieces
   pub same : old ≡ new → finding ≡ Holds
   pub says : text ≡ text_of architecture relation finding pieces
@@ -47,8 +46,9 @@ FailsOnACall =
     → IsComparison architecture relation old new is_spent Fails text
     → (call : Record) × IsNative call × (call.nr < 2 ^ 32) × (stands_on relation old new call ≡ false)
 
--- of filters that are followed one of the two is said, unless steps were spent
+-- of filters that are followed one of the two is said, and each part of each piece is decided, unless steps were spent
 abbrev pub FollowedIsDecided : Type 0
 FollowedIsDecided =
-    (architecture : Architecture) (relation : Relation) (old new : List (List Insn)) (text : List ℕ)
-    → All AreFollowed old → All AreFollowed new → IsComparison architecture relation old new false Undecided text → ⊥
+    (architecture : Architecture) (relation : Relation) (old new : List (List Insn)) (finding : Finding) (text : List ℕ)
+    → All AreFollowed old → All AreFollowed new → (it : IsComparison architecture relation old new false finding text)
+    → (finding ≡ Undecided → ⊥) × All AreDecided it.pieces

@@ -9,18 +9,20 @@ use Rattle.sk_survey.specs.Answers.{ChainAnswersAmong, answers_of}
 use Rattle.sk_survey.specs.Surveys.{Tell}
 use Rattle.sk_survey_lines.specs.Lines.{first_told, end_told, TellsNamedAlone}
 use Rattle.sk_when.specs.declared.row.ConditionalRow.{ConditionalRow}
-use Rattle.sk_when.specs.Lines.{IsExact, IsTold}
+use Rattle.sk_when.specs.Lines.{IsExact, IsMet, IsTold}
 use Rattle.sk_when.specs.WhenText.{when_text}
 
 abbrev pub row_told : ConditionalRow → Row
 row_told told = told.row
 
 -- the rows tell all numbers, or the one that is asked for, those with a name on the architecture each alone, and of each call
--- the verdict or several; where the filters are followed, and the steps of no row were spent, it is the verdict
+-- the verdict or several, by lines of which each is met by some call; where the filters are followed, and the steps of no row were
+-- spent, it is the verdict
 pub record AreTold (architecture : Architecture) (call : Option ℕ) (programs : List (List Insn)) (is_spent : Bool) (all : List ConditionalRow) : Type 0 where
   pub rows : Tell programs (first_told call) (end_told call) (map row_told all)
   pub alone : All (TellsNamedAlone architecture) (map row_told all)
   pub told : All (IsTold programs) all
+  pub met : All (IsMet programs) all
   pub exact : All AreFollowed programs → is_spent ≡ false → All (IsExact programs) all
 
 -- a text is that of such rows

@@ -1,5 +1,5 @@
 -- Worked examples of comparisons: calls as C writes them, and differences with verdicts by seccomp(2).
-use Rattle.std.specs.Prelude.{◌≡◌, ◌++◌, List, [], ◌∷◌, codes, true, false, Some, None}
+use Rattle.std.specs.Prelude.{◌≡◌, ◌++◌, List, [], ◌∷◌, codes, true, false}
 use Rattle.sk_insn.specs.declared.insn.Insn.{Insn}
 use Rattle.sk_insn.specs.declared.record.Record.{Record}
 use Rattle.sk_insn.specs.Record.{native}
@@ -7,10 +7,13 @@ use Rattle.sk_call_names.specs.declared.architecture.Architecture.TheVariants as
 use Rattle.sk_conditions.specs.declared.differences.Verdicts.{Verdicts}
 use Rattle.sk_conditions.specs.declared.numbers.Numbers.{Numbers}
 use Rattle.sk_conditions.specs.declared.standing.Relation.{Relation}
-use Rattle.sk_when.specs.declared.piece.Calls.TheVariants.{Every, This}
+use Rattle.sk_conditions.specs.declared.standing.Relation.TheVariants.{AsStrict}
+use Rattle.sk_when.specs.declared.piece.Calls.TheVariants.{Every}
+use Rattle.sk_when.specs.declared.piece.Outcome.{Outcome}
+use Rattle.sk_when.specs.declared.piece.Outcome.TheVariants.{Undecided, Apart}
 use Rattle.sk_when.specs.declared.piece.Part.{Part}
 use Rattle.sk_when.specs.declared.diff_text.Kind.TheVariants.{Looser, Other}
-use Rattle.sk_when.specs.DiffText.{call_text, record_text, outcome_text, calls_text, head_text, kind_of, is_kind}
+use Rattle.sk_when.specs.DiffText.{call_text, record_text, outcome_text, head_text, kind_of, is_kind}
 use Rattle.sk_when.specs.Pieces.{HoldsOf, shows_call, has_parts, meets_calls}
 
 abbrev pub clone : Record
@@ -33,29 +36,37 @@ refused = record { old = 0x7fff0000; new = 0x00050001 }
 abbrev pub allowed : Verdicts
 allowed = record { old = 0x00050001; new = 0x7fff0000 }
 
+abbrev pub shows : Verdicts → Outcome
+shows it = Apart it clone
+
 -- what the old chain answers stands first; an error for a call that was allowed is not looser, and the other way round it is;
 -- one error for another is neither
 pub record DifferencesWork : Type 0 where
-  pub verdicts : outcome_text (Some refused) ≡ codes "allow -> errno/1 EPERM"
-  pub unknown : outcome_text None ≡ codes "undecided"
-  pub this_one : calls_text This ≡ codes " on this call"
-  pub stricter : kind_of (Some refused) ≡ Other
-  pub looser : kind_of (Some allowed) ≡ Looser
-  pub neither : kind_of (Some (record refused { old = 0x00050026 })) ≡ Other
+  pub verdicts : outcome_text (shows refused) ≡ codes "allow -> errno/1 EPERM"
+  pub unknown : outcome_text Undecided ≡ codes "undecided"
+  pub stricter : kind_of (shows refused) ≡ Other
+  pub looser : kind_of (shows allowed) ≡ Looser
+  pub neither : kind_of (shows (record refused { old = 0x00050026 })) ≡ Other
   pub told_apart : is_kind Looser Other ≡ false
   pub single : head_text architecture.X86_64 (record { first = 56; last = 56 }) ≡ codes "56 clone"
   pub several : head_text architecture.X86_64 (record { first = 462; last = 4294967295 }) ≡ codes "462-4294967295 -"
 
-abbrev pub part : Part
-part = record { calls = Every; verdicts = Some refused; shown = None }
+abbrev pub untold : Part
+untold = record { calls = Every; outcome = Undecided }
 
--- what shows no call is no difference that was found, and leaves it undecided; a single call tells nothing of the others, and one
--- that is not shown is none
+abbrev pub apart : Part
+apart = record { calls = Every; outcome = shows refused }
+
+-- the numbers of clone(2)
+abbrev pub numbers : Numbers
+numbers = record { first = 56; last = 56 }
+
+-- a part that is decided has its call, which is no difference where the relation holds, and neither where it has another number
 pub record PartsWork : Type 0 where
-  pub unseen : shows_call part ≡ false
-  pub seen : shows_call (record part { shown = Some clone }) ≡ true
-  pub undecided : has_parts (part ∷ []) ≡ true
+  pub unseen : shows_call untold ≡ false
+  pub seen : shows_call apart ≡ true
+  pub undecided : has_parts (untold ∷ []) ≡ true
   pub alike : has_parts [] ≡ false
   pub every : meets_calls Every clone ≡ true
-  pub others : meets_calls This clone ≡ false
-  pub single : (relation : Relation) (old new : List (List Insn)) (numbers : Numbers) → HoldsOf relation old new numbers (record part { calls = This }) → ⊥
+  pub as_strict : (old new : List (List Insn)) → HoldsOf AsStrict old new numbers apart → ⊥
+  pub elsewhere : (relation : Relation) (old new : List (List Insn)) → HoldsOf relation old new (record { first = 57; last = 58 }) apart → ⊥

@@ -1,16 +1,17 @@
 -- Worked examples of what is drawn and written: a colour for each action of seccomp(2), differences in their order, and what is
 -- found of several pieces.
-use Rattle.std.specs.Prelude.{◌≡◌, ◌++◌, List, [], ◌∷◌, codes, map, Some, None}
+use Rattle.std.specs.Prelude.{◌≡◌, ◌++◌, List, [], ◌∷◌, codes, map}
 use Rattle.sk_insn.specs.declared.action.Action.TheVariants.{KillProcess, KillThread, Trap, Errno, UserNotif, Trace, Log, Allow, Unknown}
 use Rattle.sk_call_names.specs.declared.architecture.Architecture.TheVariants as architecture
 use Rattle.sk_when.specs.declared.diff_engine.Finding.TheVariants as finding
 use Rattle.sk_when.specs.declared.piece.Calls.TheVariants.{Every}
+use Rattle.sk_when.specs.declared.piece.Outcome.TheVariants.{Undecided}
 use Rattle.sk_when.specs.declared.piece.Part.{Part}
 use Rattle.sk_when.specs.declared.piece.Piece.{Piece}
-use Rattle.sk_when.specs.DiffText.{differences_text}
+use Rattle.sk_when.specs.DiffText.{differences_text, record_text}
 use Rattle.sk_when.specs.Picture.{colour_of}
 use Rattle.sk_when.specs.Pieces.{finding_of}
-use Rattle.sk_when.specs.WorkedDiffs.{clone, refused, allowed}
+use Rattle.sk_when.specs.WorkedDiffs.{clone, refused, allowed, shows}
 
 -- whether the process goes on with its call done: it does after `log` too; a kill of any kind, and what Linux takes for one; and
 -- what else may become of a call
@@ -20,16 +21,13 @@ pub record ColoursWork : Type 0 where
   pub others : map colour_of (Trap ∷ Errno ∷ UserNotif ∷ Trace ∷ []) ≡ codes "khaki" ∷ codes "khaki" ∷ codes "khaki" ∷ codes "khaki" ∷ []
 
 abbrev pub undecided : Part
-undecided = record { calls = Every; verdicts = None; shown = None }
+undecided = record { calls = Every; outcome = Undecided }
 
 abbrev pub stricter : Part
-stricter = record { calls = Every; verdicts = Some refused; shown = None }
+stricter = record { calls = Every; outcome = shows refused }
 
 abbrev pub looser : Part
-looser = record { calls = Every; verdicts = Some allowed; shown = None }
-
-abbrev pub shown : Part
-shown = record looser { shown = Some clone }
+looser = record { calls = Every; outcome = shows allowed }
 
 -- the piece of clone(2) with these parts
 pub record HasParts (parts : List Part) (piece : Piece) : Type 0 where
@@ -37,18 +35,17 @@ pub record HasParts (parts : List Part) (piece : Piece) : Type 0 where
   pub last : piece.numbers.last ≡ 56
   pub items : piece.parts.items ≡ parts
 
--- calls that are let through now stand before all others, and what is undecided stands last; where verdicts are told and no call
--- is shown, that is said
+-- calls that are let through now stand before all others, and what is undecided stands last; below verdicts their call is told
 pub record OrderWorks : Type 0 where
   pub text : (piece : Piece) → HasParts (undecided ∷ stricter ∷ looser ∷ []) piece → differences_text architecture.X86_64 (piece ∷ [])
-      ≡ codes "56 clone: errno/1 EPERM -> allow\n  no call was found\n"
-      ++ (codes "56 clone: allow -> errno/1 EPERM\n  no call was found\n" ++ codes "56 clone: undecided\n")
+      ≡ codes "56 clone: errno/1 EPERM -> allow\n" ++ (record_text architecture.X86_64 clone
+      ++ (codes "56 clone: allow -> errno/1 EPERM\n" ++ (record_text architecture.X86_64 clone ++ codes "56 clone: undecided\n")))
 
 -- one call that is shown is enough for a difference, whatever is undecided before or behind it
 pub record FindingsWork : Type 0 where
-  pub behind : (one other : Piece) → HasParts (undecided ∷ []) one → HasParts (shown ∷ []) other → finding_of (one ∷ other ∷ []) ≡ finding.Fails
-  pub before : (one other : Piece) → HasParts (shown ∷ []) one → HasParts (undecided ∷ []) other → finding_of (one ∷ other ∷ []) ≡ finding.Fails
-  pub beside : (piece : Piece) → HasParts (undecided ∷ shown ∷ []) piece → finding_of (piece ∷ []) ≡ finding.Fails
-  pub unseen : (piece : Piece) → HasParts (looser ∷ []) piece → finding_of (piece ∷ []) ≡ finding.Undecided
+  pub behind : (one other : Piece) → HasParts (undecided ∷ []) one → HasParts (looser ∷ []) other → finding_of (one ∷ other ∷ []) ≡ finding.Fails
+  pub before : (one other : Piece) → HasParts (looser ∷ []) one → HasParts (undecided ∷ []) other → finding_of (one ∷ other ∷ []) ≡ finding.Fails
+  pub beside : (piece : Piece) → HasParts (undecided ∷ looser ∷ []) piece → finding_of (piece ∷ []) ≡ finding.Fails
+  pub unseen : (piece : Piece) → HasParts (undecided ∷ []) piece → finding_of (piece ∷ []) ≡ finding.Undecided
   pub left_open : (one other : Piece) → HasParts [] one → HasParts (undecided ∷ []) other → finding_of (one ∷ other ∷ []) ≡ finding.Undecided
   pub none : (one other : Piece) → HasParts [] one → HasParts [] other → finding_of (one ∷ other ∷ []) ≡ finding.Holds

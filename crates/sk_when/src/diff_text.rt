@@ -2,9 +2,9 @@
 ghost use Rattle.std.specs.Prelude.{◌≡◌, ◌++◌, IfOk, OnOk, string_bytes, codes, flat_map};
 ghost use Rattle.sk_when.specs.DiffText.{call_name_text, argument_text, address_text, call_text, differences_text, piece_text, kind_text, kind_of, is_kind, part_text, outcome_text, calls_text, head_text, shown_text, record_text, everywhere_text};
 
-use crate::piece::{Calls, Part, Piece};
+use crate::piece::{Calls, Outcome, Part, Piece};
 use sk_call_names::{Architecture, name};
-use sk_conditions::{Numbers, Relation, Verdicts, stands};
+use sk_conditions::{Numbers, Relation, stands};
 use sk_filter::push_verdict;
 use sk_insn::Record;
 use sk_survey_lines::{name_of_numbers, push_numbers};
@@ -101,18 +101,18 @@ fn push_part_of_kind(
 ) -> Result<(), AllocError>
     ensures text { OnOk result (string_bytes text.new ≡ string_bytes text.old ++ kind_text architecture kind numbers part.now) }
 {
-    if !is_kind(kind_of(part.verdicts), kind) {
+    if !is_kind(kind_of(part.outcome), kind) {
         return Ok(());
     }
     push_part(text, architecture, numbers, part)
 }
 
-fn kind_of(verdicts: Option<Verdicts>) -> Kind
-    ensures kind { result ≡ kind_of verdicts }
+fn kind_of(outcome: Outcome) -> Kind
+    ensures kind { result ≡ kind_of outcome }
 {
-    match verdicts {
-        None => Kind::Undecided,
-        Some(pair) => {
+    match outcome {
+        Outcome::Undecided => Kind::Undecided,
+        Outcome::Apart(pair, _) => {
             if stands(Relation::AsStrict, pair.old, pair.new) {
                 Kind::Other
             } else {
@@ -143,19 +143,19 @@ fn push_part(
 {
     push_head(text, architecture, numbers)?;
     text.push_str(": ")?;
-    push_outcome(text, part.verdicts)?;
+    push_outcome(text, part.outcome)?;
     push_calls(text, &part.calls)?;
     text.push_str("\n")?;
-    push_shown(text, architecture, part.verdicts, part.shown)
+    push_shown(text, architecture, part.outcome)
 }
 
 #[tactic(auto, unfolding(crate::specs::DiffText::verdicts_text))]
-fn push_outcome(text: &mut String, verdicts: Option<Verdicts>) -> Result<(), AllocError>
-    ensures text { OnOk result (string_bytes text.new ≡ string_bytes text.old ++ outcome_text verdicts) }
+fn push_outcome(text: &mut String, outcome: Outcome) -> Result<(), AllocError>
+    ensures text { OnOk result (string_bytes text.new ≡ string_bytes text.old ++ outcome_text outcome) }
 {
-    match verdicts {
-        None => text.push_str("undecided"),
-        Some(pair) => {
+    match outcome {
+        Outcome::Undecided => text.push_str("undecided"),
+        Outcome::Apart(pair, _) => {
             push_verdict(text, pair.old)?;
             text.push_str(" -> ")?;
             push_verdict(text, pair.new)
@@ -172,24 +172,19 @@ fn push_calls(text: &mut String, calls: &Calls) -> Result<(), AllocError>
             text.push_str(" where ")?;
             push_condition(text, line)
         }
-        Calls::This => text.push_str(" on this call"),
     }
 }
 
 fn push_shown(
     text: &mut String,
     architecture: Architecture,
-    verdicts: Option<Verdicts>,
-    shown: Option<Record>,
+    outcome: Outcome,
 ) -> Result<(), AllocError>
-    ensures text { OnOk result (string_bytes text.new ≡ string_bytes text.old ++ shown_text architecture verdicts shown) }
+    ensures text { OnOk result (string_bytes text.new ≡ string_bytes text.old ++ shown_text architecture outcome) }
 {
-    match shown {
-        Some(call) => push_record(text, architecture, call),
-        None => match verdicts {
-            Some(_) => text.push_str("  no call was found\n"),
-            None => Ok(()),
-        },
+    match outcome {
+        Outcome::Undecided => Ok(()),
+        Outcome::Apart(_, call) => push_record(text, architecture, call),
     }
 }
 

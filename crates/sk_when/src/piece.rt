@@ -10,18 +10,22 @@ pub enum Calls {
     Every,
     /// Those that meet a condition.
     Meeting(Line),
-    /// The one that is shown.
-    This,
+}
+
+/// What is known of the verdicts on the calls of a part.
+#[derive(Clone, Copy, Debug)]
+pub enum Outcome {
+    /// Nothing: the relation between them may fail, or hold.
+    Undecided,
+    /// They are these, for which the relation fails, and this is one of the calls.
+    Apart(Verdicts, Record),
 }
 
 /// Calls on which the relation between the verdicts of two chains may fail.
 #[derive(Drop)]
 pub struct Part {
     pub calls: Calls,
-    /// The verdicts on them, for which the relation fails; none where it is undecided.
-    pub verdicts: Option<Verdicts>,
-    /// One of the calls. Filters were run on it.
-    pub shown: Option<Record>,
+    pub outcome: Outcome,
 }
 
 /// Neighbouring numbers, and their calls on which the relation may fail; on all others it holds.

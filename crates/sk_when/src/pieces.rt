@@ -7,10 +7,10 @@ ghost use Rattle.sk_call_names.specs.Names.{name_on};
 ghost use Rattle.sk_survey.specs.Cutting.{IsCutRound};
 ghost use Rattle.sk_conditions.specs.declared.standing.Relation.{Relation};
 ghost use Rattle.sk_conditions.specs.Followed.{AreFollowed};
-ghost use Rattle.sk_when.specs.Pieces.{AreCompared, Holds, ArePartsOfOne, IsNamed, NamedAreAlone, NamedAreAloneIn, ShowsWhereItMayFail};
+ghost use Rattle.sk_when.specs.Pieces.{AreCompared, Holds, ArePartsOfOne, AreAlike, AreDecided, IsNamed, NamedAreAlone, NamedAreAloneIn};
 
 use crate::parts::piece_of;
-use crate::piece::{Calls, Part, Piece};
+use crate::piece::{Calls, Outcome, Part, Piece};
 use crate::same_filters::have_same_filters;
 use sk_call_names::{Architecture, name, numbers};
 use sk_conditions::{Budgets, Comparing, Numbers, Relation};
@@ -30,8 +30,8 @@ pub fn pieces(
     ensures compared { IfOk result (λ pieces. AreCompared relation old.now new.now 0 (2 ^ 32) pieces.items) }
     ensures alone { IfOk result (λ pieces. All (NamedAreAloneIn architecture) pieces.items) }
     ensures decided { IfOk result (λ pieces. All AreFollowed old.now → All AreFollowed new.now → budgets.new.is_spent ≡ false
-        → All ShowsWhereItMayFail pieces.items) }
-    ensures same { IfOk result (λ pieces. old.now ≡ new.now → All ShowsWhereItMayFail pieces.items) }
+        → All AreDecided pieces.items) }
+    ensures same { IfOk result (λ pieces. old.now ≡ new.now → All AreDecided pieces.items) }
 {
     let are_same = have_same_filters(old, new);
     let beginnings = beginnings(alloc, architecture, old, new)?;
@@ -77,8 +77,8 @@ fn push_pieces(
     ensures compared { IfOk result (λ first. AreCompared chains.entry.relation chains.entry.old.now chains.entry.new.now 0 first pieces.new.items) }
     ensures alone { IfOk result (λ first. All (NamedAreAloneIn architecture) pieces.new.items) }
     ensures decided { IfOk result (λ first. All AreFollowed chains.entry.old.now → All AreFollowed chains.entry.new.now → budgets.new.is_spent ≡ false
-        → All ShowsWhereItMayFail pieces.new.items) }
-    ensures same { IfOk result (λ first. IsTrue are_same → All ShowsWhereItMayFail pieces.new.items) }
+        → All AreDecided pieces.new.items) }
+    ensures same { IfOk result (λ first. IsTrue are_same → All AreDecided pieces.new.items) }
     ensures passed { IfOk result (λ first. All (λ beginning. beginning ≤ first) beginnings.now) }
 {
     let mut first = 0u32;
@@ -115,9 +115,9 @@ fn push_piece(
         → All (NamedAreAloneIn architecture) pieces.old.items → NamedAreAlone architecture chains.entry.numbers
         → All (NamedAreAloneIn architecture) pieces.new.items) }
     ensures decided { OnOk result (All AreFollowed chains.entry.old.now → All AreFollowed chains.entry.new.now
-        → (budgets.old.is_spent ≡ false → All ShowsWhereItMayFail pieces.old.items) → budgets.new.is_spent ≡ false
-        → All ShowsWhereItMayFail pieces.new.items) }
-    ensures same { OnOk result (IsTrue are_same → All ShowsWhereItMayFail pieces.old.items → All ShowsWhereItMayFail pieces.new.items) }
+        → (budgets.old.is_spent ≡ false → All AreDecided pieces.old.items) → budgets.new.is_spent ≡ false
+        → All AreDecided pieces.new.items) }
+    ensures same { OnOk result (IsTrue are_same → All AreDecided pieces.old.items → All AreDecided pieces.new.items) }
 {
     let piece = next_piece(alloc, chains, are_same, budgets)?;
     push(pieces, architecture, piece)
@@ -135,8 +135,8 @@ fn next_piece(
     ensures numbers { IfOk result (λ piece. piece.numbers ≡ chains.entry.numbers) }
     ensures holds { IfOk result (Holds chains.entry.relation chains.entry.old.now chains.entry.new.now) }
     ensures decided { IfOk result (λ piece. All AreFollowed chains.entry.old.now → All AreFollowed chains.entry.new.now
-        → budgets.new.is_spent ≡ false → ShowsWhereItMayFail piece) }
-    ensures same { IfOk result (λ piece. IsTrue are_same → ShowsWhereItMayFail piece) }
+        → budgets.new.is_spent ≡ false → AreDecided piece) }
+    ensures same { IfOk result (λ piece. IsTrue are_same → AreDecided piece) }
     ensures spent { budgets.new.is_spent ≡ false → budgets.old.is_spent ≡ false }
 {
     if are_same {
@@ -152,7 +152,7 @@ fn next_piece(
 fn without_parts(alloc: Global, numbers: Numbers) -> Piece
     ensures numbers { result.numbers ≡ numbers }
     ensures holds { (relation : Relation) (programs : List (List Insn)) → Holds relation programs programs result }
-    ensures shows { ShowsWhereItMayFail result }
+    ensures decided { AreDecided result }
 {
     Piece {
         numbers,
@@ -169,7 +169,7 @@ fn push(pieces: &mut Vec<Piece>, architecture: Architecture, piece: Piece) -> Re
     ensures alone { OnOk result ((relation : Relation) (old new : List (List Insn)) (from : ℕ)
         → AreCompared relation old new from piece.numbers.first pieces.old.items → All (NamedAreAloneIn architecture) pieces.old.items
         → NamedAreAloneIn architecture piece → All (NamedAreAloneIn architecture) pieces.new.items) }
-    ensures decided { OnOk result (All ShowsWhereItMayFail pieces.old.items → ShowsWhereItMayFail piece → All ShowsWhereItMayFail pieces.new.items) }
+    ensures decided { OnOk result (All AreDecided pieces.old.items → AreDecided piece → All AreDecided pieces.new.items) }
 {
     let Some(last) = pieces.pop() else {
         pieces.push(piece)?;
@@ -230,8 +230,20 @@ fn say_the_same(parts: &[Part], others: &[Part]) -> bool
     match (parts, others) {
         ([], []) => true,
         ([part], [other]) => {
-            is_every(&part.calls) && is_every(&other.calls) && part.verdicts == other.verdicts
+            is_every(&part.calls)
+                && is_every(&other.calls)
+                && are_alike(part.outcome, other.outcome)
         }
+        _ => false,
+    }
+}
+
+fn are_alike(one: Outcome, other: Outcome) -> bool
+    ensures alike { IsTrue result → AreAlike one other }
+{
+    match (one, other) {
+        (Outcome::Undecided, Outcome::Undecided) => true,
+        (Outcome::Apart(pair, _), Outcome::Apart(another, _)) => pair == another,
         _ => false,
     }
 }

@@ -3,7 +3,7 @@ ghost use Rattle.std.specs.Prelude.{◌≡◌, ◌≤◌, true, false, [], ◌�
 ghost use Rattle.std.specs.List.{All};
 ghost use Rattle.sk_survey.specs.Answers.{ChainAnswersAmong, answers_of};
 ghost use Rattle.sk_conditions.specs.Followed.{AreFollowed};
-ghost use Rattle.sk_when.specs.Lines.{IsExact, IsTold};
+ghost use Rattle.sk_when.specs.Lines.{IsExact, IsMet, IsTold};
 
 use sk_conditions::{Budgets, Numbers, chain_tree};
 use sk_filter::Chain;
@@ -30,6 +30,7 @@ pub fn conditions_of_row(
     requires among { ChainAnswersAmong chain.now row.first row.last (answers_of row.answers) }
     ensures row { IfOk result (λ told. told.row ≡ row) }
     ensures told { IfOk result (IsTold chain.now) }
+    ensures met { IfOk result (IsMet chain.now) }
     ensures exact { IfOk result (λ told. All AreFollowed chain.now → budgets.new.is_spent ≡ false → IsExact chain.now told) }
     ensures spent { budgets.new.is_spent ≡ false → budgets.old.is_spent ≡ false }
 {

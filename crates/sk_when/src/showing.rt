@@ -1,12 +1,12 @@
 //! Calls that show a difference.
-ghost use Rattle.std.specs.Prelude.{◌≡◌, true, IfSome, IsTrue};
-ghost use Rattle.std.specs.List.{list_any};
-ghost use Rattle.sk_survey.specs.Answers.{IsCallOf};
-ghost use Rattle.sk_terms.specs.Lines.{meets_line};
-ghost use Rattle.sk_when.specs.Pieces.{HasVerdicts, shows_call};
+ghost use Rattle.std.specs.Prelude.{◌≡◌, ◌≤◌, ◌<◌, true, length, slice_index_or, IfSome, IsSome};
+ghost use Rattle.std.specs.List.{Contains, list_any};
+ghost use Rattle.sk_insn.specs.declared.record.Record.{Record};
+ghost use Rattle.sk_terms.specs.Lines.{meets_line, IsMetBy};
+ghost use Rattle.sk_when.specs.Pieces.{is_decided, shows_call};
 
-use crate::piece::Part;
-use sk_conditions::{Budget, Comparing, Numbers, Verdicts};
+use crate::piece::{Outcome, Part};
+use sk_conditions::Budget;
 use sk_insn::Record;
 use sk_terms::{Line, meets};
 
@@ -17,35 +17,58 @@ const STEPS_A_LOOK: u64 = 64;
 pub fn any_shown(parts: &[Part]) -> bool
     ensures any { result ≡ list_any shows_call parts.now }
 {
-    parts.iter().any(|part| part.shown.is_some())
+    parts.iter().any(|part| is_decided(part.outcome))
 }
 
-/// One of some calls that meets a line and gets these verdicts, if the budget lets find it.
+fn is_decided(outcome: Outcome) -> bool
+    ensures decided { result ≡ is_decided outcome }
+{
+    match outcome {
+        Outcome::Undecided => false,
+        Outcome::Apart(_, _) => true,
+    }
+}
+
+/// One of some calls that meets a line, if one does and the budget lets find it. They are looked at from a place on, and the
+/// place is then behind the one that was found: calls stand in the order of the ends of a tree, and lines in that of the last
+/// ends that they tell, so each is looked at once or twice in all.
 pub fn shown_among(
-    chains: Comparing<'_>,
-    pair: Verdicts,
     line: &Line,
     calls: &[Record],
+    from: &mut usize,
     budget: &mut Budget,
 ) -> Option<Record>
-    ensures within { IfSome result (IsCallOf chains.entry.numbers.first chains.entry.numbers.last) }
+    ensures one { IfSome result (Contains calls.now) }
     ensures meets { IfSome result (λ call. meets_line line.now call ≡ true) }
-    ensures verdicts { IfSome result (HasVerdicts chains.entry.old.now chains.entry.new.now pair) }
+    ensures found { IsMetBy calls.now line.now → 0 < budget.new.steps → IsSome result }
+    ensures left { budget.new.steps ≤ budget.old.steps }
 {
-    for call in calls {
+    let middle = calls.len().min(*from);
+    if let Some(at) = place_among(line, &calls[middle..], budget) {
+        *from = middle + at + 1;
+        return Some(calls[middle + at]);
+    }
+    let Some(at) = place_among(line, &calls[..middle], budget) else {
+        return None;
+    };
+    *from = at + 1;
+    Some(calls[at])
+}
+
+// Where the first of some calls stands that meets a line.
+fn place_among(line: &Line, calls: &[Record], budget: &mut Budget) -> Option<usize>
+    ensures there { IfSome result (λ at. at < length calls.now) }
+    ensures meets { IfSome result (λ at. (other : Record) → meets_line line.now (slice_index_or calls.now at other) ≡ true) }
+    ensures found { IsMetBy calls.now line.now → 0 < budget.new.steps → IsSome result }
+    ensures left { budget.new.steps ≤ budget.old.steps }
+{
+    for (at, call) in calls.iter().enumerate() {
         if !budget.take(STEPS_A_LOOK) {
             return None;
         }
-        if chains.numbers.has(call) && meets(line, call) && runs_so(chains, pair, call) {
-            return Some(*call);
+        if meets(line, call) {
+            return Some(at);
         }
     }
     None
-}
-
-// Whether the chains answer a call so.
-fn runs_so(chains: Comparing<'_>, pair: Verdicts, call: &Record) -> bool
-    ensures runs { IsTrue result → HasVerdicts chains.entry.old.now chains.entry.new.now pair call.now }
-{
-    chains.old.verdict(call) == pair.old && chains.new.verdict(call) == pair.new
 }

@@ -4,7 +4,7 @@ ghost use Rattle.std.specs.List.{All};
 ghost use Rattle.sk_survey_lines.specs.Lines.{row_of};
 ghost use Rattle.sk_when.specs.Telling.{TellsWhen, AreTold, IsSurveyed, row_told};
 ghost use Rattle.sk_conditions.specs.Followed.{AreFollowed};
-ghost use Rattle.sk_when.specs.Lines.{IsExact, IsTold};
+ghost use Rattle.sk_when.specs.Lines.{IsExact, IsMet, IsTold};
 
 use crate::row::{ConditionalRow, conditions_of_row};
 use crate::when_text::when_text;
@@ -57,6 +57,7 @@ fn tell_all(
     requires holds { All (λ line. IsSurveyed chain.now line.row) lines.items }
     ensures rows { IfOk result (λ rows. map row_told rows.items ≡ map row_of lines.items) }
     ensures told { IfOk result (λ rows. All (IsTold chain.now) rows.items) }
+    ensures met { IfOk result (λ rows. All (IsMet chain.now) rows.items) }
     ensures exact { IfOk result (λ rows. All AreFollowed chain.now → budgets.new.is_spent ≡ false → All (IsExact chain.now) rows.items) }
 {
     let mut rows = Vec::with_capacity(alloc, lines.len())?;

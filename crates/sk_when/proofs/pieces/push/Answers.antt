@@ -1,8 +1,8 @@
 use Rattle.std.proofs.Common.{◌+◌, [], ◌∷◌, ◌++◌, ap, ◌∙◌, sym, subst, rules}
 use Rattle.std.specs.List.{All}
 use Rattle.std.proofs.lemmas.List.Elements.{All-push}
-use Rattle.sk_when.specs.Pieces.{AreCompared, ArePartsOfOne, NamedAreAloneIn, ShowsWhereItMayFail}
-use Rattle.sk_when.proofs.Alone.{joined_alone, joined_shows}
+use Rattle.sk_when.specs.Pieces.{AreCompared, ArePartsOfOne, NamedAreAloneIn, AreDecided}
+use Rattle.sk_when.proofs.Alone.{joined_alone, joined_decided}
 use Rattle.sk_when.proofs.Joined.{one_more, joined}
 use Rattle.sk_when.proofs.pieces.push.Goals as goal
 
@@ -22,8 +22,8 @@ returns-then-are_one c = record {
       (subst (AreCompared relation old new from c.args.piece.numbers.first) c.in-Some.ensures.items so_far) unnamed.0 unnamed.1
       (subst (All (NamedAreAloneIn c.args.architecture)) c.in-Some.ensures.items all) alone);
   decided = λ all shows.
-      subst (All ShowsWhereItMayFail) (sym c.in_ok-push_joined.ensures.added)
-      (joined_shows c.pop.new.self.items c.in-Some.last c.args.piece (subst (All ShowsWhereItMayFail) c.in-Some.ensures.items all));
+      subst (All AreDecided) (sym c.in_ok-push_joined.ensures.added)
+      (joined_decided c.pop.new.self.items c.in-Some.last c.args.piece (subst (All AreDecided) c.in-Some.ensures.items all));
 }
 
 pub returns : goal.returns
@@ -38,7 +38,7 @@ returns c = record {
       (sym (c.in_ok-push_both.ensures.added ∙ ap (λ xs. xs ++ c.args.piece ∷ []) (sym c.in-Some.ensures.items)))
       (All-push (NamedAreAloneIn c.args.architecture) c.args.pieces.now.items c.args.piece all alone);
   decided = λ all shows.
-      subst (All ShowsWhereItMayFail)
+      subst (All AreDecided)
       (sym (c.in_ok-push_both.ensures.added ∙ ap (λ xs. xs ++ c.args.piece ∷ []) (sym c.in-Some.ensures.items)))
-      (All-push ShowsWhereItMayFail c.args.pieces.now.items c.args.piece all shows);
+      (All-push AreDecided c.args.pieces.now.items c.args.piece all shows);
 }

@@ -1,7 +1,7 @@
 use Rattle.std.proofs.Common.{ℕ, ◌≡◌, ◌≤◌, ◌<◌, false, IsTrue, get_or}
 use Rattle.std.specs.List.{All}
 use Rattle.sk_conditions.specs.Followed.{AreFollowed}
-use Rattle.sk_when.specs.Pieces.{AreCompared, NamedAreAloneIn, ShowsWhereItMayFail}
+use Rattle.sk_when.specs.Pieces.{AreCompared, NamedAreAloneIn, AreDecided}
 use Rattle.sk_when.proofs.pieces.push_pieces.Given as goal
 
 abbrev pub invariant-loop-beginning : goal.invariant-loop-beginning
@@ -10,6 +10,6 @@ invariant-loop-beginning l = record {
   fits : l.first ≤ 4294967295;
   passed : (k : ℕ) → k < l.beginning-index → get_or l.beginnings k 0 ≤ l.first;
   alone : All (NamedAreAloneIn l.architecture) l.pieces.items;
-  decided : All AreFollowed l.chains.old.now → All AreFollowed l.chains.new.now → l.budgets.is_spent ≡ false → All ShowsWhereItMayFail l.pieces.items;
-  same : IsTrue l.are_same → All ShowsWhereItMayFail l.pieces.items;
+  decided : All AreFollowed l.chains.old.now → All AreFollowed l.chains.new.now → l.budgets.is_spent ≡ false → All AreDecided l.pieces.items;
+  same : IsTrue l.are_same → All AreDecided l.pieces.items;
 }

@@ -1,10 +1,14 @@
-use Rattle.std.proofs.Common.{[], ◌∷◌, ap, sym, ◌∙◌}
+use Rattle.std.proofs.Common.{◌<◌, [], ◌∷◌, length, Some, ap, refl, sym, subst, ◌∙◌}
+use Rattle.std.proofs.lemmas.List.Elements.{All-weaker}
+use Rattle.sk_insn.specs.Record.{IsNative}
 use Rattle.sk_filter.specs.Verdict.{verdict_of}
-use Rattle.sk_survey.specs.Answers.{answers_of}
+use Rattle.sk_survey.specs.Answers.{IsCallOf, answers_of}
 use Rattle.sk_terms.specs.Decisions.{decided}
+use Rattle.sk_terms.specs.Lines.{IsValueOf}
 use Rattle.sk_when.specs.Lines.{or_else}
 use Rattle.sk_when.proofs.Alone.{not_spent}
 use Rattle.sk_when.proofs.Elses.{else_tells, is_decided, is_verdict}
+use Rattle.sk_when.proofs.RowsMet.{alone_met, row_met}
 use Rattle.sk_when.proofs.row.conditions_of_row.Goals as goal
 
 pub returns-clause-told : goal.returns-clause-told
@@ -16,6 +20,23 @@ returns-clause-told c = λ call within.
       is_verdict (answers_of c.args.row.answers) verdict value
           (c.in_ok-decision.ensures.decides call within.0 verdict (c.in_ok-tree.ensures.tells call within)) (c.requires.among call within),
     )
+
+pub returns-clause-met : goal.returns-clause-met
+returns-clause-met c =
+    let calls = c.in_ok-tree.ensures.met.0 in
+    let within = c.in_ok-tree.ensures.met.1 in
+    let natives = All-weaker (IsCallOf c.args.row.first c.args.row.last) IsNative (λ call inside. inside.0) calls within in
+    let ends = c.in_ok-decision.ensures.met calls natives c.in_ok-tree.ensures.met.2 in
+    row_met c.args.chain.now (record { row = c.args.row; lines = c.in_ok-lines.lines; otherwise = c.in_ok-otherwise.otherwise }) calls c.in_ok-all.all.items
+    (decided c.in_ok-decision.decision) within
+    (λ call inside. c.in_ok-decision.ensures.decides call inside.0 (verdict_of c.args.chain.now call) (c.in_ok-tree.ensures.tells call inside))
+    c.in_ok-all.ensures.told c.in_ok-lines.ensures.told (c.in_ok-all.ensures.met calls ends) (c.in_ok-lines.ensures.met calls ends)
+    (λ some. subst (λ lines. IsValueOf lines c.in_ok-otherwise.otherwise) c.deref.ensures.value (c.in_ok-otherwise.ensures.found (subst (λ lines. 0 < length lines) (sym c.deref.ensures.value) some)))
+
+pub returns-in-Some-clause-met : goal.returns-in-Some-clause-met
+returns-in-Some-clause-met c =
+    alone_met c.args.chain.now (record { row = c.args.row; lines = c.new.result; otherwise = Some c.in-Some.value }) c.in-Some.value c.requires.range c.requires.among
+    c.in-Some.ensures.only c.new.ensures.items refl
 
 pub returns-clause-exact : goal.returns-clause-exact
 returns-clause-exact c = λ follows unspent call within.
