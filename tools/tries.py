@@ -1,18 +1,20 @@
 """Waits for a run of `rt try`."""
 import contextlib
 import os
+import signal
 import subprocess
 
 
-def hold_back(pid: int) -> None:
-    """Lets the search for reserved names wait, where processors are short: rt makes it beside a build, and it takes as long."""
+def end_search(pid: int) -> None:
+    """Ends the search for reserved names that rt makes beside a build: it takes as long as the build, for a hint."""
     with contextlib.suppress(OSError):
         with open(f"/proc/{pid}/task/{pid}/children", encoding="ascii") as file:
             children = file.read().split()
         for it in children:
             with open(f"/proc/{it}/cmdline", "rb") as file:
-                if b"check" in file.read().split(b"\0"):
-                    os.setpriority(os.PRIO_PROCESS, int(it), 19)
+                words = file.read().split(b"\0")
+            if os.path.basename(words[0]) == b"rattle" and words[1:2] == [b"check"]:
+                os.kill(int(it), signal.SIGKILL)
 
 
 def written(process: subprocess.Popen[bytes]) -> tuple[bytes, bytes]:
@@ -21,4 +23,4 @@ def written(process: subprocess.Popen[bytes]) -> tuple[bytes, bytes]:
         try:
             return process.communicate(timeout=1)
         except subprocess.TimeoutExpired:
-            hold_back(process.pid)
+            end_search(process.pid)
