@@ -9,7 +9,8 @@ use Rattle.sk_survey.specs.declared.answers.Answers.{Answers}
 use Rattle.sk_survey.specs.Answers.{answers_of, ChainAnswersAmong, AreRising}
 use Rattle.sk_survey.specs.Ends.{OnlyVerdicts}
 use Rattle.sk_survey.specs.Settling.{AllSettle, TellsOne}
-use Rattle.sk_survey.specs.Surveys.{Holds, HoldsInPieces, IsPiece, Tell}
+use Rattle.sk_survey.specs.Surveys.{Holds, Tell}
+use Rattle.sk_survey.specs.Pieces.{HoldsInPieces, IsPiece}
 use Rattle.sk_survey.proofs.Standing.{last_tells}
 
 -- with the same answers

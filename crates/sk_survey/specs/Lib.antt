@@ -4,6 +4,7 @@ pub mod Settling
 pub mod WorkedEnds
 pub mod WorkedCuts
 pub mod Surveys
+pub mod Pieces
 pub mod Following
 pub mod AnswersLaws
 pub mod Turning
