@@ -228,6 +228,8 @@ BEHIND = insn(0x20, k=4) + insn(0x35, 0, 1, 0xD0000000) + insn(0x06, k=0x8000000
 EACH_WORD = b"".join(insn(0x20, k=place) for place in range(8, 64, 4)) + ALLOW
 NOT_FOLLOWED = "not followed: each word of a call is loaded"
 MASKED = LOAD_NUMBER + insn(0x54, k=0xBFFFFFFF) + GETPID[8:]
+# getpid(2) is number 39 of x32 too, and execve(2), which is 59, has number 520 there.
+MASKED_EXECVE = LOAD_NUMBER + insn(0x54, k=0xBFFFFFFF) + insn(0x15, 0, 1, 59) + insn(0x06, k=0x00050001) + insn(0x06, k=0x7FFF0000)
 UNCLOSED = "why: CALL(ARG, ..) does not end with its parenthesis"
 TOO_MANY = "why: CALL(ARG, ..) has more than six arguments"
 
@@ -376,7 +378,8 @@ GOOD = [
     good(f"echo {GUARDED.hex()} | ask arches -", arches(BY_CALL, "allow", "kill_process")),
     good(f"echo {BEHIND.hex()} | ask arches -", arches("allow", "allow", "allow", BY_CALL)),
     good(f"echo {EACH_WORD.hex()} | ask arches -", arches("allow", "allow", "allow", NOT_FOLLOWED)),
-    warned(f"echo {MASKED.hex()} | ask arches -", arches(BY_CALL, BY_CALL, BY_CALL) + JUDGED_I386 + JUDGED_X32),
+    warned(f"echo {MASKED.hex()} | ask arches -", arches(BY_CALL, BY_CALL, BY_CALL) + JUDGED_I386),
+    warned(f"echo {MASKED_EXECVE.hex()} | ask arches -", arches(BY_CALL, BY_CALL, BY_CALL) + JUDGED_I386 + JUDGED_X32),
     good("ask arches --help | head -n 1", "usage: ask arches FILE..\n"),
     good("ask show --help | head -n 1", "usage: ask show [--arch ARCH] FILE\n"), good("ask show two --help | head -n 1", "usage: ask show [--arch ARCH] FILE\n"),
     good("ask why --help | head -n 1", "usage: ask why [--arch ARCH] 'CALL(ARG, ..)' FILE..\n"),

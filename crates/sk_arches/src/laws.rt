@@ -6,7 +6,7 @@ ghost use Rattle.sk_arches.specs.Looks.{UnseenArchitectures};
 ghost use Rattle.sk_arches.specs.Answers.{OneVerdictIsOfEachCall};
 ghost use Rattle.sk_arches.specs.Other.{OtherVerdictIsOfEachCall};
 ghost use Rattle.sk_arches.specs.Settled.{OneVerdictIsTold};
-ghost use Rattle.sk_arches.specs.Worked.{WarnsWhereItIsWritten, WorkedNumbers};
+ghost use Rattle.sk_arches.specs.Worked.{WarnsWhereItIsWritten, WorkedNamesakes, WorkedNumbers};
 
 /// What a chain for an architecture answers to a call of x86-64, the chain itself answers to the same call of that architecture.
 pub fn chains_for_architectures()
@@ -54,4 +54,9 @@ pub fn warns_where_it_is_written()
 #[tactic(auto, using(crate::proofs::Worked::worked_numbers))]
 pub fn worked_numbers()
     ensures law { WorkedNumbers }
+{}
+
+/// A call of another architecture has x86-64's number of its name, as it was worked out by hand.
+pub fn worked_namesakes()
+    ensures law { WorkedNamesakes }
 {}

@@ -1,12 +1,12 @@
-//! Whether the calls of an architecture are judged by the numbers of x86-64.
-ghost use Rattle.std.specs.Prelude.{IfOk};
+//! Whether the calls of an architecture are judged by the numbers of x86-64, and whether they are by their names.
+ghost use Rattle.std.specs.Prelude.{◌≡◌, IfOk};
 ghost use Rattle.sk_filter.specs.Chains.{IsWithinLimit};
 ghost use Rattle.sk_call_names.specs.Architectures.{audit_of};
 ghost use Rattle.sk_arches.specs.ChainsFor.{chain_for};
-ghost use Rattle.sk_arches.specs.Alike.{AreAlike, IsAlike};
+ghost use Rattle.sk_arches.specs.Alike.{AreAlike, AreAsNamesakes, IsAlike, IsAsNamesake, namesake};
 
 use crate::chain::chain_for;
-use sk_call_names::Architecture;
+use sk_call_names::{Architecture, name, number};
 use sk_filter::Chain;
 use sk_survey::Surveyor;
 use std::alloc::{AllocError, Global};
@@ -31,6 +31,50 @@ pub fn are_judged_alike(
         }
     }
     Ok(true)
+}
+
+/// Whether a chain answers the same to the calls of another architecture with these numbers and to those of x86-64 with their
+/// names. A call whose name x86-64 does not have is passed over.
+pub fn are_judged_by_name(
+    alloc: Global,
+    survey: &mut Surveyor,
+    chain: &Chain,
+    architecture: Architecture,
+    numbers: &[u32],
+) -> Result<bool, AllocError>
+    requires limited { IsWithinLimit chain.now }
+    ensures alike { IfOk result (AreAsNamesakes chain.now (chain_for (audit_of architecture) chain.now) architecture numbers.now) }
+{
+    let own = chain_for(alloc, chain, architecture.audit())?;
+    for nr in numbers {
+        if !is_as_namesake(alloc, survey, chain, &own, namesake(architecture, *nr), *nr)? {
+            return Ok(false);
+        }
+    }
+    Ok(true)
+}
+
+// The number of x86-64's call with the name that a number has on another architecture.
+fn namesake(architecture: Architecture, nr: u32) -> Option<u32>
+    ensures namesake { result ≡ namesake architecture nr }
+{
+    number(Architecture::X86_64, name(architecture, nr)?.as_bytes())
+}
+
+fn is_as_namesake(
+    alloc: Global,
+    survey: &mut Surveyor,
+    chain: &Chain,
+    own: &Chain,
+    namesake: Option<u32>,
+    nr: u32,
+) -> Result<bool, AllocError>
+    ensures alike { IfOk result (IsAsNamesake chain.now own.now namesake nr) }
+{
+    match namesake {
+        Some(namesake) => is_judged_alike(alloc, survey, chain, own, namesake, nr),
+        None => Ok(true),
+    }
 }
 
 fn is_judged_alike(
