@@ -4,8 +4,8 @@ ways; the names that calls have on other architectures alone; the numbers that f
 kernel that `ask` takes for the newest.
 
 check_call_names.py [INCLUDE]: INCLUDE holds the headers of all architectures, as usr/include of Debian's package
-linux-libc-dev. Where none is named, apt-get fetches that package of Debian's trixie, which stays at Linux 6.12, and verifies
-who signed it. Nothing is installed, and what was fetched is kept in ~/.cache/skern-headers. A comparison without headers
+linux-libc-dev. Where none is named, apt-get fetches that package of Debian's trixie, which stays at Linux 6.12, from where the
+machine gets its packages, and verifies who signed it. Nothing is installed, and what was fetched is kept in ~/.cache/skern-headers. A comparison without headers
 fails. Prints what each table comes to, and at last 'N passed, M failed'."""
 import os
 import re
@@ -47,9 +47,22 @@ def ran(words, folder):
     return end.stdout
 
 
+def apt_in(room, **more):
+    """apt-get with its lists and what it fetches in a folder of their own."""
+    for it in ("lists/partial", "archives/partial"):
+        os.makedirs(f"{room}/{it}", exist_ok=True)
+    options = {"Dir::State": room, "Dir::State::status": "/dev/null", "Dir::Cache": room, "APT::Sandbox::User": "root",
+               "Acquire::Languages": "none", "Acquire::Retries": "3", **more}
+    return ["apt-get", "-q", *(word for it in options.items() for word in ("-o", "=".join(it)))]
+
+
 def mirror():
-    """Where the machine itself gets Debian's packages."""
-    told = ran(["apt-get", "indextargets", "--format", "$(REPO_URI)", "Created-By: Packages", "Origin: Debian", "Label: Debian"], TOP)
+    """Where the machine itself gets Debian's packages. apt-get knows it once it has read the lists of there, which a new machine
+    has not."""
+    with tempfile.TemporaryDirectory(dir=STORE) as room:
+        apt = apt_in(room)
+        ran([*apt, "update"], room)
+        told = ran([*apt, "indextargets", "--format", "$(REPO_URI)", "Created-By: Packages", "Origin: Debian", "Label: Debian"], room)
     if not told:
         raise Trouble("apt-get knows no mirror of Debian")
     return told.splitlines()[0]
@@ -59,12 +72,8 @@ def fetch():
     """Puts the package into the store."""
     source = f"deb [signed-by={KEYS}] {mirror()} trixie main\n"
     with tempfile.TemporaryDirectory(dir=STORE) as room:
-        for it in ("lists/partial", "archives/partial"):
-            os.makedirs(f"{room}/{it}")
         Path(room, "sources.list").write_text(source, encoding="ascii")
-        options = {"Dir::Etc::sourcelist": f"{room}/sources.list", "Dir::Etc::sourceparts": "/dev/null", "Dir::State": room,
-                   "Dir::State::status": "/dev/null", "Dir::Cache": room, "APT::Sandbox::User": "root", "Acquire::Languages": "none"}
-        apt = ["apt-get", "-q", *(word for it in options.items() for word in ("-o", "=".join(it)))]
+        apt = apt_in(room, **{"Dir::Etc::sourcelist": f"{room}/sources.list", "Dir::Etc::sourceparts": "/dev/null"})
         ran([*apt, "update"], room)
         ran([*apt, "download", PACKAGE], room)
         for it in Path(room).glob(f"{PACKAGE}_*.deb"):
