@@ -1,9 +1,9 @@
 -- The steps that `ask` gives to an analysis of chains.
 use Rattle.std.specs.Prelude.{ℕ, Bool, IsTrue}
 
--- for all rows of `ask when`, for the picture of one call, and for all rows of `ask diff`
+-- for all rows of `ask when`, for the picture of one call, and for all rows of `ask diff`: a row of numbers takes at most 2 ^ 23
 abbrev pub when_steps : ℕ
-when_steps = 4194304
+when_steps = 33554432
 
 abbrev pub picture_steps : ℕ
 picture_steps = 67108864

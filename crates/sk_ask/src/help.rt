@@ -57,7 +57,7 @@ A FILE may be a profile, and then --cap, --kernel and --runc say where it is to 
 pub const DIFF_HELP: &str = "usage: ask diff [--stricter] [--arch ARCH] OLD NEW
 Whether the filters of two FILEs answer the same to every call of x86-64, or of ARCH, whatever its arguments are; and where not,
 the numbers with the old and the new verdict, and below them a call that shows it, those first where NEW is looser.
-  --stricter    whether NEW is at least as strict: no action of OLD takes precedence over that of NEW
+  --stricter    whether NEW is at least as strict, by what becomes of the process: an unknown action counts as kill_process
   --arch ARCH   the calls of this architecture: ask --help has their names; s390x is not followed
 A FILE may be a profile, and then --cap, --kernel and --runc say where it is to hold: ask --help has them.
 ";
