@@ -6,20 +6,24 @@ use sk_when::{Budget, Budgets, dot, when};
 use std::alloc::Global;
 use std::test::Fail;
 
-const ALLOW: u32 = 0x7fff_0000;
+/// SECCOMP_RET_ALLOW.
+pub const ALLOW: u32 = 0x7fff_0000;
 
 /// An error of number 1.
-const EPERM: u32 = 0x0005_0001;
+pub const EPERM: u32 = 0x0005_0001;
 
-fn insn(code: u16, jt: u8, jf: u8, k: u32) -> Insn {
+/// An instruction.
+pub fn insn(code: u16, jt: u8, jf: u8, k: u32) -> Insn {
     Insn { code, jt, jf, k }
 }
 
-fn ldabs(k: u32) -> Insn {
+/// A load of a word of the call.
+pub fn ldabs(k: u32) -> Insn {
     insn(0x20, 0, 0, k)
 }
 
-fn ret(k: u32) -> Insn {
+/// The end with a verdict.
+pub fn ret(k: u32) -> Insn {
     insn(0x06, 0, 0, k)
 }
 
@@ -32,7 +36,8 @@ fn checked(alloc: Global, program: &[Insn]) -> Result<Checked, Fail> {
     }
 }
 
-fn chain_of(alloc: Global, program: &[Insn]) -> Result<Chain, Fail> {
+/// The chain of one filter.
+pub fn chain_of(alloc: Global, program: &[Insn]) -> Result<Chain, Fail> {
     match Chain::empty(alloc).attach(checked(alloc, program)?) {
         Ok(chain) => Ok(chain),
         Err((_, _, fault)) => Err(Fail::from(fault)),
