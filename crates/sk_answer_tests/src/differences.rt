@@ -63,7 +63,10 @@ fn one_of_many(alloc: Global, place: u32) -> Result<Chain, Fail> {
 }
 
 fn ends_of_lines(text: &str) -> usize {
-    text.as_bytes().iter().filter(|byte| **byte == b'\n').count()
+    text.as_bytes()
+        .iter()
+        .filter(|byte| **byte == b'\n')
+        .count()
 }
 
 // 6 is the one number of which they say otherwise: of no other way through both filters there is a call.
