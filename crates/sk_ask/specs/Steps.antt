@@ -3,13 +3,13 @@ use Rattle.std.specs.Prelude.{ℕ, Bool, IsTrue}
 
 -- for all rows of `ask when`, for the picture of one call, and for all rows of `ask diff`: a row of numbers takes at most 2 ^ 23
 abbrev pub when_steps : ℕ
-when_steps = 33554432
+when_steps = 16777216
 
 abbrev pub picture_steps : ℕ
 picture_steps = 67108864
 
 abbrev pub diff_steps : ℕ
-diff_steps = 67108864
+diff_steps = 33554432
 
 -- steps were used up only if the analysis may use up so many; it is known of it which numbers these are
 abbrev pub MayBeSpent : (ℕ → Bool) → ℕ → Bool → Type 0

@@ -17,7 +17,7 @@ use sk_when::{Budgets, Comparison, Finding, Relation};
 use std::alloc::{AllocError, Global};
 
 /// How many rows a comparison may take that need all the steps of a row.
-const MOST_ROWS: u32 = 8;
+const MOST_ROWS: u32 = 4;
 
 /// Answers `ask diff`.
 pub fn diff<S: Shelf, A: Analysis>(

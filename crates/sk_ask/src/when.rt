@@ -20,7 +20,7 @@ use sk_when::{Budget, Budgets};
 use std::alloc::{AllocError, Global};
 
 /// How many rows may take all the steps of a row: fewer than in a comparison, since here the survey's verdicts are told beyond.
-const MOST_ROWS: u32 = 4;
+const MOST_ROWS: u32 = 2;
 
 /// Answers `ask when`.
 pub fn when<S: Shelf, A: Analysis>(
