@@ -1,8 +1,10 @@
 -- The worked rows: what is told of each call, and the text.
-use Rattle.std.proofs.Common.{◌≡◌, ℕ, ◌%◌, ◌==◌, ◌&&◌, ◌||◌, ◌^◌, Bool, true, false, if◌then◌else◌, nat_le, bit_and, List, [], ◌∷◌, ◌++◌, map, codes, Option, Some, sym, ap, subst, ◌∙◌, refl, arith, eqb-true}
+use Rattle.std.proofs.Common.{◌≡◌, ℕ, ◌%◌, ◌==◌, ◌&&◌, ◌||◌, ◌^◌, Bool, true, false, not, if◌then◌else◌, nat_le, bit_and, List, [], ◌∷◌, ◌++◌, map, codes, Option, Some, sym, ap, subst, ◌∙◌, refl, arith, eqb-true}
 use Rattle.std.specs.Fmt.{digits}
+use Rattle.std.specs.List.{All}
 use Rattle.std.specs.Option.{option_map_or}
 use Rattle.std.proofs.lemmas.Bool.{leb-true, leb-false, eqb-false}
+use Rattle.std.proofs.lemmas.List.Elements.{All-cons, All-head, All-nil, All-tail}
 use Rattle.std.proofs.lemmas.Nat.{and_mask}
 use Rattle.sk_insn.specs.declared.record.Record.{Record}
 use Rattle.sk_insn.specs.Actions.{action_of}
@@ -15,7 +17,7 @@ use Rattle.sk_call_names.specs.Names.{name_at, name_in, name_on, runs_of}
 use Rattle.sk_filter.specs.Verdict.{verdict_of}
 use Rattle.sk_filter.specs.Errors.{error_named}
 use Rattle.sk_filter.specs.VerdictText.{verdict_text}
-use Rattle.sk_conditions.specs.Conditions.{holds_on}
+use Rattle.sk_conditions.specs.Conditions.{Agrees, holds_on}
 use Rattle.sk_conditions.specs.WorkedPaths as paths
 use Rattle.sk_conditions.specs.WorkedPaths.{compares_again}
 use Rattle.sk_conditions.proofs.WorkedPaths.{every_call, paths_work}
@@ -25,16 +27,16 @@ use Rattle.sk_terms.specs.declared.choices.Choice.{Choice}
 use Rattle.sk_terms.specs.declared.lines.Line.{Line}
 use Rattle.sk_terms.specs.declared.term.Register.TheVariants.{Argument}
 use Rattle.sk_terms.specs.declared.term.Term.{Term}
-use Rattle.sk_terms.specs.Lines.{told_by}
+use Rattle.sk_terms.specs.Lines.{meets_line, told_by}
 use Rattle.sk_terms.specs.Terms.{holds_term, register_of}
 use Rattle.sk_terms.specs.Text.{choices_text, condition_text, terms_text}
 use Rattle.sk_terms.specs.WorkedLines.{terms_of}
 use Rattle.sk_terms.proofs.Halves.{argument_low}
 use Rattle.sk_terms.proofs.WorkedLines.{line_met, met_terms, told_first}
 use Rattle.sk_when.specs.declared.row.ConditionalRow.{ConditionalRow}
-use Rattle.sk_when.specs.Lines.{IsTold, IsVerdict, or_else, told_of}
+use Rattle.sk_when.specs.Lines.{IsMet, IsTold, IsVerdict, or_else, told_of}
 use Rattle.sk_when.specs.WhenText.{ends_text, line_text, row_text, value_text}
-use Rattle.sk_when.specs.WorkedRows.{Read, read, IsRow, is_seven, where_seven, RowsWork}
+use Rattle.sk_when.specs.WorkedRows.{Read, read, IsRow, is_seven, where_another, where_both, where_seven, RowsWork}
 
 -- the range from 7 to 7 is 7
 of_seven : (n : ℕ) → (nat_le 7 n && nat_le n 7) ≡ (n == 7)
@@ -125,6 +127,69 @@ twice told is wrong =
     let alone = it.1 in
     cc (both, alone)
 
+-- ---- the calls that meet the lines
+
+abbrev with_eight : Record
+with_eight = call_of 39 0 8
+
+eight_too : (told : ConditionalRow) (lines : List Read) → IsRow lines told → IsCallOf told.row.first told.row.last with_eight
+eight_too told lines is = let first = is.first in let last = is.last in (refl, (omega (arith, first), omega (arith, last)))
+
+abbrev IsMetIn : ConditionalRow → Line → Type 0
+IsMetIn told line =
+    (call : Record) × IsCallOf told.row.first told.row.last call × (meets_line line call ≡ true) × Agrees line.value (verdict_of (compares_again ∷ []) call)
+
+line_of_seven : (told : ConditionalRow) (line : Line) → read line ≡ where_seven 0x7fff0000 → IsCallOf told.row.first told.row.last with_seven → IsMetIn told line
+line_of_seven told line same within = (
+  with_seven,
+  within,
+  line_met line with_seven (where_seven 0x7fff0000).terms (ap (λ r. r.terms) same),
+  subst (λ v. Agrees v (verdict_of (compares_again ∷ []) with_seven)) (sym (ap (λ r. r.value) same)) (sym (verdict with_seven)),
+)
+
+lines_of_seven : (told : ConditionalRow) (lines : List Line) → map read lines ≡ where_seven 0x7fff0000 ∷ [] → IsCallOf told.row.first told.row.last with_seven
+    → All (IsMetIn told) lines
+lines_of_seven told [] e within = All-nil (IsMetIn told)
+lines_of_seven told (line ∷ []) e within =
+    let same : read line ≡ where_seven 0x7fff0000 = cc in
+    All-cons (IsMetIn told) line [] (line_of_seven told line same within) (All-nil (IsMetIn told))
+lines_of_seven told (line ∷ other ∷ lines) e within = cc
+
+met : (told : ConditionalRow) → IsRow (where_seven 0x7fff0000 ∷ []) told → IsMet (compares_again ∷ []) told
+met told is = record {
+  lines = lines_of_seven told told.lines.items is.lines (of_the_row told (where_seven 0x7fff0000 ∷ []) is);
+  otherwise = (
+    with_eight,
+    eight_too told (where_seven 0x7fff0000 ∷ []) is,
+    told_read told.lines.items with_eight ∙ ap (λ r. read_by r with_eight) is.lines,
+    subst (λ v. Agrees v (verdict_of (compares_again ∷ []) with_eight)) (sym is.otherwise) (sym (verdict with_eight)),
+  );
+}
+
+both_never : (b : Bool) → ((b || false) && ((not b || false) && true)) ≡ true → ⊥
+both_never true e = cc
+both_never false e = cc
+
+second_met : (told : ConditionalRow) (lines : List Line) → map read lines ≡ where_seven 0x7fff0000 ∷ where_both 0x00000000 ∷ [] → All (IsMetIn told) lines → ⊥
+second_met told [] e all = cc
+second_met told (line ∷ []) e all = cc
+second_met told (line ∷ other ∷ []) e all =
+    let same : read other ≡ where_both 0x00000000 = cc in
+    let it = All-head (IsMetIn told) other [] (All-tail (IsMetIn told) line (other ∷ []) all) in
+    both_never (holds_term is_seven it.0) (sym (line_met other it.0 (where_both 0x00000000).terms (ap (λ r. r.terms) same)) ∙ it.2)
+second_met told (line ∷ other ∷ third ∷ lines) e all = cc
+
+one_of_both : (b : Bool) (v w : Option ℕ)
+    → (if (b || false) && true then v ∷ [] else []) ++ ((if (not b || false) && true then w ∷ [] else []) ++ []) ≡ [] → ⊥
+one_of_both true v w e = cc
+one_of_both false v w e = cc
+
+never_else : (told : ConditionalRow) → IsRow (where_seven 0x7fff0000 ∷ where_another 0x00050001 ∷ []) told → IsMet (compares_again ∷ []) told → ⊥
+never_else told is wrong =
+    let call = wrong.otherwise.0 in
+    one_of_both (holds_term is_seven call) (Some 0x7fff0000) (Some 0x00050001)
+    (sym (told_read told.lines.items call ∙ ap (λ r. read_by r call) is.lines) ∙ wrong.otherwise.2)
+
 -- ---- the text
 
 one_choice : (choices : List Choice) (terms : List Term) → map (λ choice. choice.terms.items) choices ≡ terms ∷ [] → choices_text choices ≡ terms_text terms
@@ -181,5 +246,8 @@ rows_work = record {
   twice = twice;
   no_line = λ told is wrong. let e = wrong_value told [] 0x00050001 is refl wrong in omega (arith, e);
   killed = λ told is wrong. let e = wrong_value told (where_seven 0x00000000 ∷ []) 0x00000000 is refl wrong in omega (arith, e);
+  met = met;
+  never_met = λ told is wrong. second_met told told.lines.items is.lines wrong.lines;
+  never_else = never_else;
   none_killed = λ told is call within e. paths_work.killed call (sym (told_verdict told is call within 0x00000000 e));
 }

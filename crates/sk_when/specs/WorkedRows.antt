@@ -1,5 +1,5 @@
 -- A worked example of rows: one word of a call is compared three times, and no call takes one of the paths.
-use Rattle.std.specs.Prelude.{ℕ, ◌≡◌, true, List, [], ◌∷◌, map, codes, Option, Some}
+use Rattle.std.specs.Prelude.{ℕ, ◌≡◌, true, false, List, [], ◌∷◌, map, codes, Option, Some}
 use Rattle.sk_insn.specs.declared.record.Record.{Record}
 use Rattle.sk_call_names.specs.declared.architecture.Architecture.TheVariants as architecture
 use Rattle.sk_conditions.specs.WorkedPaths.{compares_again}
@@ -9,7 +9,7 @@ use Rattle.sk_terms.specs.declared.term.Register.TheVariants.{Argument}
 use Rattle.sk_terms.specs.declared.term.Term.{Term}
 use Rattle.sk_terms.specs.WorkedLines.{terms_of}
 use Rattle.sk_when.specs.declared.row.ConditionalRow.{ConditionalRow}
-use Rattle.sk_when.specs.Lines.{IsTold, told_of}
+use Rattle.sk_when.specs.Lines.{IsMet, IsTold, told_of}
 use Rattle.sk_when.specs.WhenText.{row_text}
 
 -- a line as it is read: its value, and the terms of its choices
@@ -34,8 +34,20 @@ is_seven = record { register = Argument 0; mask = 0xffffffff; first = 7; last = 
 abbrev pub where_seven : ℕ → Read
 where_seven value = record { value = Some value; terms = (is_seven ∷ []) ∷ [] }
 
+-- it is another number
+abbrev pub is_another : Term
+is_another = record is_seven { inside = false }
+
+abbrev pub where_another : ℕ → Read
+where_another value = record { value = Some value; terms = (is_another ∷ []) ∷ [] }
+
+-- it is both, on no call
+abbrev pub where_both : ℕ → Read
+where_both value = record { value = Some value; terms = (is_seven ∷ []) ∷ (is_another ∷ []) ∷ [] }
+
 -- a word that is compared again leaves one line; one that stands twice is wrong, and so is one of another verdict; no row of the
--- filter tells of any call that it is killed
+-- filter tells of any call that it is killed; a line that no call meets is wrong, though it tells nothing of any call, and so is an
+-- `else` for no call
 pub record RowsWork : Type 0 where
   pub one_line : (told : ConditionalRow) → IsRow (where_seven 0x7fff0000 ∷ []) told → IsTold (compares_again ∷ []) told
   pub text : (told : ConditionalRow) → IsRow (where_seven 0x7fff0000 ∷ []) told
@@ -45,5 +57,8 @@ pub record RowsWork : Type 0 where
   pub twice : (told : ConditionalRow) → IsRow (where_seven 0x7fff0000 ∷ where_seven 0x7fff0000 ∷ []) told → IsTold (compares_again ∷ []) told → ⊥
   pub no_line : (told : ConditionalRow) → IsRow [] told → IsTold (compares_again ∷ []) told → ⊥
   pub killed : (told : ConditionalRow) → IsRow (where_seven 0x00000000 ∷ []) told → IsTold (compares_again ∷ []) told → ⊥
+  pub met : (told : ConditionalRow) → IsRow (where_seven 0x7fff0000 ∷ []) told → IsMet (compares_again ∷ []) told
+  pub never_met : (told : ConditionalRow) → IsRow (where_seven 0x7fff0000 ∷ where_both 0x00000000 ∷ []) told → IsMet (compares_again ∷ []) told → ⊥
+  pub never_else : (told : ConditionalRow) → IsRow (where_seven 0x7fff0000 ∷ where_another 0x00050001 ∷ []) told → IsMet (compares_again ∷ []) told → ⊥
   pub none_killed : (told : ConditionalRow) → IsTold (compares_again ∷ []) told
       → (call : Record) → IsCallOf told.row.first told.row.last call → told_of told call ≡ Some 0x00000000 ∷ [] → ⊥
