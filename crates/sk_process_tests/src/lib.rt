@@ -23,8 +23,6 @@ mod processes;
 #[cfg(test)]
 mod scenarios;
 #[cfg(test)]
-mod scripts;
-#[cfg(test)]
 mod sessions;
 #[cfg(test)]
 mod signals;

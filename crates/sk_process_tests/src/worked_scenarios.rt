@@ -17,10 +17,8 @@ pub(crate) fn told(alloc: Global, scenario: &Scenario) -> Result<String, AllocEr
 
 fn told_program(alloc: Global, program: &Program) -> Result<String, AllocError> {
     let mut text = format!(in alloc; "; {} {}", program.owner, program.setuid)?;
-    for at in 0..program.calls.len() {
-        if let Some(line) = program.calls.get(at) {
-            text.push_str(told_line(alloc, &line)?.as_str())?;
-        }
+    for line in &program.calls {
+        text.push_str(told_line(alloc, line)?.as_str())?;
     }
     Ok(text)
 }

@@ -12,7 +12,7 @@ use sk_scenario::{Program, ScriptCall};
 // How many calls the script of a program has. One that is not declared has the empty script.
 fn length_of(programs: &[Program], program: u64) -> usize
     ensures length { result ≡ length (script_of programs.now program) }
-    ensures few { result ≤ 1000 }
+    ensures few { result < 2 ^ 63 }
 {
     match programs.get(program as usize) {
         Some(program) => program.calls.len(),
@@ -26,7 +26,7 @@ pub(crate) fn line_due(programs: &[Program], levels: &Levels) -> Option<ScriptCa
     ensures room { IfSome result (λ _. levels.now.top.position < 2 ^ 63) }
 {
     match programs.get(levels.top.program as usize) {
-        Some(program) => program.calls.get(levels.top.position),
+        Some(program) => program.calls.as_slice().get(levels.top.position).copied(),
         None => None,
     }
 }

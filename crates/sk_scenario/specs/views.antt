@@ -1,4 +1,1 @@
 pub mod ScenarioCode
-pub mod Script
-pub mod Kept
-pub mod OnePass

@@ -1,19 +1,17 @@
 //! Lines in a filter's block.
-ghost use Rattle.std.specs.Prelude.{◌≡◌, ◌≢◌, ◌≤◌, ◌<◌, ◌^◌, [], IfOk, IfSome, IsTrue, MatchResult, Ok, Err};
-ghost use Rattle.sk_text.specs.Lines.{lines_of, words_of, is_printable_byte};
-ghost use Rattle.std.specs.List.{list_all};
+ghost use Rattle.std.specs.Prelude.{◌≡◌, ◌≢◌, ◌≤◌, ◌<◌, ◌^◌, [], IfOk, MatchResult, Ok, Err};
+ghost use Rattle.sk_text.specs.Lines.{lines_of, words_of};
 ghost use Rattle.sk_asm.specs.Block.{until_end};
 ghost use Rattle.sk_asm.specs.Passes.{assembled_lines};
 ghost use Rattle.sk_asm.specs.declared.fault.AsmFault.TheVariants.{Memory};
 ghost use Rattle.sk_scenario.specs.Grammar.{begins_bytes, bytes_of};
 ghost use Rattle.sk_scenario.specs.Reading.{Bytes, Code, understood, limited, fault_of, held, coded, decided, grown};
 ghost use Rattle.sk_scenario.specs.Answers.{Answers, Judges};
-ghost use Rattle.sk_scenario.specs.views.ScenarioCode.{known_seen, block_seen, IsAssembled};
+ghost use Rattle.sk_scenario.specs.views.ScenarioCode.{known_seen, block_seen};
 
 use crate::TextFault;
-use crate::directory::Directory;
 use crate::fault::ScenarioFault;
-use crate::state::{Assembled, Block};
+use crate::state::{Block, Names};
 use crate::top::check_line;
 use sk_asm::{AsmFault, assemble_block};
 use sk_insn::write_insns;
@@ -21,7 +19,7 @@ use sk_text::{HexFault, Words, bytes_of, is_passed_over, is_same};
 use std::alloc::{AllocError, Global};
 
 // The most bytes that a filter's image may have.
-pub(crate) const LONGEST_IMAGE: usize = 32776;
+const LONGEST_IMAGE: usize = 32776;
 
 // The bytes that line `n` adds to an image.
 #[tactic(auto, unfolding(crate::specs::Grammar::bytes_of))]
@@ -75,7 +73,7 @@ fn text_fault(fault: AsmFault) -> Result<TextFault, AllocError>
 }
 
 // Passes over a label that is not given, where the names are not known yet.
-fn hold(known: Option<&Directory<'_>>, why: TextFault) -> Result<(), TextFault>
+fn hold(known: Option<&Names<'_>>, why: TextFault) -> Result<(), TextFault>
     ensures exact { MatchResult result
         (λ none. held (known_seen known.entry) why ≡ Ok (Code []))
         (λ other. held (known_seen known.entry) why ≡ Err other) }
@@ -90,35 +88,27 @@ fn hold(known: Option<&Directory<'_>>, why: TextFault) -> Result<(), TextFault>
     }
 }
 
-// Reads a block of assembler lines, of which the first is line `n`. They are passed over together, but for those of a block
-// whose fault waits.
+// The image of a block of assembler lines, of which the first is line `n`.
 #[tactic(auto, unfolding(crate::specs::Reading::coded))]
-fn assemble<'a>(
+fn assemble(
     alloc: Global,
-    known: Option<&Directory<'_>>,
+    known: Option<&Names<'_>>,
     n: usize,
-    current: &mut Block,
-    ahead: &'a [u8],
-) -> Result<Option<Assembled<'a>>, ScenarioFault>
+    ahead: &[u8],
+) -> Result<Block, ScenarioFault>
     requires first { 1 ≤ n }
     requires numbers { n < 2 ^ 63 }
-    ensures exact { Answers (λ none. block_seen current.new) result (coded (known_seen known.entry) (assembled_lines n (until_end (lines_of ahead.now)))) }
-    ensures assembled { IfOk result (λ answer. IfSome answer (λ lines. IsAssembled lines.count lines.rest.now (block_seen current.new) (lines_of ahead.now))) }
+    ensures exact { Answers block_seen result (coded (known_seen known.entry) (assembled_lines n (until_end (lines_of ahead.now)))) }
 {
     match assemble_block(alloc, n - 1, ahead) {
         Ok(code) => {
             let image = write_insns(alloc, code.insns.as_slice())?;
-            *current = Block::Code(image);
-            Ok(Some(Assembled {
-                count: code.count,
-                rest: code.rest,
-            }))
+            Ok(Block::Code(image))
         }
         Err(fault) => {
             let why = text_fault(fault)?;
             hold(known, why)?;
-            *current = Block::Code(Vec::new(alloc));
-            Ok(None)
+            Ok(Block::Code(Vec::new(alloc)))
         }
     }
 }
@@ -136,30 +126,26 @@ fn begins_bytes(line: &[u8]) -> bool
 // function of its own: LLVM would take nothing else into the loop over the lines.
 #[inline(never)]
 #[tactic(auto, unfolding(crate::specs::Reading::decided))]
-pub(crate) fn decide<'a>(
+pub(crate) fn decide(
     alloc: Global,
-    known: Option<&Directory<'_>>,
+    known: Option<&Names<'_>>,
     n: usize,
-    current: &mut Block,
     line: &[u8],
-    ahead: &'a [u8],
-) -> Result<Option<Assembled<'a>>, ScenarioFault>
+    ahead: &[u8],
+) -> Result<Block, ScenarioFault>
     requires first { 1 ≤ n }
     requires numbers { n < 2 ^ 63 }
-    ensures exact { Answers (λ none. block_seen current.new) result (decided (known_seen known.entry) n line.now (until_end (lines_of ahead.now))) }
-    ensures assembled { IfOk result (λ answer. IfSome answer (λ lines. IsAssembled lines.count lines.rest.now (block_seen current.new) (lines_of ahead.now))) }
+    ensures exact { Answers block_seen result (decided (known_seen known.entry) n line.now (until_end (lines_of ahead.now))) }
 {
     if is_passed_over(line) {
-        *current = Block::Undecided;
-        return Ok(None);
+        return Ok(Block::Undecided);
     }
     if !begins_bytes(line) {
-        return assemble(alloc, known, n, current, ahead);
+        return assemble(alloc, known, n, ahead);
     }
     let image = image_bytes(alloc, n, line)??;
     judge_image(n, image.as_slice())?;
-    *current = Block::Bytes(image);
-    Ok(None)
+    Ok(Block::Bytes(image))
 }
 
 // An image with the bytes of line `n` behind it.
@@ -169,12 +155,10 @@ pub(crate) fn grow(
     n: usize,
     image: &mut Vec<u8>,
     line: &[u8],
-    is_clean: bool,
 ) -> Result<(), ScenarioFault>
-    requires clean { IsTrue is_clean → IsTrue (list_all is_printable_byte line.now) }
     ensures exact { Answers (λ none. Bytes image.new.items) result (grown n image.old.items line.now) }
 {
-    check_line(n, line, is_clean)?;
+    check_line(n, line)?;
     let bytes = image_bytes(alloc, n, line)??;
     image.extend_from_slice(bytes.as_slice())?;
     judge_image(n, image.as_slice())?;

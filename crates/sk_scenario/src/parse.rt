@@ -3,11 +3,11 @@ ghost use Rattle.std.specs.Prelude.{◌≡◌, ◌==◌, drop, Some, None, slice
 ghost use Rattle.std.specs.Option.{option_map};
 ghost use Rattle.sk_text.specs.Lines.{words_of};
 ghost use Rattle.sk_text.specs.Numbers.{up_to};
-ghost use Rattle.sk_scenario.specs.Grammar.{only_if_name, only_name, setuid_with, setuid_of, owned, program_by, program_of, turns_of, headed, heading_of, decimal_of, argument_of, next_argument, arguments_of, asked_with, forked, numbered, asked, asked_of};
-ghost use Rattle.sk_scenario.specs.views.ScenarioCode.{heading, argument_seen, arguments_seen, line_seen};
+ghost use Rattle.sk_scenario.specs.Grammar.{only_if_name, only_name, setuid_with, setuid_of, owned, program_by, program_of, turns_of, headed, heading_of, decimal_of, argument_of, next_argument, asked_with, forked, numbered, asked, asked_of};
+ghost use Rattle.sk_scenario.specs.views.ScenarioCode.{heading, argument_seen, call_seen, line_seen};
 
 use crate::call_names::call_named;
-use crate::line::{Argument, Arguments, ProgramLine, TopLine};
+use crate::line::{Argument, Arguments, CallLine, ProgramLine, TopLine};
 use sk_calls::Syscall;
 use sk_text::{Words, is_name, is_number, is_same, no_word, number_up_to, one_word};
 
@@ -143,7 +143,7 @@ fn decimal_up_to(word: &[u8], most: u64) -> Option<u64>
 }
 
 #[tactic(auto, unfolding(crate::specs::Grammar::argument_of))]
-pub(crate) fn argument(word: &[u8]) -> Option<Argument<'_>>
+fn argument(word: &[u8]) -> Option<Argument<'_>>
     ensures exact { option_map argument_seen result ≡ argument_of word.now }
 {
     if word.starts_with(b"@") {
@@ -163,8 +163,8 @@ pub(crate) fn argument(word: &[u8]) -> Option<Argument<'_>>
 }
 
 #[tactic(auto, unfolding(crate::specs::Grammar::asked))]
-fn call_line<'a>(first: &'a [u8], words: Words<'a>) -> Option<ProgramLine<'a>>
-    ensures exact { option_map line_seen result ≡ option_map Some (asked first.now (words_of words.entry.0.now)) }
+fn call_line<'a>(first: &'a [u8], words: Words<'a>) -> Option<CallLine<'a>>
+    ensures exact { option_map call_seen result ≡ asked first.now (words_of words.entry.0.now) }
 {
     if is_same(first, b"call") {
         return numbered(words);
@@ -176,23 +176,38 @@ fn call_line<'a>(first: &'a [u8], words: Words<'a>) -> Option<ProgramLine<'a>>
     called_with(call.number(), words)
 }
 
-fn numbered<'a>(mut words: Words<'a>) -> Option<ProgramLine<'a>>
-    ensures exact { option_map line_seen result ≡ option_map Some (numbered (words_of words.entry.0.now)) }
+fn numbered<'a>(mut words: Words<'a>) -> Option<CallLine<'a>>
+    ensures exact { option_map call_seen result ≡ numbered (words_of words.entry.0.now) }
 {
     let word = words.next()?;
     let nr = number_up_to(word, 0xffff_ffff)?;
     called_with(nr as u32, words)
 }
 
-fn forked<'a>(mut words: Words<'a>) -> Option<ProgramLine<'a>>
-    ensures exact { option_map line_seen result ≡ option_map Some (forked (words_of words.entry.0.now)) }
+const ZEROS: Arguments<'static> = Arguments {
+    a: Argument::Plain(0),
+    b: Argument::Plain(0),
+    c: Argument::Plain(0),
+    d: Argument::Plain(0),
+    e: Argument::Plain(0),
+    f: Argument::Plain(0),
+};
+
+fn forked<'a>(mut words: Words<'a>) -> Option<CallLine<'a>>
+    ensures exact { option_map call_seen result ≡ forked (words_of words.entry.0.now) }
 {
-    let Some(word) = words.next() else {
-        return Some(ProgramLine::Fork(None));
+    let child = match words.next() {
+        None => None,
+        Some(word) => {
+            no_word(words)?;
+            Some(name(word)?)
+        }
     };
-    no_word(words)?;
-    let name = name(word)?;
-    Some(ProgramLine::Fork(Some(name)))
+    Some(CallLine {
+        nr: Syscall::Fork.number(),
+        arguments: ZEROS,
+        child,
+    })
 }
 
 fn next_argument<'a>(words: &mut Words<'a>) -> Option<Argument<'a>>
@@ -205,15 +220,8 @@ fn next_argument<'a>(words: &mut Words<'a>) -> Option<Argument<'a>>
     }
 }
 
-fn called_with<'a>(nr: u32, words: Words<'a>) -> Option<ProgramLine<'a>>
-    ensures exact { option_map line_seen result ≡ option_map Some (asked_with nr (words_of words.entry.0.now)) }
-{
-    let arguments = arguments(words)?;
-    Some(ProgramLine::Other(nr, arguments))
-}
-
-fn arguments<'a>(mut words: Words<'a>) -> Option<Arguments<'a>>
-    ensures exact { option_map arguments_seen result ≡ arguments_of 6 (words_of words.entry.0.now) }
+fn called_with<'a>(nr: u32, mut words: Words<'a>) -> Option<CallLine<'a>>
+    ensures exact { option_map call_seen result ≡ asked_with nr (words_of words.entry.0.now) }
 {
     let a = next_argument(&mut words)?;
     let b = next_argument(&mut words)?;
@@ -222,7 +230,11 @@ fn arguments<'a>(mut words: Words<'a>) -> Option<Arguments<'a>>
     let e = next_argument(&mut words)?;
     let f = next_argument(&mut words)?;
     no_word(words)?;
-    Some(Arguments { a, b, c, d, e, f })
+    Some(CallLine {
+        nr,
+        arguments: Arguments { a, b, c, d, e, f },
+        child: None,
+    })
 }
 
 // What a line in a program's block says.
@@ -237,5 +249,6 @@ pub(crate) fn program_line(line: &[u8]) -> Option<ProgramLine<'_>>
     if is_comment(first) {
         return Some(ProgramLine::Silent);
     }
-    call_line(first, words)
+    let call = call_line(first, words)?;
+    Some(ProgramLine::Call(call))
 }

@@ -1,5 +1,5 @@
 //! The scenario reader.
-ghost use Rattle.std.specs.Prelude.{◌≡◌, ◌<◌, ◌≤◌, length, IfOk, IfErr, IfSome, MatchResult, Some, Ok};
+ghost use Rattle.std.specs.Prelude.{◌≡◌, ◌<◌, ◌≤◌, length, IfOk, IfErr, MatchResult, Some};
 ghost use Rattle.sk_text.specs.Lines.{lines_of};
 ghost use Rattle.sk_scenario.specs.Reading.{reading, scenario, scenario_of, nothing_yet, setting, Nothing as NoBlock};
 ghost use Rattle.sk_scenario.specs.Scenario.{IsScenarioText, Setting};
@@ -10,14 +10,12 @@ ghost use Rattle.sk_scenario.specs.Answers.{Answers, Finds, IsToldOf, Tells};
 ghost use Rattle.sk_scenario.specs.views.ScenarioCode.{gained, names_seen};
 
 use crate::TextFault;
-use crate::directory::Directory;
 use crate::fault::ScenarioFault;
-use crate::names::{are_same, find_names};
 use crate::reading::read_lines;
 use crate::scenario::Scenario;
-use crate::state::Done;
+use crate::state::{Done, Names};
 use sk_text::MOST_BYTES;
-use std::alloc::{AllocError, Global};
+use std::alloc::Global;
 
 /// The scenario that an input is, or the first of its faults.
 #[tactic(auto, unfolding(crate::specs::Reading::scenario))]
@@ -29,7 +27,7 @@ pub fn read(alloc: Global, input: &[u8]) -> Result<Scenario, ScenarioFault>
     ensures told { (why : TextFault) → IsFirstFaultOfText input.now why → Tells result why }
 {
     judge_length(input)?;
-    read_short(alloc, input)
+    read_twice(alloc, input)
 }
 
 fn judge_length(input: &[u8]) -> Result<(), TextFault>
@@ -41,43 +39,14 @@ fn judge_length(input: &[u8]) -> Result<(), TextFault>
     Ok(())
 }
 
-// A text of which one reading makes no scenario has a fault, and two readings find it.
-fn read_short(alloc: Global, text: &[u8]) -> Result<Scenario, ScenarioFault>
-    requires limit { length text.now ≤ 1048576 }
-    ensures exact { Answers (λ read. read) result (scenario_of (lines_of text.now)) }
-{
-    let known = Directory::of(find_names(alloc, text)?);
-    match read_once(alloc, &known, text)? {
-        Some(scenario) => Ok(scenario),
-        None => read_twice(alloc, text),
-    }
-}
-
-// The scenario by one reading, where the lines are one and give these names.
-fn read_once(
-    alloc: Global,
-    known: &Directory<'_>,
-    text: &[u8],
-) -> Result<Option<Scenario>, AllocError>
-    requires limit { length text.now ≤ 1048576 }
-    ensures exact { IfOk result (λ answer. IfSome answer (λ read. scenario_of (lines_of text.now) ≡ Ok read)) }
-{
-    match read_again(alloc, known, text) {
-        Ok(second) if are_same(&known.names, &second.names) => Ok(Some(setting(second))),
-        Err(ScenarioFault::Memory) => Err(AllocError),
-        _ => Ok(None),
-    }
-}
-
 #[tactic(auto, unfolding(crate::specs::Reading::scenario_of))]
 fn read_twice(alloc: Global, text: &[u8]) -> Result<Scenario, ScenarioFault>
     requires limit { length text.now ≤ 1048576 }
     ensures exact { Answers (λ read. read) result (scenario_of (lines_of text.now)) }
 {
-    let unknown: Option<&Directory<'_>> = None;
+    let unknown: Option<&Names<'_>> = None;
     let first = read_lines(alloc, unknown, text)?;
-    let known = Directory::of(first.names);
-    let second = read_again(alloc, &known, text)?;
+    let second = read_again(alloc, &first.names, text)?;
     Ok(setting(second))
 }
 
@@ -96,11 +65,11 @@ fn setting(read: Done<'_>) -> Scenario
 // The lines of a text, by these names.
 fn read_again<'a>(
     alloc: Global,
-    known: &Directory<'_>,
+    names: &Names<'_>,
     text: &'a [u8],
 ) -> Result<Done<'a>, ScenarioFault>
     requires limit { length text.now ≤ 1048576 }
-    ensures exact { Answers gained result (reading (Some (names_seen known.now.names)) 1 nothing_yet NoBlock (lines_of text.now)) }
+    ensures exact { Answers gained result (reading (Some (names_seen names.now)) 1 nothing_yet NoBlock (lines_of text.now)) }
 {
-    read_lines(alloc, Some(known), text)
+    read_lines(alloc, Some(names), text)
 }

@@ -1,5 +1,5 @@
 //! What a text is read as: a scenario, its filters and its programs.
-use crate::Calls;
+use crate::ScriptCall;
 use std::marker::Model;
 
 /// A program: who owns its file, whether the set-user-ID bit is set, and its calls.
@@ -7,15 +7,16 @@ use std::marker::Model;
 pub struct Program {
     pub owner: u32,
     pub setuid: bool,
-    pub calls: Calls,
+    pub calls: Vec<ScriptCall>,
 }
 
 impl Model for Program {
+    ghost use Rattle.std.specs.Vec.{vec_items};
     ghost use Rattle.sk_scenario.specs.Scenario.{Script};
 
     ghost Value = { Script };
 
-    ghost view = { λ p. record { owner = p.owner; setuid = p.setuid; calls = p.calls } };
+    ghost view = { λ p. record { owner = p.owner; setuid = p.setuid; calls = vec_items p.calls } };
 }
 
 /// A scenario: how many turns it has, whether processes may become subreapers, and its filters and

@@ -1,6 +1,6 @@
 //! What was read so far.
+use crate::Named;
 use crate::scenario::Program;
-use crate::{Calls, Named};
 use indexmap::IndexMap;
 
 // The names that are given, with what they stand for.
@@ -14,8 +14,6 @@ pub(crate) struct Done<'a> {
     pub(crate) names: Names<'a>,
     pub(crate) filters: Vec<Vec<u8>>,
     pub(crate) programs: Vec<Program>,
-    // room for the calls of the next program
-    pub(crate) room: Calls,
 }
 
 // The block that is open.
@@ -27,16 +25,5 @@ pub(crate) enum Block {
     Bytes(Vec<u8>),
     // one that is assembled already
     Code(Vec<u8>),
-    Calls {
-        owner: u32,
-        setuid: bool,
-        calls: Calls,
-    },
-}
-
-// The lines of a block of code, which are assembled together: how many they are, and the text behind them.
-#[derive(Clone, Copy)]
-pub(crate) struct Assembled<'a> {
-    pub(crate) count: usize,
-    pub(crate) rest: &'a [u8],
+    Calls(Program),
 }

@@ -1,8 +1,6 @@
 //! Lines at the top level.
-ghost use Rattle.std.specs.Prelude.{◌≡◌, ◌<◌, false, is_some, IsTrue, MatchResult, Ok, Err};
+ghost use Rattle.std.specs.Prelude.{◌≡◌, ◌<◌, false, is_some, MatchResult, Ok, Err};
 ghost use Rattle.std.specs.Option.{option_map_or};
-ghost use Rattle.std.specs.List.{list_all};
-ghost use Rattle.sk_text.specs.Lines.{lines_of, is_printable_byte};
 ghost use Rattle.sk_text.specs.Numbers.{number_of};
 ghost use Rattle.sk_scenario.specs.Grammar.{Turns, Subreapers, heading_of};
 ghost use Rattle.sk_scenario.specs.Reading.{plain, checked, remarked, given, opened, started};
@@ -14,14 +12,14 @@ ghost use Rattle.sk_scenario.specs.views.ScenarioCode.{heading, gained, block_se
 use crate::fault::ScenarioFault;
 use crate::line::TopLine;
 use crate::parse::top_line;
+use crate::scenario::Program;
 use crate::state::{Block, Done};
-use crate::{Calls, Named, TextFault};
-use sk_text::{is_clean, is_printable, number_up_to};
+use crate::{Named, TextFault};
+use sk_text::{is_printable, number_up_to};
 use std::alloc::Global;
-use std::mem;
 
 // The most bytes that a line may have.
-pub(crate) const LONGEST_LINE: usize = 255;
+const LONGEST_LINE: usize = 255;
 
 // The most turns that a scenario may have.
 const MOST_TURNS: u64 = 100_000;
@@ -29,23 +27,14 @@ const MOST_TURNS: u64 = 100_000;
 // The most filters, and the most programs, that a scenario may have.
 const MOST_OF_A_KIND: usize = 256;
 
-// Whether all lines of a text are printable. Of a whole text that is found many bytes at a time.
-#[tactic(auto, using(sk_text::proofs::Clean::printable_lines))]
-pub(crate) fn has_printable_lines(text: &[u8]) -> bool
-    ensures lines { IsTrue result → IsTrue (list_all (list_all is_printable_byte) (lines_of text.now)) }
-{
-    is_clean(text)
-}
-
 // Whether line `n` is short enough and printable.
-pub(crate) fn check_line(n: usize, line: &[u8], is_clean: bool) -> Result<(), TextFault>
-    requires clean { IsTrue is_clean → IsTrue (list_all is_printable_byte line.now) }
+pub(crate) fn check_line(n: usize, line: &[u8]) -> Result<(), TextFault>
     ensures exact { Judges (λ none. none) result (plain n line.now) }
 {
     if line.len() > LONGEST_LINE {
         return Err(TextFault::Limit { n });
     }
-    if is_clean || is_printable(line) {
+    if is_printable(line) {
         Ok(())
     } else {
         Err(TextFault::Line { n })
@@ -54,11 +43,10 @@ pub(crate) fn check_line(n: usize, line: &[u8], is_clean: bool) -> Result<(), Te
 
 // What line `n` says at the top level.
 #[tactic(auto, unfolding(crate::specs::Reading::checked))]
-pub(crate) fn read_top(n: usize, line: &[u8], is_clean: bool) -> Result<TopLine<'_>, TextFault>
-    requires clean { IsTrue is_clean → IsTrue (list_all is_printable_byte line.now) }
+pub(crate) fn read_top(n: usize, line: &[u8]) -> Result<TopLine<'_>, TextFault>
     ensures exact { Judges heading result (checked heading_of n line.now) }
 {
-    check_line(n, line, is_clean)?;
+    check_line(n, line)?;
     match top_line(line) {
         Some(said) => Ok(said),
         None => Err(TextFault::Line { n }),
@@ -169,13 +157,11 @@ pub(crate) fn start<'a>(
         TopLine::Program(name, owner, setuid) => {
             let count = done.programs.len();
             give(done, n, name, true, count)?;
-            let mut calls = mem::replace(&mut done.room, Calls::new(alloc));
-            calls.clear();
-            Ok(Block::Calls {
+            Ok(Block::Calls(Program {
                 owner,
                 setuid,
-                calls,
-            })
+                calls: Vec::new(alloc),
+            }))
         }
     }
 }

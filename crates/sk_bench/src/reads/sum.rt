@@ -1,5 +1,5 @@
 //! One number for all values of a scenario, in their order.
-use sk_scenario::{Calls, Program, Scenario, ScriptCall};
+use sk_scenario::{Program, Scenario, ScriptCall};
 
 // A value more, behind 31 times what came before, modulo 2^64.
 fn with(sum: u64, value: u64) -> u64 {
@@ -42,14 +42,11 @@ fn with_program(sum: u64, program: &Program) -> u64 {
     with_calls(sum, &program.calls)
 }
 
-fn with_calls(sum: u64, calls: &Calls) -> u64 {
-    let mut sum = with(sum, calls.len() as u64);
-    for at in 0..calls.len() {
-        if let Some(line) = calls.get(at) {
-            sum = with_call(sum, &line);
-        }
-    }
-    sum
+fn with_calls(sum: u64, calls: &[ScriptCall]) -> u64 {
+    calls.iter().fold(
+        with(sum, calls.len() as u64),
+        |sum, line| with_call(sum, line),
+    )
 }
 
 // A call without a program for its child counts 0 for it, and one with program N counts N + 1.

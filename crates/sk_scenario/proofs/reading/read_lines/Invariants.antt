@@ -1,6 +1,5 @@
-use Rattle.std.proofs.Common.{◌≡◌, ◌≤◌, ◌+◌, IsTrue, length}
-use Rattle.std.specs.List.{list_all}
-use Rattle.sk_text.specs.Lines.{lines_of, is_printable_byte}
+use Rattle.std.proofs.Common.{◌≡◌, ◌≤◌, ◌+◌, length}
+use Rattle.sk_text.specs.Lines.{lines_of}
 use Rattle.sk_scenario.specs.Reading.{reading, nothing_yet, Nothing}
 use Rattle.sk_scenario.specs.views.ScenarioCode.{gained, known_seen, block_seen}
 use Rattle.sk_scenario.proofs.reading.read_lines.Given as goal
@@ -9,7 +8,6 @@ use Rattle.sk_scenario.proofs.reading.read_lines.Given as goal
 abbrev pub invariant-loop-line : goal.invariant-loop-line
 invariant-loop-line l = record {
   few : l.n + length (lines_of l.lines.0.now) ≤ 1048576;
-  clean : IsTrue l.is_clean → IsTrue (list_all (list_all is_printable_byte) (lines_of l.lines.0.now));
   same : l.ahead ≡ l.lines.0.now;
   so_far : reading (known_seen l.known) (l.n + 1) (gained l.done) (block_seen l.current) (lines_of l.lines.0.now) ≡ reading (known_seen l.known) 1 nothing_yet Nothing (lines_of l.text);
 }

@@ -1,6 +1,0 @@
-use Rattle.std.proofs.Common.{◌∙◌, sym}
-use Rattle.sk_scenario.proofs.Entries.{named_in_entries}
-use Rattle.sk_scenario.proofs.directory.Directory.found.Goals as goal
-
-pub returns : goal.returns
-returns c = record { exact = c.copied.ensures ∙ c.get.ensures.value ∙ sym (named_in_entries c.args.name.now c.args.self.now.names.entries) }
