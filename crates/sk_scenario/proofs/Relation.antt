@@ -11,9 +11,6 @@ use Rattle.sk_scenario.proofs.Parts.{building, parts_read, reading_parts}
 use Rattle.sk_asm.proofs.Distinct.{given_once-none}
 use Rattle.sk_scenario.proofs.Whole.{TurnsAfter, MarksAfter, Fit, Found, names_built, found_all, made_all}
 
-turns_or : Option ℕ → ℕ
-turns_or t = option_map_or (λ n. n) t 1000
-
 turns_are : (turns : List ℕ) (t : Option ℕ) → TurnsAfter None turns t → AreTurns turns (option_map_or (λ n. n) t 1000)
 turns_are [] t h = rw h refl
 turns_are (n ∷ []) t h = let e = h.2 in (h.0, h.1, rw e refl)

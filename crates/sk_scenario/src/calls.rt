@@ -32,6 +32,7 @@ pub(crate) fn read_call(n: usize, line: &[u8]) -> Result<ProgramLine<'_>, TextFa
     }
 }
 
+#[inline(always)]
 #[tactic(auto, unfolding(crate::specs::Scenario::call_of))]
 fn call_of(names: &Names<'_>, line: CallLine<'_>) -> Option<ScriptCall>
     ensures exact { result ≡ call_of (names_seen names.now) (call_seen line.entry) }
@@ -62,6 +63,7 @@ const ANY: ScriptCall = ScriptCall {
 };
 
 // The call that line `n` asks for.
+#[inline(always)]
 #[tactic(auto, unfolding(crate::specs::Reading::resolved))]
 fn resolve(known: Option<&Names<'_>>, n: usize, line: CallLine<'_>) -> Result<ScriptCall, TextFault>
     ensures exact { Judges (λ made. made) result (resolved (known_seen known.entry) n (call_seen line.entry)) }
@@ -86,6 +88,7 @@ fn judge_count(n: usize, count: usize) -> Result<(), TextFault>
 }
 
 // Adds the call that line `n` asks for, if it does.
+#[inline(always)]
 #[tactic(auto, unfolding(crate::specs::Reading::called))]
 pub(crate) fn add_call(
     program: &mut Program,

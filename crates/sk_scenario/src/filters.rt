@@ -1,5 +1,5 @@
 //! Lines in a filter's block.
-ghost use Rattle.std.specs.Prelude.{◌≡◌, ◌≢◌, ◌≤◌, ◌<◌, ◌^◌, [], IfOk, MatchResult, Ok, Err};
+ghost use Rattle.std.specs.Prelude.{◌≡◌, ◌≢◌, ◌≤◌, ◌<◌, ◌^◌, [], IfOk};
 ghost use Rattle.sk_text.specs.Lines.{lines_of, words_of};
 ghost use Rattle.sk_asm.specs.Block.{until_end};
 ghost use Rattle.sk_asm.specs.Passes.{assembled_lines};
@@ -49,9 +49,7 @@ fn image_bytes(
 
 // Whether an image is short enough with the bytes of line `n`.
 fn judge_image(n: usize, image: &[u8]) -> Result<(), TextFault>
-    ensures exact { MatchResult result
-        (λ none. limited n image.now ≡ Ok (Bytes image.now))
-        (λ why. limited n image.now ≡ Err why) }
+    ensures exact { Judges (λ none. Bytes image.now) result (limited n image.now) }
 {
     if image.len() > LONGEST_IMAGE {
         return Err(TextFault::Limit { n });
@@ -74,9 +72,7 @@ fn text_fault(fault: AsmFault) -> Result<TextFault, AllocError>
 
 // Passes over a label that is not given, where the names are not known yet.
 fn hold(known: Option<&Names<'_>>, why: TextFault) -> Result<(), TextFault>
-    ensures exact { MatchResult result
-        (λ none. held (known_seen known.entry) why ≡ Ok (Code []))
-        (λ other. held (known_seen known.entry) why ≡ Err other) }
+    ensures exact { Judges (λ none. Code []) result (held (known_seen known.entry) why) }
 {
     match why {
         TextFault::Unresolved { n } => match known {

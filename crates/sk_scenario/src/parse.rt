@@ -142,6 +142,7 @@ fn decimal_up_to(word: &[u8], most: u64) -> Option<u64>
     number_up_to(word, most)
 }
 
+#[inline(always)]
 #[tactic(auto, unfolding(crate::specs::Grammar::argument_of))]
 fn argument(word: &[u8]) -> Option<Argument<'_>>
     ensures exact { option_map argument_seen result ≡ argument_of word.now }
@@ -210,6 +211,7 @@ fn forked<'a>(mut words: Words<'a>) -> Option<CallLine<'a>>
     })
 }
 
+#[inline(always)]
 fn next_argument<'a>(words: &mut Words<'a>) -> Option<Argument<'a>>
     ensures first { option_map argument_seen result ≡ next_argument (words_of words.old.0.now) }
     ensures rest { words_of words.new.0.now ≡ drop 1 (words_of words.old.0.now) }
@@ -220,6 +222,7 @@ fn next_argument<'a>(words: &mut Words<'a>) -> Option<Argument<'a>>
     }
 }
 
+#[inline(always)]
 fn called_with<'a>(nr: u32, mut words: Words<'a>) -> Option<CallLine<'a>>
     ensures exact { option_map call_seen result ≡ asked_with nr (words_of words.entry.0.now) }
 {

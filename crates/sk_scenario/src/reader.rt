@@ -39,14 +39,15 @@ fn judge_length(input: &[u8]) -> Result<(), TextFault>
     Ok(())
 }
 
+// A first reading finds the names, and a second one knows them.
 #[tactic(auto, unfolding(crate::specs::Reading::scenario_of))]
 fn read_twice(alloc: Global, text: &[u8]) -> Result<Scenario, ScenarioFault>
     requires limit { length text.now ≤ 1048576 }
     ensures exact { Answers (λ read. read) result (scenario_of (lines_of text.now)) }
 {
     let unknown: Option<&Names<'_>> = None;
-    let first = read_lines(alloc, unknown, text)?;
-    let second = read_again(alloc, &first.names, text)?;
+    let names = read_lines(alloc, unknown, text)?.names;
+    let second = read_again(alloc, &names, text)?;
     Ok(setting(second))
 }
 

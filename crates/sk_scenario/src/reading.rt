@@ -1,9 +1,9 @@
 //! The lines, read one after the other.
-ghost use Rattle.std.specs.Prelude.{◌≡◌, ◌≤◌, ◌<◌, ◌^◌, length, MatchResult, OnOk, Ok};
+ghost use Rattle.std.specs.Prelude.{◌≡◌, ◌≤◌, ◌<◌, ◌^◌, length, OnOk};
 ghost use Rattle.sk_text.specs.Lines.{lines_of};
 ghost use Rattle.sk_asm.specs.Block.{until_end};
 ghost use Rattle.sk_scenario.specs.Reading.{is_open, inside, finished, within, stepped, closed, reading, nothing_yet, Nothing as NoBlock};
-ghost use Rattle.sk_scenario.specs.Answers.{Answers, IsFaultOf, Judges};
+ghost use Rattle.sk_scenario.specs.Answers.{Answers, Judges};
 ghost use Rattle.sk_scenario.specs.views.ScenarioCode.{known_seen, gained, block_seen};
 
 use crate::TextFault;
@@ -30,7 +30,8 @@ fn inside(
 ) -> Result<(), ScenarioFault>
     requires first { 1 ≤ n }
     requires numbers { n < 2 ^ 63 }
-    ensures exact { Answers (λ none. block_seen current.new) result (inside (known_seen known.entry) n (block_seen current.old) line.now (until_end (lines_of ahead.now))) }
+    ensures exact { Answers (λ none. block_seen current.new) result
+        (inside (known_seen known.entry) n (block_seen current.old) line.now (until_end (lines_of ahead.now))) }
 {
     match current {
         Block::Nothing | Block::Code(_) => Ok(()),
@@ -79,9 +80,8 @@ fn within(
 ) -> Result<(), ScenarioFault>
     requires first { 1 ≤ n }
     requires numbers { n < 2 ^ 63 }
-    ensures exact { MatchResult result
-        (λ none. within (known_seen known.entry) n (gained done.old) (block_seen current.old) line.now (lines_of ahead.now) ≡ Ok (gained done.new, block_seen current.new))
-        (λ fault. IsFaultOf fault (within (known_seen known.entry) n (gained done.old) (block_seen current.old) line.now (lines_of ahead.now))) }
+    ensures exact { Answers (λ none. (gained done.new, block_seen current.new)) result
+        (within (known_seen known.entry) n (gained done.old) (block_seen current.old) line.now (lines_of ahead.now)) }
 {
     if is_end(line) {
         finish(alloc, done, mem::replace(current, Block::Nothing))?;
@@ -103,9 +103,8 @@ fn step<'a>(
 ) -> Result<(), ScenarioFault>
     requires first { 1 ≤ n }
     requires numbers { n < 2 ^ 63 }
-    ensures exact { MatchResult result
-        (λ none. stepped (known_seen known.entry) n (gained done.old) (block_seen current.old) line.now (lines_of ahead.now) ≡ Ok (gained done.new, block_seen current.new))
-        (λ fault. IsFaultOf fault (stepped (known_seen known.entry) n (gained done.old) (block_seen current.old) line.now (lines_of ahead.now))) }
+    ensures exact { Answers (λ none. (gained done.new, block_seen current.new)) result
+        (stepped (known_seen known.entry) n (gained done.old) (block_seen current.old) line.now (lines_of ahead.now)) }
 {
     if is_open(current) {
         return within(alloc, known, done, n, current, line, ahead);

@@ -1,12 +1,12 @@
 //! Lines at the top level.
-ghost use Rattle.std.specs.Prelude.{◌≡◌, ◌<◌, false, is_some, MatchResult, Ok, Err};
+ghost use Rattle.std.specs.Prelude.{◌≡◌, ◌<◌, false, is_some, MatchResult, Err};
 ghost use Rattle.std.specs.Option.{option_map_or};
 ghost use Rattle.sk_text.specs.Numbers.{number_of};
 ghost use Rattle.sk_scenario.specs.Grammar.{Turns, Subreapers, heading_of};
 ghost use Rattle.sk_scenario.specs.Reading.{plain, checked, remarked, given, opened, started};
 ghost use Rattle.sk_scenario.specs.Scenario.{named_by};
 ghost use Rattle.sk_scenario.specs.declared.call.Named.{Named};
-ghost use Rattle.sk_scenario.specs.Answers.{IsFaultOf, Judges};
+ghost use Rattle.sk_scenario.specs.Answers.{Answers, Judges};
 ghost use Rattle.sk_scenario.specs.views.ScenarioCode.{heading, gained, block_seen, numbered};
 
 use crate::fault::ScenarioFault;
@@ -55,9 +55,7 @@ pub(crate) fn read_top(n: usize, line: &[u8]) -> Result<TopLine<'_>, TextFault>
 
 #[tactic(auto, unfolding(crate::specs::Reading::remarked))]
 fn set_turns(done: &mut Done<'_>, n: usize, word: &[u8]) -> Result<(), TextFault>
-    ensures exact { MatchResult result
-        (λ none. remarked n (gained done.old) (Turns (option_map_or (λ n. n) (number_of word.now) 0)) ≡ Ok (gained done.new))
-        (λ why. remarked n (gained done.old) (Turns (option_map_or (λ n. n) (number_of word.now) 0)) ≡ Err why) }
+    ensures exact { Judges (λ none. gained done.new) result (remarked n (gained done.old) (Turns (option_map_or (λ n. n) (number_of word.now) 0))) }
 {
     if done.turns.is_some() {
         return Err(TextFault::Line { n });
@@ -74,9 +72,7 @@ fn set_turns(done: &mut Done<'_>, n: usize, word: &[u8]) -> Result<(), TextFault
 
 #[tactic(auto, unfolding(crate::specs::Reading::remarked))]
 fn set_subreapers(done: &mut Done<'_>, n: usize) -> Result<(), TextFault>
-    ensures exact { MatchResult result
-        (λ none. remarked n (gained done.old) Subreapers ≡ Ok (gained done.new))
-        (λ why. remarked n (gained done.old) Subreapers ≡ Err why) }
+    ensures exact { Judges (λ none. gained done.new) result (remarked n (gained done.old) Subreapers) }
 {
     if done.subreapers {
         return Err(TextFault::Line { n });
@@ -108,9 +104,7 @@ fn give<'a>(
     is_program: bool,
     count: usize,
 ) -> Result<(), ScenarioFault>
-    ensures exact { MatchResult result
-        (λ none. given n (gained done.old) name.now (numbered is_program count) count ≡ Ok (gained done.new))
-        (λ fault. IsFaultOf fault (given n (gained done.old) name.now (numbered is_program count) count)) }
+    ensures exact { Answers (λ none. gained done.new) result (given n (gained done.old) name.now (numbered is_program count) count) }
 {
     judge_name(done, n, name, count)?;
     done.names.insert(name, numbered(is_program, count as u32))?;
@@ -135,9 +129,7 @@ pub(crate) fn start<'a>(
     n: usize,
     line: TopLine<'a>,
 ) -> Result<Block, ScenarioFault>
-    ensures exact { MatchResult result
-        (λ next. started n (gained done.old) (heading line.entry) ≡ Ok (gained done.new, block_seen next))
-        (λ fault. IsFaultOf fault (started n (gained done.old) (heading line.entry))) }
+    ensures exact { Answers (λ next. (gained done.new, block_seen next)) result (started n (gained done.old) (heading line.entry)) }
 {
     match line {
         TopLine::Silent => Ok(Block::Nothing),
