@@ -298,7 +298,7 @@ EXAMPLES = [
 
 # Paths that are looked at, and paths of tests.
 LOOKED_AT = ["crates/sk_kernel/src/tests.rt", "crates/sk_kernel/src/test/held.rt", "crates/sk_kernel/src/new_tests/held.rt"]
-PASSED_OVER = ["crates/sk_kernel_tests/src/row.rt"]
+PASSED_OVER = ["crates/sk_process_tests/src/kernel.rt"]
 
 
 def on_tests():

@@ -15,6 +15,8 @@ mod events;
 #[cfg(test)]
 mod ids;
 #[cfg(test)]
+mod kernel;
+#[cfg(test)]
 mod numbers;
 #[cfg(test)]
 mod pairs;

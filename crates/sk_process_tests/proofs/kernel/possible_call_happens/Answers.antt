@@ -2,7 +2,7 @@ use Rattle.std.proofs.Common.{refl}
 use Rattle.sk_signal.specs.Sets as set
 use Rattle.sk_signal.specs.SignalSet as numbers
 use Rattle.sk_signal.specs.Signalling as signalling
-use Rattle.sk_kernel_tests.proofs.possible_rows.possible_call_happens.Goals as goal
+use Rattle.sk_process_tests.proofs.kernel.possible_call_happens.Goals as goal
 
 -- process 1 runs as the system starts, and no signal is due to it
 pub happen-requires : goal.happen-requires
