@@ -5,6 +5,7 @@ pub mod InRuns
 pub mod Landing
 pub mod Lines
 pub mod Names
+pub mod Reaching
 pub mod Notes
 pub mod Targets
 pub mod Turns

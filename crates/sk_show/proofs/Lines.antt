@@ -47,14 +47,14 @@ label-says place h =
     }
 
 -- `;` begins the first word of a comment
-pub comment-short : (by : Architecture) (at : ℕ) (held : Held) (given : Insn) → at < 4096 → IsInRange given → IsShort 79 (comment_line by at held given)
+pub comment-short : (by : Option Architecture) (at : ℕ) (held : Held) (given : Insn) → at < 4096 → IsInRange given → IsShort 79 (comment_line by at held given)
 unfolding comment_line is_printable_byte
 comment-short by at held given near range =
     IsShort-append 2 77 (codes "; ") (decimal at ++ note_text by held (operation_of given.code) given) (record { short = omega arith; printable = refl })
     (IsShort-append 11 66 (decimal at) (note_text by held (operation_of given.code) given) (IsShort-decimal at (omega arith))
     (note-short by held (operation_of given.code) given range.k))
 
-pub comment-says : (by : Architecture) (at : ℕ) (held : Held) (given : Insn) → at < 4096 → IsInRange given → SaysLine (comment_line by at held given) Silent
+pub comment-says : (by : Option Architecture) (at : ℕ) (held : Held) (given : Insn) → at < 4096 → IsInRange given → SaysLine (comment_line by at held given) Silent
 unfolding comment_line statement_of
 comment-says by at held given near range =
     let all = comment-short by at held given near range in

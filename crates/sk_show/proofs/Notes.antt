@@ -29,7 +29,7 @@ use Rattle.sk_asm.proofs.Numerals.{IsWord-decimal}
 use Rattle.sk_asm.proofs.Words.{joined-printable}
 use Rattle.sk_show.specs.declared.held.Held.{Held}
 use Rattle.sk_show.specs.declared.held.Held.TheVariants.{Number, Architecture, Other}
-use Rattle.sk_show.specs.Notes.{architecture_of, architecture_text, argument_text, compared_text, field_text, half_text, named_text, note_text}
+use Rattle.sk_show.specs.Notes.{architecture_of, architecture_text, argument_text, call_name, compared_text, field_text, half_text, named_text, note_text}
 
 -- ---- texts of at most so many printable bytes
 
@@ -178,8 +178,9 @@ unfolding is_short is_printable_byte
 named-short None each = IsShort-nothing 41
 named-short (Some name) each = IsShort-append 1 40 (codes " ") name (IsShort-from 1 (codes " ") refl) (each name refl)
 
-call-short : (by : TheArchitecture) (nr : ℕ) → IsShort 41 (named_text (name_on by nr))
-call-short by nr = named-short (name_on by nr) (name-short by nr)
+call-short : (by : Option TheArchitecture) (nr : ℕ) → IsShort 41 (named_text (call_name by nr))
+call-short None nr = IsShort-nothing 41
+call-short (Some by) nr = named-short (name_on by nr) (name-short by nr)
 
 any_same : (text name : List ℕ) → if_any text ≡ Some name → text ≡ name
 any_same [] name h = cc
@@ -255,7 +256,7 @@ found-short (Some by) = text-short by
 architecture-short : (number : ℕ) → IsShort 41 (architecture_text number)
 architecture-short number = found-short (architecture_of number)
 
-compared-short : (by : TheArchitecture) (held : Held) (comparison : Comparison) (number : ℕ) → IsShort 41 (compared_text by held comparison number)
+compared-short : (by : Option TheArchitecture) (held : Held) (comparison : Comparison) (number : ℕ) → IsShort 41 (compared_text by held comparison number)
 compared-short by Number CommonBits number = IsShort-nothing 41
 compared-short by Architecture CommonBits number = IsShort-nothing 41
 compared-short by Other CommonBits number = IsShort-nothing 41
@@ -269,7 +270,7 @@ compared-short by Other Equal number = IsShort-nothing 41
 compared-short by Other Greater number = IsShort-nothing 41
 compared-short by Other GreaterOrEqual number = IsShort-nothing 41
 
-pub note-short : (by : TheArchitecture) (held : Held) (operation : Option Operation) (given : Insn) → given.k < 2 ^ 32 → IsShort 66 (note_text by held operation given)
+pub note-short : (by : Option TheArchitecture) (held : Held) (operation : Option Operation) (given : Insn) → given.k < 2 ^ 32 → IsShort 66 (note_text by held operation given)
 unfolding note_text is_short is_printable_byte
 note-short by held None given h = IsShort-nothing 66
 note-short by held (Some LoadRecord) given h = IsShort-weaker 23 66 _ (omega arith) (field-short given.k h)

@@ -17,6 +17,7 @@ use Rattle.sk_asm.proofs.Words.{lines_of-line}
 use Rattle.sk_call_names.specs.declared.architecture.Architecture.{Architecture}
 use Rattle.sk_show.specs.declared.held.Held.{Held}
 use Rattle.sk_show.specs.declared.held.Held.TheVariants.{Other}
+use Rattle.sk_show.specs.Coming.{named_at}
 use Rattle.sk_show.specs.Holding.{Jumps, held_before, held_behind, jump_to, jumps_behind, next_behind, ways_from, ways_to}
 use Rattle.sk_show.specs.RoundTrip.{ShownAssembles}
 use Rattle.sk_show.specs.Showing.{comment_line, insn_line, label_lines, label_name, lines_from, show_text, text_of}
@@ -119,7 +120,7 @@ text-length line lines =
     omega arith
 
 -- the comment and the line of an instruction, in front of those of the others
-module _ (by : Architecture) (count at : ℕ) (jumps : Jumps) (held behind : Held) (given : Insn) (insns : List Insn) (lines : List (List ℕ))
+module _ (by : Option Architecture) (count at : ℕ) (jumps : Jumps) (held behind : Held) (given : Insn) (insns : List Insn) (lines : List (List ℕ))
     (few : count ≤ 4096) (len : length jumps ≡ count) (within : at < count) (range : IsInRange given)
     (rest : Shown count (at + 1) (jumps_behind at (onward at (operation_of given.code) given) behind jumps) lines insns) where
   labelled : (labels : Labels)
@@ -213,10 +214,10 @@ with-label count at jumps (Some held) lines given insns few within some rest = r
       omega arith;
 }
 
-shown-from : (by : Architecture) (count at : ℕ) (jumps : Jumps) (next : Option Held) (insns : List Insn) → count ≤ 4096 → length jumps ≡ count → at + length insns ≡ count → All IsInRange insns
-    → Shown count at jumps (lines_from by count at (ways_from at jumps next insns) insns) insns
+shown-from : (named : ℕ → Option Architecture) (count at : ℕ) (jumps : Jumps) (next : Option Held) (insns : List Insn) → count ≤ 4096 → length jumps ≡ count → at + length insns ≡ count → All IsInRange insns
+    → Shown count at jumps (lines_from named count at (ways_from at jumps next insns) insns) insns
 unfolding lines_from ways_from
-shown-from by count at jumps next [] few len all ranges = record {
+shown-from named count at jumps next [] few len all ranges = record {
   statements = [];
   says = tt;
   ordered = tt;
@@ -224,30 +225,30 @@ shown-from by count at jumps next [] few len all ranges = record {
   stand = λ labels up. tt;
   short = omega arith;
 }
-shown-from by count at jumps next (given ∷ insns) few len all ranges =
+shown-from named count at jumps next (given ∷ insns) few len all ranges =
     let range = All-head IsInRange given insns ranges in
     let within : at < count = omega arith in
     let goes = onward at (operation_of given.code) given in
     let held = held_before (jump_to jumps at) next in
     let behind = held_behind (operation_of given.code) given held in
-    let others = lines_from by count (at + 1) (ways_from (at + 1) (jumps_behind at goes behind jumps) (next_behind at goes behind) insns) insns in
+    let others = lines_from named count (at + 1) (ways_from (at + 1) (jumps_behind at goes behind jumps) (next_behind at goes behind) insns) insns in
     let rest : Shown count (at + 1) (jumps_behind at goes behind jumps) others insns =
-    shown-from by count (at + 1) (jumps_behind at goes behind jumps) (next_behind at goes behind) insns few (jumps-length at goes behind jumps ∙ len) (omega arith)
+    shown-from named count (at + 1) (jumps_behind at goes behind jumps) (next_behind at goes behind) insns few (jumps-length at goes behind jumps ∙ len) (omega arith)
     (All-tail IsInRange given insns ranges)
     in
     let line = said-line count at given few range in
-    let here = front by count at jumps held behind given insns others few len within range rest line.statement line.says line.stand line.short in
+    let here = front (named at) count at jumps held behind given insns others few len within range rest line.statement line.says line.stand line.short in
     subst (λ lines. Shown count at jumps lines (given ∷ insns))
-    (sym (append_assoc (label_lines at (jump_to jumps at)) (comment_line by at held given ∷ insn_line count at given ∷ []) others))
-    (with-label count at jumps (jump_to jumps at) (comment_line by at held given ∷ insn_line count at given ∷ others) given insns few within refl here)
+    (sym (append_assoc (label_lines at (jump_to jumps at)) (comment_line (named at) at held given ∷ insn_line count at given ∷ []) others))
+    (with-label count at jumps (jump_to jumps at) (comment_line (named at) at held given ∷ insn_line count at given ∷ others) given insns few within refl here)
 
 pub shown_assembles : ShownAssembles
 unfolding ways_to
 shown_assembles by insns ranges few =
     let count = length insns in
-    let all = shown-from by count 0 (replicate count None) (Some Other) insns few (length-replicate count None) (omega arith) ranges in
+    let all = shown-from (named_at by insns) count 0 (replicate count None) (Some Other) insns few (length-replicate count None) (omega arith) ranges in
     let short = all.short in
-    let same = text_lines (lines_from by count 0 (ways_from 0 (replicate count None) (Some Other) insns) insns) all.statements all.says in (
+    let same = text_lines (lines_from (named_at by insns) count 0 (ways_from 0 (replicate count None) (Some Other) insns) insns) all.statements all.says in (
       omega arith,
       (
         all.statements,

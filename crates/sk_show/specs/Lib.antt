@@ -2,6 +2,7 @@ pub mod Paths
 pub mod PathLaws
 pub mod PathText
 pub mod WorkedPaths
+pub mod Coming
 pub mod Holding
 pub mod NoteLaws
 pub mod Notes

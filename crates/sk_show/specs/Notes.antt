@@ -1,6 +1,6 @@
 -- What is said of an instruction beside its place: the field of `struct seccomp_data` of seccomp(2) that a load brings,
 -- what A is compared with where A holds the call's number or the architecture, and what a constant that is returned makes
--- of the call. A number is that of a call of the architecture that is asked about.
+-- of the call. A number is that of a call of the architecture whose calls come there.
 use Rattle.std.specs.Prelude.{ℕ, ◌-◌, ◌/◌, ◌%◌, ◌==◌, ◌&&◌, ◌++◌, nat_le, nat_lt, if◌then◌else◌, List, [], codes, find, Option, Some, None}
 use Rattle.std.specs.Fmt.{decimal}
 use Rattle.std.specs.Option.{option_map}
@@ -51,17 +51,22 @@ architecture_of number = find (λ architecture. audit_of architecture == number)
 abbrev pub architecture_text : ℕ → List ℕ
 architecture_text number = named_text (option_map text_of (architecture_of number))
 
+-- that of a call, where it is known of which architecture
+abbrev pub call_name : Option TheArchitecture → ℕ → Option (List ℕ)
+call_name None number = None
+call_name (Some by) number = name_on by number
+
 -- bits of a number are those of no call
-abbrev pub compared_text : TheArchitecture → Held → Comparison → ℕ → List ℕ
+abbrev pub compared_text : Option TheArchitecture → Held → Comparison → ℕ → List ℕ
 compared_text by held CommonBits number = []
-compared_text by Number comparison number = named_text (name_on by number)
+compared_text by Number comparison number = named_text (call_name by number)
 compared_text by Architecture comparison number = architecture_text number
 compared_text by Other comparison number = []
 
 -- ---- all
 
 -- of an instruction before which A holds this
-unfoldable pub note_text : TheArchitecture → Held → Option Operation → Insn → List ℕ
+unfoldable pub note_text : Option TheArchitecture → Held → Option Operation → Insn → List ℕ
 note_text by held (Some LoadRecord) insn = field_text insn.k
 note_text by held (Some (Branch comparison Constant)) insn = compared_text by held comparison insn.k
 note_text by held (Some ReturnConstant) insn = codes " " ++ verdict_text insn.k

@@ -11,6 +11,7 @@ use Rattle.sk_insn.specs.Operations.{name_of, operation_of}
 use Rattle.sk_asm.specs.Listing.{distance_word, words_for}
 use Rattle.sk_call_names.specs.declared.architecture.Architecture.{Architecture}
 use Rattle.sk_show.specs.declared.held.Held.{Held}
+use Rattle.sk_show.specs.Coming.{named_at}
 use Rattle.sk_show.specs.Holding.{Way, ways_to}
 use Rattle.sk_show.specs.Notes.{note_text}
 
@@ -47,26 +48,26 @@ abbrev pub label_lines : ℕ → Option Held → List (List ℕ)
 label_lines place None = []
 label_lines place (Some held) = (label_name place ++ codes ":") ∷ []
 
-unfoldable pub comment_line : Architecture → ℕ → Held → Insn → List ℕ
+unfoldable pub comment_line : Option Architecture → ℕ → Held → Insn → List ℕ
 comment_line by at held insn = codes "; " ++ (decimal at ++ note_text by held (operation_of insn.code) insn)
 
 unfoldable pub insn_line : ℕ → ℕ → Insn → List ℕ
 insn_line count at insn = codes "    " ++ join_with_byte 32 (shown_words count at insn)
 
 -- those of the instruction at a place among so many, to which control comes so
-abbrev pub lines_of_insn : Architecture → ℕ → ℕ → Way → Insn → List (List ℕ)
+abbrev pub lines_of_insn : Option Architecture → ℕ → ℕ → Way → Insn → List (List ℕ)
 lines_of_insn by count at way insn = label_lines at way.jump ++ (comment_line by at way.held insn ∷ insn_line count at insn ∷ [])
 
--- those of all from a place on
-unfoldable pub lines_from : Architecture → ℕ → ℕ → List Way → List Insn → List (List ℕ)
-lines_from by count at ways [] = []
-lines_from by count at [] (insn ∷ insns) = []
-lines_from by count at (way ∷ ways) (insn ∷ insns) = lines_of_insn by count at way insn ++ lines_from by count (at + 1) ways insns
+-- those of all from a place on, where calls have the names of an architecture by the place
+unfoldable pub lines_from : (ℕ → Option Architecture) → ℕ → ℕ → List Way → List Insn → List (List ℕ)
+lines_from named count at ways [] = []
+lines_from named count at [] (insn ∷ insns) = []
+lines_from named count at (way ∷ ways) (insn ∷ insns) = lines_of_insn (named at) count at way insn ++ lines_from named count (at + 1) ways insns
 
 -- each line has its end
 abbrev pub text_of : List (List ℕ) → List ℕ
 text_of lines = flat_map (λ line. line ++ codes "\n") lines
 
--- with the names of calls that an architecture has
+-- with the names of calls that the architecture has which is asked about, where no test tells of which they are
 abbrev pub show_text : Architecture → List Insn → List ℕ
-show_text by insns = text_of (lines_from by (length insns) 0 (ways_to insns) insns)
+show_text asked insns = text_of (lines_from (named_at asked insns) (length insns) 0 (ways_to insns) insns)

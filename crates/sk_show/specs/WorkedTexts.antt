@@ -39,6 +39,29 @@ ways =
     insn 0x15 0 9 0 ∷
     []
 
+-- the calls of aarch64 come to 5, those of x86-64 to 7, and both to 8
+abbrev pub of_two : List Insn
+of_two =
+    insn 0x20 0 0 4 ∷
+    insn 0x15 2 0 0xc00000b7 ∷
+    insn 0x15 3 0 0xc000003e ∷
+    insn 0x06 0 0 0x80000000 ∷
+    insn 0x20 0 0 0 ∷
+    insn 0x15 2 2 221 ∷
+    insn 0x20 0 0 0 ∷
+    insn 0x15 0 0 59 ∷
+    insn 0x15 0 0 63 ∷
+    insn 0x06 0 0 0x7fff0000 ∷
+    []
+
+-- those of all but x86-64 come to 3, and all to 5
+abbrev pub of_others : List Insn
+of_others = insn 0x20 0 0 4 ∷ insn 0x15 2 0 0xc000003e ∷ insn 0x20 0 0 0 ∷ insn 0x15 0 0 39 ∷ insn 0x20 0 0 0 ∷ insn 0x15 0 0 39 ∷ []
+
+-- only the number of loongarch64 is so large
+abbrev pub of_one : List Insn
+of_one = insn 0x20 0 0 4 ∷ insn 0x35 1 0 0xc0000100 ∷ insn 0x06 0 0 0x7fff0000 ∷ insn 0x20 0 0 0 ∷ insn 0x15 0 0 57 ∷ []
+
 pub record WorkedTexts : Type 0 where
   pub no_instruction : show_text architecture.X86_64 [] ≡ []
   pub filter :
@@ -84,6 +107,18 @@ pub record WorkedTexts : Type 0 where
   pub on_x32 :
       show_text architecture.X32 (insn 0x20 0 0 4 ∷ insn 0x15 0 0 0xc000003e ∷ insn 0x20 0 0 0 ∷ insn 0x15 0 0 0 ∷ insn 0x15 0 0 0x40000000 ∷ [])
       ≡ codes "; 0 arch\n    ldabs 4\n; 1 x86-64\n    jeq 3221225534 +0 +0\n; 2 nr\n    ldabs 0\n; 3\n    jeq 0 +0 +0\n; 4 read\n    jeq 1073741824 +0 +0\n"
+  pub of_two :
+      show_text architecture.X86_64 of_two
+      ≡ codes "; 0 arch\n    ldabs 4\n; 1 aarch64\n    jeq 3221225655 at4 +0\n; 2 x86-64\n    jeq 3221225534 at6 +0\n; 3 kill_process\n    ret 0x80000000\n"
+      ++ (codes "at4:\n; 4 nr\n    ldabs 0\n; 5 execve\n    jeq 221 at8 at8\nat6:\n; 6 nr\n    ldabs 0\n; 7 execve\n    jeq 59 +0 +0\n"
+      ++ codes "at8:\n; 8\n    jeq 63 +0 +0\n; 9 allow\n    ret 0x7fff0000\n")
+  pub of_others :
+      show_text architecture.X86_64 of_others
+      ≡ codes "; 0 arch\n    ldabs 4\n; 1 x86-64\n    jeq 3221225534 at4 +0\n; 2 nr\n    ldabs 0\n; 3\n    jeq 39 +0 +0\n"
+      ++ codes "at4:\n; 4 nr\n    ldabs 0\n; 5 getpid\n    jeq 39 +0 +0\n"
+  pub of_one :
+      show_text architecture.X86_64 of_one
+      ≡ codes "; 0 arch\n    ldabs 4\n; 1\n    jge 3221225728 at3 +0\n; 2 allow\n    ret 0x7fff0000\nat3:\n; 3 nr\n    ldabs 0\n; 4 close\n    jeq 57 +0 +0\n"
   pub small :
       show_text architecture.X86_64 (insn 0x20 0 0 0 ∷ insn 0x15 1 0 59 ∷ insn 0x06 0 0 0x7fff0000 ∷ insn 0x06 0 0 0x00050001 ∷ [])
       ≡ codes "; 0 nr\n    ldabs 0\n; 1 execve\n    jeq 59 at3 +0\n; 2 allow\n    ret 0x7fff0000\nat3:\n; 3 errno/1 EPERM\n    ret 0x00050001\n"

@@ -2,6 +2,7 @@
 //! instruction.
 #![tactic(auto)]
 
+mod coming;
 mod compared;
 mod held;
 pub mod laws;

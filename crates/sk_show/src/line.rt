@@ -16,7 +16,7 @@ use std::fmt::Write;
 // Appends the lines of the instruction at a place among so many.
 pub(crate) fn push_lines(
     text: &mut String,
-    architecture: Architecture,
+    architecture: Option<Architecture>,
     count: usize,
     at: usize,
     jump: Option<Held>,
@@ -45,7 +45,7 @@ fn push_label(text: &mut String, at: usize, jump: Option<Held>) -> Result<(), Al
 #[tactic(auto, unfolding(crate::specs::Showing::comment_line))]
 fn push_comment(
     text: &mut String,
-    architecture: Architecture,
+    architecture: Option<Architecture>,
     at: usize,
     held: Held,
     insn: Insn,

@@ -2,7 +2,7 @@
 ghost use Rattle.std.specs.Prelude.{◌≡◌, ◌++◌, ◌≤◌, ◌<◌, OnOk, string_bytes};
 ghost use Rattle.std.specs.Option.{option_map};
 ghost use Rattle.sk_insn.specs.Operations.{operation_of};
-ghost use Rattle.sk_show.specs.Notes.{argument_text, architecture_of, architecture_text, compared_text, field_text, half_text, named_text, note_text};
+ghost use Rattle.sk_show.specs.Notes.{argument_text, architecture_of, architecture_text, call_name, compared_text, field_text, half_text, named_text, note_text};
 
 use crate::held::Held;
 use sk_call_names::{Architecture, name};
@@ -15,7 +15,7 @@ use std::fmt::Write;
 #[tactic(auto, unfolding(crate::specs::Notes::note_text))]
 pub(crate) fn push_note(
     text: &mut String,
-    architecture: Architecture,
+    architecture: Option<Architecture>,
     held: Held,
     insn: Insn,
 ) -> Result<(), AllocError>
@@ -66,7 +66,7 @@ fn half(place: u32) -> &'static str
 
 fn push_compared(
     text: &mut String,
-    architecture: Architecture,
+    architecture: Option<Architecture>,
     held: Held,
     comparison: Comparison,
     number: u32,
@@ -75,10 +75,16 @@ fn push_compared(
 {
     match (held, comparison) {
         (_, Comparison::CommonBits) => Ok(()),
-        (Held::Number, _) => push_named(text, name(architecture, number)),
+        (Held::Number, _) => push_named(text, call_name(architecture, number)),
         (Held::Architecture, _) => push_architecture(text, number),
         (Held::Other, _) => Ok(()),
     }
+}
+
+fn call_name(architecture: Option<Architecture>, number: u32) -> Option<&'static str>
+    ensures name { option_map (λ name. name.now) result ≡ call_name architecture number }
+{
+    name(architecture?, number)
 }
 
 fn push_named(text: &mut String, name: Option<&str>) -> Result<(), AllocError>
