@@ -1,5 +1,5 @@
 -- Notes are short, and made of printable bytes alone.
-use Rattle.std.proofs.Common.{◌≡◌, ◌<◌, ◌≤◌, ◌+◌, ◌-◌, ◌/◌, ◌%◌, ◌^◌, ◌==◌, ◌&&◌, ◌∙◌, arith, refl, subst, ℕ, zero, suc, List, [], ◌∷◌, ◌++◌, Bool, true, false, cond, length, map, codes, inl, inr, length-append, Option, Some, None}
+use Rattle.std.proofs.Common.{◌≡◌, ◌<◌, ◌≤◌, ◌+◌, ◌-◌, ◌/◌, ◌%◌, ◌^◌, ◌==◌, ◌&&◌, ◌||◌, ◌∙◌, arith, refl, subst, ℕ, zero, suc, List, [], ◌∷◌, ◌++◌, Bool, true, false, cond, length, map, codes, inl, inr, length-append, Option, Some, None}
 use Rattle.std.proofs.lemmas.Bool.{and_from, and_parts, cases_Bool, leb-true}
 use Rattle.std.proofs.lemmas.List.Folds.{list_all-append}
 use Rattle.std.specs.Prelude.{nat_le, nat_lt, slice_get}
@@ -29,7 +29,7 @@ use Rattle.sk_asm.proofs.Numerals.{IsWord-decimal}
 use Rattle.sk_asm.proofs.Words.{joined-printable}
 use Rattle.sk_show.specs.declared.held.Held.{Held}
 use Rattle.sk_show.specs.declared.held.Held.TheVariants.{Number, Architecture, Other}
-use Rattle.sk_show.specs.Notes.{architecture_of, architecture_text, argument_text, call_name, compared_text, field_text, half_text, named_text, note_text}
+use Rattle.sk_show.specs.Notes.{architecture_of, architecture_text, argument_text, call_name, compared_text, field_text, half_text, is_turned, named_text, note_text}
 
 -- ---- texts of at most so many printable bytes
 
@@ -75,25 +75,24 @@ IsShort-decimal n h =
 
 -- ---- loads
 
-half-short : (place : ℕ) → IsShort 5 (half_text place)
+half-short : (turned : Bool) (place : ℕ) → IsShort 5 (half_text turned place)
 unfolding is_short is_printable_byte
-half-short place = IsShort-cond 5 (place % 8 == 0) _ _ (IsShort-from 5 (codes " low") refl) (IsShort-from 5 (codes " high") refl)
+half-short turned place = IsShort-cond 5 (place % 8 == cond turned 4 0) _ _ (IsShort-from 5 (codes " low") refl) (IsShort-from 5 (codes " high") refl)
 
-argument-short : (place : ℕ) → place < 2 ^ 32 → IsShort 23 (argument_text place)
+argument-short : (turned : Bool) (place : ℕ) → place < 2 ^ 32 → IsShort 23 (argument_text turned place)
 unfolding argument_text is_short is_printable_byte
-argument-short place h =
+argument-short turned place h =
     IsShort-append 6 17 (codes " args[") _ (IsShort-from 6 (codes " args[") refl)
     (IsShort-append 11 6 (decimal ((place - 16) / 8)) _ (IsShort-decimal ((place - 16) / 8) (omega arith))
-    (IsShort-append 1 5 (codes "]") (half_text place) (IsShort-from 1 (codes "]") refl) (half-short place)))
+    (IsShort-append 1 5 (codes "]") (half_text turned place) (IsShort-from 1 (codes "]") refl) (half-short turned place)))
 
-field-short : (place : ℕ) → place < 2 ^ 32 → IsShort 23 (field_text place)
+field-short : (turned : Bool) (place : ℕ) → place < 2 ^ 32 → IsShort 23 (field_text turned place)
 unfolding field_text is_short is_printable_byte
-field-short place h =
+field-short turned place h =
     IsShort-cond 23 (place == 0) _ _ (IsShort-from 23 (codes " nr") refl)
     (IsShort-cond 23 (place == 4) _ _ (IsShort-from 23 (codes " arch") refl)
-    (IsShort-cond 23 (place == 8) _ _ (IsShort-from 23 (codes " ip low") refl)
-    (IsShort-cond 23 (place == 12) _ _ (IsShort-from 23 (codes " ip high") refl)
-    (IsShort-cond 23 (nat_le 16 place && nat_lt place 64 && place % 4 == 0) _ _ (argument-short place h) (IsShort-nothing 23)))))
+    (IsShort-cond 23 (place == 8 || place == 12) _ _ (IsShort-append 3 20 (codes " ip") _ (IsShort-from 3 (codes " ip") refl) (IsShort-weaker 5 20 _ (omega arith) (half-short turned place)))
+    (IsShort-cond 23 (nat_le 16 place && nat_lt place 64 && place % 4 == 0) _ _ (argument-short turned place h) (IsShort-nothing 23))))
 
 -- ---- names
 
@@ -273,7 +272,7 @@ compared-short by Other GreaterOrEqual number = IsShort-nothing 41
 pub note-short : (by : Option TheArchitecture) (held : Held) (operation : Option Operation) (given : Insn) → given.k < 2 ^ 32 → IsShort 66 (note_text by held operation given)
 unfolding note_text is_short is_printable_byte
 note-short by held None given h = IsShort-nothing 66
-note-short by held (Some LoadRecord) given h = IsShort-weaker 23 66 _ (omega arith) (field-short given.k h)
+note-short by held (Some LoadRecord) given h = IsShort-weaker 23 66 _ (omega arith) (field-short (is_turned by) given.k h)
 note-short by held (Some (Branch comparison Constant)) given h = IsShort-weaker 41 66 _ (omega arith) (compared-short by held comparison given.k)
 note-short by held (Some (Branch comparison IndexRegister)) given h = IsShort-nothing 66
 note-short by held (Some ReturnConstant) given h = IsShort-append 1 65 (codes " ") (verdict_text given.k) (IsShort-from 1 (codes " ") refl) (verdict-short given.k h)

@@ -1,6 +1,6 @@
 -- Which calls come to each instruction, by the tests of the architecture on the way there, and whose names the numbers
 -- have that A is compared with. Jumps of the BPF machine only go forwards (McCanne and Jacobson 1993).
-use Rattle.std.specs.Prelude.{ℕ, ◌≡◌, ◌+◌, ◌==◌, is_some, Bool, false, if◌then◌else◌, List, [], ◌∷◌, filter, length, map, replicate, slice_index_or, unwrap_or, Option, Some, None}
+use Rattle.std.specs.Prelude.{ℕ, ◌≡◌, ◌+◌, ◌==◌, is_some, Bool, false, if◌then◌else◌, List, [], ◌∷◌, filter, length, map, replicate, slice_index_or, Option, Some, None}
 use Rattle.sk_insn.specs.declared.insn.Insn.{Insn}
 use Rattle.sk_insn.specs.declared.operation.Operand.TheVariants.{Constant}
 use Rattle.sk_insn.specs.declared.operation.Operation.{Operation}

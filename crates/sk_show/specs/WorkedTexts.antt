@@ -1,5 +1,5 @@
 -- Texts that are worked out by hand.
-use Rattle.std.specs.Prelude.{◌≡◌, ◌++◌, List, [], ◌∷◌, codes}
+use Rattle.std.specs.Prelude.{◌≡◌, true, false, ◌++◌, List, [], ◌∷◌, codes}
 use Rattle.sk_insn.specs.declared.insn.Insn.{Insn}
 use Rattle.sk_asm.specs.Grammar.{insn}
 use Rattle.sk_call_names.specs.declared.architecture.Architecture.TheVariants as architecture
@@ -125,11 +125,15 @@ pub record WorkedTexts : Type 0 where
   pub next : side_word 9 3 0 ≡ codes "+0"
   pub last : side_word 9 3 5 ≡ codes "+5"
   pub label : side_word 9 3 4 ≡ codes "at8"
-  pub number_field : field_text 0 ≡ codes " nr"
-  pub pointer : field_text 12 ≡ codes " ip high"
-  pub first_argument : field_text 16 ≡ codes " args[0] low"
-  pub last_argument : field_text 60 ≡ codes " args[5] high"
-  pub no_field : field_text 64 ≡ []
-  pub no_word : field_text 18 ≡ []
+  pub number_field : field_text false 0 ≡ codes " nr"
+  pub pointer : field_text false 12 ≡ codes " ip high"
+  pub first_argument : field_text false 16 ≡ codes " args[0] low"
+  pub last_argument : field_text false 60 ≡ codes " args[5] high"
+  pub turned_pointer : field_text true 12 ≡ codes " ip low"
+  pub turned_argument : field_text true 16 ≡ codes " args[0] high"
+  pub turned_last : field_text true 60 ≡ codes " args[5] low"
+  pub on_s390x : show_text architecture.S390x (insn 0x20 0 0 24 ∷ insn 0x06 0 0 0 ∷ []) ≡ codes "; 0 args[1] high\n    ldabs 24\n; 1 kill_thread\n    ret 0x00000000\n"
+  pub no_field : field_text false 64 ≡ []
+  pub no_word : field_text false 18 ≡ []
   pub big_endian : architecture_text 0x80000016 ≡ codes " s390x"
   pub no_architecture : architecture_text 62 ≡ []

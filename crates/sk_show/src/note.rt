@@ -2,7 +2,7 @@
 ghost use Rattle.std.specs.Prelude.{◌≡◌, ◌++◌, ◌≤◌, ◌<◌, OnOk, string_bytes};
 ghost use Rattle.std.specs.Option.{option_map};
 ghost use Rattle.sk_insn.specs.Operations.{operation_of};
-ghost use Rattle.sk_show.specs.Notes.{argument_text, architecture_of, architecture_text, call_name, compared_text, field_text, half_text, named_text, note_text};
+ghost use Rattle.sk_show.specs.Notes.{argument_text, architecture_of, architecture_text, call_name, compared_text, field_text, half_text, is_turned, named_text, note_text};
 
 use crate::held::Held;
 use sk_call_names::{Architecture, name};
@@ -22,7 +22,7 @@ pub(crate) fn push_note(
     ensures note { OnOk result (string_bytes text.new ≡ string_bytes text.old ++ note_text architecture held (operation_of insn.code) insn) }
 {
     match decode(insn.code) {
-        Some(Operation::LoadRecord) => push_field(text, insn.k),
+        Some(Operation::LoadRecord) => push_field(text, is_turned(architecture), insn.k),
         Some(Operation::Branch(comparison, Operand::Constant)) => {
             push_compared(text, architecture, held, comparison, insn.k)
         }
@@ -34,34 +34,46 @@ pub(crate) fn push_note(
     }
 }
 
+fn is_turned(architecture: Option<Architecture>) -> bool
+    ensures turned { result ≡ is_turned architecture }
+{
+    match architecture {
+        Some(architecture) => architecture.is_big_endian(),
+        None => false,
+    }
+}
+
 #[tactic(auto, unfolding(crate::specs::Notes::field_text))]
-fn push_field(text: &mut String, place: u32) -> Result<(), AllocError>
-    ensures field { OnOk result (string_bytes text.new ≡ string_bytes text.old ++ field_text place) }
+fn push_field(text: &mut String, turned: bool, place: u32) -> Result<(), AllocError>
+    ensures field { OnOk result (string_bytes text.new ≡ string_bytes text.old ++ field_text turned place) }
 {
     match place {
         0 => text.push_str(" nr"),
         4 => text.push_str(" arch"),
-        8 => text.push_str(" ip low"),
-        12 => text.push_str(" ip high"),
-        16..=63 if place % 4 == 0 => push_argument(text, place),
+        8 | 12 => {
+            let half = half(turned, place);
+            write!(text, " ip{half}")
+        }
+        16..=63 if place % 4 == 0 => push_argument(text, turned, place),
         _ => Ok(()),
     }
 }
 
 #[tactic(auto, unfolding(crate::specs::Notes::argument_text))]
-fn push_argument(text: &mut String, place: u32) -> Result<(), AllocError>
+fn push_argument(text: &mut String, turned: bool, place: u32) -> Result<(), AllocError>
     requires argument { 16 ≤ place }
-    ensures argument { OnOk result (string_bytes text.new ≡ string_bytes text.old ++ argument_text place) }
+    ensures argument { OnOk result (string_bytes text.new ≡ string_bytes text.old ++ argument_text turned place) }
 {
     let number = (place - 16) / 8;
-    let half = half(place);
+    let half = half(turned, place);
     write!(text, " args[{number}]{half}")
 }
 
-fn half(place: u32) -> &'static str
-    ensures half { result.now ≡ half_text place }
+fn half(turned: bool, place: u32) -> &'static str
+    ensures half { result.now ≡ half_text turned place }
 {
-    if place % 8 == 0 { " low" } else { " high" }
+    let low = if turned { 4 } else { 0 };
+    if place % 8 == low { " low" } else { " high" }
 }
 
 fn push_compared(
