@@ -29,6 +29,9 @@ LOAD_NUMBER, RETURN_ALLOW = insn(0x20), insn(0x06, k=0x7FFF0000)
 ALLOW = RETURN_ALLOW
 # getpid is call 39, and gets errno 1.
 GETPID = LOAD_NUMBER + insn(0x15, 0, 1, 39) + insn(0x06, k=0x00050001) + ALLOW
+# The calls of aarch64 come to 5, those of x86-64 to 7, and both to 8.
+OF_TWO = insn(0x20, k=4) + insn(0x15, 2, 0, 0xC00000B7) + insn(0x15, 3, 0, 0xC000003E) + insn(0x06, k=0x80000000) + LOAD_NUMBER \
+    + insn(0x15, 2, 2, 221) + LOAD_NUMBER + insn(0x15, 0, 0, 59) + insn(0x15, 0, 0, 63) + ALLOW
 # 4000 instructions: nine times they are past the limit of a chain.
 LONG = LOAD_NUMBER * 3999 + ALLOW
 
@@ -82,6 +85,8 @@ FILES = {
     "glued": b"filter060000000000ff7f\n",
     "record": b"record 00\n" + line(ALLOW),
     "big_endian": insn(0x20, order=">") + insn(0x06, k=0x7FFF0000, order=">"),
+    "turned": insn(0x20, order=">") + insn(0x15, 0, 1, 20, order=">") + insn(0x06, k=0x00050001, order=">") + insn(0x06, k=0x7FFF0000, order=">"),
+    "of_two": OF_TWO,
     "ragged": GETPID + b"\0",
     "mib": b" " * MIB,
     "mib_and_one": b" " * (MIB + 1),
@@ -215,6 +220,8 @@ I386_PATH = "filter 0\n" + step(0, "ldabs 4", 1073741827) + step(1, "jeq 1073741
     + step(2, "ret 0x00050001", 1073741827) + "  errno/1 EPERM\nerrno/1 EPERM by filter 0 at 2\n"
 I386_SHOWN = "; 0 arch\n    ldabs 4\n; 1 i386\n    jeq 1073741827 +0 at3\n; 2 errno/1 EPERM\n    ret 0x00050001\nat3:\n; 3 allow\n    ret 0x7fff0000\n"
 UNSEEN = "warning: no filter looks at the architecture: calls of each are judged by their numbers alone\n"
+NO_CODE = "the code is none of the 41 that seccomp(2) permits"
+TURNED_READ = "ask: turned: read with its highest byte first\n"
 TURNED = "arguments with their highest byte first are not followed: --arch s390x"
 OTHER_ARCHITECTURES = ("i386", "aarch64", "arm", "riscv64", "ppc64le", "s390x", "loongarch64")
 BY_CALL = "judged call by call"
@@ -268,6 +275,12 @@ ARCHITECTURES = [
     Row("ask replay --arch i386 log_i386 i386", 1, "", "1 getuid32() errno/1 EPERM\n1 socketcall(0x1, 0x7ffd) errno/1 EPERM\n1 syscall_0x1388(0x1) errno/1 EPERM\n"),
     good("ask replay --arch i386 log_i386 all | head -n 1", "1 getuid32() allow\n"),
     Row("ask replay log_i386 all", 1, "", "1 syscall_0x1388(0x1) allow\n2 lines are not understood\n"),
+    *[good(f"ask show {asked} of_two | grep '^; [578]'", "; 5 execve\n; 7 execve\n; 8\n") for asked in ("", "--arch aarch64", "--arch s390x")],
+    Row("ask calls --arch s390x --call getpid turned", 0, TURNED_READ, "20 getpid errno/1 EPERM\n"),
+    Row("ask show --arch s390x turned | sed -n 3p", 0, TURNED_READ, "; 1 getpid\n"),
+    Row("ask calls --arch s390x --call getpid turned all", 0, TURNED_READ, "20 getpid errno/1 EPERM\n"),
+    *[trouble(f"ask {words} turned", f"turned: instruction 0: {NO_CODE}") for words in ("show", "calls", "calls --arch i386", "filter", "arches")],
+    trouble("ask calls --arch s390x code", f"code: line 2: instruction 2: {NO_CODE}"),
     good("ask calls --arch s390x --call read i386", "3 read allow\n"), good("ask calls --arch s390x i386 | head -n 1", "0 - allow\n"),
     *[trouble(f"ask {words}", f"{words.split()[0]}: {TURNED}") for words in (
         "when --arch s390x raw", "diff raw --arch s390x raw", "why --arch s390x read raw", "replay --arch s390x log raw",
@@ -441,7 +454,6 @@ WORDS = [
 # What is said of one FILE, whatever is asked of it.
 NO_LINE, ODD = "expected filter HEX", "has an odd number of hexadecimal digits: expected two for each byte"
 NO_DIGITS = "expected hexadecimal digits behind filter, two for each byte"
-NO_CODE = "the code is none of the 41 that seccomp(2) permits"
 NO_JSON, TOO_LONG = "is no JSON: expected the JSON of a profile, no more than 128 deep", "its filter would have more than 4096 instructions"
 NO_WORD = "no word of struct seccomp_data begins at k: expected a multiple of 4 below 64"
 ONE = [

@@ -12,7 +12,7 @@ use Rattle.sk_ask_filters.specs.Complaints.{of_word}
 use Rattle.sk_ask_filters.specs.Shelves.{Held}
 use Rattle.sk_ask.specs.declared.word.Word.{Word}
 use Rattle.sk_ask.specs.declared.word.Word.TheVariants as word
-use Rattle.sk_ask.specs.Asking.{Question, asked_of, nothing_asked, word_named}
+use Rattle.sk_ask.specs.Asking.{Question, asked_of, is_turned, nothing_asked, word_named}
 use Rattle.sk_ask.specs.Arches.{AnswersArches}
 use Rattle.sk_ask.specs.Architectures.{architecture_of, chain_on}
 use Rattle.sk_ask.specs.Calls.{OfCall}
@@ -24,7 +24,7 @@ use Rattle.sk_ask.specs.FilterText.{filter_lines}
 use Rattle.sk_ask.specs.Helping.{help_text, word_help_text}
 use Rattle.sk_ask.specs.Replays.{AnswersReplay}
 use Rattle.sk_ask.specs.Shows.{AnswersShow}
-use Rattle.sk_ask.specs.Troubles.{OfFiles}
+use Rattle.sk_ask.specs.Troubles.{OfFilesIn}
 use Rattle.sk_ask.specs.Whens.{AnswersWhen}
 use Rattle.sk_ask.specs.Whys.{AnswersWhy}
 
@@ -44,7 +44,7 @@ TellsSurvey options chain notes ending =
 abbrev pub AnswersCalls : (List ℕ → Held) → Context → Question → Ending → Type 0
 AnswersCalls held context asked ending =
     OfCall (architecture_of asked.arch) asked.call ending (λ call.
-    OfFiles held context asked.names ending (λ found chain notes.
+    OfFilesIn (is_turned asked.arch) held context asked.names ending (λ found chain notes.
     TellsSurvey (record { architecture = architecture_of asked.arch; call = call; examples = asked.examples }) chain notes ending))
 
 -- ---- filter
@@ -58,7 +58,7 @@ Gives true images notes ending =
 
 -- those in the files
 abbrev pub AnswersFilter : (List ℕ → Held) → Context → Question → Ending → Type 0
-AnswersFilter held context asked ending = OfFiles held context asked.names ending (λ found chain notes. Gives asked.raw found.images notes ending)
+AnswersFilter held context asked ending = OfFilesIn (is_turned asked.arch) held context asked.names ending (λ found chain notes. Gives asked.raw found.images notes ending)
 
 -- ---- all words
 

@@ -6,9 +6,9 @@ use Rattle.sk_arches.specs.Told.{IsTold, warns}
 use Rattle.sk_arches.specs.Text.{arches_text}
 use Rattle.sk_profile_json.specs.declared.context.Context.{Context}
 use Rattle.sk_ask_filters.specs.Shelves.{Held}
-use Rattle.sk_ask.specs.Asking.{Question}
+use Rattle.sk_ask.specs.Asking.{Question, is_turned}
 use Rattle.sk_ask.specs.Endings.{Ending, answered}
-use Rattle.sk_ask.specs.Troubles.{OfFiles}
+use Rattle.sk_ask.specs.Troubles.{OfFilesIn}
 
 -- a text tells what the chain answers to each architecture: no where it warns
 abbrev pub TellsArches : List (List Insn) → List ℕ → Ending → Type 0
@@ -16,4 +16,4 @@ TellsArches chain notes ending = (told : Told) × IsTold chain told × (ending �
 
 -- that of the chain that the files make
 abbrev pub AnswersArches : (List ℕ → Held) → Context → Question → Ending → Type 0
-AnswersArches held context asked ending = OfFiles held context asked.names ending (λ found chain notes. TellsArches chain notes ending)
+AnswersArches held context asked ending = OfFilesIn (is_turned asked.arch) held context asked.names ending (λ found chain notes. TellsArches chain notes ending)

@@ -7,9 +7,9 @@ use Rattle.sk_profile_json.specs.declared.context.Context.{Context}
 use Rattle.sk_ask_filters.specs.Complaints.{of_word}
 use Rattle.sk_ask_filters.specs.Shelves.{Held}
 use Rattle.sk_ask.specs.Architectures.{architecture_of}
-use Rattle.sk_ask.specs.Asking.{Question}
+use Rattle.sk_ask.specs.Asking.{Question, is_turned}
 use Rattle.sk_ask.specs.Endings.{Ending, answered, refused, ComesTo}
-use Rattle.sk_ask.specs.Troubles.{OfFiles}
+use Rattle.sk_ask.specs.Troubles.{OfFilesIn}
 
 -- the listing of the only filter, with the names that calls have on an architecture
 abbrev pub Shows : Architecture → List (List Insn) → List ℕ → Ending → Type 0
@@ -18,4 +18,4 @@ Shows by chain notes ending = ComesTo (refused (of_word (codes "show: the FILEs 
 
 -- that of the filter in the files
 abbrev pub AnswersShow : (List ℕ → Held) → Context → Question → Ending → Type 0
-AnswersShow held context asked ending = OfFiles held context asked.names ending (λ found chain notes. Shows (architecture_of asked.arch) chain notes ending)
+AnswersShow held context asked ending = OfFilesIn (is_turned asked.arch) held context asked.names ending (λ found chain notes. Shows (architecture_of asked.arch) chain notes ending)

@@ -7,11 +7,11 @@ use Rattle.sk_when.specs.Telling.{TellsWhen}
 use Rattle.sk_profile_json.specs.declared.context.Context.{Context}
 use Rattle.sk_ask_filters.specs.Shelves.{Held}
 use Rattle.sk_ask.specs.Architectures.{architecture_of, chain_on}
-use Rattle.sk_ask.specs.Asking.{Question}
+use Rattle.sk_ask.specs.Asking.{Question, is_turned}
 use Rattle.sk_ask.specs.Calls.{OfCall}
 use Rattle.sk_ask.specs.Endings.{Ending, answered}
 use Rattle.sk_ask.specs.Steps.{MayBeSpent, when_steps, picture_steps}
-use Rattle.sk_ask.specs.Troubles.{OfFiles}
+use Rattle.sk_ask.specs.Troubles.{OfFilesIn}
 
 -- a text is the picture of the call's tree where `--dot` asks for one, and else it tells the conditions of the chain's verdicts,
 -- each as far as the steps reach that ask gives
@@ -31,5 +31,5 @@ TellsWhenOf may_spend by dot call chain notes ending =
 abbrev pub AnswersWhen : (List ℕ → Held) → (ℕ → Bool) → Context → Question → Ending → Type 0
 AnswersWhen held may_spend context asked ending =
     OfCall (architecture_of asked.arch) asked.call ending (λ call.
-    OfFiles held context asked.names ending (λ found chain notes.
+    OfFilesIn (is_turned asked.arch) held context asked.names ending (λ found chain notes.
     TellsWhenOf may_spend (architecture_of asked.arch) asked.dot call chain notes ending))

@@ -58,7 +58,7 @@ fn understood<'a>(alloc: Global, word: Word, asked: Asked<'a>) -> Result<Asked<'
 }
 
 // Whether its numbers have their highest byte first, where one is named.
-fn is_turned(arch: Option<Architecture>) -> bool
+pub(crate) fn is_turned(arch: Option<Architecture>) -> bool
     ensures turned { result ≡ is_turned arch }
 {
     match arch {

@@ -60,8 +60,8 @@ fn diff_of<S: Shelf, A: Analysis>(
     ensures told { AnswersSides (S.held shelf.now) (A.may_spend analysis.now) context.now architecture stricter (map string_bytes old.now) (map string_bytes new.now) (ending_of result) }
     ensures counted { CountsReads result reads.old reads.new }
 {
-    let old = filters_in(alloc, shelf, context, reads, old)?;
-    let new = filters_in(alloc, shelf, context, reads, new)?;
+    let old = filters_in(alloc, false, shelf, context, reads, old)?;
+    let new = filters_in(alloc, false, shelf, context, reads, new)?;
     compared(alloc, analysis, architecture, stricter, old, new)
 }
 

@@ -4,8 +4,10 @@ ghost use Rattle.sk_ask_filters.specs.Finding.{filters_of};
 ghost use Rattle.sk_ask_filters.specs.Counts.{CountsReads};
 ghost use Rattle.sk_ask_filters.specs.Reading.{ReadsFilters, IsRefusedOf};
 ghost use Rattle.sk_ask.specs.Asked.{question_of};
+ghost use Rattle.sk_ask.specs.Asking.{is_turned};
 ghost use Rattle.sk_ask.specs.Contexts.{IsContextOf};
 
+use crate::complete::is_turned;
 use crate::words::Asked;
 use sk_ask_filters::{Filters, Shelf, Trouble, filters_in};
 use sk_profile_json::{Context, Kernel};
@@ -28,7 +30,7 @@ pub fn context_of<'a>(asked: &'a Asked<'_>) -> Context<'a>
     }
 }
 
-/// The filters in the files that are asked of, the oldest first.
+/// The filters in the files that are asked of, the oldest first, with the order of bytes that the architecture has which is asked of.
 pub fn asked_filters<S: Shelf>(
     alloc: Global,
     asked: &Asked<'_>,
@@ -36,9 +38,10 @@ pub fn asked_filters<S: Shelf>(
     context: &Context<'_>,
     reads: &mut u64,
 ) -> Result<Filters, Trouble>
-    ensures read { IfOk result (λ filters. ReadsFilters (S.held shelf.now) context.now (question_of asked.now).names (filters_of filters.found) filters.chain filters.notes.items) }
-    ensures refused { IfErr result (IsRefusedOf (S.held shelf.now) context.now (question_of asked.now).names) }
+    ensures read { IfOk result (λ filters. ReadsFilters (is_turned (question_of asked.now).arch) (S.held shelf.now) context.now (question_of asked.now).names (filters_of filters.found) filters.chain filters.notes.items) }
+    ensures refused { IfErr result (IsRefusedOf (is_turned (question_of asked.now).arch) (S.held shelf.now) context.now (question_of asked.now).names) }
     ensures counted { CountsReads result reads.old reads.new }
 {
-    filters_in(alloc, shelf, context, reads, &asked.names)
+    let big_endian = is_turned(asked.arch);
+    filters_in(alloc, big_endian, shelf, context, reads, &asked.names)
 }

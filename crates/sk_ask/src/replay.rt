@@ -48,7 +48,7 @@ fn log_answer<S: Shelf>(
     ensures counted { CountsReads result reads.old reads.new }
 {
     let log = content(alloc, shelf, reads, name, MOST_LOG_BYTES)?;
-    let filters = filters_in(alloc, shelf, context, reads, files)?;
+    let filters = filters_in(alloc, false, shelf, context, reads, files)?;
     replayed(alloc, architecture, name, &log, filters)
 }
 

@@ -48,7 +48,7 @@ fn call_answer<S: Shelf>(
     ensures counted { CountsReads result reads.old reads.new }
 {
     let call = meant(alloc, architecture, word)?;
-    let filters = filters_in(alloc, shelf, context, reads, files)?;
+    let filters = filters_in(alloc, false, shelf, context, reads, files)?;
     Ok(path(alloc, architecture, filters, &call)?)
 }
 

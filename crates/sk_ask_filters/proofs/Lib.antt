@@ -4,3 +4,4 @@ pub mod Among
 pub mod Standing
 pub mod Images
 pub mod Limits
+pub mod Orders

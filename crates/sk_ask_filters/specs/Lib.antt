@@ -9,6 +9,7 @@ pub mod Counts
 pub mod Shelves
 pub mod Taking
 pub mod Expanding
+pub mod Orders
 pub mod Reading
 pub mod Answers
 pub mod Images

@@ -1,5 +1,5 @@
 -- What is known of filters that were read from files by their names.
-use Rattle.std.specs.Prelude.{ℕ, ◌≡◌, ◌⊎◌, List, Some, Result, Ok, Err, slice_get, ⊤}
+use Rattle.std.specs.Prelude.{ℕ, ◌≡◌, ◌⊎◌, Bool, List, Some, Result, Ok, Err, slice_get, ⊤}
 use Rattle.sk_insn.specs.declared.insn.Insn.{Insn}
 use Rattle.sk_ask_filters.specs.declared.fault.Refused.{Refused}
 use Rattle.sk_ask_filters.specs.Filters.{Filters, filters_in, chain_of}
@@ -45,22 +45,23 @@ IsReadAs names (Err trouble.Memory) said = ⊤
 
 -- ---- files by their names
 
--- these are the filters in the files with these names, and their chain, where a profile stands for its filter; and these lines
--- are told of the profiles
-abbrev pub ReadsFilters : (List ℕ → Held) → Context → List (List ℕ) → Filters → List (List Insn) → List ℕ → Type 0
-ReadsFilters held context names found chain notes =
+-- these are the filters in the files with these names, and their chain, where a profile stands for its filter, and bytes may be asked to have
+-- the highest byte first; and these lines
+-- are told of them
+abbrev pub ReadsFilters : Bool → (List ℕ → Held) → Context → List (List ℕ) → Filters → List (List Insn) → List ℕ → Type 0
+ReadsFilters big held context names found chain notes =
     (files images : List (List ℕ)) × AreContents 1048576 held names files
-    × StandFor context names files images notes × (judged images ≡ Ok (found, chain))
+    × StandFor big context names files images notes × (judged images ≡ Ok (found, chain))
 
 -- what the files stand for is refused, and the line names the file
-abbrev pub IsRefusedIn : Context → List (List ℕ) → List (List ℕ) → Trouble → Type 0
-IsRefusedIn context names files why =
-    (images : List (List ℕ)) × (notes : List ℕ) × StandFor context names files images notes × IsReadAs names (Err why) (judged images)
+abbrev pub IsRefusedIn : Bool → Context → List (List ℕ) → List (List ℕ) → Trouble → Type 0
+IsRefusedIn big context names files why =
+    (images : List (List ℕ)) × (notes : List ℕ) × StandFor big context names files images notes × IsReadAs names (Err why) (judged images)
 
 -- one of the files, of at most 1048576 bytes each, is not read, or stands for nothing, or what they stand for is refused, or
 -- memory
-abbrev pub IsRefusedOf : (List ℕ → Held) → Context → List (List ℕ) → Trouble → Type 0
-IsRefusedOf held context names why =
+abbrev pub IsRefusedOf : Bool → (List ℕ → Held) → Context → List (List ℕ) → Trouble → Type 0
+IsRefusedOf big held context names why =
     IsUnreadOf 1048576 held names why
-    ⊎ (((files : List (List ℕ)) × AreContents 1048576 held names files × (IsFirstWithout context names files why ⊎ IsRefusedIn context names files why))
+    ⊎ (((files : List (List ℕ)) × AreContents 1048576 held names files × (IsFirstWithout big context names files why ⊎ IsRefusedIn big context names files why))
     ⊎ (why ≡ trouble.Memory))

@@ -4,9 +4,11 @@ ghost use Rattle.sk_profile_file.specs.Forms.{is_profile};
 ghost use Rattle.sk_profile_file.specs.Texts.{refusal_text};
 ghost use Rattle.sk_ask_filters.specs.Complaints.{about};
 ghost use Rattle.sk_ask_filters.specs.Counts.{CountsReads};
+ghost use Rattle.sk_ask_filters.specs.Orders.{taken_turned, StandsAs};
 ghost use Rattle.sk_ask_filters.specs.Expanding.{note_lines, StandsFor, StandsForFilter, StandFor, HasNoFilter, IsFirstWithout};
 
 use crate::complaint::about;
+use crate::order::taken_turned;
 use crate::trouble::Trouble;
 use sk_profile_file::{Refusal, is_profile, made, refusal_text};
 use sk_profile_json::Context;
@@ -29,14 +31,15 @@ struct Standing {
 /// What these files stand for, with profiles as they are to hold there, or why the first that stands for nothing does not.
 pub fn expanded(
     alloc: Global,
+    big_endian: bool,
     context: &Context<'_>,
     names: &[String],
     files: &[Vec<u8>],
 ) -> Result<Expansion, Trouble>
     requires each { length files.now ≡ length names.now }
-    ensures stand { IfOk result (λ it. StandFor context.now (map string_bytes names.now) (map (λ file. file.items) files.now) (map (λ image. image.items) it.images.items) it.notes.items) }
+    ensures stand { IfOk result (λ it. StandFor big_endian context.now (map string_bytes names.now) (map (λ file. file.items) files.now) (map (λ image. image.items) it.images.items) it.notes.items) }
     ensures each { IfOk result (λ it. length it.images.items ≡ length names.now) }
-    ensures without { IfErr result (IsFirstWithout context.now (map string_bytes names.now) (map (λ file. file.items) files.now)) }
+    ensures without { IfErr result (IsFirstWithout big_endian context.now (map string_bytes names.now) (map (λ file. file.items) files.now)) }
     ensures unread { (reads : ℕ) → CountsReads result reads reads }
 {
     let mut images = Vec::new(alloc);
@@ -47,7 +50,7 @@ pub fn expanded(
         let Some((file, other_files)) = left.split_first() else {
             break;
         };
-        let standing = stood_for(alloc, context, name.as_str(), file)?;
+        let standing = stood_for(alloc, big_endian, context, name.as_str(), file)?;
         images.push(standing.image)?;
         notes.extend_from_slice(&standing.notes)?;
         rest = other_names;
@@ -59,21 +62,40 @@ pub fn expanded(
 // What the file with this name stands for.
 fn stood_for(
     alloc: Global,
+    big_endian: bool,
     context: &Context<'_>,
     name: &str,
     file: &[u8],
 ) -> Result<Standing, Trouble>
-    ensures stands { IfOk result (λ it. StandsFor context.now name.now file.now it.image.items it.notes.items) }
+    ensures stands { IfOk result (λ it. StandsFor big_endian context.now name.now file.now it.image.items it.notes.items) }
     ensures without { IfErr result (HasNoFilter context.now name.now file.now) }
     ensures unread { (reads : ℕ) → CountsReads result reads reads }
 {
     if is_profile(file) {
         return filter_of(alloc, context, name, file);
     }
-    Ok(Standing {
-        image: file.to_vec(alloc)?,
-        notes: Vec::new(alloc),
-    })
+    Ok(of_bytes(alloc, big_endian, name, file)?)
+}
+
+// What the bytes of the file with this name stand for.
+fn of_bytes(
+    alloc: Global,
+    big_endian: bool,
+    name: &str,
+    file: &[u8],
+) -> Result<Standing, AllocError>
+    ensures stands { IfOk result (λ it. StandsAs name.now file.now (taken_turned big_endian file.now) it.image.items it.notes.items) }
+{
+    match taken_turned(alloc, big_endian, file)? {
+        Some(image) => Ok(Standing {
+            image,
+            notes: about(alloc, name, "read with its highest byte first")?,
+        }),
+        None => Ok(Standing {
+            image: file.to_vec(alloc)?,
+            notes: Vec::new(alloc),
+        }),
+    }
 }
 
 // What the profile in the file with this name stands for.

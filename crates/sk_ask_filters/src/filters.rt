@@ -28,20 +28,22 @@ pub struct Filters {
     pub notes: Vec<u8>,
 }
 
-/// The filters in the files with these names, the oldest first. A profile stands there for its filter, as it is to hold.
+/// The filters in the files with these names, the oldest first. A profile stands there for its filter, as it is to hold, and
+/// bytes that are a valid filter with the highest byte first, for that one, where that order is asked for.
 pub fn filters_in<S: Shelf>(
     alloc: Global,
+    big_endian: bool,
     shelf: &S,
     context: &Context<'_>,
     reads: &mut u64,
     names: &[String],
 ) -> Result<Filters, Trouble>
-    ensures read { IfOk result (λ filters. ReadsFilters (S.held shelf.now) context.now (map string_bytes names.now) (filters_of filters.found) filters.chain filters.notes.items) }
-    ensures refused { IfErr result (IsRefusedOf (S.held shelf.now) context.now (map string_bytes names.now)) }
+    ensures read { IfOk result (λ filters. ReadsFilters big_endian (S.held shelf.now) context.now (map string_bytes names.now) (filters_of filters.found) filters.chain filters.notes.items) }
+    ensures refused { IfErr result (IsRefusedOf big_endian (S.held shelf.now) context.now (map string_bytes names.now)) }
     ensures counted { CountsReads result reads.old reads.new }
 {
     let files = contents(alloc, shelf, reads, names)?;
-    let expansion = expanded(alloc, context, names, &files)?;
+    let expansion = expanded(alloc, big_endian, context, names, &files)?;
     read(alloc, names, expansion)
 }
 

@@ -13,6 +13,7 @@ mod form;
 mod found;
 pub mod laws;
 mod lines;
+mod order;
 mod shelf;
 mod text;
 mod trouble;

@@ -108,6 +108,10 @@ const ANSWERS: &[(&[&str], &[u8])] = &[
         b"; 0 nr\n    ldabs 0\n; 1 mkdir\n    jeq 39 +0 at3\n; 2 errno/1 EPERM\n    ret 0x00050001\nat3:\n; 3 allow\n    ret 0x7fff0000\n",
     ),
     (
+        &["show", "of_two"],
+        b"; 0 arch\n    ldabs 4\n; 1 aarch64\n    jeq 3221225655 at4 +0\n; 2 x86-64\n    jeq 3221225534 at6 +0\n; 3 kill_process\n    ret 0x80000000\nat4:\n; 4 nr\n    ldabs 0\n; 5 execve\n    jeq 221 at8 at8\nat6:\n; 6 nr\n    ldabs 0\n; 7 execve\n    jeq 59 +0 +0\nat8:\n; 8\n    jeq 63 +0 +0\n; 9 allow\n    ret 0x7fff0000\n",
+    ),
+    (
         &["show", "all", "--arch", "s390x"],
         b"; 0 allow\n    ret 0x7fff0000\n",
     ),
@@ -239,10 +243,20 @@ fn a_no_is_an_answer(rt: HostRuntime) -> Result<(), Fail> {
     Ok(())
 }
 
-// What is passed over in a profile is told beside the answer, and where it can't be written the answer is the same.
+// What is passed over in a profile, and in which order an image is read, is told beside the answer, and where it can't be written the answer is the same.
 #[test]
 fn notes_stand_beside_an_answer(rt: HostRuntime) -> Result<(), Fail> {
-    let rows: [(&[&str], &[u8], &[u8]); 2] = [
+    let rows: [(&[&str], &[u8], &[u8]); 4] = [
+        (
+            &["calls", "--arch", "s390x", "--call", "getpid", "turned"],
+            b"20 getpid errno/1 EPERM\n",
+            b"ask: turned: read with its highest byte first\n",
+        ),
+        (
+            &["show", "turned", "--arch", "s390x"],
+            b"; 0 nr\n    ldabs 0\n; 1 getpid\n    jeq 20 +0 at3\n; 2 errno/1 EPERM\n    ret 0x00050001\nat3:\n; 3 allow\n    ret 0x7fff0000\n",
+            b"ask: turned: read with its highest byte first\n",
+        ),
         (
             &["calls", "--call", "read", "noted"],
             b"0 read allow\n",

@@ -164,6 +164,10 @@ const TROUBLES: &[(&[&str], &[u8])] = &[
         b"ask: words: line 2: expected filter HEX\n",
     ),
     (
+        &["show", "turned"],
+        b"ask: turned: instruction 0: the code is none of the 41 that seccomp(2) permits\n",
+    ),
+    (
         &["filter", "all", "code"],
         b"ask: code: line 2: instruction 0: the code is none of the 41 that seccomp(2) permits\n",
     ),

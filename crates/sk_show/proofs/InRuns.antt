@@ -62,7 +62,7 @@ stored-a : (held : Held) (call : Record) (s t after : State) (skip : ℕ) (test 
 stored-a held call s t after skip true same h held_so = same-a held call s t after 0 skip same h held_so
 stored-a held call s t after skip false same h held_so = cc
 
-behind-held : (operation : Option Operation) (given : Insn) (call : Record) (s after : State) (skip : ℕ) (held : Held) → FitWords call
+pub behind-held : (operation : Option Operation) (given : Insn) (call : Record) (s after : State) (skip : ℕ) (held : Held) → FitWords call
     → effect operation given call s ≡ GoesOn skip after → IsHeld held call s.a → IsHeld (held_behind operation given held) call after.a
 behind-held None given call s after skip held small h held_so = tt
 behind-held (Some LoadRecord) given call s after skip held small h held_so = loaded-held given.k call s after skip small h
@@ -86,18 +86,18 @@ behind-held (Some CopyToAccumulator) given call s after skip held small h held_s
 -- ---- ways that come together
 
 -- the same is known, or nothing
-abbrev Weaker : Held → Held → Type 0
+abbrev pub Weaker : Held → Held → Type 0
 Weaker weak held = (weak ≡ held) ⊎ (weak ≡ Other)
 
-weaker-held : (weak held : Held) (call : Record) (a : ℕ) → Weaker weak held → IsHeld held call a → IsHeld weak call a
+pub weaker-held : (weak held : Held) (call : Record) (a : ℕ) → Weaker weak held → IsHeld held call a → IsHeld weak call a
 weaker-held weak held call a (inl same) h = subst (λ x. IsHeld x call a) (sym same) h
 weaker-held weak held call a (inr none) h = subst (λ x. IsHeld x call a) (sym none) tt
 
-weaker-further : (weak one held : Held) → Weaker weak one → Weaker one held → Weaker weak held
+pub weaker-further : (weak one held : Held) → Weaker weak one → Weaker one held → Weaker weak held
 weaker-further weak one held (inl same) h = subst (λ x. Weaker x held) (sym same) h
 weaker-further weak one held (inr none) h = inr none
 
-joined-both : (one second : Held) → Weaker (joined one second) one × Weaker (joined one second) second
+pub joined-both : (one second : Held) → Weaker (joined one second) one × Weaker (joined one second) second
 joined-both Number Number = (inl refl, inl refl)
 joined-both Architecture Architecture = (inl refl, inl refl)
 joined-both Number second = (inr refl, inr refl)
@@ -105,15 +105,15 @@ joined-both Architecture second = (inr refl, inr refl)
 joined-both Other second = (inr refl, inr refl)
 
 -- a way is there, and on it no more is known
-abbrev AtMost : Held → Option Held → Type 0
+abbrev pub AtMost : Held → Option Held → Type 0
 AtMost held None = ⊥
 AtMost held (Some way) = Weaker way held
 
-keeps-way : (held : Held) (way : Option Held) (second : Held) → AtMost held way → AtMost held (joined_ways way (Some second))
+pub keeps-way : (held : Held) (way : Option Held) (second : Held) → AtMost held way → AtMost held (joined_ways way (Some second))
 keeps-way held None second h = absurd h
 keeps-way held (Some way) second h = weaker-further (joined way second) way held (joined-both way second).0 h
 
-brings-way : (held : Held) (way : Option Held) → AtMost held (joined_ways way (Some held))
+pub brings-way : (held : Held) (way : Option Held) → AtMost held (joined_ways way (Some held))
 brings-way held None = inl refl
 brings-way held (Some way) = (joined-both way held).1
 
@@ -175,7 +175,7 @@ goes-at to to' from from' one other e f same goes =
     subst (λ (i : Insn). GoesTo to' (onward from' (operation_of i.code) i)) same
     (subst (λ (p : ℕ). GoesTo to' (onward p (operation_of one.code) one)) f (subst (λ (p : ℕ). GoesTo p (onward from (operation_of one.code) one)) e goes))
 
-goes-true : (place : ℕ) (goes : Onward) → GoesTo place goes → goes_to place goes ≡ true
+pub goes-true : (place : ℕ) (goes : Onward) → GoesTo place goes → goes_to place goes ≡ true
 goes-true place Nowhere h = absurd h
 goes-true place (To to) h = eq-eqb place to h
 goes-true place (Either to other) (inl h) = let t = eq-eqb place to h in rw t refl

@@ -1,5 +1,6 @@
 pub mod Paths
 pub mod PathExamples
+pub mod Comers
 pub mod Examples
 pub mod InRuns
 pub mod Landing

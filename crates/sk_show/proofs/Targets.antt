@@ -104,7 +104,7 @@ label-from at (suc m) jumps next (given ∷ insns) way e h =
           inr (suc n, (first, omega arith, is, to))
     ]
 
-none-yet : (n place : ℕ) → jump_to (replicate n None) place ≡ None
+pub none-yet : (n place : ℕ) → jump_to (replicate n None) place ≡ None
 none-yet zero place = refl
 none-yet (suc n) zero = refl
 none-yet (suc n) (suc place) = none-yet n place

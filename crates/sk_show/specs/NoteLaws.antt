@@ -1,5 +1,5 @@
 -- What is noted of A is so in each run, and labels stand where jumps go.
-use Rattle.std.specs.Prelude.{ℕ, ◌≡◌, ◌<◌, ◌+◌, ◌^◌, ◌↔◌, ⊤, IsSome, List, Some, slice_get}
+use Rattle.std.specs.Prelude.{ℕ, ◌≡◌, ◌<◌, ◌+◌, ◌^◌, ◌↔◌, ⊤, IsSome, true, false, List, Some, length, slice_get, slice_index_or}
 use Rattle.sk_insn.specs.declared.insn.Insn.{Insn}
 use Rattle.sk_insn.specs.declared.record.Record.{Record}
 use Rattle.sk_filter.specs.Paths.{At, LeadsTo}
@@ -7,6 +7,7 @@ use Rattle.sk_filter.specs.Meaning.{State}
 use Rattle.sk_survey_lines.specs.Runs.{ComesTo}
 use Rattle.sk_show.specs.declared.held.Held.{Held}
 use Rattle.sk_show.specs.declared.held.Held.TheVariants.{Number, Architecture, Other}
+use Rattle.sk_show.specs.Coming.{comes_to}
 use Rattle.sk_show.specs.Holding.{Way, ways_to}
 
 -- A holds this on a call
@@ -24,6 +25,12 @@ abbrev pub NotesAreRight : Type 0
 NotesAreRight =
     (insns : List Insn) (call : Record) (steps place : ℕ) (s : State) (way : Way) → FitWords call → ComesTo insns call steps place s
     → slice_get (ways_to insns) place ≡ Some way → IsHeld way.held call s.a
+
+-- and where it comes to, it is found that calls with its number of an architecture come
+abbrev pub ComersAreFound : Type 0
+ComersAreFound =
+    (insns : List Insn) (call : Record) (steps place : ℕ) (s : State) → FitWords call → place < length insns → ComesTo insns call steps place s
+    → slice_index_or (comes_to call.arch insns) place false ≡ true
 
 -- a jump goes there: some instruction leads to the place, and not as to the next one
 abbrev pub IsTarget : List Insn → ℕ → Type 0

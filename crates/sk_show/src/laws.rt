@@ -2,7 +2,7 @@
 ghost use Rattle.sk_show.specs.PathLaws.{PathsAreRuns};
 ghost use Rattle.sk_show.specs.WorkedPaths.{WorkedPaths};
 ghost use Rattle.sk_asm.specs.Assembly.{Finds};
-ghost use Rattle.sk_show.specs.NoteLaws.{LabelsAreTargets, NotesAreRight};
+ghost use Rattle.sk_show.specs.NoteLaws.{ComersAreFound, LabelsAreTargets, NotesAreRight};
 ghost use Rattle.sk_show.specs.RoundTrip.{ShownAssembles};
 ghost use Rattle.sk_show.specs.WorkedTexts.{WorkedTexts};
 
@@ -45,6 +45,11 @@ pub fn shown_assembles()
 /// Where a note names a call or the architecture, A holds the number or the architecture in each run that comes there.
 pub fn notes_are_right()
     ensures law { NotesAreRight }
+{}
+
+/// Calls come only where it is found that those of their architecture come.
+pub fn comers_are_found()
+    ensures law { ComersAreFound }
 {}
 
 /// An instruction has a label where a jump goes to it, and only there.
