@@ -87,7 +87,7 @@ pub const SHOW_HELP: &str = "usage: ask show [--arch ARCH] FILE
 The instructions of one filter, with labels where jumps go, and above each as a comment its place and what it is about: the field
 that it loads, the call or the architecture that it compares with, the verdict that it returns. skern asm takes the text, and
 gives the same instructions.
-  --arch ARCH   numbers have the names of this architecture: ask --help has their names
+  --arch ARCH   numbers have the names of this architecture where no test tells of which calls are: ask --help has their names
 A FILE may be a profile, and then --cap, --kernel and --runc say where it is to hold: ask --help has them.
 ";
 
