@@ -30,18 +30,6 @@ both_parts r h low e below =
     ∙ and_or r h low
     ∙ or_disjoint (bit_and r h) (bit_and r low) (apart (bit_and r h) (bit_and r low) (high_alone r h e) (low_alone r low below))
 
-block_range : (x a l k last : ℕ) → x ≡ a + l → a % 2 ^ 32 ≡ 0 → l < 2 ^ 32 → k % 2 ^ 32 ≡ 0 → k ≡ last
-    → (nat_le k x && nat_le x (k + 4294967295)) ≡ (nat_le k a && nat_le a last)
-block_range x a l k last sum up below even same = grind (arith, nat_tests)
-
--- one number of the higher half is a range of more bits
-pub widened_takes : (term : Term) (r low : ℕ) → term.first ≡ term.last → term.mask % 2 ^ 32 ≡ 0 → term.first % 2 ^ 32 ≡ 0 → low < 2 ^ 32
-    → takes (record term { mask = term.mask + low; last = term.first + 4294967295 }) (bit_and r (term.mask + low)) ≡ takes term (bit_and r term.mask)
-widened_takes term r low one even first below =
-    ap (λ b. if term.inside then b else not b)
-    (block_range (bit_and r (term.mask + low)) (bit_and r term.mask) (bit_and r low) term.first term.last
-    (both_parts r term.mask low even below) (high_alone r term.mask even) (low_alone r low below) first one)
-
 lifted_range : (x a l f t c d base : ℕ) → x ≡ a + l → a % 2 ^ 32 ≡ 0 → l < 2 ^ 32 → f / 2 ^ 32 ≡ t / 2 ^ 32 → base ≡ f - f % 2 ^ 32 → f ≤ x → x ≤ t
     → (nat_le (base + c) x && nat_le x (base + d)) ≡ (nat_le c l && nat_le l d)
 lifted_range x a l f t c d base sum up below same is above under =

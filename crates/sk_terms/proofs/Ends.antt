@@ -11,9 +11,10 @@ use Rattle.sk_conditions.specs.Meeting.{EachEndIsMet}
 use Rattle.sk_terms.specs.declared.decision.Decision.{Decision}
 use Rattle.sk_terms.specs.declared.decision.Decision.TheVariants.{Is, Untold, Ask'}
 use Rattle.sk_terms.specs.declared.lines.Line.{Line}
+use Rattle.sk_terms.specs.declared.choices.Choice.{Choice}
 use Rattle.sk_terms.specs.declared.term.Term.{Term}
 use Rattle.sk_terms.specs.Decisions.{EachEndIsMetBy}
-use Rattle.sk_terms.specs.Lines.{meets_all, meets_choices, meets_line, IsMetBy}
+use Rattle.sk_terms.specs.Lines.{meets_choices, meets_line, IsMetBy}
 use Rattle.sk_terms.specs.Terms.{holds_term}
 
 -- a call is one of some
@@ -149,16 +150,19 @@ more_pass p q implies (call ∷ calls) any =
     either_passes (p call) (list_any p calls) (q call) (list_any q calls) (implies call) (more_pass p q implies calls) any
 
 -- a line that says what the terms on the way to an end say
-pub end_met : (calls : List Record) (terms seen : List Term) (line : Line) → seen ≡ terms
-    → ((call : Record) → meets_choices line.choices.items call ≡ meets_all seen call) → 0 < length (filter (λ call. meets_all terms call) calls) → IsMetBy calls line
-end_met calls terms seen line same says some =
-    more_pass (λ call. meets_all terms call) (λ call. meets_line line call) (λ call holds. says call ∙ ap (λ all. meets_all all call) same ∙ holds) calls
-    (some_pass (λ call. meets_all terms call) calls some)
+pub end_met : (calls : List Record) (choices : List Choice) (line : Line) → ((call : Record) → meets_line line call ≡ meets_choices choices call)
+    → 0 < length (filter (λ call. meets_choices choices call) calls) → IsMetBy calls line
+end_met calls choices line says some =
+    more_pass (λ call. meets_choices choices call) (λ call. meets_line line call) (λ call holds. says call ∙ holds) calls
+    (some_pass (λ call. meets_choices choices call) calls some)
 
 pub still_met : (calls : List Record) (line both : Line) (first : Record → Bool) → ((call : Record) → meets_line both call ≡ (first call || meets_line line call))
     → IsMetBy calls line → IsMetBy calls both
 still_met calls line both first says met =
     more_pass (λ call. meets_line line call) (λ call. meets_line both call) (λ call holds. says call ∙ second_holds (first call) (meets_line line call) holds) calls met
+
+pub same_met : (calls : List Record) (line written : Line) → ((call : Record) → meets_line written call ≡ meets_line line call) → IsMetBy calls line → IsMetBy calls written
+same_met calls line written says met = more_pass (λ call. meets_line line call) (λ call. meets_line written call) (λ call holds. says call ∙ holds) calls met
 
 pub all_but : (calls : List Record) (lines : List Line) (i : ℕ) → All (IsMetBy calls) lines → All (IsMetBy calls) (remove lines i)
 all_but calls lines i all =

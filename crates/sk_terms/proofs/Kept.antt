@@ -1,14 +1,13 @@
 -- A list in which an element is put in or taken out.
-use Rattle.std.proofs.Common.{◌≡◌, ℕ, zero, suc, ◌+◌, ◌<◌, ◌&&◌, ◌||◌, Bool, true, false, List, [], ◌∷◌, take, drop, length, get_or, sym, ap, ◌∙◌, refl, arith}
+use Rattle.std.proofs.Common.{◌≡◌, ℕ, zero, suc, ◌+◌, ◌<◌, ◌&&◌, ◌||◌, Bool, true, false, List, [], ◌∷◌, take, drop, length, get_or, not, Option, Some, IfSome, subst, sym, ap, ◌∙◌, refl, arith}
 use Rattle.std.specs.List.{list_all, list_any, insert, remove}
 use Rattle.std.proofs.lemmas.List.{take-append-drop}
 use Rattle.std.proofs.lemmas.List.Folds.{list_all-append, list_any-append}
 use Rattle.sk_insn.specs.declared.record.Record.{Record}
 use Rattle.sk_terms.specs.declared.choices.Choice.{Choice}
-use Rattle.sk_terms.specs.declared.joining.Joined.{Joined}
 use Rattle.sk_terms.specs.declared.term.Term.{Term}
-use Rattle.sk_terms.specs.Terms.{holds_term, holds_joined}
-use Rattle.sk_terms.specs.Lines.{meets_all, holds_choice, meets_choices}
+use Rattle.sk_terms.specs.Terms.{holds_term}
+use Rattle.sk_terms.specs.Lines.{holds_choice, holds_none, holds_one, meets_choices}
 use Rattle.sk_terms.proofs.Meeting.{swapped, parted}
 use Rattle.sk_terms.proofs.Together.{and_true}
 
@@ -25,15 +24,15 @@ all_without p (x ∷ xs) zero d less = swapped (p x) (list_all p xs)
 all_without p (x ∷ xs) (suc i) d less =
     ap (λ b. p x && b) (all_without p xs i d (omega arith)) ∙ parted (p x) (list_all p (remove xs i)) (p (get_or xs i d))
 
--- a term that is put together with another one takes the place of both
-pub put_together : (terms seen kept : List Term) (at : ℕ) (term : Term) (joined : Joined) (call : Record) → seen ≡ terms → at < length seen → kept ≡ remove terms at
-    → holds_joined joined call ≡ (holds_term (get_or seen at term) call && holds_term term call)
-    → (meets_all kept call && holds_joined joined call) ≡ (meets_all terms call && holds_term term call)
-put_together terms seen kept at term joined call same less is both =
-    ap (λ b. meets_all kept call && b) both
-    ∙ parted (meets_all kept call) (holds_term (get_or seen at term) call) (holds_term term call)
-    ∙ ap (λ xs. (meets_all xs call && holds_term (get_or seen at term) call) && holds_term term call) (is ∙ ap (λ xs. remove xs at) (sym same))
-    ∙ ap (λ b. b && holds_term term call) (sym (all_without (λ t. holds_term t call) seen at term less) ∙ ap (λ xs. meets_all xs call) same)
+-- a choice that is put together with another one takes the place of both
+pub put_together : (choices seen kept : List Choice) (at : ℕ) (choice joined : Choice) (call : Record) → seen ≡ choices → at < length seen → kept ≡ remove choices at
+    → holds_choice joined call ≡ (holds_choice (get_or seen at choice) call && holds_choice choice call)
+    → (meets_choices kept call && holds_choice joined call) ≡ (meets_choices choices call && holds_choice choice call)
+put_together choices seen kept at choice joined call same less is both =
+    ap (λ b. meets_choices kept call && b) both
+    ∙ parted (meets_choices kept call) (holds_choice (get_or seen at choice) call) (holds_choice choice call)
+    ∙ ap (λ xs. (meets_choices xs call && holds_choice (get_or seen at choice) call) && holds_choice choice call) (is ∙ ap (λ xs. remove xs at) (sym same))
+    ∙ ap (λ b. b && holds_choice choice call) (sym (all_without (λ c. holds_choice c call) seen at choice less) ∙ ap (λ xs. meets_choices xs call) same)
 
 or_swapped : (a b : Bool) → (a || b) ≡ (b || a)
 or_swapped true true = refl
@@ -135,3 +134,20 @@ others_same one other at call before behind =
     ∙ ap (λ b. b && meets_choices (drop (at + 1) one) call) before
     ∙ ap (λ b. meets_choices (take at other) call && b) behind
     ∙ sym (all_removed p other at)
+
+-- none of some terms holds
+pub none_holds : (terms : List Term) (call : Record) → holds_none terms call ≡ not (holds_one terms call)
+none_holds [] call = refl
+none_holds (term ∷ terms) call = ap (λ b. not (holds_term term call) && b) (none_holds terms call) ∙ apart (holds_term term call) (holds_one terms call) where
+  apart : (a b : Bool) → (not a && not b) ≡ not (a || b)
+  apart true b = refl
+  apart false b = refl
+
+pub known : {X : Type 0} (found : Option X) (x : X) (p : X → Type 0) → found ≡ Some x → IfSome found p → p x
+known found x p is holds = subst (λ it. IfSome it p) is holds
+
+-- one of some terms more may hold beside a term
+pub one_more_within : (old term seen other now joined : Bool) → now ≡ (old || (term && seen)) → joined ≡ (term && other) → (now || joined) ≡ (old || (term && (seen || other)))
+one_more_within old true seen other now joined e f = ap (λ n. n || joined) e ∙ ap (λ j. (old || seen) || j) f ∙ sym (or_parted old seen other)
+one_more_within true false seen other now joined e f = ap (λ n. n || joined) e
+one_more_within false false seen other now joined e f = ap (λ n. n || joined) e ∙ f

@@ -4,6 +4,7 @@ pub mod Ends
 pub mod Meeting
 pub mod Together
 pub mod Borders
+pub mod Multiples
 pub mod Kept
 pub mod Telling
 pub mod WorkedTerms

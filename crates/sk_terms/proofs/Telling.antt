@@ -1,5 +1,5 @@
 -- The values of the lines that a call meets.
-use Rattle.std.proofs.Common.{◌≡◌, ℕ, zero, suc, ◌<◌, ◌≤◌, ◌||◌, Bool, true, false, if◌then◌else◌, List, [], ◌∷◌, ◌++◌, length, get_or, Option, sym, ap, subst, ◌∙◌, refl, arith, append_assoc, length-append}
+use Rattle.std.proofs.Common.{◌≡◌, ℕ, zero, suc, ◌<◌, ◌≤◌, ◌||◌, Bool, true, false, if◌then◌else◌, List, [], ◌∷◌, ◌++◌, length, get_or, Option, sym, ap, subst, ◌∙◌, refl, arith, append_assoc, append-nil, length-append}
 use Rattle.std.specs.List.{remove}
 use Rattle.sk_insn.specs.declared.record.Record.{Record}
 use Rattle.sk_terms.specs.declared.lines.LeftOut.{LeftOut}
@@ -77,3 +77,10 @@ shown_once (End otherwise) value = by_test (same_end value otherwise) where
   by_test : (b : Bool) → length (if b then [] else value ∷ []) ≤ 1
   by_test true = omega arith
   by_test false = omega arith
+
+pub told_pushed : (lines : List Line) (line : Line) (call : Record) → told_by (lines ++ (line ∷ [])) call ≡ told_by lines call ++ told_alone line call
+told_pushed lines line call =
+    told_append lines (line ∷ []) call ∙ ap (λ xs. told_by lines call ++ xs) (told_cons line [] call ∙ append-nil (told_alone line call))
+
+pub told_same : (written line : Line) (call : Record) → written.value ≡ line.value → meets_line written call ≡ meets_line line call → told_alone written call ≡ told_alone line call
+told_same written line call value met = ap (λ v. alone (meets_line written call) v) value ∙ ap (λ b. alone b line.value) met

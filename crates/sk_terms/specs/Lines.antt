@@ -1,5 +1,5 @@
 -- Lines of terms, and what they tell of a call.
-use Rattle.std.specs.Prelude.{ℕ, ◌≡◌, ◌==◌, Bool, true, false, if◌then◌else◌, List, [], ◌∷◌, map, filter, Option, Some, None}
+use Rattle.std.specs.Prelude.{ℕ, ◌≡◌, ◌==◌, not, Bool, true, false, if◌then◌else◌, List, [], ◌∷◌, map, filter, Option, Some, None}
 use Rattle.std.specs.List.{Any, list_all, list_any}
 use Rattle.sk_insn.specs.declared.record.Record.{Record}
 use Rattle.sk_terms.specs.declared.choices.Choice.{Choice}
@@ -15,16 +15,23 @@ use Rattle.sk_terms.specs.Terms.{holds_term}
 abbrev pub meets_all : List Term → Record → Bool
 meets_all terms call = list_all (λ term. holds_term term call) terms
 
-abbrev pub meets_clause : Clause → Record → Bool
-meets_clause Never call = false
-meets_clause (All terms) call = meets_all terms.items call
-
 -- one of the terms holds
+abbrev pub holds_one : List Term → Record → Bool
+holds_one terms call = list_any (λ term. holds_term term call) terms
+
+-- none of them does
+abbrev pub holds_none : List Term → Record → Bool
+holds_none terms call = list_all (λ term. not (holds_term term call)) terms
+
 abbrev pub holds_choice : Choice → Record → Bool
-holds_choice choice call = list_any (λ term. holds_term term call) choice.terms.items
+holds_choice choice call = holds_one choice.terms.items call
 
 abbrev pub meets_choices : List Choice → Record → Bool
 meets_choices choices call = list_all (λ choice. holds_choice choice call) choices
+
+abbrev pub meets_clause : Clause → Record → Bool
+meets_clause Never call = false
+meets_clause (All choices) call = meets_choices choices.items call
 
 -- a call meets the condition of a line: of each choice one of the terms holds
 abbrev pub meets_line : Line → Record → Bool

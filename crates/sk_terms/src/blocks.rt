@@ -1,5 +1,5 @@
-//! Two terms of which one is on the higher half of a register.
-ghost use Rattle.std.specs.Prelude.{◌≡◌, ◌&&◌, ◌<◌, ◌%◌, ◌^◌, ◌+◌, IfSome, IsTrue};
+//! A term on more bits, and two terms of which one is on the lower half of a register.
+ghost use Rattle.std.specs.Prelude.{◌≡◌, ◌&&◌, ◌<◌, ◌%◌, ◌^◌, ◌+◌, ◌-◌, ◌≤◌, ℕ, bit_and, IfSome, IsSome};
 ghost use Rattle.sk_insn.specs.declared.record.Record.{Record};
 ghost use Rattle.sk_terms.specs.Terms.{holds_term, holds_joined};
 
@@ -10,49 +10,83 @@ use crate::term::Term;
 /// The first number of the higher half.
 const BORDER: u64 = 1 << 32;
 
-/// What two terms come to where both hold, if the first one is on the higher half alone, or leaves that half no choice.
+/// The same on more bits, which all lie below its own: a range of the upper bits of a number is one of the number.
+pub fn lifted(term: Term, mask: u64) -> Option<Term>
+    ensures register { IfSome result (λ it. it.register ≡ term.register) }
+    ensures mask { IfSome result (λ it. it.mask ≡ mask) }
+    ensures holds { IfSome result (λ it. (call : Record) → holds_term it call ≡ holds_term term call) }
+{
+    if term.mask == mask {
+        return Some(term);
+    }
+    if mask < term.mask {
+        return None;
+    }
+    let more = mask - term.mask;
+    let step = lowest_bit(term.mask)?;
+    if step <= more || term.mask & more != 0 {
+        return None;
+    }
+    let first = from_multiple(term.first, step)?;
+    let last = term.last - term.last % step;
+    if u64::MAX - more < last {
+        return None;
+    }
+    Some(Term {
+        mask,
+        first,
+        last: last + more,
+        ..term
+    })
+}
+
+// The lowest of some bits.
+fn lowest_bit(mask: u64) -> Option<u64>
+    ensures bit { IfSome result (λ bit. (place : ℕ) × (bit ≡ 2 ^ place)) }
+    ensures lowest { IfSome result (λ bit. mask % bit ≡ 0) }
+    ensures some { IfSome result (λ bit. 0 < bit) }
+{
+    let place = mask.trailing_zeros();
+    if place >= 64 {
+        return None;
+    }
+    let bit = 1u64 << place;
+    if bit == 0 || mask % bit != 0 {
+        return None;
+    }
+    Some(bit)
+}
+
+// The first multiple of a step that is not below a number.
+fn from_multiple(number: u64, step: u64) -> Option<u64>
+    requires step { 0 < step }
+    ensures multiple { IfSome result (λ it. it % step ≡ 0) }
+    ensures next { IfSome result (λ it. (number ≤ it) × (it < number + step)) }
+{
+    let beyond = number % step;
+    if beyond == 0 {
+        return Some(number);
+    }
+    let below = number - beyond;
+    if u64::MAX - step < below {
+        return None;
+    }
+    Some(below + step)
+}
+
+/// What two terms come to where both hold, if the second one is on the lower half, and the first one on the higher half too,
+/// to which it leaves one number.
 pub fn with_halves(one: Term, other: Term) -> Option<Joined>
     requires register { one.register ≡ other.register }
     ensures both { IfSome result (λ it. (call : Record) → holds_joined it call ≡ (holds_term one call && holds_term other call)) }
 {
-    let low = other.mask % BORDER;
-    if is_high(one) && one.mask == other.mask - low {
-        return on_same_bits(widened(one, low), other);
-    }
-    if other.mask != low {
+    if other.mask >= BORDER {
         return None;
     }
-    if is_high(one) {
-        return in_block(widened(one, low), other);
-    }
-    if one.mask % BORDER == low {
-        return in_block(one, other);
-    }
-    None
-}
-
-// Whether the term is one number of the higher half alone, or all but one.
-fn is_high(term: Term) -> bool
-    ensures high { IsTrue result → (term.first ≡ term.last) × (term.mask % 2 ^ 32 ≡ 0) × (term.first % 2 ^ 32 ≡ 0) }
-{
-    term.first == term.last && term.mask % BORDER == 0 && term.first % BORDER == 0
-}
-
-// The same on more bits, of the lower half, whatever they are.
-fn widened(term: Term, low: u64) -> Term
-    requires one { term.first ≡ term.last }
-    requires mask { term.mask % 2 ^ 32 ≡ 0 }
-    requires first { term.first % 2 ^ 32 ≡ 0 }
-    requires low { low < 2 ^ 32 }
-    ensures register { result.register ≡ term.register }
-    ensures mask { result.mask ≡ term.mask + low }
-    ensures holds { (call : Record) → holds_term result call ≡ holds_term term call }
-{
-    Term {
-        mask: term.mask + low,
-        last: term.first + (BORDER - 1),
-        ..term
-    }
+    let bits = one.mask | other.mask;
+    let block = lifted(one, bits)?;
+    let low = lifted(other, bits % BORDER)?;
+    in_block(block, low)
 }
 
 // A range in which the higher half is one number, and a term on the lower half.
@@ -68,11 +102,11 @@ fn in_block(block: Term, low: Term) -> Option<Joined>
         return None;
     }
     let base = block.first - block.first % BORDER;
-    let lifted = Term {
+    let in_range = Term {
         mask: block.mask,
         first: base + low.first,
         last: base + low.last,
         ..low
     };
-    on_same_bits(block, lifted)
+    on_same_bits(block, in_range)
 }

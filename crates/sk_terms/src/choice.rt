@@ -70,9 +70,9 @@ fn place_of(weights: &[Weight], value: Option<u32>) -> Option<usize>
     weights.iter().position(|weight| weight.value == value)
 }
 
-// A term with a range that it leaves out reads hard.
+// A term that leaves a range out is told by two ranges.
 fn weight_of(line: &Line) -> u64 {
-    let mut weight = 1u64;
+    let mut weight = 3u64;
     for choice in &line.choices {
         weight = weight.saturating_add(weight_of_terms(&choice.terms));
     }
@@ -82,7 +82,7 @@ fn weight_of(line: &Line) -> u64 {
 fn weight_of_terms(terms: &[Term]) -> u64 {
     let mut weight = 0u64;
     for term in terms {
-        let more = if term.inside { 1 } else { 8 };
+        let more = if term.inside { 1 } else { 2 };
         weight = weight.saturating_add(more);
     }
     weight

@@ -3,7 +3,7 @@ ghost use Rattle.std.specs.Prelude.{◌≡◌, ◌&&◌, ◌||◌, true, bit_and
 ghost use Rattle.sk_insn.specs.declared.record.Record.{Record};
 ghost use Rattle.sk_terms.specs.Terms.{holds_term, holds_joined, is_equality, is_inequality};
 
-use crate::blocks::with_halves;
+use crate::blocks::{lifted, with_halves};
 use crate::ranges::on_same_bits;
 use crate::term::Term;
 
@@ -28,6 +28,17 @@ pub fn both(one: Term, other: Term) -> Option<Joined>
         return on_same_bits(one, other);
     }
     match on_other_bits(one, other) {
+        None => on_all_bits(one, other),
+        joined => joined,
+    }
+}
+
+// The same of two terms on bits that differ, where both are terms on the bits of both, or one on a whole half.
+fn on_all_bits(one: Term, other: Term) -> Option<Joined>
+    requires register { one.register ≡ other.register }
+    ensures both { IfSome result (λ it. (call : Record) → holds_joined it call ≡ (holds_term one call && holds_term other call)) }
+{
+    match on_bits_of_both(one, other) {
         None => match with_halves(one, other) {
             None => with_halves(other, one),
             joined => joined,
@@ -36,7 +47,18 @@ pub fn both(one: Term, other: Term) -> Option<Joined>
     }
 }
 
-// The same of two terms on bits that differ.
+// The same of two terms that are terms on the bits of both.
+fn on_bits_of_both(one: Term, other: Term) -> Option<Joined>
+    requires register { one.register ≡ other.register }
+    ensures both { IfSome result (λ it. (call : Record) → holds_joined it call ≡ (holds_term one call && holds_term other call)) }
+{
+    let bits = one.mask | other.mask;
+    let first = lifted(one, bits)?;
+    let second = lifted(other, bits)?;
+    on_same_bits(first, second)
+}
+
+// The same of two terms on bits that differ, of which one tells the other's answer, or both are equalities.
 fn on_other_bits(one: Term, other: Term) -> Option<Joined>
     requires register { one.register ≡ other.register }
     ensures both { IfSome result (λ it. (call : Record) → holds_joined it call ≡ (holds_term one call && holds_term other call)) }
@@ -60,18 +82,6 @@ pub fn as_one(one: Term, other: Term) -> Option<Term>
     }
 }
 
-/// Whether one of two terms holds on every call, if that is seen.
-pub fn are_all(one: Term, other: Term) -> bool
-    ensures all { IsTrue result → (call : Record) → (holds_term one call || holds_term other call) ≡ true }
-{
-    let not_one = one.negated();
-    let not_other = other.negated();
-    match both(not_one, not_other) {
-        Some(Joined::Never) => true,
-        _ => false,
-    }
-}
-
 /// The term that holds where one of two does, if that is seen.
 pub fn either(one: Term, other: Term) -> Option<Term>
     ensures either { IfSome result (λ it. (call : Record) → holds_term it call ≡ (holds_term one call || holds_term other call)) }
@@ -80,7 +90,8 @@ pub fn either(one: Term, other: Term) -> Option<Term>
     let not_other = other.negated();
     match both(not_one, not_other) {
         Some(Joined::One(neither)) => Some(neither.negated()),
-        _ => None,
+        Some(Joined::Never) => Some(one.any()),
+        None => None,
     }
 }
 

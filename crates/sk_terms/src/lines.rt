@@ -3,13 +3,13 @@ ghost use Rattle.std.specs.Prelude.{◌≡◌, ◌<◌, ◌++◌, if◌then◌el
 ghost use Rattle.std.specs.List.{All};
 ghost use Rattle.sk_insn.specs.declared.record.Record.{Record};
 ghost use Rattle.sk_terms.specs.Decisions.{decided, EachEndIsMetBy};
-ghost use Rattle.sk_terms.specs.Lines.{meets_all, meets_clause, told_by, shown, same_end, IsMetBy};
+ghost use Rattle.sk_terms.specs.Lines.{meets_choices, meets_clause, told_by, shown, same_end, IsMetBy};
 
-use crate::choices::{Choice, choices_of};
+use crate::choices::Choice;
 use crate::clause::{Clause, with_other_term, with_term};
 use crate::decision::Decision;
+use crate::forms::{settled, written};
 use crate::merging::merged;
-use crate::term::Term;
 use std::alloc::{AllocError, Global};
 
 /// A value, or none where it is not told, and the condition under which it comes: of each choice one term holds.
@@ -40,7 +40,20 @@ pub fn lines_of(
     let mut lines = Vec::new(alloc);
     let every = Clause::All(Vec::new(alloc));
     add_lines(alloc, decision, every, left_out, &mut lines)?;
-    merged(alloc, lines)
+    let merged = merged(alloc, lines)?;
+    all_written(alloc, merged)
+}
+
+fn all_written(alloc: Global, lines: Vec<Line>) -> Result<Vec<Line>, AllocError>
+    ensures told { IfOk result (λ written. (call : Record) → told_by written.items call ≡ told_by lines.items call) }
+    ensures met { IfOk result (λ written. (calls : List Record) → All (IsMetBy calls) lines.items → All (IsMetBy calls) written.items) }
+{
+    let mut all = Vec::with_capacity(alloc, lines.len())?;
+    for line in lines {
+        let told = written(alloc, line)?;
+        all.push(told)?;
+    }
+    Ok(all)
 }
 
 /// Adds the lines of a tree, for the calls that meet a clause.
@@ -56,16 +69,16 @@ pub fn add_lines(
     ensures met { OnOk result ((calls : List Record) → EachEndIsMetBy (filter (λ call. meets_clause clause call) calls) decision.now
         → All (IsMetBy calls) lines.old.items → All (IsMetBy calls) lines.new.items) }
 {
-    let Clause::All(terms) = clause else {
+    let Clause::All(choices) = clause else {
         return Ok(());
     };
     match decision {
-        Decision::Is(value) => add_end(alloc, lines, left_out, Some(*value), terms),
-        Decision::Untold => add_end(alloc, lines, left_out, None, terms),
+        Decision::Is(value) => add_end(alloc, lines, left_out, Some(*value), choices),
+        Decision::Untold => add_end(alloc, lines, left_out, None, choices),
         Decision::Ask(term, held, failed) => {
-            let yes = with_other_term(alloc, &terms, *term)?;
+            let yes = with_other_term(alloc, &choices, *term)?;
             add_lines(alloc, held, yes, left_out, lines)?;
-            let no = with_term(terms, term.negated())?;
+            let no = with_term(alloc, choices, term.negated())?;
             let otherwise: &Decision = failed;
             add_lines(alloc, otherwise, no, left_out, lines)
         }
@@ -77,17 +90,17 @@ fn add_end(
     lines: &mut Vec<Line>,
     left_out: LeftOut,
     value: Option<u32>,
-    terms: Vec<Term>,
+    choices: Vec<Choice>,
 ) -> Result<(), AllocError>
     ensures told { OnOk result ((call : Record) → told_by lines.new.items call
-        ≡ told_by lines.old.items call ++ (if meets_all terms.items call then shown left_out value else [])) }
-    ensures met { OnOk result ((calls : List Record) → 0 < length (filter (λ call. meets_all terms.items call) calls)
+        ≡ told_by lines.old.items call ++ (if meets_choices choices.items call then shown left_out value else [])) }
+    ensures met { OnOk result ((calls : List Record) → 0 < length (filter (λ call. meets_choices choices.items call) calls)
         → All (IsMetBy calls) lines.old.items → All (IsMetBy calls) lines.new.items) }
 {
     if is_left_out(left_out, value) {
         return Ok(());
     }
-    let choices = choices_of(alloc, &terms)?;
+    let choices = settled(alloc, choices)?;
     lines.push(Line { value, choices })?;
     Ok(())
 }

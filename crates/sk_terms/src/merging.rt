@@ -1,20 +1,17 @@
 //! Lines of one value that differ in one choice, told as one line.
 ghost use Rattle.std.specs.Prelude.{◌≡◌, ◌≤◌, ◌<◌, ◌+◌, ◌++◌, ◌||◌, List, length, take, slice_index_or, true, IfOk, OnOk, IfSome, IsTrue};
-ghost use Rattle.std.specs.List.{All, remove, list_any};
+ghost use Rattle.std.specs.List.{All, remove};
 ghost use Rattle.sk_insn.specs.declared.record.Record.{Record};
-ghost use Rattle.sk_terms.specs.Terms.{holds_term};
 ghost use Rattle.sk_terms.specs.Lines.{holds_choice, meets_choices, meets_line, told_by, told_alone, IsMetBy};
 ghost use Rattle.sk_terms.specs.Merging.{DifferIn};
 
-use crate::choices::{Choice, with_terms};
-use crate::joining::are_all;
+use crate::choices::{Choice, can_be_on, is_any, united};
 use crate::lines::Line;
-use crate::term::Term;
-use crate::width::is_short_with;
+use crate::term::{REGISTERS, Register, Term};
 use std::alloc::{AllocError, Global};
 
 /// How many lines back one is looked for that differs in one choice.
-const MOST_BACK: usize = 64;
+const MOST_BACK: usize = 256;
 
 /// A place in a list of lines, and the one choice in which the line there differs from another one.
 #[derive(Clone, Copy, Debug)]
@@ -23,75 +20,102 @@ struct Partner {
     choice: usize,
 }
 
-/// Lines of which each call meets one at most, those of one value put together that differ in one choice and stay short.
+/// Lines of which each call meets one at most, those of one value put together that differ in one register alone.
 pub fn merged(alloc: Global, lines: Vec<Line>) -> Result<Vec<Line>, AllocError>
+    ensures told { IfOk result (λ merged. (call : Record) → length (told_by lines.items call) ≤ 1 → told_by merged.items call ≡ told_by lines.items call) }
+    ensures met { IfOk result (λ merged. (calls : List Record) → All (IsMetBy calls) lines.items → All (IsMetBy calls) merged.items) }
+{
+    let before = lines.len();
+    let fewer = merged_once(alloc, lines)?;
+    if fewer.len() < before {
+        return merged(alloc, fewer);
+    }
+    Ok(fewer)
+}
+
+// The same, each register looked at once, the last one first.
+fn merged_once(alloc: Global, lines: Vec<Line>) -> Result<Vec<Line>, AllocError>
+    ensures told { IfOk result (λ merged. (call : Record) → length (told_by lines.items call) ≤ 1 → told_by merged.items call ≡ told_by lines.items call) }
+    ensures met { IfOk result (λ merged. (calls : List Record) → All (IsMetBy calls) lines.items → All (IsMetBy calls) merged.items) }
+{
+    let mut merged = lines;
+    for register in REGISTERS {
+        merged = merged_in(alloc, merged, register)?;
+    }
+    Ok(merged)
+}
+
+// The same of lines that differ in this register.
+fn merged_in(alloc: Global, lines: Vec<Line>, register: Register) -> Result<Vec<Line>, AllocError>
     ensures told { IfOk result (λ merged. (call : Record) → length (told_by lines.items call) ≤ 1 → told_by merged.items call ≡ told_by lines.items call) }
     ensures met { IfOk result (λ merged. (calls : List Record) → All (IsMetBy calls) lines.items → All (IsMetBy calls) merged.items) }
 {
     let mut merged = Vec::with_capacity(alloc, lines.len())?;
     for line in lines {
-        add(&mut merged, line)?;
+        add(alloc, &mut merged, line, register)?;
     }
     Ok(merged)
 }
 
 // Adds a line that no call meets which meets one of the others.
-fn add(lines: &mut Vec<Line>, line: Line) -> Result<(), AllocError>
+fn add(
+    alloc: Global,
+    lines: &mut Vec<Line>,
+    line: Line,
+    register: Register,
+) -> Result<(), AllocError>
     ensures told { OnOk result ((call : Record) → length (told_by lines.old.items call ++ told_alone line call) ≤ 1
         → told_by lines.new.items call ≡ told_by lines.old.items call ++ told_alone line call) }
     ensures met { OnOk result ((calls : List Record) → All (IsMetBy calls) lines.old.items → IsMetBy calls line → All (IsMetBy calls) lines.new.items) }
 {
-    let Some(partner) = partner_of(lines, &line) else {
+    let Some(partner) = partner_of(lines, &line, register) else {
         lines.push(line)?;
         return Ok(());
     };
     let other = lines.remove(partner.at);
-    let both = together(other, line, partner.choice)?;
-    add(lines, both)
+    let both = together(alloc, other, line, partner.choice)?;
+    lines.push(both)?;
+    Ok(())
 }
 
 // A line that is met where one of two is which differ in one choice.
-fn together(one: Line, other: Line, at: usize) -> Result<Line, AllocError>
+fn together(alloc: Global, one: Line, other: Line, at: usize) -> Result<Line, AllocError>
     requires differ { DifferIn one other at }
     ensures value { IfOk result (λ both. both.value ≡ one.value) }
     ensures met { IfOk result (λ both. (call : Record) → meets_line both call ≡ (meets_line one call || meets_line other call)) }
 {
     let Line { value, mut choices } = one;
     let choice = choices.remove(at);
-    let others = other.choices[at].terms.as_slice();
-    if cover_all(&choice.terms, others) {
+    let another = &other.choices[at];
+    let bits = bits_of(&choice) | bits_of(another);
+    let both = united(alloc, &choice.terms, &another.terms, bits)?;
+    if is_any(&both.terms) {
         return Ok(Line { value, choices });
     }
-    let both = with_terms(choice, others)?;
     choices.insert(at, both)?;
     Ok(Line { value, choices })
 }
 
-// Whether one of two terms always holds.
-fn cover_all(one: &[Term], other: &[Term]) -> bool
-    ensures all { IsTrue result → (call : Record) → (list_any (λ term. holds_term term call) one.now || list_any (λ term. holds_term term call) other.now) ≡ true }
-{
-    match (one, other) {
-        ([term], [another]) => are_all(*term, *another),
-        _ => false,
-    }
+// All bits of which one of the terms tells something.
+fn bits_of(choice: &Choice) -> u64 {
+    choice.terms.iter().fold(0, |bits, term| bits | term.mask)
 }
 
-// A line that differs in one choice, among the last ones.
-fn partner_of(lines: &[Line], line: &Line) -> Option<Partner>
+// A line that differs in this register alone, among the last ones.
+fn partner_of(lines: &[Line], line: &Line, register: Register) -> Option<Partner>
     ensures there { IfSome result (λ partner. partner.at < length lines.now) }
     ensures differ { IfSome result (λ partner. DifferIn (slice_index_or lines.now partner.at line.now) line.now partner.choice) }
 {
     for at in lines.len().saturating_sub(MOST_BACK)..lines.len() {
-        if let Some(choice) = differing(&lines[at], line) {
+        if let Some(choice) = differing(&lines[at], line, register) {
             return Some(Partner { at, choice });
         }
     }
     None
 }
 
-// The one choice in which two lines of one value differ, where they are short together.
-fn differing(one: &Line, other: &Line) -> Option<usize>
+// The one choice in which two lines of one value differ, where it is on this register and has a form in both together.
+fn differing(one: &Line, other: &Line, register: Register) -> Option<usize>
     ensures differ { IfSome result (λ at. DifferIn one.now other.now at) }
 {
     if !same_value(one.value, other.value) {
@@ -103,7 +127,7 @@ fn differing(one: &Line, other: &Line) -> Option<usize>
     if at >= choices.len().min(others.len()) {
         return None;
     }
-    if !is_short_with(one, &choices[at], &others[at]) {
+    if !have_form(&choices[at], &others[at], register) {
         return None;
     }
     if same_choices(&choices[at + 1..], &others[at + 1..]) {
@@ -111,6 +135,16 @@ fn differing(one: &Line, other: &Line) -> Option<usize>
     } else {
         None
     }
+}
+
+// Whether two choices are on this register, and all their ranges can be told on the same bits.
+fn have_form(one: &Choice, other: &Choice, register: Register) -> bool {
+    let bits = bits_of(one) | bits_of(other);
+    is_on(one, register) && is_on(other, register) && can_be_on(one, bits) && can_be_on(other, bits)
+}
+
+fn is_on(choice: &Choice, register: Register) -> bool {
+    choice.terms.iter().all(|term| term.register == register)
 }
 
 fn same_value(one: Option<u32>, other: Option<u32>) -> bool

@@ -14,6 +14,18 @@ pub enum Register {
     Argument(u8),
 }
 
+/// The registers, the last one first.
+pub const REGISTERS: [Register; 8] = [
+    Register::Argument(5),
+    Register::Argument(4),
+    Register::Argument(3),
+    Register::Argument(2),
+    Register::Argument(1),
+    Register::Argument(0),
+    Register::Pointer,
+    Register::Number,
+];
+
 impl Register {
     // Where its terms stand in a condition.
     fn rank(self) -> u16 {
@@ -60,6 +72,25 @@ impl Term {
         ensures all_but_one { result ≡ is_inequality self.now }
     {
         !self.inside && self.first == self.last
+    }
+
+    /// The same bits, whatever their number is.
+    pub fn any(self) -> Term
+        ensures any { (call : Record) → holds_term result call ≡ true }
+    {
+        Term {
+            first: 0,
+            last: self.mask,
+            inside: true,
+            ..self
+        }
+    }
+
+    /// Whether each number of its bits lies in its range.
+    pub fn is_any(&self) -> bool
+        ensures any { IsTrue result → (call : Record) → holds_term self.now call ≡ true }
+    {
+        self.inside && self.first == 0 && self.mask <= self.last
     }
 
     /// The term that holds where this one does not.

@@ -1,7 +1,7 @@
 use Rattle.std.proofs.Common.{◌++◌, ◌&&◌, not, if◌then◌else◌, [], filter, ap, sym, subst, ◌∙◌}
 use Rattle.std.proofs.lemmas.Result.{on_ok_weaker}
 use Rattle.sk_terms.specs.Decisions.{decided, EachEndIsMetBy}
-use Rattle.sk_terms.specs.Lines.{meets_all, meets_clause, told_by, shown}
+use Rattle.sk_terms.specs.Lines.{meets_choices, meets_clause, told_by, shown}
 use Rattle.sk_terms.specs.Terms.{holds_term}
 use Rattle.sk_terms.proofs.Ends.{both_hold, passes_both}
 use Rattle.sk_terms.proofs.Meeting.{parted_lines}
@@ -11,33 +11,33 @@ pub returns-in_ok-no-in-Ask-clause-told : goal.returns-in_ok-no-in-Ask-clause-to
 returns-in_ok-no-in-Ask-clause-told t c =
     on_ok_weaker c.add_lines-in-Ask.result (λ h call.
     parted_lines (shown c.args.left_out) (told_by c.args.lines.now.items call) (told_by c.add_lines.new.lines.items call) (told_by c.add_lines-in-Ask.new.lines.items call)
-    (meets_all c.in-All.terms.items call) (meets_clause c.in_ok-yes-in-Ask.yes call) (meets_clause c.in_ok-no-in-Ask.no call) (holds_term c.in-Ask.term call)
+    (meets_choices c.in-All.choices.items call) (meets_clause c.in_ok-yes-in-Ask.yes call) (meets_clause c.in_ok-no-in-Ask.no call) (holds_term c.in-Ask.term call)
     (decided c.in-Ask.held.value call) (decided c.in-Ask.failed.value call)
     (c.in_ok-add_lines-in-Ask.ensures.told call
     ∙ ap (λ tree. told_by c.args.lines.now.items call ++ (if meets_clause c.in_ok-yes-in-Ask.yes call then shown c.args.left_out (decided tree call) else [])) c.deref-in-Ask.ensures)
     (h call
     ∙ ap (λ tree. told_by c.add_lines.new.lines.items call ++ (if meets_clause c.in_ok-no-in-Ask.no call then shown c.args.left_out (decided tree call) else [])) c.deref-otherwise.ensures)
-    (c.in_ok-yes-in-Ask.ensures.meets call ∙ ap (λ terms. meets_all terms call && holds_term c.in-Ask.term call) c.deref.ensures.value)
-    (c.in_ok-no-in-Ask.ensures.meets call ∙ ap (λ b. meets_all c.in-All.terms.items call && b) (c.negated.ensures.negated call))
-    ∙ ap (λ tree. told_by c.args.lines.now.items call ++ (if meets_all c.in-All.terms.items call then shown c.args.left_out (decided tree call) else [])) (sym c.in-Ask.is)
+    (c.in_ok-yes-in-Ask.ensures.meets call ∙ ap (λ choices. meets_choices choices call && holds_term c.in-Ask.term call) c.deref.ensures.value)
+    (c.in_ok-no-in-Ask.ensures.meets call ∙ ap (λ b. meets_choices c.in-All.choices.items call && b) (c.negated.ensures.negated call))
+    ∙ ap (λ tree. told_by c.args.lines.now.items call ++ (if meets_choices c.in-All.choices.items call then shown c.args.left_out (decided tree call) else [])) (sym c.in-Ask.is)
     ∙ ap (λ clause. told_by c.args.lines.now.items call ++ (if meets_clause clause call then shown c.args.left_out (decided c.args.decision.now call) else [])) (sym c.in-All.is)) c.add_lines-in-Ask.ensures.told
 
 pub returns-in_ok-no-in-Ask-clause-met : goal.returns-in_ok-no-in-Ask-clause-met
 returns-in_ok-no-in-Ask-clause-met t c =
-    let terms = c.in-All.terms.items in
+    let choices = c.in-All.choices.items in
     let term = c.in-Ask.term in
     on_ok_weaker c.add_lines-in-Ask.result (λ h calls met all.
     let both = subst (EachEndIsMetBy (filter (λ call. meets_clause c.args.clause call) calls)) c.in-Ask.is met in
     h calls
     (subst (EachEndIsMetBy (filter (λ call. meets_clause c.in_ok-no-in-Ask.no call) calls)) (sym c.deref-otherwise.ensures)
     (passes_both c.in-Ask.failed.value calls (λ call. meets_clause c.args.clause call) (λ call. not (holds_term term call)) (λ call. meets_clause c.in_ok-no-in-Ask.no call)
-    (λ call on fails. both_hold (meets_all terms call) (not (holds_term term call)) (meets_clause c.in_ok-no-in-Ask.no call)
-    (c.in_ok-no-in-Ask.ensures.meets call ∙ ap (λ b. meets_all terms call && b) (c.negated.ensures.negated call))
+    (λ call on fails. both_hold (meets_choices choices call) (not (holds_term term call)) (meets_clause c.in_ok-no-in-Ask.no call)
+    (c.in_ok-no-in-Ask.ensures.meets call ∙ ap (λ b. meets_choices choices call && b) (c.negated.ensures.negated call))
     (ap (λ clause. meets_clause clause call) (sym c.in-All.is) ∙ on) fails) both.1))
     (c.in_ok-add_lines-in-Ask.ensures.met calls
     (subst (EachEndIsMetBy (filter (λ call. meets_clause c.in_ok-yes-in-Ask.yes call) calls)) (sym c.deref-in-Ask.ensures)
     (passes_both c.in-Ask.held.value calls (λ call. meets_clause c.args.clause call) (λ call. holds_term term call) (λ call. meets_clause c.in_ok-yes-in-Ask.yes call)
-    (λ call on holds. both_hold (meets_all terms call) (holds_term term call) (meets_clause c.in_ok-yes-in-Ask.yes call)
-    (c.in_ok-yes-in-Ask.ensures.meets call ∙ ap (λ all. meets_all all call && holds_term term call) c.deref.ensures.value)
+    (λ call on holds. both_hold (meets_choices choices call) (holds_term term call) (meets_clause c.in_ok-yes-in-Ask.yes call)
+    (c.in_ok-yes-in-Ask.ensures.meets call ∙ ap (λ all. meets_choices all call && holds_term term call) c.deref.ensures.value)
     (ap (λ clause. meets_clause clause call) (sym c.in-All.is) ∙ on) holds) both.0))
     all)) c.add_lines-in-Ask.ensures.met

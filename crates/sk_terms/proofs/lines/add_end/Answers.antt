@@ -10,5 +10,4 @@ pub returns-clause-met : goal.returns-clause-met
 returns-clause-met c = λ calls some all.
     let line : Line = record { value = c.args.value; choices = c.in_ok-choices.choices } in
     subst (All (IsMetBy calls)) (sym c.in_ok-push.ensures.items)
-    (All-push (IsMetBy calls) c.args.lines.now.items line all
-    (end_met calls c.args.terms.items c.deref.result.now line c.deref.ensures.value c.in_ok-choices.ensures.meets some))
+    (All-push (IsMetBy calls) c.args.lines.now.items line all (end_met calls c.args.choices.items line c.in_ok-choices.ensures.meets some))

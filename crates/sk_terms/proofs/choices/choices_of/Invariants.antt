@@ -1,7 +1,0 @@
-use Rattle.std.proofs.Common.{◌≡◌, take}
-use Rattle.sk_insn.specs.declared.record.Record.{Record}
-use Rattle.sk_terms.specs.Lines.{meets_all, meets_choices}
-use Rattle.sk_terms.proofs.choices.choices_of.Given as goal
-
-abbrev pub invariant-loop-term : goal.invariant-loop-term
-invariant-loop-term l = (call : Record) → meets_choices l.choices.items call ≡ meets_all (take l.term-index l.terms) call

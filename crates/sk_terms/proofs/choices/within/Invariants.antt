@@ -1,0 +1,7 @@
+use Rattle.std.proofs.Common.{◌≡◌, ◌&&◌, take}
+use Rattle.sk_insn.specs.declared.record.Record.{Record}
+use Rattle.sk_terms.specs.Lines.{holds_one}
+use Rattle.sk_terms.proofs.choices.within.Given as goal
+
+abbrev pub invariant-loop-term : goal.invariant-loop-term
+invariant-loop-term l = (call : Record) → holds_one l.terms.items call ≡ (holds_one (take l.term-index l.one) call && holds_one l.other call)

@@ -1,0 +1,5 @@
+use Rattle.std.proofs.lemmas.Result.{IfOk-weaker}
+use Rattle.sk_terms.proofs.merging.+merged.Goals as goal
+
+pub returns-then-len-before-clause-met : goal.returns-then-len-before-clause-met
+returns-then-len-before-clause-met t c = IfOk-weaker c.merged.result _ _ (λ merged h calls all. h calls (c.in_ok-fewer.ensures.met calls all)) c.merged.ensures.met
