@@ -1,5 +1,5 @@
 //! Lines of one value that differ in one choice, told as one line.
-ghost use Rattle.std.specs.Prelude.{◌≡◌, ◌≤◌, ◌<◌, ◌+◌, ◌++◌, ◌||◌, List, length, take, slice_index_or, true, IfOk, OnOk, IfSome, IsTrue};
+ghost use Rattle.std.specs.Prelude.{◌≡◌, ◌≤◌, ◌<◌, ◌+◌, ◌++◌, ◌||◌, List, length, slice_index_or, IfOk, OnOk, IfSome, IsTrue};
 ghost use Rattle.std.specs.List.{All, remove};
 ghost use Rattle.sk_insn.specs.declared.record.Record.{Record};
 ghost use Rattle.sk_terms.specs.Lines.{holds_choice, meets_choices, meets_line, told_by, told_alone, IsMetBy};
@@ -106,45 +106,47 @@ fn partner_of(lines: &[Line], line: &Line, register: Register) -> Option<Partner
     ensures there { IfSome result (λ partner. partner.at < length lines.now) }
     ensures differ { IfSome result (λ partner. DifferIn (slice_index_or lines.now partner.at line.now) line.now partner.choice) }
 {
+    let choice = line.choices.iter().position(|choice| is_on(choice, register))?;
     for at in lines.len().saturating_sub(MOST_BACK)..lines.len() {
-        if let Some(choice) = differing(&lines[at], line, register) {
+        if differ_in(&lines[at], line, choice) {
             return Some(Partner { at, choice });
         }
     }
     None
 }
 
-// The one choice in which two lines of one value differ, where it is on this register and has a form in both together.
-fn differing(one: &Line, other: &Line, register: Register) -> Option<usize>
-    ensures differ { IfSome result (λ at. DifferIn one.now other.now at) }
+// Whether two lines of one value differ in one choice alone, and all ranges of both can be told on the same bits.
+fn differ_in(one: &Line, other: &Line, at: usize) -> bool
+    ensures differ { IsTrue result → DifferIn one.now other.now at }
 {
-    if !same_value(one.value, other.value) {
-        return None;
-    }
     let choices = one.choices.as_slice();
     let others = other.choices.as_slice();
-    let at = same_from_start(choices, others);
-    if at >= choices.len().min(others.len()) {
-        return None;
+    if !same_value(one.value, other.value) || at >= choices.len().min(others.len()) {
+        return false;
     }
-    if !have_form(&choices[at], &others[at], register) {
-        return None;
+    if !same_choices(&choices[..at], &others[..at]) {
+        return false;
     }
-    if same_choices(&choices[at + 1..], &others[at + 1..]) {
-        Some(at)
-    } else {
-        None
+    if !same_choices(&choices[at + 1..], &others[at + 1..]) {
+        return false;
     }
+    have_form(&choices[at], &others[at])
 }
 
-// Whether two choices are on this register, and all their ranges can be told on the same bits.
-fn have_form(one: &Choice, other: &Choice, register: Register) -> bool {
+// Whether all ranges of two choices can be told on the same bits of one register.
+fn have_form(one: &Choice, other: &Choice) -> bool {
+    let Some(term) = one.terms.first() else {
+        return false;
+    };
     let bits = bits_of(one) | bits_of(other);
-    is_on(one, register) && is_on(other, register) && can_be_on(one, bits) && can_be_on(other, bits)
+    is_on(other, term.register) && can_be_on(one, bits) && can_be_on(other, bits)
 }
 
 fn is_on(choice: &Choice, register: Register) -> bool {
-    choice.terms.iter().all(|term| term.register == register)
+    match choice.terms.first() {
+        Some(term) => term.register == register,
+        None => false,
+    }
 }
 
 fn same_value(one: Option<u32>, other: Option<u32>) -> bool
@@ -157,31 +159,30 @@ fn same_value(one: Option<u32>, other: Option<u32>) -> bool
     }
 }
 
-// How many choices are the same from the start on.
-fn same_from_start(one: &[Choice], other: &[Choice]) -> usize
-    ensures one { result ≤ length one.now }
-    ensures other { result ≤ length other.now }
-    ensures same { (call : Record) → meets_choices (take result one.now) call ≡ meets_choices (take result other.now) call }
-{
-    let mut at = 0;
-    while at < one.len() && at < other.len() && same_terms(&one[at].terms, &other[at].terms) {
-        at += 1;
-    }
-    at
-}
-
 fn same_choices(one: &[Choice], other: &[Choice]) -> bool
     ensures same { IsTrue result → (call : Record) → meets_choices one.now call ≡ meets_choices other.now call }
 {
-    one.len() == other.len() && same_from_start(one, other) == one.len()
+    match (one.split_first(), other.split_first()) {
+        (None, None) => true,
+        (Some((choice, left)), Some((another, rest))) => {
+            same_terms(&choice.terms, &another.terms) && same_choices(left, rest)
+        }
+        _ => false,
+    }
 }
 
 fn same_terms(one: &[Term], other: &[Term]) -> bool
     ensures same { IsTrue result → one.now ≡ other.now }
 {
+    one.len() == other.len() && same_from_start(one, other)
+}
+
+fn same_from_start(one: &[Term], other: &[Term]) -> bool
+    ensures same { IsTrue result → one.now ≡ other.now }
+{
     match (one.split_first(), other.split_first()) {
         (None, None) => true,
-        (Some((term, left)), Some((another, rest))) => *term == *another && same_terms(left, rest),
+        (Some((term, left)), Some((another, rest))) => *term == *another && same_from_start(left, rest),
         _ => false,
     }
 }
