@@ -155,11 +155,22 @@ fn next_to(terms: &[Term], term: Term) -> Option<Neighbour>
     ensures either { IfSome result (λ found. (call : Record) → holds_term found.joined call ≡ (holds_term (slice_index_or terms.now found.at term) call || holds_term term call)) }
 {
     for (at, other) in terms.iter().enumerate() {
+        if are_apart(*other, term) {
+            continue;
+        }
         if let Some(joined) = either(*other, term) {
             return Some(Neighbour { at, joined });
         }
     }
     None
+}
+
+// Whether two ranges of the same bits do not touch: most of a long list do not.
+fn are_apart(one: Term, other: Term) -> bool {
+    one.mask == other.mask
+        && one.inside
+        && other.inside
+        && (one.last.saturating_add(1) < other.first || other.last.saturating_add(1) < one.first)
 }
 
 // Where a term stands among others: they are in the order of the registers.

@@ -12,7 +12,7 @@ use crate::text::all_bits;
 use std::alloc::{AllocError, Global};
 
 /// How many ranges a choice may have of which it is looked whether it is shorter to tell what they leave out.
-const MOST_RANGES: usize = 512;
+const MOST_RANGES: usize = 64;
 
 /// Each choice on all bits of its register, or of the lower half, where it can be told on them; what always holds is left out.
 pub fn settled(alloc: Global, choices: Vec<Choice>) -> Result<Vec<Choice>, AllocError>

@@ -11,7 +11,7 @@ use crate::term::{REGISTERS, Register, Term};
 use std::alloc::{AllocError, Global};
 
 /// How many lines back one is looked for that differs in one choice.
-const MOST_BACK: usize = 256;
+const MOST_BACK: usize = 128;
 
 /// A place in a list of lines, and the one choice in which the line there differs from another one.
 #[derive(Clone, Copy, Debug)]
@@ -106,7 +106,10 @@ fn partner_of(lines: &[Line], line: &Line, register: Register) -> Option<Partner
     ensures there { IfSome result (λ partner. partner.at < length lines.now) }
     ensures differ { IfSome result (λ partner. DifferIn (slice_index_or lines.now partner.at line.now) line.now partner.choice) }
 {
-    let choice = line.choices.iter().position(|choice| is_on(choice, register))?;
+    let choice = line
+        .choices
+        .iter()
+        .position(|choice| is_on(choice, register))?;
     for at in lines.len().saturating_sub(MOST_BACK)..lines.len() {
         if differ_in(&lines[at], line, choice) {
             return Some(Partner { at, choice });
@@ -182,7 +185,8 @@ fn same_from_start(one: &[Term], other: &[Term]) -> bool
 {
     match (one.split_first(), other.split_first()) {
         (None, None) => true,
-        (Some((term, left)), Some((another, rest))) => *term == *another && same_from_start(left, rest),
+        (Some((term, left)), Some((another, rest))) => *term == *another
+            && same_from_start(left, rest),
         _ => false,
     }
 }
