@@ -136,7 +136,7 @@ fn rows(alloc: Global) -> Result<Vec<(Vec<Insn>, u32, &'static str)>, Fail> {
             ret(EPERM),
         ]?,
         16,
-        "16 ioctl\n  allow where (0x10 <= (args[0] & 0xffffffff) && (args[0] & 0xffffffff) <= 0x12) || (args[0] & 0xffffffff) == 0x20\n  errno/1 EPERM else\n",
+        "16 ioctl\n  allow where (0x10 <= (args[0] & 0xffffffff) && (args[0] & 0xffffffff) <= 0x12)\n      || (args[0] & 0xffffffff) == 0x20\n  errno/1 EPERM else\n",
     ))?;
 
     // Where the first argument is 5 the other calls have one error, and else another one: for what is allowed it is the same.

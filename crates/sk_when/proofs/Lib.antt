@@ -10,3 +10,5 @@ pub mod PartsTold
 pub mod WorkedDiffs
 pub mod SameInsns
 pub mod WorkedTexts
+pub mod Filled
+pub mod FilledLines

@@ -1,5 +1,5 @@
 -- The worked rows: what is told of each call, and the text.
-use Rattle.std.proofs.Common.{◌≡◌, ℕ, ◌%◌, ◌==◌, ◌&&◌, ◌||◌, ◌^◌, Bool, true, false, not, if◌then◌else◌, nat_le, bit_and, List, [], ◌∷◌, ◌++◌, map, codes, Option, Some, sym, ap, subst, ◌∙◌, refl, arith, eqb-true}
+use Rattle.std.proofs.Common.{◌≡◌, ℕ, ◌%◌, ◌==◌, ◌&&◌, ◌||◌, ◌^◌, Bool, true, false, not, if◌then◌else◌, nat_le, bit_and, List, [], ◌∷◌, ◌++◌, length, map, codes, Option, Some, sym, ap, subst, ◌∙◌, refl, arith, eqb-true}
 use Rattle.std.specs.Fmt.{digits}
 use Rattle.std.specs.List.{All}
 use Rattle.std.specs.Option.{option_map_or}
@@ -34,8 +34,9 @@ use Rattle.sk_terms.specs.WorkedLines.{terms_of}
 use Rattle.sk_terms.proofs.Halves.{argument_low}
 use Rattle.sk_terms.proofs.WorkedLines.{line_met, met_terms, told_first}
 use Rattle.sk_when.specs.declared.row.ConditionalRow.{ConditionalRow}
+use Rattle.sk_when.specs.Filling.{filled_behind}
 use Rattle.sk_when.specs.Lines.{IsMet, IsTold, IsVerdict, or_else, told_of}
-use Rattle.sk_when.specs.WhenText.{ends_text, line_text, row_text, value_text}
+use Rattle.sk_when.specs.WhenText.{before_text, ends_text, line_text, row_text}
 use Rattle.sk_when.specs.WorkedRows.{Read, read, IsRow, is_seven, where_another, where_both, where_seven, RowsWork}
 
 -- the range from 7 to 7 is 7
@@ -199,12 +200,12 @@ one_choice (choice ∷ other ∷ choices) terms e = cc
 
 line_read : (line : Line) → read line ≡ where_seven 0x7fff0000 → (answers : Option (List ℕ))
     → line_text answers line ≡ codes "  allow where (args[0] & 0xffffffff) == 0x7\n"
-unfolding digits action_of operation_of verdict_text error_named line_text
+unfolding digits action_of operation_of verdict_text error_named line_text before_text filled_behind
 line_read line e answers =
     let value : line.value ≡ Some 0x7fff0000 = ap (λ r. r.value) e in
     let condition : condition_text line ≡ terms_text (is_seven ∷ []) = one_choice line.choices.items (is_seven ∷ []) (ap (λ r. r.terms) e) in
-    ap (λ v. codes "  " ++ (value_text answers v ++ (codes " where " ++ (condition_text line ++ codes "\n")))) value
-    ∙ ap (λ t. codes "  " ++ (codes "allow" ++ (codes " where " ++ (t ++ codes "\n")))) condition
+    ap (λ v. before_text answers v ++ (filled_behind (length (before_text answers v)) (condition_text line) ++ codes "\n")) value
+    ∙ ap (λ t. codes "  allow where " ++ (filled_behind 14 t ++ codes "\n")) condition
 
 lines_read : (lines : List Line) → map read lines ≡ where_seven 0x7fff0000 ∷ [] → (answers : Option (List ℕ))
     → ends_text answers (Some 0x00050001) lines ≡ codes "\n  allow where (args[0] & 0xffffffff) == 0x7\n  errno/1 EPERM else\n"

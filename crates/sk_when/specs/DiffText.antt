@@ -1,5 +1,5 @@
 -- The text of a comparison: each difference with a call that shows it.
-use Rattle.std.specs.Prelude.{ℕ, ◌==◌, ◌++◌, Bool, true, false, if◌then◌else◌, List, [], codes, flat_map}
+use Rattle.std.specs.Prelude.{ℕ, ◌==◌, ◌+◌, ◌++◌, Bool, true, false, if◌then◌else◌, List, [], length, codes, flat_map}
 use Rattle.std.specs.Fmt.{decimal, digits}
 use Rattle.std.specs.Option.{option_map_or}
 use Rattle.hex.specs.Hex.{encode_lower}
@@ -16,6 +16,7 @@ use Rattle.sk_conditions.specs.declared.standing.Relation.{Relation}
 use Rattle.sk_conditions.specs.declared.standing.Relation.TheVariants.{Same, AsStrict}
 use Rattle.sk_conditions.specs.Comparing.{relates}
 use Rattle.sk_terms.specs.Text.{condition_text}
+use Rattle.sk_when.specs.Filling.{filled_behind}
 use Rattle.sk_when.specs.declared.piece.Calls.{Calls}
 use Rattle.sk_when.specs.declared.piece.Calls.TheVariants.{Every, Meeting}
 use Rattle.sk_when.specs.declared.piece.Outcome.{Outcome}
@@ -53,10 +54,10 @@ abbrev pub outcome_text : Outcome → List ℕ
 outcome_text outcome.Undecided = codes "undecided"
 outcome_text (outcome.Apart it call) = verdicts_text it
 
--- under which condition of C, where it is not every call
-abbrev pub calls_text : Calls → List ℕ
-calls_text Every = []
-calls_text (Meeting line) = codes " where " ++ condition_text line
+-- under which condition of C, where it is not every call, behind so many columns
+abbrev pub calls_text : ℕ → Calls → List ℕ
+calls_text column Every = []
+calls_text column (Meeting line) = codes " where " ++ filled_behind (column + 7) (condition_text line)
 
 -- the same call, of an architecture
 abbrev pub of_architecture : Architecture → Record → Record
@@ -76,11 +77,15 @@ unfoldable pub head_text : Architecture → Numbers → List ℕ
 head_text architecture numbers =
     numbers_text numbers.first numbers.last ++ (codes " " ++ name_text architecture numbers.first numbers.last)
 
+-- the numbers and the verdicts
+abbrev pub verdicts_behind : Architecture → Numbers → Outcome → List ℕ
+verdicts_behind architecture numbers outcome = head_text architecture numbers ++ (codes ": " ++ outcome_text outcome)
+
 -- one difference: the numbers, the verdicts and their condition, and below them a call
 unfoldable pub part_text : Architecture → Numbers → Part → List ℕ
 part_text architecture numbers part =
-    head_text architecture numbers
-    ++ (codes ": " ++ (outcome_text part.outcome ++ (calls_text part.calls ++ (codes "\n" ++ shown_text architecture part.outcome))))
+    verdicts_behind architecture numbers part.outcome
+    ++ (calls_text (length (verdicts_behind architecture numbers part.outcome)) part.calls ++ (codes "\n" ++ shown_text architecture part.outcome))
 
 -- the new chain does not answer as strictly as the old one, or it does, or it is undecided
 abbrev pub kind_of : Outcome → Kind

@@ -1,4 +1,6 @@
 pub mod Lines
+pub mod Filling
+pub mod FillingLaws
 pub mod WhenText
 pub mod Telling
 pub mod Picture

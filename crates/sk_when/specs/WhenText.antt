@@ -1,5 +1,5 @@
 -- The text of `ask when`: rows as those of `ask calls`, and under which condition of C each verdict comes.
-use Rattle.std.specs.Prelude.{ℕ, ◌++◌, List, [], ◌∷◌, codes, flat_map, Option, Some, None}
+use Rattle.std.specs.Prelude.{ℕ, ◌++◌, List, [], ◌∷◌, length, codes, flat_map, Option, Some, None}
 use Rattle.sk_call_names.specs.declared.architecture.Architecture.{Architecture}
 use Rattle.sk_engines.specs.Output.{line}
 use Rattle.sk_survey.specs.Answers.{answers_of}
@@ -7,6 +7,7 @@ use Rattle.sk_survey_lines.specs.Text.{numbers_text, name_text, answers_text}
 use Rattle.sk_terms.specs.declared.lines.Line.{Line}
 use Rattle.sk_terms.specs.Text.{condition_text}
 use Rattle.sk_filter.specs.VerdictText.{verdict_text}
+use Rattle.sk_when.specs.Filling.{filled_behind}
 use Rattle.sk_when.specs.declared.row.ConditionalRow.{ConditionalRow}
 
 -- a verdict, or those that the survey tells where it is not followed
@@ -14,9 +15,13 @@ abbrev pub value_text : Option (List ℕ) → Option ℕ → List ℕ
 value_text answers (Some value) = verdict_text value
 value_text answers None = answers_text answers
 
+-- what stands before a condition
+unfoldable pub before_text : Option (List ℕ) → Option ℕ → List ℕ
+before_text answers value = codes "  " ++ (value_text answers value ++ codes " where ")
+
 -- a verdict and its condition
 unfoldable pub line_text : Option (List ℕ) → Line → List ℕ
-line_text answers it = codes "  " ++ (value_text answers it.value ++ (codes " where " ++ line (condition_text it)))
+line_text answers it = before_text answers it.value ++ line (filled_behind (length (before_text answers it.value)) (condition_text it))
 
 -- one verdict behind the numbers and the name, or lines below them, the last one with `else`
 abbrev pub ends_text : Option (List ℕ) → Option ℕ → List Line → List ℕ

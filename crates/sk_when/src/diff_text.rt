@@ -1,14 +1,14 @@
 //! The text of a comparison.
-ghost use Rattle.std.specs.Prelude.{◌≡◌, ◌++◌, IfOk, OnOk, string_bytes, codes, flat_map};
-ghost use Rattle.sk_when.specs.DiffText.{call_name_text, argument_text, address_text, call_text, differences_text, piece_text, kind_text, kind_of, is_kind, part_text, outcome_text, calls_text, head_text, shown_text, record_text, everywhere_text};
+ghost use Rattle.std.specs.Prelude.{◌≡◌, ◌<◌, ◌++◌, ◌^◌, IfOk, OnOk, string_bytes, codes, flat_map};
+ghost use Rattle.sk_when.specs.DiffText.{call_name_text, argument_text, address_text, call_text, differences_text, piece_text, kind_text, kind_of, is_kind, part_text, verdicts_behind, outcome_text, calls_text, head_text, shown_text, record_text, everywhere_text};
 
+use crate::filling::push_filled;
 use crate::piece::{Calls, Outcome, Part, Piece};
 use sk_call_names::{Architecture, name};
 use sk_conditions::{Numbers, Relation, stands};
 use sk_filter::push_verdict;
 use sk_insn::Record;
 use sk_survey_lines::{name_of_numbers, push_numbers};
-use sk_terms::push_condition;
 use sk_text::HexDigits;
 use std::alloc::{AllocError, Global};
 use std::fmt::Write;
@@ -141,12 +141,26 @@ fn push_part(
 ) -> Result<(), AllocError>
     ensures text { OnOk result (string_bytes text.new ≡ string_bytes text.old ++ part_text architecture numbers part.now) }
 {
-    push_head(text, architecture, numbers)?;
-    text.push_str(": ")?;
-    push_outcome(text, part.outcome)?;
-    push_calls(text, &part.calls)?;
+    let start = text.len();
+    push_verdicts(text, architecture, numbers, part.outcome)?;
+    let column = text.len() - start;
+    push_calls(text, column, &part.calls)?;
     text.push_str("\n")?;
     push_shown(text, architecture, part.outcome)
+}
+
+// The numbers and the verdicts.
+fn push_verdicts(
+    text: &mut String,
+    architecture: Architecture,
+    numbers: Numbers,
+    outcome: Outcome,
+) -> Result<(), AllocError>
+    ensures text { OnOk result (string_bytes text.new ≡ string_bytes text.old ++ verdicts_behind architecture numbers outcome) }
+{
+    push_head(text, architecture, numbers)?;
+    text.push_str(": ")?;
+    push_outcome(text, outcome)
 }
 
 #[tactic(auto, unfolding(crate::specs::DiffText::verdicts_text))]
@@ -163,14 +177,15 @@ fn push_outcome(text: &mut String, outcome: Outcome) -> Result<(), AllocError>
     }
 }
 
-fn push_calls(text: &mut String, calls: &Calls) -> Result<(), AllocError>
-    ensures text { OnOk result (string_bytes text.new ≡ string_bytes text.old ++ calls_text calls.now) }
+fn push_calls(text: &mut String, column: usize, calls: &Calls) -> Result<(), AllocError>
+    requires fits { column < 2 ^ 63 }
+    ensures text { OnOk result (string_bytes text.new ≡ string_bytes text.old ++ calls_text column calls.now) }
 {
     match calls {
         Calls::Every => Ok(()),
         Calls::Meeting(line) => {
             text.push_str(" where ")?;
-            push_condition(text, line)
+            push_filled(text, column + 7, line)
         }
     }
 }

@@ -2,6 +2,7 @@
 ghost use Rattle.sk_when.specs.WorkedRows.{RowsWork};
 ghost use Rattle.sk_when.specs.Diffs.{HoldsOnEveryCall, FailsOnACall, FollowedIsDecided};
 ghost use Rattle.sk_when.specs.WorkedDiffs.{CallsWork, DifferencesWork, PartsWork};
+ghost use Rattle.sk_when.specs.FillingLaws.{JoiningGivesBack, LinesAreWithin, FillingWorks};
 ghost use Rattle.sk_when.specs.WorkedTexts.{ColoursWork, OrderWorks, FindingsWork};
 
 /// What is told of a filter that compares a word again, and that has a path which no call takes.
@@ -36,4 +37,11 @@ pub fn worked_texts()
     ensures colours { ColoursWork }
     ensures order { OrderWorks }
     ensures findings { FindingsWork }
+{}
+
+/// The lines of a condition joined give it again, and none is too long where a break is possible; and some worked out by hand.
+pub fn filled_conditions()
+    ensures joining { JoiningGivesBack }
+    ensures within { LinesAreWithin }
+    ensures rows { FillingWorks }
 {}

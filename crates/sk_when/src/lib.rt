@@ -4,6 +4,7 @@
 
 mod diff_engine;
 mod diff_text;
+mod filling;
 pub mod laws;
 mod parts;
 mod picture;

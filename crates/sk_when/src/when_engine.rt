@@ -1,7 +1,6 @@
 //! The engine of `ask when`.
 ghost use Rattle.std.specs.Prelude.{◌≡◌, false, IfOk, map, string_bytes};
 ghost use Rattle.std.specs.List.{All};
-ghost use Rattle.sk_survey_lines.specs.Lines.{row_of};
 ghost use Rattle.sk_when.specs.Telling.{TellsWhen, AreTold, IsSurveyed, row_told};
 ghost use Rattle.sk_conditions.specs.Followed.{AreFollowed};
 ghost use Rattle.sk_when.specs.Lines.{IsExact, IsMet, IsTold};
@@ -11,7 +10,8 @@ use crate::when_text::when_text;
 use sk_call_names::Architecture;
 use sk_conditions::Budgets;
 use sk_filter::Chain;
-use sk_survey_lines::{Line, Options, lines_of};
+use sk_survey::Row;
+use sk_survey_lines::rows_of;
 use std::alloc::{AllocError, Global};
 
 /// Tells under which conditions on a call each verdict of the chain comes, for every call or for the one with a number. Calls
@@ -39,31 +39,26 @@ fn told_rows(
 ) -> Result<Vec<ConditionalRow>, AllocError>
     ensures told { IfOk result (λ rows. AreTold architecture call chain.now budgets.new.is_spent rows.items) }
 {
-    let options = Options {
-        architecture,
-        call,
-        examples: false,
-    };
-    let lines = lines_of(alloc, options, chain)?;
-    tell_all(alloc, chain, lines, budgets)
+    let rows = rows_of(alloc, architecture, call, chain)?;
+    tell_all(alloc, chain, rows, budgets)
 }
 
 fn tell_all(
     alloc: Global,
     chain: &Chain,
-    lines: Vec<Line>,
+    rows: Vec<Row>,
     budgets: &mut Budgets,
 ) -> Result<Vec<ConditionalRow>, AllocError>
-    requires holds { All (λ line. IsSurveyed chain.now line.row) lines.items }
-    ensures rows { IfOk result (λ rows. map row_told rows.items ≡ map row_of lines.items) }
-    ensures told { IfOk result (λ rows. All (IsTold chain.now) rows.items) }
-    ensures met { IfOk result (λ rows. All (IsMet chain.now) rows.items) }
-    ensures exact { IfOk result (λ rows. All AreFollowed chain.now → budgets.new.is_spent ≡ false → All (IsExact chain.now) rows.items) }
+    requires holds { All (IsSurveyed chain.now) rows.items }
+    ensures rows { IfOk result (λ told. map row_told told.items ≡ rows.items) }
+    ensures told { IfOk result (λ told. All (IsTold chain.now) told.items) }
+    ensures met { IfOk result (λ told. All (IsMet chain.now) told.items) }
+    ensures exact { IfOk result (λ told. All AreFollowed chain.now → budgets.new.is_spent ≡ false → All (IsExact chain.now) told.items) }
 {
-    let mut rows = Vec::with_capacity(alloc, lines.len())?;
-    for line in lines {
-        let told = conditions_of_row(alloc, chain, line.row, budgets)?;
-        rows.push(told)?;
+    let mut told = Vec::with_capacity(alloc, rows.len())?;
+    for row in rows {
+        let conditional = conditions_of_row(alloc, chain, row, budgets)?;
+        told.push(conditional)?;
     }
-    Ok(rows)
+    Ok(told)
 }

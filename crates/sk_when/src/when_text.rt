@@ -1,14 +1,15 @@
 //! The text of rows: verdicts, and the conditions under which they come, in expressions of C.
 ghost use Rattle.std.specs.Prelude.{◌≡◌, ◌++◌, IfOk, OnOk, string_bytes, flat_map};
 ghost use Rattle.sk_survey.specs.Answers.{answers_of};
-ghost use Rattle.sk_when.specs.WhenText.{value_text, line_text, ends_text, row_text, when_text};
+ghost use Rattle.sk_when.specs.WhenText.{value_text, before_text, line_text, ends_text, row_text, when_text};
 
+use crate::filling::push_filled;
 use crate::row::ConditionalRow;
 use sk_call_names::Architecture;
 use sk_filter::push_verdict;
 use sk_survey::Answers;
 use sk_survey_lines::{name_of_numbers, push_answers, push_numbers};
-use sk_terms::{Line, push_condition};
+use sk_terms::Line;
 use std::alloc::{AllocError, Global};
 
 /// The text of rows, with the names of an architecture.
@@ -74,11 +75,21 @@ fn push_lines(text: &mut String, answers: &Answers, lines: &[Line]) -> Result<()
 fn push_line(text: &mut String, answers: &Answers, line: &Line) -> Result<(), AllocError>
     ensures text { OnOk result (string_bytes text.new ≡ string_bytes text.old ++ line_text (answers_of answers.now) line.now) }
 {
-    text.push_str("  ")?;
-    push_value(text, answers, line.value)?;
-    text.push_str(" where ")?;
-    push_condition(text, line)?;
+    let start = text.len();
+    push_before(text, answers, line.value)?;
+    let column = text.len() - start;
+    push_filled(text, column, line)?;
     text.push_str("\n")
+}
+
+// What stands before a condition.
+#[tactic(auto, unfolding(crate::specs::WhenText::before_text))]
+fn push_before(text: &mut String, answers: &Answers, value: Option<u32>) -> Result<(), AllocError>
+    ensures text { OnOk result (string_bytes text.new ≡ string_bytes text.old ++ before_text (answers_of answers.now) value) }
+{
+    text.push_str("  ")?;
+    push_value(text, answers, value)?;
+    text.push_str(" where ")
 }
 
 fn push_value(text: &mut String, answers: &Answers, value: Option<u32>) -> Result<(), AllocError>

@@ -4,5 +4,5 @@ use Rattle.sk_when.proofs.when_engine.told_rows.Goals as goal
 
 pub tell_all-requires : goal.tell_all-requires
 tell_all-requires c = record {
-  holds = all_among c.args.chain.now (first_told c.args.call) (end_told c.args.call) c.in_ok-lines.lines.items c.in_ok-lines.ensures.lines.rows;
+  holds = all_among c.args.chain.now (first_told c.args.call) (end_told c.args.call) c.in_ok-rows.rows.items c.in_ok-rows.ensures.rows;
 }
