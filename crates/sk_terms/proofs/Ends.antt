@@ -12,7 +12,6 @@ use Rattle.sk_terms.specs.declared.decision.Decision.{Decision}
 use Rattle.sk_terms.specs.declared.decision.Decision.TheVariants.{Is, Untold, Ask'}
 use Rattle.sk_terms.specs.declared.lines.Line.{Line}
 use Rattle.sk_terms.specs.declared.choices.Choice.{Choice}
-use Rattle.sk_terms.specs.declared.term.Term.{Term}
 use Rattle.sk_terms.specs.Decisions.{EachEndIsMetBy}
 use Rattle.sk_terms.specs.Lines.{meets_choices, meets_line, IsMetBy}
 use Rattle.sk_terms.specs.Terms.{holds_term}

@@ -7,7 +7,7 @@ use Rattle.sk_insn.specs.declared.record.Record.{Record}
 use Rattle.sk_terms.specs.declared.choices.Choice.{Choice}
 use Rattle.sk_terms.specs.declared.term.Term.{Term}
 use Rattle.sk_terms.specs.Terms.{holds_term}
-use Rattle.sk_terms.specs.Lines.{holds_choice, holds_none, holds_one, meets_choices}
+use Rattle.sk_terms.specs.Lines.{holds_choice, holds_one, meets_choices}
 use Rattle.sk_terms.proofs.Meeting.{swapped, parted}
 use Rattle.sk_terms.proofs.Together.{and_true}
 
@@ -136,6 +136,9 @@ others_same one other at call before behind =
     ∙ sym (all_removed p other at)
 
 -- none of some terms holds
+abbrev pub holds_none : List Term → Record → Bool
+holds_none terms call = list_all (λ term. not (holds_term term call)) terms
+
 pub none_holds : (terms : List Term) (call : Record) → holds_none terms call ≡ not (holds_one terms call)
 none_holds [] call = refl
 none_holds (term ∷ terms) call = ap (λ b. not (holds_term term call) && b) (none_holds terms call) ∙ apart (holds_term term call) (holds_one terms call) where

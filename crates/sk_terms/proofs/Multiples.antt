@@ -1,5 +1,5 @@
 -- Multiples of a step, and terms on more bits.
-use Rattle.std.proofs.Common.{◌≡◌, ℕ, suc, ◌+◌, ◌-◌, ◌*◌, ◌/◌, ◌%◌, ◌^◌, ◌<◌, ◌≤◌, ◌&&◌, ◌⊎◌, inl, inr, nat_le, not, if◌then◌else◌, bit_and, sym, ap, ◌∙◌, refl, arith}
+use Rattle.std.proofs.Common.{◌≡◌, ℕ, suc, ◌+◌, ◌-◌, ◌*◌, ◌/◌, ◌%◌, ◌^◌, ◌<◌, ◌≤◌, ◌&&◌, ◌⊎◌, inl, inr, nat_le, not, if◌then◌else◌, bit_and, sym, ap, ◌∙◌, arith}
 use Rattle.std.proofs.Math.Nat.{suc-mul, add-mod_right, mul-mod_left}
 use Rattle.std.proofs.lemmas.Nat.{and_assoc, and_comm, and_le_r, and_mod, or_disjoint, div-add-mod', mul-le, mod_below}
 use Rattle.std.proofs.lemmas.Bool.{cases_lt}

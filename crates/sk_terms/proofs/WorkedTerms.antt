@@ -30,4 +30,11 @@ terms_work = record {
   personality_beside = refl;
   alone_beside = refl;
   range_beside = refl;
+  of_none = refl;
+  below_seven = refl;
+  seven = refl;
+  above_seven = refl;
+  below_sixteen = refl;
+  last_of_block = refl;
+  next_block = refl;
 }

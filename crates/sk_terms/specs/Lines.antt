@@ -1,5 +1,5 @@
 -- Lines of terms, and what they tell of a call.
-use Rattle.std.specs.Prelude.{ℕ, ◌≡◌, ◌==◌, not, Bool, true, false, if◌then◌else◌, List, [], ◌∷◌, map, filter, Option, Some, None}
+use Rattle.std.specs.Prelude.{ℕ, ◌≡◌, ◌==◌, Bool, true, false, if◌then◌else◌, List, [], ◌∷◌, map, filter, Option, Some, None}
 use Rattle.std.specs.List.{Any, list_all, list_any}
 use Rattle.sk_insn.specs.declared.record.Record.{Record}
 use Rattle.sk_terms.specs.declared.choices.Choice.{Choice}
@@ -18,10 +18,6 @@ meets_all terms call = list_all (λ term. holds_term term call) terms
 -- one of the terms holds
 abbrev pub holds_one : List Term → Record → Bool
 holds_one terms call = list_any (λ term. holds_term term call) terms
-
--- none of them does
-abbrev pub holds_none : List Term → Record → Bool
-holds_none terms call = list_all (λ term. not (holds_term term call)) terms
 
 abbrev pub holds_choice : Choice → Record → Bool
 holds_choice choice call = holds_one choice.terms.items call

@@ -1,11 +1,12 @@
 -- Worked examples of terms: clone(2)'s flags as docker's filter tests them, 64 bits at once, a masked number, a bound of the
--- instruction pointer, and the numbers that docker's filter lets personality(2) have.
+-- instruction pointer, the numbers that docker's filter lets personality(2) have, and ranges: none, all but one number, and of
+-- a number's upper bits.
 use Rattle.std.specs.Prelude.{ℕ, ◌≡◌, Bool, List, ◌∷◌, [], true, false, codes}
-use Rattle.std.specs.List.{list_any}
 use Rattle.sk_insn.specs.declared.record.Record.{Record}
 use Rattle.sk_insn.specs.Record.{native}
 use Rattle.sk_terms.specs.declared.term.Register.TheVariants.{Number, Pointer, Argument}
 use Rattle.sk_terms.specs.declared.term.Term.{Term}
+use Rattle.sk_terms.specs.Lines.{holds_one}
 use Rattle.sk_terms.specs.Terms.{holds_term}
 use Rattle.sk_terms.specs.Text.{choice_text, term_text, terms_text}
 
@@ -40,7 +41,15 @@ abbrev pub sized : ℕ → Record
 sized n = native 10 0 (0 ∷ n ∷ 0 ∷ 0 ∷ 0 ∷ 0 ∷ [])
 
 abbrev pub some_holds : List Term → ℕ → Bool
-some_holds terms n = list_any (λ term. holds_term term (native 135 0 (n ∷ 0 ∷ 0 ∷ 0 ∷ 0 ∷ 0 ∷ []))) terms
+some_holds terms n = holds_one terms (native 135 0 (n ∷ 0 ∷ 0 ∷ 0 ∷ 0 ∷ 0 ∷ []))
+
+-- all numbers but 7, as ranges
+abbrev pub all_but_seven : List Term
+all_but_seven = record whole { first = 0; last = 6 } ∷ record whole { first = 8; last = 0xffffffffffffffff } ∷ []
+
+-- 16 to 47, as the numbers of all bits but the four lowest
+abbrev pub by_sixteens : Term
+by_sixteens = record whole { mask = 0xfffffffffffffff0; first = 0x10; last = 0x20 }
 
 pub record TermsWork : Type 0 where
   pub clone : holds_term no_namespaces worked_call ≡ true
@@ -67,3 +76,10 @@ pub record TermsWork : Type 0 where
   pub personality_beside : choice_text (linux ∷ asking ∷ []) ≡ codes "(args[0] == 0 || args[0] == 0xffffffff)"
   pub alone_beside : choice_text (linux ∷ []) ≡ codes "args[0] == 0"
   pub range_beside : terms_text (record whole { first = 16; last = 31 } ∷ asking ∷ []) ≡ codes "(0x10 <= args[0] && args[0] <= 0x1f) || args[0] == 0xffffffff"
+  pub of_none : some_holds [] 7 ≡ false
+  pub below_seven : some_holds all_but_seven 6 ≡ true
+  pub seven : some_holds all_but_seven 7 ≡ false
+  pub above_seven : some_holds all_but_seven 8 ≡ true
+  pub below_sixteen : some_holds (by_sixteens ∷ []) 15 ≡ false
+  pub last_of_block : some_holds (by_sixteens ∷ []) 47 ≡ true
+  pub next_block : some_holds (by_sixteens ∷ []) 48 ≡ false

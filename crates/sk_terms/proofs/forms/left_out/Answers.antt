@@ -1,7 +1,6 @@
 use Rattle.std.proofs.Common.{◌≡◌, length, take, ap, ◌∙◌, arith}
 use Rattle.std.proofs.Math.Seq.{take-length}
-use Rattle.sk_terms.specs.Lines.{holds_none}
-use Rattle.sk_terms.proofs.Kept.{none_holds}
+use Rattle.sk_terms.proofs.Kept.{holds_none, none_holds}
 use Rattle.sk_terms.proofs.forms.left_out.Goals as goal
 
 pub returns : goal.returns

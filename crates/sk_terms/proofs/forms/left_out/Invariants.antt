@@ -1,6 +1,7 @@
 use Rattle.std.proofs.Common.{◌≡◌, take}
 use Rattle.sk_insn.specs.declared.record.Record.{Record}
-use Rattle.sk_terms.specs.Lines.{holds_choice, holds_none}
+use Rattle.sk_terms.specs.Lines.{holds_choice}
+use Rattle.sk_terms.proofs.Kept.{holds_none}
 use Rattle.sk_terms.proofs.forms.left_out.Given as goal
 
 abbrev pub invariant-loop-term : goal.invariant-loop-term
