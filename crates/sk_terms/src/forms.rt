@@ -73,7 +73,7 @@ fn add_written(alloc: Global, choices: &mut Vec<Choice>, choice: Choice) -> Resu
 {
     if choice.terms.len() <= MOST_RANGES {
         if let Some(holes) = left_out(alloc, &choice.terms)? {
-            if comparisons(&holes.terms) < comparisons(&choice.terms) {
+            if effort(&holes.terms) < effort(&choice.terms) {
                 return add_others(alloc, choices, &holes.terms);
             }
         }
@@ -121,12 +121,21 @@ fn left_out(alloc: Global, terms: &[Term]) -> Result<Option<Choice>, AllocError>
     Ok(Some(left))
 }
 
-// How many comparisons it takes to tell these ranges, or that none of them is it.
-fn comparisons(terms: &[Term]) -> u32 {
-    let mut count = 0u32;
+// How much there is to read where these ranges are told, or what they leave out: a bound reads harder than one number.
+fn effort(terms: &[Term]) -> u32 {
+    let mut effort = 0u32;
     for term in terms {
-        let has_one_bound = term.first == term.last || term.first == 0 || term.mask <= term.last;
-        count = count.saturating_add(if has_one_bound { 1 } else { 2 });
+        effort = effort.saturating_add(effort_of(*term));
     }
-    count
+    effort
+}
+
+fn effort_of(term: Term) -> u32 {
+    if term.first == term.last {
+        1
+    } else if term.first == 0 || term.mask <= term.last {
+        2
+    } else {
+        4
+    }
 }
