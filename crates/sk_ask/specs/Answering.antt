@@ -1,9 +1,12 @@
 -- What the program answers to its words.
 use Rattle.std.specs.Prelude.{ℕ, ◌≡◌, ◌&&◌, is_none, not, Bool, true, false, List, [], ◌∷◌, codes, Option, Some, None, Result, Ok, Err}
 use Rattle.std.specs.Bool.{MatchBool}
+use Rattle.std.specs.List.{All}
 use Rattle.std.specs.Str.{bytes_eq}
 use Rattle.sk_insn.specs.declared.insn.Insn.{Insn}
 use Rattle.sk_arches.specs.Looks.{looks_at_architecture}
+use Rattle.sk_conditions.specs.Followed.{AreFollowed}
+use Rattle.sk_examples.specs.Verdicts.{ShowsEach}
 use Rattle.sk_survey_lines.specs.declared.line.Line.{Line}
 use Rattle.sk_survey_lines.specs.declared.options.Options.{Options}
 use Rattle.sk_survey_lines.specs.Lines.{AreLinesOf}
@@ -24,6 +27,7 @@ use Rattle.sk_ask.specs.FilterText.{filter_lines}
 use Rattle.sk_ask.specs.Helping.{help_text, word_help_text}
 use Rattle.sk_ask.specs.Replays.{AnswersReplay}
 use Rattle.sk_ask.specs.Shows.{AnswersShow}
+use Rattle.sk_ask.specs.Steps.{MayBeSpent, when_steps}
 use Rattle.sk_ask.specs.Troubles.{OfFilesIn}
 use Rattle.sk_ask.specs.Whens.{AnswersWhen}
 use Rattle.sk_ask.specs.Whys.{AnswersWhy}
@@ -34,18 +38,26 @@ use Rattle.sk_ask.specs.Whys.{AnswersWhy}
 abbrev pub is_unseen : Options → List (List Insn) → Bool
 is_unseen options chain = is_none options.call && not (looks_at_architecture chain)
 
+-- the lines of a survey: as far as the steps reach that ask gives, a call is shown for each verdict that a call of a row gets, where
+-- the filters are followed
+pub record AreLinesTold (may_spend : ℕ → Bool) (options : Options) (programs : List (List Insn)) (lines : List Line) : Type 0 where
+  pub told : AreLinesOf options programs lines
+  pub is_spent : Bool
+  pub steps : MayBeSpent may_spend when_steps is_spent
+  pub each : All AreFollowed programs → is_spent ≡ false → All (ShowsEach programs) lines
+
 -- a text tells the lines of a survey of the chain, as it is for the architecture
-abbrev pub TellsSurvey : Options → List (List Insn) → List ℕ → Ending → Type 0
-TellsSurvey options chain notes ending =
-    (lines : List Line) × AreLinesOf options (chain_on options.architecture chain) lines
+abbrev pub TellsSurvey : (ℕ → Bool) → Options → List (List Insn) → List ℕ → Ending → Type 0
+TellsSurvey may_spend options chain notes ending =
+    (lines : List Line) × AreLinesTold may_spend options (chain_on options.architecture chain) lines
     × (ending ≡ answered notes (calls_text options.architecture lines (is_unseen options chain)) false)
 
 -- a survey of all calls, or of the one that is asked for, on the chain that the files make
-abbrev pub AnswersCalls : (List ℕ → Held) → Context → Question → Ending → Type 0
-AnswersCalls held context asked ending =
+abbrev pub AnswersCalls : (List ℕ → Held) → (ℕ → Bool) → Context → Question → Ending → Type 0
+AnswersCalls held may_spend context asked ending =
     OfCall (architecture_of asked.arch) asked.call ending (λ call.
     OfFilesIn (is_turned asked.arch) held context asked.names ending (λ found chain notes.
-    TellsSurvey (record { architecture = architecture_of asked.arch; call = call; examples = asked.examples }) chain notes ending))
+    TellsSurvey may_spend (record { architecture = architecture_of asked.arch; call = call; examples = asked.examples }) chain notes ending))
 
 -- ---- filter
 
@@ -63,7 +75,7 @@ AnswersFilter held context asked ending = OfFilesIn (is_turned asked.arch) held 
 -- ---- all words
 
 abbrev pub AnswersQuestion : (List ℕ → Held) → (ℕ → Bool) → Context → Word → Question → Ending → Type 0
-AnswersQuestion held may_spend context word.Calls asked ending = AnswersCalls held context asked ending
+AnswersQuestion held may_spend context word.Calls asked ending = AnswersCalls held may_spend context asked ending
 AnswersQuestion held may_spend context word.Filter asked ending = AnswersFilter held context asked ending
 AnswersQuestion held may_spend context word.When asked ending = AnswersWhen held may_spend context asked ending
 AnswersQuestion held may_spend context word.Diff asked ending = AnswersDiff held may_spend context asked ending

@@ -1,7 +1,7 @@
 -- The steps that `ask` gives to an analysis of chains.
 use Rattle.std.specs.Prelude.{ℕ, Bool, IsTrue}
 
--- for all rows of `ask when`, for the picture of one call, and for all rows of `ask diff`: a row of numbers takes at most 2 ^ 23
+-- for all rows of `ask when`, or of `ask calls`, for the picture of one call, and for all rows of `ask diff`: a row of numbers takes at most 2 ^ 23
 abbrev pub when_steps : ℕ
 when_steps = 16777216
 

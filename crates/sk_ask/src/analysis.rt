@@ -1,5 +1,9 @@
 //! The analysis of filters that `ask` stands on: which conditions a verdict has, and whether two chains answer the same.
 ghost use Rattle.std.specs.Prelude.{◌≡◌, ◌==◌, ℕ, Bool, false, IfOk, string_bytes};
+ghost use Rattle.std.specs.List.{All};
+ghost use Rattle.sk_conditions.specs.Followed.{AreFollowed};
+ghost use Rattle.sk_examples.specs.Verdicts.{ShowsEach};
+ghost use Rattle.sk_survey_lines.specs.Lines.{AreLinesOf};
 ghost use Rattle.sk_ask.specs.Steps.{MayBeSpent};
 ghost use Rattle.sk_when.specs.Diffs.{IsComparison};
 ghost use Rattle.sk_when.specs.Picture.{IsPicture};
@@ -7,6 +11,7 @@ ghost use Rattle.sk_when.specs.Telling.{TellsWhen};
 
 use sk_call_names::Architecture;
 use sk_filter::Chain;
+use sk_survey_lines::{Line, Options};
 use sk_when::{Budget, Budgets, Comparison, Relation};
 use std::alloc::{AllocError, Global};
 
@@ -14,6 +19,18 @@ use std::alloc::{AllocError, Global};
 pub trait Analysis {
     // Whether it may use up so many steps.
     ghost may_spend: { Self → ℕ → Bool };
+
+    /// Tells what the chain answers, with calls that show its verdicts where they are wanted.
+    fn lines(
+        &self,
+        alloc: Global,
+        options: Options,
+        chain: &Chain,
+        budgets: &mut Budgets,
+    ) -> Result<Vec<Line>, AllocError>
+        ensures lines { IfOk result (λ lines. AreLinesOf options chain.now lines.items) }
+        ensures each { IfOk result (λ lines. All AreFollowed chain.now → budgets.new.is_spent ≡ false → All (ShowsEach chain.now) lines.items) }
+        ensures spent { budgets.old.is_spent ≡ false → MayBeSpent (may_spend self.now) budgets.old.steps budgets.new.is_spent };
 
     /// Tells under which conditions on a call each verdict of the chain comes.
     fn when(
@@ -60,6 +77,16 @@ impl Analysis for Trees {
     ghost use Rattle.std.specs.Prelude.{true};
 
     ghost may_spend = { λ _ _. true };
+
+    fn lines(
+        &self,
+        alloc: Global,
+        options: Options,
+        chain: &Chain,
+        budgets: &mut Budgets,
+    ) -> Result<Vec<Line>, AllocError> {
+        sk_examples::lines_of(alloc, options, chain, budgets)
+    }
 
     fn when(
         &self,

@@ -5,10 +5,11 @@ ghost use Rattle.sk_filter.specs.Chains.{IsWithinLimit};
 ghost use Rattle.sk_ask_filters.specs.Counts.{CountsReads};
 ghost use Rattle.sk_ask.specs.Endings.{ending_of};
 ghost use Rattle.sk_ask.specs.Asked.{question_of};
-ghost use Rattle.sk_ask.specs.Answering.{AnswersCalls, TellsSurvey};
+ghost use Rattle.sk_ask.specs.Answering.{AnswersCalls, AreLinesTold, TellsSurvey};
 ghost use Rattle.sk_ask.specs.CallsText.{calls_text};
 ghost use Rattle.sk_ask.specs.Calls.{IsAskedCall, IsNoCall};
 
+use crate::analysis::Analysis;
 use crate::answer::Answer;
 use crate::calls_text::calls_text;
 use crate::filters::asked_filters;
@@ -17,20 +18,26 @@ use crate::words::Asked;
 use sk_arches::looks_at_architecture;
 use sk_ask_filters::{Filters, Shelf, Trouble, of_word};
 use sk_call_names::Architecture;
+use sk_filter::Chain;
 use sk_profile_json::Context;
 use sk_replay::call_named;
-use sk_survey_lines::{Line, Options, lines_of};
+use sk_survey_lines::{Line, Options};
+use sk_when::Budgets;
 use std::alloc::{AllocError, Global};
 
+/// How many rows may take all the steps of a row, where calls are looked for.
+const MOST_ROWS: u32 = 2;
+
 /// Answers `ask calls`.
-pub fn calls<S: Shelf>(
+pub fn calls<S: Shelf, A: Analysis>(
     alloc: Global,
     asked: &Asked<'_>,
     shelf: &S,
+    analysis: &A,
     context: &Context<'_>,
     reads: &mut u64,
 ) -> Result<Answer, Trouble>
-    ensures told { AnswersCalls (S.held shelf.now) context.now (question_of asked.now) (ending_of result) }
+    ensures told { AnswersCalls (S.held shelf.now) (A.may_spend analysis.now) context.now (question_of asked.now) (ending_of result) }
     ensures counted { CountsReads result reads.old reads.new }
 {
     let architecture = architecture_of(asked.arch);
@@ -41,21 +48,39 @@ pub fn calls<S: Shelf>(
         call,
         examples: asked.examples,
     };
-    Ok(survey(alloc, options, filters)?)
+    Ok(survey(alloc, analysis, options, filters)?)
 }
 
-fn survey(alloc: Global, options: Options, filters: Filters) -> Result<Answer, AllocError>
+fn survey<A: Analysis>(
+    alloc: Global,
+    analysis: &A,
+    options: Options,
+    filters: Filters,
+) -> Result<Answer, AllocError>
     requires limited { IsWithinLimit filters.chain }
-    ensures survey { IfOk result (λ answer. TellsSurvey options filters.chain filters.notes.items (ending_of (Ok answer))) }
+    ensures survey { IfOk result (λ answer. TellsSurvey (A.may_spend analysis.now) options filters.chain filters.notes.items (ending_of (Ok answer))) }
 {
     let unseen = options.call.is_none() && !looks_at_architecture(&filters.chain);
     let (chain, notes) = filters_on(alloc, options.architecture, filters)?;
-    let lines = lines_of(alloc, options, &chain)?;
+    let lines = lines_of(alloc, analysis, options, &chain)?;
     Ok(Answer {
         text: text_of(alloc, options.architecture, &lines, unseen)?,
         notes,
         denies: false,
     })
+}
+
+fn lines_of<A: Analysis>(
+    alloc: Global,
+    analysis: &A,
+    options: Options,
+    chain: &Chain,
+) -> Result<Vec<Line>, AllocError>
+    ensures told { IfOk result (λ lines. AreLinesTold (A.may_spend analysis.now) options chain.now lines.items) }
+{
+    let budgets = &mut Budgets::of_rows(MOST_ROWS);
+    let lines = analysis.lines(alloc, options, chain, budgets)?;
+    Ok(lines)
 }
 
 fn text_of(

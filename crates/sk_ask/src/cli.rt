@@ -162,7 +162,7 @@ fn calls_answer<S: Shelf, A: Analysis>(
     ensures counted { CountsReads result reads.old reads.new }
 {
     match word {
-        Word::Calls => calls(alloc, asked, shelf, context, reads),
+        Word::Calls => calls(alloc, asked, shelf, analysis, context, reads),
         Word::When => when(alloc, asked, shelf, analysis, context, reads),
         _ => unreachable!(),
     }
