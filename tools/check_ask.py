@@ -365,7 +365,7 @@ GOOD = [
     good("ask diff <(cat raw) <(cat digits)", "the same on every call\n"), good("ask diff --stricter all flag", "as strict on every call\n"),
     Row("ask diff all raw", 1, "", difference(39, "getpid", "allow", "errno/1 EPERM")),
     Row("ask diff raw --stricter all", 1, "", difference(39, "getpid", "errno/1 EPERM", "allow")),
-    Row("ask diff flag all | sed -n 1,3p", 1, "", difference(0, "read", "errno/38 ENOSYS", "allow", 1, " where (args[0] & 0x1) != 0")),
+    Row("ask diff flag all | sed -n 1,3p", 1, "", difference(0, "read", "errno/38 ENOSYS", "allow", 1, " where (args[0] & 0x1) == 0x1")),
     good("ask replay log all", "2 read(0x3, 0x7ffd, 0x40) allow\n1 getpid() allow\n1 line is no call\n"),
     good("ask replay - all < log", "2 read(0x3, 0x7ffd, 0x40) allow\n1 getpid() allow\n1 line is no call\n"),
     good("cat log | ask replay /dev/stdin <(cat all) | head -n 1", "2 read(0x3, 0x7ffd, 0x40) allow\n"),
