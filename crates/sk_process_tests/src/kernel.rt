@@ -145,7 +145,15 @@ fn a_step_answers_as_a_run_does(rt: HostRuntime) -> Result<(), Fail> {
 #[test]
 fn possible_call_happens(rt: HostRuntime) -> Result<(), Fail> {
     let mut kernel = Kernel::<SlotStore>::new(rt.alloc(), declared(rt.alloc())?)?;
-    assert_eq!(rt; kernel.happen(&calls(1, Getuid, [0; 3])), Ok(gives(0)));
+    let answer = kernel.happen(&Event::Call {
+        pid: 1,
+        ip: 0,
+        call: Call {
+            nr: 102,
+            args: [0; 6],
+        },
+    })?;
+    assert_eq!(rt; (answer, Getuid.number()), (gives(0), 102));
     Ok(())
 }
 
