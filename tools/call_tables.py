@@ -1,13 +1,13 @@
 """The tables of the names that calls have on other architectures than x86-64, for tools/call_names: how they are made, and what
-they are compared with. They stand in crates/sk_call_names/src/tables, a file for each, and hold runs of numbers that follow
+they are compared with. They stand in crates/sk_names/src/tables, a file for each, and hold runs of numbers that follow
 each other: the first number of each, and its names in one text. A text is dear to prove by its number, and hardly by its length."""
 import re
 import subprocess
 from pathlib import Path
 
 TOP = Path(__file__).resolve().parent.parent
-FOLDER = TOP / "crates/sk_call_names/src/tables"
-ARCHITECTURES = TOP / "crates/sk_call_names/src/architecture.rt"
+FOLDER = TOP / "crates/sk_names/src/tables"
+ARCHITECTURES = TOP / "crates/sk_names/src/architecture.rt"
 # What a compiler for each of them defines, as far as its headers look at it.
 DEFINED = {
     "x32": "__x86_64__ __ILP32__ __SIZEOF_POINTER__=4",

@@ -1,5 +1,5 @@
 #!/usr/bin/env python3
-"""Compares the tables of sk_call_names with the headers of Linux 6.12: each name and each number of each architecture, both
+"""Compares the tables of sk_names with the headers of Linux 6.12: each name and each number of each architecture, both
 ways; the names that calls have on other architectures alone; the numbers that filters are shown of architectures; and the
 kernel that `ask` takes for the newest.
 

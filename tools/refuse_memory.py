@@ -1,12 +1,12 @@
 #!/usr/bin/env python3
-"""refuse_memory.py PROGRAM FORKS READS: refuses each allocation of worked runs of PROGRAM and READS in turn.
+"""refuse_memory.py PROGRAM BENCH: refuses each allocation of worked runs of PROGRAM and BENCH in turn.
 
 Each such run is to give the whole answer, or `skern: out of memory` with status 3, and nothing else, but for the lines of the turns
 that a scenario has made before; and whatever it gives, it is to have given back each block of memory that it took. There is a run of
-PROGRAM for every text that refuses an input, and for each scenario of `scenarios.txt`. READS reads scenarios, and tells a sum over all values of what it read.
-FORKS is run with every allocation refused from its first line of output on, and on a small stack, and is to give its
-whole answer, over a store and in a kernel. The kernel is stopped by each allocation in turn, too, and is to go on with the same
-answers. Prints each run that gives something else, and at last 'N passed, M failed'."""
+PROGRAM for every text that refuses an input, and for each scenario of `scenarios.txt`. BENCH reads scenarios, and tells a sum over all values of what it read.
+Its tasks of forks are run with every allocation refused from the first line of output on, and on a small stack, and are to give
+their whole answers, over the stores and in a kernel. The kernel is stopped by each allocation in turn, too, and is to go on with
+the same answers. Prints each run that gives something else, and at last 'N passed, M failed'."""
 import os
 import re
 import resource
@@ -169,7 +169,7 @@ BAD_SCENARIOS = [
 
 
 def values_of(setting):
-    """All values of a setting, in the order in which READS takes them."""
+    """All values of a setting, in the order in which BENCH takes them."""
     turns, subreapers, images, programs = setting
     yield from (turns, subreapers, len(images))
     for image in map(bytes.fromhex, images):
@@ -205,7 +205,7 @@ SCENARIOS += [(text, f"skern: line {line}: {why}\n", 1) for text, line, why in B
 
 
 def reading(text):
-    """The task of READS that reads a scenario."""
+    """The task of BENCH that reads a scenario."""
     return f"scenario {len(text)}\n{text}"
 
 
@@ -213,9 +213,9 @@ READINGS = [(reading(text), told(setting), 0) for text, setting in SETTINGS]
 READINGS += [(reading(text), f"skern: line {line}: {why}\n", 1) for text, line, why in BAD_SCENARIOS]
 OUT_OF_MEMORY = b"skern: out of memory\n"
 MOST_ALLOCATIONS = 2000
-# Not enough for a call for each filter of FORKS' longest chain.
+# Not enough for a call for each filter of the longest chain.
 STACK = 256 * 1024
-# What FORKS writes, with memory and without.
+# What BENCH writes of forks, with memory and without.
 FORKED = "6554 filters\n"
 for store in ("list", "slots"):
     # As many children as there is room for, and as many others once those are gone: 2 to 1024 and 1025 to 2047.
@@ -223,7 +223,7 @@ for store in ("list", "slots"):
         FORKED += f"{store}: 1023 forks, pids {sum(pids)} in sum, 1023 with the filters\n"
 FORKED += "memory is "
 FORKED_IN_KERNEL = f"6554 filters\n1023 forks, pids {sum(range(2, 1025))} in sum\n1023 children with the filters\nmemory is "
-# What FORKS writes by the word `stop`, and behind how many of its ten events a kernel wants memory: each that attaches a filter.
+# What it writes of a kernel that stops, and behind how many of its ten events a kernel wants memory: each that attaches a filter.
 ANSWERED = b"10 answers\n"
 ATTACHES = {0, 1, 3, 7, 8}
 
@@ -242,12 +242,12 @@ def front_of(output, status):
 
 
 def main():
-    if len(sys.argv) != 4:
+    if len(sys.argv) != 3:
         sys.exit(__doc__)
-    program, forks, reads = (os.path.abspath(name) for name in sys.argv[1:])
+    program, bench = (os.path.abspath(name) for name in sys.argv[1:])
     runs = [([program, word], text, output, status, {b""}) for word, text, output, status in RUNS]
     runs += [([program, "run"], text, output, status, fronts_of(output)) for text, output, status in SCENARIOS]
-    runs += [([reads], text, output, status, {b""}) for text, output, status in READINGS]
+    runs += [([bench], text, output, status, {b""}) for text, output, status in READINGS]
     turns = set()
     passed = failed = 0
     with tempfile.TemporaryDirectory() as folder:
@@ -259,8 +259,8 @@ def main():
         def run(words, text, refused, limits=None):
             env = {"LD_PRELOAD": shim, "REFUSE": str(refused), "LEFT": left_in}
             ran = subprocess.run(words, input=text.encode(), capture_output=True, env=env, timeout=60, preexec_fn=limits)
-            # READS tells what is wrong on standard error, and answers nothing then.
-            output = ran.stderr if words == [reads] and ran.returncode and not ran.stdout else ran.stdout
+            # BENCH tells what is wrong on standard error, and answers nothing then.
+            output = ran.stderr if words == [bench] and ran.returncode and not ran.stdout else ran.stdout
             with open(left_in, encoding="utf-8") as file:
                 return (output, ran.returncode), int(file.read())
 
@@ -268,25 +268,25 @@ def main():
             resource.setrlimit(resource.RLIMIT_STACK, (STACK, STACK))
 
         # The last line says that the shim did refuse.
-        for words, forked in [([forks], FORKED), ([forks, "kernel"], FORKED_IN_KERNEL)]:
+        for task, forked in [("forks stores\n", FORKED), ("forks kernel\n", FORKED_IN_KERNEL)]:
             for refused, memory in [(0, "there"), ("after-output", "refused")]:
-                answer, left = run(words, "", refused, small_stack)
+                answer, left = run([bench], task, refused, small_stack)
                 if answer == ((forked + memory + "\n").encode(), 0) and left == 0:
                     passed += 1
                 else:
                     failed += 1
-                    print(f"forks: {words[1:]}: where memory is {memory} it gives {answer} and keeps {left} blocks")
+                    print(f"{task.strip()}: where memory is {memory} it gives {answer} and keeps {left} blocks")
 
         stops = set()
         refusals = 0
         for count in range(MOST_ALLOCATIONS):
-            answer, left = run([forks, "stop"], "", count)
+            answer, left = run([bench], "forks stop\n", count)
             stopped = re.fullmatch(rb"(?:stopped after (\d+)\n)?" + ANSWERED, answer[0])
-            if left == 0 and (stopped and answer[1] == 0 or count > 0 and answer == (b"out of memory\n", 1)):
+            if left == 0 and (stopped and answer[1] == 0 or count > 0 and answer == (OUT_OF_MEMORY, 3)):
                 passed += 1
             else:
                 failed += 1
-                print(f"forks: stop: with allocation {count} refused it gives {answer} and keeps {left} blocks")
+                print(f"forks stop: with allocation {count} refused it gives {answer} and keeps {left} blocks")
             if stopped and stopped[1]:
                 stops.add(int(stopped[1]))
             if answer != (ANSWERED, 0):
@@ -298,7 +298,7 @@ def main():
             passed += 1
         else:
             failed += 1
-            print(f"forks: stop: it stopped after {sorted(stops)} alone")
+            print(f"forks stop: it stopped after {sorted(stops)} alone")
 
         for words, text, output, status, fronts in runs:
             word = os.path.basename(words[-1])

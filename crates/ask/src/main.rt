@@ -2,12 +2,11 @@
 #![tactic(auto)]
 
 ghost use Rattle.std.specs.Prelude.{ℕ};
-ghost use Rattle.sk_ask_filters.specs.Shelves.{unknown};
-ghost use Rattle.sk_ask_filters.specs.Taking.{CountsWhy};
+ghost use Rattle.sk_ask.specs.Shelves.{unknown};
+ghost use Rattle.sk_ask.specs.Taking.{CountsWhy};
 
-use sk_ask::{Trees, command, misused};
-use sk_ask_filters::{Shelf, Unopened, Unread};
-use sk_io::{Counted, Source, take_up_to};
+use sk_ask::{Shelf, Trees, Unopened, Unread, command, misused};
+use sk_text::{Counted, Source, take_up_to};
 use std::alloc::Global;
 use std::env::Env;
 use std::fs::{Files, OpenFile};

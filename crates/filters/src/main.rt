@@ -2,7 +2,7 @@
 #![tactic(auto)]
 
 use sk_engines::{CommandFault, FAILED, command, failed, finish, words_of};
-use sk_io::Counted;
+use sk_text::Counted;
 use std::io;
 use std::io::{BufWriter, ErrorKind};
 use std::process::ExitCode;

@@ -4,10 +4,10 @@ use Rattle.sk_insn.specs.declared.insn.Insn.{Insn}
 use Rattle.sk_insn.specs.declared.record.Record.{Record}
 use Rattle.sk_insn.specs.Record.{architecture, IsNative}
 use Rattle.sk_filter.specs.Verdict.{verdict_of}
-use Rattle.sk_call_names.specs.declared.architecture.Architecture.{Architecture}
-use Rattle.sk_call_names.specs.declared.architecture.Architecture.TheVariants as architecture
-use Rattle.sk_call_names.specs.Architectures.{audit_of}
-use Rattle.sk_arches.proofs.Chains.{chains_for_architectures}
+use Rattle.sk_names.specs.declared.architecture.Architecture.{Architecture}
+use Rattle.sk_names.specs.declared.architecture.Architecture.TheVariants as architecture
+use Rattle.sk_names.specs.Architectures.{audit_of}
+use Rattle.sk_survey.proofs.Chains.{chains_for_architectures}
 use Rattle.sk_ask.specs.Architectures.{call_on, AnswersTheArchitecture}
 
 -- x86-64 and x32 have the number of x86-64

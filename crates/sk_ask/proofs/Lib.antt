@@ -1,3 +1,10 @@
 pub mod Refusing
 pub mod Architectures
 mod Troubles
+pub mod Given
+pub mod Wholes
+pub mod Among
+pub mod Standing
+pub mod Images
+pub mod Limits
+pub mod Orders

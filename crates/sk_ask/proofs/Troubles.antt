@@ -1,7 +1,7 @@
 -- Trouble that is handed on, as an ending.
 use Rattle.std.proofs.Common.{◌≡◌, Result, Ok, Err, refl, sym, subst}
 use Rattle.std.specs.Result.{IsErrAnd}
-use Rattle.sk_ask_filters.specs.declared.trouble.Trouble.{Trouble}
+use Rattle.sk_ask.specs.declared.trouble.Trouble.{Trouble}
 use Rattle.sk_ask.specs.declared.answer.Answer.{Answer}
 use Rattle.sk_ask.specs.Endings.{ending_of}
 use Rattle.sk_ask.specs.Troubles.{IsTrouble}

@@ -4,15 +4,15 @@ use Rattle.std.specs.Bool.{MatchBool}
 use Rattle.std.specs.List.{All}
 use Rattle.std.specs.Str.{bytes_eq}
 use Rattle.sk_insn.specs.declared.insn.Insn.{Insn}
-use Rattle.sk_arches.specs.Looks.{looks_at_architecture}
+use Rattle.sk_survey.specs.Looks.{looks_at_architecture}
 use Rattle.sk_conditions.specs.Followed.{AreFollowed}
-use Rattle.sk_examples.specs.Verdicts.{ShowsEach}
-use Rattle.sk_survey_lines.specs.declared.line.Line.{Line}
-use Rattle.sk_survey_lines.specs.declared.options.Options.{Options}
-use Rattle.sk_survey_lines.specs.Lines.{AreLinesOf}
+use Rattle.sk_when.specs.Verdicts.{ShowsEach}
+use Rattle.sk_show.specs.declared.survey_line.Line.{Line}
+use Rattle.sk_show.specs.declared.options.Options.{Options}
+use Rattle.sk_show.specs.Lines.{AreLinesOf}
 use Rattle.sk_profile_json.specs.declared.context.Context.{Context}
-use Rattle.sk_ask_filters.specs.Complaints.{of_word}
-use Rattle.sk_ask_filters.specs.Shelves.{Held}
+use Rattle.sk_ask.specs.Complaints.{of_word}
+use Rattle.sk_ask.specs.Shelves.{Held}
 use Rattle.sk_ask.specs.declared.word.Word.{Word}
 use Rattle.sk_ask.specs.declared.word.Word.TheVariants as word
 use Rattle.sk_ask.specs.Asking.{Question, asked_of, is_turned, nothing_asked, word_named}

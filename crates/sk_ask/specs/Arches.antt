@@ -1,11 +1,11 @@
 -- What `ask arches` answers.
 use Rattle.std.specs.Prelude.{ℕ, ◌≡◌, List}
 use Rattle.sk_insn.specs.declared.insn.Insn.{Insn}
-use Rattle.sk_arches.specs.declared.told.Told.{Told}
-use Rattle.sk_arches.specs.Told.{IsTold, warns}
-use Rattle.sk_arches.specs.Text.{arches_text}
+use Rattle.sk_survey.specs.declared.told.Told.{Told}
+use Rattle.sk_survey.specs.Told.{IsTold, warns}
+use Rattle.sk_survey.specs.Text.{arches_text}
 use Rattle.sk_profile_json.specs.declared.context.Context.{Context}
-use Rattle.sk_ask_filters.specs.Shelves.{Held}
+use Rattle.sk_ask.specs.Shelves.{Held}
 use Rattle.sk_ask.specs.Asking.{Question, is_turned}
 use Rattle.sk_ask.specs.Endings.{Ending, answered}
 use Rattle.sk_ask.specs.Troubles.{OfFilesIn}

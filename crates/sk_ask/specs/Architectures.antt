@@ -5,10 +5,10 @@ use Rattle.sk_insn.specs.declared.record.Record.{Record}
 use Rattle.sk_insn.specs.Record.{architecture, IsNative}
 use Rattle.sk_filter.specs.Chains.{AllValid}
 use Rattle.sk_filter.specs.Verdict.{verdict_of}
-use Rattle.sk_call_names.specs.declared.architecture.Architecture.{Architecture}
-use Rattle.sk_call_names.specs.declared.architecture.Architecture.TheVariants.{X86_64}
-use Rattle.sk_call_names.specs.Architectures.{audit_of}
-use Rattle.sk_arches.specs.ChainsFor.{chain_for, of_architecture}
+use Rattle.sk_names.specs.declared.architecture.Architecture.{Architecture}
+use Rattle.sk_names.specs.declared.architecture.Architecture.TheVariants.{X86_64}
+use Rattle.sk_names.specs.Architectures.{audit_of}
+use Rattle.sk_survey.specs.ChainsFor.{chain_for, of_architecture}
 
 -- x86-64 where none is named
 abbrev pub architecture_of : Option Architecture → Architecture

@@ -1,8 +1,8 @@
 -- What the code's answers to words say.
 use Rattle.std.specs.Prelude.{ℕ, ◌≡◌, ◌≤◌, IsSome, true, false, List, length, map, string_bytes, Result, Ok, Err, ⊤}
 use Rattle.std.specs.Option.{option_map}
-use Rattle.sk_ask_filters.specs.declared.trouble.Trouble.{Trouble}
-use Rattle.sk_ask_filters.specs.declared.trouble.Trouble.TheVariants.{Refused, Reading, Memory}
+use Rattle.sk_ask.specs.declared.trouble.Trouble.{Trouble}
+use Rattle.sk_ask.specs.declared.trouble.Trouble.TheVariants.{Refused, Reading, Memory}
 use Rattle.sk_ask.specs.declared.words.Asked.{Asked}
 use Rattle.sk_ask.specs.declared.word.Word.{Word}
 use Rattle.sk_ask.specs.Asking.{Question, wanted}

@@ -1,12 +1,12 @@
 -- What words ask.
 use Rattle.std.specs.Prelude.{ℕ, ◌==◌, ◌&&◌, ◌++◌, nat_lt, is_some, not, Bool, true, false, if◌then◌else◌, List, [], ◌∷◌, length, slice_get, codes, slice_index, Option, Some, None, Result, Ok, Err}
 use Rattle.std.specs.Str.{bytes_eq}
-use Rattle.sk_call_names.specs.declared.architecture.Architecture.{Architecture}
-use Rattle.sk_call_names.specs.Architectures.{architecture_named, is_big_endian_of}
+use Rattle.sk_names.specs.declared.architecture.Architecture.{Architecture}
+use Rattle.sk_names.specs.Architectures.{architecture_named, is_big_endian_of}
 use Rattle.sk_profile_json.specs.declared.context.Kernel.{Kernel as Version}
 use Rattle.sk_profile_json.specs.Contexts.{kernel_of}
-use Rattle.sk_profile_file.specs.Capabilities.{capability}
-use Rattle.sk_ask_filters.specs.Complaints.{of_word}
+use Rattle.sk_profile_json.specs.Capabilities.{capability}
+use Rattle.sk_ask.specs.Complaints.{of_word}
 use Rattle.sk_ask.specs.declared.word.Valued.{Valued}
 use Rattle.sk_ask.specs.declared.word.Valued.TheVariants.{Call, Cap, Kernel, Arch}
 use Rattle.sk_ask.specs.declared.word.Word.{Word}

@@ -1,10 +1,10 @@
 -- The call that is asked for.
 use Rattle.std.specs.Prelude.{ℕ, ◌≡◌, ◌⊎◌, List, codes, Option, Some, None, ⊤}
-use Rattle.sk_call_names.specs.declared.architecture.Architecture.{Architecture}
+use Rattle.sk_names.specs.declared.architecture.Architecture.{Architecture}
 use Rattle.sk_replay.specs.WordCalls.{IsCall, NoCall}
-use Rattle.sk_ask_filters.specs.declared.trouble.Trouble.{Trouble}
-use Rattle.sk_ask_filters.specs.declared.trouble.Trouble.TheVariants.{Refused, Reading, Memory}
-use Rattle.sk_ask_filters.specs.Complaints.{of_word}
+use Rattle.sk_ask.specs.declared.trouble.Trouble.{Trouble}
+use Rattle.sk_ask.specs.declared.trouble.Trouble.TheVariants.{Refused, Reading, Memory}
+use Rattle.sk_ask.specs.Complaints.{of_word}
 use Rattle.sk_ask.specs.Endings.{Ending}
 use Rattle.sk_ask.specs.Troubles.{IsTrouble}
 

@@ -6,12 +6,12 @@ use Rattle.sk_insn.specs.Record.{record_bytes}
 use Rattle.sk_engines.specs.Output.{line}
 use Rattle.sk_survey.specs.declared.rows.Row.{Row}
 use Rattle.sk_survey.specs.Answers.{answers_of}
-use Rattle.sk_survey_lines.specs.declared.example.Example.{Example}
-use Rattle.sk_survey_lines.specs.declared.line.Shown.{Shown}
-use Rattle.sk_survey_lines.specs.declared.line.Line.{Line}
-use Rattle.sk_survey_lines.specs.Text.{numbers_text, name_text, answers_text}
+use Rattle.sk_show.specs.declared.example.Example.{Example}
+use Rattle.sk_show.specs.declared.survey_line.Shown.{Shown}
+use Rattle.sk_show.specs.declared.survey_line.Line.{Line}
+use Rattle.sk_show.specs.Text.{numbers_text, name_text, answers_text}
 use Rattle.sk_filter.specs.VerdictText.{verdict_text}
-use Rattle.sk_call_names.specs.declared.architecture.Architecture.{Architecture}
+use Rattle.sk_names.specs.declared.architecture.Architecture.{Architecture}
 use Rattle.sk_ask.specs.Architectures.{call_on}
 
 -- one row: its numbers, the name of a single one, and the verdicts

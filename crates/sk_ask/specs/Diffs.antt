@@ -1,14 +1,14 @@
 -- What `ask diff` answers.
 use Rattle.std.specs.Prelude.{ℕ, ◌≡◌, ◌⊎◌, ◌++◌, Bool, true, false, List, codes, take, drop}
 use Rattle.sk_insn.specs.declared.insn.Insn.{Insn}
-use Rattle.sk_call_names.specs.declared.architecture.Architecture.{Architecture}
+use Rattle.sk_names.specs.declared.architecture.Architecture.{Architecture}
 use Rattle.sk_conditions.specs.declared.standing.Relation.{Relation}
 use Rattle.sk_conditions.specs.declared.standing.Relation.TheVariants.{Same, AsStrict}
 use Rattle.sk_when.specs.declared.diff_engine.Finding.{Finding}
 use Rattle.sk_when.specs.declared.diff_engine.Finding.TheVariants.{Holds, Fails, Undecided}
 use Rattle.sk_when.specs.Diffs.{IsComparison}
 use Rattle.sk_profile_json.specs.declared.context.Context.{Context}
-use Rattle.sk_ask_filters.specs.Shelves.{Held}
+use Rattle.sk_ask.specs.Shelves.{Held}
 use Rattle.sk_ask.specs.Architectures.{architecture_of, chain_on}
 use Rattle.sk_ask.specs.Asking.{Question}
 use Rattle.sk_ask.specs.Endings.{Ending, answered, refused, no_memory, ComesTo}

@@ -1,10 +1,10 @@
 -- What the program comes to, and what it leaves behind: answers go to standard output, and all else to standard error.
 use Rattle.std.specs.Prelude.{ℕ, ◌≡◌, ◌⊎◌, Bool, true, false, Option, Result, Ok, Err, List, [], codes, ⊤}
 use Rattle.std.specs.Io.KnownBytes.{Appends}
-use Rattle.sk_io.specs.Failures.{one_more}
-use Rattle.sk_io.specs.Writing.{AppendsBeginning}
-use Rattle.sk_ask_filters.specs.declared.trouble.Trouble.{Trouble}
-use Rattle.sk_ask_filters.specs.declared.trouble.Trouble.TheVariants.{Refused, Reading, Memory}
+use Rattle.sk_text.specs.Failures.{one_more}
+use Rattle.sk_text.specs.Writing.{AppendsBeginning}
+use Rattle.sk_ask.specs.declared.trouble.Trouble.{Trouble}
+use Rattle.sk_ask.specs.declared.trouble.Trouble.TheVariants.{Refused, Reading, Memory}
 use Rattle.sk_ask.specs.declared.answer.Answer.{Answer}
 
 -- the lines of what is told beside an answer, the answer, and whether it says no; or words or files that are refused, a read

@@ -1,11 +1,11 @@
 -- What `ask replay` answers.
 use Rattle.std.specs.Prelude.{ℕ, ◌⊎◌, ◌==◌, if◌then◌else◌, List, codes}
 use Rattle.sk_insn.specs.declared.insn.Insn.{Insn}
-use Rattle.sk_call_names.specs.declared.architecture.Architecture.{Architecture}
+use Rattle.sk_names.specs.declared.architecture.Architecture.{Architecture}
 use Rattle.sk_replay.specs.Replaying.{replay_text, replay_denies, distinct_calls}
 use Rattle.sk_profile_json.specs.declared.context.Context.{Context}
-use Rattle.sk_ask_filters.specs.Complaints.{about}
-use Rattle.sk_ask_filters.specs.Shelves.{Held, IsContent, IsUnread}
+use Rattle.sk_ask.specs.Complaints.{about}
+use Rattle.sk_ask.specs.Shelves.{Held, IsContent, IsUnread}
 use Rattle.sk_ask.specs.Architectures.{architecture_of}
 use Rattle.sk_ask.specs.Asking.{Question}
 use Rattle.sk_ask.specs.Endings.{Ending, answered, refused, ComesTo}

@@ -1,11 +1,11 @@
 -- What `ask show` answers.
 use Rattle.std.specs.Prelude.{ℕ, false, List, [], ◌∷◌, codes}
 use Rattle.sk_insn.specs.declared.insn.Insn.{Insn}
-use Rattle.sk_call_names.specs.declared.architecture.Architecture.{Architecture}
+use Rattle.sk_names.specs.declared.architecture.Architecture.{Architecture}
 use Rattle.sk_show.specs.Showing.{show_text}
 use Rattle.sk_profile_json.specs.declared.context.Context.{Context}
-use Rattle.sk_ask_filters.specs.Complaints.{of_word}
-use Rattle.sk_ask_filters.specs.Shelves.{Held}
+use Rattle.sk_ask.specs.Complaints.{of_word}
+use Rattle.sk_ask.specs.Shelves.{Held}
 use Rattle.sk_ask.specs.Architectures.{architecture_of}
 use Rattle.sk_ask.specs.Asking.{Question, is_turned}
 use Rattle.sk_ask.specs.Endings.{Ending, answered, refused, ComesTo}

@@ -1,6 +1,6 @@
 -- What the program does, in one statement.
 use Rattle.std.specs.Prelude.{ℕ, Bool, List}
-use Rattle.sk_ask_filters.specs.Shelves.{Held}
+use Rattle.sk_ask.specs.Shelves.{Held}
 use Rattle.sk_ask.specs.Answering.{AnswersWords}
 use Rattle.sk_ask.specs.Endings.{Ending, Written, CountsFailedReads, Leaves}
 

@@ -2,10 +2,10 @@
 use Rattle.std.specs.Prelude.{ℕ, ◌≡◌, ◌⊎◌, Bool, false, List, [], ◌∷◌, Err}
 use Rattle.sk_insn.specs.declared.insn.Insn.{Insn}
 use Rattle.sk_profile_json.specs.declared.context.Context.{Context}
-use Rattle.sk_ask_filters.specs.Filters.{Filters}
-use Rattle.sk_ask_filters.specs.Reading.{ReadsFilters, IsRefusedOf}
-use Rattle.sk_ask_filters.specs.Shelves.{Held}
-use Rattle.sk_ask_filters.specs.declared.trouble.Trouble.{Trouble}
+use Rattle.sk_ask.specs.Filters.{Filters}
+use Rattle.sk_ask.specs.Reading.{ReadsFilters, IsRefusedOf}
+use Rattle.sk_ask.specs.Shelves.{Held}
+use Rattle.sk_ask.specs.declared.trouble.Trouble.{Trouble}
 use Rattle.sk_ask.specs.Endings.{Ending, ending_of, no_memory}
 
 -- no answer came of it, for this reason

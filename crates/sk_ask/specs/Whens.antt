@@ -1,11 +1,11 @@
 -- What `ask when` answers.
 use Rattle.std.specs.Prelude.{ℕ, ◌≡◌, ◌==◌, Bool, true, false, List, Option, Some, None}
 use Rattle.sk_insn.specs.declared.insn.Insn.{Insn}
-use Rattle.sk_call_names.specs.declared.architecture.Architecture.{Architecture}
+use Rattle.sk_names.specs.declared.architecture.Architecture.{Architecture}
 use Rattle.sk_when.specs.Picture.{IsPicture}
 use Rattle.sk_when.specs.Telling.{TellsWhen}
 use Rattle.sk_profile_json.specs.declared.context.Context.{Context}
-use Rattle.sk_ask_filters.specs.Shelves.{Held}
+use Rattle.sk_ask.specs.Shelves.{Held}
 use Rattle.sk_ask.specs.Architectures.{architecture_of, chain_on}
 use Rattle.sk_ask.specs.Asking.{Question, is_turned}
 use Rattle.sk_ask.specs.Calls.{OfCall}

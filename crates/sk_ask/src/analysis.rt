@@ -1,21 +1,24 @@
 //! The analysis of filters that `ask` stands on: which conditions a verdict has, and whether two chains answer the same.
-ghost use Rattle.std.specs.Prelude.{◌≡◌, ◌==◌, ℕ, Bool, false, IfOk, string_bytes};
+ghost use Rattle.std.specs.Prelude.{◌≡◌, ◌≤◌, ◌==◌, ◌+◌, ℕ, Bool, false, IfOk, string_bytes};
 ghost use Rattle.std.specs.List.{All};
 ghost use Rattle.sk_conditions.specs.Followed.{AreFollowed};
-ghost use Rattle.sk_examples.specs.Verdicts.{ShowsEach};
-ghost use Rattle.sk_survey_lines.specs.Lines.{AreLinesOf};
+ghost use Rattle.sk_conditions.specs.Steps.{GoOneWay, NeverPart};
+ghost use Rattle.sk_when.specs.Verdicts.{ShowsEach};
+ghost use Rattle.sk_filter.specs.Chains.{cost_of};
+ghost use Rattle.sk_show.specs.Lines.{AreLinesOf, end_told, first_told};
 ghost use Rattle.sk_ask.specs.Steps.{MayBeSpent};
 ghost use Rattle.sk_when.specs.Diffs.{IsComparison};
 ghost use Rattle.sk_when.specs.Picture.{IsPicture};
 ghost use Rattle.sk_when.specs.Telling.{TellsWhen};
 
-use sk_call_names::Architecture;
 use sk_filter::Chain;
-use sk_survey_lines::{Line, Options};
+use sk_names::Architecture;
+use sk_show::{Line, Options};
 use sk_when::{Budget, Budgets, Comparison, Relation};
 use std::alloc::{AllocError, Global};
 
 /// Analyses chains, as far as the steps reach that it is given.
+/// Where all calls of each row go one way through each filter, `lines` and `when` use the steps of no row up.
 pub trait Analysis {
     // Whether it may use up so many steps.
     ghost may_spend: { Self → ℕ → Bool };
@@ -30,7 +33,8 @@ pub trait Analysis {
     ) -> Result<Vec<Line>, AllocError>
         ensures lines { IfOk result (λ lines. AreLinesOf options chain.now lines.items) }
         ensures each { IfOk result (λ lines. All AreFollowed chain.now → budgets.new.is_spent ≡ false → All (ShowsEach chain.now) lines.items) }
-        ensures spent { budgets.old.is_spent ≡ false → MayBeSpent (may_spend self.now) budgets.old.steps budgets.new.is_spent };
+        ensures spent { budgets.old.is_spent ≡ false → MayBeSpent (may_spend self.now) budgets.old.steps budgets.new.is_spent }
+        ensures one_way { NeverPart (first_told options.call) (end_told options.call) chain.now → budgets.old.is_spent ≡ false → budgets.new.is_spent ≡ false };
 
     /// Tells under which conditions on a call each verdict of the chain comes.
     fn when(
@@ -42,7 +46,8 @@ pub trait Analysis {
         budgets: &mut Budgets,
     ) -> Result<String, AllocError>
         ensures text { IfOk result (λ text. TellsWhen architecture call chain.now budgets.new.is_spent (string_bytes text)) }
-        ensures spent { budgets.old.is_spent ≡ false → MayBeSpent (may_spend self.now) budgets.old.steps budgets.new.is_spent };
+        ensures spent { budgets.old.is_spent ≡ false → MayBeSpent (may_spend self.now) budgets.old.steps budgets.new.is_spent }
+        ensures one_way { NeverPart (first_told call) (end_told call) chain.now → budgets.old.is_spent ≡ false → budgets.new.is_spent ≡ false };
 
     /// Draws the tree of the chain's verdicts on one call.
     fn dot(
@@ -53,7 +58,8 @@ pub trait Analysis {
         budget: &mut Budget,
     ) -> Result<String, AllocError>
         ensures picture { IfOk result (λ text. IsPicture chain.now nr budget.new.steps (string_bytes text)) }
-        ensures spent { MayBeSpent (may_spend self.now) budget.old.steps (budget.new.steps == 0) };
+        ensures spent { MayBeSpent (may_spend self.now) budget.old.steps (budget.new.steps == 0) }
+        ensures one_way { All (GoOneWay nr nr) chain.now → budget.old.steps ≤ budget.new.steps + cost_of chain.now };
 
     /// Compares a new chain with an old one on every call.
     fn diff(
@@ -69,7 +75,7 @@ pub trait Analysis {
         ensures spent { budgets.old.is_spent ≡ false → MayBeSpent (may_spend self.now) budgets.old.steps budgets.new.is_spent };
 }
 
-/// That by decision trees. How many steps it takes is not known.
+/// That by decision trees. How many steps it takes where calls part is not known.
 #[derive(Clone, Copy, Debug)]
 pub struct Trees;
 
@@ -85,7 +91,7 @@ impl Analysis for Trees {
         chain: &Chain,
         budgets: &mut Budgets,
     ) -> Result<Vec<Line>, AllocError> {
-        sk_examples::lines_of(alloc, options, chain, budgets)
+        sk_when::lines_of(alloc, options, chain, budgets)
     }
 
     fn when(

@@ -1,8 +1,8 @@
 //! `ask arches`: what filters answer to the calls of each architecture.
 ghost use Rattle.std.specs.Prelude.{◌≡◌, IfOk, Ok};
 ghost use Rattle.sk_filter.specs.Chains.{IsWithinLimit};
-ghost use Rattle.sk_arches.specs.Text.{arches_text};
-ghost use Rattle.sk_ask_filters.specs.Counts.{CountsReads};
+ghost use Rattle.sk_survey.specs.Text.{arches_text};
+ghost use Rattle.sk_ask.specs.Counts.{CountsReads};
 ghost use Rattle.sk_ask.specs.Endings.{ending_of};
 ghost use Rattle.sk_ask.specs.Asked.{question_of};
 ghost use Rattle.sk_ask.specs.Arches.{AnswersArches, TellsArches};
@@ -10,9 +10,9 @@ ghost use Rattle.sk_ask.specs.Arches.{AnswersArches, TellsArches};
 use crate::answer::Answer;
 use crate::filters::asked_filters;
 use crate::words::Asked;
-use sk_arches::{Told, arches as told_of, arches_text};
-use sk_ask_filters::{Filters, Shelf, Trouble};
+use crate::{Filters, Shelf, Trouble};
 use sk_profile_json::Context;
+use sk_survey::{Told, arches as told_of, arches_text};
 use std::alloc::{AllocError, Global};
 
 /// Answers `ask arches`.

@@ -2,7 +2,7 @@
 ghost use Rattle.std.specs.Prelude.{◌≡◌, IfOk, IfErr, Ok};
 ghost use Rattle.std.specs.Option.{option_map};
 ghost use Rattle.sk_filter.specs.Chains.{IsWithinLimit};
-ghost use Rattle.sk_ask_filters.specs.Counts.{CountsReads};
+ghost use Rattle.sk_ask.specs.Counts.{CountsReads};
 ghost use Rattle.sk_ask.specs.Endings.{ending_of};
 ghost use Rattle.sk_ask.specs.Asked.{question_of};
 ghost use Rattle.sk_ask.specs.Answering.{AnswersCalls, AreLinesTold, TellsSurvey};
@@ -15,13 +15,13 @@ use crate::calls_text::calls_text;
 use crate::filters::asked_filters;
 use crate::on::{architecture_of, filters_on};
 use crate::words::Asked;
-use sk_arches::looks_at_architecture;
-use sk_ask_filters::{Filters, Shelf, Trouble, of_word};
-use sk_call_names::Architecture;
+use crate::{Filters, Shelf, Trouble, of_word};
 use sk_filter::Chain;
+use sk_names::Architecture;
 use sk_profile_json::Context;
 use sk_replay::call_named;
-use sk_survey_lines::{Line, Options};
+use sk_show::{Line, Options};
+use sk_survey::looks_at_architecture;
 use sk_when::Budgets;
 use std::alloc::{AllocError, Global};
 

@@ -6,11 +6,11 @@ ghost use Rattle.sk_engines.specs.Output.{line};
 ghost use Rattle.sk_ask.specs.Architectures.{call_on};
 ghost use Rattle.sk_ask.specs.CallsText.{row_text, found_text, shown_text, line_text, calls_text, unseen_text};
 
-use sk_call_names::Architecture;
 use sk_filter::push_verdict;
 use sk_insn::Record;
+use sk_names::Architecture;
+use sk_show::{Example, Line, Shown, name_of_numbers, push_answers, push_numbers};
 use sk_survey::Row;
-use sk_survey_lines::{Example, Line, Shown, name_of_numbers, push_answers, push_numbers};
 use sk_text::HexDigits;
 use std::alloc::{AllocError, Global};
 use std::fmt::Write;

@@ -1,6 +1,6 @@
 //! The program over any files, analysis of filters and writers.
 ghost use Rattle.std.specs.Prelude.{◌≡◌, ◌≤◌, true, false, [], IfOk, IsSome, Ok, length, map, string_bytes};
-ghost use Rattle.sk_ask_filters.specs.Counts.{CountsReads};
+ghost use Rattle.sk_ask.specs.Counts.{CountsReads};
 ghost use Rattle.sk_ask.specs.Answering.{AnswersWords, AnswersAsked, AnswersThere, AnswersQuestion};
 ghost use Rattle.sk_ask.specs.Asking.{asked_of, nothing_asked, tells_calls, wanted};
 ghost use Rattle.sk_ask.specs.Asked.{question_of};
@@ -22,10 +22,9 @@ use crate::when::when;
 use crate::why::why;
 use crate::word::Word;
 use crate::words::{Asked, asked_in};
-use sk_ask_filters::{Shelf, Trouble, of_word};
-use sk_io::Sink;
+use crate::{Shelf, Trouble, of_word};
 use sk_profile_json::Context;
-use sk_text::is_same;
+use sk_text::{Sink, is_same};
 use std::alloc::{AllocError, Global};
 
 /// Does what the words ask, which leave out the program's name, and gives the exit status: 0 where they are answered, 1

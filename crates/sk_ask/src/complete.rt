@@ -6,8 +6,8 @@ ghost use Rattle.sk_ask.specs.Asked.{question_of, Asks, HasCall, HasNames};
 
 use crate::word::Word;
 use crate::words::{Asked, expected_line};
-use sk_ask_filters::{Trouble, of_word};
-use sk_call_names::Architecture;
+use crate::{Trouble, of_word};
+use sk_names::Architecture;
 use std::alloc::Global;
 
 // What was asked, where it is whole.

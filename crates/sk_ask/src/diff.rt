@@ -1,7 +1,7 @@
 //! `ask diff`: where the filters of two files answer otherwise.
 ghost use Rattle.std.specs.Prelude.{◌≡◌, ◌++◌, take, drop, map, string_bytes, IfOk};
 ghost use Rattle.sk_filter.specs.Chains.{IsWithinLimit};
-ghost use Rattle.sk_ask_filters.specs.Counts.{CountsReads};
+ghost use Rattle.sk_ask.specs.Counts.{CountsReads};
 ghost use Rattle.sk_ask.specs.Endings.{ending_of};
 ghost use Rattle.sk_ask.specs.Asked.{question_of};
 ghost use Rattle.sk_ask.specs.Diffs.{AnswersDiff, AnswersSides, IsDiff, relation_asked, undecided_text};
@@ -10,8 +10,8 @@ use crate::analysis::Analysis;
 use crate::answer::Answer;
 use crate::on::{architecture_of, filters_on};
 use crate::words::Asked;
-use sk_ask_filters::{Filters, Shelf, Trouble, filters_in};
-use sk_call_names::Architecture;
+use crate::{Filters, Shelf, Trouble, filters_in};
+use sk_names::Architecture;
 use sk_profile_json::Context;
 use sk_when::{Budgets, Comparison, Finding, Relation};
 use std::alloc::{AllocError, Global};

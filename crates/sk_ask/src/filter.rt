@@ -1,7 +1,7 @@
 //! `ask filter`: the filters as lines, or one filter as raw bytes.
 ghost use Rattle.std.specs.Prelude.{◌≡◌, ◌++◌, true, IfOk, OnOk, map};
-ghost use Rattle.sk_ask_filters.specs.Finding.{filters_of};
-ghost use Rattle.sk_ask_filters.specs.Counts.{CountsReads};
+ghost use Rattle.sk_ask.specs.Finding.{filters_of};
+ghost use Rattle.sk_ask.specs.Counts.{CountsReads};
 ghost use Rattle.sk_ask.specs.Endings.{ending_of};
 ghost use Rattle.sk_ask.specs.Asked.{question_of};
 ghost use Rattle.sk_ask.specs.Answering.{AnswersFilter, Gives};
@@ -10,7 +10,7 @@ ghost use Rattle.sk_ask.specs.FilterText.{filter_line, filter_lines};
 use crate::answer::Answer;
 use crate::filters::asked_filters;
 use crate::words::Asked;
-use sk_ask_filters::{Filters, Shelf, Trouble, of_word};
+use crate::{Filters, Shelf, Trouble, of_word};
 use sk_profile_json::Context;
 use std::alloc::{AllocError, Global};
 

@@ -1,15 +1,15 @@
 //! The filters in the files that are asked of, and where the profiles among them are to hold.
 ghost use Rattle.std.specs.Prelude.{◌≡◌, IfOk, IfErr};
-ghost use Rattle.sk_ask_filters.specs.Finding.{filters_of};
-ghost use Rattle.sk_ask_filters.specs.Counts.{CountsReads};
-ghost use Rattle.sk_ask_filters.specs.Reading.{ReadsFilters, IsRefusedOf};
+ghost use Rattle.sk_ask.specs.Finding.{filters_of};
+ghost use Rattle.sk_ask.specs.Counts.{CountsReads};
+ghost use Rattle.sk_ask.specs.Reading.{ReadsFilters, IsRefusedOf};
 ghost use Rattle.sk_ask.specs.Asked.{question_of};
 ghost use Rattle.sk_ask.specs.Asking.{is_turned};
 ghost use Rattle.sk_ask.specs.Contexts.{IsContextOf};
 
 use crate::complete::is_turned;
 use crate::words::Asked;
-use sk_ask_filters::{Filters, Shelf, Trouble, filters_in};
+use crate::{Filters, Shelf, Trouble, filters_in};
 use sk_profile_json::{Context, Kernel};
 use std::alloc::Global;
 

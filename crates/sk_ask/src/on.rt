@@ -3,11 +3,11 @@ ghost use Rattle.std.specs.Prelude.{◌≡◌, IfOk};
 ghost use Rattle.sk_filter.specs.Chains.{IsWithinLimit};
 ghost use Rattle.sk_ask.specs.Architectures.{architecture_of, chain_on};
 
-use sk_arches::chain_for;
-use sk_ask_filters::Filters;
-use sk_call_names::Architecture;
+use crate::Filters;
 use sk_filter::Chain;
 use sk_insn::ARCHITECTURE;
+use sk_names::Architecture;
+use sk_survey::chain_for;
 use std::alloc::{AllocError, Global};
 
 /// The architecture that is asked of.

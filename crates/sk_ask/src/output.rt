@@ -2,9 +2,9 @@
 ghost use Rattle.std.specs.Prelude.{◌≡◌, ◌≤◌};
 ghost use Rattle.sk_ask.specs.Endings.{ending_of, written, Answers, Complains, Leaves, Notes};
 
+use crate::Trouble;
 use crate::answer::Answer;
-use sk_ask_filters::Trouble;
-use sk_io::{Sink, WriteFault, send};
+use sk_text::{Sink, WriteFault, send};
 
 /// The exit status where there is no answer.
 const TROUBLE: u8 = 2;

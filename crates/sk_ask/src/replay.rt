@@ -1,6 +1,6 @@
 //! `ask replay`: the verdicts on the calls of a log.
 ghost use Rattle.std.specs.Prelude.{◌≡◌, ◌≤◌, length, map, string_bytes};
-ghost use Rattle.sk_ask_filters.specs.Counts.{CountsReads};
+ghost use Rattle.sk_ask.specs.Counts.{CountsReads};
 ghost use Rattle.sk_ask.specs.Endings.{ComesTo, ending_of};
 ghost use Rattle.sk_ask.specs.Asking.{wanted};
 ghost use Rattle.sk_ask.specs.Asked.{question_of};
@@ -10,8 +10,8 @@ use crate::answer::Answer;
 use crate::on::architecture_of;
 use crate::word::Word;
 use crate::words::Asked;
-use sk_ask_filters::{Filters, MOST_LOG_BYTES, Shelf, Trouble, about, content, filters_in};
-use sk_call_names::Architecture;
+use crate::{Filters, MOST_LOG_BYTES, Shelf, Trouble, about, content, filters_in};
+use sk_names::Architecture;
 use sk_profile_json::Context;
 use std::alloc::Global;
 

@@ -1,5 +1,5 @@
 //! `ask show`: the listing of one filter for people.
-ghost use Rattle.sk_ask_filters.specs.Counts.{CountsReads};
+ghost use Rattle.sk_ask.specs.Counts.{CountsReads};
 ghost use Rattle.sk_ask.specs.Endings.{ending_of};
 ghost use Rattle.sk_ask.specs.Asked.{question_of};
 ghost use Rattle.sk_ask.specs.Shows.{AnswersShow, Shows};
@@ -8,8 +8,8 @@ use crate::answer::Answer;
 use crate::filters::asked_filters;
 use crate::on::architecture_of;
 use crate::words::Asked;
-use sk_ask_filters::{Filters, Shelf, Trouble, of_word};
-use sk_call_names::Architecture;
+use crate::{Filters, Shelf, Trouble, of_word};
+use sk_names::Architecture;
 use sk_profile_json::Context;
 use std::alloc::Global;
 

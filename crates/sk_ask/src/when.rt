@@ -1,7 +1,7 @@
 //! `ask when`: under which conditions on a call each verdict comes, and with `--dot` the picture of a call's tree.
 ghost use Rattle.std.specs.Prelude.{◌≡◌, true, IfOk, IsSome, string_bytes};
 ghost use Rattle.sk_filter.specs.Chains.{IsWithinLimit};
-ghost use Rattle.sk_ask_filters.specs.Counts.{CountsReads};
+ghost use Rattle.sk_ask.specs.Counts.{CountsReads};
 ghost use Rattle.sk_ask.specs.Endings.{ending_of};
 ghost use Rattle.sk_ask.specs.Asked.{question_of};
 ghost use Rattle.sk_ask.specs.Whens.{AnswersWhen, IsWhenText, TellsWhenOf};
@@ -12,9 +12,9 @@ use crate::calls::asked_call;
 use crate::filters::asked_filters;
 use crate::on::{architecture_of, filters_on};
 use crate::words::Asked;
-use sk_ask_filters::{Filters, Shelf, Trouble};
-use sk_call_names::Architecture;
+use crate::{Filters, Shelf, Trouble};
 use sk_filter::Chain;
+use sk_names::Architecture;
 use sk_profile_json::Context;
 use sk_when::{Budget, Budgets};
 use std::alloc::{AllocError, Global};

@@ -1,7 +1,7 @@
 //! `ask why`: the path of a call through the filters.
 ghost use Rattle.std.specs.Prelude.{◌≡◌, ◌≤◌, IfOk, IfErr, length, map, string_bytes};
 ghost use Rattle.sk_replay.specs.CallWords.{call_of};
-ghost use Rattle.sk_ask_filters.specs.Counts.{CountsReads};
+ghost use Rattle.sk_ask.specs.Counts.{CountsReads};
 ghost use Rattle.sk_ask.specs.Endings.{ending_of};
 ghost use Rattle.sk_ask.specs.Asking.{wanted};
 ghost use Rattle.sk_ask.specs.Asked.{question_of};
@@ -11,9 +11,9 @@ use crate::answer::Answer;
 use crate::on::architecture_of;
 use crate::word::Word;
 use crate::words::Asked;
-use sk_ask_filters::{Filters, Shelf, Trouble, filters_in, of_word};
-use sk_call_names::Architecture;
+use crate::{Filters, Shelf, Trouble, filters_in, of_word};
 use sk_insn::Record;
+use sk_names::Architecture;
 use sk_profile_json::Context;
 use sk_replay::{CallFault, call_in, name_part};
 use std::alloc::{AllocError, Global};

@@ -1,16 +1,15 @@
 //! What is asked by the words behind `ask WORD`.
 ghost use Rattle.std.specs.Prelude.{◌≡◌, ◌≤◌, ◌∷◌, IfOk, length, string_bytes, map};
-ghost use Rattle.sk_call_names.specs.Architectures.{architecture_named};
-ghost use Rattle.sk_profile_file.specs.Capabilities.{capability};
+ghost use Rattle.sk_names.specs.Architectures.{architecture_named};
+ghost use Rattle.sk_profile_json.specs.Capabilities.{capability};
 ghost use Rattle.sk_ask.specs.Asking.{asked_of, nothing_asked, with_word, with_free, with_valued, with_value, with_caps, with_kernel, with_architecture, with_flag, with_own_flag, with_name, is_given, expected_line, is_option};
 ghost use Rattle.sk_ask.specs.Asked.{question_of, Asks, HasCall, HasNames};
 
 use crate::complete::ended;
 use crate::word::{Valued, Word};
-use sk_ask_filters::{Trouble, of_word};
-use sk_call_names::Architecture;
-use sk_profile_file::capability;
-use sk_profile_json::{Kernel, kernel_of};
+use crate::{Trouble, of_word};
+use sk_names::Architecture;
+use sk_profile_json::{Kernel, capability, kernel_of};
 use sk_text::is_same;
 use std::alloc::{AllocError, Global};
 

@@ -1,10 +1,9 @@
 //! Files and writers in memory.
 ghost use Rattle.std.specs.Prelude.{◌≡◌, IfErr, IfOk, vec_len};
-ghost use Rattle.sk_ask_filters.specs.Shelves.{unknown};
+ghost use Rattle.sk_ask.specs.Shelves.{unknown};
 
-use sk_ask::{Trees, command};
-use sk_ask_filters::{Shelf, Unopened, Unread};
-use sk_io::Counted;
+use sk_ask::{Shelf, Trees, Unopened, Unread, command};
+use sk_text::Counted;
 use std::alloc::{AllocError, Global};
 use std::io;
 use std::io::{ErrorKind, Write};
@@ -180,12 +179,18 @@ pub struct Ran {
     pub reads: u64,
 }
 
-/// A run with these words, of which the first so many writes of answers fail.
-pub fn run(alloc: Global, given: &[&str], failing: u64) -> Result<Ran, AllocError> {
+// The words of a text, between its spaces.
+fn words(alloc: Global, text: &str) -> Result<Vec<String>, AllocError> {
     let mut words = Vec::new(alloc);
-    for word in given {
+    for word in text.split(' ').filter(|word| word.len() > 0) {
         words.push(String::from_str(alloc, word)?)?;
     }
+    Ok(words)
+}
+
+/// A run with the words of this text, of which the first so many writes of answers fail.
+pub fn run(alloc: Global, given: &str, failing: u64) -> Result<Ran, AllocError> {
+    let words = words(alloc, given)?;
     let mut out = Counted::new(Output {
         held: Vec::new(alloc),
         failing,

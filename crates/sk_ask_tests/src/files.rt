@@ -1,7 +1,5 @@
 //! The forms of files of filters, where their filters stand, and what is said of those that are refused.
-use sk_ask_filters::{
-    FileFault, Form, LineFault, Place, Refused, attach, fault_text, find, form_of,
-};
+use sk_ask::{FileFault, Form, LineFault, Place, Refused, attach, fault_text, find, form_of};
 use sk_engines::Refusal;
 use sk_filter::CheckFault;
 use std::test::Fail;

@@ -1,16 +1,27 @@
 //! Worked examples of `ask`: its words and texts over files and writers in memory, which fail where they are told to, the
-//! forms of files, the texts of verdicts, and the names of calls.
+//! forms of files, what profiles are made into or refused for, the text that `ask when` makes of small filters, how two of them
+//! differ, what the replay of a log says of its calls, the texts of verdicts, and names.
 #![tactic(auto)]
 
 #[cfg(test)]
 mod answers;
 #[cfg(test)]
+mod differences;
+#[cfg(test)]
 mod ends;
 #[cfg(test)]
 mod files;
 #[cfg(test)]
+mod made;
+#[cfg(test)]
 mod names;
+#[cfg(test)]
+mod refusals;
+#[cfg(test)]
+mod replays;
 #[cfg(test)]
 mod troubles;
 #[cfg(test)]
 mod verdicts;
+#[cfg(test)]
+mod whens;

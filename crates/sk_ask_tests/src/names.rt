@@ -1,6 +1,7 @@
-//! Some calls by their numbers and names, on x86-64 and on others.
-use sk_call_names::Architecture;
-use sk_call_names::x86_64::{name, number, numbers};
+//! Some calls by their numbers and names, on x86-64 and on others, and names of capabilities.
+use sk_names::x86_64::{name, number, numbers};
+use sk_names::{Architecture, is_elsewhere};
+use sk_profile_json::capability;
 use std::test::Fail;
 
 #[test]
@@ -64,8 +65,8 @@ fn architectures(rt: HostRuntime) {
         );
         assert_eq!(rt;
             (
-                sk_call_names::name(it, nr),
-                sk_call_names::number(it, call.as_bytes())
+                sk_names::name(it, nr),
+                sk_names::number(it, call.as_bytes())
             ),
             (Some(call), Some(nr))
         );
@@ -83,9 +84,9 @@ fn architectures(rt: HostRuntime) {
 // x32 has bit 30 in each number, and arm calls of its own far behind the others.
 #[test]
 fn all_named_calls_elsewhere(rt: HostRuntime) -> Result<(), Fail> {
-    let x32 = sk_call_names::numbers(rt.alloc(), Architecture::X32)?;
-    let arm = sk_call_names::numbers(rt.alloc(), Architecture::Arm)?;
-    let i386 = sk_call_names::numbers(rt.alloc(), Architecture::I386)?;
+    let x32 = sk_names::numbers(rt.alloc(), Architecture::X32)?;
+    let arm = sk_names::numbers(rt.alloc(), Architecture::Arm)?;
+    let i386 = sk_names::numbers(rt.alloc(), Architecture::I386)?;
     assert_eq!(rt;
         (
             x32.first(),
@@ -103,4 +104,52 @@ fn all_named_calls_elsewhere(rt: HostRuntime) -> Result<(), Fail> {
         )
     );
     Ok(())
+}
+
+/// A word, how many names it stands for, and the first of them.
+const CAPABILITIES: &[(&[u8], usize, &str)] = &[
+    (b"CAP_SYS_ADMIN", 1, "CAP_SYS_ADMIN"),
+    (b"SYS_ADMIN", 1, "CAP_SYS_ADMIN"),
+    (b"sys_admin", 1, "CAP_SYS_ADMIN"),
+    (b"cap_sys_admin", 1, "CAP_SYS_ADMIN"),
+    (b"Cap_Bpf", 1, "CAP_BPF"),
+    (b"checkpoint_restore", 1, "CAP_CHECKPOINT_RESTORE"),
+    (b"docker", 14, "CAP_AUDIT_WRITE"),
+    (b"all", 41, "CAP_CHOWN"),
+    (b"CAP_", 0, ""),
+    (b"", 0, ""),
+    (b"CAP_CAP_BPF", 0, ""),
+    (b"Docker", 0, ""),
+    (b"SYS_ADMIN ", 0, ""),
+    (b"SYS", 0, ""),
+];
+
+#[test]
+fn capabilities(rt: HostRuntime) {
+    for (word, count, first) in CAPABILITIES {
+        let names = capability(word).unwrap_or(&[]);
+        let known = (names.len(), names.first().copied().unwrap_or(""));
+        assert_eq!(rt; known, (*count, *first));
+    }
+}
+
+/// A name, and whether another architecture alone has it.
+const CALLS: &[(&[u8], bool)] = &[
+    (b"chown32", true),
+    (b"_llseek", true),
+    (b"arm_fadvise64_64", true),
+    (b"s390_pci_mmio_read", true),
+    (b"riscv_hwprobe", true),
+    (b"socketcall", true),
+    (b"read", false),
+    (b"mseal", false),
+    (b"opennat", false),
+    (b"", false),
+];
+
+#[test]
+fn calls_elsewhere(rt: HostRuntime) {
+    for (name, elsewhere) in CALLS {
+        assert_eq!(rt; is_elsewhere(name), *elsewhere);
+    }
 }

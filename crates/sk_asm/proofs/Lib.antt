@@ -1,15 +1,11 @@
-pub mod Aheads
 pub mod Blocks
-pub mod Clean
-pub mod Ends
 pub mod Distinct
 pub mod FirstFaults
+pub mod Entries
 pub mod Marks
 pub mod Meaning
 pub mod OneFault
 pub mod Relation
-pub mod Steps
-pub mod FirstLines
 pub mod Turns
 pub mod Words
 pub mod Numerals

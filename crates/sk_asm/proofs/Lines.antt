@@ -4,9 +4,8 @@ use Rattle.std.proofs.lemmas.Bool.{and_parts, cases_Bool, eqb-true, leb-true, no
 use Rattle.std.specs.Prelude.{find, is_none, nat_le, slice_index}
 use Rattle.std.specs.List.{join_with_byte, list_all}
 use Rattle.std.specs.Str.{bytes_eq}
-use Rattle.std.proofs.lemmas.Slice.Eq.{bytes_eq-Decides}
 use Rattle.sk_text.specs.Lines.{begins_comment, has_bytes}
-use Rattle.sk_insn.specs.Operations.{code_of, name_of, operation_named, operation_of, operations}
+use Rattle.sk_insn.specs.Operations.{code_of, name_of, operation_of, operations}
 use Rattle.sk_insn.specs.declared.insn.Insn.{Insn}
 use Rattle.sk_insn.specs.declared.operation.Operation.{Operation}
 use Rattle.sk_insn.proofs.OperationTable.{operation_named-name_of}
@@ -26,10 +25,10 @@ is_first : List ℕ → Bool
 is_first word =
     has_bytes word && (nat_le (length word) 11 && (list_all is_visible word && (not (slice_index word 0 == 59) && is_none (label_of word))))
 
-pub record IsFirst (word : List ℕ) : Type 0 where
-  pub is_word : IsWord word
-  pub no_comment : (slice_index word 0 == 59) ≡ false
-  pub no_label : label_of word ≡ None
+record IsFirst (word : List ℕ) : Type 0 where
+  is_word : IsWord word
+  no_comment : (slice_index word 0 == 59) ≡ false
+  no_label : label_of word ≡ None
 
 has_bytes-some : (word : List ℕ) → has_bytes word ≡ true → 0 < length word
 has_bytes-some [] h = cc
@@ -95,22 +94,6 @@ operation_of-named code operation h =
       name = IsFirst-from (name_of operation) parts.0;
       other = not-true (bytes_eq (name_of operation) (codes ".insn")) parts.1;
     }
-
--- a word that names an operation is its name
-pub record Names (word : List ℕ) (operation : Operation) : Type 0 where
-  pub first : IsFirst word
-  pub other : bytes_eq word (codes ".insn") ≡ false
-
-pub operation_named-names : (word : List ℕ) (operation : Operation) → operation_named word ≡ Some operation → Names word operation
-unfolding is_name
-operation_named-names word operation h =
-    let both = found is_name (λ o. bytes_eq (name_of o) word) operations operation all_names h in
-    let parts = and_parts (is_first (name_of operation)) (not (bytes_eq (name_of operation) (codes ".insn"))) both.1 in
-    let same : name_of operation ≡ word = (bytes_eq-Decides (name_of operation) word).0 both.0 in
-    subst (λ w. Names w operation) same (record {
-      first = IsFirst-from (name_of operation) parts.0;
-      other = not-true (bytes_eq (name_of operation) (codes ".insn")) parts.1;
-    })
 
 -- ---- an instruction
 

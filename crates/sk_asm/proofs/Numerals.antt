@@ -24,7 +24,7 @@ use Rattle.sk_asm.proofs.Words.{IsWord, is_visible}
 
 -- ---- digits
 
-pub digit-visible : (digit : ℕ) → digit_value digit < 36 → is_visible digit ≡ true
+digit-visible : (digit : ℕ) → digit_value digit < 36 → is_visible digit ≡ true
 digit-visible digit h = elim (cases_lt digit 48) [
   | inl low ↦
       let t = lt-ltb digit 48 low in

@@ -11,10 +11,10 @@ use Rattle.sk_asm.specs.Faults.{◌>>=◌, IsAsmFault}
 use Rattle.sk_asm.specs.Drafts.{Pending, draft_of, pending_of, AreAmong, replaced, completed, Seen, Takes, IsUntaken}
 use Rattle.sk_asm.specs.Grammar.{Further, Labelled, Statement, Silent, Marks, Plain, Jumps, Branches, insn}
 use Rattle.sk_asm.specs.Labels.{Labels, label_place}
-use Rattle.sk_asm.specs.Passes.{understood, checked, counted, marked, noted, labelled, distance, resolved, emitted, in_front}
+use Rattle.sk_asm.specs.Passes.{checked, counted, marked, noted, labelled, distance, resolved, emitted, in_front}
 
 -- a fault of a step is one of what goes on from it
-pub IsAsmFault-along : {X Y : Type 0} (fault : AsmFault) (first : Result X AsmFault) (whole : Result Y AsmFault) → (first ≡ Err fault → whole ≡ Err fault) → IsAsmFault fault first → IsAsmFault fault whole
+IsAsmFault-along : {X Y : Type 0} (fault : AsmFault) (first : Result X AsmFault) (whole : Result Y AsmFault) → (first ≡ Err fault → whole ≡ Err fault) → IsAsmFault fault first → IsAsmFault fault whole
 IsAsmFault-along (Line n) first whole on h = on h
 IsAsmFault-along (Label n) first whole on h = on h
 IsAsmFault-along (Twice n) first whole on h = on h
@@ -34,23 +34,11 @@ module _ (n : ℕ) (labels : Labels) (at : ℕ) (line : List ℕ) (lines rest : 
   pub labelled-unchecked : (fault : AsmFault) → IsAsmFault fault (checked n line) → IsAsmFault fault total
   labelled-unchecked fault h = IsAsmFault-along fault (checked n line) total (λ e. opened ∙ rw e refl) h
 
-  labelled-unnoted : (statement : Statement) (fault : AsmFault) → checked n line ≡ Ok statement → IsAsmFault fault (noted n labels at statement) → IsAsmFault fault total
+  pub labelled-unnoted : (statement : Statement) (fault : AsmFault) → checked n line ≡ Ok statement → IsAsmFault fault (noted n labels at statement) → IsAsmFault fault total
   labelled-unnoted statement fault c h = IsAsmFault-along fault (noted n labels at statement) total (λ e. opened ∙ rw (c, e) refl) h
 
-  labelled-turn : (statement : Statement) (after : Labels) (next : ℕ) → checked n line ≡ Ok statement → noted n labels at statement ≡ Ok (after, next) → labelled (n + 1) after next rest ≡ total
+  pub labelled-turn : (statement : Statement) (after : Labels) (next : ℕ) → checked n line ≡ Ok statement → noted n labels at statement ≡ Ok (after, next) → labelled (n + 1) after next rest ≡ total
   labelled-turn statement after next c e = sym (opened ∙ rw (c, e) refl)
-
-module _ (n : ℕ) (at : ℕ) (line : List ℕ) (lines rest : List (List ℕ)) (total : Result Labels AsmFault) (old : Seen)
-    (cut : lines ≡ line ∷ rest) (so_far : labelled n old.labels at lines ≡ total) where
-  pub labelled-untaken : (given : Option Statement) (fault : AsmFault) → checked n line ≡ understood n given → IsUntaken n at given old fault → IsAsmFault fault total
-  labelled-untaken None fault c h =
-      let not_understood : IsAsmFault {X = Statement} fault (Err (Line n)) = IsAsmFault-along {X = Labels × ℕ} fault (Err (Line n)) (Err (Line n)) (λ e. cc) h in
-      labelled-unchecked n old.labels at line lines rest total cut so_far fault (rw c not_understood)
-  labelled-untaken (Some statement) fault c h = labelled-unnoted n old.labels at line lines rest total cut so_far statement fault c h
-
-  pub labelled-taken : (given : Option Statement) (new : Seen) (next : ℕ) → checked n line ≡ understood n given → Takes n at given old new next → labelled (n + 1) new.labels next rest ≡ total
-  labelled-taken None new next c h = absurd h
-  labelled-taken (Some statement) new next c h = labelled-turn n old.labels at line lines rest total cut so_far statement new.labels next c h.0
 
 pub labelled-end : (n : ℕ) (labels : Labels) (at : ℕ) (lines : List (List ℕ)) (total : Result Labels AsmFault) → lines ≡ [] → labelled n labels at lines ≡ total → total ≡ Ok labels
 unfolding labelled
@@ -84,15 +72,15 @@ noted-place n at labels (Branches code k jt jf) next after h = next_place n at l
 
 -- ---- lines that are no instructions
 
-pub takes-silent : (n at : ℕ) (old : Seen) → Takes n at (Some Silent) old old at
+pub takes-silent : (n at : ℕ) (old : Seen) → Takes n at Silent old old at
 unfolding noted
 takes-silent n at old = (refl, (sym (append-nil old.insns), sym (append-nil old.jumps)))
 
 pub takes-label : (answer : Result ℕ AsmFault) (n at : ℕ) (name : List ℕ) (old : Seen) (after : Labels)
     → MatchResult answer (λ next. marked n old.labels at name ≡ Ok (after, next)) (λ fault. IsAsmFault fault (marked n old.labels at name))
     → MatchResult answer
-    (λ next. Takes n at (Some (Marks name)) old (record { labels = after; insns = old.insns; jumps = old.jumps }) next)
-    (λ fault. IsUntaken n at (Some (Marks name)) old fault)
+    (λ next. Takes n at (Marks name) old (record { labels = after; insns = old.insns; jumps = old.jumps }) next)
+    (λ fault. IsUntaken n at (Marks name) old fault)
 unfolding noted
 takes-label (Ok next) n at name old after h = (h, (sym (append-nil old.insns), sym (append-nil old.jumps)))
 takes-label (Err fault) n at name old after h = h
@@ -281,11 +269,10 @@ found-turn number n at insns jumps line lines rest all statement labels after ne
           ∙ so_far.same labels;
     }
 
-pub found-taken : (number n at : ℕ) (line : List ℕ) (lines rest all : List (List ℕ)) (given : Option Statement) (old new : Seen) (next : ℕ)
-    → lines ≡ line ∷ rest → FoundSoFar number n at old.insns old.jumps lines all → checked n line ≡ understood n given → Takes n at given old new next
+pub found-taken : (number n at : ℕ) (line : List ℕ) (lines rest all : List (List ℕ)) (statement : Statement) (old new : Seen) (next : ℕ)
+    → lines ≡ line ∷ rest → FoundSoFar number n at old.insns old.jumps lines all → checked n line ≡ Ok statement → Takes n at statement old new next
     → FoundSoFar number (n + 1) next new.insns new.jumps rest all
-found-taken number n at line lines rest all None old new next cut so_far said h = absurd h
-found-taken number n at line lines rest all (Some statement) old new next cut so_far said h =
+found-taken number n at line lines rest all statement old new next cut so_far said h =
     found-turn number n at old.insns old.jumps line lines rest all statement old.labels new.labels next new.insns new.jumps cut so_far said h.0 h.1.0 h.1.1
 
 pub found-among : (number n at : ℕ) (insns : List Insn) (jumps : List Pending) (lines all : List (List ℕ)) → FoundSoFar number n at insns jumps lines all → AreAmong (length insns) jumps

@@ -50,7 +50,7 @@ words_of-joined (word ∷ words) h = ap (filter has_bytes) (split_joined word wo
 
 -- ---- lines
 
-pub word-printable : (word : List ℕ) → list_all is_visible word ≡ true → list_all is_printable_byte word ≡ true
+word-printable : (word : List ℕ) → list_all is_visible word ≡ true → list_all is_printable_byte word ≡ true
 unfolding is_printable_byte
 word-printable [] h = refl
 word-printable (byte ∷ word) h =

@@ -6,7 +6,7 @@ use Rattle.sk_asm.specs.declared.fault.AsmFault.{AsmFault}
 use Rattle.sk_asm.specs.Faults.{◌>>=◌, IsAsmFault}
 use Rattle.sk_asm.specs.Grammar.{Destination, Further, Labelled, Statement, Silent, Marks, Plain, Jumps, Branches, insn}
 use Rattle.sk_asm.specs.Labels.{Labels}
-use Rattle.sk_asm.specs.Passes.{understood, noted, resolved, in_front}
+use Rattle.sk_asm.specs.Passes.{noted, resolved, in_front}
 
 -- ---- one statement
 
@@ -69,12 +69,11 @@ pub record Seen : Type 0 where
   pub jumps : List Pending
 
 -- line n says this, and does so to what was found, where the next instruction has a place, and then another one
-abbrev pub Takes : ℕ → ℕ → Option Statement → Seen → Seen → ℕ → Type 0
-Takes n at None old new next = ⊥
-Takes n at (Some statement) old new next =
+abbrev pub Takes : ℕ → ℕ → Statement → Seen → Seen → ℕ → Type 0
+Takes n at statement old new next =
     (noted n old.labels at statement ≡ Ok (new.labels, next))
     × ((new.insns ≡ old.insns ++ in_front (draft_of statement) []) × (new.jumps ≡ old.jumps ++ pending_of at n statement))
 
--- the fault of a line that is not understood, or not taken
-abbrev pub IsUntaken : ℕ → ℕ → Option Statement → Seen → AsmFault → Type 0
-IsUntaken n at given old fault = IsAsmFault fault (understood n given >>= λ statement. noted n old.labels at statement)
+-- the fault of a line that is not taken
+abbrev pub IsUntaken : ℕ → ℕ → Statement → Seen → AsmFault → Type 0
+IsUntaken n at statement old fault = IsAsmFault fault (noted n old.labels at statement)

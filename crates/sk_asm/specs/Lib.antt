@@ -1,10 +1,7 @@
-pub mod Ahead
 pub mod Assembly
 pub mod Block
-pub mod Clean
 pub mod Drafts
 pub mod Faults
-pub mod FirstLine
 pub mod Grammar
 pub mod Labels
 pub mod LineFaults
@@ -12,6 +9,5 @@ pub mod Passes
 pub mod Seeing
 pub mod Views
 pub mod Listing
-pub mod NextLine
 pub mod RoundTrip
 pub mod WorkedLines

@@ -1,39 +1,18 @@
 //! What a line says, over the bytes of the text.
 ghost use Rattle.std.specs.Prelude.{◌≡◌, Some};
 ghost use Rattle.sk_asm.specs.Drafts.{drafted, draft_of, has_label};
-ghost use Rattle.sk_asm.specs.Views.{destination_by, destination_to, statement};
+ghost use Rattle.sk_asm.specs.Views.{destination_to, statement};
 
 use crate::distance::Distance;
-use crate::shape::Shape;
 use sk_insn::Insn;
 
-// What the first word of a line says. An instruction's other words are not read yet.
+// What a line says.
 #[derive(Clone, Copy)]
-pub(crate) enum Begun<'a> {
+pub(crate) enum Said<'a> {
     Silent,
     Label(&'a [u8]),
-    Fields(&'a [u8]),
-    Form(Shape, u16, &'a [u8]),
-}
-
-// Where a jump goes: so many instructions further, or to a label.
-#[derive(Clone, Copy)]
-pub(crate) enum Destination<'a, N> {
-    Further(N),
-    Labelled(&'a [u8]),
-}
-
-impl<'a, N: Distance> Destination<'a, N> {
-    // The distance, as far as it is known, and the label.
-    #[inline(always)]
-    pub(crate) fn parts(self) -> (N, Option<&'a [u8]>)
-        ensures exact { destination_to (N.number result.0) result.1 ≡ destination_by N.number self.entry }
-    {
-        match self {
-            Destination::Further(count) => (count, None),
-            Destination::Labelled(name) => (N::of(0), Some(name)),
-        }
-    }
+    Plain(Insn),
+    Jump(Jump<'a>),
 }
 
 // A jump: its instruction, and the labels that stand in place of its distances.

@@ -2,11 +2,10 @@
 ghost use Rattle.std.specs.Prelude.{◌≡◌};
 ghost use Rattle.std.specs.Option.{option_map};
 ghost use Rattle.sk_asm.specs.Grammar.{u8_of, u16_of, u32_of, label_of, destination_of, action_with, action_value, returned_value};
-ghost use Rattle.sk_asm.specs.Views.{destination_by};
+ghost use Rattle.sk_asm.specs.Views.{destination_to};
 ghost use Rattle.sk_text.specs.Numbers.{number_of, up_to};
 
 use crate::distance::Distance;
-use crate::statement::Destination;
 use sk_insn::Action;
 use sk_text::{cut, is_name, number_up_to};
 
@@ -32,7 +31,6 @@ pub(crate) fn u32_of(word: &[u8]) -> Option<u32>
 }
 
 // The name of a label that a word gives.
-#[inline(always)]
 #[tactic(auto, unfolding(crate::specs::Grammar::label_of))]
 pub(crate) fn label(word: &[u8]) -> Option<&[u8]>
     ensures name { option_map (λ name. name.now) result ≡ label_of word.now }
@@ -44,16 +42,16 @@ pub(crate) fn label(word: &[u8]) -> Option<&[u8]>
     is_name(name).then_some(name)
 }
 
-// A jump's destination, with a distance as wide as its field.
+// A jump's destination: the distance, as wide as its field and as far as it is known, and the label.
 #[tactic(auto, unfolding(crate::specs::Grammar::destination_of))]
-pub(crate) fn destination<N: Distance>(word: &[u8]) -> Option<Destination<'_, N>>
-    ensures to { option_map (destination_by N.number) result ≡ destination_of (λ digits. up_to N.most (number_of digits)) word.now }
+pub(crate) fn destination<N: Distance>(word: &[u8]) -> Option<(N, Option<&[u8]>)>
+    ensures to { option_map (λ to. destination_to (N.number to.0) to.1) result ≡ destination_of (λ digits. up_to N.most (number_of digits)) word.now }
 {
     if word.starts_with(b"+") {
         let count = N::read(&word[1..])?;
-        return Some(Destination::Further(count));
+        return Some((count, None));
     }
-    is_name(word).then_some(Destination::Labelled(word))
+    is_name(word).then_some((N::of(0), Some(word)))
 }
 
 #[tactic(auto, unfolding(crate::specs::Grammar::action_with))]

@@ -1,10 +1,10 @@
 //! The faults that a task ends with: their texts, their statuses, and which fault of a library becomes which.
 use sk_insn::ImageFault;
-use sk_io::ReadFault;
+use sk_kernel::Stopped;
 use sk_profile::ProfileFault;
 use sk_run::EngineFault;
 use sk_scenario::ScenarioFault;
-use sk_text::HexFault;
+use sk_text::{HexFault, ReadFault};
 use std::alloc::{AllocError, AllocFailed};
 use std::io;
 use std::io::ErrorKind;
@@ -31,6 +31,15 @@ pub enum Fault {
     /// There is no room for a process.
     #[error("no room")]
     NoRoom,
+    /// A process has no child that can be taken out.
+    #[error("no child")]
+    NoChild,
+    /// A kernel has answered otherwise than it is to.
+    #[error("another answer")]
+    Otherwise,
+    /// A kernel has stopped, and is not to go on.
+    #[error("stopped")]
+    Stopped,
     /// What is to be read as a scenario is none.
     #[error("{0}")]
     Scenario(ScenarioFault),
@@ -46,7 +55,8 @@ impl Fault {
     /// The status that the program ends with, as `skern` has it: 3 where a read, a write or memory failed.
     pub fn status(self) -> u8 {
         match self {
-            Fault::NotUnderstood | Fault::Refused | Fault::Profile | Fault::NoRoom => 1,
+            Fault::NotUnderstood | Fault::Refused | Fault::Profile => 1,
+            Fault::NoRoom | Fault::NoChild | Fault::Otherwise | Fault::Stopped => 1,
             Fault::Scenario(_) | Fault::Engine(EngineFault::Scenario(_)) => 1,
             Fault::Read | Fault::Write | Fault::Memory | Fault::Engine(_) => 3,
         }
@@ -81,6 +91,12 @@ impl From<ReadFault> for Fault {
             ReadFault::Read => Fault::Read,
             ReadFault::Memory => Fault::Memory,
         }
+    }
+}
+
+impl From<Stopped> for Fault {
+    fn from(_stopped: Stopped) -> Fault {
+        Fault::Stopped
     }
 }
 

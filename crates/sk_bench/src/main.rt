@@ -1,14 +1,15 @@
 //! What `bench/run` measures, and whether the filter of docker's default profile is as short as wanted: the tasks of
 //! standard input, one after the other. What most of them come to is a sum of all that came out, so that nothing of the
-//! work can be left out. `tools/refuse_memory.py` has scenarios read under refused memory.
+//! work can be left out. `tools/refuse_memory.py` has scenarios read under refused memory, and processes forked.
 //!
 //! A line begins each task: `filters 502` (`filters`), `profile 6698` (`profile`), `store slots fork 4 3` (`stores`),
-//! `scenario 228` (`reads`) or `report twice 31` (`runs`), where the number at the end is that of the bytes behind the
-//! line which belong to the task; a task of a store has none.
+//! `forks kernel` (`forks`), `scenario 228` (`reads`) or `report twice 31` (`runs`), where the number at the end is that of
+//! the bytes behind the line which belong to the task; a task of a store and one of forks have none.
 #![tactic(auto)]
 
 mod fault;
 mod filters;
+mod forks;
 mod numbers;
 mod profile;
 mod programs;
@@ -18,8 +19,7 @@ mod stores;
 
 use fault::Fault;
 use numbers::number_of;
-use sk_io::{Counted, take_up_to};
-use sk_text::{Words, cut};
+use sk_text::{Counted, Words, cut, take_up_to};
 use std::process::ExitCode;
 
 // The most bytes of all tasks: each may be as long as a scenario at most.
@@ -66,6 +66,10 @@ fn rest_after<'a>(rt: &HostRuntime, text: &'a [u8]) -> Result<&'a [u8], Fault> {
         }
         Some(b"store") => {
             stores::tell(rt, words)?;
+            Ok(behind)
+        }
+        Some(b"forks") => {
+            forks::tell(rt, words)?;
             Ok(behind)
         }
         Some(b"scenario") => {

@@ -1,9 +1,9 @@
-//! Filters as programs that can run.
-ghost use Rattle.std.specs.Prelude.{◌≡◌, Ok, IfOk};
+//! Filters as programs that can run, and chains of them.
+ghost use Rattle.std.specs.Prelude.{◌≡◌, ◌∷◌, Ok, IfOk};
 ghost use Rattle.sk_insn.specs.Instructions.{instructions_of};
 
 use crate::fault::Fault;
-use sk_filter::{Checked, check};
+use sk_filter::{Chain, ChainFault, Checked, check};
 use sk_insn::{Insn, read_insns};
 use std::alloc::Global;
 
@@ -21,5 +21,16 @@ pub fn checked(insns: Vec<Insn>) -> Result<Checked, Fault>
     match check(insns) {
         Ok(program) => Ok(program),
         Err(_) => Err(Fault::Refused),
+    }
+}
+
+/// The chain with one filter more.
+pub fn attached(chain: Chain, program: Checked) -> Result<Chain, Fault>
+    ensures longer { IfOk result (λ longer. longer ≡ program ∷ chain) }
+{
+    match chain.attach(program) {
+        Ok(longer) => Ok(longer),
+        Err((_, _, ChainFault::PathLimit)) => Err(Fault::Refused),
+        Err((_, _, ChainFault::Memory)) => Err(Fault::Memory),
     }
 }

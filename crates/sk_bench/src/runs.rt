@@ -4,11 +4,10 @@
 mod way;
 
 use crate::fault::Fault;
-use sk_io::{Counted, Sink, send};
-use sk_report::turn_line;
-use sk_run::{EngineFault, Machine, ReportLine, engine_with};
+use sk_run::{EngineFault, Machine, ReportLine, engine_with, turn_line};
 use sk_scenario::read;
 use sk_table::{ListStore, SlotStore};
+use sk_text::{Counted, Sink, send};
 use std::alloc::Global;
 use std::io;
 use std::io::{BufWriter, Write};

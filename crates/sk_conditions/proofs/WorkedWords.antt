@@ -1,5 +1,5 @@
 -- The worked words, computed.
-use Rattle.std.proofs.Common.{◌≡◌, ◌≢◌, ℕ, ◌==◌, Bool, true, false, bit_and, true≢false, sym, ◌∙◌, refl, arith}
+use Rattle.std.proofs.Common.{◌≡◌, ℕ, ◌==◌, true, bit_and, true≢false, sym, ◌∙◌, refl, arith}
 use Rattle.std.proofs.lemmas.Bool.{eqb-true, ne_eqb}
 use Rattle.sk_conditions.specs.WorkedWords.{RangesMeet, WordsMeet}
 use Rattle.sk_conditions.proofs.Words.{all_bits}

@@ -10,6 +10,7 @@ pub mod WorkedChains
 pub mod WorkedPaths
 pub mod WorkedFollowed
 pub mod Followed
+pub mod Steps
 pub mod Meeting
 pub mod Ways
 pub mod WorkedWords

@@ -1,5 +1,5 @@
 -- Which calls come to the ends of a tree.
-use Rattle.std.specs.Prelude.{ℕ, ◌<◌, not, List, length, filter}
+use Rattle.std.specs.Prelude.{◌<◌, not, List, length, filter}
 use Rattle.sk_insn.specs.declared.record.Record.{Record}
 use Rattle.sk_conditions.specs.declared.tree.Tree.{Tree}
 use Rattle.sk_conditions.specs.declared.tree.Tree.TheVariants.{Is, Untold, Ask'}

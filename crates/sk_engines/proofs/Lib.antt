@@ -1,4 +1,3 @@
-pub mod LineCount
 pub mod Ending
 pub mod Chaining
 mod Parsing

@@ -1,8 +1,8 @@
 -- What an engine leaves behind: a whole answer, or a fault and a beginning of it.
 use Rattle.std.specs.Prelude.{ℕ, ◌≡◌, Option, Result, Ok, Err, List, []}
 use Rattle.std.specs.Io.KnownBytes.{Appends}
-use Rattle.sk_io.specs.Failures.{one_more}
-use Rattle.sk_io.specs.Writing.{AppendsBeginning}
+use Rattle.sk_text.specs.Failures.{one_more}
+use Rattle.sk_text.specs.Writing.{AppendsBeginning}
 use Rattle.sk_engines.specs.Output.{Output}
 use Rattle.sk_engines.specs.declared.fault.CommandFault.{CommandFault}
 use Rattle.sk_engines.specs.declared.fault.CommandFault.TheVariants.{Read, Write}

@@ -1,6 +1,6 @@
 -- Which fault of a command a fault of reading is.
-use Rattle.sk_io.specs.declared.source.ReadFault.{ReadFault}
-use Rattle.sk_io.specs.declared.source.ReadFault.TheVariants.{Read as ReadFailed, Memory as MemoryRefused}
+use Rattle.sk_text.specs.declared.source.ReadFault.{ReadFault}
+use Rattle.sk_text.specs.declared.source.ReadFault.TheVariants.{Read as ReadFailed, Memory as MemoryRefused}
 use Rattle.sk_engines.specs.declared.fault.CommandFault.{CommandFault}
 use Rattle.sk_engines.specs.declared.fault.CommandFault.TheVariants.{Read, Memory}
 

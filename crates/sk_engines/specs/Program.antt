@@ -1,8 +1,8 @@
 -- How a program ends: with its work done, or with a fault told behind what went out.
 use Rattle.std.specs.Prelude.{◌≡◌, ◌≢◌, ◌≤◌, ◌⊎◌, ℕ, List, codes, Option, Result, Ok, Err, IfSome}
 use Rattle.std.specs.Io.KnownBytes.{Appends}
-use Rattle.sk_io.specs.Failures.{one_more}
-use Rattle.sk_io.specs.Writing.{AppendsBeginning}
+use Rattle.sk_text.specs.Failures.{one_more}
+use Rattle.sk_text.specs.Writing.{AppendsBeginning}
 use Rattle.sk_engines.specs.Engine.{CountsReads, CountsWrites}
 use Rattle.sk_engines.specs.Output.{line}
 use Rattle.sk_engines.specs.declared.fault.CommandFault.{CommandFault}

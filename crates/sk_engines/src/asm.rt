@@ -1,37 +1,18 @@
 //! `skern asm`: the image of a text, in hexadecimal digits.
-ghost use Rattle.std.specs.Prelude.{◌≡◌, ◌≤◌, ◌++◌, IfOk, IfSome, OnOk, Err, flat_map, string_bytes};
+ghost use Rattle.std.specs.Prelude.{◌≡◌, ◌++◌, IfOk, OnOk, flat_map, string_bytes};
 ghost use Rattle.sk_asm.specs.Passes.{assembled};
-ghost use Rattle.sk_engines.specs.AsmCommand.{asm_answer, assembled_answer, digits_line};
-ghost use Rattle.sk_io.specs.Reading.{ConsumesUpTo};
-ghost use Rattle.sk_engines.specs.Engine.{Delivers, CountsReads, CountsWrites};
+ghost use Rattle.sk_engines.specs.AsmCommand.{assembled_answer, digits_line};
 
-use crate::engine::{Command, run};
-use crate::fault::CommandFault;
+use crate::engine::Command;
 use crate::reply::Reply;
 use sk_asm::{AsmFault, assemble};
 use sk_insn::Insn;
-use sk_io::{Sink, Source};
 use sk_text::HexDigits;
 use std::alloc::{AllocError, Global};
 use std::fmt::Write;
 
-/// Runs `skern asm` over a reader and a writer. Nothing goes out before the input was read whole.
-pub fn asm_engine<R: Source, W: Sink>(
-    alloc: Global,
-    reader: &mut R,
-    writer: &mut W,
-) -> Result<u8, CommandFault>
-    ensures told { IfSome (R.remaining reader.old) (λ input.
-        Delivers (asm_answer input) result (W.contents writer.old) (W.contents writer.new)) }
-    ensures status { IfOk result (λ status. status ≤ 1) }
-    ensures limit { ConsumesUpTo 1048577 (R.remaining reader.old) (R.remaining reader.new) }
-    ensures reads { CountsReads result (R.failed reader.old) (R.failed reader.new) }
-    ensures writes { CountsWrites result (W.failed writer.old) (W.failed writer.new) }
-{
-    run::<Assemble, R, W>(alloc, reader, writer)
-}
-
-struct Assemble;
+// `skern asm`.
+pub(crate) struct Assemble;
 
 impl Command for Assemble {
     ghost answers = { λ text. assembled_answer (assembled text) };

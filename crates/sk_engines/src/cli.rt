@@ -1,13 +1,18 @@
 //! The filter commands over any reader and writer.
 ghost use Rattle.std.specs.Prelude.{◌≡◌, ◌≤◌, IfNone, IfOk, IfSome, map, string_bytes};
-ghost use Rattle.sk_io.specs.Reading.{ConsumesUpTo};
+ghost use Rattle.sk_text.specs.Reading.{ConsumesUpTo};
 ghost use Rattle.sk_engines.specs.Engine.{Delivers, CountsReads, CountsWrites};
 ghost use Rattle.sk_engines.specs.Program.{Ends, Works, device};
 ghost use Rattle.sk_engines.specs.Words.{answer_by, answer_to, filter_word_of};
 
+use crate::asm::Assemble;
+use crate::check::Check;
+use crate::engine::run;
+use crate::eval::Eval;
+use crate::list::List;
 use crate::word::{FilterWord, Word, word_in};
-use crate::{CommandFault, asm_engine, check_engine, eval_engine, failed, list_engine, tell_usage};
-use sk_io::{Sink, Source};
+use crate::{CommandFault, failed, tell_usage};
+use sk_text::{Sink, Source};
 use std::alloc::Global;
 
 const USAGE: &str = "usage: skern check|eval|asm|list\n";
@@ -66,9 +71,9 @@ pub fn filter_command<R: Source, W: Sink>(
     ensures writes { CountsWrites result (W.failed writer.old) (W.failed writer.new) }
 {
     match word {
-        FilterWord::Check => check_engine(alloc, reader, writer),
-        FilterWord::Eval => eval_engine(alloc, reader, writer),
-        FilterWord::Asm => asm_engine(alloc, reader, writer),
-        FilterWord::List => list_engine(alloc, reader, writer),
+        FilterWord::Check => run::<Check, R, W>(alloc, reader, writer),
+        FilterWord::Eval => run::<Eval, R, W>(alloc, reader, writer),
+        FilterWord::Asm => run::<Assemble, R, W>(alloc, reader, writer),
+        FilterWord::List => run::<List, R, W>(alloc, reader, writer),
     }
 }

@@ -1,14 +1,13 @@
 //! What all commands do alike: they read the input, and send the answer.
 ghost use Rattle.std.specs.Prelude.{◌≡◌, ◌≢◌, ◌≤◌, ℕ, List, take, IfOk, IfSome, Err};
 ghost use Rattle.sk_engines.specs.Output.{Output, within_limit};
-ghost use Rattle.sk_io.specs.Reading.{ConsumesUpTo};
+ghost use Rattle.sk_text.specs.Reading.{ConsumesUpTo};
 ghost use Rattle.sk_engines.specs.Engine.{Delivers, CountsReads, CountsWrites};
 ghost use Rattle.sk_engines.specs.Reply.{output_of};
 
 use crate::fault::CommandFault;
 use crate::reply::Reply;
-use sk_io::{Sink, Source, send, take_up_to};
-use sk_text::MOST_BYTES;
+use sk_text::{MOST_BYTES, Sink, Source, send, take_up_to};
 use std::alloc::{AllocError, Global};
 
 /// What a command answers on a text within the limit.

@@ -1,45 +1,25 @@
 //! `skern eval`: what filters answer on a call, each by itself and all together.
-ghost use Rattle.std.specs.Prelude.{◌≡◌, ◌≤◌, ◌++◌, IfOk, IfSome, OnOk, [], map, string_bytes};
+ghost use Rattle.std.specs.Prelude.{◌≡◌, ◌++◌, IfOk, OnOk, [], map, string_bytes};
 ghost use Rattle.sk_filter.specs.Meaning.{Returned};
 ghost use Rattle.sk_text.specs.Lines.{lines_of};
 ghost use Rattle.sk_engines.specs.EvalInput.{gathered, nothing_yet};
-ghost use Rattle.sk_engines.specs.Gathering.{asked_of};
 ghost use Rattle.sk_engines.specs.Filters.{chained};
-ghost use Rattle.sk_engines.specs.EvalCommand.{eval_answer, asked_answer, chained_answer, chain_text, meaning_line, verdict_line, value_text};
-ghost use Rattle.sk_io.specs.Reading.{ConsumesUpTo};
-ghost use Rattle.sk_engines.specs.Engine.{Delivers, CountsReads, CountsWrites};
+ghost use Rattle.sk_engines.specs.EvalCommand.{asked_answer, chained_answer, chain_text, meaning_line, verdict_line, value_text};
 ghost use Rattle.sk_engines.specs.Reply.{output_of};
 
-use crate::engine::{Command, run};
+use crate::engine::Command;
 use crate::eval_input::{Asked, gather};
-use crate::fault::CommandFault;
 use crate::filters::attach_images;
 use crate::refusal::refusal_reply;
 use crate::reply::Reply;
 use sk_filter::{Filters, Ran, first_of};
 use sk_insn::{Action, Record};
-use sk_io::{Sink, Source};
 use sk_text::hex_word;
 use std::alloc::{AllocError, Global};
 use std::fmt::Write;
 
-/// Runs `skern eval` over a reader and a writer. Nothing goes out before the input was read whole.
-pub fn eval_engine<R: Source, W: Sink>(
-    alloc: Global,
-    reader: &mut R,
-    writer: &mut W,
-) -> Result<u8, CommandFault>
-    ensures told { IfSome (R.remaining reader.old) (λ input.
-        Delivers (eval_answer input) result (W.contents writer.old) (W.contents writer.new)) }
-    ensures status { IfOk result (λ status. status ≤ 1) }
-    ensures limit { ConsumesUpTo 1048577 (R.remaining reader.old) (R.remaining reader.new) }
-    ensures reads { CountsReads result (R.failed reader.old) (R.failed reader.new) }
-    ensures writes { CountsWrites result (W.failed writer.old) (W.failed writer.new) }
-{
-    run::<Eval, R, W>(alloc, reader, writer)
-}
-
-struct Eval;
+// `skern eval`.
+pub(crate) struct Eval;
 
 impl Command for Eval {
     ghost answers = { λ text. asked_answer (gathered 1 nothing_yet (lines_of text)) };

@@ -27,7 +27,7 @@ pub struct Given {
 }
 
 /// What the lines of an input ask, or the number of the line that is not understood.
-#[tactic(auto, using(crate::proofs::LineCount::length_lines_of))]
+#[tactic(auto, using(sk_text::proofs::Cuts::length_lines_of))]
 pub fn gather(alloc: Global, input: &[u8]) -> Result<Result<Asked, usize>, AllocError>
     ensures exact { IfOk result (λ asked. Gathers asked (gathered 1 nothing_yet (lines_of input.now))) }
 {

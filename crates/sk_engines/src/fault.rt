@@ -1,5 +1,5 @@
 //! The faults that end a command: their texts, and which failure of its ends becomes which of them.
-use sk_io::{ReadFault, WriteFault};
+use sk_text::{ReadFault, WriteFault};
 use std::alloc::AllocError;
 use thiserror::Error;
 

@@ -16,14 +16,10 @@ mod refusal;
 mod reply;
 mod word;
 
-pub use asm::asm_engine;
-pub use check::check_engine;
 pub use cli::{command, filter_command};
 pub use engine::{deliver, input};
-pub use eval::eval_engine;
 pub use fault::CommandFault;
 pub use filters::{MOST_FILTERS, Refusal, attach_images, bytes_in};
-pub use list::list_engine;
 pub use program::{FAILED, failed, finish, tell_usage, words_of};
 pub use refusal::refusal_reply;
 pub use reply::Reply;

@@ -1,14 +1,13 @@
 //! What a program does around its command: it takes its words, tells its usage and its faults, and ends.
 ghost use Rattle.std.specs.Prelude.{◌≡◌, ◌≢◌, Err};
 ghost use Rattle.std.specs.Io.Buffered.{writer_buffer, writer_inner};
-ghost use Rattle.sk_io.specs.Counted.{inner_of, failures_of};
+ghost use Rattle.sk_text.specs.Counted.{inner_of, failures_of};
 ghost use Rattle.sk_engines.specs.Engine.{Delivers, CountsWrites};
 ghost use Rattle.sk_engines.specs.Output.{misused};
 ghost use Rattle.sk_engines.specs.Program.{Finishes, Sends, device, fault_line};
 
 use crate::fault::CommandFault;
-use sk_io::{Counted, Sink, send};
-use sk_text::Line;
+use sk_text::{Counted, Line, Sink, send};
 use std::env::Env;
 use std::io::{BufWriter, Write};
 use std::{env, io};

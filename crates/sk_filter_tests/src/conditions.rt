@@ -234,7 +234,7 @@ fn ways_that_no_call_takes_cost_nothing(rt: HostRuntime) -> Result<(), Fail> {
         Relation::Same,
         &[&often],
         &[&above_200(), &[ret(ALLOW)]],
-        Budgets::of_rows(1).row(),
+        Budgets::of_rows(1).row(0),
     )?;
     assert!(rt; told == SAME);
     Ok(())

@@ -1,5 +1,5 @@
 //! Ends over memory that give or take a few bytes a call, and that fail at a call of their own.
-use sk_io::{Counted, ReadFault, Sink, Source, WriteFault, send, take_up_to};
+use sk_text::{Counted, ReadFault, Sink, Source, WriteFault, send, take_up_to};
 use std::cmp::min;
 use std::io;
 use std::io::{ErrorKind, Read, Write};
@@ -85,6 +85,11 @@ impl Write for Writer {
     }
 }
 
+fn reading(left: &[u8], step: usize, wrong_at: u32) -> Counted<Reader<'_>> {
+    let plan = Plan::at(wrong_at, Trouble::Error);
+    Counted::new(Reader { left, step, plan })
+}
+
 #[test]
 fn takes_the_first_bytes(rt: HostRuntime) -> Result<(), Fail> {
     let cases = [
@@ -95,12 +100,7 @@ fn takes_the_first_bytes(rt: HostRuntime) -> Result<(), Fail> {
         (9, 4, b"abcdef", b""),
     ];
     for (most, step, taken, left) in cases {
-        let plan = Plan::at(0, Trouble::Error);
-        let mut source = Counted::new(Reader {
-            left: b"abcdef",
-            step,
-            plan,
-        });
+        let mut source = reading(b"abcdef", step, 0);
         let bytes = take_up_to(rt.alloc(), &mut source, most)?;
         assert_eq!(rt; bytes.as_slice(), taken);
         assert_eq!(rt; source.failures(), 0);
@@ -112,12 +112,7 @@ fn takes_the_first_bytes(rt: HostRuntime) -> Result<(), Fail> {
 #[test]
 fn takes_more_than_a_piece(rt: HostRuntime) -> Result<(), Fail> {
     let text = [7u8; 5000];
-    let plan = Plan::at(0, Trouble::Error);
-    let mut source = Counted::new(Reader {
-        left: &text,
-        step: 5000,
-        plan,
-    });
+    let mut source = reading(&text, 5000, 0);
     let bytes = take_up_to(rt.alloc(), &mut source, 4097)?;
     assert_eq!(rt; bytes.len(), 4097);
     assert_eq!(rt; source.into_inner().left.len(), 903);
@@ -127,12 +122,7 @@ fn takes_more_than_a_piece(rt: HostRuntime) -> Result<(), Fail> {
 #[test]
 fn a_read_that_fails_ends_it_and_is_not_tried_again(rt: HostRuntime) {
     for wrong_at in 1..=4 {
-        let plan = Plan::at(wrong_at, Trouble::Error);
-        let mut source = Counted::new(Reader {
-            left: b"abcdef",
-            step: 2,
-            plan,
-        });
+        let mut source = reading(b"abcdef", 2, wrong_at);
         let answer = take_up_to(rt.alloc(), &mut source, 9);
         assert_eq!(rt; answer.err(), Some(ReadFault::Read));
         assert_eq!(rt; source.failures(), 1);

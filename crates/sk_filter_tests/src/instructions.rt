@@ -1,7 +1,8 @@
 //! Images, records, operations and actions, at bytes and numbers that the manuals give.
+use crate::filters::refuses_getppid;
 use sk_insn::{
-    Action, Arithmetic, Comparison, ImageFault, Insn, NoImage, Operand, Operation, Record,
-    Register, decode, read_image, read_insns, write_insns,
+    Action, Arithmetic, Comparison, ImageFault, NoImage, Operand, Operation, Record, Register,
+    decode, read_image, read_insns, write_insns,
 };
 use std::alloc::{AllocError, Global};
 use std::test::Fail;
@@ -20,32 +21,7 @@ fn an_image_is_read_and_written(rt: HostRuntime) -> Result<(), Fail> {
     let Ok(insns) = read_insns(alloc, &REFUSES_GETPPID) else {
         return Err(Fail::from("no image"));
     };
-    let wanted = [
-        Insn {
-            code: 0x20,
-            jt: 0,
-            jf: 0,
-            k: 0,
-        },
-        Insn {
-            code: 0x15,
-            jt: 0,
-            jf: 1,
-            k: 110,
-        },
-        Insn {
-            code: 0x06,
-            jt: 0,
-            jf: 0,
-            k: 0x0005_0001,
-        },
-        Insn {
-            code: 0x06,
-            jt: 0,
-            jf: 0,
-            k: 0x7fff_0000,
-        },
-    ];
+    let wanted = refuses_getppid();
     assert_eq!(rt; insns.as_slice(), wanted.as_slice());
     let image = write_insns(alloc, insns.as_slice())?;
     assert_eq!(rt; image.as_slice(), REFUSES_GETPPID.as_slice());

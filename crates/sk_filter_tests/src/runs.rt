@@ -1,5 +1,5 @@
 //! Worked runs of filters: what they answer and in how many steps, and the walks for always-allowed numbers.
-use crate::filters::{by_architecture, even, filter, refuses_getppid};
+use crate::filters::{filter, refuses_getppid};
 use crate::insns::{
     ALLOW, EPERM, branch, divx, ja, jeq, ldabs, ldimm, ldmem, ldximm, ret, reta, st, tax, txa,
     with_k,
@@ -16,34 +16,57 @@ fn call(nr: u32) -> Record {
     )
 }
 
+// Each calculation by itself, and in a filter with its constant and with X.
 #[test]
-fn calculations_alone(rt: HostRuntime) -> Result<(), Fail> {
+fn calculations(rt: HostRuntime) -> Result<(), Fail> {
     let rows = [
-        (Arithmetic::Add, u32::MAX, 2, 1),
-        (Arithmetic::Subtract, 1, 2, u32::MAX),
-        (Arithmetic::Multiply, 0x8000_0001, 2, 2),
-        (Arithmetic::Divide, 7, 2, 3),
-        (Arithmetic::Or, 12, 10, 14),
-        (Arithmetic::And, 12, 10, 8),
-        (Arithmetic::ShiftLeft, 3, 33, 6),
-        (Arithmetic::ShiftRight, 0x8000_0000, 31, 1),
-        (Arithmetic::ExclusiveOr, 12, 10, 6),
+        (Arithmetic::Add, 0x04, u32::MAX, 2, 1),
+        (Arithmetic::Subtract, 0x14, 1, 2, u32::MAX),
+        (Arithmetic::Multiply, 0x24, 0x1_0001, 0x1_0001, 0x2_0001),
+        (Arithmetic::Divide, 0x34, 7, 2, 3),
+        (Arithmetic::Or, 0x44, 0b1100, 0b1010, 0b1110),
+        (Arithmetic::And, 0x54, 0b1100, 0b1010, 0b1000),
+        (Arithmetic::ShiftLeft, 0x64, 0x8000_0001, 1, 2),
+        (Arithmetic::ShiftRight, 0x74, 0x8000_0001, 31, 1),
+        (Arithmetic::ExclusiveOr, 0xa4, 0b1100, 0b1010, 0b0110),
     ];
-    for (arithmetic, a, b, number) in rows {
+    for (arithmetic, code, a, b, value) in rows {
         if b != 0 {
-            assert_eq!(rt; calculate(arithmetic, a, b), number, "{arithmetic:?}");
+            assert_eq!(rt; calculate(arithmetic, a, b), value, "{arithmetic:?}");
         }
+        let constant = filter(rt.alloc(), &[ldimm(a), with_k(code, b), reta()])?;
+        let index = filter(
+            rt.alloc(),
+            &[ldximm(b), ldimm(a), with_k(code | 8, 0), reta()],
+        )?;
+        let ran = (run(&constant, &call(39)), run(&index, &call(39)));
+        assert_eq!(rt; ran, (Ran { value, steps: 3 }, Ran { value, steps: 4 }));
     }
-    let tests = [
-        (Comparison::Equal, 2, 2, true),
-        (Comparison::Greater, 0x8000_0000, 1, true),
-        (Comparison::Greater, 2, 2, false),
-        (Comparison::GreaterOrEqual, 2, 2, true),
-        (Comparison::CommonBits, 12, 3, false),
-        (Comparison::CommonBits, 12, 4, true),
+    Ok(())
+}
+
+// So is each comparison.
+#[test]
+fn comparisons(rt: HostRuntime) -> Result<(), Fail> {
+    let rows = [
+        (Comparison::Equal, 0x15, 5, 5, true),
+        (Comparison::Equal, 0x15, 5, 6, false),
+        (Comparison::Greater, 0x25, 0x8000_0000, 1, true),
+        (Comparison::Greater, 0x25, 5, 5, false),
+        (Comparison::GreaterOrEqual, 0x35, 5, 5, true),
+        (Comparison::GreaterOrEqual, 0x35, 5, 6, false),
+        (Comparison::CommonBits, 0x45, 0b1100, 0b0100, true),
+        (Comparison::CommonBits, 0x45, 0b1100, 0b0011, false),
     ];
-    for (comparison, a, b, answer) in tests {
+    let (no, yes) = (ret(0), ret(1));
+    for (comparison, code, a, b, answer) in rows {
         assert_eq!(rt; holds(comparison, a, b), answer, "{comparison:?}");
+        let constant = filter(rt.alloc(), &[ldimm(a), branch(code, b, 1, 0), no, yes])?;
+        let test = branch(code | 8, 0, 1, 0);
+        let index = filter(rt.alloc(), &[ldximm(b), ldimm(a), test, no, yes])?;
+        let value = u32::from(answer);
+        let ran = (run(&constant, &call(39)), run(&index, &call(39)));
+        assert_eq!(rt; ran, (Ran { value, steps: 3 }, Ran { value, steps: 4 }));
     }
     Ok(())
 }
@@ -51,22 +74,10 @@ fn calculations_alone(rt: HostRuntime) -> Result<(), Fail> {
 #[test]
 fn filters(rt: HostRuntime) -> Result<(), Fail> {
     let refuses_getppid = refuses_getppid();
-    let rows: [(&[Insn], u32, u32, u16); 12] = [
-        (&[ret(ALLOW)], 39, ALLOW, 1),
+    let rows: [(&[Insn], u32, u32, u16); 5] = [
         (&refuses_getppid, 110, EPERM, 3),
         (&refuses_getppid, 39, ALLOW, 3),
         (&[ldximm(0), ldimm(5), divx(), ret(ALLOW)], 39, 0, 3),
-        (&[ldximm(33), ldimm(1), with_k(0x6c, 0), reta()], 39, 2, 4),
-        (&[ldimm(1), with_k(0x84, 0), reta()], 39, 0xffff_ffff, 3),
-        (
-            &[ldimm(7), st(0), jeq(7, 1, 0), ret(0), ldmem(0), reta()],
-            39,
-            7,
-            5,
-        ),
-        (&[ret(ALLOW), ldmem(3), ret(ALLOW)], 39, ALLOW, 1),
-        (&[with_k(0x03, 15), ldmem(15), reta()], 39, 0, 3),
-        (&[st(0), ret(ALLOW)], 39, ALLOW, 2),
         (&[ldimm(1), st(0), ja(1), ja(0), ldmem(0), reta()], 39, 1, 5),
         (&[ldimm(9), tax(), txa(), reta()], 39, 9, 4),
     ];
@@ -98,64 +109,6 @@ fn loads(rt: HostRuntime) -> Result<(), Fail> {
 }
 
 #[test]
-fn calculations(rt: HostRuntime) -> Result<(), Fail> {
-    let rows = [
-        (0x04, 0xffff_ffff, 2, 1),
-        (0x14, 1, 2, 0xffff_ffff),
-        (0x24, 0x1_0001, 0x1_0001, 0x2_0001),
-        (0x34, 7, 2, 3),
-        (0x44, 0b1100, 0b1010, 0b1110),
-        (0x54, 0b1100, 0b1010, 0b1000),
-        (0x64, 0x8000_0001, 1, 2),
-        (0x74, 0x8000_0001, 31, 1),
-        (0xa4, 0b1100, 0b1010, 0b0110),
-    ];
-    for (code, a, b, value) in rows {
-        let constant = filter(rt.alloc(), &[ldimm(a), with_k(code, b), reta()])?;
-        assert_eq!(rt; run(&constant, &call(39)), Ran { value, steps: 3 });
-        let index = filter(
-            rt.alloc(),
-            &[ldximm(b), ldimm(a), with_k(code | 8, 0), reta()],
-        )?;
-        assert_eq!(rt; run(&index, &call(39)), Ran { value, steps: 4 });
-    }
-    Ok(())
-}
-
-#[test]
-fn comparisons(rt: HostRuntime) -> Result<(), Fail> {
-    let rows = [
-        (0x15, 5, 5, 1),
-        (0x15, 5, 6, 0),
-        (0x25, 0x8000_0000, 1, 1),
-        (0x25, 5, 5, 0),
-        (0x35, 5, 5, 1),
-        (0x35, 5, 6, 0),
-        (0x45, 0b1100, 0b0100, 1),
-        (0x45, 0b1100, 0b0011, 0),
-    ];
-    for (code, a, b, value) in rows {
-        let constant = filter(
-            rt.alloc(),
-            &[ldimm(a), branch(code, b, 1, 0), ret(0), ret(1)],
-        )?;
-        assert_eq!(rt; run(&constant, &call(39)), Ran { value, steps: 3 });
-        let index = filter(
-            rt.alloc(),
-            &[
-                ldximm(b),
-                ldimm(a),
-                branch(code | 8, 0, 1, 0),
-                ret(0),
-                ret(1),
-            ],
-        )?;
-        assert_eq!(rt; run(&index, &call(39)), Ran { value, steps: 4 });
-    }
-    Ok(())
-}
-
-#[test]
 fn longest_filter(rt: HostRuntime) -> Result<(), Fail> {
     let mut insns = Vec::new(rt.alloc());
     insns.push(st(0))?;
@@ -171,32 +124,6 @@ fn longest_filter(rt: HostRuntime) -> Result<(), Fail> {
             steps: 4096
         }
     );
-    Ok(())
-}
-
-#[test]
-fn walks(rt: HostRuntime) -> Result<(), Fail> {
-    let refuses_getppid = refuses_getppid();
-    let by_architecture = by_architecture();
-    let even = even();
-    let rows: [(&[Insn], u32, bool); 12] = [
-        (&[ret(ALLOW)], 0, true),
-        (&[ret(ALLOW)], u32::MAX, true),
-        (&refuses_getppid, 39, true),
-        (&refuses_getppid, 110, false),
-        (&by_architecture, 57, false),
-        (&by_architecture, 39, true),
-        (&even, 38, true),
-        (&even, 39, false),
-        (&[ret(0x7ffc_0000)], 39, false),
-        (&[ret(0x7fff_0001)], 39, false),
-        (&[st(0), ret(ALLOW)], 39, false),
-        (&[ldabs(16), ret(ALLOW)], 39, false),
-    ];
-    for (program, nr, allowed) in rows {
-        let program = filter(rt.alloc(), program)?;
-        assert_eq!(rt; walk(&program, nr), allowed, "call {nr}");
-    }
     Ok(())
 }
 

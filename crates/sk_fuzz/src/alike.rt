@@ -1,8 +1,8 @@
 //! Whether two processes, kept by two kernels, are the same as far as anybody can tell.
 
 use sk_filter::Chain;
-use sk_signal::SigState;
 use sk_table::{Body, Proc};
+use sk_world::SigState;
 
 /// Whether two processes are the same.
 pub(crate) fn are_alike(process: &Proc, other: &Proc) -> bool {

@@ -4,8 +4,8 @@ ghost use Rattle.std.specs.Prelude.{◌<◌};
 
 use crate::images::{FILTERS, PROGRAMS};
 use crate::random::Random;
-use sk_calls::{Call, Syscall};
 use sk_kernel::Event;
+use sk_names::{Call, Syscall};
 use sk_table::INIT;
 
 // A call stands here as often as it is made.

@@ -2,13 +2,12 @@
 
 use crate::alike::have_rights_alike;
 use crate::fault::Fault;
-use crate::images::declared;
-use crate::pair::Pair;
+use crate::pair::{Pair, kernel_of};
 use crate::tally::{Kind, Tally};
-use sk_calls::{Call, Syscall};
 use sk_insn::Record;
+use sk_kernel::Event;
 use sk_kernel::laws::line;
-use sk_kernel::{Event, Kernel};
+use sk_names::{Call, Syscall};
 use sk_table::{INIT, ListStore, Proc};
 use std::alloc::Global;
 
@@ -41,7 +40,7 @@ fn check_lineage(
         return Err(Fault::Lineages);
     }
     let lineage = line(alloc, &pair.events, &pair.answers, pid)?;
-    let mut kernel = Kernel::<ListStore>::new(alloc, declared(alloc, filters, false)?)?;
+    let mut kernel = kernel_of::<ListStore>(alloc, filters, false)?;
     for call in lineage.calls.iter().filter(|call| may_change_rights(call)) {
         kernel.step(as_init(call))?;
     }

@@ -4,8 +4,8 @@ use crate::alike::are_alike;
 use crate::fault::Fault;
 use crate::images::declared;
 use crate::tally::{Kind, Tally};
-use sk_calls::{Call, Syscall};
 use sk_kernel::{Answer, Effect, Event, Kernel, Outcome};
+use sk_names::{Call, Syscall};
 use sk_table::{INIT, LAST_PID, ListStore, ProcStore, SlotStore};
 use std::alloc::Global;
 

@@ -13,8 +13,8 @@ impl Random {
         Random { state: seed | 1 }
     }
 
-    /// The next number.
-    pub(crate) fn bits(&mut self) -> u64 {
+    // The next number.
+    fn bits(&mut self) -> u64 {
         self.state ^= self.state << 13;
         self.state ^= self.state >> 7;
         self.state ^= self.state << 17;

@@ -1,9 +1,9 @@
 //! What came of the events, by its kind.
 
 use crate::fault::Fault;
-use sk_calls::Syscall;
 use sk_insn::Action;
 use sk_kernel::{Answer, Effect, Event, Outcome, Reason};
+use sk_names::Syscall;
 use std::alloc::{AllocError, Global};
 
 /// A kind of things that can come of an event.

@@ -1,3 +1,15 @@
 pub mod OfCaller
 pub mod Runs
 pub mod Backwards
+pub mod Why
+pub mod Walking
+pub mod Idle
+pub mod Changing
+pub mod Passing
+pub mod Options
+pub mod Listing
+pub mod Reaching
+pub mod Taking
+pub mod Deeds
+pub mod Rows
+pub mod Registers

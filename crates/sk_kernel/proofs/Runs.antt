@@ -10,9 +10,9 @@ use Rattle.sk_machine.specs.declared.answer.Answer.{Answer}
 use Rattle.sk_machine.specs.Images.{Images}
 use Rattle.sk_machine.specs.Machine.{step_of, answers_of, world_after}
 use Rattle.sk_kernel.specs.State.{State}
-use Rattle.sk_machine_laws.specs.FilterLaws.{HasAccepted}
-use Rattle.sk_machine_laws.proofs.KeptEvents.{kept_step}
-use Rattle.sk_machine_laws.proofs.Accepted.{event_keeps_accepted}
+use Rattle.sk_laws.specs.FilterLaws.{HasAccepted}
+use Rattle.sk_laws.proofs.KeptEvents.{kept_step}
+use Rattle.sk_laws.proofs.Accepted.{event_keeps_accepted}
 
 -- an event that was done or not keeps the rules, and the filters accepted
 pub kept_by : {A E : Type 0} (declared : Images) (w after : World) (event : Event) (r : Result A E) → OnOk r (after ≡ (step_of declared w event).world) → OnErr r (after ≡ w)

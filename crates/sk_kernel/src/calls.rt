@@ -1,7 +1,7 @@
 //! How the filters of a process judge its call, and what becomes of the call by each verdict.
 ghost use Rattle.std.specs.Prelude.{◌≡◌, ◌&&◌, IsTrue, IfSome, IfOk, OnOk, OnErr, pos, neg_ℤ, min};
 ghost use Rattle.sk_insn.specs.Actions.{performs};
-ghost use Rattle.sk_calls.specs.Syscalls.{syscall_of};
+ghost use Rattle.sk_names.specs.Syscalls.{syscall_of};
 ghost use Rattle.sk_filter.specs.Verdict.{verdict_of};
 ghost use Rattle.sk_world.specs.World.{at, is_alive};
 ghost use Rattle.sk_world.specs.Rules.{IsWorld};
@@ -10,13 +10,13 @@ ghost use Rattle.sk_machine.specs.Memory.{may_grow, call_takes_memory};
 ghost use Rattle.sk_machine.specs.declared.answer.Outcome.TheVariants.{Returned};
 ghost use Rattle.sk_machine.specs.Performing.{end_of_caller};
 ghost use Rattle.sk_machine.specs.Machine.{judged, called};
-ghost use Rattle.sk_signal.specs.declared.number.TheConstants.{SIGSYS};
+ghost use Rattle.sk_world.specs.declared.signals.TheConstants.{SIGSYS};
 
+use crate::perform;
 use sk_filter::Chain;
 use sk_insn::{ALLOW, ARCHITECTURE, Action, Record};
 use sk_machine::{Answer, Images, Outcome, end};
-use sk_signal::number::SIGSYS;
-use sk_syscalls::perform;
+use sk_world::signals::SIGSYS;
 use sk_world::{Errno, ProcStore};
 use std::alloc::{AllocError, Global};
 

@@ -5,11 +5,10 @@ ghost use Rattle.sk_world.specs.World.{at, opening};
 ghost use Rattle.sk_machine.specs.Memory.{TakesMemory};
 ghost use Rattle.sk_machine.specs.Machine.{reason_of, step_of, answers_of, world_after, halted_of};
 ghost use Rattle.sk_machine.specs.Turns.{is_runnable, need_of, next_of};
-ghost use Rattle.sk_machine_laws.specs.RunLaws.{RunIsLawful};
+ghost use Rattle.sk_laws.specs.RunLaws.{RunIsLawful};
 ghost use Rattle.sk_kernel.specs.State.{done_of};
 
-use crate::stepping;
-use sk_candidates::{Candidates, Runner};
+use crate::{Candidates, Runner, stepping};
 use sk_machine::{Answer, Event, Images, Need};
 use sk_world::{Proc, ProcStore};
 use std::alloc::{AllocError, Global};
@@ -31,7 +30,7 @@ pub struct Stopped {
 
 impl<S: ProcStore> Model for Kernel<S> {
     ghost use Rattle.sk_world.specs.Rules.{IsWorld};
-    ghost use Rattle.sk_machine_laws.specs.FilterLaws.{HasAccepted};
+    ghost use Rattle.sk_laws.specs.FilterLaws.{HasAccepted};
     ghost use Rattle.sk_kernel.specs.State.{State, state_code};
 
     ghost Value = { State };
@@ -128,7 +127,7 @@ impl<S: ProcStore> Kernel<S> {
     pub fn halted(&self) -> Option<u32>
         ensures { result ≡ halted_of self.now.world }
     {
-        sk_candidates::halted(&self.store)
+        crate::halted(&self.store)
     }
 
     /// Whether the process can run: it lives, and a signal is due, or it is not stopped and its call would not go on
@@ -136,7 +135,7 @@ impl<S: ProcStore> Kernel<S> {
     pub fn runnable(&self, pid: u32) -> bool
         ensures { result ≡ is_runnable self.now.world pid }
     {
-        sk_candidates::runnable(&self.store, pid)
+        crate::runnable(&self.store, pid)
     }
 
     /// Whose turn is next, in round robin, after the process that ran last.
@@ -158,6 +157,6 @@ impl<S: ProcStore> Kernel<S> {
     pub fn need(&self, pid: u32) -> Need
         ensures { result ≡ need_of self.now.world pid }
     {
-        sk_candidates::need(&self.store, pid)
+        crate::need(&self.store, pid)
     }
 }

@@ -10,13 +10,12 @@ ghost use Rattle.sk_machine.specs.Machine.{reason_of, delivery, happened_to, ste
 ghost use Rattle.sk_machine.specs.Memory.{takes_memory};
 
 use crate::calls::call;
-use sk_calls::Call;
-use sk_candidates::{reason, signal_due};
+use crate::{deliver, reason, resume, signal_due};
 use sk_insn::Record;
 use sk_machine::{Answer, Event, Images, Outcome, end};
-use sk_signal::number::SIGSEGV;
-use sk_syscalls::{deliver, resume};
+use sk_names::Call;
 use sk_world::ProcStore;
+use sk_world::signals::SIGSEGV;
 use std::alloc::{AllocError, Global};
 
 /// One event.

@@ -6,10 +6,10 @@ use Rattle.std.specs.List.{list_any}
 use Rattle.std.specs.Ordering.{nat_cmp, eq_by_cmp}
 use Rattle.std.specs.FinMap.Entries.{find, is_sorted}
 use Rattle.std.proofs.lemmas.Bool.{false≢true, cond_both, cases_lt}
-use Rattle.sk_numbers.specs.Numbers.{IsLeast, IsLeastAbove}
-use Rattle.sk_signal.specs.Sets as set
-use Rattle.sk_signal.specs.views.Members.{contains-from_list}
-use Rattle.sk_signal.specs.declared.number.TheConstants.{SIGCHLD, SIGCONT}
+use Rattle.sk_world.specs.NumberSets.{IsLeast, IsLeastAbove}
+use Rattle.sk_world.specs.Sets as set
+use Rattle.sk_world.specs.views.Members.{contains-from_list}
+use Rattle.sk_world.specs.declared.signals.TheConstants.{SIGCHLD, SIGCONT}
 use Rattle.sk_world.specs.declared.process.TheConstants.{INIT}
 use Rattle.sk_world.specs.declared.process.Body.{Body}
 use Rattle.sk_world.specs.declared.process.Proc.{Proc}

@@ -2,8 +2,8 @@
 use Rattle.std.proofs.Common.{◌≡◌, ◌∙◌, ◌==◌, ℕ, ap, sym, refl, Bool, cond, not, ◌&&◌, List, [], ◌∷◌, filter, Option, None, Some}
 use Rattle.std.specs.Option.{option_map}
 use Rattle.std.proofs.lemmas.Bool.{cond_both}
-use Rattle.sk_signal.specs.declared.number.TheConstants.{SIGHUP, SIGCHLD, SIGCONT}
-use Rattle.sk_signal.specs.Generation.{generated}
+use Rattle.sk_world.specs.declared.signals.TheConstants.{SIGHUP, SIGCHLD, SIGCONT}
+use Rattle.sk_world.specs.Generation.{generated}
 use Rattle.sk_world.specs.declared.process.TheConstants.{INIT}
 use Rattle.sk_world.specs.declared.process.Life.TheVariants.{Running}
 use Rattle.sk_world.specs.declared.process.Note.TheVariants.{Continued}

@@ -3,8 +3,8 @@ use Rattle.std.proofs.Common.{◌≡◌, ◌≢◌, ◌∙◌, ◌==◌, ℕ, ap
 use Rattle.std.specs.Option.{is_some, option_map, option_and_then}
 use Rattle.std.specs.List.{list_any}
 use Rattle.std.proofs.lemmas.Bool.{false≢true, eq-eqb, eqb-true, eqb-false, ne_eqb, and_parts, cond_both, not-false, not-true, or_parts}
-use Rattle.sk_numbers.specs.Numbers.{contains}
-use Rattle.sk_signal.specs.declared.number.TheConstants.{SIGCHLD}
+use Rattle.sk_world.specs.NumberSets.{contains}
+use Rattle.sk_world.specs.declared.signals.TheConstants.{SIGCHLD}
 use Rattle.sk_world.specs.declared.process.TheConstants.{INIT}
 use Rattle.sk_world.specs.declared.process.Body.{Body}
 use Rattle.sk_world.specs.declared.process.Proc.{Proc}

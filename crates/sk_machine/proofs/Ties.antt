@@ -1,7 +1,7 @@
 -- Which groups an end can leave orphaned.
 use Rattle.std.proofs.Common.{◌≡◌, ◌≢◌, ◌∙◌, ◌<◌, ◌≤◌, ◌==◌, ⊎_elim, ℕ, arith, ap, sym, refl, subst, Bool, true, false, ◌&&◌, ◌||◌, ◌⊎◌, inl, inr, IsTrue, List, [], Option, None, Some}
 use Rattle.std.proofs.lemmas.Bool.{false≢true, eqb-true, eqb-false, ne_eqb, and_parts, cases_lt}
-use Rattle.sk_numbers.specs.Numbers.{contains, IsLeast, IsLeastAbove}
+use Rattle.sk_world.specs.NumberSets.{contains, IsLeast, IsLeastAbove}
 use Rattle.sk_world.specs.declared.process.Proc.{Proc}
 use Rattle.sk_world.specs.World.{World, at, is_alive, is_member_of, is_child_of}
 use Rattle.sk_machine.specs.Orphans.{is_living_member, is_tie, is_orphaned}

@@ -18,10 +18,10 @@ use Rattle.sk_machine.specs.declared.operation.PrctlOption.{PrctlOption}
 use Rattle.sk_machine.specs.declared.operation.PrctlOption.TheVariants as option
 use Rattle.sk_machine.specs.declared.operation.SeccompOperation.{SeccompOperation}
 use Rattle.sk_machine.specs.declared.operation.SeccompOperation.TheVariants as operation
-use Rattle.sk_calls.specs.declared.syscall.Syscall.{Syscall}
-use Rattle.sk_calls.specs.declared.syscall.Syscall.TheVariants as syscall
+use Rattle.sk_names.specs.declared.syscall.Syscall.{Syscall}
+use Rattle.sk_names.specs.declared.syscall.Syscall.TheVariants as syscall
 use Rattle.sk_machine.specs.Images.{Images, filter_image, mark_of}
-use Rattle.sk_calls.specs.Syscalls.{syscall_of}
+use Rattle.sk_names.specs.Syscalls.{syscall_of}
 use Rattle.sk_machine.specs.Arguments.{register, unsigned, prctl_option_of, seccomp_operation_of}
 
 -- its filters, the newest first, and its user ids with no_new_privs

@@ -1,17 +1,17 @@
 -- How a signal is delivered: signal(7).
 use Rattle.std.specs.Prelude.{ℕ, ◌==◌, Bool, true, false, not, ◌&&◌, if◌then◌else◌, length, Option, None, Some}
 use Rattle.std.specs.Option.{option_and_then, option_map_or}
-use Rattle.sk_signal.specs.Sets as set
-use Rattle.sk_signal.specs.declared.number.TheConstants.{SIGKILL, SIGSEGV, SIGCHLD, SIGSYS}
-use Rattle.sk_signal.specs.declared.state.TheConstants.{FRAMES}
-use Rattle.sk_signal.specs.declared.disposition.DefaultAction.{DefaultAction}
-use Rattle.sk_signal.specs.declared.disposition.DefaultAction.TheVariants as action
-use Rattle.sk_signal.specs.declared.disposition.Disposition.{Disposition}
-use Rattle.sk_signal.specs.declared.disposition.Disposition.TheVariants as disposition
-use Rattle.sk_signal.specs.SignalSet.{Signals}
-use Rattle.sk_signal.specs.Actions.{default_action, is_tty_stop}
-use Rattle.sk_signal.specs.SignalState.{disposition_of}
-use Rattle.sk_signal.specs.Delivery.{deliverable, taken, pushed}
+use Rattle.sk_world.specs.Sets as set
+use Rattle.sk_world.specs.declared.signals.TheConstants.{SIGKILL, SIGSEGV, SIGCHLD, SIGSYS}
+use Rattle.sk_world.specs.declared.signal_state.TheConstants.{FRAMES}
+use Rattle.sk_world.specs.declared.disposition.DefaultAction.{DefaultAction}
+use Rattle.sk_world.specs.declared.disposition.DefaultAction.TheVariants as action
+use Rattle.sk_world.specs.declared.disposition.Disposition.{Disposition}
+use Rattle.sk_world.specs.declared.disposition.Disposition.TheVariants as disposition
+use Rattle.sk_world.specs.SignalSet.{Signals}
+use Rattle.sk_world.specs.Actions.{default_action, is_tty_stop}
+use Rattle.sk_world.specs.SignalState.{disposition_of}
+use Rattle.sk_world.specs.Delivery.{deliverable, taken, pushed}
 use Rattle.sk_world.specs.declared.process.TheConstants.{INIT}
 use Rattle.sk_world.specs.declared.process.Life.TheVariants as life
 use Rattle.sk_world.specs.declared.process.Waiting.{Waiting}

@@ -1,7 +1,7 @@
 -- Which processes a signal is sent to: kill(2).
 use Rattle.std.specs.Prelude.{ℕ, ℤ, ◌==◌, Bool, false, not, ◌&&◌, ◌||◌, nat_le, if◌then◌else◌, List, filter, length, Option, Result, Ok, Err}
 use Rattle.std.specs.Option.{option_map_or}
-use Rattle.sk_signal.specs.declared.number.TheConstants.{SIGCONT}
+use Rattle.sk_world.specs.declared.signals.TheConstants.{SIGCONT}
 use Rattle.sk_world.specs.declared.errno.Errno.{Errno}
 use Rattle.sk_world.specs.declared.errno.Errno.TheVariants.{Eperm, Esrch, Einval}
 use Rattle.sk_world.specs.declared.creds.Creds.{Creds}

@@ -7,7 +7,7 @@ use Rattle.sk_insn.specs.declared.action.Action.TheVariants as action
 use Rattle.sk_insn.specs.Actions.{action_of, data_part}
 use Rattle.sk_filter.specs.Verdict.{verdict_of}
 use Rattle.sk_world.specs.declared.errno.Errno.TheVariants.{Enosys}
-use Rattle.sk_signal.specs.declared.number.TheConstants.{SIGSEGV, SIGSYS}
+use Rattle.sk_world.specs.declared.signals.TheConstants.{SIGSEGV, SIGSYS}
 use Rattle.sk_world.specs.declared.process.TheConstants.{INIT}
 use Rattle.sk_world.specs.declared.process.Life.{Life}
 use Rattle.sk_world.specs.declared.process.Life.TheVariants as life

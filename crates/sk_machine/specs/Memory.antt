@@ -6,9 +6,9 @@ use Rattle.sk_insn.specs.declared.record.Record.{Record}
 use Rattle.sk_insn.specs.Actions.{action_of, performs}
 use Rattle.sk_insn.specs.Instructions.{instructions_of}
 use Rattle.sk_filter.specs.Verdict.{verdict_of}
-use Rattle.sk_calls.specs.declared.syscall.Syscall.{Syscall}
-use Rattle.sk_calls.specs.declared.syscall.Syscall.TheVariants as syscall
-use Rattle.sk_calls.specs.Syscalls.{syscall_of}
+use Rattle.sk_names.specs.declared.syscall.Syscall.{Syscall}
+use Rattle.sk_names.specs.declared.syscall.Syscall.TheVariants as syscall
+use Rattle.sk_names.specs.Syscalls.{syscall_of}
 use Rattle.sk_insn.specs.declared.insn.Insn.{Insn}
 use Rattle.sk_world.specs.World.{World, at}
 use Rattle.sk_world.specs.Forking.{has_room, has_filters}

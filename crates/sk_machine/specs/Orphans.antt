@@ -3,8 +3,8 @@
 use Rattle.std.specs.Prelude.{ℕ, ◌==◌, Bool, not, ◌&&◌, if◌then◌else◌, List, [], ◌∷◌, map, filter, Option}
 use Rattle.std.specs.Option.{is_some}
 use Rattle.std.specs.List.{list_any}
-use Rattle.sk_signal.specs.declared.number.TheConstants.{SIGHUP, SIGCONT}
-use Rattle.sk_signal.specs.Sets as set
+use Rattle.sk_world.specs.declared.signals.TheConstants.{SIGHUP, SIGCONT}
+use Rattle.sk_world.specs.Sets as set
 use Rattle.sk_world.specs.declared.process.TheConstants.{INIT}
 use Rattle.sk_world.specs.declared.process.Proc.{Proc}
 use Rattle.sk_world.specs.Processes.{pids}

@@ -8,8 +8,8 @@ use Rattle.sk_insn.specs.Actions.{value_of, action_of, data_part}
 use Rattle.sk_world.specs.declared.errno.Errno.{Errno}
 use Rattle.sk_world.specs.declared.errno.Errno.TheVariants.{Einval, Enosys, Eopnotsupp}
 use Rattle.sk_world.specs.declared.creds.Creds.{Creds}
-use Rattle.sk_signal.specs.SignalSet.{Signals as SignalMembers}
-use Rattle.sk_signal.specs.Signalling.{after_exec}
+use Rattle.sk_world.specs.SignalSet.{Signals as SignalMembers}
+use Rattle.sk_world.specs.Signalling.{after_exec}
 use Rattle.sk_world.specs.declared.process.Waiting.TheVariants as waiting
 use Rattle.sk_world.specs.declared.process.Body.{Body}
 use Rattle.sk_world.specs.World.{World, at, parent_of, changed}
@@ -21,10 +21,10 @@ use Rattle.sk_machine.specs.declared.operation.PrctlOption.{PrctlOption}
 use Rattle.sk_machine.specs.declared.operation.PrctlOption.TheVariants as option
 use Rattle.sk_machine.specs.declared.operation.SeccompOperation.{SeccompOperation}
 use Rattle.sk_machine.specs.declared.operation.SeccompOperation.TheVariants as operation
-use Rattle.sk_calls.specs.declared.syscall.Syscall.{Syscall}
-use Rattle.sk_calls.specs.declared.syscall.Syscall.TheVariants as syscall
+use Rattle.sk_names.specs.declared.syscall.Syscall.{Syscall}
+use Rattle.sk_names.specs.declared.syscall.Syscall.TheVariants as syscall
 use Rattle.sk_machine.specs.Images.{Images}
-use Rattle.sk_calls.specs.Syscalls.{syscall_of}
+use Rattle.sk_names.specs.Syscalls.{syscall_of}
 use Rattle.sk_machine.specs.Arguments.{register, unsigned, signed, prctl_option_of, seccomp_operation_of}
 use Rattle.sk_machine.specs.Authority.{Authority, authority_of, with_authority, after_no_new_privs, after_set_seccomp, after_set_mode_filter, authority_after}
 use Rattle.sk_machine.specs.Performed.{Performed, returns, fails, asked, changes, authorises, waits}

@@ -1,13 +1,13 @@
 -- The calls by which a process changes its own signals: sigaction(2), sigprocmask(2), sigreturn(2).
 use Rattle.std.specs.Prelude.{ℕ, ◌-◌, ◌==◌, Bool, not, ◌&&◌, nat_le, if◌then◌else◌, List, [], ◌∷◌, Result, Ok, Err}
-use Rattle.sk_signal.specs.Sets as set
-use Rattle.sk_signal.specs.declared.number.TheConstants.{SIGKILL, SIGSTOP}
-use Rattle.sk_signal.specs.declared.disposition.Disposition.{Disposition}
-use Rattle.sk_signal.specs.declared.disposition.Disposition.TheVariants.{Default, Ignore, Handler}
-use Rattle.sk_signal.specs.SignalSet.{Signals, signals_of, blockable}
-use Rattle.sk_signal.specs.SignalState.{SignalState}
-use Rattle.sk_signal.specs.Signalling.{with_mask, with_action}
-use Rattle.sk_signal.specs.Delivery.{popped}
+use Rattle.sk_world.specs.Sets as set
+use Rattle.sk_world.specs.declared.signals.TheConstants.{SIGKILL, SIGSTOP}
+use Rattle.sk_world.specs.declared.disposition.Disposition.{Disposition}
+use Rattle.sk_world.specs.declared.disposition.Disposition.TheVariants.{Default, Ignore, Handler}
+use Rattle.sk_world.specs.SignalSet.{Signals, signals_of, blockable}
+use Rattle.sk_world.specs.SignalState.{SignalState}
+use Rattle.sk_world.specs.Signalling.{with_mask, with_action}
+use Rattle.sk_world.specs.Delivery.{popped}
 use Rattle.sk_insn.specs.declared.record.Record.{Record}
 use Rattle.sk_world.specs.declared.errno.Errno.{Errno}
 use Rattle.sk_world.specs.declared.errno.Errno.TheVariants.{Einval}

@@ -4,8 +4,7 @@ ghost use Rattle.sk_world.specs.Errno.{number_of as errno_of};
 ghost use Rattle.sk_machine.specs.Events.{number_of};
 ghost use Rattle.sk_machine.specs.declared.answer.Outcome.TheVariants.{Returned};
 
-use sk_signal::SigSet;
-use sk_world::Errno;
+use sk_world::{Errno, SigSet};
 
 /// What an event came to.
 #[derive(Clone, Copy, PartialEq, Eq, Debug)]

@@ -1,7 +1,7 @@
 //! The end of a process, and which groups it leaves orphaned and hangs up.
 ghost use Rattle.std.specs.Prelude.{[], ◌≡◌, ◌≢◌, ℕ, ◌&&◌, ◌||◌, false, filter, IsTrue, IsFalse, None, Some};
-ghost use Rattle.sk_numbers.specs.Numbers.{contains};
-ghost use Rattle.sk_signal.specs.SignalSet.{IsSignal};
+ghost use Rattle.sk_world.specs.NumberSets.{contains};
+ghost use Rattle.sk_world.specs.SignalSet.{IsSignal};
 ghost use Rattle.sk_world.specs.declared.process.TheConstants.{INIT};
 ghost use Rattle.sk_world.specs.World.{at, is_alive, is_child_of};
 ghost use Rattle.sk_world.specs.Rules.{IsWorld};
@@ -10,9 +10,8 @@ ghost use Rattle.sk_machine.specs.Orphans.{is_tie, is_orphaned, has_stopped_memb
 ghost use Rattle.sk_machine.specs.views.Ties.{is_engaged, TiesNone};
 
 use crate::orphans::{is_tie, orphaned};
-use sk_numbers::NumberSet;
-use sk_signal::number::{SIGCONT, SIGHUP};
-use sk_world::{INIT, ProcStore, is_alive, is_stopped, is_zombie, send};
+use sk_world::signals::{SIGCONT, SIGHUP};
+use sk_world::{INIT, NumberSet, ProcStore, is_alive, is_stopped, is_zombie, send};
 
 /// Ends a process with this status: exit(2). The groups that this leaves orphaned, with a stopped process in them, get
 /// SIGHUP and then SIGCONT: POSIX.1-2017, exit(), "Consequences of Process Termination". Where neither the process nor a

@@ -3,7 +3,7 @@ ghost use Rattle.std.specs.Prelude.{◌≡◌};
 ghost use Rattle.sk_machine.specs.Delivering.{is_waiting};
 ghost use Rattle.sk_machine.specs.Events.{pid_of};
 
-use sk_calls::Call;
+use sk_names::Call;
 use sk_world::Waiting;
 
 /// One event of the kernel, in which it does all that it does at once.

@@ -22,4 +22,4 @@ pub use grouping::{setpgid, setsid};
 pub use images::{Images, Mark};
 pub use operation::{PrctlOption, SeccompOperation};
 pub use orphans::orphaned;
-pub use sk_calls::Syscall;
+pub use sk_names::Syscall;

@@ -1,12 +1,12 @@
 //! What is asked about a process by its pid, and of the registers of a call.
 
-use crate::sessions::world::setsid;
+use crate::sessions::setsid;
 use crate::world::{after_forks, end_of, stop};
 use bitflags::Flags;
 use sk_insn::Record;
 use sk_machine::{Outcome, group_of, is_waiting, register, session_of, signed, unsigned};
-use sk_signal::number::SIGTSTP;
 use sk_table::{INIT, ListStore, ProcStore};
+use sk_world::signals::SIGTSTP;
 use sk_world::{
     Errno, Request, WaitOptions, Waiting, Who, is_alive, is_asked_for, is_stopped, is_zombie,
     parent_of,

@@ -1,5 +1,5 @@
 //! Calls by their numbers on x86-64 and by their names.
-use sk_calls::Syscall;
+use sk_names::Syscall;
 
 #[test]
 fn calls_have_the_numbers_and_names_of_the_manual(rt: HostRuntime) {

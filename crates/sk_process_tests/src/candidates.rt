@@ -2,14 +2,10 @@
 ghost use Rattle.std.specs.Prelude.{◌≡◌};
 ghost use Rattle.sk_world.specs.Rules.{IsWorld};
 
-use crate::sessions::world::lead_group;
-use crate::world::{after_forks, end_of};
-use bitflags::Flags;
-use sk_candidates::Candidates;
-use sk_signal::number::SIGUSR1;
-use sk_table::{
-    Body, INIT, ListStore, ProcStore, Request, SlotStore, WaitOptions, Waiting, Who, send,
-};
+use crate::world::after_forks;
+use sk_kernel::Candidates;
+use sk_table::{Body, INIT, ListStore, ProcStore, SlotStore, Waiting, send};
+use sk_world::signals::SIGUSR1;
 use std::process::Abort;
 use std::test::Fail;
 
@@ -25,8 +21,6 @@ fn rows_hold_over_slots(rt: HostRuntime) -> Result<(), Fail> {
 
 fn rows<S: ProcStore, R: Abort + AllocGlobal>(rt: &R) -> Result<(), Fail> {
     who_waits_is_passed_over::<S, R>(rt)?;
-    parent_hears_of_the_end_of_its_child::<S, R>(rt)?;
-    parent_goes_on_where_no_child_matches::<S, R>(rt)?;
     candidates_keep_what_the_store_keeps::<S, R>(rt)?;
     Ok(())
 }
@@ -46,33 +40,6 @@ fn who_waits_is_passed_over<S: ProcStore, R: Abort + AllocGlobal>(rt: &R) -> Res
     turns(rt, &store, &[(0, Some(2)), (2, Some(2))]);
     waits(&mut store, 3, Waiting::Nothing);
     turns(rt, &store, &[(0, Some(2)), (2, Some(3)), (3, Some(2))]);
-    Ok(())
-}
-
-// Process 1 waits for two children that pause: nobody can run. One of them ends, and process 1 is told.
-fn parent_hears_of_the_end_of_its_child<S: ProcStore, R: Abort + AllocGlobal>(
-    rt: &R,
-) -> Result<(), Fail> {
-    let mut store: Candidates<S> = after_forks(rt, &[INIT, INIT])?;
-    waits(&mut store, INIT, asks(Who::Any));
-    waits(&mut store, 2, Waiting::Pause);
-    waits(&mut store, 3, Waiting::Pause);
-    turns(rt, &store, &[(0, None), (2, None)]);
-    end_of(rt, &mut store, 3, 0);
-    turns(rt, &store, &[(0, Some(1)), (2, Some(1))]);
-    Ok(())
-}
-
-// Process 1 waits for its group. Its only child leaves the group, so that nobody is left to wait for.
-fn parent_goes_on_where_no_child_matches<S: ProcStore, R: Abort + AllocGlobal>(
-    rt: &R,
-) -> Result<(), Fail> {
-    let mut store: Candidates<S> = after_forks(rt, &[INIT])?;
-    waits(&mut store, INIT, asks(Who::Group(INIT)));
-    waits(&mut store, 2, Waiting::Pause);
-    turns(rt, &store, &[(0, None)]);
-    lead_group(rt, &mut store, 2);
-    turns(rt, &store, &[(0, Some(1)), (1, Some(1))]);
     Ok(())
 }
 
@@ -103,13 +70,6 @@ fn keeps_processes_1_and_2<S: ProcStore>(rt: &impl Abort, store: &S) {
     assert!(rt; store.next_member(2, 0).is_none());
     assert!(rt; store.used(2) && !store.used(3));
     assert!(rt; store.get(2).is_some() && store.get(3).is_none());
-}
-
-fn asks(who: Who) -> Waiting {
-    Waiting::Asks(Request {
-        who,
-        options: WaitOptions::empty(),
-    })
 }
 
 // Each is who comes next after a pid.

@@ -1,6 +1,6 @@
 //! The processes of events, and the numbers of reasons, options and operations.
-use sk_calls::Call;
 use sk_machine::{Event, PrctlOption, Reason, SeccompOperation};
+use sk_names::Call;
 
 #[test]
 fn each_event_has_its_process(rt: HostRuntime) {

@@ -1,12 +1,12 @@
-//! The kernel over both stores: each of its functions once, on runs of which `sk_machine_runs` computes the answers.
+//! The kernel over both stores: each of its functions once, on runs of which `sk_laws` computes the answers.
 use sk_asm::assemble;
-use sk_calls::Syscall::{
-    ExitGroup, Fork, Getppid, Getuid, Kill, Pause, Prctl, RtSigaction, Seccomp, Setuid, Wait4,
-};
-use sk_calls::{Call, Syscall};
 use sk_insn::{Record, write_insns};
 use sk_kernel::laws::line;
 use sk_kernel::{Answer, Effect, Event, Images, Kernel, Need, Outcome};
+use sk_names::Syscall::{
+    ExitGroup, Fork, Getppid, Getuid, Kill, Pause, Prctl, RtSigaction, Seccomp, Setuid, Wait4,
+};
+use sk_names::{Call, Syscall};
 use sk_table::{ListStore, ProcStore, SlotStore};
 use std::alloc::{AllocError, Global};
 use std::process::Abort;

@@ -1,5 +1,5 @@
-//! Each public function that has to do with processes, from their numbers to the calls, the stores, and the scenario
-//! reader, at examples whose answers the manuals give.
+//! Each public function that has to do with processes, from their numbers to the calls, the stores, the scenario reader and
+//! the words of `skern`, at examples whose answers the manuals give.
 #![tactic(auto)]
 
 #[cfg(test)]
@@ -29,12 +29,12 @@ mod sessions;
 #[cfg(test)]
 mod signals;
 #[cfg(test)]
+mod skern;
+#[cfg(test)]
 mod stores;
 #[cfg(test)]
 mod syscalls;
 #[cfg(test)]
 mod uses;
-#[cfg(test)]
-mod worked_scenarios;
 #[cfg(test)]
 mod world;

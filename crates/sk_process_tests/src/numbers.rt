@@ -1,5 +1,5 @@
 //! A set of numbers that lie at the edges of its words.
-use sk_numbers::NumberSet;
+use sk_world::NumberSet;
 
 #[test]
 fn members_come_in_rising_order(rt: HostRuntime) {

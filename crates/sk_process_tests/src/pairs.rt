@@ -1,5 +1,5 @@
 //! A row of pairs, and what it tells of a first number.
-use sk_numbers::PairRow;
+use sk_world::PairRow;
 use std::test::Fail;
 
 #[test]

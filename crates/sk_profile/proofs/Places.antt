@@ -7,8 +7,8 @@ use Rattle.std.proofs.lemmas.Option.{slice_get-map}
 use Rattle.sk_profile.specs.declared.saying.Arm.{Arm as ArmOfCode}
 use Rattle.sk_profile.specs.Sayings.{Arm}
 use Rattle.sk_profile.specs.CodeViews.{arm_of}
-use Rattle.sk_profile.specs.declared.fault.Clash.{Clash}
-use Rattle.sk_profile.specs.Clashes.{ClashesWith, ClashesWithNone, IsClash}
+use Rattle.sk_profile.specs.declared.clash.TwoArms.{TwoArms}
+use Rattle.sk_profile.specs.Clashes.{ClashesWith, ClashesWithNone, AreClashing}
 
 at_drop : {X : Type 0} (n : ℕ) (xs : List X) (k : ℕ) → slice_get (drop n xs) k ≡ slice_get xs (n + k)
 at_drop zero xs k = ap (slice_get xs) (omega arith)
@@ -37,8 +37,8 @@ behind arms rest place k is =
     ∙ ap (option_map arm_of) (sym (at_drop place arms k) ∙ ap (λ (xs : List ArmOfCode). slice_get xs k) (sym is))
     ∙ sym (slice_get-map arm_of rest k)
 
-pub found : (arms left rest : List ArmOfCode) (arm : ArmOfCode) (it : Clash) (place : ℕ) → left ≡ drop it.first arms → left ≡ arm ∷ rest → it.second ≡ it.first + 1 + place → it.number < 2 ^ 32
-    → ClashesWith (arm_of arm) (map arm_of rest) place it.args → IsClash (map arm_of arms) it
+pub found : (arms left rest : List ArmOfCode) (arm : ArmOfCode) (it : TwoArms) (place : ℕ) → left ≡ drop it.first arms → left ≡ arm ∷ rest → it.second ≡ it.first + 1 + place → it.number < 2 ^ 32
+    → ClashesWith (arm_of arm) (map arm_of rest) place it.args → AreClashing (map arm_of arms) it
 found arms left rest arm it place is steps second low clash =
     let more : rest ≡ drop (it.first + 1) arms = drop_more it.first arms rest arm (sym is ∙ steps) in record {
       one = arm_of arm;

@@ -1,13 +1,14 @@
 -- When two rules with conditions fit one call and say different things of it. libseccomp follows no rule of the profile there,
 -- so such a profile is refused, and such a call is shown.
-use Rattle.std.specs.Prelude.{ℕ, ◌≡◌, ◌≢◌, ◌^◌, ◌<◌, true, List, slice_get, Some, Contains}
+use Rattle.std.specs.Prelude.{ℕ, ◌≡◌, ◌≢◌, ◌^◌, ◌<◌, true, List, map, slice_get, Some, Contains}
 use Rattle.sk_insn.specs.declared.record.Record.{Record}
 use Rattle.sk_insn.specs.Record.{native}
 use Rattle.sk_profile.specs.declared.condition.Condition.{Condition}
+use Rattle.sk_profile.specs.declared.clash.TwoArms.{TwoArms}
 use Rattle.sk_profile.specs.declared.fault.Clash.{Clash}
 use Rattle.sk_profile.specs.Means.{IsCall}
 use Rattle.sk_profile.specs.Sayings.{Arm, all_hold}
-use Rattle.sk_profile.specs.Profiles.{Profile, saying_for}
+use Rattle.sk_profile.specs.Profiles.{Rule, Profile, rules_for, saying_for}
 
 -- a call of which all these conditions hold, and all those
 pub record FitsBoth (conditions others : List Condition) (call : Record) : Type 0 where
@@ -37,11 +38,11 @@ pub record ClashesWith (one : Arm) (others : List Arm) (place : ℕ) (args : Lis
   pub differ : one.value ≢ other.value
 
 -- the call that a clash shows
-abbrev pub shown_call : Clash → Record
+abbrev pub shown_call : TwoArms → Record
 shown_call it = native it.number 0 it.args
 
 -- the arms at these places both fit that call, and say different things of it
-pub record IsClash (arms : List Arm) (it : Clash) : Type 0 where
+pub record AreClashing (arms : List Arm) (it : TwoArms) : Type 0 where
   pub one : Arm
   pub other : Arm
   pub at_first : slice_get arms it.first ≡ Some one
@@ -49,3 +50,15 @@ pub record IsClash (arms : List Arm) (it : Clash) : Type 0 where
   pub order : it.first < it.second
   pub fits : FitsBoth one.conditions other.conditions (shown_call it)
   pub differ : one.value ≢ other.value
+
+-- the entries of the rules that count for a number, in the order of the rules
+abbrev pub entries_for : Profile → ℕ → List ℕ
+entries_for profile nr = map (λ (rule : Rule). rule.entry) (rules_for profile.default profile.rules nr)
+
+-- these entries have two rules for the number that both fit the call with these arguments, and say different things of it
+pub record IsClash (profile : Profile) (it : Clash) : Type 0 where
+  pub one : ℕ
+  pub other : ℕ
+  pub clash : AreClashing (saying_for profile it.number).arms (record { number = it.number; first = one; second = other; args = it.args })
+  pub first : slice_get (entries_for profile it.number) one ≡ Some it.first
+  pub second : slice_get (entries_for profile it.number) other ≡ Some it.second

@@ -7,7 +7,7 @@ use Rattle.sk_profile.specs.declared.condition.Condition.{Condition}
 use Rattle.sk_profile.specs.declared.fault.ProfileFault.{ProfileFault}
 use Rattle.sk_profile.specs.declared.fault.ProfileFault.TheVariants.{Rule as WrongRule, Clashes, TooLong, Memory}
 use Rattle.sk_profile.specs.Clashes.{IsClash}
-use Rattle.sk_profile.specs.Profiles.{Rule, Profile, saying_for}
+use Rattle.sk_profile.specs.Profiles.{Rule, Profile}
 use Rattle.sk_profile.specs.Sayings.{are_apart}
 
 abbrev pub of_code : CodeFault → ProfileFault
@@ -26,6 +26,6 @@ IsWrongAt rules place = (rule : Rule) × (slice_get rules place ≡ Some rule) �
 
 abbrev pub IsFaultOf : Profile → ProfileFault → Type 0
 IsFaultOf profile (WrongRule place) = IsWrongAt profile.rules place
-IsFaultOf profile (Clashes it) = IsClash (saying_for profile it.number).arms it
+IsFaultOf profile (Clashes it) = IsClash profile it
 IsFaultOf profile TooLong = ⊤
 IsFaultOf profile Memory = ⊤

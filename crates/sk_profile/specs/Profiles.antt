@@ -8,11 +8,12 @@ use Rattle.sk_insn.specs.declared.record.Record.{Record}
 use Rattle.sk_profile.specs.declared.condition.Condition.{Condition}
 use Rattle.sk_profile.specs.Sayings.{Arm, Saying, said}
 
--- `action` with its `errnoRet` as a filter's value, for one number of its `names`
+-- `action` with its `errnoRet` as a filter's value, for one number of its `names`; and the number of the entry that says so
 pub record Rule : Type 0 where
   pub number : ℕ
   pub conditions : List Condition
   pub value : ℕ
+  pub entry : ℕ
 
 -- `syscalls` in their order, `defaultAction` with `defaultErrnoRet`, and the value for what is no call of x86-64; whether runc
 -- has instructions of its own stand before the filter, and whether x32 is among the architectures
@@ -43,8 +44,11 @@ plain_rule default rules nr = find (λ (rule : Rule). is_for default nr rule && 
 abbrev pub arm_of_rule : Rule → Arm
 arm_of_rule rule = record { conditions = rule.conditions; value = rule.value }
 
+abbrev pub rules_for : ℕ → List Rule → ℕ → List Rule
+rules_for default rules nr = filter (is_for default nr) rules
+
 abbrev pub arms_for : ℕ → List Rule → ℕ → List Arm
-arms_for default rules nr = map arm_of_rule (filter (is_for default nr) rules)
+arms_for default rules nr = map arm_of_rule (rules_for default rules nr)
 
 -- a rule without conditions, if there is one, and else those with them
 abbrev pub settled : Option Rule → List Arm → ℕ → Saying

@@ -12,11 +12,11 @@ abbrev pub profile : List Rule → Bool → Bool → Profile
 profile rules stub x32 = record { rules = rules; default = 0x50001; bad = 0; stub = stub; x32 = x32 }
 
 abbrev pub allowing : ℕ → Rule
-allowing nr = record { number = nr; conditions = []; value = 0x7fff0000 }
+allowing nr = record { number = nr; conditions = []; value = 0x7fff0000; entry = 0 }
 
 -- what the default says, under these conditions
 abbrev pub refusing : ℕ → List Condition → Rule
-refusing nr conditions = record { number = nr; conditions = conditions; value = 0x50001 }
+refusing nr conditions = record { number = nr; conditions = conditions; value = 0x50001; entry = 0 }
 
 -- the first argument is 1
 abbrev pub one : List Condition
@@ -64,17 +64,17 @@ pub record WorkedNumbers : Type 0 where
   -- a rule that says what the default says is left out: the next one counts
   pub said_by_default : saying_for (profile (refusing 39 [] ∷ allowing 39 ∷ []) false false) 39 ≡ always 0x7fff0000
   pub said_after : saying_for (profile (allowing 39 ∷ refusing 39 [] ∷ []) false false) 39 ≡ always 0x7fff0000
-  pub another_error : saying_for (profile (record { number = 39; conditions = []; value = 0x50005 } ∷ allowing 39 ∷ []) false false) 39 ≡ always 0x50005
+  pub another_error : saying_for (profile (record { number = 39; conditions = []; value = 0x50005; entry = 0 } ∷ allowing 39 ∷ []) false false) 39 ≡ always 0x50005
   pub with_conditions : saying_for (profile (refusing 39 one ∷ allowing 39 ∷ []) false false) 39 ≡ always 0x7fff0000
   pub no_arm : saying_for (profile (refusing 39 one ∷ []) false false) 39 ≡ always 0x50001
-  pub other_arm : saying_for (profile (refusing 39 [] ∷ record { number = 39; conditions = one; value = 0x7fff0000 } ∷ []) false false) 39
+  pub other_arm : saying_for (profile (refusing 39 [] ∷ record { number = 39; conditions = one; value = 0x7fff0000; entry = 0 } ∷ []) false false) 39
       ≡ record { arms = record { conditions = one; value = 0x7fff0000 } ∷ []; otherwise = 0x50001 }
   -- it is the greatest that is named all the same
   pub names_it : saying_for (profile (allowing 39 ∷ refusing 439 [] ∷ []) true false) 438 ≡ always 0x50001
   pub names_itself : saying_for (profile (allowing 39 ∷ refusing 439 [] ∷ []) true false) 439 ≡ always 0x50001
   pub behind_it : saying_for (profile (allowing 39 ∷ refusing 439 [] ∷ []) true false) 440 ≡ always 0x50026
   -- a rule without conditions goes before those with them, and of several without the first counts
-  pub plain_goes_first : saying_for (profile (record { number = 39; conditions = one; value = 0x50005 } ∷ allowing 39 ∷ record { number = 39; conditions = []; value = 0x50005 } ∷ []) false false) 39
+  pub plain_goes_first : saying_for (profile (record { number = 39; conditions = one; value = 0x50005; entry = 0 } ∷ allowing 39 ∷ record { number = 39; conditions = []; value = 0x50005; entry = 0 } ∷ []) false false) 39
       ≡ always 0x7fff0000
   -- the operators of seccomp_rule_add(3), at their borders
   pub equal : borders Is ≡ (false, (true, false))

@@ -5,13 +5,21 @@ ghost use Rattle.sk_insn.specs.Record.{native};
 ghost use Rattle.sk_profile.specs.declared.condition.Condition.{Condition};
 ghost use Rattle.sk_profile.specs.declared.saying.Arm.{Arm};
 ghost use Rattle.sk_profile.specs.CodeViews.{arm_of, AreAsked, IsArmOfCode};
-ghost use Rattle.sk_profile.specs.Clashes.{AreClear, FitsBoth, IsClash, ClashesWith, ClashesWithNone};
+ghost use Rattle.sk_profile.specs.Clashes.{AreClear, FitsBoth, AreClashing, ClashesWith, ClashesWithNone};
 ghost use Rattle.sk_profile.specs.Meeting.{meets, meets_on, MeetsBoth};
 
 use crate::common::common;
 use crate::condition::{Condition, Test};
-use crate::fault::Clash;
 use crate::saying::Arm;
+
+/// Two arms for a number, by their places, and the arguments of a call that both fit.
+#[derive(Clone, Copy, Debug)]
+pub struct TwoArms {
+    pub number: u32,
+    pub first: usize,
+    pub second: usize,
+    pub args: [u64; 6],
+}
 
 // One of other arms, by its place, with the arguments of a call that it fits too.
 #[derive(Clone, Copy)]
@@ -22,10 +30,10 @@ struct Other {
 
 // Two arms for a number that fit one call and have different values, if there are such.
 #[tactic(auto, using(crate::proofs::Clearing::first_good, crate::proofs::Clearing::rest_good))]
-pub(crate) fn clash(number: u32, arms: &[Arm]) -> Option<Clash>
+pub(crate) fn clash(number: u32, arms: &[Arm]) -> Option<TwoArms>
     requires arms { All IsArmOfCode arms.now }
     ensures none { IfNone result (AreClear (map arm_of arms.now)) }
-    ensures clash { IfSome result (IsClash (map arm_of arms.now)) }
+    ensures clash { IfSome result (AreClashing (map arm_of arms.now)) }
     ensures number { IfSome result (λ it. it.number ≡ number) }
 {
     let mut first = 0;
@@ -34,7 +42,7 @@ pub(crate) fn clash(number: u32, arms: &[Arm]) -> Option<Clash>
         if let Some(other) = clash_with(arm, rest) {
             let second = first + 1 + other.place;
             let args = other.args;
-            return Some(Clash {
+            return Some(TwoArms {
                 number,
                 first,
                 second,

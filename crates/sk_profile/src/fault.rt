@@ -2,7 +2,8 @@
 use crate::build::CodeFault;
 use std::alloc::{AllocError, AllocFailed};
 
-/// A number, the places of two rules among those that count for the number, and the arguments of a call that both fit.
+/// A call's number, two entries of the profile with rules for it that say different things, and the arguments of a call that both
+/// rules fit.
 #[derive(Clone, Copy, Debug, PartialEq, Eq)]
 pub struct Clash {
     pub number: u32,

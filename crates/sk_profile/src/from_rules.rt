@@ -1,7 +1,8 @@
 //! What the rules of a profile say of the calls of one number.
-ghost use Rattle.std.specs.Prelude.{◌≡◌, ◌++◌, ◌∷◌, map, All, IfOk, OnOk, []};
+ghost use Rattle.std.specs.Prelude.{◌≡◌, ◌++◌, ◌∷◌, map, slice_get, All, IfOk, OnOk, []};
 ghost use Rattle.std.specs.Option.{option_map};
 ghost use Rattle.sk_profile.specs.CodeViews.{arm_of, saying_of, IsArmOfCode, IsSayingOfCode};
+ghost use Rattle.sk_profile.specs.Clashes.{entries_for};
 ghost use Rattle.sk_profile.specs.Profiles.{is_for, plain_rule, arms_for, arm_of_rule, saying_of_rules};
 ghost use Rattle.sk_profile.specs.Rows.{AreGood, IsGood};
 ghost use Rattle.sk_profile.specs.Views.{rule_of, profile_of};
@@ -86,4 +87,22 @@ fn push_arm(alloc: Global, arms: &mut Vec<Arm>, rule: &Rule) -> Result<(), Alloc
         value: rule.value,
     })?;
     Ok(())
+}
+
+/// The entry of the rule at this place among those that count for a number.
+pub fn entry_at(profile: &Profile, nr: u32, place: usize) -> Option<usize>
+    ensures entry { result ≡ slice_get (entries_for (profile_of profile.now) nr) place }
+{
+    let mut left = place;
+    let mut rules: &[Rule] = &profile.rules;
+    while let Some((rule, rest)) = rules.split_first() {
+        if is_for(profile.default, nr, rule) {
+            if left == 0 {
+                return Some(rule.entry);
+            }
+            left -= 1;
+        }
+        rules = rest;
+    }
+    None
 }

@@ -7,6 +7,8 @@ pub struct Rule {
     pub number: u32,
     pub conditions: Vec<Condition>,
     pub value: u32,
+    /// The entry of the profile that it comes from, as its author numbers them, from 0 on.
+    pub entry: usize,
 }
 
 /// A profile, once its names are numbers.

@@ -1,18 +1,18 @@
 //! The numbers of calls in rows of which the same is said.
-ghost use Rattle.std.specs.Prelude.{ℕ, ◌≡◌, ◌≤◌, ◌<◌, ◌+◌, ◌-◌, ◌^◌, nat_le, if◌then◌else◌, map, All, length, ◌≢◌, IfOk, IfErr, OnOk, IsTrue};
+ghost use Rattle.std.specs.Prelude.{ℕ, ◌≡◌, ◌≤◌, ◌<◌, ◌+◌, ◌-◌, ◌^◌, nat_le, if◌then◌else◌, map, All, length, slice_get, ◌≢◌, IfOk, IfErr, IsSome, OnOk, IsTrue, Some};
 ghost use Rattle.sk_profile.specs.declared.saying.Row.{Row};
 ghost use Rattle.sk_profile.specs.CodeRows.{saying_in};
 ghost use Rattle.sk_profile.specs.CodeViews.{saying_of, row_of, AreRows, IsSayingOfCode};
-ghost use Rattle.sk_profile.specs.Clashes.{AreClear, IsClear};
+ghost use Rattle.sk_profile.specs.Clashes.{entries_for, AreClear, IsClear};
 ghost use Rattle.sk_profile.specs.declared.fault.ProfileFault.TheVariants.{TooLong};
 ghost use Rattle.sk_profile.specs.Faults.{IsFaultOf};
 ghost use Rattle.sk_profile.specs.Profiles.{always, greatest, is_unknown, no_call, saying_for};
 ghost use Rattle.sk_profile.specs.Views.{profile_of};
 ghost use Rattle.sk_profile.specs.Rows.{said_at, says_same, changes, StartBelow, AreGood};
 
-use crate::clash::clash;
-use crate::fault::ProfileFault;
-use crate::from_rules::{plain, saying};
+use crate::clash::{TwoArms, clash};
+use crate::fault::{Clash, ProfileFault};
+use crate::from_rules::{entry_at, plain, saying};
 use crate::profile::Profile;
 use crate::saying::{Row, Saying};
 use crate::stub::{NO_CALL, greatest, is_unknown};
@@ -84,7 +84,31 @@ fn clear_saying(alloc: Global, profile: &Profile, top: u32, nr: u32) -> Result<S
     let said = saying(alloc, profile, nr)?;
     match clash(nr, &said.arms) {
         None => Ok(said),
-        Some(it) => Err(ProfileFault::Clashes(it)),
+        Some(it) => Err(ProfileFault::Clashes(clash_of(profile, it))),
+    }
+}
+
+// The entries that two arms come from.
+fn clash_of(profile: &Profile, it: TwoArms) -> Clash
+    requires first { IsSome (slice_get (entries_for (profile_of profile.now) it.number) it.first) }
+    requires second { IsSome (slice_get (entries_for (profile_of profile.now) it.number) it.second) }
+    ensures number { result.number ≡ it.number }
+    ensures first { slice_get (entries_for (profile_of profile.now) it.number) it.first ≡ Some result.first }
+    ensures second { slice_get (entries_for (profile_of profile.now) it.number) it.second ≡ Some result.second }
+    ensures args { result.args ≡ it.args }
+{
+    let args = it.args;
+    let (Some(first), Some(second)) = (
+        entry_at(profile, it.number, it.first),
+        entry_at(profile, it.number, it.second),
+    ) else {
+        unreachable!()
+    };
+    Clash {
+        number: it.number,
+        first,
+        second,
+        args,
     }
 }
 

@@ -2,7 +2,7 @@
 use Rattle.std.proofs.Common.{refl}
 use Rattle.json.proofs.OnLiterals.{json_on_literals}
 use Rattle.sk_text.specs.Numbers.{number_of}
-use Rattle.sk_call_names.specs.X86_64.{name_of, number_named}
+use Rattle.sk_names.specs.X86_64.{name_of, number_named}
 use Rattle.sk_filter.specs.Errors.{error_named}
 use Rattle.sk_profile_json.specs.WorkedProfiles.{WorkedProfiles}
 
@@ -13,6 +13,7 @@ worked_profiles = record {
   clone_by_mask = refl;
   clone_left_out = refl;
   two_entries = refl;
+  behind_a_left_out_one = refl;
   two_arguments = refl;
   by_one_name = refl;
   no_call_of_x86_64 = refl;

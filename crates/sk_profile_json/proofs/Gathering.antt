@@ -1,34 +1,29 @@
 -- Rules that a loop has gathered up to a place.
 use Rattle.std.proofs.Common.{◌≡◌, ℕ, ◌+◌, ◌<◌, ◌≤◌, suc, List, [], ◌++◌, length, map, drop, get_or, Result, Ok, Err, refl, ap, sym, ◌∙◌, add-one, append_assoc, append-nil}
-use Rattle.std.specs.List.{cons_option}
+use Rattle.std.specs.Prelude.{Option}
+use Rattle.std.specs.List.{cons_option, filter_map}
+use Rattle.json.specs.Json.{Json}
 use Rattle.json.specs.Value.{value_view}
 use Rattle.json.specs.declared.value.Value.{Value}
-use Rattle.sk_profile.specs.declared.condition.Condition.{Condition}
 use Rattle.sk_profile.specs.Profiles.{Rule}
 use Rattle.sk_profile_json.specs.declared.context.Context.{Context}
 use Rattle.sk_profile_json.specs.declared.fault.Fault.{Fault}
 use Rattle.sk_profile_json.specs.declared.fault.ReadFault.{ReadFault}
 use Rattle.sk_profile_json.specs.declared.fault.ReadFault.TheVariants as read
-use Rattle.sk_profile_json.specs.Entries.{rule_for, rules_for}
 use Rattle.sk_profile_json.specs.Fields.{result_then}
 use Rattle.sk_profile_json.specs.Wholes.{before, entry_rules, rules_from, IsFault}
 use Rattle.sk_profile_json.proofs.Following.{item_next, items_end, option_between}
 
--- ---- the rules of names
+-- ---- what is found in names
 
-pub more_rules : {A : Type 0} → (conditions : List Condition) (value : ℕ) (xs : List (Value A)) (i : ℕ) (x : Value A) (done new : List Rule)
-    → i < length xs → x ≡ get_or xs i x → new ≡ done ++ cons_option (rule_for conditions value (value_view x)) []
-    → new ++ rules_for conditions value (drop (i + 1) (map value_view xs)) ≡ done ++ rules_for conditions value (drop i (map value_view xs))
-more_rules conditions value xs i x done new h e n =
-    ap (λ k. new ++ rules_for conditions value (drop k (map value_view xs))) (add-one i)
-    ∙ ap (λ all. all ++ rules_for conditions value (drop (suc i) (map value_view xs))) n
-    ∙ option_between done (rule_for conditions value (value_view x)) (rules_for conditions value (drop (suc i) (map value_view xs)))
-    ∙ ap (λ js. done ++ rules_for conditions value js) (sym (item_next value_view xs i x h e))
-
-pub rules_end : {A : Type 0} → (conditions : List Condition) (value : ℕ) (xs : List (Value A)) (i : ℕ) (done : List Rule) → length xs ≤ i
-    → done ++ rules_for conditions value (drop i (map value_view xs)) ≡ done
-rules_end conditions value xs i done h =
-    ap (λ js. done ++ rules_for conditions value js) (items_end value_view xs i h) ∙ append-nil done
+pub more_found : {A X : Type 0} → (f : Json → Option X) (xs : List (Value A)) (i : ℕ) (x : Value A) (done new : List X)
+    → i < length xs → x ≡ get_or xs i x → new ≡ done ++ cons_option (f (value_view x)) []
+    → new ++ filter_map f (drop (i + 1) (map value_view xs)) ≡ done ++ filter_map f (drop i (map value_view xs))
+more_found f xs i x done new h e n =
+    ap (λ k. new ++ filter_map f (drop k (map value_view xs))) (add-one i)
+    ∙ ap (λ all. all ++ filter_map f (drop (suc i) (map value_view xs))) n
+    ∙ option_between done (f (value_view x)) (filter_map f (drop (suc i) (map value_view xs)))
+    ∙ ap (λ js. done ++ filter_map f js) (sym (item_next value_view xs i x h e))
 
 -- ---- the rules of entries
 

@@ -6,9 +6,9 @@ use Rattle.std.specs.List.{All, list_all, cons_option}
 use Rattle.std.specs.Option.{option_or, option_map, option_and_then}
 use Rattle.json.specs.Find.{as_str}
 use Rattle.json.specs.Json.{Json}
-use Rattle.sk_call_names.proofs.Places.{at as place_in, is_at}
-use Rattle.sk_call_names.specs.declared.x86_64.names.TheConstants.{EARLY, LATE}
-use Rattle.sk_call_names.specs.X86_64.{number_named}
+use Rattle.sk_names.proofs.Places.{at as place_in, is_at}
+use Rattle.sk_names.specs.declared.x86_64.names.TheConstants.{EARLY, LATE}
+use Rattle.sk_names.specs.X86_64.{number_named}
 use Rattle.sk_profile.specs.declared.condition.Condition.{Condition}
 use Rattle.sk_profile.specs.Faults.{is_good}
 use Rattle.sk_profile.specs.Profiles.{Rule, Profile}
@@ -59,9 +59,9 @@ asked-all (c ∷ conditions) asked =
     ap (λ b. b && list_all (λ (c : Condition). nat_lt c.index 6) conditions) first
     ∙ asked-all conditions (All-tail IsAsked c conditions asked)
 
-good-rule : (number value : ℕ) (conditions : List Condition) → number < 1024 → length conditions ≤ 6 → are_apart conditions ≡ true → All IsAsked conditions
-    → IsGood (record { number = number; conditions = conditions; value = value })
-good-rule number value conditions small few apart asked =
+good-rule : (number value entry : ℕ) (conditions : List Condition) → number < 1024 → length conditions ≤ 6 → are_apart conditions ≡ true → All IsAsked conditions
+    → IsGood (record { number = number; conditions = conditions; value = value; entry = entry })
+good-rule number value entry conditions small few apart asked =
     let s = lt-ltb number 1024 small in
     let f = le-leb (length conditions) 6 few in
     let a = asked-all conditions asked in
@@ -69,23 +69,23 @@ good-rule number value conditions small few apart asked =
 
 -- ---- the rules of an entry
 
-found-good : (conditions : List Condition) (value : ℕ) (o : Option ℕ) (rest : List Rule) → ((n : ℕ) → o ≡ Some n → n < 1024)
+found-good : (entry : ℕ) (conditions : List Condition) (value : ℕ) (o : Option ℕ) (rest : List Rule) → ((n : ℕ) → o ≡ Some n → n < 1024)
     → length conditions ≤ 6 → are_apart conditions ≡ true → All IsAsked conditions → All IsGood rest
-    → All IsGood (cons_option (option_map (λ number. record { number = number; conditions = conditions; value = value }) o) rest)
-found-good conditions value None rest small few apart asked h = h
-found-good conditions value (Some n) rest small few apart asked h =
-    All-cons IsGood _ rest (good-rule n value conditions (small n refl) few apart asked) h
+    → All IsGood (cons_option (option_map (λ number. record { number = number; conditions = conditions; value = value; entry = entry }) o) rest)
+found-good entry conditions value None rest small few apart asked h = h
+found-good entry conditions value (Some n) rest small few apart asked h =
+    All-cons IsGood _ rest (good-rule n value entry conditions (small n refl) few apart asked) h
 
 named-small : (o : Option (List ℕ)) (n : ℕ) → option_and_then number_named o ≡ Some n → n < 1024
 named-small None n h = absurd (search (steps, h))
 named-small (Some name) n h = number-small name n h
 
-rules_for-good : (conditions : List Condition) (value : ℕ) (names : List Json) → length conditions ≤ 6 → are_apart conditions ≡ true → All IsAsked conditions
-    → All IsGood (rules_for conditions value names)
-rules_for-good conditions value [] few apart asked = All-nil IsGood
-rules_for-good conditions value (j ∷ names) few apart asked =
-    found-good conditions value (option_and_then number_named (as_str j)) (rules_for conditions value names)
-    (named-small (as_str j)) few apart asked (rules_for-good conditions value names few apart asked)
+rules_for-good : (entry : ℕ) (conditions : List Condition) (value : ℕ) (names : List Json) → length conditions ≤ 6 → are_apart conditions ≡ true → All IsAsked conditions
+    → All IsGood (rules_for entry conditions value names)
+rules_for-good entry conditions value [] few apart asked = All-nil IsGood
+rules_for-good entry conditions value (j ∷ names) few apart asked =
+    found-good entry conditions value (option_and_then number_named (as_str j)) (rules_for entry conditions value names)
+    (named-small (as_str j)) few apart asked (rules_for-good entry conditions value names few apart asked)
 
 -- what was told is rules that are good, if it is rules
 abbrev AreGood : Result (List Rule) Fault → Type 0
@@ -99,8 +99,8 @@ if-good at rules (Err wrong) h more e = absurd (search (steps, e))
 with-good : (context : Context) (at : ℕ) (j : Json) (entry : Entry) (conditions : List Condition) (b : Bool) → are_apart conditions ≡ b
     → All IsAsked conditions → AreGood (rules_with context at j entry conditions)
 with-good context at j entry conditions true e asked =
-    rw e (if-good at (rules_for conditions entry.value entry.names) (counts context j)
-    (rules_for-good conditions entry.value entry.names (apart-few conditions e asked) e asked))
+    rw e (if-good at (rules_for at conditions entry.value entry.names) (counts context j)
+    (rules_for-good at conditions entry.value entry.names (apart-few conditions e asked) e asked))
 with-good context at j entry conditions false e asked = rw e (λ more h. absurd (search (steps, h)))
 
 unless-good : (context : Context) (at : ℕ) (j : Json) (entry : Entry) (o : Option WrongArgument) → AreGood (rules_unless context at j entry o)

@@ -5,4 +5,8 @@ pub mod Examples
 pub mod Bounded
 pub mod Asked
 pub mod Good
-pub mod Originating
+pub mod Images
+pub mod Noting
+pub mod Built
+pub mod Named
+pub mod Worked

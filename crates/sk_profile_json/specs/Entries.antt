@@ -5,7 +5,7 @@ use Rattle.std.specs.List.{list_any, list_all, filter_map}
 use Rattle.std.specs.Option.{option_and_then, option_map}
 use Rattle.json.specs.Json.{Json}
 use Rattle.json.specs.Find.{as_str}
-use Rattle.sk_call_names.specs.X86_64.{number_named}
+use Rattle.sk_names.specs.X86_64.{number_named}
 use Rattle.sk_insn.specs.declared.action.Action.{Action}
 use Rattle.sk_insn.specs.declared.action.Action.TheVariants.{UserNotif}
 use Rattle.sk_profile.specs.declared.condition.Condition.{Condition}
@@ -67,12 +67,12 @@ entry_if None j = result_then (entry_with j) (names_in j)
 abbrev pub entry_of : Json → Result Entry Wrong
 entry_of j = entry_if (wrong_keys entry_fields j) j
 
--- ---- its rules
+-- ---- its rules, which have the number of the entry
 
-abbrev pub rule_for : List Condition → ℕ → Json → Option Rule
-rule_for conditions value j =
-    option_map (λ number. record { number = number; conditions = conditions; value = value })
+abbrev pub rule_for : ℕ → List Condition → ℕ → Json → Option Rule
+rule_for place conditions value j =
+    option_map (λ number. record { number = number; conditions = conditions; value = value; entry = place })
     (option_and_then number_named (as_str j))
 
-abbrev pub rules_for : List Condition → ℕ → List Json → List Rule
-rules_for conditions value names = filter_map (rule_for conditions value) names
+abbrev pub rules_for : ℕ → List Condition → ℕ → List Json → List Rule
+rules_for place conditions value names = filter_map (rule_for place conditions value) names

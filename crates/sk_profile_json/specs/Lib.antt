@@ -12,5 +12,12 @@ pub mod ContextViews
 pub mod Wholes
 pub mod WholeViews
 pub mod Parts
-pub mod Origins
 pub mod WorkedProfiles
+pub mod Ranges
+pub mod Forms
+pub mod Filters
+pub mod Texts
+pub mod Notes
+pub mod Made
+pub mod Capabilities
+pub mod WorkedFiles

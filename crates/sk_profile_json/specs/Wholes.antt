@@ -43,7 +43,7 @@ rules_if at rules (Err wrong) = Err (fault_at (place.Entry at) wrong)
 -- and libseccomp refuses the rule
 abbrev pub rules_with : Context → ℕ → Json → Entry → List Condition → Result (List Rule) Fault
 rules_with context at j entry conditions =
-    if are_apart conditions then rules_if at (rules_for conditions entry.value entry.names) (counts context j)
+    if are_apart conditions then rules_if at (rules_for at conditions entry.value entry.names) (counts context j)
     else Err (fault_at (place.Entry at) (Contradicts field.Args))
 
 abbrev pub rules_unless : Context → ℕ → Json → Entry → Option WrongArgument → Result (List Rule) Fault

@@ -69,8 +69,8 @@ allowing name more = entry name (codes "SCMP_ACT_ALLOW") more
 abbrev pub allowing_where : List ℕ → List Json → Json
 allowing_where name arguments = allowing name ((codes "args", listed arguments) ∷ [])
 
-abbrev pub rule : ℕ → List Condition → ℕ → Rule
-rule nr conditions value = record { number = nr; conditions = conditions; value = value }
+abbrev pub rule : ℕ → ℕ → List Condition → ℕ → Rule
+rule place nr conditions value = record { number = nr; conditions = conditions; value = value; entry = place }
 
 abbrev pub condition : ℕ → Test → ℕ → Condition
 condition index test value = record { index = index; test = test; value = value }
@@ -153,31 +153,38 @@ abbrev pub by_operator : List ℕ → Json
 by_operator op = refusing (allowing_where (codes "read") (argument (codes "0") (codes "5") op [] ∷ []) ∷ [])
 
 abbrev pub compared : Test → Result Profile Fault
-compared test = says (rule 0 (condition 0 test 5 ∷ []) 0x7fff0000 ∷ []) 0x50001
+compared test = says (rule 0 0 (condition 0 test 5 ∷ []) 0x7fff0000 ∷ []) 0x50001
 
 -- an error by its number and its name
 abbrev pub named_error : List ℕ → List ℕ → Json
 named_error number_text name = refusing (failing ((codes "errnoRet", number number_text) ∷ (codes "errno", string name) ∷ []) ∷ [])
 
 abbrev pub ptrace : Result Profile Fault
-ptrace = says (rule 101 [] 0x7fff0000 ∷ []) 0x50001
+ptrace = says (rule 0 101 [] 0x7fff0000 ∷ []) 0x50001
+
+-- read and write are allowed by one entry
+abbrev pub entry_of_two : Json
+entry_of_two = object (members_from ((codes "names", texts (codes "read" ∷ codes "write" ∷ [])) ∷ (codes "action", string (codes "SCMP_ACT_ALLOW")) ∷ []))
 
 -- ---- the rows
 
 pub record WorkedProfiles : Type 0 where
   -- docker's personality, and clone with its mask
   pub personality : profile_in plain (refusing (allowing_where (codes "personality") (argument (codes "0") (codes "131080") eq [] ∷ []) ∷ []))
-      ≡ says (rule 135 (condition 0 Is 131080 ∷ []) 0x7fff0000 ∷ []) 0x50001
-  pub clone_by_mask : profile_in plain (refusing (clone ∷ [])) ≡ says (rule 56 (condition 0 (Masked 2114060288) 0 ∷ []) 0x7fff0000 ∷ []) 0x50001
+      ≡ says (rule 0 135 (condition 0 Is 131080 ∷ []) 0x7fff0000 ∷ []) 0x50001
+  pub clone_by_mask : profile_in plain (refusing (clone ∷ [])) ≡ says (rule 0 56 (condition 0 (Masked 2114060288) 0 ∷ []) 0x7fff0000 ∷ []) 0x50001
   pub clone_left_out : profile_in admin (refusing (clone ∷ [])) ≡ says [] 0x50001
   pub two_entries : profile_in plain (refusing (allowing (codes "read") [] ∷ allowing (codes "write") [] ∷ []))
-      ≡ says (rule 0 [] 0x7fff0000 ∷ rule 1 [] 0x7fff0000 ∷ []) 0x50001
+      ≡ says (rule 0 0 [] 0x7fff0000 ∷ rule 1 1 [] 0x7fff0000 ∷ []) 0x50001
+  -- the second entry names two calls, and the first one counts for nobody without the capability
+  pub behind_a_left_out_one : profile_in plain (refusing (with_caps (codes "CAP_SYS_ADMIN") ∷ entry_of_two ∷ []))
+      ≡ says (rule 1 0 [] 0x7fff0000 ∷ rule 1 1 [] 0x7fff0000 ∷ []) 0x50001
   pub two_arguments : profile_in plain (refusing (allowing_where (codes "kcmp") (
       argument (codes "1") (codes "1337") (codes "SCMP_CMP_GT") ((codes "valueTwo", number (codes "0")) ∷ [])
       ∷ argument (codes "5") (codes "18446744073709551615") eq [] ∷ []) ∷ []))
-      ≡ says (rule 312 (condition 1 Above 1337 ∷ condition 5 Is 18446744073709551615 ∷ []) 0x7fff0000 ∷ []) 0x50001
+      ≡ says (rule 0 312 (condition 1 Above 1337 ∷ condition 5 Is 18446744073709551615 ∷ []) 0x7fff0000 ∷ []) 0x50001
   pub by_one_name : profile_in plain (refusing (object (members_from ((codes "name", string (codes "open")) ∷ (codes "action", string (codes "SCMP_ACT_LOG")) ∷ [])) ∷ []))
-      ≡ says (rule 2 [] 0x7ffc0000 ∷ []) 0x50001
+      ≡ says (rule 0 2 [] 0x7ffc0000 ∷ []) 0x50001
   pub no_call_of_x86_64 : profile_in plain (refusing (allowing (codes "chown32") [] ∷ [])) ≡ says [] 0x50001
   -- values
   pub older_kill : profile_in plain (profile (codes "SCMP_ACT_KILL") []) ≡ says [] 0
@@ -185,7 +192,7 @@ pub record WorkedProfiles : Type 0 where
   pub trace : profile_in plain (profile (codes "SCMP_ACT_TRACE") []) ≡ says [] 0x7ff00001
   pub kill_thread : profile_in plain (profile (codes "SCMP_ACT_KILL_THREAD") []) ≡ says [] 0
   pub trap : profile_in plain (profile (codes "SCMP_ACT_TRAP") []) ≡ says [] 0x30000
-  pub told : profile_in plain (refusing (entry (codes "read") (codes "SCMP_ACT_NOTIFY") [] ∷ [])) ≡ says (rule 0 [] 0x7fc00000 ∷ []) 0x50001
+  pub told : profile_in plain (refusing (entry (codes "read") (codes "SCMP_ACT_NOTIFY") [] ∷ [])) ≡ says (rule 0 0 [] 0x7fc00000 ∷ []) 0x50001
   pub number_for_told : profile_in plain (refusing (entry (codes "read") (codes "SCMP_ACT_NOTIFY") ((codes "errnoRet", number (codes "1")) ∷ []) ∷ []))
       ≡ wrong (place.Entry 0) (Contradicts field.ErrnoRet)
   -- a tracer is told a number of 16 bits
@@ -193,9 +200,9 @@ pub record WorkedProfiles : Type 0 where
   pub no_traced_number : profile_in plain (profile (codes "SCMP_ACT_TRACE") ((codes "defaultErrnoRet", number (codes "65536")) ∷ []))
       ≡ wrong place.Profile (NotTaken field.DefaultErrnoRet)
   -- errors that errno(3) has two names for
-  pub would_block : profile_in plain (named_error (codes "11") (codes "EWOULDBLOCK")) ≡ says (rule 435 [] 0x5000b ∷ []) 0x50001
-  pub not_supported : profile_in plain (named_error (codes "95") (codes "ENOTSUP")) ≡ says (rule 435 [] 0x5005f ∷ []) 0x50001
-  pub deadlock : profile_in plain (named_error (codes "35") (codes "EDEADLOCK")) ≡ says (rule 435 [] 0x50023 ∷ []) 0x50001
+  pub would_block : profile_in plain (named_error (codes "11") (codes "EWOULDBLOCK")) ≡ says (rule 0 435 [] 0x5000b ∷ []) 0x50001
+  pub not_supported : profile_in plain (named_error (codes "95") (codes "ENOTSUP")) ≡ says (rule 0 435 [] 0x5005f ∷ []) 0x50001
+  pub deadlock : profile_in plain (named_error (codes "35") (codes "EDEADLOCK")) ≡ says (rule 0 435 [] 0x50023 ∷ []) 0x50001
   pub other_error : profile_in plain (named_error (codes "11") (codes "ENOTSUP")) ≡ wrong (place.Entry 0) (Contradicts field.Errno)
   -- operators
   pub not_equal : profile_in plain (by_operator (codes "SCMP_CMP_NE")) ≡ compared IsNot
@@ -205,15 +212,15 @@ pub record WorkedProfiles : Type 0 where
   pub greater_or_equal : profile_in plain (by_operator (codes "SCMP_CMP_GE")) ≡ compared AtLeast
   pub greater : profile_in plain (by_operator (codes "SCMP_CMP_GT")) ≡ compared Above
   pub enosys : profile_in plain (refusing (failing ((codes "errnoRet", number (codes "38")) ∷ (codes "errno", string (codes "ENOSYS")) ∷ []) ∷ []))
-      ≡ says (rule 435 [] 0x50026 ∷ []) 0x50001
+      ≡ says (rule 0 435 [] 0x50026 ∷ []) 0x50001
   pub greatest : profile_in plain (profile (codes "SCMP_ACT_ERRNO") ((codes "defaultErrnoRet", number (codes "4094")) ∷ [])) ≡ says [] 0x50ffe
   -- where an entry counts
-  pub from_this_kernel : profile_in plain (refusing (ptrace_from (codes "5.4") ∷ [])) ≡ says (rule 101 [] 0x7fff0000 ∷ []) 0x50001
-  pub from_an_earlier_one : profile_in plain (refusing (ptrace_from (codes "4.8") ∷ [])) ≡ says (rule 101 [] 0x7fff0000 ∷ []) 0x50001
+  pub from_this_kernel : profile_in plain (refusing (ptrace_from (codes "5.4") ∷ [])) ≡ says (rule 0 101 [] 0x7fff0000 ∷ []) 0x50001
+  pub from_an_earlier_one : profile_in plain (refusing (ptrace_from (codes "4.8") ∷ [])) ≡ says (rule 0 101 [] 0x7fff0000 ∷ []) 0x50001
   pub from_a_later_one : profile_in plain (refusing (ptrace_from (codes "5.10") ∷ [])) ≡ says [] 0x50001
-  pub for_this_arch : profile_in plain (refusing (for_arches (codes "amd64") ∷ [])) ≡ says (rule 101 [] 0x7fff0000 ∷ []) 0x50001
+  pub for_this_arch : profile_in plain (refusing (for_arches (codes "amd64") ∷ [])) ≡ says (rule 0 101 [] 0x7fff0000 ∷ []) 0x50001
   pub for_another_arch : profile_in plain (refusing (for_arches (codes "arm64") ∷ [])) ≡ says [] 0x50001
-  pub with_a_capability : profile_in admin (refusing (with_caps (codes "CAP_SYS_ADMIN") ∷ [])) ≡ says (rule 101 [] 0x7fff0000 ∷ []) 0x50001
+  pub with_a_capability : profile_in admin (refusing (with_caps (codes "CAP_SYS_ADMIN") ∷ [])) ≡ says (rule 0 101 [] 0x7fff0000 ∷ []) 0x50001
   pub without_it : profile_in plain (refusing (with_caps (codes "CAP_SYS_ADMIN") ∷ [])) ≡ says [] 0x50001
   pub with_another : profile_in admin (refusing (with_caps (codes "CAP_SYS_BOOT") ∷ [])) ≡ says [] 0x50001
   pub with_one_of_two : profile_in admin (refusing (allowing (codes "ptrace") ((codes "includes", object (members_from ((codes "caps", texts (codes "CAP_SYS_BOOT" ∷ codes "CAP_SYS_ADMIN" ∷ [])) ∷ []))) ∷ []) ∷ []))
@@ -236,7 +243,7 @@ pub record WorkedProfiles : Type 0 where
             (codes "errnoRet", number (codes "5")) ∷ (codes "errno", string (codes "EIO")) ∷ (codes "args", listed []) ∷ (codes "comment", string (codes "none"))
             ∷ (codes "includes", object no_members) ∷ (codes "excludes", object no_members) ∷ []) ∷ []),
       ) ∷ []))
-      ≡ says (rule 0 [] 0x50005 ∷ []) 0x50026
+      ≡ says (rule 0 0 [] 0x50005 ∷ []) 0x50026
   -- what is refused of the profile
   pub no_object : profile_in plain (listed []) ≡ wrong place.Profile NotAnObject
   pub unknown_key : profile_in plain (profile (codes "SCMP_ACT_LOG") ((codes "default", null) ∷ [])) ≡ wrong place.Profile (UnknownKey 1)

@@ -1,22 +1,34 @@
-//! The seccomp profile of a container runtime, read from its JSON.
+//! The seccomp profile of a container runtime, read from its JSON; and the image of the filter that means it, or why
+//! there is none.
 #![tactic(auto)]
 
 mod actions;
+mod answer;
 mod argument;
+mod capabilities;
 mod conditions;
 mod context;
 mod entry;
 mod fault;
 mod fields;
+pub mod filter_laws;
+mod form;
+mod image;
 pub mod laws;
-mod origins;
+mod making;
+mod note;
 mod parts;
 mod rules;
 mod runc;
+mod text;
 mod whole;
 
+pub use answer::{Made, Refusal};
+pub use capabilities::capability;
 pub use context::{Context, Kernel, kernel_of};
 pub use fault::{Fault, Field, Place, ReadFault, Wrong};
-pub use origins::origins_of;
+pub use form::is_profile;
+pub use making::made;
 pub use parts::{counted_names, entries_of, names_others};
+pub use text::refusal_text;
 pub use whole::{profile_in, read, value_of};

@@ -3,7 +3,7 @@ ghost use Rattle.std.specs.Prelude.{◌≡◌, ◌++◌, [], map, Ok, IfOk, IfEr
 ghost use Rattle.std.specs.List.{cons_option};
 ghost use Rattle.std.specs.Option.{option_and_then};
 ghost use Rattle.json.specs.Find.{as_str};
-ghost use Rattle.sk_call_names.specs.X86_64.{number_named};
+ghost use Rattle.sk_names.specs.X86_64.{number_named};
 ghost use Rattle.sk_profile_json.specs.declared.fault.ReadFault.TheVariants.{Profile as profile_fault};
 ghost use Rattle.json.specs.Value.{value_view};
 ghost use Rattle.sk_profile.specs.Views.{rule_of};
@@ -15,7 +15,7 @@ use crate::context::{Context, counts};
 use crate::entry::{Entry, entry_of};
 use crate::fault::{Fault, Field, Place, ReadFault, Wrong};
 use json::Value;
-use sk_call_names::x86_64::number;
+use sk_names::x86_64::number;
 use sk_profile::{Condition, Rule, are_apart};
 use std::alloc::{AllocError, Global};
 
@@ -64,7 +64,7 @@ fn push_entry(
     match counts(context, entry) {
         Err(wrong) => Err(fault(Place::Entry(place), wrong)),
         Ok(false) => Ok(()),
-        Ok(true) => Ok(push_rules(alloc, rules, &conditions, value, names)?),
+        Ok(true) => Ok(push_rules(alloc, rules, place, &conditions, value, names)?),
     }
 }
 
@@ -78,14 +78,15 @@ fn fault(place: Place, wrong: Wrong) -> ReadFault
 fn push_rules(
     alloc: Global,
     rules: &mut Vec<Rule>,
+    entry: usize,
     conditions: &[Condition],
     value: u32,
     names: &[Value<'_>],
 ) -> Result<(), AllocError>
-    ensures pushed { OnOk result (map rule_of rules.new.items ≡ map rule_of rules.old.items ++ rules_for conditions.now value (map value_view names.now)) }
+    ensures pushed { OnOk result (map rule_of rules.new.items ≡ map rule_of rules.old.items ++ rules_for entry conditions.now value (map value_view names.now)) }
 {
     for name in names {
-        push_rule(alloc, rules, conditions, value, name)?;
+        push_rule(alloc, rules, entry, conditions, value, name)?;
     }
     Ok(())
 }
@@ -93,11 +94,12 @@ fn push_rules(
 fn push_rule(
     alloc: Global,
     rules: &mut Vec<Rule>,
+    entry: usize,
     conditions: &[Condition],
     value: u32,
     name: &Value<'_>,
 ) -> Result<(), AllocError>
-    ensures pushed { OnOk result (map rule_of rules.new.items ≡ map rule_of rules.old.items ++ cons_option (rule_for conditions.now value (value_view name.now)) []) }
+    ensures pushed { OnOk result (map rule_of rules.new.items ≡ map rule_of rules.old.items ++ cons_option (rule_for entry conditions.now value (value_view name.now)) []) }
 {
     if let Some(number) = number_of(name) {
         let conditions = Vec::from_slice(alloc, conditions)?;
@@ -105,6 +107,7 @@ fn push_rule(
             number,
             conditions,
             value,
+            entry,
         })?;
     }
     Ok(())

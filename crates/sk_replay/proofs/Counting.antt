@@ -3,7 +3,7 @@ use Rattle.std.proofs.Common.{◌≡◌, ◌<◌, ◌≤◌, ◌+◌, ◌-◌, �
 use Rattle.std.proofs.lemmas.List.Sums.{sum_by-append, count_by-le-length}
 use Rattle.sk_text.specs.Lines.{lines_of}
 use Rattle.sk_asm.proofs.Blocks.{length-lines_in}
-use Rattle.sk_call_names.specs.declared.architecture.Architecture.{Architecture}
+use Rattle.sk_names.specs.declared.architecture.Architecture.{Architecture}
 use Rattle.sk_replay.specs.declared.call.Call.{Call}
 use Rattle.sk_replay.specs.declared.line.LogLine.{LogLine}
 use Rattle.sk_replay.specs.declared.line.LogLine.TheVariants.{Made, Event, Unclear}

@@ -2,8 +2,8 @@
 use Rattle.std.proofs.Common.{refl}
 use Rattle.std.specs.Fmt.{digits}
 use Rattle.sk_text.specs.Numbers.{number_of}
-use Rattle.sk_call_names.specs.X86_64.{name_of, number_named}
-use Rattle.sk_call_names.specs.Names.{name_at, name_in, name_on, number_at, number_in, number_on, runs_of}
+use Rattle.sk_names.specs.X86_64.{name_of, number_named}
+use Rattle.sk_names.specs.Names.{name_at, name_in, name_on, number_at, number_in, number_on, runs_of}
 use Rattle.sk_replay.specs.Lines.{argument_of, arguments_behind, arguments_of, call_in, is_bare, is_event, is_mark, is_mark_byte, last_argument, number_shown, said_at}
 use Rattle.sk_replay.specs.Replaying.{argument_text, call_text}
 use Rattle.sk_replay.specs.WorkedArguments.{WorkedArguments}

@@ -1,6 +1,6 @@
 -- The words in front of a call.
 use Rattle.std.proofs.Common.{◌≡◌, ◌∙◌, ap, refl, sym, ℕ, List, ◌∷◌, true, false}
-use Rattle.sk_call_names.specs.declared.architecture.Architecture.{Architecture}
+use Rattle.sk_names.specs.declared.architecture.Architecture.{Architecture}
 use Rattle.sk_replay.specs.declared.line.LogLine.{LogLine}
 use Rattle.sk_replay.specs.Lines.{is_mark, said, said_at}
 

@@ -2,8 +2,8 @@
 use Rattle.std.proofs.Common.{refl}
 use Rattle.std.specs.Fmt.{digits}
 use Rattle.sk_text.specs.Numbers.{number_of}
-use Rattle.sk_call_names.specs.X86_64.{number_named}
-use Rattle.sk_call_names.specs.Names.{number_at, number_in, number_on, runs_of}
+use Rattle.sk_names.specs.X86_64.{number_named}
+use Rattle.sk_names.specs.Names.{number_at, number_in, number_on, runs_of}
 use Rattle.sk_replay.specs.WordCalls.{plain_number}
 use Rattle.sk_replay.specs.CallWords.{argument_number, argument_of, arguments_of, call_of, given_in, inside_of, named_by}
 use Rattle.sk_replay.specs.WorkedWords.{WorkedWords}

@@ -6,8 +6,8 @@ use Rattle.std.specs.List.{before_first, filter_map, slice_split, starts_with}
 use Rattle.sk_text.specs.Lines.{words_of}
 use Rattle.sk_text.specs.Words.{none_of, one_of}
 use Rattle.sk_insn.specs.declared.record.Record.{Record}
-use Rattle.sk_call_names.specs.declared.architecture.Architecture.{Architecture}
-use Rattle.sk_call_names.specs.Architectures.{audit_of}
+use Rattle.sk_names.specs.declared.architecture.Architecture.{Architecture}
+use Rattle.sk_names.specs.Architectures.{audit_of}
 use Rattle.sk_replay.specs.declared.fault.CallFault.{CallFault}
 use Rattle.sk_replay.specs.declared.fault.CallFault.TheVariants.{NoCall, Unclosed, Argument, TooMany}
 use Rattle.sk_replay.specs.WordCalls.{nr_of, plain_number}

@@ -1,8 +1,8 @@
 -- Calls of a log, and what a filter sees of them: `struct seccomp_data` of seccomp(2).
 use Rattle.std.specs.Prelude.{ℕ, List, [], ◌∷◌, length, slice_index}
 use Rattle.sk_insn.specs.declared.record.Record.{Record}
-use Rattle.sk_call_names.specs.declared.architecture.Architecture.{Architecture}
-use Rattle.sk_call_names.specs.Architectures.{audit_of}
+use Rattle.sk_names.specs.declared.architecture.Architecture.{Architecture}
+use Rattle.sk_names.specs.Architectures.{audit_of}
 use Rattle.sk_replay.specs.declared.call.Call.{Call}
 
 -- the six registers with these arguments, of which those that are not there are 0

@@ -7,8 +7,8 @@ use Rattle.std.specs.Str.{bytes_eq}
 use Rattle.sk_text.specs.Lines.{words_of}
 use Rattle.sk_text.specs.Numbers.{number_of, up_to}
 use Rattle.sk_asm.specs.Grammar.{◌>>=◌}
-use Rattle.sk_call_names.specs.declared.architecture.Architecture.{Architecture}
-use Rattle.sk_call_names.specs.Names.{number_on}
+use Rattle.sk_names.specs.declared.architecture.Architecture.{Architecture}
+use Rattle.sk_names.specs.Names.{number_on}
 use Rattle.sk_replay.specs.declared.call.Call.{Call}
 use Rattle.sk_replay.specs.declared.line.LogLine.{LogLine}
 use Rattle.sk_replay.specs.declared.line.LogLine.TheVariants.{Made, Event, Unclear}

@@ -12,8 +12,8 @@ use Rattle.sk_insn.specs.declared.insn.Insn.{Insn}
 use Rattle.sk_insn.specs.Actions.{action_of, performs}
 use Rattle.sk_filter.specs.Verdict.{verdict_of}
 use Rattle.sk_filter.specs.VerdictText.{verdict_text}
-use Rattle.sk_call_names.specs.declared.architecture.Architecture.{Architecture}
-use Rattle.sk_call_names.specs.Names.{name_on}
+use Rattle.sk_names.specs.declared.architecture.Architecture.{Architecture}
+use Rattle.sk_names.specs.Names.{name_on}
 use Rattle.sk_replay.specs.declared.call.Call.{Call}
 use Rattle.sk_replay.specs.declared.line.LogLine.{LogLine}
 use Rattle.sk_replay.specs.declared.line.LogLine.TheVariants.{Made, Event, Unclear}

@@ -2,8 +2,8 @@
 use Rattle.std.specs.Prelude.{ℕ, ◌≡◌, ◌⊎◌, ◌≢◌, ◌==◌, ◌&&◌, not, Bool, false, if◌then◌else◌, List, ◌∷◌, Option, Some, None}
 use Rattle.std.specs.Option.{option_or}
 use Rattle.sk_text.specs.Numbers.{number_of, up_to}
-use Rattle.sk_call_names.specs.declared.architecture.Architecture.{Architecture}
-use Rattle.sk_call_names.specs.Names.{name_on, number_on}
+use Rattle.sk_names.specs.declared.architecture.Architecture.{Architecture}
+use Rattle.sk_names.specs.Names.{name_on, number_on}
 
 -- a 0 (48) before other digits, which elsewhere makes a number octal; `0x` (120) does not
 abbrev pub begins_with_zero : List ℕ → Bool

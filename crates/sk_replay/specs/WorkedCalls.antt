@@ -1,7 +1,7 @@
 -- Lines of a log, and its calls on architectures, that are worked out by hand: the lines as strace(1) writes them, the numbers
 -- those of asm/unistd.h of each.
 use Rattle.std.specs.Prelude.{◌≡◌, ◌^◌, [], ◌∷◌, codes, Some, None}
-use Rattle.sk_call_names.specs.declared.architecture.Architecture.TheVariants as architecture
+use Rattle.sk_names.specs.declared.architecture.Architecture.TheVariants as architecture
 use Rattle.sk_replay.specs.declared.line.LogLine.TheVariants.{Made, Event, Unclear}
 use Rattle.sk_replay.specs.Calls.{call_with, record_of}
 use Rattle.sk_replay.specs.Lines.{line_of, number_in}

@@ -2,7 +2,7 @@
 use Rattle.std.specs.Prelude.{ℕ, ◌≡◌, ◌^◌, List, [], ◌∷◌, codes, Ok, Err, Some, None}
 use Rattle.sk_insn.specs.declared.record.Record.{Record}
 use Rattle.sk_insn.specs.Record.{native}
-use Rattle.sk_call_names.specs.declared.architecture.Architecture.TheVariants as architecture
+use Rattle.sk_names.specs.declared.architecture.Architecture.TheVariants as architecture
 use Rattle.sk_replay.specs.declared.fault.CallFault.TheVariants.{NoCall, Unclosed, Argument, TooMany}
 use Rattle.sk_replay.specs.WordCalls.{nr_of}
 use Rattle.sk_replay.specs.CallWords.{argument_number, call_of}

@@ -2,8 +2,8 @@
 ghost use Rattle.std.specs.Prelude.{◌≡◌, slice_index, take};
 ghost use Rattle.sk_replay.specs.Calls.{call_with, record_of};
 
-use sk_call_names::Architecture;
 use sk_insn::Record;
+use sk_names::Architecture;
 
 /// A call as a log writes it: its number, how many arguments the log shows, and all six. Those that it does not show
 /// are 0.

@@ -7,7 +7,7 @@ ghost use Rattle.sk_replay.specs.Lines.{is_mark_byte, is_mark, is_event, argumen
 
 use crate::call::Call;
 use arrayvec::ArrayVec;
-use sk_call_names::{Architecture, number};
+use sk_names::{Architecture, number};
 use sk_text::{Words, cut, is_same, number_up_to, two_words};
 
 /// What a line says.

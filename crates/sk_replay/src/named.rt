@@ -3,7 +3,7 @@ ghost use Rattle.std.specs.Prelude.{◌≡◌, ◌≤◌, IfSome, IfNone};
 ghost use Rattle.sk_text.specs.Numbers.{number_of, up_to};
 ghost use Rattle.sk_replay.specs.WordCalls.{IsCall, NoCall, begins_with_zero, call_number, nr_of, plain_number};
 
-use sk_call_names::{Architecture, number};
+use sk_names::{Architecture, number};
 use sk_text::number_up_to;
 
 /// The number of the call that a word is on an architecture: a name, or a number in decimal without a 0 before it, or `0x`

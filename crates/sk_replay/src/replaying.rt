@@ -9,8 +9,8 @@ use crate::row::Row;
 use crate::tally::Tally;
 use crate::text::replay_text;
 use indexmap::IndexMap;
-use sk_call_names::Architecture;
 use sk_filter::Chain;
+use sk_names::Architecture;
 use std::alloc::{AllocError, Global};
 
 /// The verdicts on the calls of the log of a process of an architecture. No log has the instruction pointer of a call, which

@@ -3,9 +3,9 @@ ghost use Rattle.std.specs.Prelude.{◌≡◌};
 ghost use Rattle.sk_replay.specs.Replaying.{row_of, is_performed};
 
 use crate::call::Call;
-use sk_call_names::Architecture;
 use sk_filter::Chain;
 use sk_insn::Action;
+use sk_names::Architecture;
 
 /// A call, how often it was made, and the value that filters give it.
 #[derive(Clone, Copy, Debug)]

@@ -8,7 +8,7 @@ ghost use Rattle.sk_replay.specs.Replaying.{calls_of, events_in, unclear_in, tal
 use crate::call::Call;
 use crate::line::LogLine;
 use indexmap::IndexMap;
-use sk_call_names::Architecture;
+use sk_names::Architecture;
 use sk_text::Lines;
 use std::alloc::{AllocError, Global};
 

@@ -1,12 +1,12 @@
 //! The text of a replay.
 ghost use Rattle.std.specs.Prelude.{◌≡◌, ◌++◌, IfOk, OnOk, codes, false, flat_map, string_bytes, true};
-ghost use Rattle.sk_call_names.specs.Names.{name_on};
+ghost use Rattle.sk_names.specs.Names.{name_on};
 ghost use Rattle.sk_replay.specs.Replaying.{argument_text, arguments_text, name_text, call_text, row_text, one_text, part_text, count_text, tally_text};
 
 use crate::call::Call;
 use crate::row::Row;
-use sk_call_names::{Architecture, name};
 use sk_filter::push_verdict;
+use sk_names::{Architecture, name};
 use std::alloc::{AllocError, Global};
 use std::fmt::Write;
 

@@ -7,8 +7,8 @@ use crate::argument::arguments;
 use crate::cuts::cut_at;
 use crate::fault::CallFault;
 use crate::named::call_named;
-use sk_call_names::Architecture;
 use sk_insn::Record;
+use sk_names::Architecture;
 use sk_text::{Words, cut, no_word, one_word};
 
 /// The call of an architecture that a word stands for, as `openat(-100, 0x7f00, 0)`, or the first of its faults. The

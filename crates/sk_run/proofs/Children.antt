@@ -10,9 +10,9 @@ use Rattle.sk_insn.specs.declared.action.Action.{Action}
 use Rattle.sk_insn.specs.declared.action.Action.TheVariants as action
 use Rattle.sk_insn.specs.Actions.{action_of}
 use Rattle.sk_filter.specs.Verdict.{verdict_of}
-use Rattle.sk_calls.specs.declared.syscall.Syscall.{Syscall}
-use Rattle.sk_calls.specs.declared.syscall.Syscall.TheVariants as syscall
-use Rattle.sk_calls.specs.Syscalls.{syscall_of, number_of}
+use Rattle.sk_names.specs.declared.syscall.Syscall.{Syscall}
+use Rattle.sk_names.specs.declared.syscall.Syscall.TheVariants as syscall
+use Rattle.sk_names.specs.Syscalls.{syscall_of, number_of}
 use Rattle.sk_world.specs.declared.process.TheConstants.{LAST_PID}
 use Rattle.sk_world.specs.declared.process.Body.{Body}
 use Rattle.sk_world.specs.declared.process.Proc.{Proc}
@@ -27,7 +27,7 @@ use Rattle.sk_machine.specs.Images.{Images}
 use Rattle.sk_machine.specs.Performing.{forks, row}
 use Rattle.sk_machine.specs.Events.{pid_of, recorded}
 use Rattle.sk_machine.specs.Machine.{judged, reason_of, happened_to, stepped, step_of}
-use Rattle.sk_report.specs.Levels.{pid_in}
+use Rattle.sk_run.specs.Levels.{pid_in}
 use Rattle.sk_run.specs.views.Stacks.{is_fork, ChildIsLow}
 
 -- ---- the next free number

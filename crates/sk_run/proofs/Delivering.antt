@@ -4,16 +4,16 @@ use Rattle.std.proofs.KnownBytes.{Appends-nil}
 use Rattle.std.proofs.Math.Logic.{⊎_elim}
 use Rattle.std.proofs.lemmas.Bool.{cases_lt}
 use Rattle.std.proofs.lemmas.List.{take_all, length-take}
-use Rattle.sk_io.specs.declared.source.ReadFault.{ReadFault}
-use Rattle.sk_io.specs.declared.source.ReadFault.TheVariants as reading
+use Rattle.sk_text.specs.declared.source.ReadFault.{ReadFault}
+use Rattle.sk_text.specs.declared.source.ReadFault.TheVariants as reading
 use Rattle.sk_scenario.specs.declared.text_fault.TextFault.{TextFault}
 use Rattle.sk_scenario.specs.declared.text_fault.TextFault.TheVariants as text
 use Rattle.sk_scenario.specs.Faults.{IsFirstFaultOfText}
 use Rattle.sk_scenario.specs.Scenario.{Setting, IsScenarioText}
 use Rattle.sk_scenario.specs.declared.fault.ScenarioFault.{ScenarioFault}
 use Rattle.sk_scenario.specs.Answers.{told, IsToldOf}
-use Rattle.sk_report.specs.declared.turn.End.{End}
-use Rattle.sk_report.specs.Report.{report_of}
+use Rattle.sk_run.specs.declared.turn.End.{End}
+use Rattle.sk_run.specs.Report.{report_of}
 use Rattle.sk_run.specs.declared.fault.EngineFault.{EngineFault}
 use Rattle.sk_run.specs.declared.fault.EngineFault.TheVariants.{Read, Scenario, Write, Memory}
 use Rattle.sk_run.specs.Reporting.{Writes, WritesReport, LeavesReport, of_scenario, of_reading}

@@ -8,9 +8,9 @@ use Rattle.sk_machine.specs.declared.answer.Answer.{Answer}
 use Rattle.sk_machine.specs.Images.{Images}
 use Rattle.sk_machine.specs.Machine.{step_of}
 use Rattle.sk_machine.specs.Turns.{need_of}
-use Rattle.sk_report.specs.Levels.{Stack, Stacks, stacks_after}
-use Rattle.sk_report.specs.declared.turn.ReportLine.TheVariants as turn
-use Rattle.sk_report.specs.Scheduling.{Scheduled, mark_of_script, images_of, line_due, event_by, turn_by, after_turn_by}
+use Rattle.sk_run.specs.Levels.{Stack, Stacks, stacks_after}
+use Rattle.sk_run.specs.declared.turn.ReportLine.TheVariants as turn
+use Rattle.sk_run.specs.Scheduling.{Scheduled, mark_of_script, images_of, line_due, event_by, turn_by, after_turn_by}
 
 -- a fact that holds anyway
 pub on_err : {X E : Type 0} (r : Result X E) (P : Type 0) → P → OnErr r P

@@ -17,13 +17,13 @@ use Rattle.sk_machine.specs.declared.answer.Reason.{Reason}
 use Rattle.sk_machine.specs.Events.{pid_of}
 use Rattle.sk_machine.specs.Machine.{end_status, halted_of, reason_of}
 use Rattle.sk_machine.specs.Turns.{is_runnable, need_of, need_met_by, next_of}
-use Rattle.sk_machine_laws.proofs.Turns.{next_is_turn, runnable_has_event}
-use Rattle.sk_machine_laws.proofs.Unchanged.{possible_happens}
-use Rattle.sk_report.specs.declared.turn.End.{End}
-use Rattle.sk_report.specs.declared.turn.ReportLine.TheVariants as turn
-use Rattle.sk_report.specs.Levels.{Stack}
-use Rattle.sk_report.specs.Scheduling.{Scheduled, opened, line_due, own_event, event_by, event_of, images_of, runner_by, runner_of, stepped_by, turn_by, after_turn_by}
-use Rattle.sk_report.specs.Report.{Report, onto, ended, report_from}
+use Rattle.sk_laws.proofs.Turns.{next_is_turn, runnable_has_event}
+use Rattle.sk_laws.proofs.Unchanged.{possible_happens}
+use Rattle.sk_run.specs.declared.turn.End.{End}
+use Rattle.sk_run.specs.declared.turn.ReportLine.TheVariants as turn
+use Rattle.sk_run.specs.Levels.{Stack}
+use Rattle.sk_run.specs.Scheduling.{Scheduled, opened, line_due, own_event, event_by, event_of, images_of, runner_by, runner_of, stepped_by, turn_by, after_turn_by}
+use Rattle.sk_run.specs.Report.{Report, onto, ended, report_from}
 use Rattle.sk_run.specs.laws.ReportLaws.{DueIsPossible, EachTurnHappens}
 
 -- an event of this process that meets this need

@@ -5,3 +5,4 @@ pub mod Underway
 pub mod Delivering
 pub mod Happening
 pub mod Running
+pub mod ReportRows

@@ -4,7 +4,7 @@ use Rattle.std.proofs.Math.ListN.{set}
 use Rattle.std.specs.Option.{option_map_or}
 use Rattle.std.proofs.lemmas.Bool.{eqb-true, eqb-false}
 use Rattle.std.proofs.lemmas.Option.{slice_get_read}
-use Rattle.sk_report.specs.Levels.{Stack, alone, first_call, stacked}
+use Rattle.sk_run.specs.Levels.{Stack, alone, first_call, stacked}
 use Rattle.sk_run.specs.declared.levels.Levels.{Levels}
 use Rattle.sk_run.specs.views.Stacks.{stack_of, stacks_of}
 

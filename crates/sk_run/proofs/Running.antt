@@ -5,14 +5,14 @@ use Rattle.sk_world.specs.World.{World, opening}
 use Rattle.sk_machine.specs.declared.event.Event.{Event}
 use Rattle.sk_machine.specs.Machine.{halted_of, answers_of, world_after}
 use Rattle.sk_machine.specs.Turns.{is_runnable, next_of}
-use Rattle.sk_machine_laws.proofs.Turns.{nobodys_turn}
-use Rattle.sk_machine_laws.proofs.KeptEvents.{kept_reached}
-use Rattle.sk_machine_laws.proofs.Accepted.{filters_in_force_are_accepted}
-use Rattle.sk_machine_laws.proofs.Runs.{runs_are_lawful}
-use Rattle.sk_report.specs.declared.turn.End.{End}
-use Rattle.sk_report.specs.declared.turn.End.TheVariants.{Halt, Idle, Limit}
-use Rattle.sk_report.specs.Scheduling.{Scheduled, opened, images_of, event_of, runner_by, runner_of, turn_by, after_turn_by}
-use Rattle.sk_report.specs.Report.{Report, onto, ended, all_used, report_from, report_of}
+use Rattle.sk_laws.proofs.Turns.{nobodys_turn}
+use Rattle.sk_laws.proofs.KeptEvents.{kept_reached}
+use Rattle.sk_laws.proofs.Accepted.{filters_in_force_are_accepted}
+use Rattle.sk_laws.proofs.Runs.{runs_are_lawful}
+use Rattle.sk_run.specs.declared.turn.End.{End}
+use Rattle.sk_run.specs.declared.turn.End.TheVariants.{Halt, Idle, Limit}
+use Rattle.sk_run.specs.Scheduling.{Scheduled, opened, images_of, event_of, runner_by, runner_of, turn_by, after_turn_by}
+use Rattle.sk_run.specs.Report.{Report, onto, ended, all_used, report_from, report_of}
 use Rattle.sk_run.specs.laws.ReportLaws.{numbered, LeavesSo, ReportsAreRuns}
 
 -- why nobody has the turn

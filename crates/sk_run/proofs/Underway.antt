@@ -7,15 +7,15 @@ use Rattle.std.proofs.Math.Logic.{⊎_elim}
 use Rattle.std.proofs.Math.Seq.{take-append_seam}
 use Rattle.std.proofs.lemmas.Bool.{cases_lt, lt-ltb, le-ltb}
 use Rattle.std.proofs.lemmas.List.{length-append}
-use Rattle.sk_io.specs.Writing.{AppendsBeginning}
+use Rattle.sk_text.specs.Writing.{AppendsBeginning}
 use Rattle.sk_scenario.specs.Scenario.{Setting}
 use Rattle.sk_machine.specs.declared.event.Event.{Event}
 use Rattle.sk_machine.specs.declared.answer.Answer.{Answer}
-use Rattle.sk_report.specs.declared.turn.End.{End}
-use Rattle.sk_report.specs.declared.turn.ReportLine.{ReportLine}
-use Rattle.sk_report.specs.declared.turn.ReportLine.TheVariants as turn
-use Rattle.sk_report.specs.Scheduling.{Scheduled, opened, runner_of, turn_by, after_turn_by, turn_for, turn_of, after_turn_for, after_turn}
-use Rattle.sk_report.specs.Report.{Report, ended, onto, all_used, report_from, report_of, line, text_of, turns_text}
+use Rattle.sk_run.specs.declared.turn.End.{End}
+use Rattle.sk_run.specs.declared.turn.ReportLine.{ReportLine}
+use Rattle.sk_run.specs.declared.turn.ReportLine.TheVariants as turn
+use Rattle.sk_run.specs.Scheduling.{Scheduled, opened, runner_of, turn_by, after_turn_by, turn_for, turn_of, after_turn_for, after_turn}
+use Rattle.sk_run.specs.Report.{Report, ended, onto, all_used, report_from, report_of, line, text_of, turns_text}
 
 -- ---- a report is its next turn, and the report from there
 

@@ -1,18 +1,18 @@
 -- What the engine leaves behind.
 use Rattle.std.specs.Prelude.{◌≡◌, ◌≤◌, ◌⊎◌, ℕ, List, [], length, take, Option, Result, Ok, Err}
 use Rattle.std.specs.Io.KnownBytes.{Appends}
-use Rattle.sk_io.specs.Failures.{one_more}
-use Rattle.sk_io.specs.Writing.{AppendsBeginning}
+use Rattle.sk_text.specs.Failures.{one_more}
+use Rattle.sk_text.specs.Writing.{AppendsBeginning}
 use Rattle.sk_scenario.specs.declared.text_fault.TextFault.{TextFault}
 use Rattle.sk_scenario.specs.Faults.{IsFirstFaultOfText}
 use Rattle.sk_scenario.specs.Scenario.{Setting, IsScenarioText}
 use Rattle.sk_scenario.specs.Answers.{told}
 use Rattle.sk_scenario.specs.declared.fault.ScenarioFault.{ScenarioFault}
 use Rattle.sk_scenario.specs.declared.fault.ScenarioFault.TheVariants.{Memory as ScenarioMemory}
-use Rattle.sk_io.specs.declared.source.ReadFault.{ReadFault}
-use Rattle.sk_io.specs.declared.source.ReadFault.TheVariants.{Read as ReadFailed, Memory as MemoryRefused}
-use Rattle.sk_report.specs.declared.turn.End.{End}
-use Rattle.sk_report.specs.Report.{Report, report_of, text_of, turns_text}
+use Rattle.sk_text.specs.declared.source.ReadFault.{ReadFault}
+use Rattle.sk_text.specs.declared.source.ReadFault.TheVariants.{Read as ReadFailed, Memory as MemoryRefused}
+use Rattle.sk_run.specs.declared.turn.End.{End}
+use Rattle.sk_run.specs.Report.{Report, report_of, text_of, turns_text}
 use Rattle.sk_run.specs.declared.fault.EngineFault.{EngineFault}
 use Rattle.sk_run.specs.declared.fault.EngineFault.TheVariants.{Read, Scenario, Write, Memory}
 

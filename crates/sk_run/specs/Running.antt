@@ -6,7 +6,7 @@ use Rattle.sk_scenario.specs.Faults.{IsFirstFaultOfText}
 use Rattle.sk_scenario.specs.Answers.{told}
 use Rattle.sk_scenario.specs.declared.fault.ScenarioFault.{ScenarioFault}
 use Rattle.sk_scenario.specs.declared.fault.ScenarioFault.TheVariants as scenario
-use Rattle.sk_report.specs.declared.turn.End.{End}
+use Rattle.sk_run.specs.declared.turn.End.{End}
 use Rattle.sk_run.specs.declared.fault.EngineFault.TheVariants as engine
 use Rattle.sk_run.specs.Reporting.{WritesReport}
 use Rattle.sk_engines.specs.Engine.{Delivers}

@@ -1,6 +1,6 @@
 //! The program over any reader and writer.
 ghost use Rattle.std.specs.Prelude.{◌≡◌, ◌≢◌, ◌≤◌, Err, IfNone, IfOk, map, string_bytes};
-ghost use Rattle.sk_io.specs.Reading.{ConsumesUpTo};
+ghost use Rattle.sk_text.specs.Reading.{ConsumesUpTo};
 ghost use Rattle.sk_engines.specs.Engine.{Delivers, CountsWrites};
 ghost use Rattle.sk_engines.specs.Program.{Ends, Works, device};
 ghost use Rattle.sk_engines.specs.Words.{word_of};
@@ -8,8 +8,8 @@ ghost use Rattle.sk_run.specs.Running.{Does, Runs, scenario_answer};
 
 use crate::{EngineFault, engine};
 use sk_engines::{CommandFault, Reply, Word, deliver, failed, filter_command, tell_usage, word_in};
-use sk_io::{Sink, Source};
 use sk_scenario::ScenarioFault;
+use sk_text::{Sink, Source};
 use std::alloc::Global;
 
 const USAGE: &str = "usage: skern run|check|eval|asm|list\n";

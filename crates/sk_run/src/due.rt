@@ -1,12 +1,12 @@
 //! Which event is due.
 ghost use Rattle.std.specs.Prelude.{◌≡◌, ◌<◌, ◌≤◌, ◌^◌, IfSome, length};
-ghost use Rattle.sk_report.specs.Scheduling.{line_due, own_event, event_by, address_of, closing, script_of};
+ghost use Rattle.sk_run.specs.Scheduling.{line_due, own_event, event_by, address_of, closing, script_of};
 ghost use Rattle.sk_run.specs.views.Stacks.{stack_of};
 
+use crate::Level;
 use crate::levels::Levels;
-use sk_calls::{Call, Syscall};
 use sk_machine::{Event, Need};
-use sk_report::Level;
+use sk_names::{Call, Syscall};
 use sk_scenario::{Program, ScriptCall};
 
 // How many calls the script of a program has. One that is not declared has the empty script.

@@ -1,6 +1,6 @@
 //! The faults that end the engine: their texts, and which fault of a library becomes which of them.
-use sk_io::{ReadFault, WriteFault};
 use sk_scenario::ScenarioFault;
+use sk_text::{ReadFault, WriteFault};
 use std::alloc::AllocError;
 use thiserror::Error;
 

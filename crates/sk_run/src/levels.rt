@@ -2,12 +2,12 @@
 ghost use Rattle.std.specs.Prelude.{◌≡◌, ◌<◌, ◌+◌, ◌^◌, IfOk, IsTrue, OnOk, Option};
 ghost use Rattle.std.specs.Option.{is_some};
 ghost use Rattle.sk_scenario.specs.declared.call.ScriptCall.{ScriptCall};
-ghost use Rattle.sk_report.specs.Levels.{first_call, alone, delivered, returned, begun, made, performing, called};
+ghost use Rattle.sk_run.specs.Levels.{first_call, alone, delivered, returned, begun, made, performing, called};
 ghost use Rattle.sk_run.specs.views.Stacks.{stack_of, HasRoom};
 
-use sk_calls::{Call, Syscall};
+use crate::Level;
 use sk_machine::{Effect, Outcome};
-use sk_report::Level;
+use sk_names::{Call, Syscall};
 use std::alloc::{AllocError, Global};
 
 /// The levels of a process: the one that runs, and those below it, the lowest first.

@@ -1,13 +1,13 @@
 //! The machine that makes the turns of a scenario.
 ghost use Rattle.sk_machine.specs.Turns.{is_runnable, need_of, next_of};
 ghost use Rattle.std.specs.Prelude.{◌≡◌, ◌<◌, IfOk, IfErr, IsTrue, OnOk, OnErr, Ok, Err, None, map};
-ghost use Rattle.sk_report.specs.Scheduling.{opened, runner_of, turn_of, after_turn, turn_by, after_turn_by, mark_of_script};
+ghost use Rattle.sk_run.specs.Scheduling.{opened, runner_of, turn_of, after_turn, turn_by, after_turn_by, mark_of_script};
 
 use crate::due::{event_by, line_due};
 use crate::making::make;
 use crate::stacks::{Stacks, levels_at, reach};
+use crate::{End, ReportLine};
 use sk_kernel::{Images, Kernel, Mark, Runner};
-use sk_report::{End, ReportLine};
 use sk_scenario::{Program, Scenario};
 use sk_world::ProcStore;
 use std::alloc::{AllocError, Global};
@@ -61,7 +61,7 @@ impl<S: ProcStore> Machine<S> {
 
     /// The next turn. Once it is the end it is the same end at each later call. Where memory is refused nothing is
     /// changed.
-    #[tactic(auto, unfolding(sk_report::specs::Scheduling::turn_of, sk_report::specs::Scheduling::after_turn))]
+    #[tactic(auto, unfolding(crate::specs::Scheduling::turn_of, crate::specs::Scheduling::after_turn))]
     pub fn turn(&mut self) -> Result<ReportLine, AllocError>
         ensures turn { IfOk result (λ turn. turn ≡ turn_of (setting_of self.old) (now_of self.old)) }
         ensures after { OnOk result ((now_of self.new) ≡ after_turn (setting_of self.old) (now_of self.old)) }

@@ -1,11 +1,11 @@
 //! What an event leads to.
 ghost use Rattle.std.specs.Prelude.{◌≡◌, ◌<◌, ◌≤◌, ◌^◌, IfOk, OnOk, OnErr, IfSome, IsTrue, None, true, slice_get, vec_len, vec_capacity};
 ghost use Rattle.std.specs.Option.{is_some};
-ghost use Rattle.sk_report.specs.Scheduling.{line_due};
+ghost use Rattle.sk_run.specs.Scheduling.{line_due};
 ghost use Rattle.sk_world.specs.declared.process.TheConstants.{LAST_PID};
 ghost use Rattle.sk_machine.specs.Machine.{reason_of, step_of};
 ghost use Rattle.sk_machine.specs.Events.{pid_of};
-ghost use Rattle.sk_report.specs.Levels.{begun, made, stacks_after, with_child, script_of_child, pid_in};
+ghost use Rattle.sk_run.specs.Levels.{begun, made, stacks_after, with_child, script_of_child, pid_in};
 ghost use Rattle.sk_run.specs.views.Stacks.{is_fork, stack_of, stacks_of, HasRoom, ChildIsLow, IsReady};
 ghost use Rattle.sk_machine.specs.declared.event.Event.TheVariants as event;
 
@@ -14,10 +14,10 @@ use crate::levels::Levels;
 use crate::stacks::{
     Stacks, call_at, deliver_at, levels_at, make_room_for_handler, make_room_for_pids, put,
 };
-use sk_calls::Syscall;
 use sk_insn::Action;
 use sk_kernel::Kernel;
 use sk_machine::{Answer, Event, Outcome};
+use sk_names::Syscall;
 use sk_scenario::{Program, ScriptCall};
 use sk_world::ProcStore;
 use std::alloc::{AllocError, Global};

@@ -1,18 +1,17 @@
 //! The engine: it reads a scenario, and writes its report, each line before the next turn is made.
 ghost use Rattle.std.specs.Prelude.{◌≡◌, IfSome};
-ghost use Rattle.sk_io.specs.Reading.{ConsumesUpTo};
-ghost use Rattle.sk_report.specs.Scheduling.{opened};
-ghost use Rattle.sk_report.specs.Report.{report_of};
+ghost use Rattle.sk_text.specs.Reading.{ConsumesUpTo};
+ghost use Rattle.sk_run.specs.Scheduling.{opened};
+ghost use Rattle.sk_run.specs.Report.{report_of};
 ghost use Rattle.sk_run.specs.views.State.{setting_of, now_of};
 ghost use Rattle.sk_run.specs.Reporting.{LeavesReport, Writes, ReportCountsReads, ReportCountsWrites};
 
 use crate::fault::EngineFault;
 use crate::machine::Machine;
-use sk_io::{Sink, Source, send, take_up_to};
-use sk_report::{End, ReportLine, write_line};
+use crate::{End, ReportLine, write_line};
 use sk_scenario::read;
 use sk_table::SlotStore;
-use sk_text::{Line, MOST_BYTES};
+use sk_text::{Line, MOST_BYTES, Sink, Source, send, take_up_to};
 use sk_world::ProcStore;
 use std::alloc::{AllocError, Global};
 

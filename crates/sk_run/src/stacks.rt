@@ -3,12 +3,12 @@ ghost use Rattle.std.specs.Prelude.{◌≡◌, ◌<◌, ◌^◌, OnOk, IfSome, I
 ghost use Rattle.std.specs.Option.{is_some};
 ghost use Rattle.sk_scenario.specs.declared.call.ScriptCall.{ScriptCall};
 ghost use Rattle.sk_world.specs.declared.process.TheConstants.{LAST_PID};
-ghost use Rattle.sk_report.specs.Levels.{called, delivered, stacked};
+ghost use Rattle.sk_run.specs.Levels.{called, delivered, stacked};
 ghost use Rattle.sk_run.specs.views.Stacks.{stack_of, stacks_of, HasRoom};
 
 use crate::levels::{Levels, at_program};
-use sk_calls::Call;
 use sk_machine::{Effect, Outcome};
+use sk_names::Call;
 use sk_world::LAST_PID;
 use std::alloc::{AllocError, Global};
 

@@ -9,7 +9,5 @@ pub mod Steps
 pub mod Told
 pub mod Whole
 pub mod Coding
-pub mod Ends
-pub mod Entries
 pub mod Found
 pub mod Turns

@@ -24,10 +24,6 @@ pub bind_ok : {X Y : Type 0} (first : Result X TextFault) (next : X → Result Y
 bind_ok (Ok x) next y h = (x, refl, h)
 bind_ok (Err fault) next y h = cc
 
-pub bind_assoc : {X Y Z : Type 0} (first : Result X TextFault) (next : X → Result Y TextFault) (last : Y → Result Z TextFault) → ((first >>= next) >>= last) ≡ (first >>= λ x. next x >>= last)
-bind_assoc (Ok x) next last = refl
-bind_assoc (Err fault) next last = refl
-
 -- ---- one line
 
 pub plain-ok : (n : ℕ) (line : List ℕ) (good : Unit {0}) → plain n line ≡ Ok good → (length line ≤ 255) × IsTrue (list_all is_printable_byte line)

@@ -7,8 +7,8 @@ use Rattle.sk_text.specs.Hexadecimal.{hex_bytes}
 use Rattle.sk_text.specs.Lines.{words_of, begins_comment}
 use Rattle.sk_text.specs.Numbers.{number_of, up_to}
 use Rattle.sk_text.specs.Words.{is_name, none_of, one_of}
-use Rattle.sk_calls.specs.declared.syscall.Syscall.TheVariants as syscall
-use Rattle.sk_calls.specs.Syscalls.{number_of as number_of_call, name_of, syscall_named}
+use Rattle.sk_names.specs.declared.syscall.Syscall.TheVariants as syscall
+use Rattle.sk_names.specs.Syscalls.{number_of as number_of_call, name_of, syscall_named}
 use Rattle.sk_asm.specs.Grammar.{◌>>=◌}
 
 -- ---- words

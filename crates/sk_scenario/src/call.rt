@@ -1,5 +1,5 @@
 //! The calls of scripts, and what the names in a scenario stand for.
-use sk_calls::Call;
+use sk_names::Call;
 
 /// A call, and the program that `fork NAME` gives to the child.
 #[derive(Clone, Copy, Debug, PartialEq, Eq)]

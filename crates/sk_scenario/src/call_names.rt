@@ -1,8 +1,8 @@
 //! The calls by their names.
 ghost use Rattle.std.specs.Prelude.{◌≡◌};
-ghost use Rattle.sk_calls.specs.Syscalls.{syscall_named};
+ghost use Rattle.sk_names.specs.Syscalls.{syscall_named};
 
-use sk_calls::Syscall;
+use sk_names::Syscall;
 
 // The call with this name, if the kernel has it.
 #[inline(always)]

@@ -15,7 +15,7 @@ use crate::state::Names;
 use crate::top::check_line;
 use crate::values::{argument_value, child_of};
 use crate::{ScriptCall, TextFault};
-use sk_calls::Call;
+use sk_names::Call;
 
 // The most calls that a program may have.
 const MOST_CALLS: usize = 1000;

@@ -97,8 +97,8 @@ fn assemble(
     ensures exact { Answers block_seen result (coded (known_seen known.entry) (assembled_lines n (until_end (lines_of ahead.now)))) }
 {
     match assemble_block(alloc, n - 1, ahead) {
-        Ok(code) => {
-            let image = write_insns(alloc, code.insns.as_slice())?;
+        Ok(insns) => {
+            let image = write_insns(alloc, insns.as_slice())?;
             Ok(Block::Code(image))
         }
         Err(fault) => {

@@ -8,7 +8,7 @@ ghost use Rattle.sk_scenario.specs.views.ScenarioCode.{heading, argument_seen, c
 
 use crate::call_names::call_named;
 use crate::line::{Argument, Arguments, CallLine, ProgramLine, TopLine};
-use sk_calls::Syscall;
+use sk_names::Syscall;
 use sk_text::{Words, is_name, is_number, is_same, no_word, number_up_to, one_word};
 
 // Whether a comment begins with the word.

@@ -14,7 +14,7 @@ use Rattle.sk_insn.proofs.OperationTable.{operation_of-code_of}
 use Rattle.sk_filter.specs.Paths.{GoesTo, onward}
 use Rattle.sk_filter.specs.Meaning.{State, GoesOn, effect, holds}
 use Rattle.sk_filter.proofs.ValidSteps.{leads_to}
-use Rattle.sk_survey_lines.specs.Runs.{ComesTo}
+use Rattle.sk_show.specs.Runs.{ComesTo}
 use Rattle.sk_show.specs.declared.held.Held.{Held}
 use Rattle.sk_show.specs.declared.held.Held.TheVariants.{Number, Architecture, Other}
 use Rattle.sk_show.specs.Coming.{comes_from, comes_to, jumps_taken, next_taken, taken, taken_at}

@@ -11,3 +11,11 @@ pub mod Notes
 pub mod Targets
 pub mod Turns
 pub mod Whole
+pub mod Newer
+pub mod Runs
+pub mod OneSource
+pub mod Holding
+pub mod ShownCalls
+pub mod Named
+pub mod Hiding
+pub mod OtherWords

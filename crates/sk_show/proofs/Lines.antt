@@ -24,7 +24,7 @@ use Rattle.sk_asm.specs.RoundTrip.{IsInRange}
 use Rattle.sk_asm.proofs.Lines.{length-line, line-says}
 use Rattle.sk_asm.proofs.Numerals.{IsWord-decimal, IsWord-distance, far-distance, near-distance, u32_of-decimal}
 use Rattle.sk_asm.proofs.Words.{AreWords, IsWord, joined-printable, length-joined, words_of-joined}
-use Rattle.sk_call_names.specs.declared.architecture.Architecture.{Architecture}
+use Rattle.sk_names.specs.declared.architecture.Architecture.{Architecture}
 use Rattle.sk_show.specs.declared.held.Held.{Held}
 use Rattle.sk_show.specs.Notes.{note_text}
 use Rattle.sk_show.specs.Showing.{comment_line, insn_line, label_name, shown_words, side_word}

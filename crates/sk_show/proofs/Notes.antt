@@ -16,12 +16,12 @@ use Rattle.sk_insn.specs.declared.operation.Comparison.{Comparison}
 use Rattle.sk_insn.specs.declared.operation.Comparison.TheVariants.{Equal, Greater, GreaterOrEqual, CommonBits}
 use Rattle.sk_insn.specs.declared.operation.Operation.{Operation}
 use Rattle.sk_insn.specs.declared.operation.Operation.TheVariants.{LoadRecord, LoadConstant, LoadScratch, LoadLength, StoreScratch, Compute, Negate, Jump, Branch, ReturnConstant, ReturnAccumulator, CopyToIndex, CopyToAccumulator}
-use Rattle.sk_call_names.specs.declared.architecture.Architecture.{Architecture as TheArchitecture}
-use Rattle.sk_call_names.specs.declared.architecture.Architecture.TheVariants as architecture
-use Rattle.sk_call_names.specs.Architectures.{text_of}
-use Rattle.sk_call_names.specs.Names.{Run, name_at, name_in, name_on, runs_of}
-use Rattle.sk_call_names.specs.X86_64.{name_of}
-use Rattle.sk_call_names.specs.declared.x86_64.names.TheConstants.{EARLY, LATE}
+use Rattle.sk_names.specs.declared.architecture.Architecture.{Architecture as TheArchitecture}
+use Rattle.sk_names.specs.declared.architecture.Architecture.TheVariants as architecture
+use Rattle.sk_names.specs.Architectures.{text_of}
+use Rattle.sk_names.specs.Names.{Run, name_at, name_in, name_on, runs_of}
+use Rattle.sk_names.specs.X86_64.{name_of}
+use Rattle.sk_names.specs.declared.x86_64.names.TheConstants.{EARLY, LATE}
 use Rattle.sk_filter.specs.Errors.{error_named, if_any}
 use Rattle.sk_filter.specs.VerdictText.{data_text, error_text, verdict_text}
 use Rattle.sk_filter.specs.declared.errors.TheConstants.{ERRORS}

@@ -5,8 +5,8 @@ use Rattle.hex.specs.Hex.{encode_with}
 use Rattle.sk_text.specs.Hexadecimal.{hex_half, hex_word}
 use Rattle.sk_insn.specs.Actions.{action_of}
 use Rattle.sk_insn.specs.Operations.{operation_of}
-use Rattle.sk_call_names.specs.X86_64.{name_of}
-use Rattle.sk_call_names.specs.Names.{name_at, name_in, name_on, runs_of}
+use Rattle.sk_names.specs.X86_64.{name_of}
+use Rattle.sk_names.specs.Names.{name_at, name_in, name_on, runs_of}
 use Rattle.sk_asm.specs.Listing.{words_for}
 use Rattle.sk_filter.specs.Errors.{error_named}
 use Rattle.sk_filter.specs.VerdictText.{verdict_text}

@@ -4,8 +4,8 @@ use Rattle.sk_insn.specs.declared.insn.Insn.{Insn}
 use Rattle.sk_insn.specs.declared.record.Record.{Record}
 use Rattle.sk_insn.specs.Operations.{operation_of}
 use Rattle.sk_filter.specs.Meaning.{Meaning, Returned, Stuck, State, start, Effect, GoesOn, Ends, Fails, effect, after_step, then_follows, meaning}
-use Rattle.sk_survey_lines.specs.Runs.{ComesTo}
-use Rattle.sk_survey_lines.proofs.Runs.{comes_further}
+use Rattle.sk_show.specs.Runs.{ComesTo}
+use Rattle.sk_show.proofs.Runs.{comes_further}
 use Rattle.sk_show.specs.declared.tracing.Registers.{Registers}
 use Rattle.sk_show.specs.declared.tracing.Step.{Step}
 use Rattle.sk_show.specs.Paths.{leads, registers_behind, registers_of, step_at, steps_behind, steps_from}

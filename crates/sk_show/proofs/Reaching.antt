@@ -6,8 +6,8 @@ use Rattle.std.proofs.lemmas.Bool.{cases_Bool}
 use Rattle.std.proofs.lemmas.List.{length-map}
 use Rattle.sk_insn.specs.declared.insn.Insn.{Insn}
 use Rattle.sk_show.specs.declared.held.Held.{Held}
-use Rattle.sk_call_names.specs.declared.architecture.Architecture.{Architecture}
-use Rattle.sk_call_names.specs.Architectures.{audit_of}
+use Rattle.sk_names.specs.declared.architecture.Architecture.{Architecture}
+use Rattle.sk_names.specs.Architectures.{audit_of}
 use Rattle.sk_show.specs.declared.coming.Reach.{Reach}
 use Rattle.sk_show.specs.Coming.{architectures_of, comes_from, comes_to, comes, jumps_taken, named_by, named_at, names_of, next_taken, told_apart, Finds}
 use Rattle.sk_show.specs.Holding.{Jumps, joined_ways, jump_to}

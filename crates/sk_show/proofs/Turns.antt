@@ -6,7 +6,7 @@ use Rattle.std.specs.List.{All}
 use Rattle.sk_asm.specs.RoundTrip.{IsInRange}
 use Rattle.sk_insn.specs.Operations.{operation_of}
 use Rattle.sk_insn.specs.declared.insn.Insn.{Insn}
-use Rattle.sk_call_names.specs.declared.architecture.Architecture.{Architecture}
+use Rattle.sk_names.specs.declared.architecture.Architecture.{Architecture}
 use Rattle.sk_filter.specs.Paths.{onward}
 use Rattle.sk_show.specs.declared.held.Held.{Held}
 use Rattle.sk_show.specs.Holding.{Jumps, held_before, held_behind, jump_to, jumps_behind, next_behind, ways_from}

@@ -14,7 +14,7 @@ use Rattle.sk_asm.specs.Grammar.{Statement, Silent, Marks, Plain, Jumps as Jumps
 use Rattle.sk_asm.specs.Labels.{Labels, label_place}
 use Rattle.sk_asm.specs.RoundTrip.{IsInRange}
 use Rattle.sk_asm.proofs.Words.{lines_of-line}
-use Rattle.sk_call_names.specs.declared.architecture.Architecture.{Architecture}
+use Rattle.sk_names.specs.declared.architecture.Architecture.{Architecture}
 use Rattle.sk_show.specs.declared.held.Held.{Held}
 use Rattle.sk_show.specs.declared.held.Held.TheVariants.{Other}
 use Rattle.sk_show.specs.Coming.{named_at}

@@ -8,9 +8,9 @@ use Rattle.sk_insn.specs.declared.operation.Operation.TheVariants.{Jump, Branch}
 use Rattle.sk_insn.specs.Operations.{operation_of, code_of}
 use Rattle.sk_filter.specs.Meaning.{holds}
 use Rattle.sk_filter.specs.Paths.{Onward, onward}
-use Rattle.sk_call_names.specs.declared.architecture.Architecture.{Architecture as TheArchitecture}
-use Rattle.sk_call_names.specs.declared.architecture.Architecture.TheVariants as architecture
-use Rattle.sk_call_names.specs.Architectures.{audit_of}
+use Rattle.sk_names.specs.declared.architecture.Architecture.{Architecture as TheArchitecture}
+use Rattle.sk_names.specs.declared.architecture.Architecture.TheVariants as architecture
+use Rattle.sk_names.specs.Architectures.{audit_of}
 use Rattle.sk_show.specs.declared.coming.Reach.{Reach}
 use Rattle.sk_show.specs.declared.held.Held.{Held}
 use Rattle.sk_show.specs.declared.held.Held.TheVariants.{Architecture, Other}

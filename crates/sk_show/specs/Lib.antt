@@ -9,3 +9,12 @@ pub mod Notes
 pub mod RoundTrip
 pub mod Showing
 pub mod WorkedTexts
+pub mod Runs
+pub mod Examples
+pub mod ExamplesLaws
+pub mod Tracing
+pub mod Text
+pub mod Lines
+pub mod LinesLaws
+pub mod NamesLaws
+pub mod Origins

@@ -4,7 +4,7 @@ use Rattle.sk_insn.specs.declared.insn.Insn.{Insn}
 use Rattle.sk_insn.specs.declared.record.Record.{Record}
 use Rattle.sk_filter.specs.Paths.{At, LeadsTo}
 use Rattle.sk_filter.specs.Meaning.{State}
-use Rattle.sk_survey_lines.specs.Runs.{ComesTo}
+use Rattle.sk_show.specs.Runs.{ComesTo}
 use Rattle.sk_show.specs.declared.held.Held.{Held}
 use Rattle.sk_show.specs.declared.held.Held.TheVariants.{Number, Architecture, Other}
 use Rattle.sk_show.specs.Coming.{comes_to}

@@ -10,9 +10,9 @@ use Rattle.sk_insn.specs.declared.operation.Comparison.{Comparison}
 use Rattle.sk_insn.specs.declared.operation.Comparison.TheVariants.{CommonBits}
 use Rattle.sk_insn.specs.declared.operation.Operation.{Operation}
 use Rattle.sk_insn.specs.declared.operation.Operation.TheVariants.{LoadRecord, Branch, ReturnConstant}
-use Rattle.sk_call_names.specs.declared.architecture.Architecture.{Architecture as TheArchitecture}
-use Rattle.sk_call_names.specs.Architectures.{architectures, audit_of, is_big_endian_of, text_of}
-use Rattle.sk_call_names.specs.Names.{name_on}
+use Rattle.sk_names.specs.declared.architecture.Architecture.{Architecture as TheArchitecture}
+use Rattle.sk_names.specs.Architectures.{architectures, audit_of, is_big_endian_of, text_of}
+use Rattle.sk_names.specs.Names.{name_on}
 use Rattle.sk_filter.specs.VerdictText.{verdict_text}
 use Rattle.sk_show.specs.declared.held.Held.{Held}
 use Rattle.sk_show.specs.declared.held.Held.TheVariants.{Number, Architecture, Other}

@@ -4,7 +4,7 @@ use Rattle.sk_insn.specs.declared.insn.Insn.{Insn}
 use Rattle.sk_insn.specs.declared.record.Record.{Record}
 use Rattle.sk_insn.specs.Operations.{operation_of}
 use Rattle.sk_filter.specs.Meaning.{Returned, State, Ends, effect, meaning_of}
-use Rattle.sk_survey_lines.specs.Runs.{ComesTo}
+use Rattle.sk_show.specs.Runs.{ComesTo}
 use Rattle.sk_show.specs.declared.tracing.Step.{Step}
 use Rattle.sk_show.specs.Paths.{path_of, step_at}
 

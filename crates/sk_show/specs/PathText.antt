@@ -12,11 +12,11 @@ use Rattle.sk_insn.specs.declared.operation.Operation.{Operation}
 use Rattle.sk_insn.specs.declared.operation.Operation.TheVariants.{Jump, Branch}
 use Rattle.sk_insn.specs.Operations.{operation_of}
 use Rattle.sk_asm.specs.Listing.{words_for}
-use Rattle.sk_call_names.specs.declared.architecture.Architecture.{Architecture}
-use Rattle.sk_call_names.specs.Names.{name_on}
+use Rattle.sk_names.specs.declared.architecture.Architecture.{Architecture}
+use Rattle.sk_names.specs.Names.{name_on}
 use Rattle.sk_filter.specs.Meaning.{holds, meaning_of}
 use Rattle.sk_filter.specs.Verdict.{meaning_value, values_of, verdict_of}
-use Rattle.sk_survey_lines.specs.Examples.{ComesFrom}
+use Rattle.sk_show.specs.Examples.{ComesFrom}
 use Rattle.sk_filter.specs.VerdictText.{verdict_text}
 use Rattle.sk_show.specs.declared.tracing.Registers.{Registers}
 use Rattle.sk_show.specs.declared.tracing.Step.{Step}

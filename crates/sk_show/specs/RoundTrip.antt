@@ -2,7 +2,7 @@
 use Rattle.std.specs.Prelude.{◌≤◌, All, List, length}
 use Rattle.sk_insn.specs.declared.insn.Insn.{Insn}
 use Rattle.sk_asm.specs.Assembly.{AssemblesText}
-use Rattle.sk_call_names.specs.declared.architecture.Architecture.{Architecture}
+use Rattle.sk_names.specs.declared.architecture.Architecture.{Architecture}
 use Rattle.sk_asm.specs.RoundTrip.{IsInRange}
 use Rattle.sk_show.specs.Showing.{show_text}
 

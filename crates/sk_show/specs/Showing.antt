@@ -9,7 +9,7 @@ use Rattle.sk_insn.specs.declared.operation.Operation.{Operation}
 use Rattle.sk_insn.specs.declared.operation.Operation.TheVariants.{Jump, Branch}
 use Rattle.sk_insn.specs.Operations.{name_of, operation_of}
 use Rattle.sk_asm.specs.Listing.{distance_word, words_for}
-use Rattle.sk_call_names.specs.declared.architecture.Architecture.{Architecture}
+use Rattle.sk_names.specs.declared.architecture.Architecture.{Architecture}
 use Rattle.sk_show.specs.declared.held.Held.{Held}
 use Rattle.sk_show.specs.Coming.{named_at}
 use Rattle.sk_show.specs.Holding.{Way, ways_to}

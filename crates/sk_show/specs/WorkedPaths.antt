@@ -6,7 +6,7 @@ use Rattle.sk_insn.specs.declared.operation.Operand.TheVariants.{Constant, Index
 use Rattle.sk_insn.specs.declared.operation.Arithmetic.TheVariants.{Divide}
 use Rattle.sk_insn.specs.declared.operation.Comparison.TheVariants.{Equal, Greater, GreaterOrEqual, CommonBits}
 use Rattle.sk_insn.specs.declared.operation.Operation.TheVariants.{LoadRecord, LoadConstant, Compute, Jump, Branch, ReturnConstant, CopyToIndex}
-use Rattle.sk_call_names.specs.declared.architecture.Architecture.TheVariants as architecture
+use Rattle.sk_names.specs.declared.architecture.Architecture.TheVariants as architecture
 use Rattle.sk_filter.specs.WorkedMeanings.{call_of, compares, does, getpid, refuses_getppid}
 use Rattle.sk_show.specs.declared.held.Held.TheVariants.{Number, Other}
 use Rattle.sk_show.specs.declared.tracing.Step.{Step}

@@ -6,9 +6,9 @@ ghost use Rattle.sk_show.specs.Coming.{architectures_of, comes, comes_to, jumps_
 
 use crate::held::{Held, held_behind, joined_ways};
 use crate::ways::{go_on, jump_to, no_jumps};
-use sk_call_names::Architecture;
 use sk_filter::holds;
 use sk_insn::{Insn, Operand, Operation, decode};
+use sk_names::Architecture;
 use std::alloc::{AllocError, Global};
 
 /// The architectures that a filter tells apart: x32 is shown by the number of x86-64.

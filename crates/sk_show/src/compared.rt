@@ -4,9 +4,9 @@ ghost use Rattle.std.specs.Option.{option_map};
 ghost use Rattle.sk_show.specs.PathText.{bits_text, call_text, compared_call, compared_text, sign};
 
 use crate::held::Held;
-use sk_call_names::{Architecture, name};
 use sk_filter::holds;
 use sk_insn::Comparison;
+use sk_names::{Architecture, name};
 use std::alloc::AllocError;
 use std::fmt::Write;
 

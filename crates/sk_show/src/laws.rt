@@ -8,9 +8,9 @@ ghost use Rattle.sk_show.specs.WorkedTexts.{WorkedTexts};
 
 use crate::listing::show;
 use sk_asm::{AsmFault, assemble};
-use sk_call_names::Architecture;
 use sk_filter::Checked;
 use sk_insn::Insn;
+use sk_names::Architecture;
 use std::alloc::Global;
 
 /// The path through a filter is its run: it has the run's instructions, in the run's states, and ends with its value.

@@ -8,8 +8,8 @@ ghost use Rattle.sk_show.specs.Showing.{comment_line, insn_line, label_lines, la
 use crate::held::Held;
 use crate::note::push_note;
 use sk_asm::push_words;
-use sk_call_names::Architecture;
 use sk_insn::{Comparison, Insn, Operand, Operation, decode};
+use sk_names::Architecture;
 use std::alloc::AllocError;
 use std::fmt::Write;
 

@@ -7,9 +7,9 @@ use crate::coming::{named_at, reaches};
 use crate::held::{Held, held_before, held_behind};
 use crate::line::push_lines;
 use crate::ways::{go_on, jump_to, no_jumps};
-use sk_call_names::Architecture;
 use sk_filter::Checked;
 use sk_insn::Insn;
+use sk_names::Architecture;
 use std::alloc::{AllocError, Global};
 
 /// The text of a filter for people: the instructions with their places, with labels where jumps go, and with notes. A call's

@@ -5,9 +5,9 @@ ghost use Rattle.sk_insn.specs.Operations.{operation_of};
 ghost use Rattle.sk_show.specs.Notes.{argument_text, architecture_of, architecture_text, call_name, compared_text, field_text, half_text, is_turned, named_text, note_text};
 
 use crate::held::Held;
-use sk_call_names::{Architecture, name};
 use sk_filter::push_verdict;
 use sk_insn::{Comparison, Insn, Operand, Operation, decode};
+use sk_names::{Architecture, name};
 use std::alloc::AllocError;
 use std::fmt::Write;
 

@@ -9,8 +9,8 @@ use crate::compared::push_compared;
 use crate::held::Held;
 use crate::tracing::{Registers, Step};
 use sk_asm::push_words;
-use sk_call_names::Architecture;
 use sk_insn::{Insn, Operand, Operation, decode};
+use sk_names::Architecture;
 use std::alloc::AllocError;
 use std::fmt::Write;
 

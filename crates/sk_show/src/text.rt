@@ -3,13 +3,13 @@ ghost use Rattle.std.specs.Prelude.{◌≡◌, ◌++◌, IfOk, OnOk, string_byte
 ghost use Rattle.sk_show.specs.declared.held.Held.TheVariants.{Other};
 ghost use Rattle.sk_show.specs.PathText.{IsSource, TellsWhy, filter_text, filters_text, source_text, steps_text, verdict_line};
 
+use crate::answering;
 use crate::held::{Held, held_behind};
 use crate::path_line::push_step;
 use crate::tracing::{Step, trace};
-use sk_call_names::Architecture;
 use sk_filter::{Chain, Checked, push_verdict};
 use sk_insn::Record;
-use sk_survey_lines::answering;
+use sk_names::Architecture;
 use std::alloc::{AllocError, Global};
 use std::fmt::Write;
 

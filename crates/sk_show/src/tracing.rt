@@ -2,12 +2,12 @@
 ghost use Rattle.std.specs.Prelude.{◌≡◌, IfOk};
 ghost use Rattle.sk_filter.specs.Meaning.{meaning_of};
 ghost use Rattle.sk_filter.specs.Verdict.{meaning_value};
-ghost use Rattle.sk_survey_lines.specs.Tracing.{state_of};
+ghost use Rattle.sk_show.specs.Tracing.{state_of};
 ghost use Rattle.sk_show.specs.Paths.{path_of, registers_of};
 
+use crate::{Next, Run};
 use sk_filter::Checked;
 use sk_insn::{Insn, Record};
-use sk_survey_lines::{Next, Run};
 use std::alloc::{AllocError, Global};
 
 /// What A and X hold.

@@ -18,3 +18,14 @@ pub mod Turns
 pub mod Standing
 pub mod Pieces
 pub mod JoinedRows
+mod Alike
+pub mod ByArchitecture
+pub mod Chains
+mod Meanings
+pub mod Unseen
+mod Valid
+pub mod Words
+pub mod EachCall
+pub mod Settled
+pub mod Worked
+mod OtherCalls

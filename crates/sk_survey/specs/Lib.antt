@@ -9,3 +9,14 @@ pub mod Following
 pub mod AnswersLaws
 pub mod Turning
 pub mod Cutting
+pub mod ByArchitecture
+pub mod ChainsFor
+pub mod Changes
+pub mod Looks
+pub mod AnswersByArchitecture
+pub mod Other
+pub mod Alike
+pub mod Text
+pub mod Told
+pub mod Settled
+pub mod Worked

@@ -3,7 +3,7 @@ use Rattle.std.proofs.Common.{◌≡◌, ◌∙◌, ◌-◌, ◌<◌, ℕ, zero,
 use Rattle.std.specs.Prelude.{nat_lt}
 use Rattle.sk_world.specs.Numbers.{is_used, next_number, free_from, fresh_of}
 use Rattle.sk_world.specs.World.{World, IsNext}
-use Rattle.sk_numbers.specs.Numbers.{IsLeastAbove}
+use Rattle.sk_world.specs.NumberSets.{IsLeastAbove}
 use Rattle.sk_table.specs.Beside.{uses_in}
 use Rattle.sk_table.specs.Free.{first_unused}
 use Rattle.sk_table.specs.declared.numbering.TheConstants.{NUMBERS}

@@ -13,7 +13,7 @@ use Rattle.sk_world.specs.declared.process.Links.{Links}
 use Rattle.sk_world.specs.Processes.{Processes, none, get, store, count}
 use Rattle.sk_world.specs.Numbers.{has_number}
 use Rattle.sk_world.proofs.Maps.{get_store, same_map, store_twice, count_put, equal_numbers}
-use Rattle.sk_numbers.specs.Pairs.{has_pair}
+use Rattle.sk_world.specs.Pairs.{has_pair}
 use Rattle.sk_table.specs.Weights.{one, weight}
 use Rattle.sk_table.specs.Beside.{uses_in, IsRow, IsBeside}
 

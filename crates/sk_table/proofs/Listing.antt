@@ -9,9 +9,9 @@ use Rattle.std.proofs.lemmas.Bool.Decides.{nat_tests}
 use Rattle.sk_world.specs.declared.process.Proc.{Proc}
 use Rattle.sk_world.specs.Processes.{Processes, get, pids}
 use Rattle.sk_world.proofs.Maps.{same_number}
-use Rattle.sk_numbers.specs.Pairs.{below, below_all, is_rising, has_pair}
-use Rattle.sk_numbers.proofs.Rows.{Pair}
-use Rattle.sk_numbers.proofs.Same.{same_rows, rising-filter, has_pair-filter}
+use Rattle.sk_world.specs.Pairs.{below, below_all, is_rising, has_pair}
+use Rattle.sk_world.proofs.Rows.{Pair}
+use Rattle.sk_world.proofs.Same.{same_rows, rising-filter, has_pair-filter}
 use Rattle.sk_table.specs.Beside.{IsRow}
 use Rattle.sk_table.proofs.Indexing.{numbered}
 

@@ -3,7 +3,7 @@ use Rattle.std.specs.Prelude.{◌≡◌, ℕ, ◌+◌, ◌==◌, false, List, []
 use Rattle.std.specs.Option.{option_map_or}
 use Rattle.sk_world.specs.declared.process.Proc.{Proc}
 use Rattle.sk_world.specs.Processes.{Processes, get, count}
-use Rattle.sk_numbers.specs.Pairs.{has_pair}
+use Rattle.sk_world.specs.Pairs.{has_pair}
 use Rattle.sk_table.specs.Weights.{weight}
 
 -- how often the processes use a number

@@ -2,7 +2,7 @@
 use Rattle.std.specs.Prelude.{◌≡◌, ℕ, ◌+◌, ◌<◌, ◌≤◌, Some, vec_len, vec_capacity}
 use Rattle.std.specs.Option.{is_some}
 use Rattle.slab.specs.Slab.{slab_len}
-use Rattle.sk_numbers.specs.Numbers.{contains}
+use Rattle.sk_world.specs.NumberSets.{contains}
 use Rattle.sk_world.specs.declared.process.TheConstants.{LAST_PID, PROCESSES}
 use Rattle.sk_world.specs.Processes.{Processes, count}
 use Rattle.sk_table.specs.Beside.{IsBeside}

@@ -7,8 +7,7 @@ ghost use Rattle.sk_world.specs.Rules.{is_within};
 ghost use Rattle.sk_table.specs.Beside.{IsBeside};
 
 use crate::uses::Uses;
-use sk_numbers::PairRow;
-use sk_world::Links;
+use sk_world::{Links, PairRow};
 use std::alloc::{AllocError, Global};
 
 /// What leads from the links of processes back to their pids, and to the numbers that they use.

@@ -5,8 +5,7 @@ ghost use Rattle.sk_world.specs.Rules.{is_within};
 ghost use Rattle.sk_table.specs.Weights.{one, weight};
 
 use crate::numbering::Numbers;
-use sk_numbers::NUMBERS;
-use sk_world::Links;
+use sk_world::{Links, NUMBERS};
 use std::alloc::{AllocError, Global};
 use std::marker::Model;
 

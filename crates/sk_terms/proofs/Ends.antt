@@ -17,14 +17,14 @@ use Rattle.sk_terms.specs.Lines.{meets_choices, meets_line, IsMetBy}
 use Rattle.sk_terms.specs.Terms.{holds_term}
 
 -- a call is one of some
-abbrev Has : List Record → Record → Type 0
+abbrev pub Has : List Record → Record → Type 0
 Has [] call = ⊥
 Has (other ∷ others) call = (other ≡ call) ⊎ Has others call
 
-has_native : (calls : List Record) (call : Record) → All IsNative calls → Has calls call → IsNative call
-has_native [] call all has = absurd has
-has_native (other ∷ others) call all (inl same) = subst IsNative same (All-head IsNative other others all)
-has_native (other ∷ others) call all (inr rest) = has_native others call (All-tail IsNative other others all) rest
+pub one_of_all : (P : Record → Type 0) (calls : List Record) (call : Record) → All P calls → Has calls call → P call
+one_of_all P [] call all has = absurd has
+one_of_all P (other ∷ others) call all (inl same) = subst P same (All-head P other others all)
+one_of_all P (other ∷ others) call all (inr rest) = one_of_all P others call (All-tail P other others all) rest
 
 -- one that passes a test, which the first of them may pass
 first_or_rest : (p : Record → Bool) (other : Record) (others kept : List Record) (call : Record) (b : Bool) → p other ≡ b
@@ -33,7 +33,7 @@ first_or_rest p other others kept call true e rest (inl same) = (inl same, ap p 
 first_or_rest p other others kept call true e rest (inr has) = let found = rest has in (inr found.0, found.1)
 first_or_rest p other others kept call false e rest has = let found = rest has in (inr found.0, found.1)
 
-of_filter : (p : Record → Bool) (calls : List Record) (call : Record) → Has (filter p calls) call → Has calls call × (p call ≡ true)
+pub of_filter : (p : Record → Bool) (calls : List Record) (call : Record) → Has (filter p calls) call → Has calls call × (p call ≡ true)
 of_filter p [] call has = absurd has
 of_filter p (other ∷ others) call has =
     first_or_rest p other others (filter p others) call (p other) refl (of_filter p others call) has
@@ -97,7 +97,7 @@ pub passes_native : (decision : Decision) (calls : List Record) (p q : Record �
 passes_native decision calls p q natives implies met =
     wider decision (filter p calls) (filter q calls)
     (λ call has.
-    let found = of_filter p calls call has in into_filter q calls call found.0 (implies call (has_native calls call natives found.0) found.1)) met
+    let found = of_filter p calls call has in into_filter q calls call found.0 (implies call (one_of_all IsNative calls call natives found.0) found.1)) met
 
 -- where a call comes to each end of a tree there is one
 pub some_of_tree : (it : Tree) (calls : List Record) → EachEndIsMet calls it → 0 < length calls
@@ -163,9 +163,8 @@ still_met calls line both first says met =
 pub same_met : (calls : List Record) (line written : Line) → ((call : Record) → meets_line written call ≡ meets_line line call) → IsMetBy calls line → IsMetBy calls written
 same_met calls line written says met = more_pass (λ call. meets_line line call) (λ call. meets_line written call) (λ call holds. says call ∙ holds) calls met
 
-pub all_but : (calls : List Record) (lines : List Line) (i : ℕ) → All (IsMetBy calls) lines → All (IsMetBy calls) (remove lines i)
-all_but calls lines i all =
-    All-append (IsMetBy calls) (take i lines) (drop (suc i) lines) (All-take (IsMetBy calls) i lines all) (All-drop (IsMetBy calls) (suc i) lines all)
+pub all_but : (P : Line → Type 0) (lines : List Line) (i : ℕ) → All P lines → All P (remove lines i)
+all_but P lines i all = All-append P (take i lines) (drop (suc i) lines) (All-take P i lines all) (All-drop P (suc i) lines all)
 
 -- ---- a test of a tree
 

@@ -6,6 +6,7 @@ pub mod Together
 pub mod Borders
 pub mod Multiples
 pub mod Kept
+pub mod Numbers
 pub mod Telling
 pub mod WorkedTerms
 pub mod WorkedLines

@@ -1,8 +1,10 @@
 -- The worked lines: what their terms come to on every call.
-use Rattle.std.proofs.Common.{◌≡◌, ℕ, ◌&&◌, ◌||◌, Bool, true, false, if◌then◌else◌, nat_le, List, [], ◌∷◌, ◌++◌, map, bit_and, ap, ◌∙◌, refl, arith}
+use Rattle.std.proofs.Common.{◌≡◌, ℕ, ◌+◌, ◌%◌, ◌^◌, ◌<◌, ◌≤◌, sym, ◌&&◌, ◌||◌, Bool, true, false, if◌then◌else◌, nat_le, List, [], ◌∷◌, ◌++◌, map, bit_and, ap, ◌∙◌, refl, arith}
 use Rattle.std.specs.List.{list_all, list_any}
 use Rattle.std.proofs.Math.Bool.{and-true}
-use Rattle.std.proofs.lemmas.Bool.{leb-true}
+use Rattle.std.proofs.lemmas.Bool.{leb-true, true≢false}
+use Rattle.std.proofs.lemmas.Bool.Decides.{nat_tests}
+use Rattle.std.proofs.lemmas.Nat.{and_mask}
 use Rattle.sk_insn.specs.declared.record.Record.{Record}
 use Rattle.sk_terms.specs.declared.choices.Choice.{Choice}
 use Rattle.sk_terms.specs.declared.lines.Line.{Line}
@@ -11,7 +13,8 @@ use Rattle.sk_terms.specs.declared.term.Term.{Term}
 use Rattle.sk_terms.specs.Lines.{meets_all, meets_choices, meets_line, told_by}
 use Rattle.sk_terms.specs.Terms.{holds_term, register_of, takes}
 use Rattle.sk_terms.specs.WorkedTerms.{sized}
-use Rattle.sk_terms.specs.WorkedLines.{is_word, is_another, terms_of, seven_twice, seven_and_eight, LinesWork}
+use Rattle.sk_terms.specs.Numbers.{numbered, TellsNoWhole}
+use Rattle.sk_terms.specs.WorkedLines.{is_word, is_another, numbered_from, terms_of, seven_from, seven_twice, seven_and_eight, LinesWork}
 use Rattle.sk_terms.proofs.Telling.{told_cons}
 
 -- of the number 7 alone, what holds of 7
@@ -68,6 +71,33 @@ pub told_first : (line : Line) (others : List Line) (call : Record) (b : Bool) �
     → told_by (line ∷ others) call ≡ (if b then line.value ∷ [] else []) ++ told_by others call
 told_first line others call b e = told_cons line others call ∙ ap (λ met. (if met then line.value ∷ [] else []) ++ told_by others call) e
 
+-- ---- ranges of the numbers of a row
+
+within_range : (nr first last : ℕ) → first ≤ nr → nr ≤ last → last < 2 ^ 32 → holds_term (numbered_from first last) (numbered (sized 7) nr) ≡ true
+within_range nr first last above under small =
+    let masked = and_mask nr 32 in
+    let same : bit_and nr 0xffffffff ≡ nr = omega (arith, masked, above, under, small) in
+    let lies : (nat_le first nr && nat_le nr last) ≡ true = grind (arith, nat_tests, above, under) in
+    ap (λ n. nat_le first n && nat_le n last) same ∙ lies
+
+not_told : (line : Line) (first last : ℕ) → terms_of line ≡ seven_from first last → first ≤ 500 → 599 ≤ last → last < 700 → TellsNoWhole 500 599 line → ⊥
+not_told line first last e begins ends small tells =
+    let past : ((last + 1) % 2 ^ 32) ≡ last + 1 = omega (arith, small) in
+    let masked = and_mask (last + 1) 32 in
+    let same : bit_and (last + 1) 0xffffffff ≡ last + 1 = omega (arith, masked, small) in
+    let beyond : (nat_le first (last + 1) && nat_le (last + 1) last) ≡ false = grind (arith, nat_tests) in
+    let fails = ap (λ n. nat_le first n && nat_le n last) same ∙ beyond in
+    true≢false
+    (sym (tells (sized 7) (λ nr above under.
+    line_met line (numbered (sized 7) nr) (seven_from first last) e
+    ∙ ap (λ b. (b || false) && true) (within_range nr first last (omega (arith, above, begins)) (omega (arith, under, ends)) (omega (arith, small)))) (last + 1))
+    ∙ line_met line (numbered (sized 7) (last + 1)) (seven_from first last) e
+    ∙ ap (λ b. (b || false) && true) fails)
+
+part_of_row : (line : Line) → terms_of line ≡ seven_from 550 599 → TellsNoWhole 500 599 line
+part_of_row line e call each nr =
+    absurd (true≢false (sym (each 500 (omega arith) (omega arith)) ∙ line_met line (numbered call 500) (seven_from 550 599) e))
+
 pub lines_work : LinesWork
 lines_work = record {
   again = λ call. twice_itself (holds_term (is_word 7) call);
@@ -78,5 +108,8 @@ lines_work = record {
       told_first line others call false
       (line_met line call seven_and_eight e ∙ nothing_or (holds_term (is_word 7) call) (holds_term (is_word 8) call) ∙ never call);
   either = λ line e. told_first line [] (sized 0x100000008) true (line_met line (sized 0x100000008) ((is_word 7 ∷ is_word 8 ∷ []) ∷ []) e);
+  whole_row = λ line e. not_told line 500 599 e (omega arith) (omega arith) (omega arith);
+  beyond_row = λ line e. not_told line 400 699 e (omega arith) (omega arith) (omega arith);
+  part_of_row = part_of_row;
   neither = λ line e. told_first line [] (sized 9) false (line_met line (sized 9) ((is_word 7 ∷ is_word 8 ∷ []) ∷ []) e);
 }

@@ -1,5 +1,5 @@
 -- Trees of terms, and what they tell of a call.
-use Rattle.std.specs.Prelude.{ℕ, ◌<◌, not, if◌then◌else◌, box_value, List, length, filter, Option, Some, None}
+use Rattle.std.specs.Prelude.{ℕ, ◌≡◌, ◌<◌, not, true, false, if◌then◌else◌, box_value, List, length, filter, Option, Some, None}
 use Rattle.sk_insn.specs.declared.record.Record.{Record}
 use Rattle.sk_insn.specs.Record.{IsNative}
 use Rattle.sk_conditions.specs.declared.tree.Tree.{Tree}
@@ -32,6 +32,15 @@ BranchesAll it = DecidesAll (box_value it.held) × DecidesAll (box_value it.fail
 -- what a tree of tests tells rightly of a call of x86-64, this one does not tell otherwise
 abbrev pub DecidesAs : Decision → Tree → Type 0
 DecidesAs decision tree = (call : Record) → IsNative call → (value : ℕ) → Agrees (told tree call) value → Agrees (decided decision call) value
+
+-- both calls come to the same end of a tree of terms
+abbrev pub GoTogether : Decision → Record → Record → Type 0
+GoTogether (Is value) one other = Unit {0}
+GoTogether Untold one other = Unit {0}
+GoTogether (Ask' term p held q failed) one other =
+    (holds_term term one ≡ holds_term term other)
+    × (holds_term term one ≡ true → GoTogether held one other)
+    × (holds_term term one ≡ false → GoTogether failed one other)
 
 -- one of these calls at least comes to each end of a tree of terms: a term parts them into those on which it holds, and the others
 abbrev pub EachEndIsMetBy : List Record → Decision → Type 0

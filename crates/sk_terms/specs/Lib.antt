@@ -1,6 +1,7 @@
 pub mod Terms
 pub mod Decisions
 pub mod Lines
+pub mod Numbers
 pub mod Merging
 pub mod Expressions
 pub mod Text

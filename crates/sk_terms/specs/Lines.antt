@@ -56,6 +56,10 @@ told_alone line call = if meets_line line call then line.value ∷ [] else []
 abbrev pub IsMetBy : List Record → Line → Type 0
 IsMetBy calls line = list_any (λ call. meets_line line call) calls ≡ true
 
+-- both calls meet the line, or neither does
+abbrev pub MeetAlike : Record → Record → Line → Type 0
+MeetAlike one other line = meets_line line one ≡ meets_line line other
+
 -- the value is that of one of the lines
 abbrev pub IsValueOf : List Line → Option ℕ → Type 0
 IsValueOf lines value = Any (λ line. line.value ≡ value) lines

@@ -1,9 +1,10 @@
 //! The ends of a tree of terms, each with the terms on the way.
-ghost use Rattle.std.specs.Prelude.{◌≡◌, ◌<◌, ◌++◌, if◌then◌else◌, List, [], ◌∷◌, length, filter, IfOk, OnOk};
+ghost use Rattle.std.specs.Prelude.{ℕ, true, ◌≡◌, ◌<◌, ◌++◌, if◌then◌else◌, List, [], ◌∷◌, length, filter, IfOk, OnOk};
 ghost use Rattle.std.specs.List.{All};
 ghost use Rattle.sk_insn.specs.declared.record.Record.{Record};
-ghost use Rattle.sk_terms.specs.Decisions.{decided, EachEndIsMetBy};
-ghost use Rattle.sk_terms.specs.Lines.{meets_choices, meets_clause, told_by, shown, same_end, IsMetBy};
+ghost use Rattle.sk_terms.specs.Decisions.{decided, EachEndIsMetBy, GoTogether};
+ghost use Rattle.sk_terms.specs.Lines.{meets_choices, meets_clause, told_by, shown, same_end, IsMetBy, MeetAlike};
+ghost use Rattle.sk_terms.specs.Numbers.{HasNumber, TellsNoWhole};
 
 use crate::choices::Choice;
 use crate::clause::{Clause, with_other_term, with_term};
@@ -36,6 +37,8 @@ pub fn lines_of(
 ) -> Result<Vec<Line>, AllocError>
     ensures told { IfOk result (λ lines. (call : Record) → told_by lines.items call ≡ shown left_out (decided decision.now call)) }
     ensures met { IfOk result (λ lines. (calls : List Record) → EachEndIsMetBy calls decision.now → All (IsMetBy calls) lines.items) }
+    ensures numbers { IfOk result (λ lines. (first last : ℕ) (calls : List Record) → All (HasNumber first last) calls → EachEndIsMetBy calls decision.now
+        → All (TellsNoWhole first last) lines.items) }
 {
     let mut lines = Vec::new(alloc);
     let every = Clause::All(Vec::new(alloc));
@@ -47,6 +50,7 @@ pub fn lines_of(
 fn all_written(alloc: Global, lines: Vec<Line>) -> Result<Vec<Line>, AllocError>
     ensures told { IfOk result (λ written. (call : Record) → told_by written.items call ≡ told_by lines.items call) }
     ensures met { IfOk result (λ written. (calls : List Record) → All (IsMetBy calls) lines.items → All (IsMetBy calls) written.items) }
+    ensures alike { IfOk result (λ written. (one other : Record) → All (MeetAlike one other) lines.items → All (MeetAlike one other) written.items) }
 {
     let mut all = Vec::with_capacity(alloc, lines.len())?;
     for line in lines {
@@ -68,6 +72,9 @@ pub fn add_lines(
         ≡ told_by lines.old.items call ++ (if meets_clause clause call then shown left_out (decided decision.now call) else [])) }
     ensures met { OnOk result ((calls : List Record) → EachEndIsMetBy (filter (λ call. meets_clause clause call) calls) decision.now
         → All (IsMetBy calls) lines.old.items → All (IsMetBy calls) lines.new.items) }
+    ensures alike { OnOk result ((one other : Record) → meets_clause clause one ≡ meets_clause clause other
+        → (meets_clause clause one ≡ true → GoTogether decision.now one other)
+        → All (MeetAlike one other) lines.old.items → All (MeetAlike one other) lines.new.items) }
 {
     let Clause::All(choices) = clause else {
         return Ok(());
@@ -96,6 +103,8 @@ fn add_end(
         ≡ told_by lines.old.items call ++ (if meets_choices choices.items call then shown left_out value else [])) }
     ensures met { OnOk result ((calls : List Record) → 0 < length (filter (λ call. meets_choices choices.items call) calls)
         → All (IsMetBy calls) lines.old.items → All (IsMetBy calls) lines.new.items) }
+    ensures alike { OnOk result ((one other : Record) → meets_choices choices.items one ≡ meets_choices choices.items other
+        → All (MeetAlike one other) lines.old.items → All (MeetAlike one other) lines.new.items) }
 {
     if is_left_out(left_out, value) {
         return Ok(());

@@ -2,7 +2,7 @@
 ghost use Rattle.std.specs.Prelude.{◌≡◌, ◌≤◌, ◌<◌, ◌+◌, ◌++◌, ◌||◌, List, length, slice_index_or, IfOk, OnOk, IfSome, IsTrue};
 ghost use Rattle.std.specs.List.{All, remove};
 ghost use Rattle.sk_insn.specs.declared.record.Record.{Record};
-ghost use Rattle.sk_terms.specs.Lines.{holds_choice, meets_choices, meets_line, told_by, told_alone, IsMetBy};
+ghost use Rattle.sk_terms.specs.Lines.{holds_choice, meets_choices, meets_line, told_by, told_alone, IsMetBy, MeetAlike};
 ghost use Rattle.sk_terms.specs.Merging.{DifferIn};
 
 use crate::choices::{Choice, can_be_on, is_any, united};
@@ -24,6 +24,7 @@ struct Partner {
 pub fn merged(alloc: Global, lines: Vec<Line>) -> Result<Vec<Line>, AllocError>
     ensures told { IfOk result (λ merged. (call : Record) → length (told_by lines.items call) ≤ 1 → told_by merged.items call ≡ told_by lines.items call) }
     ensures met { IfOk result (λ merged. (calls : List Record) → All (IsMetBy calls) lines.items → All (IsMetBy calls) merged.items) }
+    ensures alike { IfOk result (λ merged. (one other : Record) → All (MeetAlike one other) lines.items → All (MeetAlike one other) merged.items) }
 {
     let before = lines.len();
     let fewer = merged_once(alloc, lines)?;
@@ -37,6 +38,7 @@ pub fn merged(alloc: Global, lines: Vec<Line>) -> Result<Vec<Line>, AllocError>
 fn merged_once(alloc: Global, lines: Vec<Line>) -> Result<Vec<Line>, AllocError>
     ensures told { IfOk result (λ merged. (call : Record) → length (told_by lines.items call) ≤ 1 → told_by merged.items call ≡ told_by lines.items call) }
     ensures met { IfOk result (λ merged. (calls : List Record) → All (IsMetBy calls) lines.items → All (IsMetBy calls) merged.items) }
+    ensures alike { IfOk result (λ merged. (one other : Record) → All (MeetAlike one other) lines.items → All (MeetAlike one other) merged.items) }
 {
     let mut merged = lines;
     for register in REGISTERS {
@@ -49,6 +51,7 @@ fn merged_once(alloc: Global, lines: Vec<Line>) -> Result<Vec<Line>, AllocError>
 fn merged_in(alloc: Global, lines: Vec<Line>, register: Register) -> Result<Vec<Line>, AllocError>
     ensures told { IfOk result (λ merged. (call : Record) → length (told_by lines.items call) ≤ 1 → told_by merged.items call ≡ told_by lines.items call) }
     ensures met { IfOk result (λ merged. (calls : List Record) → All (IsMetBy calls) lines.items → All (IsMetBy calls) merged.items) }
+    ensures alike { IfOk result (λ merged. (one other : Record) → All (MeetAlike one other) lines.items → All (MeetAlike one other) merged.items) }
 {
     let mut merged = Vec::with_capacity(alloc, lines.len())?;
     for line in lines {
@@ -67,6 +70,8 @@ fn add(
     ensures told { OnOk result ((call : Record) → length (told_by lines.old.items call ++ told_alone line call) ≤ 1
         → told_by lines.new.items call ≡ told_by lines.old.items call ++ told_alone line call) }
     ensures met { OnOk result ((calls : List Record) → All (IsMetBy calls) lines.old.items → IsMetBy calls line → All (IsMetBy calls) lines.new.items) }
+    ensures alike { OnOk result ((one other : Record) → All (MeetAlike one other) lines.old.items → MeetAlike one other line
+        → All (MeetAlike one other) lines.new.items) }
 {
     let Some(partner) = partner_of(lines, &line, register) else {
         lines.push(line)?;

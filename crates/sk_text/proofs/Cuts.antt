@@ -40,6 +40,20 @@ lines_first (b ∷ (c ∷ rest)) h =
           ap (λ t. cond t ([] ∷ lines_of (c ∷ rest)) (onto_first b (lines_of (c ∷ rest)))) f ∙ ap (onto_first b) next ∙ sym (ap (λ l. l ∷ lines_of (after_first (λ x. x == 10) (b ∷ (c ∷ rest)))) front ∙ ap (λ l. (b ∷ before_first (λ x. x == 10) (c ∷ rest)) ∷ lines_of l) back)
     ]
 
+length-onto_first : (byte : ℕ) (lines : List (List ℕ)) → length (onto_first byte lines) ≤ 1 + length lines
+length-onto_first byte [] = omega arith
+length-onto_first byte (line ∷ lines) = omega arith
+
+-- a text has no more lines than bytes
+pub length_lines_of : (text : List ℕ) → length (lines_of text) ≤ length text
+length_lines_of [] = omega arith
+length_lines_of (byte ∷ rest) =
+    let next = length_lines_of rest in
+    elim (cases_Bool (byte == 10)) [
+      | inl t ↦ rw t (omega (arith, next))
+      | inr f ↦ rw f (omega (arith, next, length-onto_first byte (lines_of rest)))
+    ]
+
 -- ---- words
 
 pub words_none : (line : List ℕ) → length line ≡ 0 → words_of line ≡ []

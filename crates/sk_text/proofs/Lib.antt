@@ -1,6 +1,6 @@
-pub mod FirstLine
 pub mod Ascii
 pub mod Cuts
-pub mod Decimals
 pub mod Reading
-pub mod Clean
+pub mod Failing
+pub mod Taking
+pub mod Sending

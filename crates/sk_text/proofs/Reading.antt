@@ -1,25 +1,18 @@
 -- A number is read digit by digit.
 use Rattle.std.proofs.Common.{◌≡◌, ◌<◌, ◌≤◌, ◌+◌, ◌*◌, ◌∙◌, ap, arith, sym, refl, suc, ℕ, List, [], ◌∷◌, Option, Some, None, length, drop, get_or, cond, drop-cons, add-one, inl, inr}
-use Rattle.std.proofs.lemmas.Bool.{lt-ltb, le-ltb, lt-leb, le-leb, cases_Bool}
+use Rattle.std.proofs.lemmas.Bool.{lt-ltb, lt-leb, le-leb, cases_Bool}
 use Rattle.std.proofs.Math.Nat.{mul-le-mul_left}
 use Rattle.std.specs.Char.{digit_value}
 use Rattle.std.specs.List.{list_all}
 use Rattle.std.specs.Str.Parse.{digits_value_after}
-use Rattle.sk_text.specs.Numbers.{is_digit_in, number_in, up_to}
+use Rattle.sk_text.specs.Numbers.{is_digit_in, up_to}
 
 -- what digits write behind those of a value
 abbrev pub number_after : ℕ → ℕ → List ℕ → Option ℕ
 number_after radix value digits = cond (list_all (is_digit_in radix) digits) (Some (digits_value_after radix value digits)) None
 
-pub number_after-some : (radix : ℕ) (digits : List ℕ) → 0 < length digits → number_after radix 0 digits ≡ number_in radix digits
-number_after-some radix [] h = absurd (omega arith)
-number_after-some radix (d ∷ digits) h = refl
-
 pub number_after-digit : (radix value d : ℕ) (digits : List ℕ) → digit_value d < radix → number_after radix value (d ∷ digits) ≡ number_after radix (value * radix + digit_value d) digits
 number_after-digit radix value d digits h = let t = lt-ltb (digit_value d) radix h in rw t refl
-
-pub number_after-other : (radix value d : ℕ) (digits : List ℕ) → radix ≤ digit_value d → number_after radix value (d ∷ digits) ≡ None
-number_after-other radix value d digits h = let f = le-ltb (digit_value d) radix h in rw f refl
 
 -- further digits make no value smaller
 digits_value_after-le : (radix value : ℕ) (digits : List ℕ) → 1 ≤ radix → value ≤ digits_value_after radix value digits
@@ -51,11 +44,6 @@ pub turn_digit : (radix value most i : ℕ) (digits : List ℕ) (total : Option 
 turn_digit radix value most i digits total within small h =
     rw add-one (ap (up_to most) (sym (number_after-digit radix value (get_or digits i 0) (drop (suc i) digits) small))
     ∙ rw (drop-cons digits i 0 within) at h)
-
-pub turn_other : (radix value most i : ℕ) (digits : List ℕ) (total : Option ℕ) → i < length digits → radix ≤ digit_value (get_or digits i 0)
-    → up_to most (number_after radix value (drop i digits)) ≡ total → total ≡ None
-turn_other radix value most i digits total within large h =
-    sym (rw (drop-cons digits i 0 within) at h) ∙ ap (up_to most) (number_after-other radix value (get_or digits i 0) (drop (suc i) digits) large)
 
 pub turn_large : (radix value most i : ℕ) (digits : List ℕ) (total : Option ℕ) → i < length digits → 1 ≤ radix → digit_value (get_or digits i 0) < radix
     → most < value * radix + digit_value (get_or digits i 0)

@@ -1,6 +1,8 @@
-pub mod FirstLine
 pub mod Hexadecimal
 pub mod Lines
 pub mod Numbers
 pub mod Words
-pub mod views
+pub mod Counted
+pub mod Failures
+pub mod Reading
+pub mod Writing

@@ -1,5 +1,5 @@
 -- A text is cut into lines, and a line into words.
-use Rattle.std.specs.Prelude.{ℕ, ◌==◌, ◌&&◌, ◌||◌, nat_le, Bool, true, false, if◌then◌else◌, List, [], ◌∷◌, filter, slice_index}
+use Rattle.std.specs.Prelude.{ℕ, ◌==◌, ◌&&◌, nat_le, Bool, true, false, if◌then◌else◌, List, [], ◌∷◌, filter, slice_index}
 use Rattle.std.specs.List.{slice_split, onto_first}
 
 -- each line is ended by a line feed (10); the last may lack it, and an empty rest is no line
@@ -19,10 +19,6 @@ words_of line = filter has_bytes (slice_split (λ byte. byte == 32) line)
 -- a space or a visible character of ASCII: 0x20 to 0x7e
 unfoldable pub is_printable_byte : ℕ → Bool
 is_printable_byte byte = nat_le 0x20 byte && nat_le byte 0x7e
-
--- a byte that may stand in a printable line, or ends it
-abbrev pub is_clean_byte : ℕ → Bool
-is_clean_byte byte = is_printable_byte byte || byte == 10
 
 -- a line that says nothing has no word, or its first word begins with a semicolon (59)
 abbrev pub begins_comment : List (List ℕ) → Bool

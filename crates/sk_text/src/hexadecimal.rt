@@ -7,7 +7,7 @@ ghost use Rattle.sk_text.specs.Lines.{words_of};
 ghost use Rattle.sk_text.specs.Hexadecimal.{Decodes, bytes_in, hex_bytes, hex_half, hex_text_bytes, hex_word, is_blank};
 ghost use Rattle.sk_text.specs.declared.hexadecimal.HexFault.TheVariants.{Memory};
 
-use crate::lines::{Words, cut_far};
+use crate::lines::{Words, cut};
 use hex::FromHexError;
 use std::alloc::{AllocError, Global};
 use std::marker::Model;
@@ -35,7 +35,7 @@ impl From<AllocError> for HexFault {
 pub fn bytes_of(alloc: Global, words: Words<'_>) -> Result<Vec<u8>, HexFault>
     ensures exact { Decodes (λ bytes. bytes.items) result (hex_bytes (words_of words.entry.0.now)) }
 {
-    let (word, rest) = cut_far(words.0, b' ');
+    let (word, rest) = cut(words.0, b' ');
     if rest.is_empty() {
         return decoded(alloc, word);
     }
@@ -58,7 +58,7 @@ fn joined(alloc: Global, words: Words<'_>) -> Result<Vec<u8>, AllocError>
     let mut digits = Vec::new(alloc);
     let mut rest = words.0;
     while !rest.is_empty() {
-        let (word, after) = cut_far(rest, b' ');
+        let (word, after) = cut(rest, b' ');
         digits.extend_from_slice(word)?;
         rest = after;
     }

@@ -1,13 +1,9 @@
 //! Words that are numbers.
-ghost use Rattle.std.specs.Prelude.{◌≡◌, ◌<◌, ◌≤◌, ◌+◌, ◌*◌, ◌==◌, ◌&&◌, Some, None, is_some, length, IfSome};
+ghost use Rattle.std.specs.Prelude.{◌≡◌, ◌≤◌, ◌+◌, ◌*◌, ◌==◌, ◌&&◌, Some, None, is_some, IfSome};
 ghost use Rattle.std.specs.Option.{SomeIff};
 ghost use Rattle.std.specs.List.{list_all};
 ghost use Rattle.sk_text.specs.Lines.{has_bytes};
-ghost use Rattle.sk_text.specs.views.Decimals.{IsDecimal};
 ghost use Rattle.sk_text.specs.Numbers.{is_digit_in, number_in, number_of, up_to};
-
-// So many decimal digits write no number above 64 bits.
-const MOST_DIGITS: usize = 19;
 
 /// The number that a word is, where it is one and at most `most`. It may have any number of digits.
 pub fn number_up_to(word: &[u8], most: u64) -> Option<u64>
@@ -15,34 +11,7 @@ pub fn number_up_to(word: &[u8], most: u64) -> Option<u64>
     ensures bound { IfSome result (λ number. number ≤ most) }
 {
     let (digits, radix) = digits_of(word);
-    // Decimal digits by themselves, with the radix as a constant.
-    if radix == 10 {
-        return digits_up_to(digits, 10, most);
-    }
     digits_up_to(digits, radix, most)
-}
-
-// The number that the decimal digits are with which a text begins, and how many they are, where no digit follows. Where
-// they are 19 and the text goes on, none is answered.
-#[inline(always)]
-pub(crate) fn digits_ahead(text: &[u8]) -> Option<(u64, usize)>
-    ensures digits { IfSome result (λ ahead. IsDecimal text.now ahead.1 ahead.0) }
-    ensures some { IfSome result (λ ahead. 0 < ahead.1) }
-    ensures within { IfSome result (λ ahead. ahead.1 ≤ length text.now) }
-{
-    let most = text.len().min(MOST_DIGITS);
-    let mut value = 0;
-    for at in 0..most {
-        let Some(digit) = char::from(text[at]).to_digit(10) else {
-            return if at > 0 { Some((value, at)) } else { None };
-        };
-        value = value * 10 + u64::from(digit);
-    }
-    if most > 0 && most == text.len() {
-        Some((value, most))
-    } else {
-        None
-    }
 }
 
 /// Whether a word is a number, of whatever size.

@@ -33,16 +33,14 @@ fn are_name_bytes(bytes: &[u8]) -> bool
 }
 
 #[tactic(auto, unfolding(crate::specs::Words::is_name_byte))]
-#[inline(always)]
-pub(crate) fn is_name_byte(byte: u8) -> bool
+fn is_name_byte(byte: u8) -> bool
     ensures kind { result ≡ is_name_byte byte }
 {
     is_letter(byte) || matches!(byte, b'0'..=b'9' | b'_' | b'-')
 }
 
 #[tactic(auto, unfolding(crate::specs::Words::is_letter))]
-#[inline(always)]
-pub(crate) fn is_letter(byte: u8) -> bool
+fn is_letter(byte: u8) -> bool
     ensures kind { result ≡ is_letter byte }
 {
     matches!(byte, b'a'..=b'z')

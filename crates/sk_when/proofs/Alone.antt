@@ -1,12 +1,12 @@
 -- Pieces of numbers with a name, and pieces of which each part is decided, with one more behind them.
-use Rattle.std.proofs.Common.{ℕ, zero, suc, ◌≡◌, ◌==◌, ◌||◌, ◌+◌, ◌^◌, ◌≤◌, ◌<◌, inl, inr, Bool, true, false, is_some, IsTrue, List, [], ◌∷◌, ◌++◌, length, get_or, refl, sym, subst, ◌∙◌, arith}
+use Rattle.std.proofs.Common.{ℕ, ◌≡◌, ◌+◌, ◌^◌, ◌≤◌, ◌<◌, inl, inr, is_some, IsTrue, List, [], ◌∷◌, ◌++◌, length, get_or, sym, subst, ◌∙◌, arith}
 use Rattle.std.specs.List.{All}
 use Rattle.std.specs.List.Sorted.{IsNonDecreasing}
 use Rattle.std.proofs.lemmas.Bool.{cases_lt}
 use Rattle.std.proofs.lemmas.List.Elements.{All-nil, All-cons, All-head, All-tail, All-push}
 use Rattle.sk_insn.specs.declared.insn.Insn.{Insn}
-use Rattle.sk_call_names.specs.declared.architecture.Architecture.{Architecture}
-use Rattle.sk_call_names.specs.Names.{name_on}
+use Rattle.sk_names.specs.declared.architecture.Architecture.{Architecture}
+use Rattle.sk_names.specs.Names.{name_on}
 use Rattle.sk_survey.specs.declared.answers.Answers.TheVariants.{Any}
 use Rattle.sk_survey.specs.declared.rows.Row.{Row}
 use Rattle.sk_survey.specs.Cutting.{IsCutRound}
@@ -74,9 +74,3 @@ pub joined_decided : (pieces : List Piece) (last piece : Piece) → All AreDecid
 joined_decided pieces last piece all =
     let before = all_before AreDecided pieces last all in
     All-push AreDecided pieces (record { numbers = record { first = last.numbers.first; last = piece.numbers.last }; parts = last.parts }) before.0 before.1
-
--- no row was spent, the last one neither
-pub not_spent : (before after : Bool) (left : ℕ) → after ≡ (before || (left == 0)) → after ≡ false → (before ≡ false) × (0 < left)
-not_spent true after left is none = cc
-not_spent false after zero is none = cc
-not_spent false after (suc left) is none = (refl, omega arith)

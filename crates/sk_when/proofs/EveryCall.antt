@@ -67,7 +67,7 @@ found_among : (relation : Relation) (old new : List (List Insn)) (numbers : Numb
     → All (HoldsOf relation old new numbers) parts → (call : Record) × IsNative call × (call.nr ≤ numbers.last) × (stands_on relation old new call ≡ false)
 found_among relation old new numbers [] apart hold = absurd (true≢false (sym apart))
 found_among relation old new numbers (part ∷ parts) apart hold = elim (one (shows_call part) (list_any shows_call parts) apart) [
-  | inl here ↦ shown_here relation old new numbers part.calls part.outcome here (All-head (HoldsOf relation old new numbers) part parts hold)
+  | inl here ↦ shown_here relation old new numbers part.calls part.outcome here (All-head (HoldsOf relation old new numbers) part parts hold).0
   | inr behind ↦ found_among relation old new numbers parts behind (All-tail (HoldsOf relation old new numbers) part parts hold)
 ]
 

@@ -11,7 +11,7 @@ use Rattle.sk_when.specs.declared.piece.Outcome.{Outcome}
 use Rattle.sk_when.specs.declared.piece.Outcome.TheVariants.{Undecided, Apart}
 use Rattle.sk_when.specs.declared.piece.Part.{Part}
 use Rattle.sk_when.specs.declared.piece.Piece.{Piece}
-use Rattle.sk_when.specs.Pieces.{AreAlike, AreCompared, ArePartsOfOne, Cover, HasVerdicts, Holds, HoldsOf, IsSo, meets_calls}
+use Rattle.sk_when.specs.Pieces.{AreAlike, AreCompared, ArePartsOfOne, Cover, HasVerdicts, Holds, HoldsOf, IsSo, TellNoWhole, meets_calls}
 
 pub one_more : (relation : Relation) (old new : List (List Insn)) (pieces : List Piece) (from : ℕ) (piece : Piece)
     → AreCompared relation old new from piece.numbers.first pieces → piece.numbers.first ≤ piece.numbers.last
@@ -54,11 +54,13 @@ holds_both relation old new one other [] [] are meet rises (hold, cover) (holds,
   ],
 )
 holds_both relation old new one other (part ∷ []) (another ∷ []) are meet rises (hold, cover) (holds, covers) = (
-  All-cons (HoldsOf relation old new (both_numbers one other)) part []
-      (subst (λ calls. IsSo relation old new (both_numbers one other) calls part.outcome) (sym are.0)
-      (so_of_both relation old new one other part.outcome another.outcome are.2 meet rises
-      (subst (λ calls. IsSo relation old new one calls part.outcome) are.0 (All-head (HoldsOf relation old new one) part [] hold))
-      (subst (λ calls. IsSo relation old new other calls another.outcome) are.1 (All-head (HoldsOf relation old new other) another [] holds))))
+  All-cons (HoldsOf relation old new (both_numbers one other)) part [] (
+    subst (λ calls. IsSo relation old new (both_numbers one other) calls part.outcome) (sym are.0)
+        (so_of_both relation old new one other part.outcome another.outcome are.2 meet rises
+        (subst (λ calls. IsSo relation old new one calls part.outcome) are.0 (All-head (HoldsOf relation old new one) part [] hold).0)
+        (subst (λ calls. IsSo relation old new other calls another.outcome) are.1 (All-head (HoldsOf relation old new other) another [] holds).0)),
+    subst (TellNoWhole (both_numbers one other)) (sym are.0) tt,
+  )
       (All-nil (HoldsOf relation old new (both_numbers one other))),
   λ call within differs. ap (λ c. list_any (λ calls. meets_calls calls call) (c ∷ [])) are.0,
 )

@@ -12,3 +12,5 @@ pub mod SameInsns
 pub mod WorkedTexts
 pub mod Filled
 pub mod FilledLines
+pub mod OneCall
+pub mod EachVerdict

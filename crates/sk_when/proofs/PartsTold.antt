@@ -24,7 +24,7 @@ use Rattle.sk_when.specs.declared.piece.Calls.{Calls}
 use Rattle.sk_when.specs.declared.piece.Outcome.{Outcome}
 use Rattle.sk_when.specs.declared.piece.Outcome.TheVariants.{Undecided, Apart}
 use Rattle.sk_when.specs.declared.piece.Part.{Part}
-use Rattle.sk_when.specs.Pieces.{Fails, HasVerdicts, HoldsPart, IsPairOf, Says, SaysOfLine, ShowsOf, meets_calls}
+use Rattle.sk_when.specs.Pieces.{Fails, HasVerdicts, HoldsPart, IsPairOf, Says, SaysOfLine, ShowsOf, TellNoWhole, meets_calls}
 use Rattle.sk_when.proofs.Elses.{some_value}
 use Rattle.sk_when.proofs.RowsMet.{Tells, each_tells, found, one_line}
 
@@ -103,14 +103,17 @@ values_are_told decision calls lines all told met k other less =
 pub apart_holds : (chains : Comparing) (pairs : List Verdicts) (line : Line) (pair : Verdicts) (among : List Record) (calls : Calls) (outcome : Outcome)
     → SaysOfLine chains pairs line → IsPairOf chains.relation pairs line.value pair → All (IsCallOf chains.numbers.first chains.numbers.last) among
     → ((call : Record) → meets_calls calls call ≡ meets_line line call) → ShowsOf line among pair outcome
-    → HoldsPart chains (record { calls = calls; outcome = outcome })
-apart_holds chains pairs line pair among calls Undecided says is within meets shows = tt
-apart_holds chains pairs line pair among calls (Apart it call) says is within meets shows = (
-  λ other inside met.
-      subst (λ p. HasVerdicts chains.old.now chains.new.now p other) (sym shows.0)
-      (is.0 (verdict_of chains.old.now other) (verdict_of chains.new.now other) (says other inside (sym (meets other) ∙ met))),
-  subst (λ (p : Verdicts). relates chains.relation p.old p.new ≡ false) (sym shows.0) is.1,
-  (All-contains (IsCallOf chains.numbers.first chains.numbers.last) among call within shows.1, meets call ∙ shows.2),
+    → TellNoWhole chains.numbers calls → HoldsPart chains (record { calls = calls; outcome = outcome })
+apart_holds chains pairs line pair among calls Undecided says is within meets shows tells = (tt, tells)
+apart_holds chains pairs line pair among calls (Apart it call) says is within meets shows tells = (
+  (
+    λ other inside met.
+        subst (λ p. HasVerdicts chains.old.now chains.new.now p other) (sym shows.0)
+        (is.0 (verdict_of chains.old.now other) (verdict_of chains.new.now other) (says other inside (sym (meets other) ∙ met))),
+    subst (λ (p : Verdicts). relates chains.relation p.old p.new ≡ false) (sym shows.0) is.1,
+    (All-contains (IsCallOf chains.numbers.first chains.numbers.last) among call within shows.1, meets call ∙ shows.2),
+  ),
+  tells,
 )
 
 -- a line with a value that a call meets is never one of which nothing is known

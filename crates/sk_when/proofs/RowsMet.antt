@@ -13,6 +13,7 @@ use Rattle.sk_terms.specs.declared.lines.LeftOut.{LeftOut}
 use Rattle.sk_terms.specs.declared.lines.LeftOut.TheVariants.{Nothing, End}
 use Rattle.sk_terms.specs.declared.lines.Line.{Line}
 use Rattle.sk_terms.specs.Lines.{IsMetBy, IsValueOf, meets_line, same_end, shown, told_by}
+use Rattle.sk_terms.specs.Numbers.{TellsNoWhole}
 use Rattle.sk_when.specs.declared.row.ConditionalRow.{ConditionalRow}
 use Rattle.sk_when.specs.Lines.{IsMet}
 
@@ -109,13 +110,15 @@ pub row_met : (programs : List (List Insn)) (told : ConditionalRow) (calls : Lis
     → All (IsCallOf told.row.first told.row.last) calls
     → ((call : Record) → IsCallOf told.row.first told.row.last call → Agrees (d call) (verdict_of programs call))
     → ((call : Record) → told_by all call ≡ shown Nothing (d call)) → ((call : Record) → told_by told.lines.items call ≡ shown (End told.otherwise) (d call))
-    → All (IsMetBy calls) all → All (IsMetBy calls) told.lines.items → (0 < length all → IsValueOf all told.otherwise) → IsMet programs told
-row_met programs told calls all d within agrees every left met met' heaviest =
+    → All (IsMetBy calls) all → All (IsMetBy calls) told.lines.items → (0 < length all → IsValueOf all told.otherwise)
+    → All (TellsNoWhole told.row.first told.row.last) told.lines.items → IsMet programs told
+row_met programs told calls all d within agrees every left met met' heaviest numbers =
     let some = native told.row.first 0 [] in
     record {
       lines = lines_met programs told.row.first told.row.last calls told.lines.items d within agrees (each_tells told.lines.items (End told.otherwise) d left) met';
       otherwise = else_met programs told.row.first told.row.last calls all told.lines.items d told.otherwise within agrees every left met
           (heaviest (some_lines all some (d some) (every some)));
+      numbers = numbers;
     }
 
 -- a row with one verdict
@@ -139,4 +142,5 @@ alone_met programs told value range among only none otherwise =
         ap (λ lines. told_by lines call) none,
         subst (λ v. Agrees v (verdict_of programs call)) (sym otherwise) (only_one (verdict_of programs call) value (answers_of told.row.answers) only (among call within)),
       );
+      numbers = subst (All (TellsNoWhole told.row.first told.row.last)) (sym none) (All-nil (TellsNoWhole told.row.first told.row.last));
     }

@@ -5,8 +5,8 @@ use Rattle.std.specs.Fmt.{digits}
 use Rattle.hex.specs.Hex.{encode_with}
 use Rattle.sk_insn.specs.Actions.{action_of}
 use Rattle.sk_insn.specs.Operations.{operation_of}
-use Rattle.sk_call_names.specs.X86_64.{name_of}
-use Rattle.sk_call_names.specs.Names.{name_at, name_in, name_on, runs_of}
+use Rattle.sk_names.specs.X86_64.{name_of}
+use Rattle.sk_names.specs.Names.{name_at, name_in, name_on, runs_of}
 use Rattle.sk_filter.specs.VerdictText.{verdict_text}
 use Rattle.sk_filter.specs.Errors.{error_named}
 use Rattle.sk_when.specs.DiffText.{call_text, record_text, verdicts_text, head_text, argument_text}
@@ -37,6 +37,6 @@ parts_work = record {
   undecided = refl;
   alike = refl;
   every = refl;
-  as_strict = λ old new holds. true≢false holds.1;
-  elsewhere = λ relation old new holds. let above = holds.2.0.1.0 in absurd (omega (arith, above));
+  as_strict = λ old new holds. true≢false holds.0.1;
+  elsewhere = λ relation old new holds. let above = holds.0.2.0.1.0 in absurd (omega (arith, above));
 }

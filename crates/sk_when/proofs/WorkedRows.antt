@@ -10,10 +10,10 @@ use Rattle.sk_insn.specs.declared.record.Record.{Record}
 use Rattle.sk_insn.specs.Actions.{action_of}
 use Rattle.sk_insn.specs.Operations.{operation_of}
 use Rattle.sk_filter.specs.WorkedMeanings.{call_of}
-use Rattle.sk_call_names.specs.X86_64.{name_of}
-use Rattle.sk_call_names.specs.declared.architecture.Architecture.{Architecture}
-use Rattle.sk_call_names.specs.declared.architecture.Architecture.TheVariants as architecture
-use Rattle.sk_call_names.specs.Names.{name_at, name_in, name_on, runs_of}
+use Rattle.sk_names.specs.X86_64.{name_of}
+use Rattle.sk_names.specs.declared.architecture.Architecture.{Architecture}
+use Rattle.sk_names.specs.declared.architecture.Architecture.TheVariants as architecture
+use Rattle.sk_names.specs.Names.{name_at, name_in, name_on, runs_of}
 use Rattle.sk_filter.specs.Verdict.{verdict_of}
 use Rattle.sk_filter.specs.Errors.{error_named}
 use Rattle.sk_filter.specs.VerdictText.{verdict_text}
@@ -22,12 +22,13 @@ use Rattle.sk_conditions.specs.WorkedPaths as paths
 use Rattle.sk_conditions.specs.WorkedPaths.{compares_again}
 use Rattle.sk_conditions.proofs.WorkedPaths.{every_call, paths_work}
 use Rattle.sk_survey.specs.Answers.{IsCallOf, answers_of}
-use Rattle.sk_survey_lines.specs.Text.{numbers_text, name_text}
+use Rattle.sk_show.specs.Text.{numbers_text, name_text}
 use Rattle.sk_terms.specs.declared.choices.Choice.{Choice}
 use Rattle.sk_terms.specs.declared.lines.Line.{Line}
 use Rattle.sk_terms.specs.declared.term.Register.TheVariants.{Argument}
 use Rattle.sk_terms.specs.declared.term.Term.{Term}
 use Rattle.sk_terms.specs.Lines.{meets_line, told_by}
+use Rattle.sk_terms.specs.Numbers.{numbered, TellsNoWhole}
 use Rattle.sk_terms.specs.Terms.{holds_term, register_of}
 use Rattle.sk_terms.specs.Text.{choices_text, condition_text, terms_text}
 use Rattle.sk_terms.specs.WorkedLines.{terms_of}
@@ -156,6 +157,22 @@ lines_of_seven told (line ∷ []) e within =
     All-cons (IsMetIn told) line [] (line_of_seven told line same within) (All-nil (IsMetIn told))
 lines_of_seven told (line ∷ other ∷ lines) e within = cc
 
+-- what a line says of an argument it says of a call with each number
+no_number : (told : ConditionalRow) (lines : List Line) → map read lines ≡ where_seven 0x7fff0000 ∷ [] → told.row.first ≡ 39 → told.row.last ≡ 39
+    → All (TellsNoWhole told.row.first told.row.last) lines
+no_number told [] e first last = cc
+no_number told (line ∷ []) e first last =
+    let same : read line ≡ where_seven 0x7fff0000 = cc in
+    let terms : terms_of line ≡ (where_seven 0x7fff0000).terms = ap (λ r. r.terms) same in
+    let P = TellsNoWhole told.row.first told.row.last in
+    All-cons P line []
+    (λ call each nr.
+    line_met line (numbered call nr) (where_seven 0x7fff0000).terms terms
+    ∙ sym (line_met line (numbered call 39) (where_seven 0x7fff0000).terms terms)
+    ∙ each 39 (omega (arith, first)) (omega (arith, last)))
+    (All-nil P)
+no_number told (line ∷ other ∷ lines) e first last = cc
+
 met : (told : ConditionalRow) → IsRow (where_seven 0x7fff0000 ∷ []) told → IsMet (compares_again ∷ []) told
 met told is = record {
   lines = lines_of_seven told told.lines.items is.lines (of_the_row told (where_seven 0x7fff0000 ∷ []) is);
@@ -165,6 +182,7 @@ met told is = record {
     told_read told.lines.items with_eight ∙ ap (λ r. read_by r with_eight) is.lines,
     subst (λ v. Agrees v (verdict_of (compares_again ∷ []) with_eight)) (sym is.otherwise) (sym (verdict with_eight)),
   );
+  numbers = no_number told told.lines.items is.lines is.first is.last;
 }
 
 both_never : (b : Bool) → ((b || false) && ((not b || false) && true)) ≡ true → ⊥

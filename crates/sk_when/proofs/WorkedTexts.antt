@@ -6,9 +6,9 @@ use Rattle.std.specs.List.{list_any}
 use Rattle.hex.specs.Hex.{encode_with}
 use Rattle.sk_insn.specs.Actions.{action_of}
 use Rattle.sk_insn.specs.Operations.{operation_of}
-use Rattle.sk_call_names.specs.X86_64.{name_of}
-use Rattle.sk_call_names.specs.Names.{name_on}
-use Rattle.sk_call_names.specs.declared.architecture.Architecture.TheVariants as architecture
+use Rattle.sk_names.specs.X86_64.{name_of}
+use Rattle.sk_names.specs.Names.{name_on}
+use Rattle.sk_names.specs.declared.architecture.Architecture.TheVariants as architecture
 use Rattle.sk_filter.specs.VerdictText.{verdict_text}
 use Rattle.sk_filter.specs.Errors.{error_named}
 use Rattle.sk_conditions.specs.declared.numbers.Numbers.{Numbers}

@@ -5,10 +5,10 @@ use Rattle.std.specs.Option.{option_map_or}
 use Rattle.hex.specs.Hex.{encode_lower}
 use Rattle.sk_insn.specs.declared.record.Record.{Record}
 use Rattle.sk_insn.specs.Record.{record_bytes}
-use Rattle.sk_call_names.specs.declared.architecture.Architecture.{Architecture}
-use Rattle.sk_call_names.specs.Architectures.{audit_of}
-use Rattle.sk_call_names.specs.Names.{name_on}
-use Rattle.sk_survey_lines.specs.Text.{numbers_text, name_text}
+use Rattle.sk_names.specs.declared.architecture.Architecture.{Architecture}
+use Rattle.sk_names.specs.Architectures.{audit_of}
+use Rattle.sk_names.specs.Names.{name_on}
+use Rattle.sk_show.specs.Text.{numbers_text, name_text}
 use Rattle.sk_filter.specs.VerdictText.{verdict_text}
 use Rattle.sk_conditions.specs.declared.differences.Verdicts.{Verdicts}
 use Rattle.sk_conditions.specs.declared.numbers.Numbers.{Numbers}

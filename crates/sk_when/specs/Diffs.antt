@@ -1,8 +1,8 @@
 -- What a comparison of two chains for an architecture is, and what it says of every call. A call of x86-64 stands there for the
--- same call of the architecture, by the law `ChainsForArchitectures` of sk_arches.
+-- same call of the architecture, by the law `ChainsForArchitectures` of sk_survey.
 use Rattle.std.specs.Prelude.{ℕ, ◌≡◌, ◌^◌, ◌<◌, Bool, true, false, List}
 use Rattle.std.specs.List.{All}
-use Rattle.sk_call_names.specs.declared.architecture.Architecture.{Architecture}
+use Rattle.sk_names.specs.declared.architecture.Architecture.{Architecture}
 use Rattle.sk_insn.specs.declared.insn.Insn.{Insn}
 use Rattle.sk_insn.specs.declared.record.Record.{Record}
 use Rattle.sk_insn.specs.Record.{IsNative}

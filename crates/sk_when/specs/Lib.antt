@@ -10,3 +10,4 @@ pub mod DiffText
 pub mod Pieces
 pub mod WorkedDiffs
 pub mod WorkedTexts
+pub mod Verdicts

@@ -7,6 +7,7 @@ use Rattle.sk_filter.specs.Verdict.{verdict_of}
 use Rattle.sk_survey.specs.Answers.{IsAmong, IsCallOf, answers_of}
 use Rattle.sk_conditions.specs.Conditions.{Agrees}
 use Rattle.sk_terms.specs.Lines.{meets_line, told_by}
+use Rattle.sk_terms.specs.Numbers.{TellsNoWhole}
 use Rattle.sk_when.specs.declared.row.ConditionalRow.{ConditionalRow}
 
 -- the values of the lines that a call meets, or of the line `else` where it meets none
@@ -33,10 +34,11 @@ abbrev pub IsExact : List (List Insn) → ConditionalRow → Type 0
 IsExact programs told =
     (call : Record) → IsCallOf told.row.first told.row.last call → told_of told call ≡ Some (verdict_of programs call) ∷ []
 
--- each line is met by a call with one of the row's numbers, whose verdict is the line's value where it has one; and some such call
--- meets no line, and so it is with that of `else`
+-- each line is met by a call with one of the row's numbers, whose verdict is the line's value where it has one; some such call
+-- meets no line, and so it is with that of `else`; and no line tells a range of numbers that is all of the row's
 pub record IsMet (programs : List (List Insn)) (told : ConditionalRow) : Type 0 where
   pub lines : All (λ line. (call : Record) × IsCallOf told.row.first told.row.last call × (meets_line line call ≡ true)
       × Agrees line.value (verdict_of programs call)) told.lines.items
   pub otherwise : (call : Record) × IsCallOf told.row.first told.row.last call × (told_by told.lines.items call ≡ [])
       × Agrees told.otherwise (verdict_of programs call)
+  pub numbers : All (TellsNoWhole told.row.first told.row.last) told.lines.items

@@ -1,8 +1,8 @@
 -- Two chains compared on every call: what holds of each piece of the numbers, and of all.
 use Rattle.std.specs.Prelude.{ℕ, ◌≡◌, ◌+◌, ◌≤◌, true, false, if◌then◌else◌, Bool, is_some, IsTrue, List, [], ◌∷◌, Option, None}
 use Rattle.std.specs.List.{All, Contains, list_any}
-use Rattle.sk_call_names.specs.declared.architecture.Architecture.{Architecture}
-use Rattle.sk_call_names.specs.Names.{name_on}
+use Rattle.sk_names.specs.declared.architecture.Architecture.{Architecture}
+use Rattle.sk_names.specs.Names.{name_on}
 use Rattle.sk_insn.specs.declared.insn.Insn.{Insn}
 use Rattle.sk_insn.specs.declared.record.Record.{Record}
 use Rattle.sk_filter.specs.Verdict.{verdict_of}
@@ -15,6 +15,7 @@ use Rattle.sk_conditions.specs.Comparing.{relates}
 use Rattle.sk_conditions.specs.Differing.{SaysOf}
 use Rattle.sk_terms.specs.declared.lines.Line.{Line}
 use Rattle.sk_terms.specs.Lines.{meets_line}
+use Rattle.sk_terms.specs.Numbers.{TellsNoWhole}
 use Rattle.sk_when.specs.declared.diff_engine.Finding.{Finding}
 use Rattle.sk_when.specs.declared.diff_engine.Finding.TheVariants as finding
 use Rattle.sk_when.specs.declared.piece.Calls.{Calls}
@@ -48,8 +49,13 @@ IsSo relation old new numbers calls (Apart it shown) =
     × (relates relation it.old it.new ≡ false)
     × (IsCallOf numbers.first numbers.last shown × (meets_calls calls shown ≡ true))
 
+-- a condition tells no range of numbers that is all of these
+abbrev pub TellNoWhole : Numbers → Calls → Type 0
+TellNoWhole numbers Every = Unit {0}
+TellNoWhole numbers (Meeting line) = TellsNoWhole numbers.first numbers.last line
+
 abbrev pub HoldsOf : Relation → List (List Insn) → List (List Insn) → Numbers → Part → Type 0
-HoldsOf relation old new numbers part = IsSo relation old new numbers part.calls part.outcome
+HoldsOf relation old new numbers part = IsSo relation old new numbers part.calls part.outcome × TellNoWhole numbers part.calls
 
 -- a call on which the relation fails is one that a part speaks of
 abbrev pub Cover : Relation → List (List Insn) → List (List Insn) → Numbers → List Part → Type 0

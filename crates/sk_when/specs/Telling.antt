@@ -1,13 +1,13 @@
 -- What the text of `ask when` says of a chain.
 use Rattle.std.specs.Prelude.{ℕ, ◌≡◌, ◌≤◌, Bool, false, List, map, Option}
 use Rattle.std.specs.List.{All}
-use Rattle.sk_call_names.specs.declared.architecture.Architecture.{Architecture}
+use Rattle.sk_names.specs.declared.architecture.Architecture.{Architecture}
 use Rattle.sk_insn.specs.declared.insn.Insn.{Insn}
 use Rattle.sk_conditions.specs.Followed.{AreFollowed}
 use Rattle.sk_survey.specs.declared.rows.Row.{Row}
 use Rattle.sk_survey.specs.Answers.{ChainAnswersAmong, answers_of}
 use Rattle.sk_survey.specs.Surveys.{Tell}
-use Rattle.sk_survey_lines.specs.Lines.{first_told, end_told, TellsNamedAlone}
+use Rattle.sk_show.specs.Lines.{first_told, end_told, TellsNamedAlone}
 use Rattle.sk_when.specs.declared.row.ConditionalRow.{ConditionalRow}
 use Rattle.sk_when.specs.Lines.{IsExact, IsMet, IsTold}
 use Rattle.sk_when.specs.WhenText.{when_text}

@@ -1,9 +1,9 @@
 -- The text of `ask when`: rows as those of `ask calls`, and under which condition of C each verdict comes.
 use Rattle.std.specs.Prelude.{ℕ, ◌++◌, List, [], ◌∷◌, length, codes, flat_map, Option, Some, None}
-use Rattle.sk_call_names.specs.declared.architecture.Architecture.{Architecture}
+use Rattle.sk_names.specs.declared.architecture.Architecture.{Architecture}
 use Rattle.sk_engines.specs.Output.{line}
 use Rattle.sk_survey.specs.Answers.{answers_of}
-use Rattle.sk_survey_lines.specs.Text.{numbers_text, name_text, answers_text}
+use Rattle.sk_show.specs.Text.{numbers_text, name_text, answers_text}
 use Rattle.sk_terms.specs.declared.lines.Line.{Line}
 use Rattle.sk_terms.specs.Text.{condition_text}
 use Rattle.sk_filter.specs.VerdictText.{verdict_text}

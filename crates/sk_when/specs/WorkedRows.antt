@@ -1,7 +1,7 @@
 -- A worked example of rows: one word of a call is compared three times, and no call takes one of the paths.
 use Rattle.std.specs.Prelude.{ℕ, ◌≡◌, true, false, List, [], ◌∷◌, map, codes, Option, Some}
 use Rattle.sk_insn.specs.declared.record.Record.{Record}
-use Rattle.sk_call_names.specs.declared.architecture.Architecture.TheVariants as architecture
+use Rattle.sk_names.specs.declared.architecture.Architecture.TheVariants as architecture
 use Rattle.sk_conditions.specs.WorkedPaths.{compares_again}
 use Rattle.sk_survey.specs.Answers.{IsCallOf}
 use Rattle.sk_terms.specs.declared.lines.Line.{Line}

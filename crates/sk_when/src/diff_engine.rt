@@ -1,6 +1,7 @@
 //! Two chains compared on every call.
-ghost use Rattle.std.specs.Prelude.{◌≡◌, IfOk, string_bytes};
+ghost use Rattle.std.specs.Prelude.{◌≡◌, ◌^◌, false, IfOk, string_bytes};
 ghost use Rattle.std.specs.List.{list_any};
+ghost use Rattle.sk_conditions.specs.Steps.{NeverPart};
 ghost use Rattle.sk_when.specs.Pieces.{is_apart, may_fail, has_parts, finding_of};
 ghost use Rattle.sk_when.specs.Diffs.{IsComparison, text_of};
 
@@ -8,9 +9,9 @@ use crate::diff_text::{differences_text, everywhere_text};
 use crate::piece::{Part, Piece};
 use crate::pieces::pieces;
 use crate::showing::any_shown;
-use sk_call_names::Architecture;
 use sk_conditions::{Budgets, Relation};
 use sk_filter::Chain;
+use sk_names::Architecture;
 use std::alloc::{AllocError, Global};
 
 /// What was found of two chains on all calls.
@@ -32,7 +33,8 @@ pub struct Comparison {
 }
 
 /// Compares a new chain with an old one on every call. Both are for the architecture, and calls are told as they are there.
-/// Nothing bounds from above how many of the steps it takes.
+/// Where the calls of each row go one way through each filter, no row uses its steps up. How many it takes where they part is not
+/// bounded from above.
 pub fn diff(
     alloc: Global,
     architecture: Architecture,
@@ -42,6 +44,7 @@ pub fn diff(
     budgets: &mut Budgets,
 ) -> Result<Comparison, AllocError>
     ensures compared { IfOk result (λ it. IsComparison architecture relation old.now new.now budgets.new.is_spent it.finding (string_bytes it.text)) }
+    ensures one_way { NeverPart 0 (2 ^ 32) old.now → NeverPart 0 (2 ^ 32) new.now → budgets.old.is_spent ≡ false → budgets.new.is_spent ≡ false }
 {
     let pieces = pieces(alloc, architecture, relation, old, new, budgets)?;
     let finding = finding_of(&pieces);

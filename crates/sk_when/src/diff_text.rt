@@ -4,11 +4,11 @@ ghost use Rattle.sk_when.specs.DiffText.{call_name_text, argument_text, address_
 
 use crate::filling::push_filled;
 use crate::piece::{Calls, Outcome, Part, Piece};
-use sk_call_names::{Architecture, name};
 use sk_conditions::{Numbers, Relation, stands};
 use sk_filter::push_verdict;
 use sk_insn::Record;
-use sk_survey_lines::{name_of_numbers, push_numbers};
+use sk_names::{Architecture, name};
+use sk_show::{name_of_numbers, push_numbers};
 use sk_text::HexDigits;
 use std::alloc::{AllocError, Global};
 use std::fmt::Write;

@@ -1,12 +1,16 @@
 //! The calls of some numbers on which the relation between the verdicts of two chains fails.
-ghost use Rattle.std.specs.Prelude.{◌≡◌, ◌<◌, ◌≤◌, ◌||◌, true, false, IfOk, IfSome, IsSome, OnOk};
+ghost use Rattle.std.specs.Prelude.{◌≡◌, ◌+◌, ◌*◌, ◌<◌, ◌≤◌, ◌||◌, true, false, length, IfOk, IfSome, IsSome, OnOk};
 ghost use Rattle.std.specs.List.{All, list_any};
 ghost use Rattle.std.specs.Option.{option_map_or};
 ghost use Rattle.sk_insn.specs.declared.record.Record.{Record};
 ghost use Rattle.sk_survey.specs.Answers.{IsCallOf};
+ghost use Rattle.sk_filter.specs.Chains.{cost_of};
 ghost use Rattle.sk_conditions.specs.Followed.{AreFollowed};
+ghost use Rattle.sk_conditions.specs.declared.numbers.Numbers.{Numbers};
+ghost use Rattle.sk_conditions.specs.Steps.{BothGoOneWay};
 ghost use Rattle.sk_terms.specs.Lines.{meets_line, IsMetBy};
-ghost use Rattle.sk_when.specs.Pieces.{AreDecided, Fails, Holds, HoldsPart, IsShown, Says, SaysOfLine, ShowsOf, is_decided, meets_calls};
+ghost use Rattle.sk_terms.specs.Numbers.{TellsNoWhole};
+ghost use Rattle.sk_when.specs.Pieces.{AreDecided, Fails, Holds, HoldsPart, IsShown, Says, SaysOfLine, ShowsOf, TellNoWhole, is_decided, meets_calls};
 
 use crate::piece::{Calls, Outcome, Part, Piece};
 use crate::showing::shown_among;
@@ -41,6 +45,10 @@ pub fn piece_of(
 
     // Where the filters are followed and steps are left, each part of the piece is decided.
     ensures decided { IfOk result (λ piece. All AreFollowed chains.entry.old.now → All AreFollowed chains.entry.new.now → 0 < budget.new.steps → AreDecided piece) }
+
+    // Where all calls go one way through each filter, it takes no more steps than to compare them, and to look at one call.
+    ensures one_way { BothGoOneWay chains.entry
+        → budget.old.steps ≤ budget.new.steps + (cost_of chains.entry.old.now + cost_of chains.entry.new.now + 65) }
 {
     let differences = differ(alloc, chains, budget)?;
     let decision = decide(alloc, &differences.tree)?;
@@ -61,6 +69,7 @@ fn parts_of(
     budget: &mut Budget,
 ) -> Result<Vec<Part>, AllocError>
     requires say { All (SaysOfLine chains differences.now.pairs.items) lines.items }
+    requires numbers { All (TellsNoWhole chains.numbers.first chains.numbers.last) lines.items }
     requires within { All (IsCallOf chains.numbers.first chains.numbers.last) differences.now.calls.items }
     ensures hold { IfOk result (λ parts. All (HoldsPart chains.entry) parts.items) }
     ensures cover { IfOk result (λ parts. (call : Record) → Fails chains.entry call → list_any (λ line. meets_line line call) lines.items ≡ true
@@ -68,6 +77,7 @@ fn parts_of(
     ensures decided { IfOk result (λ parts. All (IsMetBy differences.now.calls.items) lines.items → All (λ line. IsSome line.value) lines.items
         → 0 < budget.new.steps → All IsShown parts.items) }
     ensures left { budget.new.steps ≤ budget.old.steps }
+    ensures few { length lines.items ≤ 1 → budget.old.steps ≤ budget.new.steps + 64 * length differences.now.calls.items }
 {
     let mut parts = Vec::with_capacity(alloc, lines.len())?;
     let mut from = 0;
@@ -87,6 +97,7 @@ fn add_part(
     budget: &mut Budget,
 ) -> Result<(), AllocError>
     requires says { SaysOfLine chains differences.now.pairs.items line }
+    requires numbers { TellsNoWhole chains.numbers.first chains.numbers.last line }
     requires within { All (IsCallOf chains.numbers.first chains.numbers.last) differences.now.calls.items }
     ensures hold { OnOk result (All (HoldsPart chains.entry) parts.old.items → All (HoldsPart chains.entry) parts.new.items) }
     ensures cover { OnOk result ((call : Record) → Fails chains.entry call
@@ -95,6 +106,7 @@ fn add_part(
     ensures decided { OnOk result (IsMetBy differences.now.calls.items line → IsSome line.value → 0 < budget.new.steps
         → All IsShown parts.old.items → All IsShown parts.new.items) }
     ensures left { budget.new.steps ≤ budget.old.steps }
+    ensures few { budget.old.steps ≤ budget.new.steps + 64 * length differences.now.calls.items }
 {
     let Some(part) = part_of(chains, line, differences, from, budget) else {
         return Ok(());
@@ -112,12 +124,14 @@ fn part_of(
     budget: &mut Budget,
 ) -> Option<Part>
     requires says { SaysOfLine chains differences.now.pairs.items line }
+    requires numbers { TellsNoWhole chains.numbers.first chains.numbers.last line }
     requires within { All (IsCallOf chains.numbers.first chains.numbers.last) differences.now.calls.items }
     ensures holds { IfSome result (HoldsPart chains.entry) }
     ensures cover { (call : Record) → Fails chains.entry call → meets_line line call ≡ true
         → option_map_or (λ part. meets_calls part.calls call) result false ≡ true }
     ensures decided { IsMetBy differences.now.calls.items line → IsSome line.value → 0 < budget.new.steps → IfSome result IsShown }
     ensures left { budget.new.steps ≤ budget.old.steps }
+    ensures few { budget.old.steps ≤ budget.new.steps + 64 * length differences.now.calls.items }
 {
     match end_says(chains.relation, &differences.pairs, line.value) {
         Said::Alike => None,
@@ -138,6 +152,7 @@ fn part_of(
 // The calls that meet a line: one without a condition is met by each.
 fn calls_of(line: Line) -> Calls
     ensures meets { (call : Record) → meets_calls result call ≡ meets_line line call }
+    ensures numbers { (numbers : Numbers) → TellsNoWhole numbers.first numbers.last line → TellNoWhole numbers result }
 {
     if line.choices.is_empty() {
         Calls::Every
@@ -176,6 +191,7 @@ fn shown(
     ensures shown { ShowsOf line.now calls.now pair result }
     ensures found { IsMetBy calls.now line.now → 0 < budget.new.steps → is_decided result ≡ true }
     ensures left { budget.new.steps ≤ budget.old.steps }
+    ensures few { budget.old.steps ≤ budget.new.steps + 64 * length calls.now }
 {
     match shown_among(line, calls, from, budget) {
         Some(call) => Outcome::Apart(pair, call),

@@ -1,6 +1,9 @@
 //! The tree of one call as a picture: text for Graphviz.
-ghost use Rattle.std.specs.Prelude.{◌≡◌, ◌++◌, IfOk, OnOk, string_bytes, codes};
+ghost use Rattle.std.specs.Prelude.{◌≡◌, ◌+◌, ◌≤◌, ◌++◌, IfOk, OnOk, string_bytes, codes};
+ghost use Rattle.std.specs.List.{All};
 ghost use Rattle.sk_insn.specs.Actions.{action_of};
+ghost use Rattle.sk_filter.specs.Chains.{cost_of};
+ghost use Rattle.sk_conditions.specs.Steps.{GoOneWay};
 ghost use Rattle.sk_terms.specs.Text.{term_text};
 ghost use Rattle.sk_filter.specs.VerdictText.{verdict_text};
 ghost use Rattle.sk_when.specs.Picture.{colour_of, next_node, node_after, fill_text, leaf_text, inner_text, edge_text, nodes_text, dot_text, IsPicture};
@@ -12,10 +15,11 @@ use sk_terms::{Decision, Term, decide, push_term};
 use std::alloc::{AllocError, Global};
 use std::fmt::Write;
 
-/// The tree of terms that decides the calls with a number, as text for Graphviz. Nothing bounds from above how many of the
-/// steps it takes.
+/// The tree of terms that decides the calls with a number, as text for Graphviz. Where these go one way through each filter, it
+/// takes no more steps than the chain counts against the path limit.
 pub fn dot(alloc: Global, chain: &Chain, nr: u32, budget: &mut Budget) -> Result<String, AllocError>
     ensures picture { IfOk result (λ text. IsPicture chain.now nr budget.new.steps (string_bytes text)) }
+    ensures one_way { All (GoOneWay nr nr) chain.now → budget.old.steps ≤ budget.new.steps + cost_of chain.now }
 {
     let numbers = Numbers {
         first: nr,

@@ -3,18 +3,20 @@ ghost use Rattle.std.specs.Prelude.{ℕ, List, [], ◌∷◌, ◌++◌, ◌≡�
 ghost use Rattle.std.specs.List.{All};
 ghost use Rattle.std.specs.List.Sorted.{IsNonDecreasing};
 ghost use Rattle.sk_insn.specs.declared.insn.Insn.{Insn};
-ghost use Rattle.sk_call_names.specs.Names.{name_on};
+ghost use Rattle.sk_names.specs.Names.{name_on};
 ghost use Rattle.sk_survey.specs.Cutting.{IsCutRound};
 ghost use Rattle.sk_conditions.specs.declared.standing.Relation.{Relation};
 ghost use Rattle.sk_conditions.specs.Followed.{AreFollowed};
+ghost use Rattle.sk_conditions.specs.Steps.{BothGoOneWay, NeverPart};
 ghost use Rattle.sk_when.specs.Pieces.{AreCompared, Holds, ArePartsOfOne, AreAlike, AreDecided, IsNamed, NamedAreAlone, NamedAreAloneIn};
 
 use crate::parts::piece_of;
 use crate::piece::{Calls, Outcome, Part, Piece};
 use crate::same_filters::have_same_filters;
-use sk_call_names::{Architecture, name, numbers};
+use crate::showing::STEPS_A_LOOK;
 use sk_conditions::{Budgets, Comparing, Numbers, Relation};
 use sk_filter::Chain;
+use sk_names::{Architecture, name, numbers};
 use sk_survey::cuts::cuts;
 use std::alloc::{AllocError, Global};
 
@@ -32,6 +34,7 @@ pub fn pieces(
     ensures decided { IfOk result (λ pieces. All AreFollowed old.now → All AreFollowed new.now → budgets.new.is_spent ≡ false
         → All AreDecided pieces.items) }
     ensures same { IfOk result (λ pieces. old.now ≡ new.now → All AreDecided pieces.items) }
+    ensures one_way { NeverPart 0 (2 ^ 32) old.now → NeverPart 0 (2 ^ 32) new.now → budgets.old.is_spent ≡ false → budgets.new.is_spent ≡ false }
 {
     let are_same = have_same_filters(old, new);
     let beginnings = beginnings(alloc, architecture, old, new)?;
@@ -79,6 +82,8 @@ fn push_pieces(
     ensures decided { IfOk result (λ first. All AreFollowed chains.entry.old.now → All AreFollowed chains.entry.new.now → budgets.new.is_spent ≡ false
         → All AreDecided pieces.new.items) }
     ensures same { IfOk result (λ first. IsTrue are_same → All AreDecided pieces.new.items) }
+    ensures one_way { NeverPart 0 (2 ^ 32) chains.entry.old.now → NeverPart 0 (2 ^ 32) chains.entry.new.now → budgets.old.is_spent ≡ false
+        → budgets.new.is_spent ≡ false }
     ensures passed { IfOk result (λ first. All (λ beginning. beginning ≤ first) beginnings.now) }
 {
     let mut first = 0u32;
@@ -118,6 +123,7 @@ fn push_piece(
         → (budgets.old.is_spent ≡ false → All AreDecided pieces.old.items) → budgets.new.is_spent ≡ false
         → All AreDecided pieces.new.items) }
     ensures same { OnOk result (IsTrue are_same → All AreDecided pieces.old.items → All AreDecided pieces.new.items) }
+    ensures one_way { BothGoOneWay chains.entry → budgets.old.is_spent ≡ false → budgets.new.is_spent ≡ false }
 {
     let piece = next_piece(alloc, chains, are_same, budgets)?;
     push(pieces, architecture, piece)
@@ -138,13 +144,16 @@ fn next_piece(
         → budgets.new.is_spent ≡ false → AreDecided piece) }
     ensures same { IfOk result (λ piece. IsTrue are_same → AreDecided piece) }
     ensures spent { budgets.new.is_spent ≡ false → budgets.old.is_spent ≡ false }
+    ensures one_way { BothGoOneWay chains.entry → budgets.old.is_spent ≡ false → budgets.new.is_spent ≡ false }
 {
     if are_same {
         return Ok(without_parts(alloc, chains.numbers));
     }
-    let mut row = budgets.row();
-    let piece = piece_of(alloc, chains, &mut row)?;
-    budgets.put_back(row);
+    // A step to compare, one look, and a step that is left.
+    let least = u64::from(chains.old.cost()) + u64::from(chains.new.cost()) + STEPS_A_LOOK + 2;
+    let mut left = budgets.row(least);
+    let piece = piece_of(alloc, chains, &mut left)?;
+    budgets.put_back(left);
     Ok(piece)
 }
 

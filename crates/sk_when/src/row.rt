@@ -3,6 +3,7 @@ ghost use Rattle.std.specs.Prelude.{◌≡◌, ◌≤◌, true, false, [], ◌�
 ghost use Rattle.std.specs.List.{All};
 ghost use Rattle.sk_survey.specs.Answers.{ChainAnswersAmong, answers_of};
 ghost use Rattle.sk_conditions.specs.Followed.{AreFollowed};
+ghost use Rattle.sk_conditions.specs.Steps.{GoOneWay};
 ghost use Rattle.sk_when.specs.Lines.{IsExact, IsMet, IsTold};
 
 use sk_conditions::{Budgets, Numbers, chain_tree};
@@ -33,6 +34,7 @@ pub fn conditions_of_row(
     ensures met { IfOk result (IsMet chain.now) }
     ensures exact { IfOk result (λ told. All AreFollowed chain.now → budgets.new.is_spent ≡ false → IsExact chain.now told) }
     ensures spent { budgets.new.is_spent ≡ false → budgets.old.is_spent ≡ false }
+    ensures one_way { All (GoOneWay row.first row.last) chain.now → budgets.old.is_spent ≡ false → budgets.new.is_spent ≡ false }
 {
     if let Some(value) = only_answer(&row.answers) {
         return Ok(ConditionalRow {
@@ -45,7 +47,7 @@ pub fn conditions_of_row(
         first: row.first,
         last: row.last,
     };
-    let mut left = budgets.row();
+    let mut left = budgets.row(u64::from(chain.cost()) + 1);
     let tree = chain_tree(alloc, chain, numbers, &mut left)?;
     budgets.put_back(left);
     let decision = decide(alloc, &tree)?;

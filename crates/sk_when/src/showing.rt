@@ -1,5 +1,5 @@
 //! Calls that show a difference.
-ghost use Rattle.std.specs.Prelude.{◌≡◌, ◌≤◌, ◌<◌, true, length, slice_index_or, IfSome, IsSome};
+ghost use Rattle.std.specs.Prelude.{◌≡◌, ◌+◌, ◌*◌, ◌≤◌, ◌<◌, true, length, slice_index_or, IfSome, IsSome};
 ghost use Rattle.std.specs.List.{Contains, list_any};
 ghost use Rattle.sk_insn.specs.declared.record.Record.{Record};
 ghost use Rattle.sk_terms.specs.Lines.{meets_line, IsMetBy};
@@ -11,7 +11,7 @@ use sk_insn::Record;
 use sk_terms::{Line, meets};
 
 /// The steps that it takes to see whether a call meets a line.
-const STEPS_A_LOOK: u64 = 64;
+pub const STEPS_A_LOOK: u64 = 64;
 
 /// Whether a part shows a call.
 pub fn any_shown(parts: &[Part]) -> bool
@@ -42,6 +42,7 @@ pub fn shown_among(
     ensures meets { IfSome result (λ call. meets_line line.now call ≡ true) }
     ensures found { IsMetBy calls.now line.now → 0 < budget.new.steps → IsSome result }
     ensures left { budget.new.steps ≤ budget.old.steps }
+    ensures few { budget.old.steps ≤ budget.new.steps + 64 * length calls.now }
 {
     let middle = calls.len().min(*from);
     if let Some(at) = place_among(line, &calls[middle..], budget) {
@@ -61,6 +62,7 @@ fn place_among(line: &Line, calls: &[Record], budget: &mut Budget) -> Option<usi
     ensures meets { IfSome result (λ at. (other : Record) → meets_line line.now (slice_index_or calls.now at other) ≡ true) }
     ensures found { IsMetBy calls.now line.now → 0 < budget.new.steps → IsSome result }
     ensures left { budget.new.steps ≤ budget.old.steps }
+    ensures few { budget.old.steps ≤ budget.new.steps + 64 * length calls.now }
 {
     for (at, call) in calls.iter().enumerate() {
         if !budget.take(STEPS_A_LOOK) {

@@ -3,19 +3,22 @@ ghost use Rattle.std.specs.Prelude.{◌≡◌, false, IfOk, map, string_bytes};
 ghost use Rattle.std.specs.List.{All};
 ghost use Rattle.sk_when.specs.Telling.{TellsWhen, AreTold, IsSurveyed, row_told};
 ghost use Rattle.sk_conditions.specs.Followed.{AreFollowed};
+ghost use Rattle.sk_conditions.specs.Steps.{GoOneWay, NeverPart};
+ghost use Rattle.sk_show.specs.Lines.{end_told, first_told};
 ghost use Rattle.sk_when.specs.Lines.{IsExact, IsMet, IsTold};
 
 use crate::row::{ConditionalRow, conditions_of_row};
 use crate::when_text::when_text;
-use sk_call_names::Architecture;
 use sk_conditions::Budgets;
 use sk_filter::Chain;
+use sk_names::Architecture;
+use sk_show::rows_of;
 use sk_survey::Row;
-use sk_survey_lines::rows_of;
 use std::alloc::{AllocError, Global};
 
 /// Tells under which conditions on a call each verdict of the chain comes, for every call or for the one with a number. Calls
-/// have the names that they have on the architecture. Nothing bounds from above how many of the steps it takes.
+/// have the names that they have on the architecture. Where the calls of each row go one way through each filter, no row uses
+/// its steps up. How many it takes where they part is not bounded from above.
 pub fn when(
     alloc: Global,
     architecture: Architecture,
@@ -24,6 +27,7 @@ pub fn when(
     budgets: &mut Budgets,
 ) -> Result<String, AllocError>
     ensures text { IfOk result (λ text. TellsWhen architecture call chain.now budgets.new.is_spent (string_bytes text)) }
+    ensures one_way { NeverPart (first_told call) (end_told call) chain.now → budgets.old.is_spent ≡ false → budgets.new.is_spent ≡ false }
 {
     let rows = told_rows(alloc, architecture, chain, call, budgets)?;
     when_text(alloc, architecture, &rows)
@@ -38,6 +42,7 @@ fn told_rows(
     budgets: &mut Budgets,
 ) -> Result<Vec<ConditionalRow>, AllocError>
     ensures told { IfOk result (λ rows. AreTold architecture call chain.now budgets.new.is_spent rows.items) }
+    ensures one_way { NeverPart (first_told call) (end_told call) chain.now → budgets.old.is_spent ≡ false → budgets.new.is_spent ≡ false }
 {
     let rows = rows_of(alloc, architecture, call, chain)?;
     tell_all(alloc, chain, rows, budgets)
@@ -54,6 +59,7 @@ fn tell_all(
     ensures told { IfOk result (λ told. All (IsTold chain.now) told.items) }
     ensures met { IfOk result (λ told. All (IsMet chain.now) told.items) }
     ensures exact { IfOk result (λ told. All AreFollowed chain.now → budgets.new.is_spent ≡ false → All (IsExact chain.now) told.items) }
+    ensures one_way { All (λ row. All (GoOneWay row.first row.last) chain.now) rows.items → budgets.old.is_spent ≡ false → budgets.new.is_spent ≡ false }
 {
     let mut told = Vec::with_capacity(alloc, rows.len())?;
     for row in rows {

@@ -5,10 +5,10 @@ ghost use Rattle.sk_when.specs.WhenText.{value_text, before_text, line_text, end
 
 use crate::filling::push_filled;
 use crate::row::ConditionalRow;
-use sk_call_names::Architecture;
 use sk_filter::push_verdict;
+use sk_names::Architecture;
+use sk_show::{name_of_numbers, push_answers, push_numbers};
 use sk_survey::Answers;
-use sk_survey_lines::{name_of_numbers, push_answers, push_numbers};
 use sk_terms::Line;
 use std::alloc::{AllocError, Global};
 

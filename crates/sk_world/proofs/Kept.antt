@@ -3,8 +3,8 @@ use Rattle.std.proofs.Common.{◌≡◌, ◌≢◌, ◌≤◌, ◌==◌, ℕ, sy
 use Rattle.std.proofs.Common.{lit≤}
 use Rattle.std.specs.Option.{is_some}
 use Rattle.std.proofs.lemmas.Bool.{false≢true, cond_both}
-use Rattle.sk_signal.specs.declared.number.TheConstants.{SIGCHLD, SIGCONT}
-use Rattle.sk_signal.specs.Generation.{generated, forced as sigsys_forced}
+use Rattle.sk_world.specs.declared.signals.TheConstants.{SIGCHLD, SIGCONT}
+use Rattle.sk_world.specs.Generation.{generated, forced as sigsys_forced}
 use Rattle.sk_world.specs.declared.process.TheConstants.{INIT, LAST_PID}
 use Rattle.sk_world.specs.declared.process.Life.TheVariants.{Running}
 use Rattle.sk_world.specs.declared.process.Note.TheVariants.{Continued}

@@ -2,7 +2,7 @@
 use Rattle.std.proofs.Common.{◌≡◌, ◌≢◌, ◌∙◌, ◌+◌, ◌≤◌, ◌==◌, ℕ, arith, ap, sym, refl, subst, Bool, true, cond, not, ◌&&◌, List, [], ◌∷◌, length, ◌⊎◌, inl, inr, IsTrue, Option, None, Some}
 use Rattle.std.specs.Option.{is_some, option_map, option_and_then}
 use Rattle.std.proofs.lemmas.Bool.{eqb-true, eqb-false, false≢true, and_parts, and_from, not-true, not-false, ne_eqb, cond_both, cond-false}
-use Rattle.sk_signal.specs.declared.number.TheConstants.{SIGCHLD, SIGCONT}
+use Rattle.sk_world.specs.declared.signals.TheConstants.{SIGCHLD, SIGCONT}
 use Rattle.sk_world.specs.declared.process.TheConstants.{INIT, LAST_PID}
 use Rattle.sk_world.specs.declared.process.Life.TheVariants.{Zombie}
 use Rattle.sk_world.specs.declared.process.Body.{Body}

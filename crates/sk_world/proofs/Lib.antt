@@ -14,3 +14,14 @@ pub mod Bodies
 pub mod Partly
 pub mod Polling
 pub mod Walks
+pub mod SignalSets
+pub mod SetLaws
+pub mod Frames
+pub mod SignalsReady
+pub mod SignalLaws
+pub mod WorkedSignals
+pub mod Members
+pub mod Summing
+pub mod Marking
+pub mod Rows
+pub mod Same

@@ -2,10 +2,10 @@
 use Rattle.std.specs.Prelude.{ℕ, ◌==◌, Bool, false, not, ◌&&◌, if◌then◌else◌, Option, None, Some}
 use Rattle.std.specs.Option.{option_map_or}
 use Rattle.std.specs.List.{list_any}
-use Rattle.sk_signal.specs.declared.number.TheConstants.{SIGCHLD}
-use Rattle.sk_signal.specs.Actions.{is_ignore}
-use Rattle.sk_signal.specs.SignalState.{disposition_of}
-use Rattle.sk_signal.specs.Signalling.{cleared}
+use Rattle.sk_world.specs.declared.signals.TheConstants.{SIGCHLD}
+use Rattle.sk_world.specs.Actions.{is_ignore}
+use Rattle.sk_world.specs.SignalState.{disposition_of}
+use Rattle.sk_world.specs.Signalling.{cleared}
 use Rattle.sk_world.specs.declared.process.TheConstants.{INIT}
 use Rattle.sk_world.specs.declared.process.Life.TheVariants.{Zombie}
 use Rattle.sk_world.specs.declared.process.Waiting.TheVariants as waiting
@@ -39,7 +39,7 @@ abbrev pub has_zombie_child : World → ℕ → Bool
 has_zombie_child w pid = list_any (λ k. is_child_of pid (at w k) && is_zombie (at w k)) (pids w.procs)
 
 -- the children of a process are handed on, and each zombie among them that has not gone is announced to the new
--- parent: once for all, since a signal that is pending is not queued (sk_machine_laws, EachZombieIsAnnounced)
+-- parent: once for all, since a signal that is pending is not queued (sk_laws, EachZombieIsAnnounced)
 abbrev pub reparented : World → ℕ → World
 reparented w pid =
     if has_zombie_child w pid && not (ignores_children (at w (new_parent w pid)))

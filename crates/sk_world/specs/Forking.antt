@@ -3,7 +3,7 @@ use Rattle.std.specs.Prelude.{ℕ, ◌==◌, Bool, false, not, nat_lt, if◌then
 use Rattle.std.specs.Option.{option_map_or}
 use Rattle.sk_world.specs.declared.errno.Errno.{Errno}
 use Rattle.sk_world.specs.declared.errno.Errno.TheVariants.{Eagain}
-use Rattle.sk_signal.specs.Signalling.{forked as signals_forked}
+use Rattle.sk_world.specs.Signalling.{forked as signals_forked}
 use Rattle.sk_world.specs.declared.process.TheConstants.{PROCESSES}
 use Rattle.sk_world.specs.declared.process.Life.TheVariants.{Running}
 use Rattle.sk_world.specs.declared.process.Waiting.TheVariants as waiting

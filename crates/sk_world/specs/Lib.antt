@@ -11,3 +11,14 @@ pub mod Subreapers
 pub mod Ending
 pub mod Waits
 pub mod views
+pub mod Sets
+pub mod SignalSet
+pub mod Actions
+pub mod SignalState
+pub mod Generation
+pub mod Delivery
+pub mod Signalling
+pub mod NumberSets
+pub mod Summary
+pub mod Pairs
+pub mod RowView

@@ -1,8 +1,8 @@
 -- How a signal is sent to a process: kill(2), signal(7), and POSIX.1-2017, 2.4.1 "Signal Generation and
 -- Delivery"; and how SIGSYS is forced on one: seccomp(2).
 use Rattle.std.specs.Prelude.{ℕ, ◌==◌, Bool, ◌&&◌, if◌then◌else◌, List, [], ◌∷◌}
-use Rattle.sk_signal.specs.declared.number.TheConstants.{SIGCHLD, SIGCONT}
-use Rattle.sk_signal.specs.Generation.{generated, forced as sigsys_forced}
+use Rattle.sk_world.specs.declared.signals.TheConstants.{SIGCHLD, SIGCONT}
+use Rattle.sk_world.specs.Generation.{generated, forced as sigsys_forced}
 use Rattle.sk_world.specs.declared.process.TheConstants.{INIT}
 use Rattle.sk_world.specs.declared.process.Life.TheVariants.{Running}
 use Rattle.sk_world.specs.declared.process.Note.TheVariants.{Continued}

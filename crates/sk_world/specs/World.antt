@@ -1,7 +1,7 @@
 -- The world, what can be asked about a process of it, and the words that its changes are made of.
 use Rattle.std.specs.Prelude.{ℕ, ◌≡◌, ◌<◌, ◌==◌, Bool, true, false, not, IsTrue, [], Option, None, Some}
 use Rattle.std.specs.Option.{option_map, option_map_or}
-use Rattle.sk_signal.specs.Signalling.{opening as no_signal}
+use Rattle.sk_world.specs.Signalling.{opening as no_signal}
 use Rattle.sk_world.specs.declared.process.TheConstants.{INIT}
 use Rattle.sk_world.specs.declared.process.Life.{Life}
 use Rattle.sk_world.specs.declared.process.Life.TheVariants.{Running, Stopped, Zombie}

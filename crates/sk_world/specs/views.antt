@@ -1,1 +1,4 @@
 pub mod WorldCode
+pub mod Members
+pub mod SignalBits
+pub mod StateView

@@ -11,9 +11,9 @@ ghost use Rattle.sk_world.specs.Ending.{handed_on, ignores_children, has_zombie_
 use crate::asking::parent_of;
 use crate::process::{Body, INIT, Life, Links, Note, Waiting};
 use crate::sending::send;
+use crate::signals::SIGCHLD;
 use crate::store::ProcStore;
 use crate::subreapers::reaper;
-use sk_signal::number::SIGCHLD;
 
 /// Ends a process with this status: exit(2). The end of process 1 halts the system.
 pub fn end<S: ProcStore>(store: &mut S, pid: u32, status: u32)

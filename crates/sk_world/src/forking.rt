@@ -10,7 +10,7 @@ use crate::store::ProcStore;
 use std::alloc::AllocError;
 
 /// Forks a process: fork(2). The child shares the filters. The contract lets a refusal through only where there is
-/// room and the process has filters, and nothing is changed then; the run of `sk_forks`, 1000 forks of a process
+/// room and the process has filters, and nothing is changed then; the run of `sk_bench`, 1000 forks of a process
 /// with 6554 filters, shows that none comes.
 pub fn fork<S: ProcStore>(store: &mut S, caller: u32) -> Result<Result<u32, Errno>, AllocError>
     requires world { IsWorld (S.contents store.old) }

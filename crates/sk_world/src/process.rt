@@ -1,10 +1,9 @@
 //! Processes, with their links and their bodies, and how many there are at most.
 ghost use Rattle.std.specs.Prelude.{◌≡◌};
 
-use crate::Creds;
 use crate::request::Request;
+use crate::{Creds, SigState};
 use sk_filter::Chain;
-use sk_signal::SigState;
 
 /// The process that the system starts with.
 pub const INIT: u32 = 1;

@@ -1,13 +1,13 @@
 //! How a signal is sent: it is generated at its process, which SIGCONT continues.
 ghost use Rattle.std.specs.Prelude.{◌≡◌};
-ghost use Rattle.sk_signal.specs.SignalSet.{IsSignal};
+ghost use Rattle.sk_world.specs.SignalSet.{IsSignal};
 ghost use Rattle.sk_world.specs.Rules.{IsWorld};
 ghost use Rattle.sk_world.specs.Sending.{signalled, generated_at, sent};
 
 use crate::asking::{is_stopped, parent_of};
 use crate::process::{Body, INIT, Life, Note};
+use crate::signals::{SIGCHLD, SIGCONT};
 use crate::store::ProcStore;
-use sk_signal::number::{SIGCHLD, SIGCONT};
 
 /// Sends a signal to a process, as kill(2) does. Nothing comes of it where the process is not there or is a zombie. A
 /// stopped process continues by SIGCONT, which is announced to its parent.

@@ -1,8 +1,8 @@
 //! The program `skern`, over the standard streams.
 #![tactic(auto)]
 
-use sk_io::Counted;
 use sk_run::{CommandFault, FAILED, command, failed, finish, words_of};
+use sk_text::Counted;
 use std::io;
 use std::io::{BufWriter, ErrorKind};
 use std::process::ExitCode;

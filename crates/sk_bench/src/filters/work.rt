@@ -5,8 +5,8 @@ ghost use Rattle.sk_insn.specs.declared.insn.Insn.{Insn};
 use super::task::{Task, Work};
 use super::total::Total;
 use crate::fault::Fault;
-use crate::programs::program_of;
-use sk_filter::{Chain, ChainFault, Checked, run};
+use crate::programs::{attached, program_of};
+use sk_filter::{Chain, Checked, run};
 use sk_insn::{Insn, Record, read_insns};
 use std::alloc::Global;
 
@@ -147,11 +147,7 @@ fn chain_of(alloc: Global, images: &[Vec<u8>]) -> Result<Chain, Fault>
 {
     let mut chain = Chain::empty(alloc);
     for image in images {
-        chain = match chain.attach(program_of(alloc, image)?) {
-            Ok(longer) => longer,
-            Err((_, _, ChainFault::PathLimit)) => return Err(Fault::Refused),
-            Err((_, _, ChainFault::Memory)) => return Err(Fault::Memory),
-        };
+        chain = attached(chain, program_of(alloc, image)?)?;
     }
     Ok(chain)
 }

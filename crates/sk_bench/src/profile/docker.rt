@@ -55,13 +55,14 @@ pub fn profile(alloc: Global) -> Result<Profile, AllocError> {
     let mut rules = Vec::new(alloc);
     push_allowed(alloc, &mut rules)?;
     for value in PERSONALITIES {
-        rules.push(allowed_if(alloc, PERSONALITY, Test::Is, value)?)?;
+        rules.push(allowed_if(alloc, 1, PERSONALITY, Test::Is, value)?)?;
     }
-    rules.push(allowed_if(alloc, CLONE, Test::Masked(NAMESPACES), 0)?)?;
+    rules.push(allowed_if(alloc, 2, CLONE, Test::Masked(NAMESPACES), 0)?)?;
     rules.push(Rule {
         number: CLONE3,
         conditions: Vec::new(alloc),
         value: ENOSYS,
+        entry: 3,
     })?;
     Ok(Profile {
         rules,
@@ -78,13 +79,20 @@ fn push_allowed(alloc: Global, rules: &mut Vec<Rule>) -> Result<(), AllocError> 
             number,
             conditions: Vec::new(alloc),
             value: ALLOW,
+            entry: 0,
         })?;
     }
     Ok(())
 }
 
 // A rule for a call whose first argument is compared.
-fn allowed_if(alloc: Global, number: u32, test: Test, value: u64) -> Result<Rule, AllocError> {
+fn allowed_if(
+    alloc: Global,
+    entry: usize,
+    number: u32,
+    test: Test,
+    value: u64,
+) -> Result<Rule, AllocError> {
     let mut conditions = Vec::new(alloc);
     conditions.push(Condition {
         index: 0,
@@ -95,6 +103,7 @@ fn allowed_if(alloc: Global, number: u32, test: Test, value: u64) -> Result<Rule
         number,
         conditions,
         value: ALLOW,
+        entry,
     })
 }
 

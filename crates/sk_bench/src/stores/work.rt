@@ -67,7 +67,8 @@ fn walked<S: ProcStore>(store: &S, rounds: u32) -> u32 {
     sum
 }
 
-fn child_of_init<S: ProcStore>(store: &mut S) -> Result<u32, Fault>
+/// Forks process 1, and answers the child's pid.
+pub fn child_of_init<S: ProcStore>(store: &mut S) -> Result<u32, Fault>
     requires { IsWorld (S.contents store.old) }
     ensures { IfOk result (λ _. IsWorld (S.contents store.new)) }
 {
@@ -80,16 +81,17 @@ fn child_of_init<S: ProcStore>(store: &mut S) -> Result<u32, Fault>
     }
 }
 
-fn take_out<S: ProcStore>(store: &mut S, pid: u32) -> Result<(), Fault>
+/// Ends a child that lives, and takes it out.
+pub fn take_out<S: ProcStore>(store: &mut S, pid: u32) -> Result<(), Fault>
     requires { IsWorld (S.contents store.old) }
     ensures { IfOk result (λ _. IsWorld (S.contents store.new)) }
 {
     if pid == INIT || !is_alive(store, pid) {
-        return Err(Fault::NoRoom);
+        return Err(Fault::NoChild);
     }
     end(store, pid, 0);
     if !is_zombie(store, pid) {
-        return Err(Fault::NoRoom);
+        return Err(Fault::NoChild);
     }
     reap(store, pid);
     Ok(())

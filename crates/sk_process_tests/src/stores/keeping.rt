@@ -1,6 +1,5 @@
 //! What each store keeps of the processes that are put in, moved and taken out, and which pids it gives.
-use crate::stores::testing::{has_no_room, insert, is_executed, links, set_executed};
-use crate::world::{fork_of, opening};
+use crate::stores::testing::{insert, is_executed, links, set_executed};
 use sk_table::{INIT, LAST_PID, ListStore, ProcStore, SlotStore};
 use std::process::Abort;
 use std::test::Fail;
@@ -18,7 +17,6 @@ fn slots_keep_processes(rt: HostRuntime) -> Result<(), Fail> {
 fn rows<S: ProcStore, R: Abort + AllocGlobal>(rt: &R) -> Result<(), Fail> {
     fresh_passes_over_groups_and_goes_round::<S, R>(rt)?;
     store_keeps_three_processes::<S, R>(rt)?;
-    init_forks_until_there_is_no_room::<S, R>(rt)?;
     Ok(())
 }
 
@@ -88,16 +86,4 @@ fn takes_one_of_them_out<S: ProcStore>(rt: &impl Abort, store: &mut S) {
     assert!(rt; store.remove(5) && !store.remove(5) && store.get(5).is_none());
     assert!(rt; store.used(5) && store.used(9) && !store.used(7));
     assert_eq!(rt; store.count(), 2);
-}
-
-fn init_forks_until_there_is_no_room<S: ProcStore, R: Abort + AllocGlobal>(
-    rt: &R,
-) -> Result<(), Fail> {
-    let mut store = opening::<S>(rt.alloc())?;
-    for pid in 2..=1024 {
-        assert_eq!(rt; fork_of(rt, &mut store, INIT)?, pid);
-    }
-    assert!(rt; has_no_room(rt, &mut store, INIT)?);
-    assert_eq!(rt; (store.count(), store.last()), (1024, 1024));
-    Ok(())
 }

@@ -4,12 +4,12 @@ use crate::stores::testing::{is_subreaper, mark, on_sigchld, reap_of, reparent_o
 use crate::world::{
     after_forks, end_of, fork_of, forks_of, life, note, opening, parent, pending, stop,
 };
-use sk_signal::number::{SIGCHLD, SIGCONT, SIGTERM, SIGTSTP};
-use sk_signal::{Disposition, SigSet};
 use sk_table::{
     INIT, Life, ListStore, Note, Poll, ProcStore, Request, SlotStore, WaitOptions, Who, ready,
     reaper, send,
 };
+use sk_world::SigSet;
+use sk_world::signals::{SIGCHLD, SIGCONT, SIGTERM, SIGTSTP};
 use std::process::Abort;
 use std::test::Fail;
 
@@ -25,17 +25,10 @@ fn rows_hold_over_slots(rt: HostRuntime) -> Result<(), Fail> {
 
 fn rows<S: ProcStore, R: Abort + AllocGlobal>(rt: &R) -> Result<(), Fail> {
     sigcont_continues_and_is_told_once::<S, R>(rt)?;
-    stop_is_told_to_wuntraced_once::<S, R>(rt)?;
-    continuing_is_announced_to_the_parent::<S, R>(rt)?;
-    process_1_and_zombies_take_no_signal::<S, R>(rt)?;
     handed_on_zombie_is_announced_to_process_1::<S, R>(rt)?;
     orphans_go_to_the_nearest_subreaper::<S, R>(rt)?;
     zombie_is_announced_to_the_subreaper::<S, R>(rt)?;
-    handed_on_zombie_goes_under_an_ignored_sigchld::<S, R>(rt)?;
     end_is_told_and_then_nobody_matches::<S, R>(rt)?;
-    end_of_process_1_hands_no_children_on::<S, R>(rt)?;
-    nobody_is_told_of_where_nobody_is_ready::<S, R>(rt)?;
-    lowest_ready_child_is_told::<S, R>(rt)?;
     zombie_is_reaped::<S, R>(rt)?;
     Ok(())
 }
@@ -64,73 +57,6 @@ fn sigcont_continues_and_is_told_once<S: ProcStore, R: Abort + AllocGlobal>(
     assert_eq!(rt;
         wait_of(rt, &mut store, INIT, Who::Any, all),
         Poll::NotReady
-    );
-    Ok(())
-}
-
-fn stop_is_told_to_wuntraced_once<S: ProcStore, R: Abort + AllocGlobal>(
-    rt: &R,
-) -> Result<(), Fail> {
-    let mut store: S = after_forks(rt, &[INIT])?;
-    stop(&mut store, 2, SIGTSTP);
-    let continues = WaitOptions::WNOHANG | WaitOptions::WCONTINUED;
-    let stops = WaitOptions::WUNTRACED;
-    let stopped = Poll::Told {
-        pid: 2,
-        status: 0x147f,
-    };
-    assert_eq!(rt;
-        (
-            wait_of(rt, &mut store, INIT, Who::Any, continues),
-            wait_of(rt, &mut store, INIT, Who::Any, stops),
-            wait_of(rt, &mut store, INIT, Who::Any, stops)
-        ),
-        (Poll::NotReady, stopped, Poll::NotReady)
-    );
-    assert_eq!(rt; life(&store, 2), Some(Life::Stopped));
-    Ok(())
-}
-
-fn continuing_is_announced_to_the_parent<S: ProcStore, R: Abort + AllocGlobal>(
-    rt: &R,
-) -> Result<(), Fail> {
-    let mut store: S = after_forks(rt, &[INIT, 2])?;
-    on_sigchld(&mut store, 2, handler(), true);
-    send(&mut store, 3, SIGCONT);
-    assert_eq!(rt;
-        (note(&store, 3), pending(&store, 2)),
-        (Some(Note::Nothing), Some(SigSet::empty()))
-    );
-    stop(&mut store, 3, SIGTSTP);
-    send(&mut store, 3, SIGCONT);
-    assert_eq!(rt;
-        (pending(&store, 2), pending(&store, INIT)),
-        (Some(SigSet::empty().with(SIGCHLD)), Some(SigSet::empty()))
-    );
-    Ok(())
-}
-
-fn process_1_and_zombies_take_no_signal<S: ProcStore, R: Abort + AllocGlobal>(
-    rt: &R,
-) -> Result<(), Fail> {
-    let mut store: S = after_forks(rt, &[INIT, INIT])?;
-    end_of(rt, &mut store, 3, 9);
-    for pid in [INIT, 2, 3, 4] {
-        send(&mut store, pid, SIGTERM);
-    }
-    assert_eq!(rt;
-        (
-            pending(&store, INIT),
-            pending(&store, 2),
-            pending(&store, 3),
-            pending(&store, 4)
-        ),
-        (
-            Some(SigSet::empty()),
-            Some(SigSet::empty().with(SIGTERM)),
-            Some(SigSet::empty()),
-            None
-        )
     );
     Ok(())
 }
@@ -214,25 +140,6 @@ fn zombie_is_announced_to_the_subreaper<S: ProcStore, R: Abort + AllocGlobal>(
     Ok(())
 }
 
-fn handed_on_zombie_goes_under_an_ignored_sigchld<S: ProcStore, R: Abort + AllocGlobal>(
-    rt: &R,
-) -> Result<(), Fail> {
-    let mut store = opening::<S>(rt.alloc())?;
-    on_sigchld(&mut store, INIT, Disposition::Ignore, true);
-    fork_of(rt, &mut store, INIT)?;
-    on_sigchld(&mut store, 2, Disposition::Default, false);
-    forks_of(rt, &mut store, &[2, 2])?;
-    end_of(rt, &mut store, 3, 9);
-    assert_eq!(rt; life(&store, 3), Some(Life::Zombie(9)));
-    end_of(rt, &mut store, 2, 0x100);
-    assert_eq!(rt; (life(&store, 2), life(&store, 3)), (None, None));
-    assert_eq!(rt;
-        (parent(&store, 4), pending(&store, INIT)),
-        (Some(INIT), Some(SigSet::empty()))
-    );
-    Ok(())
-}
-
 fn end_is_told_and_then_nobody_matches<S: ProcStore, R: Abort + AllocGlobal>(
     rt: &R,
 ) -> Result<(), Fail> {
@@ -257,64 +164,6 @@ fn end_is_told_and_then_nobody_matches<S: ProcStore, R: Abort + AllocGlobal>(
         ),
         (Poll::Told { pid: 2, status: 9 }, Poll::NoMatch)
     );
-    Ok(())
-}
-
-fn end_of_process_1_hands_no_children_on<S: ProcStore, R: Abort + AllocGlobal>(
-    rt: &R,
-) -> Result<(), Fail> {
-    let mut store: S = after_forks(rt, &[INIT])?;
-    end_of(rt, &mut store, INIT, 11);
-    assert_eq!(rt;
-        (life(&store, INIT), life(&store, 2), parent(&store, 2)),
-        (Some(Life::Zombie(11)), Some(Life::Running), Some(INIT))
-    );
-    Ok(())
-}
-
-fn nobody_is_told_of_where_nobody_is_ready<S: ProcStore, R: Abort + AllocGlobal>(
-    rt: &R,
-) -> Result<(), Fail> {
-    let mut store = opening::<S>(rt.alloc())?;
-    assert_eq!(rt;
-        wait_of(rt, &mut store, INIT, Who::Any, WaitOptions::WNOHANG),
-        Poll::NoMatch
-    );
-    forks_of(rt, &mut store, &[INIT, 2])?;
-    end_of(rt, &mut store, 3, 9);
-    let rows = [
-        (INIT, Who::Any, Poll::NotReady),
-        (INIT, Who::Child(2), Poll::NotReady),
-        (INIT, Who::Group(INIT), Poll::NotReady),
-        (INIT, Who::Child(3), Poll::NoMatch),
-        (INIT, Who::Child(7), Poll::NoMatch),
-        (INIT, Who::Group(2), Poll::NoMatch),
-        (2, Who::Group(INIT), Poll::Told { pid: 3, status: 9 }),
-        (2, Who::Any, Poll::NoMatch),
-    ];
-    for (caller, who, poll) in rows {
-        assert_eq!(rt;
-            wait_of(rt, &mut store, caller, who, WaitOptions::WNOHANG),
-            poll
-        );
-    }
-    Ok(())
-}
-
-fn lowest_ready_child_is_told<S: ProcStore, R: Abort + AllocGlobal>(rt: &R) -> Result<(), Fail> {
-    let mut store: S = after_forks(rt, &[INIT, INIT, INIT])?;
-    end_of(rt, &mut store, 4, 4);
-    end_of(rt, &mut store, 3, 3);
-    for poll in [
-        Poll::Told { pid: 3, status: 3 },
-        Poll::Told { pid: 4, status: 4 },
-        Poll::NotReady,
-    ] {
-        assert_eq!(rt;
-            wait_of(rt, &mut store, INIT, Who::Any, WaitOptions::WNOHANG),
-            poll
-        );
-    }
     Ok(())
 }
 

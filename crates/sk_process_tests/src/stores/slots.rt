@@ -1,9 +1,6 @@
 //! What only the store in slots tells: slots that are used again, and its rows of children and members.
-ghost use Rattle.sk_world.specs.Rules.{IsWorld};
-
-use crate::stores::testing::{insert, is_executed, links, reap_of, set_executed};
-use crate::world::{after_forks, end_of, fork_of, opening};
-use sk_table::{INIT, LAST_PID, PROCESSES, ProcStore, SlotStore};
+use crate::stores::testing::{insert, is_executed, links, set_executed};
+use sk_table::{INIT, ProcStore, SlotStore};
 use std::alloc::AllocError;
 use std::process::Abort;
 use std::test::Fail;
@@ -72,79 +69,5 @@ fn children_and_members_are_lent_in_rising_order(rt: HostRuntime) -> Result<(), 
         &store,
         &[(9, &[(9, 9)]), (INIT, &[(1, 1), (1, 7)]), (7, &[])],
     );
-    Ok(())
-}
-
-// Forks process 1 until there is no room. The children's pids begin with this one.
-fn fill(rt: &impl Abort, store: &mut SlotStore, first: u32) -> Result<(), AllocError>
-    requires { IsWorld store.old.world }
-    ensures { IsWorld store.new.world }
-{
-    assert!(rt; first <= LAST_PID - 1023);
-    for pid in first..first + 1023 {
-        assert_eq!(rt; fork_of(rt, store, INIT)?, pid);
-    }
-    assert_eq!(rt;
-        (store.count(), store.children(INIT).len()),
-        (PROCESSES, 1023)
-    );
-    Ok(())
-}
-
-// Ends the children and takes them out.
-fn empty(rt: &impl Abort, store: &mut SlotStore, first: u32)
-    requires { IsWorld store.old.world }
-    ensures { IsWorld store.new.world }
-{
-    assert!(rt; first <= LAST_PID - 1023);
-    for pid in first..first + 1023 {
-        end_of(rt, store, pid, 0);
-        assert_eq!(rt; reap_of(rt, store, pid), 0);
-    }
-    assert_eq!(rt; (store.count(), store.next_pid(INIT)), (1, None));
-}
-
-#[test]
-fn all_slots_are_used_twice(rt: HostRuntime) -> Result<(), Fail> {
-    let mut store = opening::<SlotStore>(rt.alloc())?;
-    fill(&rt, &mut store, 2)?;
-    empty(&rt, &mut store, 2);
-    fill(&rt, &mut store, 1025)?;
-    empty(&rt, &mut store, 1025);
-    Ok(())
-}
-
-// Forks process 1, and takes the child out, which has this number.
-fn come_and_go(rt: &impl Abort, store: &mut SlotStore, number: u32) -> Result<(), AllocError>
-    requires { IsWorld store.old.world }
-    ensures { IsWorld store.new.world }
-{
-    assert_eq!(rt; fork_of(rt, store, INIT)?, number);
-    end_of(rt, store, number, 0);
-    assert_eq!(rt; reap_of(rt, store, number), 0);
-    Ok(())
-}
-
-// So it does until the last number is given. The first child has this one.
-fn come_and_go_to_the_last(
-    rt: &impl Abort,
-    store: &mut SlotStore,
-    first: u32,
-) -> Result<(), AllocError>
-    requires { IsWorld store.old.world }
-    ensures { IsWorld store.new.world }
-{
-    for number in first..=LAST_PID {
-        come_and_go(rt, store, number)?;
-    }
-    Ok(())
-}
-
-// Process 2 lives on, and process 1 forks until the numbers are all given.
-#[test]
-fn numbers_come_again_after_32765_forks(rt: HostRuntime) -> Result<(), Fail> {
-    let mut store: SlotStore = after_forks(&rt, &[INIT])?;
-    come_and_go_to_the_last(&rt, &mut store, 3)?;
-    assert_eq!(rt; fork_of(&rt, &mut store, INIT)?, 3);
     Ok(())
 }

@@ -4,14 +4,13 @@ ghost use Rattle.std.specs.Prelude.{◌≡◌};
 ghost use Rattle.sk_world.specs.Rules.{IsWorld};
 
 use crate::world::assert_alive;
-use sk_signal::number::SIGCHLD;
-use sk_signal::{Disposition, SigSet};
 use sk_table::{
     Body, INIT, LAST_PID, Life, Links, PROCESSES, Poll, ProcStore, Request, WaitOptions, Who,
-    first_process, fork, reap, reparent, wait_poll,
+    first_process, reap, reparent, wait_poll,
 };
-use sk_world::Errno;
-use std::alloc::{AllocError, Global};
+use sk_world::signals::SIGCHLD;
+use sk_world::{Disposition, SigSet};
+use std::alloc::Global;
 use std::process::Abort;
 
 pub(crate) fn links(parent: u32, group: u32, session: u32) -> Links
@@ -40,19 +39,6 @@ pub(crate) fn insert<S: ProcStore>(
         Some(_) => assert!(rt; false),
         None => store.insert(pid, proc),
     }
-}
-
-/// Whether a fork of a process that lives is refused, since there are as many processes as there can be.
-pub(crate) fn has_no_room<S: ProcStore>(
-    rt: &impl Abort,
-    store: &mut S,
-    pid: u32,
-) -> Result<bool, AllocError>
-    requires { IsWorld (S.contents store.old) }
-    ensures { IsWorld (S.contents store.new) }
-{
-    assert_alive(rt, store, pid);
-    Ok(fork(store, pid)? == Err(Errno::Eagain))
 }
 
 /// Takes a zombie out, and answers its status.

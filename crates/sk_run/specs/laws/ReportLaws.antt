@@ -9,13 +9,13 @@ use Rattle.sk_machine.specs.declared.answer.Answer.TheVariants as answer
 use Rattle.sk_machine.specs.declared.answer.Reason.{Reason}
 use Rattle.sk_machine.specs.Machine.{reason_of, answers_of, world_after, halted_of}
 use Rattle.sk_machine.specs.Turns.{is_runnable}
-use Rattle.sk_machine_laws.specs.RunLaws.{RunIsLawful}
-use Rattle.sk_report.specs.declared.turn.End.{End}
-use Rattle.sk_report.specs.declared.turn.End.TheVariants.{Halt, Idle, Limit}
-use Rattle.sk_report.specs.declared.turn.ReportLine.{ReportLine}
-use Rattle.sk_report.specs.declared.turn.ReportLine.TheVariants as turn
-use Rattle.sk_report.specs.Scheduling.{Scheduled, images_of, event_of}
-use Rattle.sk_report.specs.Report.{Report, report_of}
+use Rattle.sk_laws.specs.RunLaws.{RunIsLawful}
+use Rattle.sk_run.specs.declared.turn.End.{End}
+use Rattle.sk_run.specs.declared.turn.End.TheVariants.{Halt, Idle, Limit}
+use Rattle.sk_run.specs.declared.turn.ReportLine.{ReportLine}
+use Rattle.sk_run.specs.declared.turn.ReportLine.TheVariants as turn
+use Rattle.sk_run.specs.Scheduling.{Scheduled, images_of, event_of}
+use Rattle.sk_run.specs.Report.{Report, report_of}
 
 -- the event that is due to a process that can run is possible, whatever its levels are
 abbrev pub DueIsPossible : Type 0

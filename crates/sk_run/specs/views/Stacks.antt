@@ -1,14 +1,14 @@
 -- The code's levels as the definitions see them.
 use Rattle.std.specs.Prelude.{ℕ, ◌≡◌, ◌<◌, ◌≤◌, Bool, false, ◌==◌, IfSome, Option, List, reverse, slice_get, vec_len, vec_capacity, ⊤}
 use Rattle.std.specs.Option.{is_some, option_map_or}
-use Rattle.sk_calls.specs.declared.syscall.Syscall.TheVariants as syscall
-use Rattle.sk_calls.specs.Syscalls.{number_of}
+use Rattle.sk_names.specs.declared.syscall.Syscall.TheVariants as syscall
+use Rattle.sk_names.specs.Syscalls.{number_of}
 use Rattle.sk_world.specs.declared.process.TheConstants.{LAST_PID}
 use Rattle.sk_machine.specs.declared.answer.Answer.{Answer}
 use Rattle.sk_machine.specs.declared.answer.Answer.TheVariants as answer
 use Rattle.sk_machine.specs.declared.event.Event.{Event}
 use Rattle.sk_machine.specs.declared.event.Event.TheVariants.{Call, Deliver}
-use Rattle.sk_report.specs.Levels.{Stack, Stacks, first_call, alone, pid_in}
+use Rattle.sk_run.specs.Levels.{Stack, Stacks, first_call, alone, pid_in}
 use Rattle.sk_run.specs.declared.levels.Levels.{Levels}
 
 abbrev pub stack_of : Levels → Stack

@@ -1,7 +1,7 @@
 -- What a machine is to its callers: what its scenario says, and what it has come to.
 use Rattle.sk_world.specs.declared.store.ProcStore.{Ghosts}
 use Rattle.sk_scenario.specs.Scenario.{Setting}
-use Rattle.sk_report.specs.Scheduling.{Scheduled}
+use Rattle.sk_run.specs.Scheduling.{Scheduled}
 use Rattle.sk_run.specs.declared.machine.Machine.{Machine}
 use Rattle.sk_run.specs.views.Stacks.{stacks_of}
 

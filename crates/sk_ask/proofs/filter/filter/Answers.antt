@@ -1,5 +1,5 @@
 use Rattle.std.proofs.Common.{inl}
-use Rattle.sk_ask_filters.specs.Finding.{filters_of}
+use Rattle.sk_ask.specs.Finding.{filters_of}
 use Rattle.sk_ask.proofs.filter.filter.Goals as goal
 
 pub returns-clause-told : goal.returns-clause-told

@@ -1,6 +1,6 @@
 use Rattle.std.proofs.Common.{inl, inr}
-use Rattle.sk_ask_filters.specs.Finding.{filters_of}
-use Rattle.sk_ask_filters.proofs.Limits.{judged_within}
+use Rattle.sk_ask.specs.Finding.{filters_of}
+use Rattle.sk_ask.proofs.Limits.{judged_within}
 use Rattle.sk_ask.proofs.Troubles.{handed_on}
 use Rattle.sk_ask.proofs.when.when.Goals as goal
 

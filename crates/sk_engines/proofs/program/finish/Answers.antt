@@ -1,5 +1,5 @@
 use Rattle.std.proofs.Common.{rules, inl, inr, refl}
-use Rattle.sk_io.specs.Counted.{inner_of, failures_of}
+use Rattle.sk_text.specs.Counted.{inner_of, failures_of}
 use Rattle.sk_engines.specs.Program.{device}
 use Rattle.sk_engines.proofs.program.finish.Goals as goal
 

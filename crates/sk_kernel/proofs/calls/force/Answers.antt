@@ -1,5 +1,5 @@
 use Rattle.std.proofs.Common.{◌∙◌, ap}
-use Rattle.sk_signal.specs.Generation.{forced as sigsys_forced}
+use Rattle.sk_world.specs.Generation.{forced as sigsys_forced}
 use Rattle.sk_world.specs.declared.process.Body.{Body}
 use Rattle.sk_world.specs.World.{with_body}
 use Rattle.sk_world.proofs.Bodies.{given_back, nobody_there}

@@ -1,5 +1,5 @@
 use Rattle.std.proofs.Common.{◌-◌, ℕ, IsTrue}
-use Rattle.sk_numbers.specs.Numbers.{contains}
+use Rattle.sk_world.specs.NumberSets.{contains}
 use Rattle.sk_world.specs.World.{at, is_child_of}
 use Rattle.sk_machine.proofs.Ties.{AreTied, HasTies}
 use Rattle.sk_machine.proofs.ending.add_ties_of_children.Given as goal

@@ -1,6 +1,6 @@
 use Rattle.std.proofs.Common.{◌∙◌, ◌&&◌, ap, sym, filter}
 use Rattle.std.proofs.lemmas.Bool.{and_parts}
-use Rattle.sk_numbers.specs.Numbers.{contains}
+use Rattle.sk_world.specs.NumberSets.{contains}
 use Rattle.sk_machine.specs.Orphans.{is_orphaned, has_stopped_member, groups, each_hung_up}
 use Rattle.sk_machine.proofs.Lost.{kept_are_left, stopped_is_group, left_hung_up}
 use Rattle.sk_machine.proofs.ending.end_and_hang_up.Goals as goal

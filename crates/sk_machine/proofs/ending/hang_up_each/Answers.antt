@@ -1,4 +1,4 @@
-use Rattle.sk_numbers.specs.Numbers.{contains}
+use Rattle.sk_world.specs.NumberSets.{contains}
 use Rattle.sk_machine.proofs.Hanging.{hanging_begins, hung_further}
 use Rattle.sk_machine.proofs.ending.hang_up_each.Goals as goal
 

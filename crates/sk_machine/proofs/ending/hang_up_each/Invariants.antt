@@ -1,6 +1,6 @@
 use Rattle.std.proofs.Common.{◌-◌, ◌<◌, IfSome}
 use Rattle.std.specs.Option.{option_map_or}
-use Rattle.sk_numbers.specs.Numbers.{contains}
+use Rattle.sk_world.specs.NumberSets.{contains}
 use Rattle.sk_machine.proofs.Hanging.{IsHungUpTo}
 use Rattle.sk_machine.proofs.ending.hang_up_each.Given as goal
 

@@ -1,7 +1,7 @@
 use Rattle.std.proofs.Common.{refl}
-use Rattle.sk_signal.specs.Sets as set
-use Rattle.sk_signal.specs.SignalSet as numbers
-use Rattle.sk_signal.specs.Signalling as signalling
+use Rattle.sk_world.specs.Sets as set
+use Rattle.sk_world.specs.SignalSet as numbers
+use Rattle.sk_world.specs.Signalling as signalling
 use Rattle.sk_process_tests.proofs.kernel.possible_call_happens.Goals as goal
 
 -- process 1 runs as the system starts, and no signal is due to it

@@ -1,6 +1,6 @@
 -- The loop of `marks`: the marks so far, and those of the programs that are left.
 use Rattle.std.proofs.Common.{◌≡◌, ◌++◌, map, drop}
-use Rattle.sk_report.specs.Scheduling.{mark_of_script}
+use Rattle.sk_run.specs.Scheduling.{mark_of_script}
 use Rattle.sk_run.proofs.machine.marks.Given as goal
 
 abbrev pub invariant-loop-program : goal.invariant-loop-program

@@ -1,8 +1,8 @@
 use Rattle.std.proofs.Common.{◌≡◌, ◌<◌, IsTrue, sym, subst}
 use Rattle.std.specs.Option.{is_some}
 use Rattle.sk_machine.specs.Events.{pid_of}
-use Rattle.sk_report.specs.Scheduling.{line_due}
-use Rattle.sk_report.specs.Levels.{Stacks, stacks_after}
+use Rattle.sk_run.specs.Scheduling.{line_due}
+use Rattle.sk_run.specs.Levels.{Stacks, stacks_after}
 use Rattle.sk_run.specs.views.Stacks.{ChildIsLow, stacks_of}
 use Rattle.sk_run.proofs.Children.{child_is_low}
 use Rattle.sk_run.proofs.making.make.Goals as goal

@@ -1,5 +1,5 @@
 use Rattle.std.proofs.Common.{◌∙◌, ap, refl, sym}
-use Rattle.sk_report.specs.Report.{report_of}
+use Rattle.sk_run.specs.Report.{report_of}
 use Rattle.sk_run.specs.views.State.{setting_of, now_of}
 use Rattle.sk_run.proofs.Underway.{start, begins_text, ends_text, goes_text, fewer}
 use Rattle.sk_run.proofs.reporting.report.Goals as goal

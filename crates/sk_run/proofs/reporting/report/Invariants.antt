@@ -1,5 +1,5 @@
 use Rattle.std.proofs.Common.{◌≡◌, ◌-◌}
-use Rattle.sk_report.specs.Report.{report_of}
+use Rattle.sk_run.specs.Report.{report_of}
 use Rattle.sk_run.specs.views.State.{setting_of, now_of}
 use Rattle.sk_run.proofs.Underway.{Underway}
 use Rattle.sk_run.proofs.reporting.report.Given as goal

@@ -1,5 +1,5 @@
 use Rattle.std.proofs.Common.{◌≡◌, ◌∙◌, ◌<◌, length, ap, arith}
-use Rattle.sk_report.specs.Levels.{stacked}
+use Rattle.sk_run.specs.Levels.{stacked}
 use Rattle.sk_run.specs.views.Stacks.{stack_of, stacks_of}
 use Rattle.sk_run.proofs.Placing.{levels_there, written}
 use Rattle.sk_run.proofs.stacks.call_at.Goals as goal

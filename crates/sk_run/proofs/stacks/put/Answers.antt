@@ -1,5 +1,5 @@
 use Rattle.std.proofs.Common.{◌∙◌, ◌<◌, length, ap, arith}
-use Rattle.sk_report.specs.Levels.{Stacks, stacked}
+use Rattle.sk_run.specs.Levels.{Stacks, stacked}
 use Rattle.sk_run.specs.views.Stacks.{stack_of}
 use Rattle.sk_run.proofs.Placing.{written}
 use Rattle.sk_run.proofs.stacks.put.Goals as goal

@@ -1,12 +1,12 @@
 use Rattle.std.proofs.Common.{ap, arith, refl, inr, length, rules}
 use Rattle.std.proofs.lemmas.Result.{err_from_is_err_and}
 use Rattle.sk_text.specs.Lines.{lines_of}
-use Rattle.sk_scenario.proofs.Ends.{few_lines}
+use Rattle.sk_text.proofs.Cuts.{length_lines_of}
 use Rattle.sk_scenario.proofs.Turns.{goes, fails, ends, ends_open}
 use Rattle.sk_scenario.proofs.reading.read_lines.Goals as goal
 
 pub loop-line-init : goal.loop-line-init
-loop-line-init c = let fewer = few_lines c.args.text.now in record { few = omega (arith, fewer, c.requires.limit); same = refl; so_far = search rules }
+loop-line-init c = let fewer = length_lines_of c.args.text.now in record { few = omega (arith, fewer, c.requires.limit); same = refl; so_far = search rules }
 
 pub returns-in_err-step : goal.returns-in_err-step
 returns-in_err-step c =

@@ -1,11 +1,11 @@
 use Rattle.std.proofs.Common.{◌++◌, suc, refl, sym, ap, ◌∙◌}
 use Rattle.sk_filter.specs.Valid.{IsValid}
 use Rattle.sk_filter.proofs.ValidPrograms.{valid_count}
-use Rattle.sk_survey_lines.specs.Tracing.{state_of, effect_of}
-use Rattle.sk_survey_lines.proofs.Runs.{insn_at, is_there, takes_constant, stays_inside, comes_further, ends_with, never_stuck}
+use Rattle.sk_show.specs.Tracing.{state_of, effect_of}
+use Rattle.sk_show.proofs.Runs.{insn_at, is_there, takes_constant, stays_inside, comes_further, ends_with, never_stuck}
 use Rattle.sk_filter.specs.Meaning.{meaning_of}
 use Rattle.sk_filter.specs.Verdict.{meaning_value}
-use Rattle.sk_survey_lines.specs.Runs.{EndsAt}
+use Rattle.sk_show.specs.Runs.{EndsAt}
 use Rattle.sk_show.specs.Paths.{path_of, steps_from}
 use Rattle.sk_show.proofs.Paths.{path_ends, path_on}
 use Rattle.sk_show.proofs.tracing.trace.Goals as goal

@@ -1,6 +1,6 @@
 use Rattle.std.proofs.Common.{ℕ, ◌≡◌, ◌++◌, ◌<◌, ◌-◌, length}
-use Rattle.sk_survey_lines.specs.Runs.{ComesTo}
-use Rattle.sk_survey_lines.specs.Tracing.{state_of}
+use Rattle.sk_show.specs.Runs.{ComesTo}
+use Rattle.sk_show.specs.Tracing.{state_of}
 use Rattle.sk_show.specs.Paths.{path_of, steps_from}
 use Rattle.sk_show.proofs.tracing.trace.Given as goal
 

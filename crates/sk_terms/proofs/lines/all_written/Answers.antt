@@ -1,7 +1,7 @@
 use Rattle.std.proofs.Common.{◌++◌, ap, sym, subst, ◌∙◌, append_assoc}
 use Rattle.std.specs.List.{All}
 use Rattle.std.proofs.lemmas.List.Elements.{All-head, All-tail, All-push}
-use Rattle.sk_terms.specs.Lines.{told_by, told_alone, IsMetBy}
+use Rattle.sk_terms.specs.Lines.{told_by, told_alone, IsMetBy, MeetAlike}
 use Rattle.sk_terms.proofs.Ends.{same_met}
 use Rattle.sk_terms.proofs.Telling.{told_cons, told_pushed, told_same}
 use Rattle.sk_terms.proofs.lines.all_written.Goals as goal
@@ -26,5 +26,13 @@ loop-line-preserved c =
                 (All-push (IsMetBy calls) before c.in_ok-told.told so_far.0
                 (same_met calls line c.in_ok-told.told c.in_ok-told.ensures.met (All-head (IsMetBy calls) line rest left))),
             All-tail (IsMetBy calls) line rest left,
+          );
+      alike = λ one other all.
+          let so_far = c.loop-line.invariant.alike one other all in
+          let left = subst (All (MeetAlike one other)) steps so_far.1 in (
+            subst (All (MeetAlike one other)) (sym c.in_ok-push.ensures.items)
+                (All-push (MeetAlike one other) before c.in_ok-told.told so_far.0
+                (c.in_ok-told.ensures.met one ∙ All-head (MeetAlike one other) line rest left ∙ sym (c.in_ok-told.ensures.met other))),
+            All-tail (MeetAlike one other) line rest left,
           );
     }

@@ -1,7 +1,7 @@
 use Rattle.std.proofs.Common.{ap, subst, ◌∙◌}
 use Rattle.std.specs.List.{All}
 use Rattle.std.proofs.lemmas.List.Elements.{All-head, All-tail}
-use Rattle.sk_terms.specs.Lines.{told_alone, told_by, IsMetBy}
+use Rattle.sk_terms.specs.Lines.{told_alone, told_by, IsMetBy, MeetAlike}
 use Rattle.sk_terms.proofs.Telling.{one_line_more, told_cons}
 use Rattle.sk_terms.proofs.merging.merged_in.Goals as goal
 
@@ -17,4 +17,8 @@ loop-line-preserved c =
           let so_far = c.loop-line.invariant.met calls all in
           let left = subst (All (IsMetBy calls)) steps so_far.1 in
           (c.in_ok-add.ensures.met calls so_far.0 (All-head (IsMetBy calls) line rest left), All-tail (IsMetBy calls) line rest left);
+      alike = λ one other all.
+          let so_far = c.loop-line.invariant.alike one other all in
+          let left = subst (All (MeetAlike one other)) steps so_far.1 in
+          (c.in_ok-add.ensures.alike one other so_far.0 (All-head (MeetAlike one other) line rest left), All-tail (MeetAlike one other) line rest left);
     }

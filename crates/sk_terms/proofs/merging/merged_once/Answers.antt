@@ -7,4 +7,5 @@ loop-register-preserved c = record {
       let before = c.loop-register.invariant.told call once in
       c.in_ok-merged.ensures.told call (subst (λ told. length told ≤ 1) (sym before) once) ∙ before;
   met = λ calls all. c.in_ok-merged.ensures.met calls (c.loop-register.invariant.met calls all);
+  alike = λ one other all. c.in_ok-merged.ensures.alike one other (c.loop-register.invariant.alike one other all);
 }

@@ -24,4 +24,5 @@ returns c =
             (subst (λ (new : List (List Insn)). AreCompared c.args.relation old new 0 4294967296 pieces) (sym same) told.compared) (told.same same);
         says = c.in_ok-text.ensures.text ∙ ap (text_of c.args.architecture c.args.relation c.finding_of-finding.result) c.deref-2.ensures.value;
       };
+      one_way = c.pieces.ensures.one_way;
     }

@@ -16,3 +16,7 @@ returns-in-Apart-clause-holds c =
     (subst (λ pairs. IsPairOf c.args.chains.relation pairs c.args.line.value c.in-Apart.pair) c.deref.ensures.value c.in-Apart.ensures.says)
     c.requires.within c.calls_of-in-Apart.ensures.meets
     (subst (λ calls. ShowsOf c.args.line calls c.in-Apart.pair c.shown-outcome.result) c.deref-in-Apart.ensures.value c.shown-outcome.ensures.shown)
+    (c.calls_of-in-Apart.ensures.numbers c.args.chains.numbers c.requires.numbers)
+
+pub returns-in-Unknown-clause-holds : goal.returns-in-Unknown-clause-holds
+returns-in-Unknown-clause-holds c = (tt, c.calls_of.ensures.numbers c.args.chains.numbers c.requires.numbers)

@@ -15,3 +15,15 @@ pub returns-clause-same : goal.returns-clause-same
 returns-clause-same c = λ same.
     let is = c.have_same_filters-are_same.ensures.same.1 same in
     c.in_ok-push_piece.ensures.same is (c.in_ok-first.ensures.same is)
+
+pub returns-clause-one_way : goal.returns-clause-one_way
+returns-clause-one_way c = λ never never' fresh.
+    let first = c.in_ok-first.first in
+    c.push_piece.ensures.one_way (never first 4294967295 (omega arith) (omega arith) (omega arith), never' first 4294967295 (omega arith) (omega arith) (omega arith))
+    (c.push_pieces.ensures.one_way never never' fresh)
+
+pub returns-in_err-push_piece-clause-one_way : goal.returns-in_err-push_piece-clause-one_way
+returns-in_err-push_piece-clause-one_way c = λ never never' fresh.
+    let first = c.in_ok-first.first in
+    c.push_piece.ensures.one_way (never first 4294967295 (omega arith) (omega arith) (omega arith), never' first 4294967295 (omega arith) (omega arith) (omega arith))
+    (c.push_pieces.ensures.one_way never never' fresh)

@@ -31,6 +31,9 @@ loop-beginning-preserved c =
             alone = pushed.alone 0 so_far.compared so_far.alone
                 (named_before a cuts numbers i c.requires.rising c.requires.round c.loop-beginning-test.true so_far.passed (omega arith) (omega arith));
             decided = λ follows follows' unspent. pushed.decided follows follows' (so_far.decided follows follows') unspent;
+            one_way = λ never never' fresh.
+                w.push_piece.ensures.one_way (never first (cut - 1) (omega arith) (omega (arith, less)) (omega (arith, fits)), never' first (cut - 1) (omega arith) (omega (arith, less)) (omega (arith, fits)))
+                (so_far.one_way never never' fresh);
             same = λ is. pushed.same is (so_far.same is);
           })
       | else-first-beginning w ↦ rw (w.pieces-is, w.first-is, w.budgets-is) (record {
@@ -39,6 +42,7 @@ loop-beginning-preserved c =
         passed = passed_more cuts i first first so_far.passed (omega arith) w.if-first-beginning.false;
         alone = so_far.alone;
         decided = so_far.decided;
+        one_way = so_far.one_way;
         same = so_far.same;
       })
     ]
@@ -46,3 +50,12 @@ loop-beginning-preserved c =
 pub returns-clause-passed : goal.returns-clause-passed
 returns-clause-passed c =
     All-from_get_or (λ beginning. beginning ≤ c.loop-beginning.first) c.args.beginnings.now 0 (λ k inside. c.loop-beginning.invariant.passed k (omega arith))
+
+pub returns-in_err-push_piece-clause-one_way : goal.returns-in_err-push_piece-clause-one_way
+returns-in_err-push_piece-clause-one_way c = λ never never' fresh.
+    let first = c.loop-beginning.first in
+    let cut = get_or c.args.beginnings.now c.loop-beginning.beginning-index 0 in
+    let fits = c.type_inv.beginnings c.loop-beginning.beginning-index in
+    let less = c.if-first-beginning.true in
+    c.push_piece.ensures.one_way (never first (cut - 1) (omega arith) (omega (arith, less)) (omega (arith, fits)), never' first (cut - 1) (omega arith) (omega (arith, less)) (omega (arith, fits)))
+    (c.loop-beginning.invariant.one_way never never' fresh)

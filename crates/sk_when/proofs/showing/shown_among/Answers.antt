@@ -1,4 +1,5 @@
 use Rattle.std.proofs.Common.{◌+◌, ◌<◌, inl, inr, ap, ◌∙◌, arith, length, drop, length-drop, subst}
+use Rattle.std.proofs.lemmas.List.{length-take}
 use Rattle.std.specs.List.{list_any}
 use Rattle.sk_terms.specs.Lines.{meets_line}
 use Rattle.sk_terms.proofs.Kept.{get_same}
@@ -24,3 +25,15 @@ returns-in_default-place_among-clause-found c = λ met steps.
       | inr behind ↦
           c.in_default.ensures.found (ap (list_any (λ call. meets_line c.args.line.now call)) (whole_tail calls middle) ∙ behind) (omega (arith, left, steps))
     ]
+
+pub returns-in-Some-clause-few : goal.returns-in-Some-clause-few
+returns-in-Some-clause-few c =
+    let calls = c.args.calls.now in
+    let middle = c.min-middle.result in
+    omega (arith, c.place_among.ensures.few, ap length (whole_tail calls middle), length-drop middle calls)
+
+pub returns-in_default-place_among-clause-few : goal.returns-in_default-place_among-clause-few
+returns-in_default-place_among-clause-few c =
+    let calls = c.args.calls.now in
+    let middle = c.min-middle.result in
+    omega (arith, c.place_among.ensures.few, c.place_among-2.ensures.few, ap length (whole_tail calls middle), length-drop middle calls, length-take middle calls)

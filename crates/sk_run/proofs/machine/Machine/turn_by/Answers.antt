@@ -1,6 +1,6 @@
 use Rattle.std.proofs.Common.{◌∙◌, ap, refl, sym}
 use Rattle.sk_machine.specs.Events.{pid_of}
-use Rattle.sk_report.specs.Scheduling.{line_due}
+use Rattle.sk_run.specs.Scheduling.{line_due}
 use Rattle.sk_run.specs.views.Stacks.{stack_of, stacks_of}
 use Rattle.sk_run.specs.views.State.{setting_of, now_of}
 use Rattle.sk_run.proofs.Following.{on_err, same_images, same_now, tells, follows}

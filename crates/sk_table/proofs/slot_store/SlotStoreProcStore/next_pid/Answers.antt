@@ -1,6 +1,6 @@
 use Rattle.std.proofs.Common.{◌∙◌, ap, sym}
 use Rattle.std.specs.Option.{is_some}
-use Rattle.sk_numbers.specs.Numbers.{contains}
+use Rattle.sk_world.specs.NumberSets.{contains}
 use Rattle.sk_world.specs.World.{at}
 use Rattle.sk_table.specs.Slots.{Slotted}
 use Rattle.sk_table.proofs.Freely.{next_is}

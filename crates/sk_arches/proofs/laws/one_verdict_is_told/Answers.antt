@@ -1,5 +1,0 @@
-use Rattle.sk_arches.proofs.Settled.{one_verdict_is_told}
-use Rattle.sk_arches.proofs.laws.one_verdict_is_told.Goals as goal
-
-pub returns : goal.returns
-returns c = record { law = one_verdict_is_told }

@@ -1,0 +1,136 @@
+//! What files stand for: a profile for its filter, and any other file for its bytes.
+ghost use Rattle.std.specs.Prelude.{◌≡◌, ℕ, true, IfOk, IfErr, length, map, string_bytes};
+ghost use Rattle.sk_profile_json.specs.Forms.{is_profile};
+ghost use Rattle.sk_profile_json.specs.Texts.{refusal_text};
+ghost use Rattle.sk_ask.specs.Complaints.{about};
+ghost use Rattle.sk_ask.specs.Counts.{CountsReads};
+ghost use Rattle.sk_ask.specs.Orders.{taken_turned, StandsAs};
+ghost use Rattle.sk_ask.specs.Expanding.{note_lines, StandsFor, StandsForFilter, StandFor, HasNoFilter, IsFirstWithout};
+
+use crate::complaint::about;
+use crate::order::taken_turned;
+use crate::trouble::Trouble;
+use sk_profile_json::{Context, Refusal, is_profile, made, refusal_text};
+use std::alloc::{AllocError, Global};
+
+/// The images that files stand for, in the files' order, and the lines of what is told of them beside.
+#[derive(Drop)]
+pub struct Expansion {
+    pub images: Vec<Vec<u8>>,
+    pub notes: Vec<u8>,
+}
+
+/// The image that one file stands for, and the lines of what is told of it beside.
+#[derive(Drop)]
+struct Standing {
+    image: Vec<u8>,
+    notes: Vec<u8>,
+}
+
+/// What these files stand for, with profiles as they are to hold there, or why the first that stands for nothing does not.
+pub fn expanded(
+    alloc: Global,
+    big_endian: bool,
+    context: &Context<'_>,
+    names: &[String],
+    files: &[Vec<u8>],
+) -> Result<Expansion, Trouble>
+    requires each { length files.now ≡ length names.now }
+    ensures stand { IfOk result (λ it. StandFor big_endian context.now (map string_bytes names.now) (map (λ file. file.items) files.now) (map (λ image. image.items) it.images.items) it.notes.items) }
+    ensures each { IfOk result (λ it. length it.images.items ≡ length names.now) }
+    ensures without { IfErr result (IsFirstWithout big_endian context.now (map string_bytes names.now) (map (λ file. file.items) files.now)) }
+    ensures unread { (reads : ℕ) → CountsReads result reads reads }
+{
+    let mut images = Vec::new(alloc);
+    let mut notes = Vec::new(alloc);
+    let mut rest = names;
+    let mut left = files;
+    while let Some((name, other_names)) = rest.split_first() {
+        let Some((file, other_files)) = left.split_first() else {
+            break;
+        };
+        let standing = stood_for(alloc, big_endian, context, name.as_str(), file)?;
+        images.push(standing.image)?;
+        notes.extend_from_slice(&standing.notes)?;
+        rest = other_names;
+        left = other_files;
+    }
+    Ok(Expansion { images, notes })
+}
+
+// What the file with this name stands for.
+fn stood_for(
+    alloc: Global,
+    big_endian: bool,
+    context: &Context<'_>,
+    name: &str,
+    file: &[u8],
+) -> Result<Standing, Trouble>
+    ensures stands { IfOk result (λ it. StandsFor big_endian context.now name.now file.now it.image.items it.notes.items) }
+    ensures without { IfErr result (HasNoFilter context.now name.now file.now) }
+    ensures unread { (reads : ℕ) → CountsReads result reads reads }
+{
+    if is_profile(file) {
+        return filter_of(alloc, context, name, file);
+    }
+    Ok(of_bytes(alloc, big_endian, name, file)?)
+}
+
+// What the bytes of the file with this name stand for.
+fn of_bytes(
+    alloc: Global,
+    big_endian: bool,
+    name: &str,
+    file: &[u8],
+) -> Result<Standing, AllocError>
+    ensures stands { IfOk result (λ it. StandsAs name.now file.now (taken_turned big_endian file.now) it.image.items it.notes.items) }
+{
+    match taken_turned(alloc, big_endian, file)? {
+        Some(image) => Ok(Standing {
+            image,
+            notes: about(alloc, name, "read with its highest byte first")?,
+        }),
+        None => Ok(Standing {
+            image: file.to_vec(alloc)?,
+            notes: Vec::new(alloc),
+        }),
+    }
+}
+
+// What the profile in the file with this name stands for.
+fn filter_of(
+    alloc: Global,
+    context: &Context<'_>,
+    name: &str,
+    file: &[u8],
+) -> Result<Standing, Trouble>
+    requires profile { is_profile file.now ≡ true }
+    ensures stands { IfOk result (λ it. StandsForFilter context.now name.now file.now it.image.items it.notes.items) }
+    ensures without { IfErr result (HasNoFilter context.now name.now file.now) }
+    ensures unread { (reads : ℕ) → CountsReads result reads reads }
+{
+    match made(alloc, context, file)? {
+        Ok(made) => Ok(Standing {
+            notes: note_lines(alloc, name, &made.notes)?,
+            image: made.image,
+        }),
+        Err(refusal) => Err(Trouble::Refused(refusal_line(alloc, name, refusal)?)),
+    }
+}
+
+fn note_lines(alloc: Global, name: &str, notes: &[String]) -> Result<Vec<u8>, AllocError>
+    ensures lines { IfOk result (λ lines. lines.items ≡ note_lines name.now (map string_bytes notes.now)) }
+{
+    let mut lines = Vec::new(alloc);
+    for note in notes {
+        lines.extend_from_slice(&about(alloc, name, note)?)?;
+    }
+    Ok(lines)
+}
+
+fn refusal_line(alloc: Global, name: &str, refusal: Refusal) -> Result<Vec<u8>, AllocError>
+    ensures line { IfOk result (λ line. line.items ≡ about name.now (refusal_text refusal)) }
+{
+    let what = refusal_text(alloc, refusal)?;
+    about(alloc, name, &what)
+}

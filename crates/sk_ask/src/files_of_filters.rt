@@ -1,0 +1,97 @@
+//! The filters of files that are known by their names.
+ghost use Rattle.std.specs.Prelude.{◌≡◌, ◌<◌, ℕ, IfOk, IfErr, length, map, string_bytes};
+ghost use Rattle.sk_ask.specs.Filters.{chain_of};
+ghost use Rattle.sk_ask.specs.Finding.{filters_of};
+ghost use Rattle.sk_ask.specs.Given.{ArePlaced};
+ghost use Rattle.sk_ask.specs.Counts.{CountsReads};
+ghost use Rattle.sk_ask.specs.Reading.{ReadsFilters, IsRefusal, IsRefusedOf, IsReadAs, judged, with_chain};
+ghost use Rattle.sk_ask.specs.Answers.{Judges};
+
+use crate::attaching::attach;
+use crate::complaint::about;
+use crate::expansion::{Expansion, expanded};
+use crate::fault::Refused;
+use crate::files::find;
+use crate::found::Found;
+use crate::shelf::{Shelf, contents};
+use crate::text::fault_text;
+use crate::trouble::Trouble;
+use sk_filter::Chain;
+use sk_profile_json::Context;
+use std::alloc::{AllocError, Global};
+
+/// Filters as they were found, the oldest first, their chain, and the lines of what is told of the profiles among them.
+#[derive(Drop)]
+pub struct Filters {
+    pub found: Found,
+    pub chain: Chain,
+    pub notes: Vec<u8>,
+}
+
+/// The filters in the files with these names, the oldest first. A profile stands there for its filter, as it is to hold, and
+/// bytes that are a valid filter with the highest byte first, for that one, where that order is asked for.
+pub fn filters_in<S: Shelf>(
+    alloc: Global,
+    big_endian: bool,
+    shelf: &S,
+    context: &Context<'_>,
+    reads: &mut u64,
+    names: &[String],
+) -> Result<Filters, Trouble>
+    ensures read { IfOk result (λ filters. ReadsFilters big_endian (S.held shelf.now) context.now (map string_bytes names.now) (filters_of filters.found) filters.chain filters.notes.items) }
+    ensures refused { IfErr result (IsRefusedOf big_endian (S.held shelf.now) context.now (map string_bytes names.now)) }
+    ensures counted { CountsReads result reads.old reads.new }
+{
+    let files = contents(alloc, shelf, reads, names)?;
+    let expansion = expanded(alloc, big_endian, context, names, &files)?;
+    read(alloc, names, expansion)
+}
+
+fn read(alloc: Global, names: &[String], expansion: Expansion) -> Result<Filters, Trouble>
+    requires each { length expansion.images.items ≡ length names.now }
+    ensures exact { IsReadAs (map string_bytes names.now) result (judged (map (λ image. image.items) expansion.images.items)) }
+    ensures noted { IfOk result (λ filters. filters.notes.items ≡ expansion.notes.items) }
+{
+    match judged(alloc, &expansion.images)? {
+        Ok(filters) => Ok(Filters {
+            notes: expansion.notes,
+            ..filters
+        }),
+        Err(refused) => Err(Trouble::Refused(refusal_line(alloc, names, refused)?)),
+    }
+}
+
+// The filters that the images are, of which nothing is told yet.
+fn judged(alloc: Global, images: &[Vec<u8>]) -> Result<Result<Filters, Refused>, AllocError>
+    ensures exact { IfOk result (λ said. Judges said (judged (map (λ image. image.items) images.now))) }
+    ensures given { IfOk result (λ said. IfErr said (λ refused. refused.file < length images.now)) }
+{
+    match find(alloc, images)? {
+        Ok(found) => attached(alloc, found),
+        Err(refused) => Ok(Err(refused)),
+    }
+}
+
+// The filters that were found, with their chain.
+fn attached(alloc: Global, found: Found) -> Result<Result<Filters, Refused>, AllocError>
+    requires paired { length (filters_of found).places ≡ length (filters_of found).images }
+    ensures exact { IfOk result (λ said. Judges said (with_chain (filters_of found) (chain_of (filters_of found)))) }
+    ensures given { (count : ℕ) → ArePlaced count (filters_of found) → IfOk result (λ said. IfErr said (λ refused. refused.file < count)) }
+{
+    match attach(alloc, &found)? {
+        Ok(chain) => Ok(Ok(Filters {
+            found,
+            chain,
+            notes: Vec::new(alloc),
+        })),
+        Err(refused) => Ok(Err(refused)),
+    }
+}
+
+fn refusal_line(alloc: Global, names: &[String], refused: Refused) -> Result<Vec<u8>, AllocError>
+    requires given { refused.file < length names.now }
+    ensures line { IfOk result (λ line. IsRefusal (map string_bytes names.now) refused line.items) }
+{
+    let what = fault_text(alloc, refused.why)?;
+    about(alloc, &names[refused.file], &what)
+}

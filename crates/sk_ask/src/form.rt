@@ -1,0 +1,112 @@
+//! Which form a file has, and the filters in it.
+ghost use Rattle.std.specs.Prelude.{◌≡◌, ◌==◌, IfOk, filter, length, not};
+ghost use Rattle.std.specs.List.{list_all};
+ghost use Rattle.sk_text.specs.Hexadecimal.{hex_text_bytes};
+ghost use Rattle.sk_ask.specs.Forms.{form_of, is_digit_or_blank, without_returns};
+ghost use Rattle.sk_ask.specs.Filters.{with_file, with_digits, some_more};
+ghost use Rattle.sk_ask.specs.Finding.{filters_of};
+ghost use Rattle.sk_ask.specs.Answers.{found_in, Finds};
+
+use crate::fault::{FileFault, Refused};
+use crate::found::{Found, Place, with_filter};
+use crate::lines::with_lines;
+use sk_text::{HexFault, bytes_of_text};
+use std::alloc::{AllocError, Global};
+
+/// The form that the filters of a file are written in.
+#[derive(Clone, Copy, Debug, PartialEq, Eq)]
+pub enum Form {
+    /// The bytes of one filter as they are.
+    Raw,
+    /// One filter in hexadecimal digits.
+    Digits,
+    /// Lines `filter HEX`.
+    Lines,
+}
+
+/// The form of a file with these bytes.
+#[tactic(auto, unfolding(crate::specs::Forms::form_of))]
+pub fn form_of(bytes: &[u8]) -> Form
+    ensures exact { result ≡ form_of bytes.now }
+{
+    if bytes.contains(&0) {
+        Form::Raw
+    } else if are_digits(bytes) {
+        Form::Digits
+    } else {
+        Form::Lines
+    }
+}
+
+#[tactic(auto, unfolding(crate::specs::Forms::is_digit_or_blank))]
+fn are_digits(bytes: &[u8]) -> bool
+    ensures every { result ≡ list_all is_digit_or_blank bytes.now }
+{
+    bytes.iter().all(
+        |byte| matches!(*byte, b'0'..=b'9' | b'a'..=b'f' | b'A'..=b'F' | b' ' | b'\n' | b'\r'),
+    )
+}
+
+/// The filters that a file with these bytes adds to those that were found before.
+pub fn with_file(
+    alloc: Global,
+    file: usize,
+    found: Found,
+    bytes: &[u8],
+) -> Result<Result<Found, Refused>, AllocError>
+    ensures exact { IfOk result (λ more. Finds more (with_file file (filters_of found) bytes.now)) }
+{
+    match form_of(bytes) {
+        Form::Raw => with_filter(found, Place { file, line: None }, bytes.to_vec(alloc)?),
+        Form::Digits => with_digits(alloc, file, found, &without_returns(alloc, bytes)?),
+        Form::Lines => {
+            let before = found.images.len();
+            let found = with_lines(alloc, file, found, &without_returns(alloc, bytes)?)?;
+            Ok(some_more(file, before, found))
+        }
+    }
+}
+
+fn without_returns(alloc: Global, bytes: &[u8]) -> Result<Vec<u8>, AllocError>
+    ensures rest { IfOk result (λ text. text.items ≡ without_returns bytes.now) }
+{
+    bytes
+        .iter()
+        .copied()
+        .filter(|byte| *byte != b'\r')
+        .collect(alloc)
+}
+
+fn with_digits(
+    alloc: Global,
+    file: usize,
+    found: Found,
+    text: &[u8],
+) -> Result<Result<Found, Refused>, AllocError>
+    ensures exact { IfOk result (λ more. Finds more (with_digits file (filters_of found) (hex_text_bytes text.now))) }
+{
+    match bytes_of_text(alloc, text) {
+        Ok(image) if image.is_empty() => Ok(Err(Refused {
+            file,
+            why: FileFault::NoFilter,
+        })),
+        Ok(image) => with_filter(found, Place { file, line: None }, image),
+        Err(HexFault::NotHexadecimal) => Ok(Err(Refused {
+            file,
+            why: FileFault::OddDigits,
+        })),
+        Err(HexFault::Memory) => Err(AllocError),
+    }
+}
+
+fn some_more(file: usize, before: usize, found: Result<Found, Refused>) -> Result<Found, Refused>
+    ensures exact { Finds result (some_more file before (found_in found)) }
+{
+    match found {
+        Ok(found) if found.images.len() == before => Err(Refused {
+            file,
+            why: FileFault::NoFilter,
+        }),
+        found => found,
+    }
+}

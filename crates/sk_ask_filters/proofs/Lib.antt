@@ -1,7 +1,0 @@
-pub mod Given
-pub mod Wholes
-pub mod Among
-pub mod Standing
-pub mod Images
-pub mod Limits
-pub mod Orders

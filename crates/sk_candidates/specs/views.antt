@@ -1,3 +1,0 @@
-pub mod OfProcess
-pub mod Blocked
-pub mod Noting

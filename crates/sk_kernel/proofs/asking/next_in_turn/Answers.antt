@@ -1,0 +1,13 @@
+use Rattle.std.proofs.Common.{◌∙◌, ap, sym}
+use Rattle.std.specs.Prelude.{find}
+use Rattle.std.specs.Option.{option_map, option_or}
+use Rattle.sk_world.specs.Processes.{pids}
+use Rattle.sk_machine.specs.Turns.{is_runnable}
+use Rattle.sk_kernel.proofs.Passing.{above_0}
+use Rattle.sk_kernel.proofs.asking.next_in_turn.Goals as goal
+
+pub returns-in-None-clause-pid : goal.returns-in-None-clause-pid
+returns-in-None-clause-pid g c =
+    let w = g.S.ProcStore.contents c.args.store.now in
+    c.first_runnable-in-None.ensures.pid ∙ above_0 w c.requires.rules
+    ∙ ap (λ o. option_or o (find (is_runnable w) (pids w.procs))) (ap (option_map (λ runner. runner.pid)) (sym c.in-None.is) ∙ c.first_runnable.ensures.pid)

@@ -1,5 +1,0 @@
-use Rattle.sk_machine_laws.proofs.Runs.{runs_are_lawful}
-use Rattle.sk_machine_laws.proofs.runs_are_lawful.Goals as goal
-
-pub returns : goal.returns
-returns c = record { law = runs_are_lawful }

@@ -1,5 +1,0 @@
-use Rattle.sk_machine_laws.proofs.Locality.{not_queued}
-use Rattle.sk_machine_laws.proofs.world.signals_are_not_queued.Goals as goal
-
-pub returns : goal.returns
-returns c = record { law = not_queued }

@@ -1,5 +1,0 @@
-use Rattle.sk_world.specs.Rules.{IsWorld}
-use Rattle.sk_process_tests.proofs.sessions.groups.come_to.Given as goal
-
-abbrev pub invariant-loop-caller : goal.invariant-loop-caller
-invariant-loop-caller g l = IsWorld l.store

@@ -1,7 +1,0 @@
-use Rattle.std.proofs.Common.{sym, ◌∙◌}
-use Rattle.sk_call_names.proofs.Places.{position_texts}
-use Rattle.sk_profile_file.specs.Capabilities.{is_named}
-use Rattle.sk_profile_file.proofs.capabilities.place_of.Goals as goal
-
-pub returns-clause-place : goal.returns-clause-place
-returns-clause-place c = c.place_in.ensures.place ∙ sym (position_texts (is_named c.args.word.now) c.args.names.now)

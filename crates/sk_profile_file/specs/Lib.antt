@@ -1,9 +1,0 @@
-pub mod Ranges
-pub mod Forms
-pub mod Filters
-pub mod Clashes
-pub mod Texts
-pub mod Notes
-pub mod Made
-pub mod Capabilities
-pub mod WorkedFiles

@@ -1,0 +1,5 @@
+use Rattle.sk_profile_json.proofs.Named.{one_name}
+use Rattle.sk_profile_json.proofs.capabilities.names_at.Goals as goal
+
+pub returns : goal.returns
+returns c = record { one = one_name (λ name. name.now) c.args.names.now c.args.place }

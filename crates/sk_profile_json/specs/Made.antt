@@ -1,0 +1,51 @@
+-- What a profile's file is made into.
+use Rattle.std.specs.Prelude.{ℕ, ◌≡◌, List, map, string_bytes, Vec, None, Result, Ok, Err}
+use Rattle.std.specs.Global.{Global}
+use Rattle.std.specs.Option.{IsSomeAnd}
+use Rattle.std.specs.Str.{IsUtf8}
+use Rattle.json.specs.Json.{Json, document}
+use Rattle.json.specs.Strict.{HasUniqueKeys}
+use Rattle.sk_profile.specs.Clashes.{IsClash}
+use Rattle.sk_profile.specs.Profiles.{Profile}
+use Rattle.sk_profile.specs.Rows.{HasLongTree}
+use Rattle.sk_profile_json.specs.declared.context.Context.{Context}
+use Rattle.sk_profile_json.specs.Wholes.{IsText, profile_in}
+use Rattle.sk_profile_json.specs.declared.answer.Made.{Made}
+use Rattle.sk_profile_json.specs.declared.answer.Refusal.{Refusal}
+use Rattle.sk_profile_json.specs.declared.answer.Refusal.TheVariants.{NotText, NotJson, KeyTwice, Wrong, Clashes, TooLong}
+use Rattle.sk_profile_json.specs.Filters.{IsFilterOf}
+use Rattle.sk_profile_json.specs.Notes.{notes_of}
+
+-- why a profile has no filter
+abbrev pub IsUnbuilt : Profile → Refusal → Type 0
+IsUnbuilt profile (Clashes it) = IsClash profile it
+IsUnbuilt profile TooLong = HasLongTree profile
+IsUnbuilt profile refusal = ⊥
+
+-- a filter that means the profile
+abbrev pub Builds : Profile → Result (Vec ℕ Global) Refusal → Type 0
+Builds profile (Ok image) = IsFilterOf profile image.items
+Builds profile (Err refusal) = IsUnbuilt profile refusal
+
+-- what a value is made into: the profile that it says has this filter, or none
+abbrev pub IsRefusedValue : Context → Json → Refusal → Type 0
+IsRefusedValue context j (Wrong fault) = profile_in context j ≡ Err fault
+IsRefusedValue context j refusal = (profile : Profile) × (profile_in context j ≡ Ok profile) × IsUnbuilt profile refusal
+
+abbrev pub IsMadeOf : Context → Json → Result Made Refusal → Type 0
+IsMadeOf context j (Ok made) =
+    (profile : Profile) × (profile_in context j ≡ Ok profile) × IsFilterOf profile made.image.items
+    × (map string_bytes made.notes.items ≡ notes_of context j)
+IsMadeOf context j (Err refusal) = IsRefusedValue context j refusal
+
+-- a text is made into what its value is
+abbrev pub IsMadeOfText : Context → List ℕ → Result Made Refusal → Type 0
+IsMadeOfText context text (Err NotText) = ⊥
+IsMadeOfText context text (Err NotJson) = document text ≡ None
+IsMadeOfText context text (Err KeyTwice) = IsSomeAnd (document text) (λ j. ¬ HasUniqueKeys j)
+IsMadeOfText context text made = (j : Json) × IsText text j × IsMadeOf context j made
+
+-- bytes that are no text are refused as such
+abbrev pub IsMade : Context → List ℕ → Result Made Refusal → Type 0
+IsMade context bytes (Err NotText) = ¬ IsUtf8 bytes
+IsMade context bytes made = IsUtf8 bytes × IsMadeOfText context bytes made

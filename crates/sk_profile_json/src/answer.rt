@@ -1,0 +1,28 @@
+//! What a profile's file is made into, or why there is nothing.
+use crate::Fault;
+use sk_profile::Clash;
+
+/// The image of a profile's filter, `struct sock_filter` for each instruction, and what is to be told of the profile
+/// beside it, each in one line.
+#[derive(Drop)]
+pub struct Made {
+    pub image: Vec<u8>,
+    pub notes: Vec<String>,
+}
+
+/// Why a profile has no filter.
+#[derive(Clone, Copy, Debug, PartialEq, Eq)]
+pub enum Refusal {
+    /// The file is no text in UTF-8.
+    NotText,
+    /// It is no JSON, or nests deeper than is read.
+    NotJson,
+    /// A key comes twice in one object.
+    KeyTwice,
+    /// This is wrong with the profile.
+    Wrong(Fault),
+    /// Two entries of `syscalls` clash.
+    Clashes(Clash),
+    /// The filter would have more than 4096 instructions.
+    TooLong,
+}

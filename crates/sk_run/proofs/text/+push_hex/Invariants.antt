@@ -1,0 +1,5 @@
+-- The recursion in `push_hex`.
+use Rattle.sk_run.proofs.text.+push_hex.Given as goal
+
+abbrev pub decreases-push_hex : goal.decreases-push_hex
+decreases-push_hex l = l.width

@@ -1,6 +1,0 @@
-use Rattle.std.proofs.Common.{rules}
-use Rattle.sk_signal.proofs.SignalSets.{same_number}
-use Rattle.sk_signal.proofs.set.SigSetPartialEq.eq.Goals as goal
-
-pub returns : goal.returns
-returns c = search (rules, same_number)

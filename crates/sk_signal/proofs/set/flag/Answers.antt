@@ -1,7 +1,0 @@
-use Rattle.std.proofs.Common.{arith, ◌-◌}
-use Rattle.std.proofs.lemmas.Nat.{one_shl}
-use Rattle.sk_signal.proofs.SignalSets.{flag_below}
-use Rattle.sk_signal.proofs.set.flag.Goals as goal
-
-pub returns-clause-small : goal.returns-clause-small
-returns-clause-small c = omega (arith, one_shl (c.args.signal - 1) 32 (omega arith), flag_below c.args.signal c.requires)

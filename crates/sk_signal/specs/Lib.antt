@@ -1,9 +1,0 @@
-pub mod Sets
-pub mod SignalSet
-pub mod Actions
-pub mod SignalState
-pub mod Generation
-pub mod Delivery
-pub mod Signalling
-pub mod views
-pub mod laws

@@ -1,3 +1,0 @@
-pub mod SetMembers
-pub mod SignalNumbers
-pub mod WorkedSignals

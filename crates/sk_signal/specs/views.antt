@@ -1,3 +1,0 @@
-pub mod Members
-pub mod SignalBits
-pub mod StateView

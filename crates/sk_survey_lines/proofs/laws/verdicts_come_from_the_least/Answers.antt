@@ -1,5 +1,0 @@
-use Rattle.sk_survey_lines.proofs.OneSource.{verdicts_come_from_the_least}
-use Rattle.sk_survey_lines.proofs.laws.verdicts_come_from_the_least.Goals as goal
-
-pub returns : goal.returns
-returns c = record { law = verdicts_come_from_the_least }

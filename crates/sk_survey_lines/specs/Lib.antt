@@ -1,9 +1,0 @@
-pub mod Runs
-pub mod Examples
-pub mod ExamplesLaws
-pub mod Tracing
-pub mod Text
-pub mod Lines
-pub mod LinesLaws
-pub mod NamesLaws
-pub mod Origins
