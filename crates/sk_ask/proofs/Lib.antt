@@ -6,5 +6,4 @@ pub mod Wholes
 pub mod Among
 pub mod Standing
 pub mod Images
-pub mod Limits
 pub mod Orders

@@ -1,24 +1,20 @@
 -- What the code's answers to words say.
-use Rattle.std.specs.Prelude.{ℕ, ◌≡◌, ◌≤◌, IsSome, true, false, List, length, map, string_bytes, Result, Ok, Err, ⊤}
+use Rattle.std.specs.Prelude.{ℕ, ◌≡◌, ◌≤◌, false, List, length, map, string_bytes, Result, Ok, Err, ⊤}
 use Rattle.std.specs.Option.{option_map}
 use Rattle.sk_ask.specs.declared.trouble.Trouble.{Trouble}
 use Rattle.sk_ask.specs.declared.trouble.Trouble.TheVariants.{Refused, Reading, Memory}
 use Rattle.sk_ask.specs.declared.words.Asked.{Asked}
-use Rattle.sk_ask.specs.declared.word.Word.{Word}
 use Rattle.sk_ask.specs.Asking.{Question, wanted}
 
 abbrev pub question_of : Asked → Question
 question_of asked = record {
+  word = asked.word;
   call = option_map (λ call. call.now) asked.call;
   caps = map (λ name. name.now) asked.caps.items;
   kernel = asked.kernel;
   arch = asked.arch;
   awaits = asked.awaits;
   runc = asked.runc;
-  examples = asked.examples;
-  dot = asked.dot;
-  raw = asked.raw;
-  stricter = asked.stricter;
   help = asked.help;
   names = map string_bytes asked.names.items;
 }
@@ -30,9 +26,5 @@ Asks (Err (Reading line)) said = ⊥
 Asks (Err Memory) said = ⊤
 
 -- but for `--help` there are as many names as the word wants
-abbrev pub HasNames : Word → Asked → Type 0
-HasNames word asked = asked.help ≡ false → length (wanted word) ≤ length asked.names.items
-
--- but for `--help` a call is named where a picture is asked for
-abbrev pub HasCall : Asked → Type 0
-HasCall asked = asked.help ≡ false → asked.dot ≡ true → IsSome asked.call
+abbrev pub HasNames : Asked → Type 0
+HasNames asked = asked.help ≡ false → length (wanted asked.word) ≤ length asked.names.items

@@ -12,43 +12,39 @@ use Rattle.sk_ask.specs.declared.word.Valued.TheVariants.{Call, Cap, Kernel, Arc
 use Rattle.sk_ask.specs.declared.word.Word.{Word}
 use Rattle.sk_ask.specs.declared.word.Word.TheVariants.{Calls, Filter, When, Diff, Replay, Why, Show, Arches}
 
--- the word behind `--call`, the capabilities behind each `--cap`, the version behind `--kernel`, and the architecture behind
--- `--arch`; the option whose word is awaited; whether there was `--runc`, `--examples`, `--dot`, `--raw`, `--stricter` or `--help`; and the names of the files
+-- the word, with the options that it alone has; the word behind `--call`, the capabilities behind each `--cap`, the version behind
+-- `--kernel`, and the architecture behind `--arch`; the option whose word is awaited; whether there was `--runc` or `--help`; and
+-- the names of the files
 pub record Question : Type 0 where
+  pub word : Word
   pub call : Option (List ℕ)
   pub caps : List (List ℕ)
   pub kernel : Option Version
   pub arch : Option Architecture
   pub awaits : Option Valued
   pub runc : Bool
-  pub examples : Bool
-  pub dot : Bool
-  pub raw : Bool
-  pub stricter : Bool
   pub help : Bool
   pub names : List (List ℕ)
 
-abbrev pub nothing_asked : Question
-nothing_asked = record {
+-- the word is there, and nothing behind it
+abbrev pub nothing_asked : Word → Question
+nothing_asked word = record {
+  word = word;
   call = None;
   caps = [];
   kernel = None;
   arch = None;
   awaits = None;
   runc = false;
-  examples = false;
-  dot = false;
-  raw = false;
-  stricter = false;
   help = false;
   names = [];
 }
 
 abbrev pub word_name : Word → List ℕ
-word_name Calls = codes "calls"
-word_name Filter = codes "filter"
-word_name When = codes "when"
-word_name Diff = codes "diff"
+word_name (Calls examples) = codes "calls"
+word_name (Filter raw) = codes "filter"
+word_name (When dot) = codes "when"
+word_name (Diff stricter) = codes "diff"
 word_name Replay = codes "replay"
 word_name Why = codes "why"
 word_name Show = codes "show"
@@ -56,10 +52,10 @@ word_name Arches = codes "arches"
 
 abbrev pub word_named : List ℕ → Option Word
 word_named name =
-    if bytes_eq name (codes "calls") then Some Calls
-    else if bytes_eq name (codes "filter") then Some Filter
-    else if bytes_eq name (codes "when") then Some When
-    else if bytes_eq name (codes "diff") then Some Diff
+    if bytes_eq name (codes "calls") then Some (Calls false)
+    else if bytes_eq name (codes "filter") then Some (Filter false)
+    else if bytes_eq name (codes "when") then Some (When false)
+    else if bytes_eq name (codes "diff") then Some (Diff false)
     else if bytes_eq name (codes "replay") then Some Replay
     else if bytes_eq name (codes "why") then Some Why
     else if bytes_eq name (codes "show") then Some Show
@@ -73,9 +69,9 @@ abbrev pub is_option : List ℕ → Bool
 is_option text = slice_index text 0 == 45 && nat_lt 1 (length text)
 
 -- a word that is no option of these is the name of a file
-abbrev pub with_name : Word → Question → List ℕ → Result Question (List ℕ)
-with_name word asked text =
-    if is_option text then Err (of_word (word_name word ++ codes ": no option is named ") text)
+abbrev pub with_name : Question → List ℕ → Result Question (List ℕ)
+with_name asked text =
+    if is_option text then Err (of_word (word_name asked.word ++ codes ": no option is named ") text)
     else Ok (record asked { names = asked.names ++ text ∷ [] })
 
 -- ---- options with a word behind them
@@ -95,13 +91,13 @@ value_kind Arch = codes "a name"
 
 -- each call is told of by these
 abbrev pub tells_calls : Word → Bool
-tells_calls Calls = true
-tells_calls When = true
+tells_calls (Calls examples) = true
+tells_calls (When dot) = true
 tells_calls word = false
 
 -- the calls of one architecture are told of by all words but two: `filter` tells of none, and `arches` of all
 abbrev pub tells_of_one : Word → Bool
-tells_of_one Filter = false
+tells_of_one (Filter raw) = false
 tells_of_one Arches = false
 tells_of_one word = true
 
@@ -121,9 +117,9 @@ is_given Cap asked = false
 is_given Kernel asked = is_some asked.kernel
 is_given Arch asked = is_some asked.arch
 
-abbrev pub with_valued : Word → Valued → Question → Result Question (List ℕ)
-with_valued word option asked =
-    if is_given option asked then Err (of_word (word_name word ++ codes ": given twice: ") (valued_name option))
+abbrev pub with_valued : Valued → Question → Result Question (List ℕ)
+with_valued option asked =
+    if is_given option asked then Err (of_word (word_name asked.word ++ codes ": given twice: ") (valued_name option))
     else Ok (record asked { awaits = Some option })
 
 -- what is said where the word behind it is not there, or is none of these
@@ -131,76 +127,77 @@ abbrev pub expected_line : Word → Valued → List ℕ
 expected_line word option =
     of_word (word_name word ++ (codes ": expected " ++ (value_kind option ++ codes " behind "))) (valued_name option)
 
-abbrev pub with_caps : Word → Question → List ℕ → Option (List (List ℕ)) → Result Question (List ℕ)
-with_caps word asked text None = Err (of_word (word_name word ++ codes ": no capability is named ") text)
-with_caps word asked text (Some names) = Ok (record asked { caps = asked.caps ++ names; awaits = None })
+abbrev pub with_caps : Question → List ℕ → Option (List (List ℕ)) → Result Question (List ℕ)
+with_caps asked text None = Err (of_word (word_name asked.word ++ codes ": no capability is named ") text)
+with_caps asked text (Some names) = Ok (record asked { caps = asked.caps ++ names; awaits = None })
 
-abbrev pub with_kernel : Word → Question → Option Version → Result Question (List ℕ)
-with_kernel word asked None = Err (expected_line word Kernel)
-with_kernel word asked (Some version) = Ok (record asked { kernel = Some version; awaits = None })
+abbrev pub with_kernel : Question → Option Version → Result Question (List ℕ)
+with_kernel asked None = Err (expected_line asked.word Kernel)
+with_kernel asked (Some version) = Ok (record asked { kernel = Some version; awaits = None })
 
-abbrev pub with_architecture : Word → Question → List ℕ → Option Architecture → Result Question (List ℕ)
-with_architecture word asked text None = Err (of_word (word_name word ++ codes ": no architecture is named ") text)
-with_architecture word asked text (Some by) = Ok (record asked { arch = Some by; awaits = None })
+abbrev pub with_architecture : Question → List ℕ → Option Architecture → Result Question (List ℕ)
+with_architecture asked text None = Err (of_word (word_name asked.word ++ codes ": no architecture is named ") text)
+with_architecture asked text (Some by) = Ok (record asked { arch = Some by; awaits = None })
 
 -- the word behind it
-abbrev pub with_value : Word → Valued → Question → List ℕ → Result Question (List ℕ)
-with_value word Call asked text = Ok (record asked { call = Some text; awaits = None })
-with_value word Cap asked text = with_caps word asked text (capability text)
-with_value word Kernel asked text = with_kernel word asked (kernel_of text)
-with_value word Arch asked text = with_architecture word asked text (architecture_named text)
+abbrev pub with_value : Valued → Question → List ℕ → Result Question (List ℕ)
+with_value Call asked text = Ok (record asked { call = Some text; awaits = None })
+with_value Cap asked text = with_caps asked text (capability text)
+with_value Kernel asked text = with_kernel asked (kernel_of text)
+with_value Arch asked text = with_architecture asked text (architecture_named text)
 
 -- ---- one word more
 
--- an option that stands alone: one of this word
-abbrev pub with_own_flag : Word → Question → List ℕ → Result Question (List ℕ)
-with_own_flag Calls asked text =
-    if bytes_eq text (codes "--examples") then Ok (record asked { examples = true }) else with_name Calls asked text
-with_own_flag Filter asked text =
-    if bytes_eq text (codes "--raw") then Ok (record asked { raw = true }) else with_name Filter asked text
-with_own_flag When asked text =
-    if bytes_eq text (codes "--dot") then Ok (record asked { dot = true }) else with_name When asked text
-with_own_flag Diff asked text =
-    if bytes_eq text (codes "--stricter") then Ok (record asked { stricter = true }) else with_name Diff asked text
-with_own_flag word asked text = with_name word asked text
+-- the word with the option of its own that is named so, which stands alone
+abbrev pub with_own_flag : Word → List ℕ → Option Word
+with_own_flag (Calls examples) text = if bytes_eq text (codes "--examples") then Some (Calls true) else None
+with_own_flag (Filter raw) text = if bytes_eq text (codes "--raw") then Some (Filter true) else None
+with_own_flag (When dot) text = if bytes_eq text (codes "--dot") then Some (When true) else None
+with_own_flag (Diff stricter) text = if bytes_eq text (codes "--stricter") then Some (Diff true) else None
+with_own_flag word text = None
+
+abbrev pub with_name_or_flag : Question → List ℕ → Option Word → Result Question (List ℕ)
+with_name_or_flag asked text (Some word) = Ok (record asked { word = word })
+with_name_or_flag asked text None = with_name asked text
 
 -- or that of all words, where there may be a profile
-abbrev pub with_flag : Word → Question → List ℕ → Result Question (List ℕ)
-with_flag word asked text =
-    if bytes_eq text (codes "--runc") then Ok (record asked { runc = true }) else with_own_flag word asked text
+abbrev pub with_flag : Question → List ℕ → Result Question (List ℕ)
+with_flag asked text =
+    if bytes_eq text (codes "--runc") then Ok (record asked { runc = true })
+    else with_name_or_flag asked text (with_own_flag asked.word text)
 
-abbrev pub with_option : Word → Question → List ℕ → Option Valued → Result Question (List ℕ)
-with_option word asked text (Some option) = with_valued word option asked
-with_option word asked text None = with_flag word asked text
+abbrev pub with_option : Question → List ℕ → Option Valued → Result Question (List ℕ)
+with_option asked text (Some option) = with_valued option asked
+with_option asked text None = with_flag asked text
 
-abbrev pub with_free : Word → Question → List ℕ → Result Question (List ℕ)
-with_free word asked text =
+abbrev pub with_free : Question → List ℕ → Result Question (List ℕ)
+with_free asked text =
     if bytes_eq text (codes "--help") then Ok (record asked { help = true })
-    else with_option word asked text (valued_named word text)
+    else with_option asked text (valued_named asked.word text)
 
-abbrev pub with_awaited : Word → Question → List ℕ → Option Valued → Result Question (List ℕ)
-with_awaited word asked text (Some option) = with_value word option asked text
-with_awaited word asked text None = with_free word asked text
+abbrev pub with_awaited : Question → List ℕ → Option Valued → Result Question (List ℕ)
+with_awaited asked text (Some option) = with_value option asked text
+with_awaited asked text None = with_free asked text
 
-abbrev pub with_word : Word → Question → List ℕ → Result Question (List ℕ)
-with_word word asked text = with_awaited word asked text asked.awaits
+abbrev pub with_word : Question → List ℕ → Result Question (List ℕ)
+with_word asked text = with_awaited asked text asked.awaits
 
 -- ---- all of them
 
 -- what the names behind a word stand for. There may be more of the last
 abbrev pub wanted : Word → List (List ℕ)
-wanted Diff = codes "OLD" ∷ codes "NEW" ∷ []
+wanted (Diff stricter) = codes "OLD" ∷ codes "NEW" ∷ []
 wanted Replay = codes "LOG" ∷ codes "FILE" ∷ []
 wanted Why = codes "CALL" ∷ codes "FILE" ∷ []
 wanted word = codes "FILE" ∷ []
 
 -- the first that is wanted and has no name
-abbrev pub missing : Word → Question → Option (List ℕ)
-missing word asked = slice_get (wanted word) (length asked.names)
+abbrev pub missing : Question → Option (List ℕ)
+missing asked = slice_get (wanted asked.word) (length asked.names)
 
-abbrev pub none_missing : Word → Question → Option (List ℕ) → Result Question (List ℕ)
-none_missing word asked None = Ok asked
-none_missing word asked (Some kind) = Err (of_word (word_name word ++ (codes ": no " ++ (kind ++ codes " is given"))) [])
+abbrev pub none_missing : Question → Option (List ℕ) → Result Question (List ℕ)
+none_missing asked None = Ok asked
+none_missing asked (Some kind) = Err (of_word (word_name asked.word ++ (codes ": no " ++ (kind ++ codes " is given"))) [])
 
 -- two chains are compared, an old one and a new one, each of a file
 abbrev pub two_named : Question → Result Question (List ℕ)
@@ -209,8 +206,8 @@ two_named asked =
 
 -- as many names as the word wants
 abbrev pub named : Word → Question → Result Question (List ℕ)
-named Diff asked = two_named asked
-named word asked = none_missing word asked (missing word asked)
+named (Diff stricter) asked = two_named asked
+named word asked = none_missing asked (missing asked)
 
 -- the halves of arguments stand the other way round where their highest byte comes first, and that is followed nowhere
 abbrev pub is_turned : Option Architecture → Bool
@@ -218,44 +215,48 @@ is_turned None = false
 is_turned (Some by) = is_big_endian_of by
 
 -- arguments are told of by all words but these
-abbrev pub tells_arguments : Word → Bool → Bool
-tells_arguments Calls examples = examples
-tells_arguments Show examples = false
-tells_arguments word examples = true
+abbrev pub tells_arguments : Word → Bool
+tells_arguments (Calls examples) = examples
+tells_arguments Show = false
+tells_arguments word = true
 
-abbrev pub understood : Word → Question → Result Question (List ℕ)
-understood word asked =
-    if is_turned asked.arch && tells_arguments word asked.examples
-    then Err (of_word (word_name word ++ codes ": arguments with their highest byte first are not followed: ") (codes "--arch s390x"))
+abbrev pub understood : Question → Result Question (List ℕ)
+understood asked =
+    if is_turned asked.arch && tells_arguments asked.word
+    then Err (of_word (word_name asked.word ++ codes ": arguments with their highest byte first are not followed: ") (codes "--arch s390x"))
     else Ok asked
 
--- a picture is that of one call
-abbrev pub drawn : Word → Question → Result Question (List ℕ)
-drawn word asked =
-    if asked.dot && not (is_some asked.call)
-    then Err (of_word (word_name word ++ codes ": expected --call CALL beside ") (codes "--dot"))
-    else understood word asked
+abbrev pub draws : Word → Bool
+draws (When dot) = dot
+draws word = false
 
-abbrev pub complete : Word → Question → Result Question (List ℕ)
-complete word asked =
+-- a picture is that of one call
+abbrev pub drawn : Question → Result Question (List ℕ)
+drawn asked =
+    if draws asked.word && not (is_some asked.call)
+    then Err (of_word (word_name asked.word ++ codes ": expected --call CALL beside ") (codes "--dot"))
+    else understood asked
+
+abbrev pub complete : Question → Result Question (List ℕ)
+complete asked =
     if asked.help then Ok asked
-    else elim (named word asked) [
+    else elim (named asked.word asked) [
       | Err line ↦ Err line
-      | Ok asked ↦ drawn word asked
+      | Ok asked ↦ drawn asked
     ]
 
-abbrev pub ended_at : Word → Question → Option Valued → Result Question (List ℕ)
-ended_at word asked (Some option) = Err (expected_line word option)
-ended_at word asked None = complete word asked
+abbrev pub ended_at : Question → Option Valued → Result Question (List ℕ)
+ended_at asked (Some option) = Err (expected_line asked.word option)
+ended_at asked None = complete asked
 
 -- no option's word is awaited any more
-abbrev pub ended : Word → Question → Result Question (List ℕ)
-ended word asked = ended_at word asked asked.awaits
+abbrev pub ended : Question → Result Question (List ℕ)
+ended asked = ended_at asked asked.awaits
 
 -- what is asked with the words that are left
-abbrev pub asked_of : Word → Question → List (List ℕ) → Result Question (List ℕ)
-asked_of word asked [] = ended word asked
-asked_of word asked (text ∷ words) = elim (with_word word asked text) [
+abbrev pub asked_of : Question → List (List ℕ) → Result Question (List ℕ)
+asked_of asked [] = ended asked
+asked_of asked (text ∷ words) = elim (with_word asked text) [
   | Err line ↦ Err line
-  | Ok more ↦ asked_of word more words
+  | Ok more ↦ asked_of more words
 ]

@@ -1,18 +1,27 @@
--- The text of `ask calls`: that of a survey, with verdicts as people read them.
-use Rattle.std.specs.Prelude.{ℕ, ◌++◌, Bool, true, false, List, [], codes, flat_map, Option, Some, None}
+-- What `ask calls` tells: the text of a survey, with verdicts as people read them.
+use Rattle.std.specs.Prelude.{ℕ, ◌≡◌, ◌&&◌, ◌++◌, is_none, not, Bool, true, false, List, [], codes, flat_map, Option, Some, None}
+use Rattle.std.specs.List.{All}
 use Rattle.std.specs.Fmt.{decimal}
 use Rattle.hex.specs.Hex.{encode_lower}
+use Rattle.sk_insn.specs.declared.insn.Insn.{Insn}
 use Rattle.sk_insn.specs.Record.{record_bytes}
 use Rattle.sk_engines.specs.Output.{line}
 use Rattle.sk_survey.specs.declared.rows.Row.{Row}
 use Rattle.sk_survey.specs.Answers.{answers_of}
+use Rattle.sk_survey.specs.Looks.{looks_at_architecture}
+use Rattle.sk_conditions.specs.Followed.{AreFollowed}
+use Rattle.sk_when.specs.Verdicts.{ShowsEach}
 use Rattle.sk_show.specs.declared.example.Example.{Example}
 use Rattle.sk_show.specs.declared.survey_line.Shown.{Shown}
 use Rattle.sk_show.specs.declared.survey_line.Line.{Line}
+use Rattle.sk_show.specs.declared.options.Options.{Options}
+use Rattle.sk_show.specs.Lines.{AreLinesOf}
 use Rattle.sk_show.specs.Text.{numbers_text, name_text, answers_text}
 use Rattle.sk_filter.specs.VerdictText.{verdict_text}
 use Rattle.sk_names.specs.declared.architecture.Architecture.{Architecture}
-use Rattle.sk_ask.specs.Architectures.{call_on}
+use Rattle.sk_ask.specs.Architectures.{call_on, chain_on}
+use Rattle.sk_ask.specs.Endings.{Ending, answered}
+use Rattle.sk_ask.specs.Steps.{MayBeSpent, when_steps}
 
 -- one row: its numbers, the name of a single one, and the verdicts
 unfoldable pub row_text : Architecture → Row → List ℕ
@@ -41,3 +50,21 @@ unseen_text false = []
 
 abbrev pub calls_text : Architecture → List Line → Bool → List ℕ
 calls_text by lines unseen = flat_map (line_text by) lines ++ unseen_text unseen
+
+-- the calls of all numbers are told, and no filter looks at the architecture
+abbrev pub is_unseen : Options → List (List Insn) → Bool
+is_unseen options chain = is_none options.call && not (looks_at_architecture chain)
+
+-- the lines of a survey: as far as the steps reach that ask gives, a call is shown for each verdict that a call of a row gets, where
+-- the filters are followed
+pub record AreLinesTold (may_spend : ℕ → Bool) (options : Options) (programs : List (List Insn)) (lines : List Line) : Type 0 where
+  pub told : AreLinesOf options programs lines
+  pub is_spent : Bool
+  pub steps : MayBeSpent may_spend when_steps is_spent
+  pub each : All AreFollowed programs → is_spent ≡ false → All (ShowsEach programs) lines
+
+-- a text tells the lines of a survey of the chain, as it is for the architecture
+abbrev pub TellsSurvey : (ℕ → Bool) → Options → List (List Insn) → List ℕ → Ending → Type 0
+TellsSurvey may_spend options chain notes ending =
+    (lines : List Line) × AreLinesTold may_spend options (chain_on options.architecture chain) lines
+    × (ending ≡ answered notes (calls_text options.architecture lines (is_unseen options chain)) false)

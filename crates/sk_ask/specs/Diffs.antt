@@ -1,5 +1,5 @@
--- What `ask diff` answers.
-use Rattle.std.specs.Prelude.{ℕ, ◌≡◌, ◌⊎◌, ◌++◌, Bool, true, false, List, codes, take, drop}
+-- What `ask diff` tells.
+use Rattle.std.specs.Prelude.{ℕ, ◌≡◌, ◌⊎◌, ◌++◌, Bool, true, false, List, codes}
 use Rattle.sk_insn.specs.declared.insn.Insn.{Insn}
 use Rattle.sk_names.specs.declared.architecture.Architecture.{Architecture}
 use Rattle.sk_conditions.specs.declared.standing.Relation.{Relation}
@@ -7,13 +7,9 @@ use Rattle.sk_conditions.specs.declared.standing.Relation.TheVariants.{Same, AsS
 use Rattle.sk_when.specs.declared.diff_engine.Finding.{Finding}
 use Rattle.sk_when.specs.declared.diff_engine.Finding.TheVariants.{Holds, Fails, Undecided}
 use Rattle.sk_when.specs.Diffs.{IsComparison}
-use Rattle.sk_profile_json.specs.declared.context.Context.{Context}
-use Rattle.sk_ask.specs.Shelves.{Held}
-use Rattle.sk_ask.specs.Architectures.{architecture_of, chain_on}
-use Rattle.sk_ask.specs.Asking.{Question}
+use Rattle.sk_ask.specs.Architectures.{chain_on}
 use Rattle.sk_ask.specs.Endings.{Ending, answered, refused, no_memory, ComesTo}
 use Rattle.sk_ask.specs.Steps.{MayBeSpent, diff_steps}
-use Rattle.sk_ask.specs.Troubles.{OfFiles}
 
 abbrev pub relation_asked : Bool → Relation
 relation_asked false = Same
@@ -36,14 +32,3 @@ IsDiff may_spend by stricter old new notes ending =
     × IsComparison by (relation_asked stricter) (chain_on by old) (chain_on by new) is_spent finding text
     × MayBeSpent may_spend diff_steps is_spent × EndsAs finding notes text ending)
     ⊎ (ending ≡ no_memory)
-
--- the chain of files with these names is compared with that of files with those
-abbrev pub AnswersSides : (List ℕ → Held) → (ℕ → Bool) → Context → Architecture → Bool → List (List ℕ) → List (List ℕ) → Ending → Type 0
-AnswersSides held may_spend context by stricter names others ending =
-    OfFiles held context names ending (λ found old notes.
-    OfFiles held context others ending (λ other new more. IsDiff may_spend by stricter old new (notes ++ more) ending))
-
--- the first file has the old chain
-abbrev pub AnswersDiff : (List ℕ → Held) → (ℕ → Bool) → Context → Question → Ending → Type 0
-AnswersDiff held may_spend context asked ending =
-    AnswersSides held may_spend context (architecture_of asked.arch) asked.stricter (take 1 asked.names) (drop 1 asked.names) ending

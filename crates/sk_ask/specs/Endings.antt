@@ -26,6 +26,10 @@ abbrev pub ComesTo : Ending → Ending → Type 0
 ComesTo wanted no_memory = ⊤
 ComesTo wanted ending = ending ≡ wanted
 
+-- it ends so, or memory is refused before
+abbrev pub MayEnd : (Ending → Type 0) → Ending → Type 0
+MayEnd P ending = P ending ⊎ (ending ≡ no_memory)
+
 -- ---- the reads
 
 -- the count of failed reads is one more where a read is told to have failed, and else it stays

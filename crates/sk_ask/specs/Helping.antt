@@ -8,10 +8,10 @@ abbrev pub help_text : List ℕ
 help_text = HELP.now
 
 abbrev pub word_help_text : Word → List ℕ
-word_help_text Calls = CALLS_HELP.now
-word_help_text Filter = FILTER_HELP.now
-word_help_text When = WHEN_HELP.now
-word_help_text Diff = DIFF_HELP.now
+word_help_text (Calls examples) = CALLS_HELP.now
+word_help_text (Filter raw) = FILTER_HELP.now
+word_help_text (When dot) = WHEN_HELP.now
+word_help_text (Diff stricter) = DIFF_HELP.now
 word_help_text Replay = REPLAY_HELP.now
 word_help_text Why = WHY_HELP.now
 word_help_text Show = SHOW_HELP.now

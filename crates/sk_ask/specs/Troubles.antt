@@ -1,5 +1,5 @@
 -- Endings without an answer, by their reasons.
-use Rattle.std.specs.Prelude.{ℕ, ◌≡◌, ◌⊎◌, Bool, false, List, [], ◌∷◌, Err}
+use Rattle.std.specs.Prelude.{ℕ, ◌≡◌, ◌⊎◌, Bool, List, [], ◌∷◌, Err}
 use Rattle.sk_insn.specs.declared.insn.Insn.{Insn}
 use Rattle.sk_profile_json.specs.declared.context.Context.{Context}
 use Rattle.sk_ask.specs.Filters.{Filters}
@@ -20,10 +20,11 @@ OfFirst (first ∷ others) ending P = P first others
 
 -- the files with these names make a chain, and what is so of their filters, of the chain and of what is told of profiles is so;
 -- or one of them is refused or not read. Bytes may have the highest byte of a number first, where that is asked for
-abbrev pub OfFilesIn : Bool → (List ℕ → Held) → Context → List (List ℕ) → Ending → (Filters → List (List Insn) → List ℕ → Type 0) → Type 0
-OfFilesIn big held context names ending P =
+abbrev pub OfFiles : Bool → (List ℕ → Held) → Context → List (List ℕ) → Ending → (Filters → List (List Insn) → List ℕ → Type 0) → Type 0
+OfFiles big held context names ending P =
     ((found : Filters) × (chain : List (List Insn)) × (notes : List ℕ) × ReadsFilters big held context names found chain notes × P found chain notes)
     ⊎ IsTrouble ending (IsRefusedOf big held context names)
 
-abbrev pub OfFiles : (List ℕ → Held) → Context → List (List ℕ) → Ending → (Filters → List (List Insn) → List ℕ → Type 0) → Type 0
-OfFiles held context names ending P = OfFilesIn false held context names ending P
+-- the same of files with any names, as all words read them
+abbrev pub Over : Type 1
+Over = List (List ℕ) → Ending → (Filters → List (List Insn) → List ℕ → Type 0) → Type 0

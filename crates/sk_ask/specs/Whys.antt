@@ -1,4 +1,4 @@
--- What `ask why` answers.
+-- What `ask why` tells.
 use Rattle.std.specs.Prelude.{ℕ, ◌≡◌, ◌⊎◌, ◌++◌, false, List, [], codes, Ok, Err, ⊤}
 use Rattle.sk_insn.specs.declared.insn.Insn.{Insn}
 use Rattle.sk_insn.specs.declared.record.Record.{Record}
@@ -8,15 +8,11 @@ use Rattle.sk_replay.specs.declared.fault.CallFault.TheVariants.{NoCall}
 use Rattle.sk_replay.specs.CallWords.{call_of, name_part}
 use Rattle.sk_replay.specs.Faults.{fault_text}
 use Rattle.sk_show.specs.PathText.{TellsWhy}
-use Rattle.sk_profile_json.specs.declared.context.Context.{Context}
 use Rattle.sk_ask.specs.declared.trouble.Trouble.{Trouble}
 use Rattle.sk_ask.specs.declared.trouble.Trouble.TheVariants.{Refused, Reading, Memory}
 use Rattle.sk_ask.specs.Complaints.{of_word}
-use Rattle.sk_ask.specs.Shelves.{Held}
-use Rattle.sk_ask.specs.Architectures.{architecture_of}
-use Rattle.sk_ask.specs.Asking.{Question}
 use Rattle.sk_ask.specs.Endings.{Ending, answered}
-use Rattle.sk_ask.specs.Troubles.{IsTrouble, OfFiles, OfFirst}
+use Rattle.sk_ask.specs.Troubles.{IsTrouble}
 
 -- the line that refuses a word which stands for no call
 abbrev pub fault_line : List ℕ → CallFault → List ℕ
@@ -33,13 +29,6 @@ IsFaultOf by word Memory = ⊤
 abbrev pub TellsWhyOf : Architecture → Record → List (List Insn) → List ℕ → Ending → Type 0
 TellsWhyOf by call chain notes ending = (text : List ℕ) × TellsWhy by chain call text × (ending ≡ answered notes text false)
 
--- the path of the call that the word stands for, through the chain that the files make; or it stands for none
-abbrev pub AnswersCall : (List ℕ → Held) → Context → Architecture → List ℕ → List (List ℕ) → Ending → Type 0
-AnswersCall held context by word names ending =
-    ((call : Record) × (call_of by word ≡ Ok call) × OfFiles held context names ending (λ found chain notes. TellsWhyOf by call chain notes ending))
-    ⊎ IsTrouble ending (IsFaultOf by word)
-
--- the first name is the call
-abbrev pub AnswersWhy : (List ℕ → Held) → Context → Question → Ending → Type 0
-AnswersWhy held context asked ending =
-    OfFirst asked.names ending (λ word names. AnswersCall held context (architecture_of asked.arch) word names ending)
+-- what is so of the call that the word stands for; or it stands for none
+abbrev pub OfMeant : Architecture → List ℕ → Ending → (Record → Type 0) → Type 0
+OfMeant by word ending P = ((call : Record) × (call_of by word ≡ Ok call) × P call) ⊎ IsTrouble ending (IsFaultOf by word)

@@ -1,4 +1,13 @@
-//! What the program answers.
+//! What the program answers, and what its words tell of filters.
+ghost use Rattle.std.specs.Prelude.{ℕ, List};
+ghost use Rattle.sk_insn.specs.declared.insn.Insn.{Insn};
+ghost use Rattle.sk_ask.specs.Counts.{CountsReads};
+ghost use Rattle.sk_ask.specs.Endings.{Ending, MayEnd, ending_of};
+ghost use Rattle.sk_ask.specs.Filters.{Filters as FoundFilters};
+ghost use Rattle.sk_ask.specs.Finding.{filters_of};
+
+use crate::{Filters, Trouble};
+use std::alloc::Global;
 
 /// The text of an answer, the lines of what is told beside it, and whether it says no.
 #[derive(Drop)]
@@ -6,4 +15,15 @@ pub struct Answer {
     pub text: Vec<u8>,
     pub notes: Vec<u8>,
     pub denies: bool,
+}
+
+/// A word, with its options and what stands before its FILEs.
+pub trait Tells: Drop {
+    // How it ends over filters that were found, their chain, and the lines of what is told of profiles among them.
+    ghost tells: { Self → FoundFilters → List (List Insn) → List ℕ → Ending → Type 0 };
+
+    /// What it tells of the filters in its FILEs.
+    fn told(self, alloc: Global, filters: Filters) -> Result<Answer, Trouble>
+        ensures told { MayEnd (tells self (filters_of filters.found) filters.chain filters.notes.items) (ending_of result) }
+        ensures unread { (reads : ℕ) → CountsReads result reads reads };
 }

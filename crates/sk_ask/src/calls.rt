@@ -1,24 +1,16 @@
 //! `ask calls`: what filters can answer to each call.
-ghost use Rattle.std.specs.Prelude.{◌≡◌, IfOk, IfErr, Ok};
+ghost use Rattle.std.specs.Prelude.{◌≡◌, IfOk, IfErr};
 ghost use Rattle.std.specs.Option.{option_map};
-ghost use Rattle.sk_filter.specs.Chains.{IsWithinLimit};
-ghost use Rattle.sk_ask.specs.Counts.{CountsReads};
-ghost use Rattle.sk_ask.specs.Endings.{ending_of};
-ghost use Rattle.sk_ask.specs.Asked.{question_of};
-ghost use Rattle.sk_ask.specs.Answering.{AnswersCalls, AreLinesTold, TellsSurvey};
-ghost use Rattle.sk_ask.specs.CallsText.{calls_text};
+ghost use Rattle.sk_ask.specs.CallsText.{AreLinesTold, calls_text};
 ghost use Rattle.sk_ask.specs.Calls.{IsAskedCall, IsNoCall};
 
 use crate::analysis::Analysis;
-use crate::answer::Answer;
+use crate::answer::{Answer, Tells};
 use crate::calls_text::calls_text;
-use crate::filters::asked_filters;
-use crate::on::{architecture_of, filters_on};
-use crate::words::Asked;
-use crate::{Filters, Shelf, Trouble, of_word};
+use crate::on::{On, filters_on};
+use crate::{Filters, Trouble, of_word};
 use sk_filter::Chain;
 use sk_names::Architecture;
-use sk_profile_json::Context;
 use sk_replay::call_named;
 use sk_show::{Line, Options};
 use sk_survey::looks_at_architecture;
@@ -28,46 +20,34 @@ use std::alloc::{AllocError, Global};
 /// How many rows may take all the steps of a row, where calls are looked for.
 const MOST_ROWS: u32 = 2;
 
-/// Answers `ask calls`.
-pub fn calls<S: Shelf, A: Analysis>(
-    alloc: Global,
-    asked: &Asked<'_>,
-    shelf: &S,
-    analysis: &A,
-    context: &Context<'_>,
-    reads: &mut u64,
-) -> Result<Answer, Trouble>
-    ensures told { AnswersCalls (S.held shelf.now) (A.may_spend analysis.now) context.now (question_of asked.now) (ending_of result) }
-    ensures counted { CountsReads result reads.old reads.new }
-{
-    let architecture = architecture_of(asked.arch);
-    let call = asked_call(alloc, architecture, asked.call)?;
-    let filters = asked_filters(alloc, asked, shelf, context, reads)?;
-    let options = Options {
-        architecture,
-        call,
-        examples: asked.examples,
-    };
-    Ok(survey(alloc, analysis, options, filters)?)
+/// `ask calls`, of a call if one is asked for, with calls for the verdicts where they are wanted.
+#[derive(Drop)]
+pub struct Calls<'a, A> {
+    pub on: On<'a, A>,
+    pub examples: bool,
 }
 
-fn survey<A: Analysis>(
-    alloc: Global,
-    analysis: &A,
-    options: Options,
-    filters: Filters,
-) -> Result<Answer, AllocError>
-    requires limited { IsWithinLimit filters.chain }
-    ensures survey { IfOk result (λ answer. TellsSurvey (A.may_spend analysis.now) options filters.chain filters.notes.items (ending_of (Ok answer))) }
-{
-    let unseen = options.call.is_none() && !looks_at_architecture(&filters.chain);
-    let (chain, notes) = filters_on(alloc, options.architecture, filters)?;
-    let lines = lines_of(alloc, analysis, options, &chain)?;
-    Ok(Answer {
-        text: text_of(alloc, options.architecture, &lines, unseen)?,
-        notes,
-        denies: false,
-    })
+impl<A: Analysis> Tells for Calls<'_, A> {
+    ghost use Rattle.sk_ask.specs.CallsText.{TellsSurvey};
+
+    ghost tells = { λ it _ chain notes ending. TellsSurvey (A.may_spend it.on.analysis.now)
+        (record { architecture = it.on.architecture; call = it.on.call; examples = it.examples }) chain notes ending };
+
+    fn told(self, alloc: Global, filters: Filters) -> Result<Answer, Trouble> {
+        let options = Options {
+            architecture: self.on.architecture,
+            call: self.on.call,
+            examples: self.examples,
+        };
+        let unseen = options.call.is_none() && !looks_at_architecture(&filters.chain);
+        let (chain, notes) = filters_on(alloc, options.architecture, filters)?;
+        let lines = lines_of(alloc, self.on.analysis, options, &chain)?;
+        Ok(Answer {
+            text: text_of(alloc, options.architecture, &lines, unseen)?,
+            notes,
+            denies: false,
+        })
+    }
 }
 
 fn lines_of<A: Analysis>(

@@ -1,72 +1,43 @@
 //! `ask diff`: where the filters of two files answer otherwise.
 ghost use Rattle.std.specs.Prelude.{◌≡◌, ◌++◌, take, drop, map, string_bytes, IfOk};
 ghost use Rattle.sk_filter.specs.Chains.{IsWithinLimit};
-ghost use Rattle.sk_ask.specs.Counts.{CountsReads};
 ghost use Rattle.sk_ask.specs.Endings.{ending_of};
-ghost use Rattle.sk_ask.specs.Asked.{question_of};
-ghost use Rattle.sk_ask.specs.Diffs.{AnswersDiff, AnswersSides, IsDiff, relation_asked, undecided_text};
+ghost use Rattle.sk_ask.specs.Diffs.{IsDiff, relation_asked, undecided_text};
 
 use crate::analysis::Analysis;
-use crate::answer::Answer;
-use crate::on::{architecture_of, filters_on};
-use crate::words::Asked;
-use crate::{Filters, Shelf, Trouble, filters_in};
+use crate::answer::{Answer, Tells};
+use crate::on::{On, filters_on};
+use crate::{Filters, Trouble};
 use sk_names::Architecture;
-use sk_profile_json::Context;
 use sk_when::{Budgets, Comparison, Finding, Relation};
 use std::alloc::{AllocError, Global};
 
 /// How many rows a comparison may take that need all the steps of a row.
 const MOST_ROWS: u32 = 4;
 
-/// Answers `ask diff`.
-pub fn diff<S: Shelf, A: Analysis>(
-    alloc: Global,
-    asked: &Asked<'_>,
-    shelf: &S,
-    analysis: &A,
-    context: &Context<'_>,
-    reads: &mut u64,
-) -> Result<Answer, Trouble>
-    ensures told { AnswersDiff (S.held shelf.now) (A.may_spend analysis.now) context.now (question_of asked.now) (ending_of result) }
-    ensures counted { CountsReads result reads.old reads.new }
-{
-    let (old, new) = sides(&asked.names);
-    let architecture = architecture_of(asked.arch);
-    diff_of(
-        alloc,
-        architecture,
-        asked.stricter,
-        shelf,
-        analysis,
-        context,
-        reads,
-        old,
-        new,
-    )
+/// `ask diff`, behind the old FILE.
+#[derive(Drop)]
+pub struct Diff<'a, A> {
+    pub on: On<'a, A>,
+    pub stricter: bool,
+    pub old: Filters,
 }
 
-fn diff_of<S: Shelf, A: Analysis>(
-    alloc: Global,
-    architecture: Architecture,
-    stricter: bool,
-    shelf: &S,
-    analysis: &A,
-    context: &Context<'_>,
-    reads: &mut u64,
-    old: &[String],
-    new: &[String],
-) -> Result<Answer, Trouble>
-    ensures told { AnswersSides (S.held shelf.now) (A.may_spend analysis.now) context.now architecture stricter (map string_bytes old.now) (map string_bytes new.now) (ending_of result) }
-    ensures counted { CountsReads result reads.old reads.new }
-{
-    let old = filters_in(alloc, false, shelf, context, reads, old)?;
-    let new = filters_in(alloc, false, shelf, context, reads, new)?;
-    compared(alloc, analysis, architecture, stricter, old, new)
+impl<A: Analysis> Tells for Diff<'_, A> {
+    ghost use Rattle.std.specs.Prelude.{◌++◌};
+    ghost use Rattle.sk_ask.specs.Diffs.{IsDiff};
+
+    ghost tells = { λ it _ new notes ending.
+        IsDiff (A.may_spend it.on.analysis.now) it.on.architecture it.stricter it.old.chain new (it.old.notes.items ++ notes) ending };
+
+    fn told(self, alloc: Global, filters: Filters) -> Result<Answer, Trouble> {
+        let Diff { on, stricter, old } = self;
+        compared(alloc, on.analysis, on.architecture, stricter, old, filters)
+    }
 }
 
-// The first name, and those behind it.
-fn sides(names: &[String]) -> (&[String], &[String])
+/// The first name, and those behind it.
+pub fn sides(names: &[String]) -> (&[String], &[String])
     ensures old { map string_bytes result.0.now ≡ take 1 (map string_bytes names.now) }
     ensures new { map string_bytes result.1.now ≡ drop 1 (map string_bytes names.now) }
 {

@@ -1,46 +1,34 @@
 //! `ask filter`: the filters as lines, or one filter as raw bytes.
 ghost use Rattle.std.specs.Prelude.{◌≡◌, ◌++◌, true, IfOk, OnOk, map};
-ghost use Rattle.sk_ask.specs.Finding.{filters_of};
-ghost use Rattle.sk_ask.specs.Counts.{CountsReads};
 ghost use Rattle.sk_ask.specs.Endings.{ending_of};
-ghost use Rattle.sk_ask.specs.Asked.{question_of};
-ghost use Rattle.sk_ask.specs.Answering.{AnswersFilter, Gives};
-ghost use Rattle.sk_ask.specs.FilterText.{filter_line, filter_lines};
+ghost use Rattle.sk_ask.specs.FilterText.{Gives, filter_line, filter_lines};
 
-use crate::answer::Answer;
-use crate::filters::asked_filters;
-use crate::words::Asked;
-use crate::{Filters, Shelf, Trouble, of_word};
-use sk_profile_json::Context;
+use crate::answer::{Answer, Tells};
+use crate::{Filters, Trouble, of_word};
 use std::alloc::{AllocError, Global};
 
-/// Answers `ask filter`.
-pub fn filter<S: Shelf>(
-    alloc: Global,
-    asked: &Asked<'_>,
-    shelf: &S,
-    context: &Context<'_>,
-    reads: &mut u64,
-) -> Result<Answer, Trouble>
-    ensures told { AnswersFilter (S.held shelf.now) context.now (question_of asked.now) (ending_of result) }
-    ensures counted { CountsReads result reads.old reads.new }
-{
-    let filters = asked_filters(alloc, asked, shelf, context, reads)?;
-    given(alloc, asked.raw, filters)
+/// `ask filter`, of one filter alone where its bytes are wanted.
+#[derive(Drop)]
+pub struct Filter {
+    pub raw: bool,
 }
 
-fn given(alloc: Global, raw: bool, filters: Filters) -> Result<Answer, Trouble>
-    ensures told { Gives raw (filters_of filters.found).images filters.notes.items (ending_of result) }
-{
-    let notes = filters.notes;
-    if raw {
-        return only(alloc, &filters.found.images, notes);
+impl Tells for Filter {
+    ghost use Rattle.sk_ask.specs.FilterText.{Gives};
+
+    ghost tells = { λ it found _ notes ending. Gives it.raw found.images notes ending };
+
+    fn told(self, alloc: Global, filters: Filters) -> Result<Answer, Trouble> {
+        let notes = filters.notes;
+        if self.raw {
+            return only(alloc, &filters.found.images, notes);
+        }
+        Ok(Answer {
+            text: filter_lines(alloc, &filters.found.images)?,
+            notes,
+            denies: false,
+        })
     }
-    Ok(Answer {
-        text: filter_lines(alloc, &filters.found.images)?,
-        notes,
-        denies: false,
-    })
 }
 
 fn only(alloc: Global, images: &[Vec<u8>], notes: Vec<u8>) -> Result<Answer, Trouble>

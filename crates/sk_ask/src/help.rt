@@ -105,10 +105,10 @@ pub fn word_help(word: Word) -> &'static str
     ensures text { result.now ≡ word_help_text word }
 {
     match word {
-        Word::Calls => CALLS_HELP,
-        Word::Filter => FILTER_HELP,
-        Word::When => WHEN_HELP,
-        Word::Diff => DIFF_HELP,
+        Word::Calls { .. } => CALLS_HELP,
+        Word::Filter { .. } => FILTER_HELP,
+        Word::When { .. } => WHEN_HELP,
+        Word::Diff { .. } => DIFF_HELP,
         Word::Replay => REPLAY_HELP,
         Word::Why => WHY_HELP,
         Word::Show => SHOW_HELP,

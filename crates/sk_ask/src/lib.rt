@@ -32,6 +32,7 @@ mod output;
 mod replay;
 mod shelf;
 mod show;
+mod table;
 mod text;
 mod trouble;
 mod when;

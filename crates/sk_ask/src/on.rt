@@ -1,6 +1,5 @@
 //! The architecture whose calls are asked of, and chains as they are for it.
 ghost use Rattle.std.specs.Prelude.{◌≡◌, IfOk};
-ghost use Rattle.sk_filter.specs.Chains.{IsWithinLimit};
 ghost use Rattle.sk_ask.specs.Architectures.{architecture_of, chain_on};
 
 use crate::Filters;
@@ -9,6 +8,14 @@ use sk_insn::ARCHITECTURE;
 use sk_names::Architecture;
 use sk_survey::chain_for;
 use std::alloc::{AllocError, Global};
+
+/// What is asked of chains: by which analysis, of which architecture's calls, and of which of these, if of one alone.
+#[derive(Drop)]
+pub struct On<'a, A> {
+    pub analysis: &'a A,
+    pub architecture: Architecture,
+    pub call: Option<u32>,
+}
 
 /// The architecture that is asked of.
 pub fn architecture_of(named: Option<Architecture>) -> Architecture
@@ -23,7 +30,6 @@ pub fn filters_on(
     architecture: Architecture,
     filters: Filters,
 ) -> Result<(Chain, Vec<u8>), AllocError>
-    requires limited { IsWithinLimit filters.chain }
     ensures chain { IfOk result (λ it. it.0 ≡ chain_on architecture filters.chain) }
     ensures notes { IfOk result (λ it. it.1.items ≡ filters.notes.items) }
 {
@@ -32,7 +38,6 @@ pub fn filters_on(
 }
 
 fn chain_on(alloc: Global, architecture: Architecture, chain: Chain) -> Result<Chain, AllocError>
-    requires limited { IsWithinLimit chain }
     ensures chain { IfOk result (λ it. it ≡ chain_on architecture chain) }
 {
     let number = architecture.audit();

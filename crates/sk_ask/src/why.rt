@@ -1,59 +1,39 @@
 //! `ask why`: the path of a call through the filters.
-ghost use Rattle.std.specs.Prelude.{◌≡◌, ◌≤◌, IfOk, IfErr, length, map, string_bytes};
+ghost use Rattle.std.specs.Prelude.{◌≡◌, IfOk, IfErr, Ok};
 ghost use Rattle.sk_replay.specs.CallWords.{call_of};
-ghost use Rattle.sk_ask.specs.Counts.{CountsReads};
-ghost use Rattle.sk_ask.specs.Endings.{ending_of};
-ghost use Rattle.sk_ask.specs.Asking.{wanted};
-ghost use Rattle.sk_ask.specs.Asked.{question_of};
-ghost use Rattle.sk_ask.specs.Whys.{AnswersCall, AnswersWhy, IsFaultOf, TellsWhyOf, fault_line};
+ghost use Rattle.sk_ask.specs.Whys.{IsFaultOf, fault_line};
 
-use crate::answer::Answer;
-use crate::on::architecture_of;
-use crate::word::Word;
-use crate::words::Asked;
-use crate::{Filters, Shelf, Trouble, filters_in, of_word};
+use crate::answer::{Answer, Tells};
+use crate::{Filters, Trouble, of_word};
 use sk_insn::Record;
 use sk_names::Architecture;
-use sk_profile_json::Context;
 use sk_replay::{CallFault, call_in, name_part};
 use std::alloc::{AllocError, Global};
 
-/// Answers `ask why`.
-pub fn why<S: Shelf>(
-    alloc: Global,
-    asked: &Asked<'_>,
-    shelf: &S,
-    context: &Context<'_>,
-    reads: &mut u64,
-) -> Result<Answer, Trouble>
-    requires named { length (wanted Word.Why) ≤ length asked.now.names.items }
-    ensures told { AnswersWhy (S.held shelf.now) context.now (question_of asked.now) (ending_of result) }
-    ensures counted { CountsReads result reads.old reads.new }
-{
-    let (word, files) = asked.first_name();
-    let architecture = architecture_of(asked.arch);
-    call_answer(alloc, architecture, shelf, context, reads, word, files)
+/// `ask why`, behind the call.
+#[derive(Drop)]
+pub struct Why {
+    pub architecture: Architecture,
+    pub call: Record,
 }
 
-fn call_answer<S: Shelf>(
-    alloc: Global,
-    architecture: Architecture,
-    shelf: &S,
-    context: &Context<'_>,
-    reads: &mut u64,
-    word: &str,
-    files: &[String],
-) -> Result<Answer, Trouble>
-    ensures told { AnswersCall (S.held shelf.now) context.now architecture word.now (map string_bytes files.now) (ending_of result) }
-    ensures counted { CountsReads result reads.old reads.new }
-{
-    let call = meant(alloc, architecture, word)?;
-    let filters = filters_in(alloc, false, shelf, context, reads, files)?;
-    Ok(path(alloc, architecture, filters, &call)?)
+impl Tells for Why {
+    ghost use Rattle.sk_ask.specs.Whys.{TellsWhyOf};
+
+    ghost tells = { λ it _ chain notes ending. TellsWhyOf it.architecture it.call chain notes ending };
+
+    fn told(self, alloc: Global, filters: Filters) -> Result<Answer, Trouble> {
+        let text = sk_show::why(alloc, self.architecture, &filters.chain, &self.call)?;
+        Ok(Answer {
+            text: text.into_bytes(),
+            notes: filters.notes,
+            denies: false,
+        })
+    }
 }
 
-// The call that a word stands for.
-fn meant(alloc: Global, architecture: Architecture, word: &str) -> Result<Record, Trouble>
+/// The call that a word stands for.
+pub fn meant(alloc: Global, architecture: Architecture, word: &str) -> Result<Record, Trouble>
     ensures call { IfOk result (λ call. call_of architecture word.now ≡ Ok call) }
     ensures fault { IfErr result (IsFaultOf architecture word.now) }
 {
@@ -73,19 +53,4 @@ fn fault_line(alloc: Global, word: &str, fault: CallFault) -> Result<Vec<u8>, Al
             of_word(alloc, &what, b"")
         }
     }
-}
-
-fn path(
-    alloc: Global,
-    architecture: Architecture,
-    filters: Filters,
-    call: &Record,
-) -> Result<Answer, AllocError>
-    ensures told { IfOk result (λ answer. TellsWhyOf architecture call.now filters.chain filters.notes.items (ending_of (Ok answer))) }
-{
-    Ok(Answer {
-        text: sk_show::why(alloc, architecture, &filters.chain, call)?.into_bytes(),
-        notes: filters.notes,
-        denies: false,
-    })
 }

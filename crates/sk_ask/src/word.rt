@@ -1,20 +1,20 @@
 //! The words of `ask`, and the options that a word stands behind.
 ghost use Rattle.std.specs.Prelude.{◌≡◌};
-ghost use Rattle.sk_ask.specs.Asking.{valued_name, valued_named, value_kind, tells_calls, tells_of_one, word_named, word_name};
+ghost use Rattle.sk_ask.specs.Asking.{valued_name, valued_named, value_kind, tells_calls, tells_of_one, with_own_flag, word_named, word_name};
 
 use sk_text::is_same;
 
-/// What is asked for.
+/// What is asked for, with the options that stand alone, each of one word.
 #[derive(Clone, Copy, Debug, PartialEq, Eq)]
 pub enum Word {
     /// What filters can answer to each call.
-    Calls,
+    Calls { examples: bool },
     /// The filters in another form.
-    Filter,
+    Filter { raw: bool },
     /// Under which conditions each verdict comes.
-    When,
+    When { dot: bool },
     /// Where two chains answer otherwise.
-    Diff,
+    Diff { stricter: bool },
     /// The verdicts on the calls of a log.
     Replay,
     /// The path of a call through the filters.
@@ -31,13 +31,13 @@ impl Word {
         ensures word { result ≡ word_named name.now }
     {
         if is_same(name, b"calls") {
-            Some(Word::Calls)
+            Some(Word::Calls { examples: false })
         } else if is_same(name, b"filter") {
-            Some(Word::Filter)
+            Some(Word::Filter { raw: false })
         } else if is_same(name, b"when") {
-            Some(Word::When)
+            Some(Word::When { dot: false })
         } else if is_same(name, b"diff") {
-            Some(Word::Diff)
+            Some(Word::Diff { stricter: false })
         } else if is_same(name, b"replay") {
             Some(Word::Replay)
         } else if is_same(name, b"why") {
@@ -56,14 +56,31 @@ impl Word {
         ensures name { result.now ≡ word_name self }
     {
         match self {
-            Word::Calls => "calls",
-            Word::Filter => "filter",
-            Word::When => "when",
-            Word::Diff => "diff",
+            Word::Calls { .. } => "calls",
+            Word::Filter { .. } => "filter",
+            Word::When { .. } => "when",
+            Word::Diff { .. } => "diff",
             Word::Replay => "replay",
             Word::Why => "why",
             Word::Show => "show",
             Word::Arches => "arches",
+        }
+    }
+
+    // The same with the option of its own that is named so.
+    pub(crate) fn with_own_flag(self, name: &[u8]) -> Option<Word>
+        ensures word { result ≡ with_own_flag self name.now }
+    {
+        match self {
+            Word::Calls { .. } if is_same(name, b"--examples") => {
+                Some(Word::Calls { examples: true })
+            }
+            Word::Filter { .. } if is_same(name, b"--raw") => Some(Word::Filter { raw: true }),
+            Word::When { .. } if is_same(name, b"--dot") => Some(Word::When { dot: true }),
+            Word::Diff { .. } if is_same(name, b"--stricter") => {
+                Some(Word::Diff { stricter: true })
+            }
+            _ => None,
         }
     }
 }
@@ -125,12 +142,12 @@ impl Valued {
 fn tells_calls(word: Word) -> bool
     ensures tells { result ≡ tells_calls word }
 {
-    matches!(word, Word::Calls | Word::When)
+    matches!(word, Word::Calls { .. } | Word::When { .. })
 }
 
 // Whether what it tells is of one architecture.
 fn tells_of_one(word: Word) -> bool
     ensures tells { result ≡ tells_of_one word }
 {
-    !matches!(word, Word::Filter | Word::Arches)
+    !matches!(word, Word::Filter { .. } | Word::Arches)
 }

@@ -2,8 +2,8 @@
 ghost use Rattle.std.specs.Prelude.{◌≡◌, ◌≤◌, ◌∷◌, IfOk, length, string_bytes, map};
 ghost use Rattle.sk_names.specs.Architectures.{architecture_named};
 ghost use Rattle.sk_profile_json.specs.Capabilities.{capability};
-ghost use Rattle.sk_ask.specs.Asking.{asked_of, nothing_asked, with_word, with_free, with_valued, with_value, with_caps, with_kernel, with_architecture, with_flag, with_own_flag, with_name, is_given, expected_line, is_option};
-ghost use Rattle.sk_ask.specs.Asked.{question_of, Asks, HasCall, HasNames};
+ghost use Rattle.sk_ask.specs.Asking.{asked_of, nothing_asked, with_word, with_free, with_valued, with_value, with_caps, with_kernel, with_architecture, with_flag, with_name, is_given, expected_line, is_option};
+ghost use Rattle.sk_ask.specs.Asked.{question_of, Asks, HasNames};
 
 use crate::complete::ended;
 use crate::word::{Valued, Word};
@@ -13,9 +13,10 @@ use sk_profile_json::{Kernel, capability, kernel_of};
 use sk_text::is_same;
 use std::alloc::{AllocError, Global};
 
-/// What the words behind it ask.
+/// What a word and those behind it ask.
 #[derive(Drop)]
 pub struct Asked<'a> {
+    pub word: Word,
     /// The word behind `--call`.
     pub call: Option<&'a str>,
     /// The names of the capabilities behind each `--cap`.
@@ -28,76 +29,60 @@ pub struct Asked<'a> {
     pub awaits: Option<Valued>,
     /// runc attaches the filter.
     pub runc: bool,
-    pub examples: bool,
-    pub dot: bool,
-    pub raw: bool,
-    pub stricter: bool,
     pub help: bool,
     /// The names of the files, or what else its names stand for.
     pub names: Vec<String>,
 }
 
-impl Asked<'_> {
-    /// The first name, and those behind it.
-    pub fn first_name(&self) -> (&str, &[String])
-        requires named { 1 ≤ length self.now.names.items }
-        ensures names { map string_bytes self.now.names.items ≡ result.0.now ∷ map string_bytes result.1.now }
-    {
-        (self.names[0].as_str(), &self.names[1..])
-    }
+/// The first name, and those behind it.
+pub fn first_name(names: &[String]) -> (&str, &[String])
+    requires named { 1 ≤ length names.now }
+    ensures names { map string_bytes names.now ≡ result.0.now ∷ map string_bytes result.1.now }
+{
+    (names[0].as_str(), &names[1..])
 }
 
 /// What the words behind this one ask, or the line that refuses them.
 pub fn asked_in<'a>(alloc: Global, word: Word, words: &'a [String]) -> Result<Asked<'a>, Trouble>
-    ensures exact { Asks result (asked_of word nothing_asked (map string_bytes words.now)) }
-    ensures named { IfOk result (HasNames word) }
-    ensures called { IfOk result HasCall }
+    ensures exact { Asks result (asked_of (nothing_asked word) (map string_bytes words.now)) }
+    ensures named { IfOk result HasNames }
 {
     let mut asked = Asked {
+        word,
         call: None,
         caps: Vec::new(alloc),
         kernel: None,
         arch: None,
         awaits: None,
         runc: false,
-        examples: false,
-        dot: false,
-        raw: false,
-        stricter: false,
         help: false,
         names: Vec::new(alloc),
     };
     let mut rest = words;
     while let Some((text, left)) = rest.split_first() {
-        asked = with_word(alloc, word, asked, text)?;
+        asked = with_word(alloc, asked, text)?;
         rest = left;
     }
-    ended(alloc, word, asked)
+    ended(alloc, asked)
 }
 
-fn with_word<'a>(
-    alloc: Global,
-    word: Word,
-    asked: Asked<'a>,
-    text: &'a String,
-) -> Result<Asked<'a>, Trouble>
-    ensures exact { Asks result (with_word word (question_of asked.entry) (string_bytes text.now)) }
+fn with_word<'a>(alloc: Global, asked: Asked<'a>, text: &'a String) -> Result<Asked<'a>, Trouble>
+    ensures exact { Asks result (with_word (question_of asked.entry) (string_bytes text.now)) }
 {
     match asked.awaits {
-        Some(option) => with_value(alloc, word, option, asked, text),
-        None => with_free(alloc, word, asked, text),
+        Some(option) => with_value(alloc, option, asked, text),
+        None => with_free(alloc, asked, text),
     }
 }
 
 // The word behind an option.
 fn with_value<'a>(
     alloc: Global,
-    word: Word,
     option: Valued,
     asked: Asked<'a>,
     text: &'a String,
 ) -> Result<Asked<'a>, Trouble>
-    ensures exact { Asks result (with_value word option (question_of asked.entry) (string_bytes text.now)) }
+    ensures exact { Asks result (with_value option (question_of asked.entry) (string_bytes text.now)) }
 {
     match option {
         Valued::Call => Ok(Asked {
@@ -105,22 +90,17 @@ fn with_value<'a>(
             awaits: None,
             ..asked
         }),
-        Valued::Cap => with_caps(alloc, word, asked, text.as_bytes()),
-        Valued::Kernel => with_kernel(alloc, word, asked, kernel_of(text.as_bytes())),
-        Valued::Arch => with_architecture(alloc, word, asked, text.as_bytes()),
+        Valued::Cap => with_caps(alloc, asked, text.as_bytes()),
+        Valued::Kernel => with_kernel(alloc, asked, kernel_of(text.as_bytes())),
+        Valued::Arch => with_architecture(alloc, asked, text.as_bytes()),
     }
 }
 
-fn with_caps<'a>(
-    alloc: Global,
-    word: Word,
-    asked: Asked<'a>,
-    text: &[u8],
-) -> Result<Asked<'a>, Trouble>
-    ensures exact { Asks result (with_caps word (question_of asked.entry) text.now (capability text.now)) }
+fn with_caps<'a>(alloc: Global, asked: Asked<'a>, text: &[u8]) -> Result<Asked<'a>, Trouble>
+    ensures exact { Asks result (with_caps (question_of asked.entry) text.now (capability text.now)) }
 {
     let Some(names) = capability(text) else {
-        let what = format!(in alloc; "{}: no capability is named ", word.name())?;
+        let what = format!(in alloc; "{}: no capability is named ", asked.word.name())?;
         return Err(Trouble::Refused(of_word(alloc, &what, text)?));
     };
     let mut asked = Asked {
@@ -133,14 +113,13 @@ fn with_caps<'a>(
 
 fn with_kernel<'a>(
     alloc: Global,
-    word: Word,
     asked: Asked<'a>,
     kernel: Option<Kernel>,
 ) -> Result<Asked<'a>, Trouble>
-    ensures exact { Asks result (with_kernel word (question_of asked.entry) kernel) }
+    ensures exact { Asks result (with_kernel (question_of asked.entry) kernel) }
 {
     if kernel.is_none() {
-        return Err(Trouble::Refused(expected_line(alloc, word, Valued::Kernel)?));
+        return Err(Trouble::Refused(expected_line(alloc, asked.word, Valued::Kernel)?));
     }
     Ok(Asked {
         kernel,
@@ -149,17 +128,12 @@ fn with_kernel<'a>(
     })
 }
 
-fn with_architecture<'a>(
-    alloc: Global,
-    word: Word,
-    asked: Asked<'a>,
-    text: &[u8],
-) -> Result<Asked<'a>, Trouble>
-    ensures exact { Asks result (with_architecture word (question_of asked.entry) text.now (architecture_named text.now)) }
+fn with_architecture<'a>(alloc: Global, asked: Asked<'a>, text: &[u8]) -> Result<Asked<'a>, Trouble>
+    ensures exact { Asks result (with_architecture (question_of asked.entry) text.now (architecture_named text.now)) }
 {
     let arch = Architecture::named(text);
     if arch.is_none() {
-        let what = format!(in alloc; "{}: no architecture is named ", word.name())?;
+        let what = format!(in alloc; "{}: no architecture is named ", asked.word.name())?;
         return Err(Trouble::Refused(of_word(alloc, &what, text)?));
     }
     Ok(Asked {
@@ -170,13 +144,8 @@ fn with_architecture<'a>(
 }
 
 // A word that no option awaits.
-fn with_free<'a>(
-    alloc: Global,
-    word: Word,
-    asked: Asked<'a>,
-    text: &String,
-) -> Result<Asked<'a>, Trouble>
-    ensures exact { Asks result (with_free word (question_of asked.entry) (string_bytes text.now)) }
+fn with_free<'a>(alloc: Global, asked: Asked<'a>, text: &String) -> Result<Asked<'a>, Trouble>
+    ensures exact { Asks result (with_free (question_of asked.entry) (string_bytes text.now)) }
 {
     let bytes = text.as_bytes();
     if is_same(bytes, b"--help") {
@@ -185,22 +154,17 @@ fn with_free<'a>(
             ..asked
         });
     }
-    match Valued::named(word, bytes) {
-        Some(option) => with_valued(alloc, word, option, asked),
-        None => with_flag(alloc, word, asked, text),
+    match Valued::named(asked.word, bytes) {
+        Some(option) => with_valued(alloc, option, asked),
+        None => with_flag(alloc, asked, text),
     }
 }
 
-fn with_valued<'a>(
-    alloc: Global,
-    word: Word,
-    option: Valued,
-    asked: Asked<'a>,
-) -> Result<Asked<'a>, Trouble>
-    ensures exact { Asks result (with_valued word option (question_of asked.entry)) }
+fn with_valued<'a>(alloc: Global, option: Valued, asked: Asked<'a>) -> Result<Asked<'a>, Trouble>
+    ensures exact { Asks result (with_valued option (question_of asked.entry)) }
 {
     if is_given(option, &asked) {
-        let what = format!(in alloc; "{}: given twice: ", word.name())?;
+        let what = format!(in alloc; "{}: given twice: ", asked.word.name())?;
         return Err(Trouble::Refused(of_word(alloc, &what, option.name().as_bytes())?));
     }
     Ok(Asked {
@@ -221,13 +185,8 @@ fn is_given(option: Valued, asked: &Asked<'_>) -> bool
     }
 }
 
-fn with_flag<'a>(
-    alloc: Global,
-    word: Word,
-    asked: Asked<'a>,
-    text: &String,
-) -> Result<Asked<'a>, Trouble>
-    ensures exact { Asks result (with_flag word (question_of asked.entry) (string_bytes text.now)) }
+fn with_flag<'a>(alloc: Global, asked: Asked<'a>, text: &String) -> Result<Asked<'a>, Trouble>
+    ensures exact { Asks result (with_flag (question_of asked.entry) (string_bytes text.now)) }
 {
     if is_same(text.as_bytes(), b"--runc") {
         return Ok(Asked {
@@ -235,43 +194,17 @@ fn with_flag<'a>(
             ..asked
         });
     }
-    with_own_flag(alloc, word, asked, text)
-}
-
-fn with_own_flag<'a>(
-    alloc: Global,
-    word: Word,
-    asked: Asked<'a>,
-    text: &String,
-) -> Result<Asked<'a>, Trouble>
-    ensures exact { Asks result (with_own_flag word (question_of asked.entry) (string_bytes text.now)) }
-{
-    let bytes = text.as_bytes();
-    match word {
-        Word::Calls if is_same(bytes, b"--examples") => Ok(Asked {
-            examples: true,
-            ..asked
-        }),
-        Word::When if is_same(bytes, b"--dot") => Ok(Asked { dot: true, ..asked }),
-        Word::Filter if is_same(bytes, b"--raw") => Ok(Asked { raw: true, ..asked }),
-        Word::Diff if is_same(bytes, b"--stricter") => Ok(Asked {
-            stricter: true,
-            ..asked
-        }),
-        _ => with_name(alloc, word, asked, text),
+    match asked.word.with_own_flag(text.as_bytes()) {
+        Some(word) => Ok(Asked { word, ..asked }),
+        None => with_name(alloc, asked, text),
     }
 }
 
-fn with_name<'a>(
-    alloc: Global,
-    word: Word,
-    asked: Asked<'a>,
-    text: &String,
-) -> Result<Asked<'a>, Trouble>
-    ensures exact { Asks result (with_name word (question_of asked.entry) (string_bytes text.now)) }
+fn with_name<'a>(alloc: Global, asked: Asked<'a>, text: &String) -> Result<Asked<'a>, Trouble>
+    ensures exact { Asks result (with_name (question_of asked.entry) (string_bytes text.now)) }
 {
     if is_option(text.as_bytes()) {
-        let what = format!(in alloc; "{}: no option is named ", word.name())?;
+        let what = format!(in alloc; "{}: no option is named ", asked.word.name())?;
         return Err(Trouble::Refused(of_word(alloc, &what, text.as_bytes())?));
     }
     let mut asked = asked;

@@ -1,4 +1,4 @@
-use Rattle.std.proofs.Common.{◌≡◌, subst}
+use Rattle.std.proofs.Common.{subst}
 use Rattle.sk_ask.specs.Steps.{MayBeSpent}
 use Rattle.sk_ask.proofs.calls.lines_of.Goals as goal
 

@@ -1,4 +1,4 @@
-use Rattle.std.proofs.Common.{◌≡◌, ◌+◌, ◌-◌, ◌*◌, ◌++◌, [], ◌∷◌, drop, arith, append_assoc}
+use Rattle.std.proofs.Common.{◌≡◌, ◌+◌, ◌-◌, ◌++◌, [], ◌∷◌, drop, arith, append_assoc}
 use Rattle.sk_ask.specs.Orders.{big_insn_of}
 use Rattle.sk_ask.proofs.Orders.{instructions-next}
 use Rattle.sk_ask.proofs.order.insns_in.Goals as goal

@@ -1,0 +1,33 @@
+use Rattle.std.proofs.Common.{ℕ, List, ◌++◌, inl, inr, subst}
+use Rattle.sk_ask.specs.Diffs.{IsDiff}
+use Rattle.sk_ask.specs.Endings.{ending_of}
+use Rattle.sk_ask.specs.Finding.{filters_of}
+use Rattle.sk_ask.specs.Reading.{ReadsFilters, IsRefusedOf}
+use Rattle.sk_ask.specs.Troubles.{OfFiles}
+use Rattle.sk_ask.proofs.Troubles.{handed_on}
+use Rattle.sk_ask.proofs.table.by_word.Goals as goal
+
+pub returns-in_err-old-in-Diff-clause-told : goal.returns-in_err-old-in-Diff-clause-told
+returns-in_err-old-in-Diff-clause-told g c =
+    let reader = c.args.reader.now in
+    let held = g.S.Shelf.held reader.shelf.now in
+    let why = c.in_err-old-in-Diff.field-0.0 in
+    let refused =
+    subst (λ (names : List (List ℕ)). IsRefusedOf reader.big_endian held reader.context.now names why) c.sides.ensures.old c.in_err-old-in-Diff.ensures.refused in
+    rw c.in-Diff.is (inr (handed_on c.from_residual.result _ _ c.from_residual.ensures.1 refused))
+
+pub returns-in_ok-old-in-Diff-clause-told : goal.returns-in_ok-old-in-Diff-clause-told
+returns-in_ok-old-in-Diff-clause-told g c =
+    let reader = c.args.reader.now in
+    let held = g.S.Shelf.held reader.shelf.now in
+    let may_spend = g.A.Analysis.may_spend c.args.on.analysis.now in
+    let end = ending_of c.answer-in-Diff.result in
+    let old = c.in_ok-old-in-Diff.old in
+    let read =
+    subst (λ (names : List (List ℕ)). ReadsFilters reader.big_endian held reader.context.now names (filters_of old.found) old.chain old.notes.items)
+    c.sides.ensures.old c.in_ok-old-in-Diff.ensures.read in
+    let told =
+    subst (λ (names : List (List ℕ)). OfFiles reader.big_endian held reader.context.now names end
+    (λ other new more. IsDiff may_spend c.args.on.architecture c.in-Diff.stricter old.chain new (old.notes.items ++ more) end))
+    c.sides.ensures.new c.answer-in-Diff.ensures.told in
+    rw c.in-Diff.is (inl (filters_of old.found, old.chain, old.notes.items, read, told))
