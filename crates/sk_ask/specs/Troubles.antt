@@ -18,13 +18,13 @@ abbrev pub OfFirst : List (List ℕ) → Ending → (List ℕ → List (List ℕ
 OfFirst [] ending P = ending ≡ no_memory
 OfFirst (first ∷ others) ending P = P first others
 
--- the files with these names make a chain, and what is so of their filters, of the chain and of what is told of profiles is so;
--- or one of them is refused or not read. Bytes may have the highest byte of a number first, where that is asked for
-abbrev pub OfFiles : Bool → (List ℕ → Held) → Context → List (List ℕ) → Ending → (Filters → List (List Insn) → List ℕ → Type 0) → Type 0
+-- what files with some names end as, where this is so of their filters, of the chain that they make and of what is told of profiles
+abbrev pub Over : Type 1
+Over = List (List ℕ) → Ending → (Filters → List (List Insn) → List ℕ → Type 0) → Type 0
+
+-- the files make a chain, and it is so; or one of them is refused or not read. Bytes may have the highest byte of a number first,
+-- where that is asked for
+abbrev pub OfFiles : Bool → (List ℕ → Held) → Context → Over
 OfFiles big held context names ending P =
     ((found : Filters) × (chain : List (List Insn)) × (notes : List ℕ) × ReadsFilters big held context names found chain notes × P found chain notes)
     ⊎ IsTrouble ending (IsRefusedOf big held context names)
-
--- the same of files with any names, as all words read them
-abbrev pub Over : Type 1
-Over = List (List ℕ) → Ending → (Filters → List (List Insn) → List ℕ → Type 0) → Type 0

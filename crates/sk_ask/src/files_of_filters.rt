@@ -1,12 +1,15 @@
-//! The filters of files that are known by their names.
+//! The filters of files that are known by their names, and the answer of a word to them.
 ghost use Rattle.std.specs.Prelude.{◌≡◌, ◌<◌, ℕ, IfOk, IfErr, length, map, string_bytes};
 ghost use Rattle.sk_ask.specs.Filters.{chain_of};
 ghost use Rattle.sk_ask.specs.Finding.{filters_of};
 ghost use Rattle.sk_ask.specs.Given.{ArePlaced};
 ghost use Rattle.sk_ask.specs.Counts.{CountsReads};
+ghost use Rattle.sk_ask.specs.Endings.{ending_of};
 ghost use Rattle.sk_ask.specs.Reading.{ReadsFilters, IsRefusal, IsRefusedOf, IsReadAs, judged, with_chain};
 ghost use Rattle.sk_ask.specs.Answers.{Judges};
+ghost use Rattle.sk_ask.specs.Troubles.{OfFiles};
 
+use crate::answer::{Answer, Tells};
 use crate::attaching::attach;
 use crate::complaint::about;
 use crate::expansion::{Expansion, expanded};
@@ -28,23 +31,48 @@ pub struct Filters {
     pub notes: Vec<u8>,
 }
 
-/// The filters in the files with these names, the oldest first. A profile stands there for its filter, as it is to hold, and
-/// bytes that are a valid filter with the highest byte first, for that one, where that order is asked for.
-pub fn filters_in<S: Shelf>(
-    alloc: Global,
-    big_endian: bool,
-    shelf: &S,
-    context: &Context<'_>,
-    reads: &mut u64,
-    names: &[String],
-) -> Result<Filters, Trouble>
-    ensures read { IfOk result (λ filters. ReadsFilters big_endian (S.held shelf.now) context.now (map string_bytes names.now) (filters_of filters.found) filters.chain filters.notes.items) }
-    ensures refused { IfErr result (IsRefusedOf big_endian (S.held shelf.now) context.now (map string_bytes names.now)) }
-    ensures counted { CountsReads result reads.old reads.new }
-{
-    let files = contents(alloc, shelf, reads, names)?;
-    let expansion = expanded(alloc, big_endian, context, names, &files)?;
-    read(alloc, names, expansion)
+/// How files are read: from where, where the profiles among them are to hold, and whether bytes may have the highest first.
+#[derive(Drop)]
+pub struct Reader<'a, S> {
+    pub shelf: &'a S,
+    pub context: &'a Context<'a>,
+    pub big_endian: bool,
+}
+
+impl<S: Shelf> Reader<'_, S> {
+    /// The filters in the files with these names, the oldest first. A profile stands there for its filter, as it is to hold,
+    /// and bytes that are a valid filter with the highest byte first, for that one, where that order is asked for.
+    pub fn filters(
+        &self,
+        alloc: Global,
+        reads: &mut u64,
+        names: &[String],
+    ) -> Result<Filters, Trouble>
+        ensures read { IfOk result (λ filters. ReadsFilters self.now.big_endian (S.held self.now.shelf.now) self.now.context.now
+            (map string_bytes names.now) (filters_of filters.found) filters.chain filters.notes.items) }
+        ensures refused { IfErr result (IsRefusedOf self.now.big_endian (S.held self.now.shelf.now) self.now.context.now (map string_bytes names.now)) }
+        ensures counted { CountsReads result reads.old reads.new }
+    {
+        let files = contents(alloc, self.shelf, reads, names)?;
+        let expansion = expanded(alloc, self.big_endian, self.context, names, &files)?;
+        read(alloc, names, expansion)
+    }
+
+    /// The answer of a word to the files with these names.
+    pub fn answer<T: Tells>(
+        &self,
+        alloc: Global,
+        reads: &mut u64,
+        names: &[String],
+        word: T,
+    ) -> Result<Answer, Trouble>
+        ensures told { OfFiles self.now.big_endian (S.held self.now.shelf.now) self.now.context.now (map string_bytes names.now) (ending_of result)
+            (λ found chain notes. T.tells word found chain notes (ending_of result)) }
+        ensures counted { CountsReads result reads.old reads.new }
+    {
+        let filters = self.filters(alloc, reads, names)?;
+        word.told(alloc, filters)
+    }
 }
 
 fn read(alloc: Global, names: &[String], expansion: Expansion) -> Result<Filters, Trouble>

@@ -12,9 +12,9 @@ use crate::answer::Answer;
 use crate::arches::Arches;
 use crate::calls::{Calls, asked_call};
 use crate::complete::is_turned;
+use crate::context::context_of;
 use crate::diff::{Diff, sides};
 use crate::filter::Filter;
-use crate::filters::{Reader, context_of};
 use crate::on::{On, architecture_of};
 use crate::replay::Replay;
 use crate::show::Show;
@@ -22,7 +22,7 @@ use crate::when::When;
 use crate::why::{Why, meant};
 use crate::word::Word;
 use crate::words::{Asked, first_name};
-use crate::{MOST_LOG_BYTES, Shelf, Trouble, content};
+use crate::{MOST_LOG_BYTES, Reader, Shelf, Trouble, content};
 use std::alloc::Global;
 
 /// Answers what the words ask.

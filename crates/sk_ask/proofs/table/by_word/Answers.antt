@@ -13,7 +13,8 @@ returns-in_err-old-in-Diff-clause-told g c =
     let held = g.S.Shelf.held reader.shelf.now in
     let why = c.in_err-old-in-Diff.field-0.0 in
     let refused =
-    subst (λ (names : List (List ℕ)). IsRefusedOf reader.big_endian held reader.context.now names why) c.sides.ensures.old c.in_err-old-in-Diff.ensures.refused in
+    subst (λ (names : List (List ℕ)). IsRefusedOf reader.big_endian held reader.context.now names why)
+    c.sides.ensures.old c.in_err-old-in-Diff.ensures.refused in
     rw c.in-Diff.is (inr (handed_on c.from_residual.result _ _ c.from_residual.ensures.1 refused))
 
 pub returns-in_ok-old-in-Diff-clause-told : goal.returns-in_ok-old-in-Diff-clause-told
