@@ -1,17 +1,14 @@
 //! `ask calls`: what filters can answer to each call.
-ghost use Rattle.std.specs.Prelude.{◌≡◌, IfOk, IfErr};
-ghost use Rattle.std.specs.Option.{option_map};
+ghost use Rattle.std.specs.Prelude.{◌≡◌, IfOk};
 ghost use Rattle.sk_ask.specs.CallsText.{AreLinesTold, calls_text};
-ghost use Rattle.sk_ask.specs.Calls.{IsAskedCall, IsNoCall};
 
 use crate::analysis::Analysis;
 use crate::answer::{Answer, Tells};
 use crate::calls_text::calls_text;
 use crate::on::{On, filters_on};
-use crate::{Filters, Trouble, of_word};
+use crate::{Filters, Trouble};
 use sk_filter::Chain;
 use sk_names::Architecture;
-use sk_replay::call_named;
 use sk_show::{Line, Options};
 use sk_survey::looks_at_architecture;
 use sk_when::Budgets;
@@ -72,22 +69,4 @@ fn text_of(
     ensures text { IfOk result (λ text. text.items ≡ calls_text architecture lines.now unseen) }
 {
     Ok(calls_text(alloc, architecture, lines, unseen)?.into_bytes())
-}
-
-/// The number of the call that is asked for, if one is.
-pub fn asked_call(
-    alloc: Global,
-    architecture: Architecture,
-    asked: Option<&str>,
-) -> Result<Option<u32>, Trouble>
-    ensures call { IfOk result (IsAskedCall architecture (option_map (λ word. word.now) asked.entry)) }
-    ensures no_call { IfErr result (λ why. IsNoCall architecture why (option_map (λ word. word.now) asked.entry)) }
-{
-    let Some(word) = asked else {
-        return Ok(None);
-    };
-    match call_named(architecture, word.as_bytes()) {
-        Some(nr) => Ok(Some(nr)),
-        None => Err(Trouble::Refused(of_word(alloc, "no call is named ", word.as_bytes())?)),
-    }
 }

@@ -1,11 +1,14 @@
-//! The architecture whose calls are asked of, and chains as they are for it.
-ghost use Rattle.std.specs.Prelude.{◌≡◌, IfOk};
+//! The architecture whose calls are asked of, the call of it, and chains as they are for it.
+ghost use Rattle.std.specs.Prelude.{◌≡◌, IfOk, IfErr};
+ghost use Rattle.std.specs.Option.{option_map};
 ghost use Rattle.sk_ask.specs.Architectures.{architecture_of, chain_on};
+ghost use Rattle.sk_ask.specs.Calls.{IsAskedCall, IsNoCall};
 
-use crate::Filters;
+use crate::{Filters, Trouble, of_word};
 use sk_filter::Chain;
 use sk_insn::ARCHITECTURE;
 use sk_names::Architecture;
+use sk_replay::call_named;
 use sk_survey::chain_for;
 use std::alloc::{AllocError, Global};
 
@@ -22,6 +25,24 @@ pub fn architecture_of(named: Option<Architecture>) -> Architecture
     ensures architecture { result ≡ architecture_of named }
 {
     named.unwrap_or(Architecture::X86_64)
+}
+
+/// The number of the call that is asked for, if one is.
+pub fn asked_call(
+    alloc: Global,
+    architecture: Architecture,
+    asked: Option<&str>,
+) -> Result<Option<u32>, Trouble>
+    ensures call { IfOk result (IsAskedCall architecture (option_map (λ word. word.now) asked.entry)) }
+    ensures no_call { IfErr result (λ why. IsNoCall architecture why (option_map (λ word. word.now) asked.entry)) }
+{
+    let Some(word) = asked else {
+        return Ok(None);
+    };
+    match call_named(architecture, word.as_bytes()) {
+        Some(nr) => Ok(Some(nr)),
+        None => Err(Trouble::Refused(of_word(alloc, "no call is named ", word.as_bytes())?)),
+    }
 }
 
 /// The chain of filters as it is for the calls of an architecture, and the notes on the profiles among them.
