@@ -10,12 +10,13 @@ use Rattle.sk_survey.specs.declared.rows.Row.{Row}
 use Rattle.sk_survey.specs.Answers.{answers_of}
 use Rattle.sk_survey.specs.Looks.{looks_at_architecture}
 use Rattle.sk_conditions.specs.Followed.{AreFollowed}
+use Rattle.sk_conditions.specs.Steps.{NeverPart}
 use Rattle.sk_when.specs.Verdicts.{ShowsEach}
 use Rattle.sk_show.specs.declared.example.Example.{Example}
 use Rattle.sk_show.specs.declared.survey_line.Shown.{Shown}
 use Rattle.sk_show.specs.declared.survey_line.Line.{Line}
 use Rattle.sk_show.specs.declared.options.Options.{Options}
-use Rattle.sk_show.specs.Lines.{AreLinesOf}
+use Rattle.sk_show.specs.Lines.{AreLinesOf, end_told, first_told}
 use Rattle.sk_show.specs.Text.{numbers_text, name_text, answers_text}
 use Rattle.sk_filter.specs.VerdictText.{verdict_text}
 use Rattle.sk_names.specs.declared.architecture.Architecture.{Architecture}
@@ -56,12 +57,13 @@ abbrev pub is_unseen : Options → List (List Insn) → Bool
 is_unseen options chain = is_none options.call && not (looks_at_architecture chain)
 
 -- the lines of a survey: as far as the steps reach that ask gives, a call is shown for each verdict that a call of a row gets, where
--- the filters are followed
+-- the filters are followed. Where all calls of each row go one way through each filter, the steps of no row were used up
 pub record AreLinesTold (may_spend : ℕ → Bool) (options : Options) (programs : List (List Insn)) (lines : List Line) : Type 0 where
   pub told : AreLinesOf options programs lines
   pub is_spent : Bool
   pub steps : MayBeSpent may_spend when_steps is_spent
   pub each : All AreFollowed programs → is_spent ≡ false → All (ShowsEach programs) lines
+  pub one_way : NeverPart (first_told options.call) (end_told options.call) programs → is_spent ≡ false
 
 -- a text tells the lines of a survey of the chain, as it is for the architecture
 abbrev pub TellsSurvey : (ℕ → Bool) → Options → List (List Insn) → List ℕ → Ending → Type 0

@@ -1,9 +1,10 @@
 -- What `ask diff` tells.
-use Rattle.std.specs.Prelude.{ℕ, ◌≡◌, ◌⊎◌, ◌++◌, Bool, true, false, List, codes}
+use Rattle.std.specs.Prelude.{ℕ, ◌≡◌, ◌⊎◌, ◌++◌, ◌^◌, Bool, true, false, List, codes}
 use Rattle.sk_insn.specs.declared.insn.Insn.{Insn}
 use Rattle.sk_names.specs.declared.architecture.Architecture.{Architecture}
 use Rattle.sk_conditions.specs.declared.standing.Relation.{Relation}
 use Rattle.sk_conditions.specs.declared.standing.Relation.TheVariants.{Same, AsStrict}
+use Rattle.sk_conditions.specs.Steps.{NeverPart}
 use Rattle.sk_when.specs.declared.diff_engine.Finding.{Finding}
 use Rattle.sk_when.specs.declared.diff_engine.Finding.TheVariants.{Holds, Fails, Undecided}
 use Rattle.sk_when.specs.Diffs.{IsComparison}
@@ -25,10 +26,16 @@ EndsAs Holds notes text ending = ending ≡ answered notes text false
 EndsAs Fails notes text ending = ending ≡ answered notes text true
 EndsAs Undecided notes text ending = ComesTo (refused (undecided_text text)) ending
 
--- two chains were compared as they are for an architecture, with the steps that ask gives, or memory was refused
+-- two chains were compared with the steps that ask gives; where all calls of each row go one way through each filter, the steps
+-- of no row were used up
+abbrev pub IsAnalysed : (ℕ → Bool) → Architecture → Relation → List (List Insn) → List (List Insn) → Finding → List ℕ → Type 0
+IsAnalysed may_spend by relation old new finding text =
+    (is_spent : Bool) × IsComparison by relation old new is_spent finding text × MayBeSpent may_spend diff_steps is_spent
+    × (NeverPart 0 (2 ^ 32) old → NeverPart 0 (2 ^ 32) new → is_spent ≡ false)
+
+-- so they were as they are for an architecture, or memory was refused
 abbrev pub IsDiff : (ℕ → Bool) → Architecture → Bool → List (List Insn) → List (List Insn) → List ℕ → Ending → Type 0
 IsDiff may_spend by stricter old new notes ending =
-    ((is_spent : Bool) × (finding : Finding) × (text : List ℕ)
-    × IsComparison by (relation_asked stricter) (chain_on by old) (chain_on by new) is_spent finding text
-    × MayBeSpent may_spend diff_steps is_spent × EndsAs finding notes text ending)
+    ((finding : Finding) × (text : List ℕ)
+    × IsAnalysed may_spend by (relation_asked stricter) (chain_on by old) (chain_on by new) finding text × EndsAs finding notes text ending)
     ⊎ (ending ≡ no_memory)

@@ -1,5 +1,5 @@
 //! The analysis of filters that `ask` stands on: which conditions a verdict has, and whether two chains answer the same.
-ghost use Rattle.std.specs.Prelude.{◌≡◌, ◌≤◌, ◌==◌, ◌+◌, ℕ, Bool, false, IfOk, string_bytes};
+ghost use Rattle.std.specs.Prelude.{◌≡◌, ◌≤◌, ◌==◌, ◌+◌, ◌^◌, ℕ, Bool, false, IfOk, string_bytes};
 ghost use Rattle.std.specs.List.{All};
 ghost use Rattle.sk_conditions.specs.Followed.{AreFollowed};
 ghost use Rattle.sk_conditions.specs.Steps.{GoOneWay, NeverPart};
@@ -18,7 +18,7 @@ use sk_when::{Budget, Budgets, Comparison, Relation};
 use std::alloc::{AllocError, Global};
 
 /// Analyses chains, as far as the steps reach that it is given.
-/// Where all calls of each row go one way through each filter, `lines` and `when` use the steps of no row up.
+/// Where all calls of each row go one way through each filter, `lines`, `when` and `diff` use the steps of no row up.
 pub trait Analysis {
     // Whether it may use up so many steps.
     ghost may_spend: { Self → ℕ → Bool };
@@ -72,7 +72,8 @@ pub trait Analysis {
         budgets: &mut Budgets,
     ) -> Result<Comparison, AllocError>
         ensures compared { IfOk result (λ it. IsComparison architecture relation old.now new.now budgets.new.is_spent it.finding (string_bytes it.text)) }
-        ensures spent { budgets.old.is_spent ≡ false → MayBeSpent (may_spend self.now) budgets.old.steps budgets.new.is_spent };
+        ensures spent { budgets.old.is_spent ≡ false → MayBeSpent (may_spend self.now) budgets.old.steps budgets.new.is_spent }
+        ensures one_way { NeverPart 0 (2 ^ 32) old.now → NeverPart 0 (2 ^ 32) new.now → budgets.old.is_spent ≡ false → budgets.new.is_spent ≡ false };
 }
 
 /// That by decision trees. How many steps it takes where calls part is not known.

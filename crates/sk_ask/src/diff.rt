@@ -1,13 +1,13 @@
 //! `ask diff`: where the filters of two files answer otherwise.
 ghost use Rattle.std.specs.Prelude.{◌≡◌, ◌++◌, take, drop, map, string_bytes, IfOk};
-ghost use Rattle.sk_filter.specs.Chains.{IsWithinLimit};
 ghost use Rattle.sk_ask.specs.Endings.{ending_of};
-ghost use Rattle.sk_ask.specs.Diffs.{IsDiff, relation_asked, undecided_text};
+ghost use Rattle.sk_ask.specs.Diffs.{EndsAs, IsAnalysed, IsDiff, relation_asked, undecided_text};
 
 use crate::analysis::Analysis;
 use crate::answer::{Answer, Tells};
 use crate::on::{On, filters_on};
 use crate::{Filters, Trouble};
+use sk_filter::Chain;
 use sk_names::Architecture;
 use sk_when::{Budgets, Comparison, Finding, Relation};
 use std::alloc::{AllocError, Global};
@@ -52,35 +52,46 @@ fn compared<A: Analysis>(
     old: Filters,
     new: Filters,
 ) -> Result<Answer, Trouble>
-    requires old { IsWithinLimit old.chain }
-    requires new { IsWithinLimit new.chain }
     ensures told { IsDiff (A.may_spend analysis.now) architecture stricter old.chain new.chain (old.notes.items ++ new.notes.items) (ending_of result) }
 {
     let (old, mut notes) = filters_on(alloc, architecture, old)?;
     let (new, more) = filters_on(alloc, architecture, new)?;
-    let mut budgets = Budgets::of_rows(MOST_ROWS);
-    let Comparison { finding, text } = analysis.diff(
-        alloc,
-        architecture,
-        relation_asked(stricter),
-        &old,
-        &new,
-        &mut budgets,
-    )?;
     notes.extend_from_slice(&more)?;
-    match finding {
-        Finding::Holds => Ok(Answer {
-            text: text.into_bytes(),
-            notes,
-            denies: false,
-        }),
-        Finding::Fails => Ok(Answer {
-            text: text.into_bytes(),
-            notes,
-            denies: true,
-        }),
-        Finding::Undecided => Err(Trouble::Refused(undecided(alloc, &text)?)),
-    }
+    let relation = relation_asked(stricter);
+    let comparison = analysed(alloc, analysis, architecture, relation, &old, &new)?;
+    concluded(alloc, comparison, notes)
+}
+
+// The comparison of two chains with the steps that a comparison gets.
+fn analysed<A: Analysis>(
+    alloc: Global,
+    analysis: &A,
+    architecture: Architecture,
+    relation: Relation,
+    old: &Chain,
+    new: &Chain,
+) -> Result<Comparison, AllocError>
+    ensures compared { IfOk result (λ it. IsAnalysed (A.may_spend analysis.now) architecture relation old.now new.now it.finding (string_bytes it.text)) }
+{
+    let mut budgets = Budgets::of_rows(MOST_ROWS);
+    analysis.diff(alloc, architecture, relation, old, new, &mut budgets)
+}
+
+// What is answered with a comparison.
+fn concluded(alloc: Global, comparison: Comparison, notes: Vec<u8>) -> Result<Answer, Trouble>
+    ensures told { EndsAs comparison.finding notes.items (string_bytes comparison.text) (ending_of result) }
+{
+    let Comparison { finding, text } = comparison;
+    let denies = match finding {
+        Finding::Holds => false,
+        Finding::Fails => true,
+        Finding::Undecided => return Err(Trouble::Refused(undecided(alloc, &text)?)),
+    };
+    Ok(Answer {
+        text: text.into_bytes(),
+        notes,
+        denies,
+    })
 }
 
 fn relation_asked(stricter: bool) -> Relation
