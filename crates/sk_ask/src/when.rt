@@ -1,6 +1,6 @@
 //! `ask when`: under which conditions on a call each verdict comes, and with `--dot` the picture of a call's tree.
-ghost use Rattle.std.specs.Prelude.{IfOk, string_bytes};
-ghost use Rattle.sk_ask.specs.Whens.{IsWhenText};
+ghost use Rattle.std.specs.Prelude.{◌≡◌, IfOk, string_bytes};
+ghost use Rattle.sk_ask.specs.Whens.{IsWhenText, pictured};
 
 use crate::analysis::Analysis;
 use crate::answer::{Answer, Tells};
@@ -28,26 +28,34 @@ impl<A: Analysis> Tells for When<'_, A> {
 
     fn told(self, alloc: Global, filters: Filters) -> Result<Answer, Trouble> {
         let (chain, notes) = filters_on(alloc, self.on.architecture, filters)?;
+        let picture = pictured(self.dot, self.on.call);
         Ok(Answer {
-            text: text_of(alloc, &self.on, self.dot, &chain)?.into_bytes(),
+            text: text_of(alloc, &self.on, picture, &chain)?.into_bytes(),
             notes,
             denies: false,
         })
     }
 }
 
+// The call whose tree is drawn.
+fn pictured(dot: bool, call: Option<u32>) -> Option<u32>
+    ensures picture { result ≡ pictured dot call }
+{
+    if dot { call } else { None }
+}
+
 fn text_of<A: Analysis>(
     alloc: Global,
     on: &On<'_, A>,
-    dot: bool,
+    picture: Option<u32>,
     chain: &Chain,
 ) -> Result<String, AllocError>
-    ensures text { IfOk result (λ text. IsWhenText (A.may_spend on.now.analysis.now) on.now.architecture dot on.now.call chain.now (string_bytes text)) }
+    ensures text { IfOk result (λ text. IsWhenText (A.may_spend on.now.analysis.now) on.now.architecture picture on.now.call chain.now (string_bytes text)) }
 {
     let budgets = &mut Budgets::of_rows(MOST_ROWS);
     let analysis = on.analysis;
-    match on.call {
-        Some(nr) if dot => analysis.dot(alloc, chain, nr, &mut Budget::whole()),
-        _ => analysis.when(alloc, on.architecture, chain, on.call, budgets),
+    match picture {
+        Some(nr) => analysis.dot(alloc, chain, nr, &mut Budget::whole()),
+        None => analysis.when(alloc, on.architecture, chain, on.call, budgets),
     }
 }

@@ -9,5 +9,6 @@ returns g c = record {
     is_spent = c.lines.new.budgets.is_spent;
     steps = subst (λ steps. MayBeSpent (g.A.Analysis.may_spend c.args.analysis.now) steps c.lines.new.budgets.is_spent) c.of_rows.ensures.steps (c.lines.ensures.spent c.of_rows.ensures.fresh);
     each = c.in_ok-lines.ensures.each;
+    one_way = λ ways. c.lines.ensures.one_way ways c.of_rows.ensures.fresh;
   };
 }
