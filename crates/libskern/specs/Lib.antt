@@ -1,3 +1,4 @@
+pub mod Comparing
 pub mod Faults
 pub mod Shapes
 pub mod Texts

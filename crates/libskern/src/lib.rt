@@ -11,12 +11,14 @@ ghost use Rattle.libskern.specs.Texts.{text_of};
 
 mod call;
 mod check;
+mod compare;
 mod fault;
 mod filters;
 mod reason;
 mod verdict;
 
 pub use call::Call;
+pub use compare::Difference;
 pub use fault::Fault;
 pub use filters::Image;
 
