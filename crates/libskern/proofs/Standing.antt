@@ -1,5 +1,5 @@
 -- What a tree of differences says where each of its ends says that the relation holds, and when each does.
-use Rattle.std.proofs.Common.{◌≡◌, ℕ, zero, suc, ◌<◌, Bool, true, false, ◌&&◌, not, if◌then◌else◌, List, [], ◌∷◌, length, filter, slice_index_or, Option, Some, sym, subst, ap, ◌∙◌, refl, arith}
+use Rattle.std.proofs.Common.{◌≡◌, ℕ, zero, suc, Bool, true, false, ◌&&◌, not, if◌then◌else◌, List, [], ◌∷◌, filter, slice_index_or, Some, sym, subst, ap, ◌∙◌, refl, arith}
 use Rattle.std.specs.List.{All}
 use Rattle.std.specs.Option.{option_map_or}
 use Rattle.std.specs.Cmp.Derive.{both_true}
@@ -78,9 +78,12 @@ to_tree relation pairs old new (Is number) (call ∷ calls) tells met all =
 to_tree relation pairs old new Untold calls tells met all = absurd tells
 to_tree relation pairs old new (Ask' test p held q failed) calls tells met all = both_true
     (to_tree relation pairs old new held (filter (λ call. holds_on test call) calls) tells.1.0 met.0
-        (those (SaysTrue relation pairs old new (Ask' test p held q failed)) (SaysTrue relation pairs old new held) (λ call. holds_on test call) calls all
-            (λ call e is. (subst (λ b. SaysOf relation pairs (verdict_of old call) (verdict_of new call) (if b then told held call else told failed call)) e is.0, is.1))))
+    (those (SaysTrue relation pairs old new (Ask' test p held q failed)) (SaysTrue relation pairs old new held) (λ call. holds_on test call) calls all
+    (λ call e is. (subst (λ b. SaysOf relation pairs (verdict_of old call) (verdict_of new call) (if b then told held call else told failed call)) e is.0, is.1))))
     (to_tree relation pairs old new failed (filter (λ call. not (holds_on test call)) calls) tells.1.1 met.1
-        (those (SaysTrue relation pairs old new (Ask' test p held q failed)) (SaysTrue relation pairs old new failed) (λ call. not (holds_on test call)) calls all
-            (λ call e is. (subst (λ b. SaysOf relation pairs (verdict_of old call) (verdict_of new call) (if b then told held call else told failed call))
-                (of_not (holds_on test call) e) is.0, is.1))))
+    (those (SaysTrue relation pairs old new (Ask' test p held q failed)) (SaysTrue relation pairs old new failed) (λ call. not (holds_on test call)) calls all
+    (λ call e is. (
+      subst (λ b. SaysOf relation pairs (verdict_of old call) (verdict_of new call) (if b then told held call else told failed call))
+          (of_not (holds_on test call) e) is.0,
+      is.1,
+    ))))

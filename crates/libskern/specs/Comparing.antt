@@ -1,5 +1,6 @@
 -- Two chains compared on calls of x86-64.
-use Rattle.std.specs.Prelude.{ℕ, zero, suc, ◌≡◌, ◌≤◌, ◌<◌, Bool, true, false, ◌&&◌, List, slice_get}
+use Rattle.std.specs.Prelude.{ℕ, zero, suc, ◌≡◌, ◌≤◌, ◌<◌, ◌^◌, Bool, true, false, ◌&&◌, List, slice_get}
+use Rattle.std.specs.List.{All}
 use Rattle.std.specs.Option.{option_map_or}
 use Rattle.sk_insn.specs.declared.insn.Insn.{Insn}
 use Rattle.sk_insn.specs.declared.record.Record.{Record}
@@ -11,6 +12,7 @@ use Rattle.sk_conditions.specs.declared.standing.Relation.TheVariants.{Same, AsS
 use Rattle.sk_conditions.specs.declared.tree.Tree.{Tree}
 use Rattle.sk_conditions.specs.declared.tree.Tree.TheVariants.{Is, Untold, Ask'}
 use Rattle.sk_conditions.specs.Comparing.{relates}
+use Rattle.sk_conditions.specs.Followed.{AreFollowed}
 use Rattle.libskern.specs.declared.compare.Difference.{Difference}
 use Rattle.libskern.specs.declared.compare.Found.{Found}
 use Rattle.libskern.specs.declared.compare.Found.TheVariants.{Holds, Fails, Open}
@@ -33,15 +35,27 @@ StandsFrom relation old new from end =
 -- a call of x86-64 to which it does not, with both verdicts
 pub record IsDifference (relation : Relation) (old new : List (List Insn)) (it : Difference) : Type 0 where
   pub native : IsNative (record_of it.call)
-  pub old_verdict : verdict_of old (record_of it.call) ≡ it.old
-  pub new_verdict : verdict_of new (record_of it.call) ≡ it.new
-  pub fails : relates relation it.old it.new ≡ false
+  pub of_old : verdict_of old (record_of it.call) ≡ it.old_verdict
+  pub of_new : verdict_of new (record_of it.call) ≡ it.new_verdict
+  pub fails : relates relation it.old_verdict it.new_verdict ≡ false
 
 -- what was found is so
 abbrev pub IsFound : Relation → List (List Insn) → List (List Insn) → ℕ → ℕ → Found → Type 0
 IsFound relation old new from end Holds = StandsFrom relation old new from end
 IsFound relation old new from end (Fails it) = IsDifference relation old new it
 IsFound relation old new from end Open = Unit {0}
+
+-- the new chain of two stands so to the old one on every call of x86-64
+abbrev pub Stand : Bool → List (List Insn) × List (List Insn) → Type 0
+Stand stricter (old, new) = StandsFrom (relation_asked stricter) old new 0 (2 ^ 32)
+
+-- or this is a call on which it does not
+abbrev pub Differ : Bool → Difference → List (List Insn) × List (List Insn) → Type 0
+Differ stricter it (old, new) = IsDifference (relation_asked stricter) old new it
+
+-- each filter of both is of the kind that is followed
+abbrev pub BothFollowed : List (List Insn) × List (List Insn) → Type 0
+BothFollowed (old, new) = All AreFollowed old × All AreFollowed new
 
 -- ---- what the code knows on its way there
 

@@ -1,5 +1,5 @@
 -- What a caller of the library is told of its filters: a number of include/skern.h, and where.
-use Rattle.std.specs.Prelude.{ℕ, List, Option, Some, None, Result, Ok, Err}
+use Rattle.std.specs.Prelude.{ℕ, ◌≡◌, ◌⊎◌, List, Option, Some, None, Result, Ok, Err}
 use Rattle.sk_insn.specs.declared.insn.Insn.{Insn}
 use Rattle.sk_insn.specs.declared.image.NoImage.{NoImage}
 use Rattle.sk_insn.specs.declared.image.NoImage.TheVariants.{Ragged, Empty as EmptyImage, TooLong as LongImage}
@@ -18,6 +18,17 @@ fine = 0
 -- memory was refused
 abbrev pub no_memory : ℕ
 no_memory = 13
+
+-- the new filters do not answer the call that is shown as they are to
+abbrev pub differ : ℕ
+differ = 14
+
+-- it is not known: a filter does what is not followed, or the steps were used up
+abbrev pub unfollowed : ℕ
+unfollowed = 15
+
+abbrev pub spent : ℕ
+spent = 16
 
 -- the faults of a program, seccomp(2): EINVAL; so `skern check` counts them
 abbrev pub number_of : CheckFault → ℕ
@@ -63,3 +74,8 @@ told_of_image (Err why) = refusal_at 0 0 (Image why)
 abbrev pub told_of : {X : Type 0} → Result X Fault → Fault
 told_of (Ok answer) = plain fine
 told_of (Err fault) = fault
+
+-- of two chains one of these is told, and of filters that are refused the fault
+abbrev pub IsTold : {X : Type 0} → Result X Fault → Fault → Type 0
+IsTold (Ok chains) it = (it ≡ plain fine) ⊎ ((it ≡ plain differ) ⊎ ((it ≡ plain unfollowed) ⊎ (it ≡ plain spent)))
+IsTold (Err fault) it = it ≡ fault

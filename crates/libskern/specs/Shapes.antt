@@ -26,3 +26,13 @@ chain_in side filters = elim (chained 0 [] (images_of filters)) [
   | Ok chain ↦ Ok chain
   | Err (filter, refusal) ↦ Err (refusal_at side filter refusal)
 ]
+
+-- the old chain and the new one, whose filters have the number 1 for their chain
+abbrev pub chains_in : List Image → List Image → Result (List (List Insn) × List (List Insn)) Fault
+chains_in old new = elim (chain_in 0 old) [
+  | Err fault ↦ Err fault
+  | Ok one ↦ elim (chain_in 1 new) [
+    | Err fault ↦ Err fault
+    | Ok other ↦ Ok (one, other)
+  ]
+]

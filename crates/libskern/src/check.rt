@@ -5,7 +5,7 @@ ghost use Rattle.sk_filter.specs.FirstFault.{first_fault};
 ghost use Rattle.sk_filter.specs.Valid.{IsValid};
 ghost use Rattle.libskern.specs.Faults.{fine, told_of_image, told_of_program};
 
-use crate::Fault;
+use crate::{Fault, reason};
 use sk_engines::Refusal;
 use sk_filter::check;
 use sk_insn::{Insn, read_image};
@@ -28,7 +28,7 @@ fn told_of_program(insns: Vec<Insn>) -> Fault
     ensures valid { result.reason ≡ fine → IsValid insns.items }
 {
     match check(insns) {
-        Ok(_) => Fault::fine(),
+        Ok(_) => Fault::plain(reason::FINE),
         Err((_, fault)) => Fault::refused(0, 0, Refusal::Program(fault)),
     }
 }

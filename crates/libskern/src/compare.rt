@@ -23,8 +23,8 @@ use std::alloc::{AllocError, Global};
 #[derive(Clone, Copy, Debug, PartialEq, Eq)]
 pub struct Difference {
     pub call: Call,
-    pub old: u32,
-    pub new: u32,
+    pub old_verdict: u32,
+    pub new_verdict: u32,
 }
 
 /// What was found of a relation between two chains.
@@ -97,8 +97,7 @@ pub(crate) fn compared(
 
 // The numbers at which the tests of either chain can change their answers, in rising order. They decide in which rows the
 // numbers are compared, and never what is found.
-fn beginnings(alloc: Global, old: &Chain, new: &Chain) -> Result<Vec<u32>, AllocError>
-{
+fn beginnings(alloc: Global, old: &Chain, new: &Chain) -> Result<Vec<u32>, AllocError> {
     let mut beginnings = cuts(alloc, old, &[])?;
     beginnings.extend_from_slice(&cuts(alloc, new, &[])?)?;
     beginnings.sort_unstable();
@@ -188,13 +187,13 @@ fn first_difference(chains: Comparing<'_>, calls: &[Record]) -> Option<Differenc
         stands_on chains.entry.relation chains.entry.old.now chains.entry.new.now call ≡ true) calls.now) }
 {
     for call in calls {
-        let old = chains.old.verdict(call);
-        let new = chains.new.verdict(call);
-        if !stands(chains.relation, old, new) {
+        let old_verdict = chains.old.verdict(call);
+        let new_verdict = chains.new.verdict(call);
+        if !stands(chains.relation, old_verdict, new_verdict) {
             return Some(Difference {
                 call: Call::of(call),
-                old,
-                new,
+                old_verdict,
+                new_verdict,
             });
         }
     }

@@ -21,7 +21,7 @@ pub struct Fault {
 
 impl Fault {
     /// A number that is said of all filters together.
-    fn plain(reason: u32) -> Fault
+    pub(crate) fn plain(reason: u32) -> Fault
         ensures plain { result ≡ plain reason }
     {
         Fault {
@@ -30,20 +30,6 @@ impl Fault {
             filter: 0,
             place: 0,
         }
-    }
-
-    /// Nothing is wrong.
-    pub(crate) fn fine() -> Fault
-        ensures plain { result ≡ plain 0 }
-    {
-        Fault::plain(reason::FINE)
-    }
-
-    /// Memory was refused.
-    pub(crate) fn no_memory() -> Fault
-        ensures plain { result ≡ plain 13 }
-    {
-        Fault::plain(reason::NO_MEMORY)
     }
 
     /// This filter of a chain is refused.

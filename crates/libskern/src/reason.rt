@@ -12,8 +12,17 @@ pub(crate) const PATH_LIMIT: u32 = 12;
 /// Memory was refused.
 pub(crate) const NO_MEMORY: u32 = 13;
 
+/// The new filters do not answer a call as they are to.
+pub(crate) const DIFFER: u32 = 14;
+
+/// A filter does what is not followed, and no call was found that tells the filters apart.
+pub(crate) const UNFOLLOWED: u32 = 15;
+
+/// The steps of a comparison were used up.
+pub(crate) const SPENT: u32 = 16;
+
 /// The text of each number, from 0 on.
-pub const TEXTS: [&str; 16] = [
+pub const TEXTS: [&str; 17] = [
     "no fault",
     "no instruction",
     "more than 4096 instructions",
@@ -28,8 +37,9 @@ pub const TEXTS: [&str; 16] = [
     "last instruction is cut off",
     "no room beside the filters before it",
     "out of memory",
-    "verdicts differ",
-    "not decided on all calls",
+    "not so on the call that is shown",
+    "a filter does what is not followed",
+    "too many steps",
 ];
 
 /// The text of a number, or what is said of one that has none.
