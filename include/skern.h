@@ -11,7 +11,7 @@
  * A pointer to an array is not NULL, even where its count is 0. What a pointer leads to stays as it is while the
  * function runs, and what is written overlaps nothing else that is passed.
  *
- * Link with liblibskern.a and then with the toolchain's liblibc_c.a.
+ * `tools/library FOLDER` makes libskern.a and libskern.so.
  */
 #ifndef SKERN_H
 #define SKERN_H
@@ -42,6 +42,9 @@ enum skern_reason {
     SKERN_RAGGED = 11,     /* the bytes are no multiple of 8 */
     SKERN_PATH_LIMIT = 12, /* the filters before it leave no room: seccomp(2), ENOMEM */
     SKERN_NO_MEMORY = 13,  /* malloc(3) gave nothing */
+    SKERN_DIFFER = 14,     /* of two chains: not on the call that is shown */
+    SKERN_UNFOLLOWED = 15, /* of two chains: not known, since a filter does what is not followed */
+    SKERN_SPENT = 16,      /* of two chains: not known, since it would take too many steps */
 };
 
 /* What is wrong, and where. All but `reason` is 0 where it says nothing. */
@@ -67,6 +70,23 @@ struct skern_fault skern_check(const void *insns, size_t bytes);
  */
 struct skern_fault skern_verdict(const struct skern_filter *filters, size_t count, const struct seccomp_data *call,
                                  uint32_t *verdict);
+
+/* A call to which two chains do not answer as is asked, and the verdict of each. */
+struct skern_difference {
+    struct seccomp_data call;
+    uint32_t old_verdict;
+    uint32_t new_verdict;
+};
+
+/*
+ * Whether new filters answer every call of x86-64 as old ones do, or with `stricter` as strictly: no action of an old
+ * verdict takes precedence over that of the new one. Each chain has its oldest filter first. With SKERN_OK they do so on
+ * every call. With SKERN_DIFFER they do not, and `*difference` is a call that shows it; else it stays as it was. Of
+ * filters as libseccomp makes them it is never SKERN_UNFOLLOWED. A comparison may take seconds.
+ */
+struct skern_fault skern_compare(const struct skern_filter *old_filters, size_t old_count,
+                                 const struct skern_filter *new_filters, size_t new_count, bool stricter,
+                                 struct skern_difference *difference);
 
 /*
  * The text of a reason, in ASCII. Gives how many bytes it takes with the zero byte at its end, and writes them where

@@ -1,7 +1,8 @@
 //! Two chains compared on every call of x86-64.
-ghost use Rattle.std.specs.Prelude.{ℕ, List, ◌≡◌, ◌≢◌, ◌≤◌, ◌+◌, ◌^◌, true, false, IfOk, IfNone, IfSome};
+ghost use Rattle.std.specs.Prelude.{ℕ, List, ◌≡◌, ◌≢◌, ◌≤◌, ◌<◌, ◌+◌, ◌^◌, true, false, IfOk, IfNone, IfSome};
 ghost use Rattle.std.specs.List.{All};
 ghost use Rattle.sk_insn.specs.declared.insn.Insn.{Insn};
+ghost use Rattle.sk_filter.specs.PathLimit.{cost_of};
 ghost use Rattle.sk_survey.specs.Answers.{IsCallOf};
 ghost use Rattle.sk_conditions.specs.declared.standing.Relation.{Relation};
 ghost use Rattle.sk_conditions.specs.Differing.{TellsDifferences};
@@ -11,7 +12,7 @@ ghost use Rattle.libskern.specs.Comparing.{IsFound, IsDifference, end_stands, re
 
 use crate::Call;
 use sk_conditions::{
-    Budgets, Comparing, Differences, Numbers, Relation, Tree, Verdicts, differ, stands,
+    Budget, Budgets, Comparing, Differences, Numbers, Relation, Tree, Verdicts, differ, stands,
 };
 use sk_filter::Chain;
 use sk_insn::Record;
@@ -153,40 +154,58 @@ fn row_found(
         → budgets.new.is_spent ≡ false → found ≢ Found.Open) }
     ensures spent { budgets.new.is_spent ≡ false → budgets.old.is_spent ≡ false }
 {
-    // A step to compare, and one that is left.
-    let least = u64::from(chains.old.cost()) + u64::from(chains.new.cost()) + 2;
+    // A step to compare, one call, and a step that is left.
+    let least = 2 * most_steps(chains) + 2;
     let mut budget = budgets.row(least);
     let differences = differ(alloc, chains, &mut budget)?;
+    let found = found_by(chains, &differences, &mut budget);
     budgets.put_back(budget);
-    Ok(found_by(chains, &differences))
+    Ok(found)
+}
+
+// The most instructions that one call has both chains execute.
+fn most_steps(chains: Comparing<'_>) -> u64
+    ensures few { result < 2 ^ 33 }
+    ensures cost { result ≡ cost_of chains.entry.old.now + cost_of chains.entry.new.now }
+{
+    u64::from(chains.old.cost()) + u64::from(chains.new.cost())
 }
 
 // What was found, by how the verdicts differ.
-fn found_by(chains: Comparing<'_>, differences: &Differences) -> Found
+fn found_by(chains: Comparing<'_>, differences: &Differences, budget: &mut Budget) -> Found
     requires tells { TellsDifferences chains differences.now }
     requires within { All (IsCallOf chains.numbers.first chains.numbers.last) differences.now.calls.items }
     ensures found { IsFound chains.entry.relation chains.entry.old.now chains.entry.new.now
         chains.entry.numbers.first (chains.entry.numbers.last + 1) result }
-    ensures decided { TellsAll differences.now.tree → EachEndIsMet differences.now.calls.items differences.now.tree → result ≢ Found.Open }
+    ensures decided { TellsAll differences.now.tree → EachEndIsMet differences.now.calls.items differences.now.tree
+        → 0 < budget.new.steps → result ≢ Found.Open }
+    ensures left { budget.new.steps ≤ budget.old.steps }
 {
-    if let Some(it) = first_difference(chains, &differences.calls) {
-        return Found::Fails(it);
-    }
     if tree_stands(chains.relation, &differences.pairs, &differences.tree) {
-        Found::Holds
-    } else {
-        Found::Open
+        return Found::Holds;
+    }
+    match first_difference(chains, &differences.calls, budget) {
+        Some(it) => Found::Fails(it),
+        None => Found::Open,
     }
 }
 
-// The first of some calls on which the relation fails.
-fn first_difference(chains: Comparing<'_>, calls: &[Record]) -> Option<Difference>
+// The first of some calls on which the relation fails, as far as the budget lets look.
+fn first_difference(
+    chains: Comparing<'_>,
+    calls: &[Record],
+    budget: &mut Budget,
+) -> Option<Difference>
     requires within { All (IsCallOf chains.numbers.first chains.numbers.last) calls.now }
     ensures shown { IfSome result (IsDifference chains.entry.relation chains.entry.old.now chains.entry.new.now) }
-    ensures none { IfNone result (All (λ call.
+    ensures none { 0 < budget.new.steps → IfNone result (All (λ call.
         stands_on chains.entry.relation chains.entry.old.now chains.entry.new.now call ≡ true) calls.now) }
+    ensures left { budget.new.steps ≤ budget.old.steps }
 {
     for call in calls {
+        if !budget.take(most_steps(chains)) {
+            return None;
+        }
         let old_verdict = chains.old.verdict(call);
         let new_verdict = chains.new.verdict(call);
         if !stands(chains.relation, old_verdict, new_verdict) {

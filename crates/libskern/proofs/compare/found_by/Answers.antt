@@ -10,19 +10,19 @@ returns-then-tree_stands-clause-found c = λ call native from below.
     let chains = c.args.chains in
     let it = c.args.differences.now in
     let stands : tree_stands chains.relation it.pairs.items it.tree ≡ true =
-    search (rules, c.tree_stands.ensures, c.deref-2.ensures, c.if-tree_stands.true) in
+    search (rules, c.tree_stands.ensures, c.deref.ensures, c.if-tree_stands.true) in
     of_tree chains.relation it.pairs.items it.tree call (verdict_of chains.old.now call) (verdict_of chains.new.now call) stands
     (c.requires.tells call (native, (from, omega (arith, below))))
 
-pub returns-else-tree_stands-clause-decided : goal.returns-else-tree_stands-clause-decided
-returns-else-tree_stands-clause-decided c = λ tells met same.
+pub returns-in-None-clause-decided : goal.returns-in-None-clause-decided
+returns-in-None-clause-decided c = λ tells met left same.
     let chains = c.args.chains in
     let it = c.args.differences.now in
     let fails : tree_stands chains.relation it.pairs.items it.tree ≡ false =
-    search (rules, c.tree_stands.ensures, c.deref-2.ensures, c.if-tree_stands.false) in
+    search (rules, c.tree_stands.ensures, c.deref.ensures, c.if-tree_stands.false) in
     let none : All (λ call. stands_on chains.relation chains.old.now chains.new.now call ≡ true) it.calls.items =
     subst (λ calls. All (λ call. stands_on chains.relation chains.old.now chains.new.now call ≡ true) calls)
-    c.deref.ensures.value c.in_default.ensures.none in
+    c.deref-2.ensures.value (c.in-None.ensures.none left) in
     let stands = to_tree chains.relation it.pairs.items chains.old.now chains.new.now it.tree it.calls.items tells met
     (λ k d less. (c.requires.tells (slice_index_or it.calls.items k d) (c.requires.within k d less), none k d less)) in
     let wrong : false ≡ true = sym fails ∙ stands in
