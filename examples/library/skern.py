@@ -12,7 +12,8 @@ from collections.abc import Sequence
 from typing import NamedTuple
 
 X86_64 = 0xC000003E  # AUDIT_ARCH_X86_64 of linux/audit.h
-OK, NO_MEMORY, DIFFER = 0, 13, 14  # of enum skern_reason; every other one refuses too
+# Of enum skern_reason. All but OK and DIFFER refuse, those up to PATH_LIMIT one filter.
+OK, PATH_LIMIT, NO_MEMORY, DIFFER = 0, 12, 13, 14
 
 
 class Call(NamedTuple):
@@ -37,7 +38,8 @@ class Refused(Exception):
     1 for the new one, `filter` its number there, and `place` that of its instruction. All count from 0."""
 
     def __init__(self, reason: int, text: str, chain: int, filter: int, place: int):
-        super().__init__(f"{reason} {text}: filter {filter} at {place}" + (" of the new chain" if chain else ""))
+        where = f": {'new filter' if chain else 'filter'} {filter} at {place}" if reason <= PATH_LIMIT else ""
+        super().__init__(f"{reason} {text}{where}")
         self.reason, self.text, self.chain, self.filter, self.place = reason, text, chain, filter, place
 
 
