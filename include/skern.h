@@ -8,7 +8,7 @@
  * by side. Memory comes from malloc(3) and is given back before a function returns. Do not call from a signal handler,
  * nor in the child of a fork(2) of a process with threads.
  *
- * A call was seen to take less than 32 KiB of stack, but for a comparison of filters that are made to be hard, of up to
+ * A function was seen to take less than 32 KiB of stack, but for a comparison of filters that are made to be hard, of up to
  * 4 MiB. The library has no bound on it.
  *
  * A pointer to an array is not NULL, even where its count is 0. What a pointer leads to stays as it is while the
