@@ -2,12 +2,13 @@
 //! between calls, and hands out no memory.
 #![tactic(auto)]
 
-ghost use Rattle.std.specs.Prelude.{ℕ, ◌≡◌, ◌≢◌, ◌≤◌, ◌<◌, ◌+◌, ◌++◌, ◌∷◌, [], drop, length, IfOk, IsOk};
+ghost use Rattle.std.specs.Prelude.{ℕ, List, ◌≡◌, ◌≢◌, ◌≤◌, ◌<◌, ◌+◌, ◌++◌, ◌∷◌, [], drop, length, IfOk, IsOk};
 ghost use Rattle.sk_insn.specs.Instructions.{image_instructions};
 ghost use Rattle.sk_filter.specs.Valid.{IsValid};
 ghost use Rattle.sk_filter.specs.Verdict.{verdict_of};
 ghost use Rattle.libskern.specs.Comparing.{BothFollowed, Differ, Stand};
-ghost use Rattle.libskern.specs.Faults.{IsTold, differ, fine, no_memory, told_of, told_of_image, unfollowed};
+ghost use Rattle.libskern.specs.Faults.{IsTold, differ, fine, no_memory, plain, told_of, told_of_image, unfollowed};
+ghost use Rattle.libskern.specs.Profiles.{IsImageOf, IsRefused, no_room};
 ghost use Rattle.libskern.specs.Shapes.{chain_in, chains_in, record_of};
 ghost use Rattle.libskern.specs.Texts.{text_of};
 
@@ -17,6 +18,7 @@ mod compare;
 mod comparison;
 mod fault;
 mod filters;
+mod profile;
 mod reason;
 mod verdict;
 
@@ -27,6 +29,7 @@ pub use call::Call;
 pub use compare::Difference;
 pub use fault::Fault;
 pub use filters::Image;
+pub use profile::Setting;
 use std::alloc::{AllocError, Global};
 
 /// Whether one filter is valid by seccomp(2), or its first fault. `image` has its `struct sock_filter`s, 8 bytes each.
@@ -87,6 +90,47 @@ pub extern "C" fn skern_compare(
         Ok(fault) => fault,
         Err(AllocError) => Fault::plain(reason::NO_MEMORY),
     }
+}
+
+/// The filter of a container's profile, the JSON of docker, podman and their like, where it is to hold: it answers to every
+/// call of x86-64 what the profile says. `size` gets how many bytes it takes, and `image` gets them where there is room.
+#[unsafe(no_mangle)]
+pub extern "C" fn skern_profile(
+    alloc: Global,
+    profile: &[u8],
+    setting: &Setting,
+    image: &mut [u8],
+    size: &mut usize,
+) -> Fault
+    ensures made { result.reason ≡ fine → (made : List ℕ) × IsImageOf setting.now profile.now made
+        × (size.new ≡ length made) × (image.new ≡ made ++ drop size.new image.old) }
+    ensures room { result.reason ≡ no_room → (made : List ℕ) × IsImageOf setting.now profile.now made
+        × (size.new ≡ length made) × (length image.old < size.new) }
+    ensures refused { result.reason ≢ fine → result.reason ≢ no_room → result.reason ≢ no_memory
+        → IsRefused setting.now profile.now result × (size.new ≡ size.old) }
+    ensures kept { result.reason ≢ fine → image.new ≡ image.old }
+{
+    match profile::image_of(alloc, profile, setting) {
+        Ok(Ok(made)) => {
+            *size = made.len();
+            write_image(&made, image)
+        }
+        Ok(Err(refusal)) => Fault::plain(profile::number_of(refusal)),
+        Err(AllocError) => Fault::plain(reason::NO_MEMORY),
+    }
+}
+
+// Writes an image where there is room for it.
+fn write_image(made: &[u8], image: &mut [u8]) -> Fault
+    ensures written { length made.now ≤ length image.old
+        → (result ≡ plain fine) × (image.new ≡ made.now ++ drop (length made.now) image.old) }
+    ensures kept { length image.old < length made.now → (result ≡ plain no_room) × (image.new ≡ image.old) }
+{
+    if image.len() < made.len() {
+        return Fault::plain(reason::NO_ROOM);
+    }
+    image[..made.len()].copy_from_slice(made);
+    Fault::plain(reason::FINE)
 }
 
 /// The text of a number, in ASCII with a zero byte at its end. Gives the bytes that this takes, and writes none of them

@@ -21,8 +21,11 @@ pub(crate) const UNFOLLOWED: u32 = 15;
 /// The steps of a comparison were used up.
 pub(crate) const SPENT: u32 = 16;
 
+/// There is less room than a filter takes.
+pub(crate) const NO_ROOM: u32 = 22;
+
 /// The text of each number, from 0 on.
-pub const TEXTS: [&str; 17] = [
+pub const TEXTS: [&str; 23] = [
     "no fault",
     "no instruction",
     "more than 4096 instructions",
@@ -40,6 +43,12 @@ pub const TEXTS: [&str; 17] = [
     "not so on the call that is shown",
     "a filter does what is not followed",
     "too many steps",
+    "profile is no text in UTF-8",
+    "profile is no JSON",
+    "key comes twice in an object of the profile",
+    "profile is wrong",
+    "entries of the profile clash",
+    "no room for the filter",
 ];
 
 /// The text of a number, or what is said of one that has none.
