@@ -48,6 +48,12 @@ enum skern_reason {
     SKERN_DIFFER = 14,     /* of two chains: not on the call that is shown */
     SKERN_UNFOLLOWED = 15, /* of two chains: not known, since a filter does what is not followed */
     SKERN_SPENT = 16,      /* of two chains: not known, since it would take too many steps */
+    SKERN_NOT_TEXT = 17,   /* a profile is no text in UTF-8 */
+    SKERN_NOT_JSON = 18,   /* it is no JSON, or nests deeper than is read */
+    SKERN_KEY_TWICE = 19,  /* a key comes twice in one of its objects */
+    SKERN_PROFILE = 20,    /* something else is wrong with it, or is not taken; `ask filter` says what and where */
+    SKERN_CLASH = 21,      /* two of its entries say different things of one call; `ask filter` says which */
+    SKERN_NO_ROOM = 22,    /* its filter takes more bytes than there is room for */
 };
 
 /* What is wrong, and where. All but `reason` is 0 where it says nothing. */
@@ -90,6 +96,24 @@ struct skern_difference {
 struct skern_fault skern_compare(const struct skern_filter *old_filters, size_t old_count,
                                  const struct skern_filter *new_filters, size_t new_count, bool stricter,
                                  struct skern_difference *difference);
+
+/* Where a profile is to hold: the capabilities that are held, bit n for the one with the number n of linux/capability.h; the
+ * version of the kernel; and whether runc attaches the filter. */
+struct skern_setting {
+    uint64_t capabilities;
+    uint32_t kernel_major;
+    uint32_t kernel_minor;
+    bool runc;
+};
+
+/*
+ * The filter of a container's profile, the JSON of docker, podman and their like: it answers to every call of x86-64 what
+ * the profile says. With SKERN_OK `*size` is how many bytes the filter takes, and `insns` has them. With SKERN_NO_ROOM
+ * `*size` says the same, and nothing else is written. Else nothing is. SKERN_MOST_BYTES is room for each filter.
+ */
+#define SKERN_MOST_BYTES 32768
+struct skern_fault skern_profile(const char *json, size_t length, const struct skern_setting *setting, void *insns,
+                                 size_t room, size_t *size);
 
 /*
  * The text of a reason, in ASCII. Gives how many bytes it takes with the zero byte at its end, and writes them where

@@ -7,7 +7,7 @@ examples/library/skern.py takes it as a shared object. Both have to find each fi
 damaged, cut off or empty as `skern check` does, with the same fault at the same place. On calls whose words come from the filter's
 own constants the verdict has to be that of `skern eval`, of one filter and of two together. Two filters have to be the same on
 every call where `ask diff` says so, as strict where `ask diff --stricter` does, and else the call that is shown has to get both
-verdicts. Threads that ask side by side have to get the same answers as one. Then each allocation of a few runs is refused in
+verdicts. Each profile of examples has to have the filter that `ask filter` writes of it, and what is no profile none. Threads that ask side by side have to get the same answers as one. Then each allocation of a few runs is refused in
 turn: the answer is the whole one, or trouble with status 2, and every block is given back.
 
 Prints each problem, and at last 'N passed, M failed'."""
@@ -29,6 +29,12 @@ from check_calls import PROGRAM, SKERN, instructions, judge, results
 
 SEED = 1
 CALLS, DAMAGED, PAIRS = 12, 12, 60
+# Words of `ask`, and what they are to the library.
+KERNEL = ["--kernel", "6.12"]
+SETTINGS = [([], skern.Setting()), (["--cap", "docker"], skern.Setting(skern.DOCKER)), (["--cap", "all"], skern.Setting((1 << 64) - 1)),
+            (["--cap", "sys_admin", "--runc"], skern.Setting(1 << 21, runc=True))]
+# What has no filter, and the number that says so.
+NO_PROFILES = [(b"\xff", 17), (b"", 18), (b"{", 18), (b'{"defaultAction": "SCMP_ACT_ALLOW", "defaultAction": "SCMP_ACT_ALLOW"}', 19), (b"{}", 20), (b"[]", 20)]
 MOST_ALLOCATIONS = 200
 ALLOW = bytes.fromhex("060000000000ff7f")
 WARNINGS = ["-std=c11", "-Wall", "-Wextra", "-Werror", "-O2"]
@@ -110,6 +116,30 @@ class Checks:
         told = (line + verdicts or f"{'as strict' if stricter else 'the same'} on every call\n", "", int(it is not None))
         if (said := run(self.program, "compare", *words, *paths)) != told:
             yield f"C says {said} where Python says {it}"
+
+
+def profile_problems(checks: Checks, path: str) -> Iterator[str]:
+    """What is wrong with the filters of a profile."""
+    with open(path, "rb") as file:
+        json = file.read()
+    for words, setting in SETTINGS:
+        wanted = subprocess.run([PROGRAM, "filter", "--raw", *words, *KERNEL, path], capture_output=True, timeout=600, check=False)
+        image = checks.library.profile(json, setting)
+        if wanted.returncode or image != wanted.stdout:
+            yield f"{' '.join(words)}: another filter, of {len(image)} bytes, than that of `ask filter`, of {len(wanted.stdout)}"
+    said = subprocess.run([checks.program, "profile", path], capture_output=True, timeout=600, check=False)
+    if (said.returncode, said.stdout) != (0, checks.library.profile(json)):
+        yield f"C makes another filter, of {len(said.stdout)} bytes, with status {said.returncode}"
+
+
+def no_profile_problems(checks: Checks) -> Iterator[str]:
+    """What is wrong with what is said of bytes that are no profile."""
+    for json, wanted in NO_PROFILES:
+        try:
+            yield f"{json!r} has a filter of {len(checks.library.profile(json))} bytes"
+        except skern.Refused as why:
+            if why.reason != wanted:
+                yield f"{json!r}: {why}, and not {wanted}"
 
 
 def is_told_so(by_skern: str, told: str, image: bytes) -> bool:
@@ -196,9 +226,12 @@ def check_all(checks: Checks, paths: list[str]) -> None:
             judge(list(checks.compare(image, other, stricter)), f"{old} and {new}{', stricter' * stricter}")
     judge([problem for it in (b"", bytes(7), ALLOW * 4096, ALLOW * 4097) for problem in checks.check(it)], "no filters, and long ones")
     judge([] if checks.library.verdict([], skern.Call(39)) == 0x7FFF0000 else ["a call is not allowed"], "no filter")
+    for path in sorted(glob.glob(f"{ROOT}/examples/*/*.json")):
+        judge(list(profile_problems(checks, path)), os.path.relpath(path, ROOT))
+    judge(list(no_profile_problems(checks)), "no profiles")
     judge(check_threads(checks, list(images.values())[:8]), "threads")
     old, new = checks.path("old", list(images.values())[0]), checks.path("new", list(images.values())[-1])
-    for words in (["check", old], ["verdict", checks.path("call", record_of(skern.Call(1))), old, new], ["compare", old, new]):
+    for words in (["check", old], ["verdict", checks.path("call", record_of(skern.Call(1))), old, new], ["compare", old, new], ["profile", f"{ROOT}/examples/profiles/redundant.json"]):
         judge(check_memory(checks, words), f"filters {' '.join(words[:1])}, with refused memory")
 
 

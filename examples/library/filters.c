@@ -4,6 +4,7 @@
  *   filters check FILE..                      whether each filter is valid, or its first fault
  *   filters verdict CALL FILE..               what the filters, the oldest first, answer to the struct seccomp_data in CALL
  *   filters compare [--stricter] OLD NEW      whether NEW answers every call of x86-64 as OLD does, or as strictly
+ *   filters profile FILE                      the filter of a profile's JSON, on Linux 6.12 and without a capability
  *
  * The status is 0 where the answer is yes or a verdict, 1 where a filter is refused or the answer is no, 2 for trouble.
  */
@@ -13,8 +14,8 @@
 #include <stdlib.h>
 #include <string.h>
 
-/* More than any filter has: 4096 instructions take 32768 bytes. */
-enum { MOST_BYTES = 65536, MOST_FILTERS = 32, YES = 0, NO = 1, TROUBLE = 2 };
+/* More than any filter here has, and any profile. */
+enum { MOST_BYTES = 1 << 20, MOST_FILTERS = 32, YES = 0, NO = 1, TROUBLE = 2 };
 
 static int trouble(const char *what) {
     fprintf(stderr, "filters: %s\n", what);
@@ -133,18 +134,40 @@ static int compare(bool stricter, char **paths) {
     return status;
 }
 
+static int profile(const char *path) {
+    size_t length, size;
+    char *json = contents(path, &length), *insns = malloc(SKERN_MOST_BYTES);
+    struct skern_setting setting = {.kernel_major = 6, .kernel_minor = 12};
+    int status = TROUBLE;
+    if (!json || !insns) {
+        trouble("a file cannot be read");
+    } else {
+        struct skern_fault fault = skern_profile(json, length, &setting, insns, SKERN_MOST_BYTES, &size);
+        if (fault.reason != SKERN_OK) {
+            status = refused(path, fault);
+        } else if (fwrite(insns, 1, size, stdout) == size) {
+            status = YES;
+        }
+    }
+    free(insns);
+    free(json);
+    return status;
+}
+
 int main(int count, char **words) {
     int status = TROUBLE;
     if (count > 2 && strcmp(words[1], "check") == 0) {
         status = check(count - 2, words + 2);
     } else if (count > 2 && strcmp(words[1], "verdict") == 0) {
         status = verdict(words[2], count - 3, words + 3);
+    } else if (count == 3 && strcmp(words[1], "profile") == 0) {
+        status = profile(words[2]);
     } else if (count == 4 && strcmp(words[1], "compare") == 0) {
         status = compare(false, words + 2);
     } else if (count == 5 && strcmp(words[1], "compare") == 0 && strcmp(words[2], "--stricter") == 0) {
         status = compare(true, words + 3);
     } else {
-        trouble("usage: filters check FILE.. | verdict CALL FILE.. | compare [--stricter] OLD NEW");
+        trouble("usage: filters check FILE.. | verdict CALL FILE.. | compare [--stricter] OLD NEW | profile FILE");
     }
     return fflush(stdout) == 0 ? status : TROUBLE;
 }

@@ -4,6 +4,7 @@
     library.check(image)                          # raises Refused where the filter is not valid
     library.verdict([image], Call(39))            # 0x7fff0000: SECCOMP_RET_ALLOW
     library.compare([old], [new])                 # None where they answer the same on every call, or a Difference
+    library.profile(json, Setting(DOCKER))        # the image of the filter that a container's profile means
 
 An image is the bytes of struct sock_filters, as seccomp_export_bpf(3) writes them. A chain is a list of images, the oldest
 filter first. Threads may use one Library side by side."""
@@ -12,6 +13,8 @@ from collections.abc import Sequence
 from typing import NamedTuple
 
 X86_64 = 0xC000003E  # AUDIT_ARCH_X86_64 of linux/audit.h
+DOCKER = 0xA80425FB  # the capabilities that docker leaves to a container
+MOST_BYTES = 32768  # of a filter
 # Of enum skern_reason. All but OK and DIFFER refuse, those up to PATH_LIMIT one filter.
 OK, PATH_LIMIT, NO_MEMORY, DIFFER = 0, 12, 13, 14
 
@@ -23,6 +26,15 @@ class Call(NamedTuple):
     args: tuple[int, ...] = (0, 0, 0, 0, 0, 0)
     arch: int = X86_64
     instruction_pointer: int = 0
+
+
+class Setting(NamedTuple):
+    """Where a profile is to hold: the capabilities that are held, bit n for the one with the number n of linux/capability.h, the
+    version of the kernel, and whether runc attaches the filter."""
+
+    capabilities: int = 0
+    kernel: tuple[int, int] = (6, 12)
+    runc: bool = False
 
 
 class Difference(NamedTuple):
@@ -55,6 +67,10 @@ class _Call(ctypes.Structure):
     _fields_ = [("nr", ctypes.c_uint32), ("arch", ctypes.c_uint32), ("instruction_pointer", ctypes.c_uint64), ("args", ctypes.c_uint64 * 6)]
 
 
+class _Setting(ctypes.Structure):
+    _fields_ = [("capabilities", ctypes.c_uint64), ("major", ctypes.c_uint32), ("minor", ctypes.c_uint32), ("runc", ctypes.c_bool)]
+
+
 class _Difference(ctypes.Structure):
     _fields_ = [("call", _Call), ("old_verdict", ctypes.c_uint32), ("new_verdict", ctypes.c_uint32)]
 
@@ -77,6 +93,9 @@ class Library:
         self._compare = library.skern_compare
         self._compare.argtypes = [filters, size, filters, size, ctypes.c_bool, ctypes.POINTER(_Difference)]
         self._compare.restype = _Fault
+        self._profile = library.skern_profile
+        self._profile.argtypes = [ctypes.c_char_p, size, ctypes.POINTER(_Setting), ctypes.c_char_p, size, ctypes.POINTER(size)]
+        self._profile.restype = _Fault
         self._reason = library.skern_reason
         self._reason.argtypes, self._reason.restype = [ctypes.c_uint32, ctypes.c_char_p, size], size
 
@@ -107,6 +126,13 @@ class Library:
             return None
         call = Call(it.call.nr, tuple(it.call.args), it.call.arch, it.call.instruction_pointer)
         return Difference(call, it.old_verdict, it.new_verdict)
+
+    def profile(self, json: bytes, setting: Setting = Setting()) -> bytes:
+        """The image of the filter that answers to every call of x86-64 what the profile says there."""
+        image, size = ctypes.create_string_buffer(MOST_BYTES), ctypes.c_size_t()
+        there = _Setting(setting.capabilities, *setting.kernel, setting.runc)
+        self._refuse(self._profile(json, len(json), ctypes.byref(there), image, len(image), ctypes.byref(size)))
+        return image.raw[:size.value]
 
     def _refuse(self, fault: _Fault) -> None:
         if fault.reason == NO_MEMORY:
