@@ -2,7 +2,7 @@
 //! between calls, and hands out no memory.
 #![tactic(auto)]
 
-ghost use Rattle.std.specs.Prelude.{ℕ, List, ◌≡◌, ◌≢◌, ◌≤◌, ◌<◌, ◌+◌, ◌++◌, ◌∷◌, [], drop, length, IfOk, IsOk};
+ghost use Rattle.std.specs.Prelude.{ℕ, List, ◌≡◌, ◌≢◌, ◌≤◌, ◌<◌, ◌+◌, ◌++◌, ◌∷◌, [], drop, take, length, IfOk, IsOk};
 ghost use Rattle.sk_insn.specs.Instructions.{image_instructions};
 ghost use Rattle.sk_filter.specs.Valid.{IsValid};
 ghost use Rattle.sk_filter.specs.Verdict.{verdict_of};
@@ -102,8 +102,8 @@ pub extern "C" fn skern_profile(
     image: &mut [u8],
     size: &mut usize,
 ) -> Fault
-    ensures made { result.reason ≡ fine → (made : List ℕ) × IsImageOf setting.now profile.now made
-        × (size.new ≡ length made) × (image.new ≡ made ++ drop size.new image.old) }
+    ensures made { result.reason ≡ fine → (size.new ≤ length image.old) × IsImageOf setting.now profile.now (take size.new image.new)
+        × (drop size.new image.new ≡ drop size.new image.old) }
     ensures room { result.reason ≡ no_room → (made : List ℕ) × IsImageOf setting.now profile.now made
         × (size.new ≡ length made) × (length image.old < size.new) }
     ensures refused { result.reason ≢ fine → result.reason ≢ no_room → result.reason ≢ no_memory
