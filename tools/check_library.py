@@ -35,7 +35,9 @@ SETTINGS = [([], skern.Setting()), (["--cap", "docker"], skern.Setting(skern.DOC
             (["--cap", "sys_admin", "--runc"], skern.Setting(1 << 21, runc=True))]
 # What has no filter, and the number that says so.
 NO_PROFILES = [(b"\xff", 17), (b"", 18), (b"{", 18), (b'{"defaultAction": "SCMP_ACT_ALLOW", "defaultAction": "SCMP_ACT_ALLOW"}', 19), (b"{}", 20), (b"[]", 20)]
-MOST_ALLOCATIONS = 200
+MOST_ALLOCATIONS = 4000
+# A stream whose block is refused does without it. So many runs in a row that are as the first one say that no allocation is left.
+QUIET = 20
 ALLOW = bytes.fromhex("060000000000ff7f")
 WARNINGS = ["-std=c11", "-Wall", "-Wextra", "-Werror", "-O2"]
 
@@ -193,7 +195,7 @@ def check_memory(checks: Checks, words: list[str]) -> list[str]:
     """What is wrong where each allocation of a run is refused in turn."""
     shim, left_in = f"{checks.folder}/refuse_memory.so", f"{checks.folder}/left"
     subprocess.run(["gcc", "-O1", "-shared", "-fPIC", "-o", shim, f"{ROOT}/tools/refuse_memory.c", "-ldl"], check=True)
-    problems, whole, kept = [], None, 0
+    problems, whole, kept, quiet, refused = [], None, 0, 0, 0
     for count in range(MOST_ALLOCATIONS):
         said = run(checks.program, *words, env={"LD_PRELOAD": shim, "REFUSE": str(count), "LEFT": left_in})
         with open(left_in, encoding="ascii") as file:
@@ -204,8 +206,10 @@ def check_memory(checks: Checks, words: list[str]) -> list[str]:
         is_trouble = said[2] == 2 and not said[0] and said[1].startswith("filters: ")
         if left > kept or not (said == whole or is_trouble):
             problems.append(f"with allocation {count} refused it says {said} and keeps {left} blocks")
-        if count and said == whole and left == kept:
-            return problems
+        quiet = quiet + 1 if said == whole and left == kept else 0
+        refused += is_trouble
+        if quiet > QUIET:
+            return problems if refused else [*problems, "no allocation was refused"]
     return [*problems, f"more than {MOST_ALLOCATIONS} allocations"]
 
 
@@ -230,7 +234,8 @@ def check_all(checks: Checks, paths: list[str]) -> None:
         judge(list(profile_problems(checks, path)), os.path.relpath(path, ROOT))
     judge(list(no_profile_problems(checks)), "no profiles")
     judge(check_threads(checks, list(images.values())[:8]), "threads")
-    old, new = checks.path("old", list(images.values())[0]), checks.path("new", list(images.values())[-1])
+    small = sorted(images.values(), key=len)
+    old, new = checks.path("old", small[0]), checks.path("new", small[1])
     for words in (["check", old], ["verdict", checks.path("call", record_of(skern.Call(1))), old, new], ["compare", old, new], ["profile", f"{ROOT}/examples/profiles/redundant.json"]):
         judge(check_memory(checks, words), f"filters {' '.join(words[:1])}, with refused memory")
 
