@@ -82,6 +82,13 @@ class Crates:
     def __contains__(self, name: str) -> bool:
         return name in self.rows
 
+    def is_static(self, name: str) -> bool:
+        """Whether the crate is a library for C, an archive on which no other crate stands."""
+        return "staticlib" in self.lines[name].partition(":")[0].split()
+
+    def archive(self, name: str) -> str:
+        return f"{TOP}/crates/{name}/out/lib{name}.a"
+
     def uses(self, name: str) -> list[str]:
         return [it for it in self.rows[name] if it in self.rows]
 
@@ -127,8 +134,9 @@ class Crates:
         """Whether the crate was proved after each file of it and of those below was written. Only what is proved is built."""
         out = f"{TOP}/crates/{name}/out"
         # The files of a library that an earlier run of rt ci made keep their times: when it was put here its folder tells.
-        made = f"{out}/{name}" if is_program(name) else f"{out}/rlib/{name}.rlib"
-        if not os.path.exists(made if is_program(name) else f"{made}/format"):
+        is_one_file = is_program(name) or self.is_static(name)
+        made = self.archive(name) if self.is_static(name) else f"{out}/{name}" if is_program(name) else f"{out}/rlib/{name}.rlib"
+        if not os.path.exists(made if is_one_file else f"{made}/format"):
             return False
         # rt writes the stamp once it has seen that no file changed meanwhile. What rt ci builds has none.
         return self.is_older(name, os.path.getmtime(next(it for it in (f"{out}/rlib/stamp", made) if os.path.exists(it))))
@@ -156,4 +164,5 @@ class Crates:
         words += [word for it in self.uses(name) for word in ("--extern", f"{it}={TOP}/crates/{it}/out/rlib/{it}.rlib")]
         words += [word for it in self.below(name) for word in ("-L", f"dependency={TOP}/crates/{it}/out/rlib")]
         words += ["--antt-project", f"{kit}/rattle/logic/antt-project.json", "--logic-built", f"{kit}/logic_built"]
+        words += ["--crate-type", "staticlib"] * self.is_static(name)
         return [*words, "--jobs", "1", "--links", f"{name}="]

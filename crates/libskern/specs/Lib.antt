@@ -1,0 +1,5 @@
+pub mod Comparing
+pub mod Faults
+pub mod Profiles
+pub mod Shapes
+pub mod Texts

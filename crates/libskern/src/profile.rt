@@ -1,0 +1,91 @@
+//! The filter of a container's profile.
+ghost use Rattle.std.specs.Prelude.{◌≡◌, ◌++◌, IfOk};
+ghost use Rattle.sk_profile_json.specs.Capabilities.{all_names, names_of};
+ghost use Rattle.libskern.specs.Profiles.{IsMadeThere, held_names, refusal_number};
+
+use sk_profile_json::{Context, Kernel, Refusal, capability, made};
+use std::alloc::{AllocError, Global};
+
+/// Where a profile is to hold.
+#[repr(C)]
+#[derive(Clone, Copy, Debug)]
+pub struct Setting {
+    /// The capabilities that are held: bit n for the one with the number n of linux/capability.h.
+    pub capabilities: u64,
+    pub kernel_major: u32,
+    pub kernel_minor: u32,
+    /// Whether runc attaches the filter.
+    pub runc: bool,
+}
+
+/// The image of the filter that means a profile, where it is to hold, or why it has none.
+pub(crate) fn image_of(
+    alloc: Global,
+    profile: &[u8],
+    setting: &Setting,
+) -> Result<Result<Vec<u8>, Refusal>, AllocError>
+    ensures made { IfOk result (IsMadeThere setting.now profile.now) }
+{
+    let names = held(alloc, setting.capabilities)?;
+    let context = Context {
+        capabilities: &names,
+        kernel: Kernel {
+            major: setting.kernel_major,
+            minor: setting.kernel_minor,
+        },
+        runc: setting.runc,
+    };
+    match made(alloc, &context, profile)? {
+        Ok(made) => Ok(Ok(made.image)),
+        Err(refusal) => Ok(Err(refusal)),
+    }
+}
+
+// The names of the capabilities with these bits.
+fn held(alloc: Global, bits: u64) -> Result<Vec<&'static str>, AllocError>
+    ensures names { IfOk result (λ names. names_of names.items ≡ held_names bits all_names) }
+{
+    with_held(Vec::new(alloc), bits, all())
+}
+
+#[tactic(auto, unfolding(sk_profile_json::specs::Capabilities::capability))]
+fn all() -> &'static [&'static str]
+    ensures all { names_of result.now ≡ all_names }
+{
+    match capability(b"all") {
+        Some(names) => names,
+        None => unreachable!(),
+    }
+}
+
+// Those of some names whose bits are set, behind others.
+fn with_held<'a>(
+    names: Vec<&'a str>,
+    bits: u64,
+    all: &[&'a str],
+) -> Result<Vec<&'a str>, AllocError>
+    ensures held { IfOk result (λ more. names_of more.items ≡ names_of names.entry.items ++ held_names bits (names_of all.now)) }
+{
+    let Some((name, others)) = all.split_first() else {
+        return Ok(names);
+    };
+    let mut names = names;
+    if bits % 2 == 1 {
+        names.push(*name)?;
+    }
+    with_held(names, bits / 2, others)
+}
+
+/// The number that tells why a profile has no filter.
+pub(crate) fn number_of(refusal: Refusal) -> u32
+    ensures number { result ≡ refusal_number refusal }
+{
+    match refusal {
+        Refusal::TooLong => 2,
+        Refusal::NotText => 17,
+        Refusal::NotJson => 18,
+        Refusal::KeyTwice => 19,
+        Refusal::Wrong(_) => 20,
+        Refusal::Clashes(_) => 21,
+    }
+}
