@@ -91,7 +91,8 @@ struct skern_difference {
  * Whether new filters answer every call of x86-64 as old ones do, or with `stricter` as strictly: no action of an old
  * verdict takes precedence over that of the new one. Each chain has its oldest filter first. With SKERN_OK they do so on
  * every call. With SKERN_DIFFER they do not, and `*difference` is a call that shows it; else it stays as it was. Of
- * filters as libseccomp makes them it is never SKERN_UNFOLLOWED. A comparison may take seconds.
+ * filters as libseccomp makes them it is never SKERN_UNFOLLOWED. It is never SKERN_SPENT where all calls with one number
+ * go one way through each filter. A comparison may take seconds.
  */
 struct skern_fault skern_compare(const struct skern_filter *old_filters, size_t old_count,
                                  const struct skern_filter *new_filters, size_t new_count, bool stricter,

@@ -13,6 +13,7 @@ use Rattle.sk_conditions.specs.declared.tree.Tree.{Tree}
 use Rattle.sk_conditions.specs.declared.tree.Tree.TheVariants.{Is, Untold, Ask'}
 use Rattle.sk_conditions.specs.Comparing.{relates}
 use Rattle.sk_conditions.specs.Followed.{AreFollowed}
+use Rattle.sk_conditions.specs.Steps.{NeverPart}
 use Rattle.libskern.specs.declared.compare.Difference.{Difference}
 use Rattle.libskern.specs.declared.compare.Found.{Found}
 use Rattle.libskern.specs.declared.compare.Found.TheVariants.{Holds, Fails, Open}
@@ -56,6 +57,10 @@ Differ stricter it (old, new) = IsDifference (relation_asked stricter) old new i
 -- each filter of both is of the kind that is followed
 abbrev pub BothFollowed : List (List Insn) × List (List Insn) → Type 0
 BothFollowed (old, new) = All AreFollowed old × All AreFollowed new
+
+-- all calls of any numbers go one way through each filter of both
+abbrev pub NeitherParts : List (List Insn) × List (List Insn) → Type 0
+NeitherParts (old, new) = NeverPart 0 (2 ^ 32) old × NeverPart 0 (2 ^ 32) new
 
 -- ---- what the code knows on its way there
 

@@ -1,5 +1,5 @@
 //! Two chains compared on every call of x86-64.
-ghost use Rattle.std.specs.Prelude.{ℕ, List, ◌≡◌, ◌≢◌, ◌≤◌, ◌<◌, ◌+◌, ◌^◌, true, false, IfOk, IfNone, IfSome};
+ghost use Rattle.std.specs.Prelude.{ℕ, List, ◌≡◌, ◌≢◌, ◌≤◌, ◌<◌, ◌+◌, ◌^◌, true, false, length, IfOk, IfNone, IfSome};
 ghost use Rattle.std.specs.List.{All};
 ghost use Rattle.sk_insn.specs.declared.insn.Insn.{Insn};
 ghost use Rattle.sk_filter.specs.PathLimit.{cost_of};
@@ -8,6 +8,7 @@ ghost use Rattle.sk_conditions.specs.declared.standing.Relation.{Relation};
 ghost use Rattle.sk_conditions.specs.Differing.{TellsDifferences};
 ghost use Rattle.sk_conditions.specs.Followed.{AreFollowed, TellsAll};
 ghost use Rattle.sk_conditions.specs.Meeting.{EachEndIsMet};
+ghost use Rattle.sk_conditions.specs.Steps.{BothGoOneWay, NeverPart};
 ghost use Rattle.libskern.specs.Comparing.{IsFound, IsDifference, end_stands, relation_asked, stands_on, tree_stands};
 
 use crate::Call;
@@ -64,6 +65,9 @@ pub(crate) fn compared(
     // Where the filters are followed, and the steps of no row were used up, it is known.
     ensures decided { IfOk result (λ found. All AreFollowed old.now → All AreFollowed new.now
         → budgets.new.is_spent ≡ false → found ≢ Found.Open) }
+
+    // Where all calls of each row go one way through each filter, they are not.
+    ensures one_way { NeverPart 0 (2 ^ 32) old.now → NeverPart 0 (2 ^ 32) new.now → budgets.old.is_spent ≡ false → budgets.new.is_spent ≡ false }
 {
     let beginnings = beginnings(alloc, old, new)?;
     let last = u32::MAX;
@@ -119,6 +123,7 @@ fn with_row(
     ensures decided { found ≢ Found.Open → IfOk result (λ found. All AreFollowed chains.entry.old.now → All AreFollowed chains.entry.new.now
         → budgets.new.is_spent ≡ false → found ≢ Found.Open) }
     ensures spent { budgets.new.is_spent ≡ false → budgets.old.is_spent ≡ false }
+    ensures one_way { BothGoOneWay chains.entry → budgets.old.is_spent ≡ false → budgets.new.is_spent ≡ false }
 {
     let row = row_found(alloc, chains, budgets)?;
     Ok(joined(found, row))
@@ -153,6 +158,7 @@ fn row_found(
     ensures decided { IfOk result (λ found. All AreFollowed chains.entry.old.now → All AreFollowed chains.entry.new.now
         → budgets.new.is_spent ≡ false → found ≢ Found.Open) }
     ensures spent { budgets.new.is_spent ≡ false → budgets.old.is_spent ≡ false }
+    ensures one_way { BothGoOneWay chains.entry → budgets.old.is_spent ≡ false → budgets.new.is_spent ≡ false }
 {
     // A step to compare, one call, and a step that is left.
     let least = 2 * most_steps(chains) + 2;
@@ -180,6 +186,8 @@ fn found_by(chains: Comparing<'_>, differences: &Differences, budget: &mut Budge
     ensures decided { TellsAll differences.now.tree → EachEndIsMet differences.now.calls.items differences.now.tree
         → 0 < budget.new.steps → result ≢ Found.Open }
     ensures left { budget.new.steps ≤ budget.old.steps }
+    ensures few { length differences.now.calls.items ≤ 1
+        → budget.old.steps ≤ budget.new.steps + (cost_of chains.entry.old.now + cost_of chains.entry.new.now) }
 {
     if tree_stands(chains.relation, &differences.pairs, &differences.tree) {
         return Found::Holds;
@@ -201,6 +209,8 @@ fn first_difference(
     ensures none { 0 < budget.new.steps → IfNone result (All (λ call.
         stands_on chains.entry.relation chains.entry.old.now chains.entry.new.now call ≡ true) calls.now) }
     ensures left { budget.new.steps ≤ budget.old.steps }
+    ensures few { length calls.now ≤ 1
+        → budget.old.steps ≤ budget.new.steps + (cost_of chains.entry.old.now + cost_of chains.entry.new.now) }
 {
     for call in calls {
         if !budget.take(most_steps(chains)) {

@@ -1,7 +1,7 @@
 //! What is told of the filters of two chains.
 ghost use Rattle.std.specs.Prelude.{◌≡◌, ◌≢◌, IfOk, IsErr};
-ghost use Rattle.libskern.specs.Comparing.{BothFollowed, Differ, Stand};
-ghost use Rattle.libskern.specs.Faults.{IsTold, differ, fine, unfollowed};
+ghost use Rattle.libskern.specs.Comparing.{BothFollowed, Differ, NeitherParts, Stand};
+ghost use Rattle.libskern.specs.Faults.{IsTold, differ, fine, spent, unfollowed};
 ghost use Rattle.libskern.specs.Shapes.{chains_in};
 
 use crate::compare::{Difference, Found, compared, relation_asked};
@@ -26,6 +26,7 @@ pub(crate) fn told_of_chains(
     ensures differ { IfOk result (λ it. it.reason ≡ differ
         → IfOk (chains_in old.now new.now) (Differ stricter difference.new)) }
     ensures followed { IfOk result (λ it. IfOk (chains_in old.now new.now) (λ chains. BothFollowed chains → it.reason ≢ unfollowed)) }
+    ensures spent { IfOk result (λ it. IfOk (chains_in old.now new.now) (λ chains. NeitherParts chains → it.reason ≢ spent)) }
     ensures kept { IfOk result (λ it. it.reason ≢ differ → difference.new ≡ difference.old) }
     ensures memory { IsErr result → difference.new ≡ difference.old }
 {
