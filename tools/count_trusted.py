@@ -2,8 +2,8 @@
 """Counts the lines that a reader has to trust: those of the definitions that the promises are made of.
 
 A promise names the files that it is said in; what these import from other definitions is read with them, and so on.
-Statements of laws count where a promise cites them: those on each run and on each report. The last two figures are
-those of `ask`, and of every file that docs/DEFINITIONS.md names, with all laws and with what stores and sets are to
+Statements of laws count where a promise cites them: those on each run and on each report. The last figures are
+those of `ask`, of the library for C, and of every file that docs/DEFINITIONS.md names, with all laws and with what stores and sets are to
 their callers. What only code or proofs look at, and worked examples, are imported by no definition, and so not
 counted; nor are imports and blank lines. The lines of comments are told apart from those of the definitions that they
 say in words. Types are read in the sources, where they are declared."""
@@ -13,7 +13,7 @@ import sys
 
 ROOT = os.path.dirname(os.path.dirname(os.path.abspath(__file__)))
 PAGE = os.path.join(ROOT, "docs", "DEFINITIONS.md")
-IMPORT = re.compile(r"^(?:pub )?use Rattle\.(sk_\w+)\.specs\.([\w.]+?)(?:\.\{.*| as .*)?$")
+IMPORT = re.compile(r"^(?:pub )?use Rattle\.(sk_\w+|libskern)\.specs\.([\w.]+?)(?:\.\{.*| as .*)?$")
 # What each command reads and writes.
 TEXTS = ["sk_asm/Assembly", "sk_asm/Listing", "sk_engines/EvalCommand", "sk_engines/CheckCommand", "sk_engines/AsmCommand", "sk_engines/ListCommand"]
 # Each promise, and the definitions that it is said in.
@@ -31,6 +31,8 @@ PROMISES = [
 ]
 # What `ask` answers to its words.
 ASK = "sk_ask/Telling"
+# What the library for C answers.
+LIBRARY = ["libskern/Faults", "libskern/Shapes", "libskern/Comparing", "libskern/Profiles", "libskern/Texts"]
 
 
 def path_of(name):
@@ -103,8 +105,14 @@ def main():
     page = read_with(named_on_the_page())
     promised = [(what, read_with(names)) for what, names in PROMISES]
     whole = set().union(*(found for _, found in promised))
-    asked = read_with([ASK])
-    for what, found in [*promised, ("everything that 'skern' promises", whole), ("all that 'ask' promises, beside it", asked - whole), ("every definition and law that docs/DEFINITIONS.md names", whole | page)]:
+    asked, exported = read_with([ASK]), read_with(LIBRARY)
+    wholes = [
+        ("everything that 'skern' promises", whole),
+        ("all that 'ask' promises, beside it", asked - whole),
+        ("the library for C, beside both", exported - whole - asked),
+        ("every definition and law that docs/DEFINITIONS.md names", whole | page),
+    ]
+    for what, found in [*promised, *wholes]:
         tell(what, found, verbose)
 
 
