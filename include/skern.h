@@ -92,7 +92,8 @@ struct skern_difference {
  * verdict takes precedence over that of the new one. Each chain has its oldest filter first. With SKERN_OK they do so on
  * every call. With SKERN_DIFFER they do not, and `*difference` is a call that shows it; else it stays as it was. Of
  * filters as libseccomp makes them it is never SKERN_UNFOLLOWED. It is never SKERN_SPENT where all calls with one number
- * go one way through each filter. A comparison may take seconds.
+ * go one way through each filter. Beside themselves valid filters are SKERN_OK, whatever they do. A comparison may take
+ * seconds.
  */
 struct skern_fault skern_compare(const struct skern_filter *old_filters, size_t old_count,
                                  const struct skern_filter *new_filters, size_t new_count, bool stricter,

@@ -7,8 +7,10 @@ examples/library/skern.py takes it as a shared object. Both have to find each fi
 damaged, cut off or empty as `skern check` does, with the same fault at the same place. On calls whose words come from the filter's
 own constants the verdict has to be that of `skern eval`, of one filter and of two together. Two filters have to be the same on
 every call where `ask diff` says so, as strict where `ask diff --stricter` does, and else the call that is shown has to get both
-verdicts. Each profile of examples has to have the filter that `ask filter` writes of it, and what is no profile none. Threads that ask side by side have to get the same answers as one. Then each allocation of a few runs is refused in
-turn: the answer is the whole one, or trouble with status 2, and every block is given back.
+verdicts; chains that no answer can follow are the same beside themselves. Each profile of examples has to have the filter
+that `ask filter` writes of it, and what is no profile none. Threads that ask side by side have to get the same answers as one.
+Then each allocation of a few runs is refused in turn: the answer is the whole one, or trouble with status 2, and every block
+is given back.
 
 Prints each problem, and at last 'N passed, M failed'."""
 import glob
@@ -26,6 +28,7 @@ sys.path.append(f"{ROOT}/examples/library")
 
 import skern
 from check_calls import PROGRAM, SKERN, instructions, judge, results
+from hostile_filters import KINDS, hostile_chain
 
 SEED = 1
 CALLS, DAMAGED, PAIRS = 12, 12, 60
@@ -224,6 +227,9 @@ def check_all(checks: Checks, paths: list[str]) -> None:
         other = dice.choice(list(images.values()))
         judge(list(checks.verdicts([image, other], calls, 2)), f"{name}, verdicts beside another filter")
         judge(list(checks.compare(image, image, False)), f"{name}, beside itself")
+    for kind in KINDS:
+        chain = hostile_chain(kind)
+        judge([str(it) for it in (checks.library.compare(chain, chain, stricter) for stricter in (False, True)) if it], f"{kind}, beside itself")
     for _ in range(PAIRS):
         (old, image), (new, other) = dice.sample(list(images.items()), 2)
         for stricter in (False, True):

@@ -2,10 +2,10 @@
 ghost use Rattle.std.specs.Prelude.{◌≡◌, ◌≢◌, IfOk, IsErr};
 ghost use Rattle.libskern.specs.Comparing.{BothFollowed, Differ, NeitherParts, Stand};
 ghost use Rattle.libskern.specs.Faults.{IsTold, differ, fine, spent, unfollowed};
-ghost use Rattle.libskern.specs.Shapes.{chains_in};
+ghost use Rattle.libskern.specs.Shapes.{chains_in, images_of};
 
 use crate::compare::{Difference, Found, compared, relation_asked};
-use crate::filters::chain_of;
+use crate::filters::{are_same, chain_of};
 use crate::{Fault, Image, reason};
 use sk_conditions::Budgets;
 use std::alloc::{AllocError, Global};
@@ -27,9 +27,11 @@ pub(crate) fn told_of_chains(
         → IfOk (chains_in old.now new.now) (Differ stricter difference.new)) }
     ensures followed { IfOk result (λ it. IfOk (chains_in old.now new.now) (λ chains. BothFollowed chains → it.reason ≢ unfollowed)) }
     ensures spent { IfOk result (λ it. IfOk (chains_in old.now new.now) (λ chains. NeitherParts chains → it.reason ≢ spent)) }
+    ensures same { IfOk result (λ it. images_of old.now ≡ images_of new.now → IfOk (chains_in old.now new.now) (λ _. it.reason ≡ fine)) }
     ensures kept { IfOk result (λ it. it.reason ≢ differ → difference.new ≡ difference.old) }
     ensures memory { IsErr result → difference.new ≡ difference.old }
 {
+    let same = are_same(old, new);
     let old = match chain_of(alloc, 0, old)? {
         Ok(chain) => chain,
         Err(fault) => return Ok(fault),
@@ -38,6 +40,9 @@ pub(crate) fn told_of_chains(
         Ok(chain) => chain,
         Err(fault) => return Ok(fault),
     };
+    if same {
+        return Ok(Fault::plain(reason::FINE));
+    }
     let mut budgets = Budgets::of_rows(MOST_ROWS);
     match compared(alloc, relation_asked(stricter), &old, &new, &mut budgets)? {
         Found::Holds => Ok(Fault::plain(reason::FINE)),

@@ -1,5 +1,5 @@
 //! The filters of a caller, and the chain that they make.
-ghost use Rattle.std.specs.Prelude.{◌≡◌, IfOk, map};
+ghost use Rattle.std.specs.Prelude.{◌≡◌, ◌↔◌, IfOk, IsTrue, map};
 ghost use Rattle.libskern.specs.Shapes.{chain_in, images_of};
 
 use crate::Fault;
@@ -27,6 +27,26 @@ pub(crate) fn chain_of(
         Ok(filters) => Ok(Ok(Chain::over(filters))),
         Err((filter, refusal)) => Ok(Err(Fault::refused(side, filter, refusal))),
     }
+}
+
+/// Whether two callers have the same filters, in the same order.
+pub(crate) fn are_same(old: &[Image<'_>], new: &[Image<'_>]) -> bool
+    ensures same { IsTrue result ↔ (images_of old.now ≡ images_of new.now) }
+{
+    match (old.split_first(), new.split_first()) {
+        (None, None) => true,
+        (Some((one, olds)), Some((other, news))) => {
+            is_same(one.bytes, other.bytes) && are_same(olds, news)
+        }
+        _ => false,
+    }
+}
+
+#[tactic(auto, using(crate::proofs::Same::same_bytes))]
+fn is_same(bytes: &[u8], others: &[u8]) -> bool
+    ensures same { IsTrue result ↔ (bytes.now ≡ others.now) }
+{
+    bytes == others
 }
 
 fn copies(alloc: Global, filters: &[Image<'_>]) -> Result<Vec<Vec<u8>>, AllocError>

@@ -9,7 +9,7 @@ ghost use Rattle.sk_filter.specs.Verdict.{verdict_of};
 ghost use Rattle.libskern.specs.Comparing.{BothFollowed, Differ, NeitherParts, Stand};
 ghost use Rattle.libskern.specs.Faults.{IsTold, differ, fine, no_memory, plain, spent, told_of, told_of_image, unfollowed};
 ghost use Rattle.libskern.specs.Profiles.{IsImageOf, IsRefused, no_room};
-ghost use Rattle.libskern.specs.Shapes.{chain_in, chains_in, record_of};
+ghost use Rattle.libskern.specs.Shapes.{chain_in, chains_in, images_of, record_of};
 ghost use Rattle.libskern.specs.Texts.{text_of};
 
 mod call;
@@ -84,6 +84,8 @@ pub extern "C" fn skern_compare(
     ensures stand { result.reason ≡ fine → IfOk (chains_in old.now new.now) (Stand stricter) }
     ensures differ { result.reason ≡ differ → IfOk (chains_in old.now new.now) (Differ stricter difference.new) }
     ensures followed { IfOk (chains_in old.now new.now) (λ chains. BothFollowed chains → result.reason ≢ unfollowed) }
+    ensures same { result.reason ≢ no_memory → images_of old.now ≡ images_of new.now
+        → IfOk (chains_in old.now new.now) (λ _. result.reason ≡ fine) }
     ensures spent { IfOk (chains_in old.now new.now) (λ chains. NeitherParts chains → result.reason ≢ spent) }
     ensures kept { result.reason ≢ differ → difference.new ≡ difference.old }
 {
