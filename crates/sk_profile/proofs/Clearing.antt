@@ -1,5 +1,5 @@
 -- Calls that conditions hold of, argument by argument, and arms that do not clash.
-use Rattle.std.proofs.Common.{◌≡◌, ℕ, zero, suc, ◌^◌, ◌<◌, ◌≤◌, ◌&&◌, not, Bool, true, false, inl, inr, List, [], ◌∷◌, length, map, slice_get, slice_index_or, refl, sym, ap, ◌∙◌, subst, arith}
+use Rattle.std.proofs.Common.{◌≡◌, ℕ, zero, suc, ◌^◌, ◌<◌, ◌≤◌, ◌&&◌, not, if◌then◌else◌, Bool, true, false, inl, inr, List, [], ◌∷◌, length, map, slice_get, slice_index_or, refl, sym, ap, ◌∙◌, subst, arith}
 use Rattle.std.specs.Prelude.{◌||◌, Option, Some, None, IfSome, IfNone, IsSome}
 use Rattle.std.specs.List.{All, Contains, list_any}
 use Rattle.std.proofs.lemmas.Bool.{eqb-true, eq-eqb, ne_eqb, le-leb, cases_lt, cases_Bool, and_parts}
@@ -7,23 +7,18 @@ use Rattle.std.proofs.lemmas.List.{get_or_past, length-map}
 use Rattle.std.proofs.lemmas.Option.{slice_get-get_or, slice_get_within}
 use Rattle.std.proofs.lemmas.List.Elements.{All-nil, All-cons, All-head, All-tail}
 use Rattle.sk_insn.specs.declared.record.Record.{Record}
-use Rattle.sk_insn.specs.Record.{native}
 use Rattle.sk_profile.specs.declared.condition.Condition.{Condition}
 use Rattle.sk_profile.specs.declared.condition.Test.TheVariants.{AtLeast}
 use Rattle.sk_profile.specs.declared.clash.TwoArms.{TwoArms}
-use Rattle.sk_profile.specs.declared.fault.ProfileFault.TheVariants.{Clashes}
-use Rattle.sk_profile.specs.declared.profile.Profile.{Profile as ProfileOfCode}
+use Rattle.sk_profile.specs.declared.fault.Clash.{Clash}
 use Rattle.sk_profile.specs.declared.saying.Arm.{Arm as ArmOfCode}
 use Rattle.sk_profile.specs.Means.{IsCall}
-use Rattle.sk_profile.specs.Sayings.{Arm, Saying, is_on, are_apart, holds_of, all_hold}
+use Rattle.sk_profile.specs.Sayings.{Arm, Saying, always, low, seen, is_on, are_apart, holds_of, all_hold}
 use Rattle.sk_profile.specs.CodeViews.{arm_of, AreAsked, IsArmOfCode}
-use Rattle.sk_profile.specs.Meeting.{meets, meets_on, MeetsBoth}
-use Rattle.sk_profile.specs.Clashes.{FitsBoth, AreClear, IsClear, ClashesWithNone, AreClashing, entries_for}
-use Rattle.sk_profile.specs.Faults.{IsFaultOf}
-use Rattle.sk_profile.specs.Profiles.{Rule, Profile, arm_of_rule, is_unknown, is_x32, plain_rule, rules_for, saying_of_rules, saying_for, settled}
-use Rattle.sk_profile.specs.Rows.{AreGood}
-use Rattle.sk_profile.specs.Views.{profile_of}
-use Rattle.sk_profile.proofs.Starts.{default_above, said_below}
+use Rattle.sk_profile.specs.Meeting.{limit, meets, meets_on, MeetsBoth}
+use Rattle.sk_profile.specs.Clashes.{FitsBoth, ClashesWithNone, AreClashing, IsClashIn, call_of, entries_for}
+use Rattle.sk_profile.specs.Profiles.{Rule, Part, arm_of_rule, is_narrow, is_unknown, is_x32, plain_rule, rules_for, saying_of_rules, saying_in_part, settled}
+use Rattle.sk_profile.proofs.Halves.{low_at}
 
 -- ---- the condition on an argument
 
@@ -64,16 +59,27 @@ asked_rest whole cs c is asked =
     let both = subst AreAsked is asked in
     (All-tail (λ (c : Condition). c.index < 6) c cs both.0, (and_parts (not (list_any (is_on c.index) cs)) (are_apart cs) both.1).1)
 
-pub both_on : (index : ℕ) (cs ds : List Condition) (c d : Condition) (o : Option ℕ) → ((n : ℕ) → meets_on index cs n ≡ meets c n) → ((n : ℕ) → meets_on index ds n ≡ meets d n)
-    → IfSome o (λ n. n < 2 ^ 64) → IfSome o (λ n. meets c n ≡ true) → IfSome o (λ n. meets d n ≡ true) → IfSome o (MeetsBoth cs ds index)
-both_on index cs ds c d None one other small first second = tt
-both_on index cs ds c d (Some n) one other small first second = record { small = small; first = one n ∙ first; second = other n ∙ second }
+pub meets_both : (narrow : Bool) (index n : ℕ) (cs ds : List Condition) (c d : Condition) → ((n : ℕ) → meets_on index cs n ≡ meets c n) → ((n : ℕ) → meets_on index ds n ≡ meets d n)
+    → n < limit narrow → meets c n ≡ true → meets d n ≡ true → MeetsBoth narrow cs ds index n
+meets_both narrow index n cs ds c d one other small first second = record { small = small; first = one n ∙ first; second = other n ∙ second }
 
-pub none_on_both : (index : ℕ) (cs ds : List Condition) (c d : Condition) (o : Option ℕ) → ((n : ℕ) → meets_on index cs n ≡ meets c n) → ((n : ℕ) → meets_on index ds n ≡ meets d n)
-    → IfNone o ((n : ℕ) → n < 2 ^ 64 → meets c n ≡ true → meets d n ≡ true → ⊥)
-    → IfNone o ((n : ℕ) → n < 2 ^ 64 → meets_on index cs n ≡ true → meets_on index ds n ≡ true → ⊥)
-none_on_both index cs ds c d (Some n) one other none = tt
-none_on_both index cs ds c d None one other none = λ n small first second. none n small (sym (one n) ∙ first) (sym (other n) ∙ second)
+pub below_limit : (narrow : Bool) (n : ℕ) → n < limit narrow → n < 2 ^ 64
+below_limit true n small = omega (arith, small)
+below_limit false n small = small
+
+pub none_on_both : (narrow : Bool) (index : ℕ) (cs ds : List Condition) (c d : Condition) → ((n : ℕ) → meets_on index cs n ≡ meets c n) → ((n : ℕ) → meets_on index ds n ≡ meets d n)
+    → ((n : ℕ) → n < limit narrow → meets c n ≡ true → meets d n ≡ true → ⊥) → (n : ℕ) → n < limit narrow → meets_on index cs n ≡ true → meets_on index ds n ≡ true → ⊥
+none_on_both narrow index cs ds c d one other none n small first second = none n small (sym (one n) ∙ first) (sym (other n) ∙ second)
+
+-- the least number is too great for an argument
+pub none_so_low : (narrow : Bool) (least n : ℕ) → narrow ≡ true → 0xffffffff < least → n < limit narrow → n < least
+none_so_low true least n e great small = omega (arith, great, small)
+none_so_low false least n e great small = cc
+
+pub within_limit : (narrow : Bool) (n : ℕ) → n < 2 ^ 64 → (narrow ≡ true → 0xffffffff < n → ⊥) → n < limit narrow
+within_limit false n small low = small
+within_limit true n small low =
+    elim (cases_lt n (2 ^ 32)) [ | inl less ↦ less | inr up ↦ absurd (low refl (omega (arith, up))) ]
 
 -- ---- from arguments to calls, and back
 
@@ -82,12 +88,12 @@ met_here c cs n e =
     let here : (not (is_on c.index c) || meets c n) ≡ true = (and_parts _ _ e).0 in
     subst (λ b. (not b || meets c n) ≡ true) (eq-eqb c.index c.index refl) here
 
-holds_all : (cs : List Condition) (nr : ℕ) (args : List ℕ) → All (λ (c : Condition). c.index < 6) cs → ((i : ℕ) → i < 6 → meets_on i cs (slice_index_or args i 0) ≡ true)
-    → all_hold cs (native nr 0 args) ≡ true
-holds_all [] nr args inside each = refl
-holds_all (c ∷ cs) nr args inside each =
-    let first = met_here c cs (slice_index_or args c.index 0) (each c.index (All-head (λ (c : Condition). c.index < 6) c cs inside)) in
-    let rest = holds_all cs nr args (All-tail (λ (c : Condition). c.index < 6) c cs inside) (λ i less. (and_parts _ _ (each i less)).1) in
+holds_all : (cs : List Condition) (call : Record) → All (λ (c : Condition). c.index < 6) cs → ((i : ℕ) → i < 6 → meets_on i cs (slice_index_or call.args i 0) ≡ true)
+    → all_hold cs call ≡ true
+holds_all [] call inside each = refl
+holds_all (c ∷ cs) call inside each =
+    let first = met_here c cs (slice_index_or call.args c.index 0) (each c.index (All-head (λ (c : Condition). c.index < 6) c cs inside)) in
+    let rest = holds_all cs call (All-tail (λ (c : Condition). c.index < 6) c cs inside) (λ i less. (and_parts _ _ (each i less)).1) in
     rw first rest
 
 six : (P : ℕ → Type 0) → P 0 → P 1 → P 2 → P 3 → P 4 → P 5 → (i : ℕ) → i < 6 → P i
@@ -102,29 +108,62 @@ six P a b c d e f (suc (suc (suc (suc (suc (suc i)))))) less = absurd (omega (ar
 abbrev Fits : ℕ → Type 0
 Fits n = n < 2 ^ 64
 
-pub a_call : (cs ds : List Condition) (a b c d e f : ℕ) → AreAsked cs → AreAsked ds → MeetsBoth cs ds 0 a → MeetsBoth cs ds 1 b → MeetsBoth cs ds 2 c
-    → MeetsBoth cs ds 3 d → MeetsBoth cs ds 4 e → MeetsBoth cs ds 5 f
-    → (nr : ℕ) → nr < 2 ^ 32 → FitsBoth cs ds (native nr 0 (a ∷ b ∷ c ∷ d ∷ e ∷ f ∷ []))
-a_call cs ds a b c d e f asked others one two three four five sixth nr low =
-    let args = a ∷ b ∷ c ∷ d ∷ e ∷ f ∷ [] in record {
+-- an argument that is seen as it is
+as_seen : (index : ℕ) (cs : List Condition) (n : ℕ) → n < 2 ^ 32 → meets_on index cs n ≡ true → meets_on index cs (low n) ≡ true
+as_seen index cs n small met = let same : n ≡ low n = omega (arith, small) in subst (λ n. meets_on index cs n ≡ true) same met
+
+pub a_call : (narrow : Bool) (cs ds : List Condition) (a b c d e f : ℕ) → AreAsked cs → AreAsked ds → MeetsBoth narrow cs ds 0 a → MeetsBoth narrow cs ds 1 b → MeetsBoth narrow cs ds 2 c
+    → MeetsBoth narrow cs ds 3 d → MeetsBoth narrow cs ds 4 e → MeetsBoth narrow cs ds 5 f
+    → (arch nr : ℕ) → arch < 2 ^ 32 → nr < 2 ^ 32 → FitsBoth narrow cs ds (call_of arch nr (a ∷ b ∷ c ∷ d ∷ e ∷ f ∷ []))
+a_call narrow cs ds a b c d e f asked others one two three four five sixth arch nr known small =
+    record { is_call = is_call; first = all_first narrow refl; second = all_second narrow refl } where
+      args : List ℕ
+      args = a ∷ b ∷ c ∷ d ∷ e ∷ f ∷ []
+
+      call : Record
+      call = call_of arch nr args
+
+      is_call : IsCall call
       is_call = record {
-        number = low;
+        number = small;
+        arch = known;
         six = refl;
         fit =
-            All-cons Fits a (b ∷ c ∷ d ∷ e ∷ f ∷ []) one.small
-            (All-cons Fits b (c ∷ d ∷ e ∷ f ∷ []) two.small
-            (All-cons Fits c (d ∷ e ∷ f ∷ []) three.small
-            (All-cons Fits d (e ∷ f ∷ []) four.small
-            (All-cons Fits e (f ∷ []) five.small (All-cons Fits f [] sixth.small (All-nil Fits))))));
-      };
-      first = holds_all cs nr args asked.0 (six (λ i. meets_on i cs (slice_index_or args i 0) ≡ true) one.first two.first three.first four.first five.first sixth.first);
-      second = holds_all ds nr args others.0 (six (λ i. meets_on i ds (slice_index_or args i 0) ≡ true) one.second two.second three.second four.second five.second sixth.second);
-    }
+            All-cons Fits a (b ∷ c ∷ d ∷ e ∷ f ∷ []) (below_limit narrow a one.small)
+            (All-cons Fits b (c ∷ d ∷ e ∷ f ∷ []) (below_limit narrow b two.small)
+            (All-cons Fits c (d ∷ e ∷ f ∷ []) (below_limit narrow c three.small)
+            (All-cons Fits d (e ∷ f ∷ []) (below_limit narrow d four.small)
+            (All-cons Fits e (f ∷ []) (below_limit narrow e five.small) (All-cons Fits f [] (below_limit narrow f sixth.small) (All-nil Fits))))));
+      }
 
--- an argument has 64 bits
+      low_one : (n : ℕ) → narrow ≡ true → n < limit narrow → n < 2 ^ 32
+      low_one n narrowed within = subst (λ narrow. n < limit narrow) narrowed within
+
+      all_first : (b : Bool) → narrow ≡ b → all_hold cs (seen b call) ≡ true
+      all_first false narrowed = holds_all cs call asked.0 (six (λ i. meets_on i cs (slice_index_or args i 0) ≡ true) one.first two.first three.first four.first five.first sixth.first)
+      all_first true narrowed =
+          holds_all cs (seen true call) asked.0
+          (six (λ i. meets_on i cs (slice_index_or (map low args) i 0) ≡ true) (as_seen 0 cs a (low_one a narrowed one.small) one.first) (as_seen 1 cs b (low_one b narrowed two.small) two.first)
+          (as_seen 2 cs c (low_one c narrowed three.small) three.first) (as_seen 3 cs d (low_one d narrowed four.small) four.first) (as_seen 4 cs e (low_one e narrowed five.small) five.first)
+          (as_seen 5 cs f (low_one f narrowed sixth.small) sixth.first))
+
+      all_second : (b : Bool) → narrow ≡ b → all_hold ds (seen b call) ≡ true
+      all_second false narrowed =
+          holds_all ds call others.0 (six (λ i. meets_on i ds (slice_index_or args i 0) ≡ true) one.second two.second three.second four.second five.second sixth.second)
+      all_second true narrowed =
+          holds_all ds (seen true call) others.0
+          (six (λ i. meets_on i ds (slice_index_or (map low args) i 0) ≡ true) (as_seen 0 ds a (low_one a narrowed one.small) one.second) (as_seen 1 ds b (low_one b narrowed two.small) two.second)
+          (as_seen 2 ds c (low_one c narrowed three.small) three.second) (as_seen 3 ds d (low_one d narrowed four.small) four.second) (as_seen 4 ds e (low_one e narrowed five.small) five.second)
+          (as_seen 5 ds f (low_one f narrowed sixth.small) sixth.second))
+
+-- an argument has 64 bits, or 32
 small_argument : (call : Record) → IsCall call → (i : ℕ) → slice_index_or call.args i 0 < 2 ^ 64
 small_argument call is i =
     elim (cases_lt i (length call.args)) [ inl inside ↦ is.fit i 0 inside | inr past ↦ rw (get_or_past call.args i 0 past) (omega arith) ]
+
+seen_small : (narrow : Bool) (call : Record) → IsCall call → (i : ℕ) → slice_index_or (seen narrow call).args i 0 < limit narrow
+seen_small false call is i = small_argument call is i
+seen_small true call is i = omega (arith, low_at call.args i)
 
 meets_here : (c : Condition) (call : Record) (i : ℕ) → holds_of c call ≡ true → (not (is_on i c) || meets c (slice_index_or call.args i 0)) ≡ true
 meets_here c call i holds =
@@ -140,14 +179,18 @@ meets_all [] call i holds = refl
 meets_all (c ∷ cs) call i holds =
     let parts = and_parts _ _ holds in rw (meets_here c call i parts.0) (meets_all cs call i parts.1)
 
-pub no_call : (cs ds : List Condition) (index : ℕ) → ((n : ℕ) → n < 2 ^ 64 → meets_on index cs n ≡ true → meets_on index ds n ≡ true → ⊥) → (call : Record) → FitsBoth cs ds call → ⊥
-no_call cs ds index none call fits =
-    none (slice_index_or call.args index 0) (small_argument call fits.is_call index) (meets_all cs call index fits.first) (meets_all ds call index fits.second)
+pub no_call : (narrow : Bool) (cs ds : List Condition) (index : ℕ) → ((n : ℕ) → n < limit narrow → meets_on index cs n ≡ true → meets_on index ds n ≡ true → ⊥) → (call : Record) → FitsBoth narrow cs ds call → ⊥
+no_call narrow cs ds index none call fits =
+    none (slice_index_or (seen narrow call).args index 0) (seen_small narrow call fits.is_call index) (meets_all cs (seen narrow call) index fits.first) (meets_all ds (seen narrow call) index fits.second)
 
 -- ---- arms
 
-pub clear_without_arms : AreClear []
-clear_without_arms call one other has also fits = absurd (omega (arith, has.1))
+-- arms of which two fit a call say the same of it
+abbrev pub ArmsAreClear : Bool → List Arm → Type 0
+ArmsAreClear narrow arms = (one other : Arm) → Contains arms one → Contains arms other → ClashesWithNone narrow one other
+
+clear_without_arms : (narrow : Bool) → ArmsAreClear narrow []
+clear_without_arms narrow one other has also call fits = absurd (omega (arith, has.1))
 
 -- one of arms, seen as an arm of the definition
 among : (P : Arm → Type 0) (arms : List ArmOfCode) → All (λ (arm : ArmOfCode). P (arm_of arm)) arms → (other : Arm) → Contains (map arm_of arms) other → P other
@@ -155,19 +198,19 @@ among P [] each other has = absurd (omega (arith, has.1))
 among P (arm ∷ arms) each other (zero, d, here) = subst P here (All-head (λ (arm : ArmOfCode). P (arm_of arm)) arm arms each)
 among P (arm ∷ arms) each other (suc k, d, here) = among P arms (All-tail (λ (arm : ArmOfCode). P (arm_of arm)) arm arms each) other (k, omega (arith, d), here)
 
-turned : (cs ds : List Condition) (call : Record) → FitsBoth cs ds call → FitsBoth ds cs call
-turned cs ds call fits = record { is_call = fits.is_call; first = fits.second; second = fits.first }
+turned : (narrow : Bool) (cs ds : List Condition) (call : Record) → FitsBoth narrow cs ds call → FitsBoth narrow ds cs call
+turned narrow cs ds call fits = record { is_call = fits.is_call; first = fits.second; second = fits.first }
 
-one_more : (arm : Arm) (arms : List Arm) → ((other : Arm) → Contains arms other → ClashesWithNone arm other) → AreClear arms → AreClear (arm ∷ arms)
-one_more arm arms free clear call one other (zero, d, here) (zero, f, there) fits = let same : one ≡ other = sym here ∙ there in ap (λ (x : Arm). x.value) same
-one_more arm arms free clear call one other (zero, d, here) (suc k, f, there) fits =
+one_more : (narrow : Bool) (arm : Arm) (arms : List Arm) → ((other : Arm) → Contains arms other → ClashesWithNone narrow arm other) → ArmsAreClear narrow arms → ArmsAreClear narrow (arm ∷ arms)
+one_more narrow arm arms free clear one other (zero, d, here) (zero, f, there) call fits = let same : one ≡ other = sym here ∙ there in ap (λ (x : Arm). x.value) same
+one_more narrow arm arms free clear one other (zero, d, here) (suc k, f, there) call fits =
     let has : Contains arms other = (k, omega (arith, f), there) in
-    subst (λ (x : Arm). FitsBoth x.conditions other.conditions call → x.value ≡ other.value) here (free other has call) fits
-one_more arm arms free clear call one other (suc k, d, here) (zero, f, there) fits =
+    subst (λ (x : Arm). FitsBoth narrow x.conditions other.conditions call → x.value ≡ other.value) here (free other has call) fits
+one_more narrow arm arms free clear one other (suc k, d, here) (zero, f, there) call fits =
     let has : Contains arms one = (k, omega (arith, d), here) in
-    sym (subst (λ (x : Arm). FitsBoth x.conditions one.conditions call → x.value ≡ one.value) there (free one has call) (turned one.conditions other.conditions call fits))
-one_more arm arms free clear call one other (suc k, d, here) (suc j, f, there) fits =
-    clear call one other (k, omega (arith, d), here) (j, omega (arith, f), there) fits
+    sym (subst (λ (x : Arm). FitsBoth narrow x.conditions one.conditions call → x.value ≡ one.value) there (free one has call) (turned narrow one.conditions other.conditions call fits))
+one_more narrow arm arms free clear one other (suc k, d, here) (suc j, f, there) call fits =
+    clear one other (k, omega (arith, d), here) (j, omega (arith, f), there) call fits
 
 pub first_good : (left rest : List ArmOfCode) (arm : ArmOfCode) → left ≡ arm ∷ rest → All IsArmOfCode left → IsArmOfCode arm
 first_good left rest arm is good = All-head IsArmOfCode arm rest (subst (All IsArmOfCode) is good)
@@ -175,67 +218,68 @@ first_good left rest arm is good = All-head IsArmOfCode arm rest (subst (All IsA
 pub rest_good : (left rest : List ArmOfCode) (arm : ArmOfCode) → left ≡ arm ∷ rest → All IsArmOfCode left → All IsArmOfCode rest
 rest_good left rest arm is good = All-tail IsArmOfCode arm rest (subst (All IsArmOfCode) is good)
 
-pub arm_more : (left rest whole : List ArmOfCode) (arm : ArmOfCode) → left ≡ arm ∷ rest → All (λ (other : ArmOfCode). ClashesWithNone (arm_of arm) (arm_of other)) rest
-    → (AreClear (map arm_of left) → AreClear (map arm_of whole)) → AreClear (map arm_of rest) → AreClear (map arm_of whole)
-arm_more left rest whole arm steps free so_far clear =
-    so_far (subst (λ (arms : List ArmOfCode). AreClear (map arm_of arms)) (sym steps)
-    (one_more (arm_of arm) (map arm_of rest) (among (ClashesWithNone (arm_of arm)) rest free) clear))
+pub arm_more : (narrow : Bool) (left rest whole : List ArmOfCode) (arm : ArmOfCode) → left ≡ arm ∷ rest → All (λ (other : ArmOfCode). ClashesWithNone narrow (arm_of arm) (arm_of other)) rest
+    → (ArmsAreClear narrow (map arm_of left) → ArmsAreClear narrow (map arm_of whole)) → ArmsAreClear narrow (map arm_of rest) → ArmsAreClear narrow (map arm_of whole)
+arm_more narrow left rest whole arm steps free so_far clear =
+    so_far (subst (λ (arms : List ArmOfCode). ArmsAreClear narrow (map arm_of arms)) (sym steps)
+    (one_more narrow (arm_of arm) (map arm_of rest) (among (ClashesWithNone narrow (arm_of arm)) rest free) clear))
 
-none_left : (left : List ArmOfCode) → length left ≡ 0 → AreClear (map arm_of left)
-none_left [] e = clear_without_arms
-none_left (arm ∷ left) e = absurd (omega (arith, e))
+none_left : (narrow : Bool) (left : List ArmOfCode) → length left ≡ 0 → ArmsAreClear narrow (map arm_of left)
+none_left narrow [] e = clear_without_arms narrow
+none_left narrow (arm ∷ left) e = absurd (omega (arith, e))
 
-pub nothing_left : (left whole : List ArmOfCode) → length left ≡ 0 → (AreClear (map arm_of left) → AreClear (map arm_of whole)) → AreClear (map arm_of whole)
-nothing_left left whole e so_far = so_far (none_left left e)
+pub nothing_left : (narrow : Bool) (left whole : List ArmOfCode) → length left ≡ 0 → (ArmsAreClear narrow (map arm_of left) → ArmsAreClear narrow (map arm_of whole)) → ArmsAreClear narrow (map arm_of whole)
+nothing_left narrow left whole e so_far = so_far (none_left narrow left e)
 
--- two rules for a number of x86-64 that clash are a fault of the profile
-pub clash_of : (profile : Profile) (saying : Saying) (it : TwoArms) (nr first second : ℕ) → nr < 1024 → is_unknown profile nr ≡ false → saying ≡ saying_of_rules profile nr
-    → it.number ≡ nr → AreClashing saying.arms it → slice_get (entries_for profile nr) it.first ≡ Some first → slice_get (entries_for profile nr) it.second ≡ Some second
-    → IsFaultOf profile (Clashes (record { number = it.number; first = first; second = second; args = it.args }))
-clash_of profile saying it nr first second low known is number clash one other =
-    let said : saying ≡ saying_for profile nr = is ∙ sym (said_below profile nr low known) in record {
-      one = it.first;
-      other = it.second;
-      clash = subst (λ n. AreClashing (saying_for profile n).arms it) (sym number) (subst (λ (said : Saying). AreClashing said.arms it) said clash);
-      first = ap (λ n. slice_get (entries_for profile n) it.first) number ∙ one;
-      second = ap (λ n. slice_get (entries_for profile n) it.second) number ∙ other;
-    }
+-- two rules for a number that clash are a fault of the part
+pub clash_in : (default bad : ℕ) (part : Part) (saying : Saying) (it : TwoArms) (nr : ℕ) (clash : Clash) → saying ≡ saying_in_part default bad part nr → clash.arch ≡ part.audit → clash.number ≡ nr → clash.args ≡ it.args
+    → AreClashing part.audit nr saying it → slice_get (entries_for default part nr) it.first ≡ Some clash.first → slice_get (entries_for default part nr) it.second ≡ Some clash.second
+    → IsClashIn default bad part clash
+clash_in default bad part saying it nr clash is arch number args clashing one other = record {
+  one = it.first;
+  other = it.second;
+  arch = arch;
+  clash =
+      subst (λ args. AreClashing clash.arch clash.number (saying_in_part default bad part clash.number) (record { first = it.first; second = it.second; args = args })) (sym args)
+      (subst (λ nr. AreClashing clash.arch nr (saying_in_part default bad part nr) it) (sym number)
+      (subst (λ arch. AreClashing arch nr (saying_in_part default bad part nr) it) (sym arch) (subst (λ (said : Saying). AreClashing part.audit nr said it) is clashing)));
+  first = ap (λ n. slice_get (entries_for default part n) it.first) number ∙ one;
+  second = ap (λ n. slice_get (entries_for default part n) it.second) number ∙ other;
+}
 
 -- an arm of a saying is one of a rule that counts
-counted : (rule : Option Rule) (rules : List Rule) (default place : ℕ) (arm : Arm) → slice_get (settled rule (map arm_of_rule rules) default).arms place ≡ Some arm
+counted : (narrow : Bool) (rule : Option Rule) (rules : List Rule) (default place : ℕ) (arm : Arm) → slice_get (settled narrow rule (map arm_of_rule rules) default).arms place ≡ Some arm
     → place < length rules
-counted (Some rule) rules default place arm found = cc
-counted None rules default place arm found =
-    let within : place < length (map arm_of_rule rules) = slice_get_within (map arm_of_rule rules) place arm found in
-    let same : length (map arm_of_rule rules) ≡ length rules = length-map rules arm_of_rule in omega (arith, within, same)
+counted narrow (Some rule) rules default place arm found = cc
+counted narrow None [] default place arm found = cc
+counted narrow None (rule ∷ rules) default place arm found =
+    let within : place < length (map arm_of_rule (rule ∷ rules)) = slice_get_within (map arm_of_rule (rule ∷ rules)) place arm found in
+    let same : length (map arm_of_rule (rule ∷ rules)) ≡ length (rule ∷ rules) = length-map (rule ∷ rules) arm_of_rule in omega (arith, within, same)
 
-within_entries : (profile : Profile) (nr place : ℕ) (saying : Saying) (arm : Arm) → saying ≡ saying_of_rules profile nr → slice_get saying.arms place ≡ Some arm
-    → place < length (entries_for profile nr)
-within_entries profile nr place saying arm is found =
-    let rules = rules_for profile.default profile.rules nr in
-    let within : place < length rules =
-    counted (plain_rule profile.default profile.rules nr) rules profile.default place arm (subst (λ (said : Saying). slice_get said.arms place ≡ Some arm) is found) in
-    let same : length (entries_for profile nr) ≡ length rules = length-map rules (λ (rule : Rule). rule.entry) in omega (arith, within, same)
+within_entries : (default bad : ℕ) (part : Part) (nr place : ℕ) (arm : Arm) → slice_get (saying_in_part default bad part nr).arms place ≡ Some arm → place < length (entries_for default part nr)
+within_entries default bad part nr place arm found = by (is_unknown part nr) refl (part.without_x32 && is_x32 nr) refl where
+  rules : List Rule
+  rules = rules_for default part.rules nr
+
+  said : Bool → Bool → Saying
+  said unknown x32 = if unknown then always Rattle.sk_profile.specs.Profiles.no_call else if x32 then always bad else saying_of_rules part default nr
+
+  by : (unknown : Bool) → is_unknown part nr ≡ unknown → (x32 : Bool) → (part.without_x32 && is_x32 nr) ≡ x32 → place < length (entries_for default part nr)
+  by true e x32 f =
+      let none : slice_get (said true (part.without_x32 && is_x32 nr)).arms place ≡ Some arm = subst (λ b. slice_get (said b (part.without_x32 && is_x32 nr)).arms place ≡ Some arm) e found in cc
+  by false e true f =
+      let none : slice_get (said false true).arms place ≡ Some arm =
+      subst (λ b. slice_get (said false b).arms place ≡ Some arm) f (subst (λ b. slice_get (said b (part.without_x32 && is_x32 nr)).arms place ≡ Some arm) e found) in cc
+  by false e false f =
+      let some : slice_get (said false false).arms place ≡ Some arm =
+      subst (λ b. slice_get (said false b).arms place ≡ Some arm) f (subst (λ b. slice_get (said b (part.without_x32 && is_x32 nr)).arms place ≡ Some arm) e found) in
+      let within : place < length rules = counted (is_narrow part nr) (plain_rule default part.rules nr) rules default place arm some in
+      let same : length (entries_for default part nr) ≡ length rules = length-map rules (λ (rule : Rule). rule.entry) in omega (arith, within, same)
 
 some_within : (xs : List ℕ) (place : ℕ) → place < length xs → IsSome (slice_get xs place)
 some_within xs place within = subst IsSome (sym (slice_get-get_or xs place 0 within)) refl
 
-pub has_entry : (profile : Profile) (nr place : ℕ) (saying : Saying) (arm : Arm) → saying ≡ saying_of_rules profile nr → slice_get saying.arms place ≡ Some arm
-    → IsSome (slice_get (entries_for profile nr) place)
-has_entry profile nr place saying arm is found =
-    some_within (entries_for profile nr) place (within_entries profile nr place saying arm is found)
-
--- where no two clash for these, none do for any number
-pub all_clear : (profile : ProfileOfCode) → AreGood profile → ((nr : ℕ) → nr < 1024 → AreClear (saying_for (profile_of profile) nr).arms) → IsClear (profile_of profile)
-all_clear profile good low nr small =
-    elim (cases_lt nr 1024) [
-      | inl below ↦ low nr below
-      | inr up ↦ by (is_unknown (profile_of profile) nr) refl up
-    ] where
-      of_known : (x32 : Bool) → is_unknown (profile_of profile) nr ≡ false → is_x32 nr ≡ x32 → 1024 ≤ nr → AreClear (saying_for (profile_of profile) nr).arms
-      of_known true known e up = rw known (rw e clear_without_arms)
-      of_known false known e up = rw known (rw e (rw (default_above profile nr good up) clear_without_arms))
-
-      by : (unknown : Bool) → is_unknown (profile_of profile) nr ≡ unknown → 1024 ≤ nr → AreClear (saying_for (profile_of profile) nr).arms
-      by true e up = rw e clear_without_arms
-      by false e up = of_known (is_x32 nr) e refl up
+pub has_entry : (default bad : ℕ) (part : Part) (nr place : ℕ) (saying : Saying) (arm : Arm) → saying ≡ saying_in_part default bad part nr → slice_get saying.arms place ≡ Some arm
+    → IsSome (slice_get (entries_for default part nr) place)
+has_entry default bad part nr place saying arm is found =
+    some_within (entries_for default part nr) place (within_entries default bad part nr place arm (subst (λ (said : Saying). slice_get said.arms place ≡ Some arm) is found))

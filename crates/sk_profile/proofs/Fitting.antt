@@ -1,8 +1,9 @@
 -- The code of a tree is a valid program: its loads are of words of the record, its jumps stay inside, it ends with a
 -- return, and it has no scratch words.
 use Rattle.std.proofs.Common.{◌≡◌, ℕ, zero, suc, ◌+◌, ◌-◌, ◌%◌, ◌<◌, ◌≤◌, Bool, true, false, if◌then◌else◌, nat_le, List, [], ◌∷◌, ◌++◌, length, flat_map, slice_get, Option, Some, None, refl, ap, sym, ◌∙◌, subst, arith, length-append, append_assoc}
-use Rattle.std.specs.Prelude.{All}
-use Rattle.std.proofs.lemmas.Bool.{eq-eqb, lt-ltb}
+use Rattle.std.specs.Prelude.{All, Contains, map, ◌&&◌, ◌==◌}
+use Rattle.std.proofs.lemmas.Bool.{eq-eqb, eqb-false, lt-ltb}
+use Rattle.std.proofs.lemmas.List.{length-map}
 use Rattle.std.proofs.lemmas.List.Elements.{All-head, All-tail}
 use Rattle.sk_insn.specs.declared.insn.Insn.{Insn}
 use Rattle.sk_insn.specs.declared.operation.Operand.TheVariants.{Constant}
@@ -10,9 +11,9 @@ use Rattle.sk_insn.specs.declared.operation.Arithmetic.TheVariants.{And}
 use Rattle.sk_insn.specs.declared.operation.Comparison.{Comparison}
 use Rattle.sk_insn.specs.declared.operation.Comparison.TheVariants.{Equal, Greater, GreaterOrEqual}
 use Rattle.sk_insn.specs.declared.operation.Operation.{Operation}
-use Rattle.sk_insn.specs.declared.operation.Operation.TheVariants.{LoadRecord, Compute, Jump, Branch, ReturnConstant}
+use Rattle.sk_insn.specs.declared.operation.Operation.TheVariants.{LoadRecord, LoadConstant, Compute, Jump, Branch, ReturnConstant}
+use Rattle.sk_insn.specs.declared.operation.Register.TheVariants.{Accumulator}
 use Rattle.sk_insn.specs.Operations.{operation_of}
-use Rattle.sk_insn.specs.Record.{architecture}
 use Rattle.sk_insn.proofs.OperationTable.{operation_of-code_of}
 use Rattle.sk_filter.specs.declared.fault.CheckFault.{CheckFault}
 use Rattle.sk_filter.specs.declared.fault.CheckFault.TheVariants as fault
@@ -22,14 +23,16 @@ use Rattle.sk_filter.specs.Valid.{IsValid}
 use Rattle.sk_profile.specs.declared.condition.Condition.{Condition}
 use Rattle.sk_profile.specs.declared.condition.Test.{Test}
 use Rattle.sk_profile.specs.declared.condition.Test.TheVariants.{Is, IsNot, Below, AtMost, Above, AtLeast, Masked}
-use Rattle.sk_profile.specs.Sayings.{Piece, Single, Joined, Tree, Leaf, Fork}
-use Rattle.sk_profile.specs.Code.{load, with, branch, jump, answer, high, low, high_place, low_place, order_code, test_code, conditions_code, passed_over, lows_code, piece_code, fork_code, tree_code, filter_code}
-use Rattle.sk_profile.specs.Means.{IsPiece, IsTree}
+use Rattle.sk_profile.specs.Sayings.{low, Piece, Single, Joined, Tree, Leaf, Away, Fork}
+use Rattle.sk_profile.specs.Code.{load, constant, with, branch, jump, answer, high, high_place, low_place, order_code, high_code, low_code, upper_code, is_short, test_code, conditions_code, passed_over, lows_code, half_code, piece_code, place_of, far, over_code, head_code, fork_code, tree_code, Section, section_code, past_code, guarded_code, filter_code}
+use Rattle.sk_profile.specs.Means.{IsPiece, IsTree, IsSection}
 use Rattle.sk_profile.proofs.Joining.{as_many}
+use Rattle.sk_profile.proofs.Trees.{others_have}
 
 -- an instruction of the code, with so many behind it
 abbrev FitsBefore : ℕ → Option Operation → Insn → Type 0
 FitsBefore behind (Some LoadRecord) insn = (insn.k % 4 ≡ 0) × (insn.k < 64)
+FitsBefore behind (Some (LoadConstant Accumulator)) insn = Unit {0}
 FitsBefore behind (Some (Compute And Constant)) insn = Unit {0}
 FitsBefore behind (Some Jump) insn = insn.k < behind
 FitsBefore behind (Some (Branch comparison operand)) insn = (insn.jt < behind) × (insn.jf < behind)
@@ -43,6 +46,9 @@ Fit behind (insn ∷ insns) = FitsBefore (length insns + behind) (operation_of i
 
 load_fits : (k behind : ℕ) → k % 4 ≡ 0 → k < 64 → FitsBefore behind (operation_of (load k).code) (load k)
 load_fits k behind whole inside = subst (λ o. FitsBefore behind o (load k)) (sym (operation_of-code_of LoadRecord)) (whole, inside)
+
+constant_fits : (k behind : ℕ) → FitsBefore behind (operation_of (constant k).code) (constant k)
+constant_fits k behind = subst (λ o. FitsBefore behind o (constant k)) (sym (operation_of-code_of (LoadConstant Accumulator))) tt
 
 with_fits : (k behind : ℕ) → FitsBefore behind (operation_of (with k).code) (with k)
 with_fits k behind = subst (λ o. FitsBefore behind o (with k)) (sym (operation_of-code_of (Compute And Constant))) tt
@@ -65,72 +71,85 @@ both_fit (insn ∷ front) back behind one other =
 
 -- ---- the parts of the code
 
-high_load : (i behind : ℕ) → i < 6 → FitsBefore behind (operation_of (load (high_place i)).code) (load (high_place i))
-high_load i behind inside = load_fits (high_place i) behind (omega arith) (omega (arith, inside))
+upper_fits : (narrow : Bool) (i behind : ℕ) → i < 6 → FitsBefore behind (operation_of (upper_code narrow i).code) (upper_code narrow i)
+upper_fits true i behind inside = constant_fits 0 behind
+upper_fits false i behind inside = load_fits (high_place i) behind (omega arith) (omega (arith, inside))
 
 low_load : (i behind : ℕ) → i < 6 → FitsBefore behind (operation_of (load (low_place i)).code) (load (low_place i))
 low_load i behind inside = load_fits (low_place i) behind (omega arith) (omega (arith, inside))
 
-equal_fits : (i n held failed behind : ℕ) → i < 6 → held < behind → failed < behind
-    → Fit behind (load (high_place i) ∷ branch Equal (high n) 0 (2 + failed) ∷ load (low_place i) ∷ branch Equal (low n) held failed ∷ [])
-equal_fits i n held failed behind inside near near' = (
-  high_load i _ inside,
-  (
-    branch_fits Equal _ _ _ _ (omega arith) (omega (arith, near')),
-    (
-      low_load i _ inside,
-      (branch_fits Equal _ _ _ _ (omega (arith, near)) (omega (arith, near')), tt),
-    ),
-  ),
-)
+alone : (insn : Insn) (behind : ℕ) → FitsBefore behind (operation_of insn.code) insn → Fit behind (insn ∷ [])
+alone insn behind fits = let e : behind ≡ length {A = Insn} [] + behind = omega arith in (subst (λ n. FitsBefore n (operation_of insn.code) insn) e fits, tt)
 
-order_fits : (comparison : Comparison) (i n greater less behind : ℕ) → i < 6 → greater < behind → less < behind
-    → Fit behind (load (high_place i) ∷ (order_code (high n) greater less ++ (load (low_place i) ∷ branch comparison (low n) greater less ∷ [])))
-order_fits comparison i n greater less behind inside near near' = (
-  high_load i _ inside,
-  (
-    branch_fits Greater _ _ _ _ (omega (arith, near)) (omega arith),
-    (
-      branch_fits Equal _ _ _ _ (omega arith) (omega (arith, near')),
-      (
-        low_load i _ inside,
-        (branch_fits comparison _ _ _ _ (omega (arith, near)) (omega (arith, near')), tt),
-      ),
-    ),
-  ),
-)
+one_fits : (comparison : Comparison) (k jt jf behind : ℕ) → jt < behind → jf < behind → Fit behind (branch comparison k jt jf ∷ [])
+one_fits comparison k jt jf behind held failed = alone (branch comparison k jt jf) behind (branch_fits comparison k jt jf behind held failed)
 
-test_fits : (t : Test) (i n away behind : ℕ) → i < 6 → away < behind → Fit behind (test_code t i n away)
-test_fits Is i n away behind inside near = equal_fits i n 0 away behind inside (omega arith) near
-test_fits IsNot i n away behind inside near = equal_fits i n away 0 behind inside near (omega arith)
-test_fits Below i n away behind inside near = order_fits GreaterOrEqual i n away 0 behind inside near (omega arith)
-test_fits AtMost i n away behind inside near = order_fits Greater i n away 0 behind inside near (omega arith)
-test_fits Above i n away behind inside near = order_fits Greater i n 0 away behind inside (omega arith) near
-test_fits AtLeast i n away behind inside near = order_fits GreaterOrEqual i n 0 away behind inside (omega arith) near
-test_fits (Masked mask) i n away behind inside near = (
-  high_load i _ inside,
-  (
-    with_fits _ _,
-    (
-      branch_fits Equal _ _ _ _ (omega arith) (omega (arith, near)),
-      (
-        low_load i _ inside,
-        (
-          with_fits _ _,
-          (branch_fits Equal _ _ _ _ (omega (arith, near)) (omega (arith, near)), tt),
-        ),
-      ),
-    ),
-  ),
-)
+low_fits : (t : Test) (n away behind : ℕ) → away < behind → Fit behind (low_code t n away)
+low_fits Is n away behind near = one_fits Equal n 0 away behind (omega (arith, near)) near
+low_fits IsNot n away behind near = one_fits Equal n away 0 behind near (omega (arith, near))
+low_fits Below n away behind near = one_fits GreaterOrEqual n away 0 behind near (omega (arith, near))
+low_fits AtMost n away behind near = one_fits Greater n away 0 behind near (omega (arith, near))
+low_fits Above n away behind near = one_fits Greater n 0 away behind (omega (arith, near)) near
+low_fits AtLeast n away behind near = one_fits GreaterOrEqual n 0 away behind (omega (arith, near)) near
+low_fits (Masked mask) n away behind near = (with_fits _ _, one_fits Equal n 0 away behind (omega (arith, near)) near)
 
-conditions_fit : (cs : List Condition) (away behind : ℕ) → All (λ (c : Condition). c.index < 6) cs → away < behind → Fit behind (conditions_code cs away)
-conditions_fit [] away behind inside near = tt
-conditions_fit (c ∷ cs) away behind inside near =
-    let rest = conditions_code cs away in
-    both_fit (test_code c.test c.index c.value (length rest + away)) rest behind
-    (test_fits c.test c.index c.value (length rest + away) (length rest + behind) (All-head (λ (c : Condition). c.index < 6) c cs inside) (omega (arith, near)))
-    (conditions_fit cs away behind (All-tail (λ (c : Condition). c.index < 6) c cs inside) near)
+lows : (t : Test) (n away : ℕ) → 1 ≤ length (low_code t n away)
+lows Is n away = omega arith
+lows IsNot n away = omega arith
+lows Below n away = omega arith
+lows AtMost n away = omega arith
+lows Above n away = omega arith
+lows AtLeast n away = omega arith
+lows (Masked mask) n away = omega arith
+
+-- the upper half stands before at least two more, and before three for a mask
+abbrev some_behind : Test → ℕ
+some_behind (Masked mask) = 3
+some_behind t = 2
+
+order_fits : (n greater less behind : ℕ) → 3 + greater < 1 + behind → 2 + less < behind → Fit behind (order_code n greater less)
+order_fits n greater less behind near near' = (branch_fits Greater _ _ _ _ (omega (arith, near)) (omega arith), one_fits Equal n 0 (2 + less) behind (omega (arith, near')) near')
+
+high_fits : (t : Test) (n away behind : ℕ) → some_behind t + away < behind → Fit behind (high_code t n away)
+high_fits Is n away behind near = one_fits Equal n 0 (2 + away) behind (omega (arith, near)) near
+high_fits IsNot n away behind near = one_fits Equal n 0 2 behind (omega (arith, near)) (omega (arith, near))
+high_fits Below n away behind near = order_fits n away 0 behind (omega (arith, near)) (omega (arith, near))
+high_fits AtMost n away behind near = order_fits n away 0 behind (omega (arith, near)) (omega (arith, near))
+high_fits Above n away behind near = order_fits n 0 away behind (omega (arith, near)) (omega (arith, near))
+high_fits AtLeast n away behind near = order_fits n 0 away behind (omega (arith, near)) (omega (arith, near))
+high_fits (Masked mask) n away behind near = (with_fits _ _, one_fits Equal n 0 (3 + away) behind (omega (arith, near)) near)
+
+lows_there : (t : Test) (n away : ℕ) → some_behind t ≡ 1 + length (low_code t n away)
+lows_there Is n away = refl
+lows_there IsNot n away = refl
+lows_there Below n away = refl
+lows_there AtMost n away = refl
+lows_there Above n away = refl
+lows_there AtLeast n away = refl
+lows_there (Masked mask) n away = refl
+
+test_fits : (narrow : Bool) (t : Test) (i n away behind : ℕ) → i < 6 → away < behind → Fit behind (test_code narrow t i n away)
+test_fits narrow t i n away behind inside near = by (is_short narrow n) where
+  lower : List Insn
+  lower = load (low_place i) ∷ low_code t (low n) away
+
+  lower_fits : Fit behind lower
+  lower_fits = (low_load i _ inside, low_fits t (low n) away behind near)
+
+  by : (short : Bool) → Fit behind (if short then lower else upper_code narrow i ∷ (high_code t (high n) away ++ lower))
+  by true = lower_fits
+  by false = (
+    upper_fits narrow i _ inside,
+    both_fit (high_code t (high n) away) lower behind (high_fits t (high n) away (length lower + behind) (omega (arith, lows_there t (low n) away, near))) lower_fits,
+  )
+
+conditions_fit : (narrow : Bool) (cs : List Condition) (away behind : ℕ) → All (λ (c : Condition). c.index < 6) cs → away < behind → Fit behind (conditions_code narrow cs away)
+conditions_fit narrow [] away behind inside near = tt
+conditions_fit narrow (c ∷ cs) away behind inside near =
+    let rest = conditions_code narrow cs away in
+    both_fit (test_code narrow c.test c.index c.value (length rest + away)) rest behind
+    (test_fits narrow c.test c.index c.value (length rest + away) (length rest + behind) (All-head (λ (c : Condition). c.index < 6) c cs inside) (omega (arith, near)))
+    (conditions_fit narrow cs away behind (All-tail (λ (c : Condition). c.index < 6) c cs inside) near)
 
 lows_fit : (numbers : List ℕ) (behind : ℕ) → 1 < behind → Fit behind (lows_code numbers)
 lows_fit [] behind more = tt
@@ -141,26 +160,30 @@ lows_fit (number ∷ numbers) behind more =
       few [] = omega arith
       few (number ∷ numbers) = omega arith
 
-piece_fits : (piece : Piece) (behind : ℕ) → 0 < behind → IsPiece piece → Fit behind (piece_code piece)
-piece_fits (Single arm) behind some fits =
-    both_fit (conditions_code arm.conditions 1) (answer arm.value ∷ []) behind (conditions_fit arm.conditions 1 (1 + behind) fits (omega (arith, some))) (answer_fits _ _, tt)
-piece_fits (Joined choice) behind some fits =
+half_fits : (narrow : Bool) (i n more behind : ℕ) → i < 6 → 3 + more < behind → Fit behind (half_code narrow i n more)
+half_fits true i n more behind inside near = tt
+half_fits false i n more behind inside near = (load_fits (high_place i) _ (omega arith) (omega (arith, inside)), one_fits Equal (high n) 0 (3 + more) behind (omega (arith, near)) near)
+
+piece_fits : (narrow : Bool) (piece : Piece) (behind : ℕ) → 0 < behind → IsPiece narrow piece → Fit behind (piece_code narrow piece)
+piece_fits narrow (Single arm) behind some fits =
+    both_fit (conditions_code narrow arm.conditions 1) (answer arm.value ∷ []) behind (conditions_fit narrow arm.conditions 1 (1 + behind) fits (omega (arith, some))) (answer_fits _ _, tt)
+piece_fits narrow (Joined choice) behind some fits =
     let lows = lows_code (choice.first ∷ choice.others) in
+    let lower = load (low_place choice.index) ∷ (lows ++ (answer choice.value ∷ [])) in
     let many = as_many choice.others in
-    let all = length-append lows (answer choice.value ∷ []) in (
-      high_load choice.index _ fits.0,
-      (
-        branch_fits Equal _ _ _ _ (omega arith) (omega (arith, some, many, all)),
-        (low_load choice.index _ fits.0, both_fit lows (answer choice.value ∷ []) behind (lows_fit (choice.first ∷ choice.others) (1 + behind) (omega (arith, some))) (answer_fits _ _, tt)),
-      ),
+    both_fit (half_code narrow choice.index choice.first (length choice.others)) lower behind
+    (half_fits narrow choice.index choice.first (length choice.others) (length lower + behind) fits.inside (omega (arith, some, many, length-append lows (answer choice.value ∷ []))))
+    (
+      low_load choice.index _ fits.inside,
+      both_fit lows (answer choice.value ∷ []) behind (lows_fit (choice.first ∷ choice.others) (1 + behind) (omega (arith, some))) (answer_fits _ _, tt),
     )
 
-pieces_fit : (pieces : List Piece) (behind : ℕ) → 0 < behind → All IsPiece pieces → Fit behind (flat_map piece_code pieces)
-pieces_fit [] behind some fits = tt
-pieces_fit (piece ∷ pieces) behind some fits =
-    let rest = flat_map piece_code pieces in
-    both_fit (piece_code piece) rest behind (piece_fits piece (length rest + behind) (omega (arith, some)) (All-head IsPiece piece pieces fits))
-    (pieces_fit pieces behind some (All-tail IsPiece piece pieces fits))
+pieces_fit : (narrow : Bool) (pieces : List Piece) (behind : ℕ) → 0 < behind → All (IsPiece narrow) pieces → Fit behind (flat_map (piece_code narrow) pieces)
+pieces_fit narrow [] behind some fits = tt
+pieces_fit narrow (piece ∷ pieces) behind some fits =
+    let rest = flat_map (piece_code narrow) pieces in
+    both_fit (piece_code narrow piece) rest behind (piece_fits narrow piece (length rest + behind) (omega (arith, some)) (All-head (IsPiece narrow) piece pieces fits))
+    (pieces_fit narrow pieces behind some (All-tail (IsPiece narrow) piece pieces fits))
 
 -- it ends with a return
 record EndsWithAnswer (insns : List Insn) : Type 0 where
@@ -178,31 +201,73 @@ behind_others front back ends = record {
 some_there : (insns : List Insn) → EndsWithAnswer insns → 0 < length insns
 some_there insns ends = omega (arith, ap length ends.is, length-append ends.front (answer ends.value ∷ []))
 
-fork_ends : (number : ℕ) (below above : List Insn) → EndsWithAnswer above → EndsWithAnswer (fork_code number below above)
-fork_ends number below above ends = by (nat_le (length below) 255) where
-  by : (near : Bool) → EndsWithAnswer (if near then branch GreaterOrEqual number (length below) 0 ∷ (below ++ above) else branch GreaterOrEqual number 0 1 ∷ jump (length below) ∷ (below ++ above))
-  by true = behind_others (branch GreaterOrEqual number (length below) 0 ∷ below) above ends
-  by false = behind_others (branch GreaterOrEqual number 0 1 ∷ jump (length below) ∷ below) above ends
+place_inside : (value : ℕ) (values : List ℕ) → Contains values value → place_of value values < length values
+place_inside value [] has = absurd (omega (arith, has.1))
+place_inside value (other ∷ others) has = by (λ has. place_inside value others has) (value == other) refl where
+  by : (Contains others value → place_of value others < length others) → (b : Bool) → (value == other) ≡ b → (if b then 0 else 1 + place_of value others) < length (other ∷ others)
+  by among true e = omega arith
+  by among false e = omega (arith, among (others_have value other others (eqb-false value other e) has))
 
-tree_ends : (tree : Tree) → EndsWithAnswer (tree_code tree)
-tree_ends (Leaf pieces otherwise) = record { front = flat_map piece_code pieces; value = otherwise; is = refl }
-tree_ends (Fork number below above) = fork_ends number (tree_code below) (tree_code above) (tree_ends above)
+far_inside : (values : List ℕ) (tree : Tree) (behind : ℕ) → IsTree values tree → far values tree behind ≤ behind + length values
+far_inside values (Leaf narrow pieces otherwise) behind fits = omega arith
+far_inside values (Away value) behind fits = omega (arith, place_inside value values fits)
+far_inside values (Fork number below above) behind fits = omega arith
 
-fork_fits : (number : ℕ) (below above : List Insn) (behind : ℕ) → 0 < length above → Fit (length above + behind) below → Fit behind above → Fit behind (fork_code number below above)
-fork_fits number below above behind some one other = by (nat_le (length below) 255) where
-  by : (near : Bool) → Fit behind (if near then branch GreaterOrEqual number (length below) 0 ∷ (below ++ above) else branch GreaterOrEqual number 0 1 ∷ jump (length below) ∷ (below ++ above))
-  by true =
-      let all = length-append below above in
-      (branch_fits GreaterOrEqual _ _ _ _ (omega (arith, all, some)) (omega (arith, all, some)), both_fit below above behind one other)
-  by false =
-      let all = length-append below above in
-      (branch_fits GreaterOrEqual _ _ _ _ (omega arith) (omega (arith, all, some)), (jump_fits _ _ (omega (arith, all, some)), both_fit below above behind one other))
+over_fits : (n behind : ℕ) → n < behind → Fit behind (over_code n)
+over_fits zero behind near = tt
+over_fits (suc n) behind near = alone (jump (suc n)) behind (jump_fits (suc n) behind near)
 
-tree_fits : (tree : Tree) (behind : ℕ) → IsTree tree → Fit behind (tree_code tree)
-tree_fits (Leaf pieces otherwise) behind fits =
-    both_fit (flat_map piece_code pieces) (answer otherwise ∷ []) behind (pieces_fit pieces (1 + behind) (omega arith) fits) (answer_fits _ _, tt)
-tree_fits (Fork number below above) behind fits =
-    fork_fits number (tree_code below) (tree_code above) behind (some_there _ (tree_ends above)) (tree_fits below (length (tree_code above) + behind) fits.0) (tree_fits above behind fits.1)
+head_fits : (number over under behind : ℕ) → over < behind → under < behind → Fit behind (head_code number over under)
+head_fits number over under behind near near' = by (nat_le over 255 && nat_le under 255) where
+  by : (short : Bool) → Fit behind (if short then branch GreaterOrEqual number over under ∷ [] else branch GreaterOrEqual number 0 1 ∷ jump (length (over_code under) + over) ∷ over_code under)
+  by true = one_fits GreaterOrEqual number over under behind near near'
+  by false = (branch_fits GreaterOrEqual _ _ _ _ (omega arith) (omega (arith, near)), (jump_fits _ _ (omega (arith, near)), over_fits under behind near'))
+
+-- a tree before so many others and its values, of which there is one at least, or something behind them
+tree_fits : (values : List ℕ) (tree : Tree) (behind rest : ℕ) → 0 < rest → IsTree values tree → Fit (behind + (length values + rest)) (tree_code values tree behind)
+tree_fits values (Leaf narrow pieces otherwise) behind rest some fits =
+    both_fit (flat_map (piece_code narrow) pieces) (answer otherwise ∷ []) (behind + (length values + rest)) (pieces_fit narrow pieces (1 + (behind + (length values + rest))) (omega arith) fits) (answer_fits _ _, tt)
+tree_fits values (Away value) behind rest some fits = tt
+tree_fits values (Fork number below above) behind rest some fits =
+    let back = tree_code values above behind in
+    let more = length back + behind in
+    let front = tree_code values below more in
+    let whole = length-append front back in
+    let end = behind + (length values + rest) in
+    let same : more + (length values + rest) ≡ length back + end = omega arith in
+    both_fit (head_code number (length front + far values above behind) (far values below more)) (front ++ back) end
+    (head_fits number (length front + far values above behind) (far values below more) (length (front ++ back) + end)
+    (omega (arith, whole, some, far_inside values above behind fits.1)) (omega (arith, whole, some, far_inside values below more fits.0)))
+    (both_fit front back end (subst (λ n. Fit n front) same (tree_fits values below more rest some fits.0)) (tree_fits values above behind rest some fits.1))
+
+answers_fit : (values : List ℕ) (behind : ℕ) → Fit behind (map answer values)
+answers_fit [] behind = tt
+answers_fit (value ∷ values) behind = (answer_fits value _, answers_fit values behind)
+
+section_fits : (section : Section) (behind : ℕ) → 0 < behind → IsSection section → Fit behind (section_code section)
+section_fits section behind some fits =
+    let tree = tree_code section.values section.tree 0 in
+    let same : 0 + (length section.values + behind) ≡ length (map answer section.values) + behind = omega (arith, length-map section.values answer) in (
+      load_fits 0 _ refl (omega arith),
+      both_fit tree (map answer section.values) behind (subst (λ n. Fit n tree) same (tree_fits section.values section.tree 0 behind some fits.tree)) (answers_fit section.values behind),
+    )
+
+past_fits : (audit n behind : ℕ) → n < behind → 1 < behind → Fit behind (past_code audit n)
+past_fits audit n behind near more = by (nat_le n 255) where
+  by : (short : Bool) → Fit behind (if short then branch Equal audit 0 n ∷ [] else branch Equal audit 1 0 ∷ jump n ∷ [])
+  by true = one_fits Equal audit 0 n behind (omega (arith, near)) near
+  by false = (branch_fits Equal _ _ _ _ (omega (arith, more)) (omega arith), alone (jump n) behind (jump_fits n behind near))
+
+sections_fit : (sections : List Section) (behind : ℕ) → 0 < behind → All IsSection sections → Fit behind (flat_map guarded_code sections)
+sections_fit [] behind some fits = tt
+sections_fit (section ∷ sections) behind some fits =
+    let code = section_code section in
+    let others = flat_map guarded_code sections in
+    both_fit (guarded_code section) others behind
+    (both_fit (past_code section.audit (length code)) code (length others + behind)
+    (past_fits section.audit (length code) (length code + (length others + behind)) (omega (arith, some)) (omega (arith, some)))
+    (section_fits section (length others + behind) (omega (arith, some)) (All-head IsSection section sections fits)))
+    (sections_fit sections behind some (All-tail IsSection section sections fits))
 
 -- ---- what fits has no fault
 
@@ -225,6 +290,7 @@ at_place (first ∷ insns) behind (suc place) insn fit got =
 
 no_fault : (o : Option Operation) (insn : Insn) (place count after : ℕ) → place + 1 + after ≡ count → FitsBefore after o insn → fault_of place count o insn ≡ None
 no_fault (Some LoadRecord) insn place count after is fits = rw (eq-eqb (insn.k % 4) 0 fits.0, lt-ltb insn.k 64 fits.1) refl
+no_fault (Some (LoadConstant Accumulator)) insn place count after is fits = refl
 no_fault (Some (Compute And Constant)) insn place count after is fits = refl
 no_fault (Some Jump) insn place count after is fits = rw (lt-ltb (place + 1 + insn.k) count (omega (arith, is, fits))) refl
 no_fault (Some (Branch comparison operand)) insn place count after is fits =
@@ -234,6 +300,7 @@ no_fault o insn place count after is fits = absurd fits
 
 no_load : (o : Option Operation) (insn : Insn) (after word : ℕ) → FitsBefore after o insn → Loads word o insn → ⊥
 no_load (Some LoadRecord) insn after word fits loads = loads
+no_load (Some (LoadConstant Accumulator)) insn after word fits loads = loads
 no_load (Some (Compute And Constant)) insn after word fits loads = loads
 no_load (Some Jump) insn after word fits loads = loads
 no_load (Some (Branch comparison operand)) insn after word fits loads = loads
@@ -275,13 +342,9 @@ no_fault_in insns fit ends few (fault.Word place) has = none_by_itself insns pla
 no_fault_in insns fit ends few (fault.Jump place) has = none_by_itself insns place (fault.Jump place) fit has
 
 -- the code of a filter, where there is room for it
-pub valid_code : (bad : ℕ) (tree : Tree) → IsTree tree → length (filter_code bad tree) ≤ 4096 → IsValid (filter_code bad tree)
-valid_code bad tree good few =
-    let code = tree_code tree in
-    let head = load 4 ∷ branch Equal architecture 1 0 ∷ answer bad ∷ load 0 ∷ [] in
-    let fit : Fit 0 (filter_code bad tree) =
-    (load_fits 4 _ refl (omega arith), (branch_fits Equal _ _ _ _ (omega arith) (omega arith), (answer_fits _ _, (load_fits 0 _ refl (omega arith), tree_fits tree 0 good)))) in
-    no_fault_in (filter_code bad tree) fit (behind_others head code (tree_ends tree)) few
-
-pub valid_whole : (code : List Insn) (bad : ℕ) (tree : Tree) → code ≡ filter_code bad tree → IsTree tree → length code ≤ 4096 → IsValid code
-valid_whole code bad tree is good few = subst IsValid (sym is) (valid_code bad tree good (subst (λ insns. length insns ≤ 4096) is few))
+pub valid_code : (bad : ℕ) (sections : List Section) → All IsSection sections → length (filter_code bad sections) ≤ 4096 → IsValid (filter_code bad sections)
+valid_code bad sections good few =
+    let others = flat_map guarded_code sections in
+    let fit : Fit 0 (filter_code bad sections) =
+    (load_fits 4 _ refl (omega arith), both_fit others (answer bad ∷ []) 0 (sections_fit sections 1 (omega arith) good) (answer_fits _ _, tt)) in
+    no_fault_in (filter_code bad sections) fit (record { front = load 4 ∷ others; value = bad; is = refl }) few

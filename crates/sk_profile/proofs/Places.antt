@@ -1,5 +1,5 @@
 -- Arms by their places among others.
-use Rattle.std.proofs.Common.{◌≡◌, ℕ, zero, suc, ◌+◌, ◌^◌, ◌<◌, List, [], ◌∷◌, length, drop, map, Some, slice_get, refl, sym, ap, ◌∙◌, subst, arith}
+use Rattle.std.proofs.Common.{◌≡◌, ℕ, zero, suc, ◌+◌, ◌^◌, ◌<◌, Bool, List, [], ◌∷◌, length, drop, map, Some, slice_get, refl, sym, ap, ◌∙◌, subst, arith}
 use Rattle.std.specs.List.{All}
 use Rattle.std.proofs.lemmas.List.Elements.{All-nil, All-cons}
 use Rattle.std.specs.Option.{option_map}
@@ -37,32 +37,33 @@ behind arms rest place k is =
     ∙ ap (option_map arm_of) (sym (at_drop place arms k) ∙ ap (λ (xs : List ArmOfCode). slice_get xs k) (sym is))
     ∙ sym (slice_get-map arm_of rest k)
 
-pub found : (arms left rest : List ArmOfCode) (arm : ArmOfCode) (it : TwoArms) (place : ℕ) → left ≡ drop it.first arms → left ≡ arm ∷ rest → it.second ≡ it.first + 1 + place → it.number < 2 ^ 32
-    → ClashesWith (arm_of arm) (map arm_of rest) place it.args → AreClashing (map arm_of arms) it
-found arms left rest arm it place is steps second low clash =
+pub found : (narrow : Bool) (otherwise : ℕ) (arms left rest : List ArmOfCode) (arm : ArmOfCode) (it : TwoArms) (place : ℕ) → left ≡ drop it.first arms → left ≡ arm ∷ rest → it.second ≡ it.first + 1 + place
+    → ClashesWith narrow (arm_of arm) (map arm_of rest) place it.args → (arch nr : ℕ) → arch < 2 ^ 32 → nr < 2 ^ 32
+    → AreClashing arch nr (record { narrow = narrow; arms = map arm_of arms; otherwise = otherwise }) it
+found narrow otherwise arms left rest arm it place is steps second clash arch nr known small =
     let more : rest ≡ drop (it.first + 1) arms = drop_more it.first arms rest arm (sym is ∙ steps) in record {
       one = arm_of arm;
       other = clash.other;
       at_first = here arm_of arms left rest arm it.first is steps;
       at_second = ap (slice_get (map arm_of arms)) second ∙ behind arms rest (it.first + 1) place more ∙ clash.at_place;
       order = omega (arith, second);
-      fits = clash.fits it.number low;
+      fits = clash.fits arch nr known small;
       differ = clash.differ;
     }
 
 -- one more that does not clash
-pub none_more : (one : Arm) (left rest whole : List ArmOfCode) (other : ArmOfCode) → left ≡ other ∷ rest → ClashesWithNone one (arm_of other)
-    → (All (λ (other : ArmOfCode). ClashesWithNone one (arm_of other)) left → All (λ (other : ArmOfCode). ClashesWithNone one (arm_of other)) whole)
-    → All (λ (other : ArmOfCode). ClashesWithNone one (arm_of other)) rest → All (λ (other : ArmOfCode). ClashesWithNone one (arm_of other)) whole
-none_more one left rest whole other steps free so_far more =
-    let P : ArmOfCode → Type 0 = λ other. ClashesWithNone one (arm_of other) in
+pub none_more : (narrow : Bool) (one : Arm) (left rest whole : List ArmOfCode) (other : ArmOfCode) → left ≡ other ∷ rest → ClashesWithNone narrow one (arm_of other)
+    → (All (λ (other : ArmOfCode). ClashesWithNone narrow one (arm_of other)) left → All (λ (other : ArmOfCode). ClashesWithNone narrow one (arm_of other)) whole)
+    → All (λ (other : ArmOfCode). ClashesWithNone narrow one (arm_of other)) rest → All (λ (other : ArmOfCode). ClashesWithNone narrow one (arm_of other)) whole
+none_more narrow one left rest whole other steps free so_far more =
+    let P : ArmOfCode → Type 0 = λ other. ClashesWithNone narrow one (arm_of other) in
     so_far (subst (All P) (sym steps) (All-cons P other rest free more))
 
-no_other : (one : Arm) (left : List ArmOfCode) → length left ≡ 0 → All (λ (other : ArmOfCode). ClashesWithNone one (arm_of other)) left
-no_other one [] e = All-nil (λ (other : ArmOfCode). ClashesWithNone one (arm_of other))
-no_other one (arm ∷ left) e = absurd (omega (arith, e))
+no_other : (narrow : Bool) (one : Arm) (left : List ArmOfCode) → length left ≡ 0 → All (λ (other : ArmOfCode). ClashesWithNone narrow one (arm_of other)) left
+no_other narrow one [] e = All-nil (λ (other : ArmOfCode). ClashesWithNone narrow one (arm_of other))
+no_other narrow one (arm ∷ left) e = absurd (omega (arith, e))
 
-pub none_at_all : (one : Arm) (left whole : List ArmOfCode) → length left ≡ 0
-    → (All (λ (other : ArmOfCode). ClashesWithNone one (arm_of other)) left → All (λ (other : ArmOfCode). ClashesWithNone one (arm_of other)) whole)
-    → All (λ (other : ArmOfCode). ClashesWithNone one (arm_of other)) whole
-none_at_all one left whole e so_far = so_far (no_other one left e)
+pub none_at_all : (narrow : Bool) (one : Arm) (left whole : List ArmOfCode) → length left ≡ 0
+    → (All (λ (other : ArmOfCode). ClashesWithNone narrow one (arm_of other)) left → All (λ (other : ArmOfCode). ClashesWithNone narrow one (arm_of other)) whole)
+    → All (λ (other : ArmOfCode). ClashesWithNone narrow one (arm_of other)) whole
+none_at_all narrow one left whole e so_far = so_far (no_other narrow one left e)

@@ -5,12 +5,13 @@ use Rattle.sk_insn.specs.declared.record.Record.{Record}
 use Rattle.sk_insn.specs.declared.operation.Operand.TheVariants.{Constant}
 use Rattle.sk_insn.specs.declared.operation.Arithmetic.TheVariants.{And}
 use Rattle.sk_insn.specs.declared.operation.Comparison.{Comparison}
-use Rattle.sk_insn.specs.declared.operation.Operation.TheVariants.{LoadRecord, Compute, Jump, Branch, ReturnConstant}
+use Rattle.sk_insn.specs.declared.operation.Operation.TheVariants.{LoadRecord, LoadConstant, Compute, Jump, Branch, ReturnConstant}
+use Rattle.sk_insn.specs.declared.operation.Register.TheVariants.{Accumulator}
 use Rattle.sk_insn.specs.Operations.{operation_of}
 use Rattle.sk_insn.specs.Record.{word_of}
 use Rattle.sk_insn.proofs.OperationTable.{operation_of-code_of}
 use Rattle.sk_filter.specs.Meaning.{Meaning, Returned, Stuck, State, Effect, GoesOn, Ends, holds, effect, after_step, then_follows, meaning}
-use Rattle.sk_profile.specs.Code.{load, with, branch, jump, answer}
+use Rattle.sk_profile.specs.Code.{load, constant, with, branch, jump, answer}
 use Rattle.sk_profile.specs.Means.{Gives}
 
 -- from here on, the first so many passed over, the instructions come to the value; a record, so that its arguments are found
@@ -34,6 +35,12 @@ pub load_on : (k : ℕ) (rest : List Insn) (call : Record) (s : State) (word val
 load_on k rest call s word value is g =
     on (load k) rest call s 0 (record s { a = word }) value
     (ap (λ o. effect o (load k) call s) (operation_of-code_of LoadRecord) ∙ ap (λ w. Rattle.sk_filter.specs.Meaning.loaded Rattle.sk_insn.specs.declared.operation.Register.TheVariants.Accumulator s w) is) g
+
+pub constant_on : (k : ℕ) (rest : List Insn) (call : Record) (s : State) (value : ℕ)
+    → Comes rest 0 call (record s { a = k }) value → Comes (constant k ∷ rest) 0 call s value
+constant_on k rest call s value g =
+    on (constant k) rest call s 0 (record s { a = k }) value
+    (ap (λ o. effect o (constant k) call s) (operation_of-code_of (LoadConstant Accumulator))) g
 
 pub branch_on : (comparison : Comparison) (k jt jf : ℕ) (rest : List Insn) (call : Record) (s : State) (value : ℕ)
     → Comes rest (if holds comparison s.a k then jt else jf) call s value

@@ -7,10 +7,20 @@ pub worked_code : WorkedCode
 unfolding operation_of
 worked_code = record {
   joined = refl;
+  joined_narrow = refl;
   finds_the_second = refl;
   finds_the_last = refl;
   misses = refl;
   misses_by_the_upper_half = refl;
   single = refl;
+  too_great = refl;
+  heads = refl;
+  long_head = refl;
+  longest_head = refl;
   forks = refl;
+  filter = refl;
+  first_section = refl;
+  second_section = refl;
+  below_it = refl;
+  no_section = refl;
 }

@@ -1,7 +1,7 @@
 -- Rows: what is said from each number on, up to the next row's.
-use Rattle.std.specs.Prelude.{ℕ, ◌≡◌, ◌≤◌, nat_le, if◌then◌else◌, List, [], ◌∷◌, ◌++◌, All}
+use Rattle.std.specs.Prelude.{ℕ, ◌≡◌, ◌≤◌, nat_le, false, if◌then◌else◌, List, [], ◌∷◌, ◌++◌, All}
 use Rattle.sk_insn.specs.declared.record.Record.{Record}
-use Rattle.sk_profile.specs.Sayings.{Saying, Tree, Leaf, Fork, Shows, said, saying_at}
+use Rattle.sk_profile.specs.Sayings.{Saying, Tree, Leaf, Away, Fork, Shows, said, saying_at}
 
 pub record Row : Type 0 where
   pub start : ℕ
@@ -15,7 +15,8 @@ saying_in (row ∷ rows) before nr = if nat_le row.start nr then saying_in rows 
 -- the tree cuts the rows in two at one of them, and each part again, and shows in pieces what is left: at which it cuts
 -- is free, and so are the pieces
 abbrev pub Cuts : Tree → Saying → List Row → Type 0
-Cuts (Leaf pieces otherwise) before rows = (rows ≡ []) × Shows pieces otherwise before
+Cuts (Leaf narrow pieces otherwise) before rows = (rows ≡ []) × Shows narrow pieces otherwise before
+Cuts (Away value) before rows = (rows ≡ []) × Shows false [] value before
 Cuts (Fork number below above) before rows =
     (left : List Row) × (middle : Row) × (right : List Row) × (rows ≡ left ++ middle ∷ right) × (middle.start ≡ number)
     × All (λ (row : Row). row.start ≤ number) left × Cuts below before left × Cuts above middle.saying right

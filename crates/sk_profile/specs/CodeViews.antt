@@ -1,5 +1,5 @@
 -- The rows of the code as rows of the definition.
-use Rattle.std.specs.Prelude.{ℕ, ◌≡◌, ◌≤◌, ◌<◌, List, [], ◌∷◌, ◌++◌, map, flat_map, All, length, true}
+use Rattle.std.specs.Prelude.{ℕ, ◌≡◌, ◌≤◌, ◌<◌, List, [], ◌∷◌, ◌++◌, ◌+◌, map, flat_map, All, length, Bool, true, Contains}
 use Rattle.sk_insn.specs.declared.insn.Insn.{Insn}
 use Rattle.sk_profile.specs.declared.condition.Condition.{Condition}
 use Rattle.sk_profile.specs.declared.saying.Arm.{Arm as ArmOfCode}
@@ -7,14 +7,14 @@ use Rattle.sk_profile.specs.declared.saying.Saying.{Saying as SayingOfCode}
 use Rattle.sk_profile.specs.declared.saying.Row.{Row as RowOfCode}
 use Rattle.sk_profile.specs.Sayings.{Arm, Saying, are_apart, asks, Piece, arms_of, Shows, Tree}
 use Rattle.sk_profile.specs.CodeRows.{Row, Cuts}
-use Rattle.sk_profile.specs.Code.{high, piece_code, saying_code, tree_code}
-use Rattle.sk_profile.specs.Means.{IsPiece, IsTree}
+use Rattle.sk_profile.specs.Code.{high, piece_code, saying_code, place_of, far, tree_code, Section, guarded_code}
+use Rattle.sk_profile.specs.Means.{IsPiece, IsTree, HasCode, IsSection}
 
 abbrev pub arm_of : ArmOfCode → Arm
 arm_of arm = record { conditions = arm.conditions.items; value = arm.value }
 
 abbrev pub saying_of : SayingOfCode → Saying
-saying_of saying = record { arms = map arm_of saying.arms.items; otherwise = saying.otherwise }
+saying_of saying = record { narrow = saying.narrow; arms = map arm_of saying.arms.items; otherwise = saying.otherwise }
 
 abbrev pub row_of : RowOfCode → Row
 row_of row = record { start = row.start; saying = saying_of row.saying }
@@ -46,25 +46,25 @@ pub record Asks (index value upper : ℕ) (arm : ArmOfCode) : Type 0 where
   pub upper_half : high (asked_for arm) ≡ upper
 
 -- the code of a piece that has these arms stands behind what stood there
-pub record PutsPiece (old new : List Insn) (arms : List Arm) : Type 0 where
+pub record PutsPiece (narrow : Bool) (old new : List Insn) (arms : List Arm) : Type 0 where
   pub piece : Piece
-  pub code : new ≡ old ++ piece_code piece
+  pub code : new ≡ old ++ piece_code narrow piece
   pub has : arms_of piece ≡ arms
-  pub good : IsPiece piece
+  pub good : IsPiece narrow piece
 
 -- and that of pieces
-pub record PutsPieces (old new : List Insn) (arms : List Arm) : Type 0 where
+pub record PutsPieces (narrow : Bool) (old new : List Insn) (arms : List Arm) : Type 0 where
   pub pieces : List Piece
-  pub code : new ≡ old ++ flat_map piece_code pieces
+  pub code : new ≡ old ++ flat_map (piece_code narrow) pieces
   pub has : flat_map arms_of pieces ≡ arms
-  pub good : All IsPiece pieces
+  pub good : All (IsPiece narrow) pieces
 
 -- and of what is said of a number
 pub record PutsSaying (old new : List Insn) (saying : Saying) : Type 0 where
   pub pieces : List Piece
-  pub code : new ≡ old ++ saying_code pieces saying.otherwise
-  pub shows : Shows pieces saying.otherwise saying
-  pub good : All IsPiece pieces
+  pub code : new ≡ old ++ saying_code saying.narrow pieces saying.otherwise
+  pub shows : Shows saying.narrow pieces saying.otherwise saying
+  pub good : All (IsPiece saying.narrow) pieces
 
 -- each row starts at no lower number than those before it
 abbrev pub AreRising : List RowOfCode → Type 0
@@ -77,16 +77,53 @@ pub record AreRows (before : SayingOfCode) (rows : List RowOfCode) : Type 0 wher
   pub each : All IsRowOfCode rows
   pub rising : AreRising rows
 
--- a tree that cuts the rows has more instructions than a filter may have
-pub record IsOverlong (codes : Tree → List Insn) (before : SayingOfCode) (rows : List RowOfCode) : Type 0 where
-  pub tree : Tree
+-- a tree that cuts the rows, before values that stand so many instructions behind it
+pub record CutsRows (values : List ℕ) (before : SayingOfCode) (rows : List RowOfCode) (tree : Tree) : Type 0 where
   pub cuts : Cuts tree (saying_of before) (map row_of rows)
-  pub good : IsTree tree
-  pub long : 4096 < length (codes tree)
+  pub good : IsTree values tree
 
--- the code of a tree that cuts the rows stands behind what stood there
-pub record Emits (old new : List Insn) (before : SayingOfCode) (rows : List RowOfCode) : Type 0 where
+-- one whose code, with what stands behind it, has more instructions than a filter may have
+pub record IsOverlong (values : List ℕ) (behind : ℕ) (before : SayingOfCode) (rows : List RowOfCode) : Type 0 where
   pub tree : Tree
-  pub code : new ≡ old ++ tree_code tree
-  pub cuts : Cuts tree (saying_of before) (map row_of rows)
-  pub good : IsTree tree
+  pub is : CutsRows values before rows tree
+  pub long : 4096 < length (tree_code values tree behind) + (behind + length values)
+
+-- rows of one value, which stands among those behind the tree, and so far behind their place
+pub record IsAway (values : List ℕ) (behind : ℕ) (before : SayingOfCode) (rows : List RowOfCode) (begins : ℕ) : Type 0 where
+  pub no_rows : rows ≡ []
+  pub no_arms : before.arms.items ≡ []
+  pub there : Contains values before.otherwise
+  pub reached : begins ≡ behind + place_of before.otherwise values
+  pub near : begins ≤ behind + length values
+
+-- the code of such a tree, which begins so far behind
+pub record IsSideOf (values : List ℕ) (behind : ℕ) (before : SayingOfCode) (rows : List RowOfCode) (code : List Insn) (begins : ℕ) : Type 0 where
+  pub tree : Tree
+  pub is : CutsRows values before rows tree
+  pub written : code ≡ tree_code values tree behind
+  pub reached : begins ≡ far values tree behind
+
+-- and of one that begins where it stands
+pub record IsTreeOf (values : List ℕ) (behind : ℕ) (before : SayingOfCode) (rows : List RowOfCode) (code : List Insn) : Type 0 where
+  pub tree : Tree
+  pub is : CutsRows values before rows tree
+  pub has : HasCode tree
+  pub written : code ≡ tree_code values tree behind
+
+-- a section that says what rows say
+pub record IsSectionFor (audit : ℕ) (before : SayingOfCode) (rows : List RowOfCode) (section : Section) : Type 0 where
+  pub named : section.audit ≡ audit
+  pub good : IsSection section
+  pub is : CutsRows section.values before rows section.tree
+
+-- its code stands behind what stood there
+pub record PutsSection (old new : List Insn) (audit : ℕ) (before : SayingOfCode) (rows : List RowOfCode) : Type 0 where
+  pub section : Section
+  pub says : IsSectionFor audit before rows section
+  pub code : new ≡ old ++ guarded_code section
+
+-- one has more instructions than a filter may have
+pub record IsLongSection (audit : ℕ) (before : SayingOfCode) (rows : List RowOfCode) : Type 0 where
+  pub section : Section
+  pub says : IsSectionFor audit before rows section
+  pub long : 4096 < length (guarded_code section)

@@ -4,11 +4,11 @@ pub mod Alike
 pub mod Means
 pub mod CodeRows
 pub mod CodeViews
-pub mod WorkedCode
 pub mod Profiles
 pub mod Views
 pub mod Rows
 pub mod Meeting
 pub mod Clashes
 pub mod Faults
+pub mod WorkedCode
 pub mod WorkedNumbers

@@ -1,5 +1,5 @@
 -- Numbers of 64 bits that conditions on an argument hold of.
-use Rattle.std.specs.Prelude.{ℕ, ◌≡◌, ◌^◌, ◌<◌, ◌≤◌, ◌||◌, not, Bool, true, false, List}
+use Rattle.std.specs.Prelude.{ℕ, ◌≡◌, ◌^◌, ◌<◌, ◌≤◌, ◌||◌, not, Bool, true, false, if◌then◌else◌, List}
 use Rattle.std.specs.List.{list_all}
 use Rattle.sk_profile.specs.declared.condition.Condition.{Condition}
 use Rattle.sk_profile.specs.Sayings.{compares, is_on}
@@ -11,9 +11,13 @@ meets c number = compares c.test number c.value
 abbrev pub meets_on : ℕ → List Condition → ℕ → Bool
 meets_on index conditions number = list_all (λ (c : Condition). not (is_on index c) || meets c number) conditions
 
--- all those and all these hold of a number of 64 bits
-pub record MeetsBoth (conditions others : List Condition) (index number : ℕ) : Type 0 where
-  pub small : number < 2 ^ 64
+-- no argument is so great
+abbrev pub limit : Bool → ℕ
+limit narrow = if narrow then 2 ^ 32 else 2 ^ 64
+
+-- all those and all these hold of a number that an argument can be
+pub record MeetsBoth (narrow : Bool) (conditions others : List Condition) (index number : ℕ) : Type 0 where
+  pub small : number < limit narrow
   pub first : meets_on index conditions number ≡ true
   pub second : meets_on index others number ≡ true
 

@@ -1,6 +1,6 @@
 -- What a profile says of a call, once its rules stand by the number of the call: the first arm whose conditions all
 -- hold answers, and otherwise what is left (runtime-spec, config-linux.md, "Seccomp"; seccomp_rule_add(3)).
-use Rattle.std.specs.Prelude.{ℕ, ◌≡◌, All, ◌==◌, ◌&&◌, Bool, true, nat_lt, nat_le, not, if◌then◌else◌, bit_and, List, [], ◌∷◌, map, flat_map, slice_index_or}
+use Rattle.std.specs.Prelude.{ℕ, ◌≡◌, ◌%◌, ◌^◌, All, ◌==◌, ◌&&◌, Bool, true, false, nat_lt, nat_le, not, if◌then◌else◌, bit_and, List, [], ◌∷◌, map, flat_map, slice_index_or}
 use Rattle.std.specs.List.{list_any}
 use Rattle.sk_insn.specs.declared.record.Record.{Record}
 use Rattle.sk_profile.specs.declared.condition.Condition.{Condition}
@@ -40,10 +40,22 @@ pub record Arm : Type 0 where
   pub conditions : List Condition
   pub value : ℕ
 
--- what is said of the calls of one number
+-- what is said of the calls of one number, of which each argument is its lower half where registers have 32 bits
 pub record Saying : Type 0 where
+  pub narrow : Bool
   pub arms : List Arm
   pub otherwise : ℕ
+
+-- the same of every call
+abbrev pub always : ℕ → Saying
+always value = record { narrow = false; arms = []; otherwise = value }
+
+abbrev pub low : ℕ → ℕ
+low n = n % 2 ^ 32
+
+-- the call as its conditions see it
+abbrev pub seen : Bool → Record → Record
+seen narrow call = if narrow then record call { args = map low call.args } else call
 
 -- the first arm whose conditions hold
 abbrev pub first_held : List Arm → ℕ → Record → ℕ
@@ -52,7 +64,7 @@ first_held (arm ∷ arms) otherwise call =
     if all_hold arm.conditions call then arm.value else first_held arms otherwise call
 
 abbrev pub said : Saying → Record → ℕ
-said saying call = first_held saying.arms saying.otherwise call
+said saying call = first_held saying.arms saying.otherwise (seen saying.narrow call)
 
 -- an arm that asks one argument for a number
 abbrev pub asks : ℕ → ℕ → ℕ → Arm
@@ -77,12 +89,12 @@ abbrev pub arms_of : Piece → List Arm
 arms_of (Single arm) = arm ∷ []
 arms_of (Joined choice) = map (asks choice.index choice.value) (choice.first ∷ choice.others)
 
-abbrev pub saying_of_pieces : List Piece → ℕ → Saying
-saying_of_pieces pieces otherwise = record { arms = flat_map arms_of pieces; otherwise = otherwise }
+abbrev pub saying_of_pieces : Bool → List Piece → ℕ → Saying
+saying_of_pieces narrow pieces otherwise = record { narrow = narrow; arms = flat_map arms_of pieces; otherwise = otherwise }
 
 -- pieces that say of every call what a saying says; none, where it says the same of all
-pub record Shows (pieces : List Piece) (otherwise : ℕ) (saying : Saying) : Type 0 where
-  pub same : (call : Record) → said (saying_of_pieces pieces otherwise) call ≡ said saying call
+pub record Shows (narrow : Bool) (pieces : List Piece) (otherwise : ℕ) (saying : Saying) : Type 0 where
+  pub same : (call : Record) → said (saying_of_pieces narrow pieces otherwise) call ≡ said saying call
   pub left : otherwise ≡ saying.otherwise
   pub none : All (λ (arm : Arm). arm.value ≡ saying.otherwise) saying.arms → pieces ≡ []
 
@@ -90,12 +102,18 @@ pub record Shows (pieces : List Piece) (otherwise : ℕ) (saying : Saying) : Typ
 abbrev pub AlwaysSays : ℕ → Saying → Type 0
 AlwaysSays value saying = All (λ (arm : Arm). arm.value ≡ value) saying.arms × (saying.otherwise ≡ value)
 
--- the numbers cut in two, again and again; at the end what is said, in pieces
+-- and one without arms
+abbrev pub IsBare : ℕ → Saying → Type 0
+IsBare value saying = (saying.arms ≡ []) × (saying.otherwise ≡ value)
+
+-- the numbers cut in two, again and again; at the end what is said, in pieces, or a value that stands among those behind the tree
 pub data Tree : Type 0 where
-  Leaf : List Piece → ℕ → Tree
+  Leaf : Bool → List Piece → ℕ → Tree
+  Away : ℕ → Tree
   Fork : ℕ → Tree → Tree → Tree
 
 -- what stands at a number: below the fork's number, or from it on
 abbrev pub saying_at : Tree → ℕ → Saying
-saying_at (Leaf pieces otherwise) nr = saying_of_pieces pieces otherwise
+saying_at (Leaf narrow pieces otherwise) nr = saying_of_pieces narrow pieces otherwise
+saying_at (Away value) nr = always value
 saying_at (Fork number below above) nr = if nat_le number nr then saying_at above nr else saying_at below nr

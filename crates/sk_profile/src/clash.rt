@@ -1,21 +1,19 @@
 //! Rules with conditions that fit one call and say different things of it.
 ghost use Rattle.std.specs.Prelude.{ℕ, ◌≡◌, ◌≢◌, ◌^◌, ◌<◌, map, true, All, IfSome, IfNone};
-ghost use Rattle.sk_insn.specs.declared.record.Record.{Record};
-ghost use Rattle.sk_insn.specs.Record.{native};
 ghost use Rattle.sk_profile.specs.declared.condition.Condition.{Condition};
+ghost use Rattle.sk_insn.specs.declared.record.Record.{Record};
 ghost use Rattle.sk_profile.specs.declared.saying.Arm.{Arm};
-ghost use Rattle.sk_profile.specs.CodeViews.{arm_of, AreAsked, IsArmOfCode};
-ghost use Rattle.sk_profile.specs.Clashes.{AreClear, FitsBoth, AreClashing, ClashesWith, ClashesWithNone};
-ghost use Rattle.sk_profile.specs.Meeting.{meets, meets_on, MeetsBoth};
+ghost use Rattle.sk_profile.specs.CodeViews.{arm_of, saying_of, AreAsked, IsArmOfCode, IsSayingOfCode};
+ghost use Rattle.sk_profile.specs.Clashes.{AreClear, FitsBoth, AreClashing, ClashesWith, ClashesWithNone, call_of};
+ghost use Rattle.sk_profile.specs.Meeting.{limit, meets, meets_on, MeetsBoth};
 
 use crate::common::common;
 use crate::condition::{Condition, Test};
-use crate::saying::Arm;
+use crate::saying::{Arm, Saying};
 
-/// Two arms for a number, by their places, and the arguments of a call that both fit.
+/// Two arms, by their places, and the arguments of a call that both fit.
 #[derive(Clone, Copy, Debug)]
 pub struct TwoArms {
-    pub number: u32,
     pub first: usize,
     pub second: usize,
     pub args: [u64; 6],
@@ -28,22 +26,20 @@ struct Other {
     args: [u64; 6],
 }
 
-// Two arms for a number that fit one call and have different values, if there are such.
+// Two arms that fit one call of an architecture and have different values, if there are such.
 #[tactic(auto, using(crate::proofs::Clearing::first_good, crate::proofs::Clearing::rest_good))]
-pub(crate) fn clash(number: u32, arms: &[Arm]) -> Option<TwoArms>
-    requires arms { All IsArmOfCode arms.now }
-    ensures none { IfNone result (AreClear (map arm_of arms.now)) }
-    ensures clash { IfSome result (AreClashing (map arm_of arms.now)) }
-    ensures number { IfSome result (λ it. it.number ≡ number) }
+pub(crate) fn clash(arch: u32, nr: u32, saying: &Saying) -> Option<TwoArms>
+    requires arms { IsSayingOfCode saying.now }
+    ensures none { IfNone result (AreClear (saying_of saying.now)) }
+    ensures clash { IfSome result (AreClashing arch nr (saying_of saying.now)) }
 {
     let mut first = 0;
-    let mut left = arms;
+    let mut left: &[Arm] = &saying.arms;
     while let Some((arm, rest)) = left.split_first() {
-        if let Some(other) = clash_with(arm, rest) {
+        if let Some(other) = clash_with(saying.narrow, arm, rest) {
             let second = first + 1 + other.place;
             let args = other.args;
             return Some(TwoArms {
-                number,
                 first,
                 second,
                 args,
@@ -57,16 +53,16 @@ pub(crate) fn clash(number: u32, arms: &[Arm]) -> Option<TwoArms>
 
 // The first that clashes with the arm.
 #[tactic(auto, using(crate::proofs::Clearing::first_good))]
-fn clash_with(arm: &Arm, others: &[Arm]) -> Option<Other>
+fn clash_with(narrow: bool, arm: &Arm, others: &[Arm]) -> Option<Other>
     requires arm { IsArmOfCode arm.now }
     requires others { All IsArmOfCode others.now }
-    ensures none { IfNone result (All (λ (other : Arm). ClashesWithNone (arm_of arm.now) (arm_of other)) others.now) }
-    ensures place { IfSome result (λ it. ClashesWith (arm_of arm.now) (map arm_of others.now) it.place it.args) }
+    ensures none { IfNone result (All (λ (other : Arm). ClashesWithNone narrow (arm_of arm.now) (arm_of other)) others.now) }
+    ensures place { IfSome result (λ it. ClashesWith narrow (arm_of arm.now) (map arm_of others.now) it.place it.args) }
 {
     let mut place = 0;
     let mut left = others;
     while let Some((other, rest)) = left.split_first() {
-        if let Some(args) = clashing(arm, other) {
+        if let Some(args) = clashing(narrow, arm, other) {
             return Some(Other { place, args });
         }
         place += 1;
@@ -76,46 +72,49 @@ fn clash_with(arm: &Arm, others: &[Arm]) -> Option<Other>
 }
 
 // The arguments of a call that both fit, where they have different values.
-fn clashing(one: &Arm, other: &Arm) -> Option<[u64; 6]>
+fn clashing(narrow: bool, one: &Arm, other: &Arm) -> Option<[u64; 6]>
     requires one { IsArmOfCode one.now }
     requires other { IsArmOfCode other.now }
-    ensures none { IfNone result (ClashesWithNone (arm_of one.now) (arm_of other.now)) }
-    ensures fits { IfSome result (λ args. (nr : ℕ) → nr < 2 ^ 32 → FitsBoth one.now.conditions.items other.now.conditions.items (native nr 0 args)) }
+    ensures none { IfNone result (ClashesWithNone narrow (arm_of one.now) (arm_of other.now)) }
+    ensures fits { IfSome result (λ args. (arch nr : ℕ) → arch < 2 ^ 32 → nr < 2 ^ 32 → FitsBoth narrow one.now.conditions.items other.now.conditions.items (call_of arch nr args)) }
     ensures differ { IfSome result (λ _. one.now.value ≢ other.now.value) }
 {
     if one.value == other.value {
         return None;
     }
-    fitting(&one.conditions, &other.conditions)
+    fitting(narrow, &one.conditions, &other.conditions)
 }
 
 // The arguments of a call that all conditions hold of, if there is one.
-fn fitting(conditions: &[Condition], others: &[Condition]) -> Option<[u64; 6]>
+fn fitting(narrow: bool, conditions: &[Condition], others: &[Condition]) -> Option<[u64; 6]>
     requires asked { AreAsked conditions.now }
     requires others { AreAsked others.now }
-    ensures none { IfNone result ((call : Record) → FitsBoth conditions.now others.now call → ⊥) }
-    ensures fits { IfSome result (λ args. (nr : ℕ) → nr < 2 ^ 32 → FitsBoth conditions.now others.now (native nr 0 args)) }
+    ensures none { IfNone result ((call : Record) → FitsBoth narrow conditions.now others.now call → ⊥) }
+    ensures fits { IfSome result (λ args. (arch nr : ℕ) → arch < 2 ^ 32 → nr < 2 ^ 32 → FitsBoth narrow conditions.now others.now (call_of arch nr args)) }
 {
-    let first = argument(conditions, others, 0)?;
-    let second = argument(conditions, others, 1)?;
-    let third = argument(conditions, others, 2)?;
-    let fourth = argument(conditions, others, 3)?;
-    let fifth = argument(conditions, others, 4)?;
-    let sixth = argument(conditions, others, 5)?;
+    let first = argument(narrow, conditions, others, 0)?;
+    let second = argument(narrow, conditions, others, 1)?;
+    let third = argument(narrow, conditions, others, 2)?;
+    let fourth = argument(narrow, conditions, others, 3)?;
+    let fifth = argument(narrow, conditions, others, 4)?;
+    let sixth = argument(narrow, conditions, others, 5)?;
     Some([first, second, third, fourth, fifth, sixth])
 }
 
 // What the argument with this index may be.
-#[tactic(auto, using(crate::proofs::Clearing::both_on, crate::proofs::Clearing::none_on_both))]
-fn argument(conditions: &[Condition], others: &[Condition], index: u8) -> Option<u64>
+fn argument(narrow: bool, conditions: &[Condition], others: &[Condition], index: u8) -> Option<u64>
     requires asked { AreAsked conditions.now }
     requires others { AreAsked others.now }
-    ensures both { IfSome result (MeetsBoth conditions.now others.now index) }
-    ensures none { IfNone result ((number : ℕ) → number < 2 ^ 64 → meets_on index conditions.now number ≡ true → meets_on index others.now number ≡ true → ⊥) }
+    ensures both { IfSome result (MeetsBoth narrow conditions.now others.now index) }
+    ensures none { IfNone result ((number : ℕ) → number < limit narrow → meets_on index conditions.now number ≡ true → meets_on index others.now number ≡ true → ⊥) }
 {
     let one = on(conditions, index);
     let other = on(others, index);
-    common(one, other)
+    let number = common(one, other)?;
+    if narrow && number > u64::from(u32::MAX) {
+        return None;
+    }
+    Some(number)
 }
 
 // The condition on the argument with this index; where there is none, one that holds of every number.

@@ -12,6 +12,7 @@ pub(crate) fn common(one: Condition, other: Condition) -> Option<u64>
     ensures small { IfSome result (λ number. number < 2 ^ 64) }
     ensures first { IfSome result (λ number. meets one number ≡ true) }
     ensures second { IfSome result (λ number. meets other number ≡ true) }
+    ensures least { IfSome result (λ number. (lower : ℕ) → lower < number → meets one lower ≡ true → meets other lower ≡ true → ⊥) }
     ensures none { IfNone result ((number : ℕ) → number < 2 ^ 64 → meets one number ≡ true → meets other number ≡ true → ⊥) }
 {
     if masks_apart(one, other) {

@@ -1,22 +1,42 @@
 //! The instructions of conditions.
 ghost use Rattle.std.specs.Prelude.{ℕ, ◌≡◌, ◌+◌, ◌*◌, ◌<◌, ◌≤◌, ◌++◌, length, OnOk, All};
 ghost use Rattle.sk_profile.specs.declared.condition.Condition.{Condition};
-ghost use Rattle.sk_profile.specs.Code.{high_code, low_code, test_code, conditions_code};
+ghost use Rattle.sk_profile.specs.Code.{high_code, low_code, upper_code, is_short, test_code, conditions_code};
 
 use crate::condition::{Condition, Test};
-use crate::instructions::{branch, load, with};
+use crate::instructions::{branch, constant, load, with};
 use sk_insn::{Comparison, Insn};
 use std::alloc::AllocError;
 
+// Whether an argument is compared with a number at once, by its lower half alone.
+fn is_short(narrow: bool, value: u64) -> bool
+    ensures short { result ≡ is_short narrow value }
+{
+    narrow && value / 0x1_0000_0000 == 0
+}
+
 // How many instructions compare an argument.
-fn length_of(test: Test) -> usize
-    ensures exact { (i n away : ℕ) → length (test_code test i n away) ≡ result }
+fn length_of(narrow: bool, condition: Condition) -> usize
+    ensures exact { (away : ℕ) → length (test_code narrow condition.test condition.index condition.value away) ≡ result }
     ensures few { result ≤ 6 }
 {
-    match test {
-        Test::Is | Test::IsNot => 4,
-        Test::Below | Test::AtMost | Test::Above | Test::AtLeast => 5,
-        Test::Masked(_) => 6,
+    let short = is_short(narrow, condition.value);
+    match condition.test {
+        Test::Is | Test::IsNot => if short { 2 } else { 4 },
+        Test::Below | Test::AtMost | Test::Above | Test::AtLeast => if short { 2 } else { 5 },
+        Test::Masked(_) => if short { 3 } else { 6 },
+    }
+}
+
+// The upper half of an argument.
+fn upper(narrow: bool, index: u8) -> Insn
+    requires index { index < 6 }
+    ensures insn { result ≡ upper_code narrow index }
+{
+    if narrow {
+        constant(0)
+    } else {
+        load(20 + 8 * u32::from(index))
     }
 }
 
@@ -63,48 +83,51 @@ fn push_low(code: &mut Vec<Insn>, test: Test, low: u32, away: u8) -> Result<(), 
 }
 
 // Compares an argument, and goes on where the test holds.
-fn push_test(code: &mut Vec<Insn>, condition: Condition, away: u8) -> Result<(), AllocError>
+fn push_test(code: &mut Vec<Insn>, narrow: bool, condition: Condition, away: u8) -> Result<(), AllocError>
     requires index { condition.index < 6 }
     requires near { away ≤ 200 }
     ensures code { OnOk result (code.new.items ≡
-        code.old.items ++ test_code condition.test condition.index condition.value away) }
+        code.old.items ++ test_code narrow condition.test condition.index condition.value away) }
 {
-    code.push(load(20 + 8 * u32::from(condition.index)))?;
-    let high = (condition.value / 0x1_0000_0000) as u32;
-    push_high(code, condition.test, high, away)?;
+    if !is_short(narrow, condition.value) {
+        code.push(upper(narrow, condition.index))?;
+        let high = (condition.value / 0x1_0000_0000) as u32;
+        push_high(code, condition.test, high, away)?;
+    }
     code.push(load(16 + 8 * u32::from(condition.index)))?;
     let low = (condition.value % 0x1_0000_0000) as u32;
     push_low(code, condition.test, low, away)
 }
 
 // How many instructions compare all arguments of a rule.
-fn length_of_all(conditions: &[Condition]) -> u8
+fn length_of_all(narrow: bool, conditions: &[Condition]) -> u8
     requires few { length conditions.now ≤ 6 }
-    ensures exact { (away : ℕ) → length (conditions_code conditions.now away) ≡ result }
+    ensures exact { (away : ℕ) → length (conditions_code narrow conditions.now away) ≡ result }
     ensures bound { result ≤ 6 * length conditions.now }
 {
     match conditions.split_first() {
         None => 0,
-        Some((condition, rest)) => length_of(condition.test) as u8 + length_of_all(rest),
+        Some((condition, rest)) => length_of(narrow, *condition) as u8 + length_of_all(narrow, rest),
     }
 }
 
-/// Compares all arguments of a rule, and goes on where all tests hold.
+/// Compares all arguments of a rule, and goes on where all tests hold. Where `narrow` is set an argument is its lower half.
 pub fn push_conditions(
     code: &mut Vec<Insn>,
+    narrow: bool,
     conditions: &[Condition],
     away: u8,
 ) -> Result<(), AllocError>
     requires indices { All (λ (c : Condition). c.index < 6) conditions.now }
     requires few { length conditions.now ≤ 6 }
     requires near { away ≤ 100 }
-    ensures code { OnOk result (code.new.items ≡ code.old.items ++ conditions_code conditions.now away) }
+    ensures code { OnOk result (code.new.items ≡ code.old.items ++ conditions_code narrow conditions.now away) }
 {
     match conditions.split_first() {
         None => Ok(()),
         Some((condition, rest)) => {
-            push_test(code, *condition, length_of_all(rest) + away)?;
-            push_conditions(code, rest, away)
+            push_test(code, narrow, *condition, length_of_all(narrow, rest) + away)?;
+            push_conditions(code, narrow, rest, away)
         }
     }
 }

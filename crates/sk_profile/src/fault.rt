@@ -2,21 +2,29 @@
 use crate::build::CodeFault;
 use std::alloc::{AllocError, AllocFailed};
 
-/// A call's number, two entries of the profile with rules for it that say different things, and the arguments of a call that both
-/// rules fit.
+/// A call's architecture, by its number of linux/audit.h, and its number; two entries of the profile with rules for it that say
+/// different things, and the arguments of a call that both rules fit.
 #[derive(Clone, Copy, Debug, PartialEq, Eq)]
 pub struct Clash {
+    pub arch: u32,
     pub number: u32,
     pub first: usize,
     pub second: usize,
     pub args: [u64; 6],
 }
 
+/// A rule by the place of its part in the profile, and its own place in the part, from 0 on.
+#[derive(Clone, Copy, Debug, PartialEq, Eq)]
+pub struct RulePlace {
+    pub part: usize,
+    pub rule: usize,
+}
+
 /// Why a profile has no filter.
 #[derive(Clone, Copy, Debug, PartialEq, Eq)]
 pub enum ProfileFault {
-    /// The rule at this place is for no call of x86-64, or has a condition on a seventh argument, or two on one.
-    Rule(usize),
+    /// This rule has a condition on a seventh argument, or two on one.
+    Rule(RulePlace),
     /// Two rules for a number have conditions that fit one call, and different values.
     Clashes(Clash),
     /// The filter would have more than 4096 instructions.

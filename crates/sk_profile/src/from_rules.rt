@@ -1,38 +1,54 @@
-//! What the rules of a profile say of the calls of one number.
+//! What the rules of a part say of the calls of one number.
 ghost use Rattle.std.specs.Prelude.{◌≡◌, ◌++◌, ◌∷◌, map, slice_get, All, IfOk, OnOk, []};
 ghost use Rattle.std.specs.Option.{option_map};
 ghost use Rattle.sk_profile.specs.CodeViews.{arm_of, saying_of, IsArmOfCode, IsSayingOfCode};
 ghost use Rattle.sk_profile.specs.Clashes.{entries_for};
-ghost use Rattle.sk_profile.specs.Profiles.{is_for, plain_rule, arms_for, arm_of_rule, saying_of_rules};
+ghost use Rattle.sk_profile.specs.Profiles.{is_for, is_narrow, plain_rule, arms_for, arm_of_rule, saying_of_rules};
+ghost use Rattle.sk_profile.specs.Sayings.{always};
 ghost use Rattle.sk_profile.specs.Rows.{AreGood, IsGood};
-ghost use Rattle.sk_profile.specs.Views.{rule_of, profile_of};
+ghost use Rattle.sk_profile.specs.Views.{rule_of, part_of};
 
 use crate::condition::Condition;
-use crate::profile::{Profile, Rule};
+use crate::profile::{Part, Rule};
+use crate::rows::X32;
 use crate::saying::{Arm, Saying};
 use std::alloc::{AllocError, Global};
 
 /// What the rules say of the calls with this number, or the default where none of them fits.
-pub fn saying(alloc: Global, profile: &Profile, nr: u32) -> Result<Saying, AllocError>
-    requires good { AreGood profile.now }
-    ensures saying { IfOk result (λ saying. saying_of saying ≡ saying_of_rules (profile_of profile.now) nr) }
+#[tactic(auto, using(crate::proofs::Settling::settled_plain, crate::proofs::Settling::settled_empty, crate::proofs::Settling::settled_arms))]
+pub fn saying(alloc: Global, default: u32, part: &Part, nr: u32) -> Result<Saying, AllocError>
+    requires good { AreGood part.now }
+    ensures saying { IfOk result (λ saying. saying_of saying ≡ saying_of_rules (part_of part.now) default nr) }
     ensures good { IfOk result IsSayingOfCode }
 {
-    match plain_value(profile.default, &profile.rules, nr) {
-        Some(value) => Ok(plain(alloc, value)),
-        None => Ok(Saying {
-            arms: arms(alloc, profile.default, &profile.rules, nr)?,
-            otherwise: profile.default,
-        }),
+    if let Some(value) = plain_value(default, &part.rules, nr) {
+        return Ok(plain(alloc, value));
     }
+    let arms = arms(alloc, default, &part.rules, nr)?;
+    if arms.is_empty() {
+        return Ok(plain(alloc, default));
+    }
+    Ok(Saying {
+        narrow: is_narrow(part, nr),
+        arms,
+        otherwise: default,
+    })
+}
+
+// Whether the calls with this number have arguments of 32 bits.
+fn is_narrow(part: &Part, nr: u32) -> bool
+    ensures narrow { result ≡ is_narrow (part_of part.now) nr }
+{
+    part.narrow || X32 <= nr
 }
 
 /// The same of every call.
 pub fn plain(alloc: Global, value: u32) -> Saying
-    ensures saying { saying_of result ≡ record { arms = []; otherwise = value } }
+    ensures saying { saying_of result ≡ always value }
     ensures good { IsSayingOfCode result }
 {
     Saying {
+        narrow: false,
         arms: Vec::new(alloc),
         otherwise: value,
     }
@@ -90,13 +106,13 @@ fn push_arm(alloc: Global, arms: &mut Vec<Arm>, rule: &Rule) -> Result<(), Alloc
 }
 
 /// The entry of the rule at this place among those that count for a number.
-pub fn entry_at(profile: &Profile, nr: u32, place: usize) -> Option<usize>
-    ensures entry { result ≡ slice_get (entries_for (profile_of profile.now) nr) place }
+pub fn entry_at(default: u32, part: &Part, nr: u32, place: usize) -> Option<usize>
+    ensures entry { result ≡ slice_get (entries_for default (part_of part.now) nr) place }
 {
     let mut left = place;
-    let mut rules: &[Rule] = &profile.rules;
+    let mut rules: &[Rule] = &part.rules;
     while let Some((rule, rest)) = rules.split_first() {
-        if is_for(profile.default, nr, rule) {
+        if is_for(default, nr, rule) {
             if left == 0 {
                 return Some(rule.entry);
             }

@@ -1,15 +1,22 @@
 //! The instructions that the filter of a profile is made of.
 ghost use Rattle.std.specs.Prelude.{◌≡◌};
-ghost use Rattle.sk_profile.specs.Code.{load, with, branch, jump, answer};
+ghost use Rattle.sk_profile.specs.Code.{load, constant, with, branch, jump, answer};
 ghost use Rattle.sk_insn.specs.Operations.{code_of};
 
-use sk_insn::{Arithmetic, Comparison, Insn, Operand, Operation};
+use sk_insn::{Arithmetic, Comparison, Insn, Operand, Operation, Register};
 
 /// Loads the word at this place of the record.
 pub fn load(place: u32) -> Insn
     ensures insn { result ≡ load place }
 {
     plain(Operation::LoadRecord, place)
+}
+
+/// A becomes this number.
+pub fn constant(number: u32) -> Insn
+    ensures insn { result ≡ constant number }
+{
+    plain(Operation::LoadConstant(Register::Accumulator), number)
 }
 
 /// Keeps these bits of A.

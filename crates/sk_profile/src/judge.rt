@@ -2,22 +2,39 @@
 ghost use Rattle.std.specs.Prelude.{◌≡◌, nat_lt, IfSome, IfNone};
 ghost use Rattle.std.specs.List.{list_all, list_any};
 ghost use Rattle.sk_profile.specs.declared.condition.Condition.{Condition};
-ghost use Rattle.sk_profile.specs.Faults.{is_good, IsWrongAt};
-ghost use Rattle.sk_profile.specs.Rows.{AreGood};
+ghost use Rattle.sk_profile.specs.Faults.{is_good, IsWrongAt, IsWrongIn};
+ghost use Rattle.sk_profile.specs.Rows.{AreGood, AreAllGood};
 ghost use Rattle.sk_profile.specs.Sayings.{are_apart, is_on};
-ghost use Rattle.sk_profile.specs.Views.{profile_of, rule_of};
+ghost use Rattle.sk_profile.specs.Views.{part_of, profile_of, rule_of};
 
 use crate::condition::Condition;
-use crate::profile::{Profile, Rule};
-use crate::rows::NUMBERS;
+use crate::fault::RulePlace;
+use crate::profile::{Part, Profile, Rule};
 
-/// The place of the first rule that is for no call of x86-64, or has conditions that no call can be asked about.
-pub fn wrong_rule(profile: &Profile) -> Option<usize>
-    ensures none { IfNone result (AreGood profile.now) }
-    ensures place { IfSome result (IsWrongAt (profile_of profile.now).rules) }
+/// The first rule that has conditions which no call can be asked about.
+pub fn wrong_rule(profile: &Profile) -> Option<RulePlace>
+    ensures none { IfNone result (AreAllGood profile.now) }
+    ensures place { IfSome result (IsWrongAt (profile_of profile.now)) }
+{
+    let mut part = 0;
+    let mut left: &[Part] = &profile.parts;
+    while let Some((first, rest)) = left.split_first() {
+        if let Some(rule) = wrong_in(first) {
+            return Some(RulePlace { part, rule });
+        }
+        part += 1;
+        left = rest;
+    }
+    None
+}
+
+// The place of the first such rule of a part.
+fn wrong_in(part: &Part) -> Option<usize>
+    ensures none { IfNone result (AreGood part.now) }
+    ensures place { IfSome result (IsWrongIn (part_of part.now).rules) }
 {
     let mut place = 0;
-    let mut left: &[Rule] = &profile.rules;
+    let mut left: &[Rule] = &part.rules;
     while let Some((rule, rest)) = left.split_first() {
         if !is_good(rule) {
             return Some(place);
@@ -31,10 +48,7 @@ pub fn wrong_rule(profile: &Profile) -> Option<usize>
 fn is_good(rule: &Rule) -> bool
     ensures good { result ≡ is_good (rule_of rule.now) }
 {
-    rule.number < NUMBERS
-        && rule.conditions.len() <= 6
-        && are_apart(&rule.conditions)
-        && are_asked(&rule.conditions)
+    rule.conditions.len() <= 6 && are_apart(&rule.conditions) && are_asked(&rule.conditions)
 }
 
 // Whether each condition is on one of six arguments.

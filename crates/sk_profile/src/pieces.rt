@@ -1,11 +1,11 @@
 //! The instructions of what is said of the calls of one number. Arms that ask one argument for numbers with the same upper
 //! half, and have the same value, test that half once.
-ghost use Rattle.std.specs.Prelude.{◌≡◌, false, slice_get, Some, IfNone, ◌+◌, ◌<◌, ◌≤◌, ◌++◌, ◌∷◌, [], length, map, take, drop, OnOk, IfOk, IfSome, IsTrue, All};
+ghost use Rattle.std.specs.Prelude.{◌≡◌, true, false, slice_get, Some, IfNone, ◌+◌, ◌<◌, ◌≤◌, ◌++◌, ◌∷◌, [], length, map, take, drop, OnOk, IfOk, IfSome, IsTrue, All};
 ghost use Rattle.sk_insn.specs.declared.operation.Comparison.TheVariants.{Equal};
 ghost use Rattle.sk_profile.specs.declared.saying.Arm.{Arm};
-ghost use Rattle.sk_profile.specs.Sayings.{asks};
+ghost use Rattle.sk_profile.specs.Sayings.{asks, low};
 ghost use Rattle.sk_profile.specs.Alike.{asks_for_one, is_alike};
-ghost use Rattle.sk_profile.specs.Code.{branch, high, low, lows_code, passed_over};
+ghost use Rattle.sk_profile.specs.Code.{branch, high, half_code, lows_code, passed_over};
 ghost use Rattle.sk_profile.specs.CodeViews.{arm_of, saying_of, asked_for, Asks, PutsPiece, PutsPieces, PutsSaying, IsArmOfCode, IsSayingOfCode};
 
 use crate::condition::Test;
@@ -111,62 +111,82 @@ fn alike(first: Question, arms: &[Arm]) -> usize
     arms.len()
 }
 
-// An arm and those behind it that share what it asks.
-fn push_joined(code: &mut Vec<Insn>, first: Question, others: &[Arm]) -> Result<(), AllocError>
+// Asks for the upper half of a number, before so many more.
+fn push_half(code: &mut Vec<Insn>, narrow: bool, first: Question, more: u8) -> Result<(), AllocError>
     requires index { first.index < 6 }
+    requires few { more ≤ MOST_JOINED }
+    ensures code { OnOk result (code.new.items ≡ code.old.items ++ half_code narrow first.index first.number more) }
+{
+    if narrow {
+        return Ok(());
+    }
+    let high = (first.number / 0x1_0000_0000) as u32;
+    code.push(load(20 + 8 * u32::from(first.index)))?;
+    code.push(branch(Comparison::Equal, high, 0, 3 + more))?;
+    Ok(())
+}
+
+// An arm and those behind it that share what it asks.
+fn push_joined(code: &mut Vec<Insn>, narrow: bool, first: Question, others: &[Arm]) -> Result<(), AllocError>
+    requires index { first.index < 6 }
+    requires within { narrow ≡ true → high first.number ≡ 0 }
     requires few { length others.now ≤ MOST_JOINED }
     requires like { All (Asks first.index first.value (high first.number)) others.now }
-    ensures piece { OnOk result (PutsPiece code.old.items code.new.items
+    ensures piece { OnOk result (PutsPiece narrow code.old.items code.new.items
         (asks first.index first.value first.number ∷ map arm_of others.now)) }
 {
-    let high = (first.number / 0x1_0000_0000) as u32;
-    let load_high = load(20 + 8 * u32::from(first.index));
-    let is_high = branch(Comparison::Equal, high, 0, 3 + others.len() as u8);
-    let load_low = load(16 + 8 * u32::from(first.index));
-    code.extend_from_slice(&[load_high, is_high, load_low])?;
+    push_half(code, narrow, first, others.len() as u8)?;
+    code.push(load(16 + 8 * u32::from(first.index)))?;
     push_lows(code, first.number, others)?;
     code.push(answer(first.value))?;
     Ok(())
 }
 
 // An arm by itself.
-fn push_single(code: &mut Vec<Insn>, arm: &Arm) -> Result<(), AllocError>
+fn push_single(code: &mut Vec<Insn>, narrow: bool, arm: &Arm) -> Result<(), AllocError>
     requires arm { IsArmOfCode arm.now }
-    ensures piece { OnOk result (PutsPiece code.old.items code.new.items (arm_of arm.now ∷ [])) }
+    ensures piece { OnOk result (PutsPiece narrow code.old.items code.new.items (arm_of arm.now ∷ [])) }
 {
-    push_conditions(code, &arm.conditions, 1)?;
+    push_conditions(code, narrow, &arm.conditions, 1)?;
     code.push(answer(arm.value))?;
     Ok(())
 }
 
 // The first arm, with those of the rest that it is joined with: so many.
-fn push_piece(code: &mut Vec<Insn>, arm: &Arm, rest: &[Arm]) -> Result<usize, AllocError>
+fn push_piece(code: &mut Vec<Insn>, narrow: bool, arm: &Arm, rest: &[Arm]) -> Result<usize, AllocError>
     requires arm { IsArmOfCode arm.now }
     ensures inside { IfOk result (λ joined. joined ≤ length rest.now) }
-    ensures piece { IfOk result (λ joined. PutsPiece code.old.items code.new.items
+    ensures piece { IfOk result (λ joined. PutsPiece narrow code.old.items code.new.items
         (arm_of arm.now ∷ map arm_of (take joined rest.now))) }
 {
     let Some(first) = asked_by(arm) else {
-        push_single(code, arm)?;
+        push_single(code, narrow, arm)?;
         return Ok(0);
     };
     let joined = alike(first, rest);
-    if joined == 0 {
-        push_single(code, arm)?;
+    if joined == 0 || !is_within(narrow, first.number) {
+        push_single(code, narrow, arm)?;
         return Ok(0);
     }
-    push_joined(code, first, &rest[..joined])?;
+    push_joined(code, narrow, first, &rest[..joined])?;
     Ok(joined)
 }
 
+// Whether an argument can be this number.
+fn is_within(narrow: bool, number: u64) -> bool
+    ensures within { IsTrue result → narrow ≡ true → high number ≡ 0 }
+{
+    !narrow || number / 0x1_0000_0000 == 0
+}
+
 // What the arms answer. What they leave stands behind.
-fn push_arms(code: &mut Vec<Insn>, arms: &[Arm]) -> Result<(), AllocError>
+fn push_arms(code: &mut Vec<Insn>, narrow: bool, arms: &[Arm]) -> Result<(), AllocError>
     requires arms { All IsArmOfCode arms.now }
-    ensures pieces { OnOk result (PutsPieces code.old.items code.new.items (map arm_of arms.now)) }
+    ensures pieces { OnOk result (PutsPieces narrow code.old.items code.new.items (map arm_of arms.now)) }
 {
     let mut left = arms;
     while let Some((arm, rest)) = left.split_first() {
-        let joined = push_piece(code, arm, rest)?;
+        let joined = push_piece(code, narrow, arm, rest)?;
         left = &rest[joined..];
     }
     Ok(())
@@ -192,7 +212,7 @@ pub fn push_saying(code: &mut Vec<Insn>, saying: &Saying) -> Result<(), AllocErr
     requires arms { IsSayingOfCode saying.now }
     ensures code { OnOk result (PutsSaying code.old.items code.new.items (saying_of saying.now)) }
 {
-    push_arms(code, &saying.arms[..needed(saying)])?;
+    push_arms(code, saying.narrow, &saying.arms[..needed(saying)])?;
     code.push(answer(saying.otherwise))?;
     Ok(())
 }

@@ -11,6 +11,8 @@ pub struct Arm {
 /// What is said of the calls of one number: the first arm whose conditions hold, and otherwise this.
 #[derive(Debug, Drop)]
 pub struct Saying {
+    /// Whether an argument has 32 bits: the lower half of what a filter is shown.
+    pub narrow: bool,
     pub arms: Vec<Arm>,
     pub otherwise: u32,
 }

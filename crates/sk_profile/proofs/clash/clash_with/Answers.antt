@@ -19,5 +19,5 @@ loop-other-preserved c =
       left = drop_more c.loop-other.place c.args.others.now _ c.in-Some.other.now (sym c.loop-other.invariant.left ∙ c.in-Some.ensures.cases.0);
       place = omega (arith, length, whole);
       good = rest_good _ _ _ c.in-Some.ensures.cases.0 c.loop-other.invariant.good;
-      so_far = none_more (arm_of c.args.arm.now) _ _ c.args.others.now c.in-Some.other.now c.in-Some.ensures.cases.0 c.in_default-clashing.ensures.none c.loop-other.invariant.so_far;
+      so_far = none_more c.args.narrow (arm_of c.args.arm.now) _ _ c.args.others.now c.in-Some.other.now c.in-Some.ensures.cases.0 c.in_default-clashing.ensures.none c.loop-other.invariant.so_far;
     }

@@ -10,7 +10,7 @@ invariant-loop-other l = record {
   left : l.left ≡ drop l.place l.others;
   place : l.place + length l.left ≡ length l.others;
   good : All IsArmOfCode l.left;
-  so_far : All (λ (other : Arm). ClashesWithNone (arm_of l.arm) (arm_of other)) l.left → All (λ (other : Arm). ClashesWithNone (arm_of l.arm) (arm_of other)) l.others;
+  so_far : All (λ (other : Arm). ClashesWithNone l.narrow (arm_of l.arm) (arm_of other)) l.left → All (λ (other : Arm). ClashesWithNone l.narrow (arm_of l.arm) (arm_of other)) l.others;
 }
 
 abbrev pub decreases-loop-other : goal.decreases-loop-other

@@ -12,7 +12,7 @@ loop-arm-preserved c =
     let n = c.in_ok-joined.joined in
     let steps = c.in-Some.ensures.cases.0 in
     let good : All IsArmOfCode (drop n rest) = All-drop IsArmOfCode n rest (All-tail IsArmOfCode _ _ (subst (All IsArmOfCode) steps c.loop-arm.invariant.good)) in
-    let puts : PutsSome c.args.code.now.items c.push_piece.new.code.items (map arm_of c.args.arms.now) (map arm_of (drop n rest)) =
-    one_piece_more _ _ _ _ _ _ (arm_of c.in-Some.arm.now ∷ map arm_of (take n rest)) c.loop-arm.invariant.puts c.in_ok-joined.ensures.piece (first_arms _ c.in-Some.arm.now rest n steps) in
-    subst (λ (left : List ArmOfCode). record { good : All IsArmOfCode left; puts : PutsSome c.args.code.now.items c.push_piece.new.code.items (map arm_of c.args.arms.now) (map arm_of left) })
+    let puts : PutsSome c.args.narrow c.args.code.now.items c.push_piece.new.code.items (map arm_of c.args.arms.now) (map arm_of (drop n rest)) =
+    one_piece_more c.args.narrow _ _ _ _ _ _ (arm_of c.in-Some.arm.now ∷ map arm_of (take n rest)) c.loop-arm.invariant.puts c.in_ok-joined.ensures.piece (first_arms _ c.in-Some.arm.now rest n steps) in
+    subst (λ (left : List ArmOfCode). record { good : All IsArmOfCode left; puts : PutsSome c.args.narrow c.args.code.now.items c.push_piece.new.code.items (map arm_of c.args.arms.now) (map arm_of left) })
     (sym (rest_of n rest)) (record { good = good; puts = puts })

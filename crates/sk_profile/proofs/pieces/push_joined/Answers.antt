@@ -12,19 +12,16 @@ returns c =
     let choice : Choice = record { index = first.index; value = first.value; first = first.number; others = map asked_for others } in record {
       piece = record {
         piece = Joined choice;
-        code = joined_code c.args.code.now.items _ choice (length others) (length-map others asked_for)
+        code = joined_code c.args.narrow c.args.code.now.items _ choice (length others) (length-map others asked_for)
             (grind (
               arith,
               c.in_ok-push.ensures.items,
               c.in_ok-push_lows.ensures.code,
-              c.in_ok-extend_from_slice.ensures.items,
-              c.in_ok-extend_from_slice.was,
-              c.load-load_high.ensures.insn,
-              c.branch-is_high.ensures.insn,
-              c.load-load_low.ensures.insn,
+              c.in_ok-push_half.ensures.code,
+              c.load.ensures.insn,
               c.answer.ensures.insn,
             ));
         has = joined_arms first.index first.value _ first.number others c.requires.like;
-        good = (c.requires.index, joined_halves first.index first.value _ others c.requires.like);
+        good = record { inside = c.requires.index; halves = joined_halves first.index first.value _ others c.requires.like; within = c.requires.within };
       };
     }
