@@ -1,13 +1,9 @@
 -- Who the children of a process go to.
 use Rattle.std.proofs.Common.{◌≡◌, ◌≢◌, ◌∙◌, ◌+◌, ◌-◌, ◌<◌, ◌≤◌, ◌==◌, ℕ, zero, suc, arith, ap, sym, refl, Bool, true, false, cond, not, ◌&&◌, [], ◌∷◌, ◌⊎◌, inl, inr, IsTrue, IsFalse, Option, None, Some}
 use Rattle.std.specs.Prelude.{find}
-use Rattle.std.specs.Option.{is_some, unwrap_or}
-use Rattle.std.proofs.lemmas.Bool.{false≢true, and_parts, not-true, eqb-false, eqb-true}
-use Rattle.sk_world.specs.declared.process.TheConstants.{INIT, LAST_PID, PROCESSES}
-use Rattle.sk_world.specs.declared.process.Proc.{Proc}
-use Rattle.sk_world.specs.World.{World, at, is_zombie, is_alive, is_halted, parent_of}
-use Rattle.sk_world.specs.Rules.{IsWorld, is_init}
-use Rattle.sk_world.specs.Subreapers.{is_subreaper, line_up, ancestors, takes_children, new_parent}
+use Rattle.sk_world.specs.Common.{is_some, unwrap_or, INIT, LAST_PID, PROCESSES, Proc, World, at, is_zombie, is_alive, is_halted, parent_of,
+    IsWorld, is_init, is_subreaper, line_up, ancestors, takes_children, new_parent}
+use Rattle.sk_world.proofs.Common.{false≢true, and_parts, not-true, eqb-false, eqb-true}
 use Rattle.sk_world.proofs.KeptTold.{found, no_parent}
 
 -- what a subreaper is found as, and process 1 where none is

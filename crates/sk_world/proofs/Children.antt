@@ -1,15 +1,8 @@
 -- What a fork answers and leaves, by whether there is room.
 use Rattle.std.proofs.Common.{◌≡◌, ◌∙◌, ◌<◌, ◌≤◌, ℕ, ap, sym, cond, ◌&&◌, nat_lt, nat_le, IsTrue, Some, Ok, Err}
-use Rattle.std.specs.Option.{is_some, option_map_or}
-use Rattle.std.proofs.lemmas.Bool.{lt-ltb, le-ltb, le-leb, and_parts, and_from}
-use Rattle.sk_world.specs.declared.errno.Errno.TheVariants.{Eagain}
-use Rattle.sk_world.specs.declared.process.TheConstants.{LAST_PID, PROCESSES}
-use Rattle.sk_world.specs.declared.process.Proc.{Proc}
-use Rattle.sk_world.specs.Processes.{count}
-use Rattle.sk_world.specs.World.{World, at, inserted}
-use Rattle.sk_world.specs.Rules.{IsWorld, is_within, has_links_within}
-use Rattle.sk_world.specs.Numbers.{fresh_of}
-use Rattle.sk_world.specs.Forking.{fork_answer, forked, has_room, child_of}
+use Rattle.sk_world.specs.Common.{is_some, option_map_or, Eagain, LAST_PID, PROCESSES, Proc, count, World, at, inserted, IsWorld, is_within,
+    has_links_within, fresh_of, fork_answer, forked, has_room, child_of}
+use Rattle.sk_world.proofs.Common.{lt-ltb, le-ltb, le-leb, and_parts, and_from}
 
 -- where there is no room
 pub full_answer : (w : World) (n : ℕ) → n ≡ count w.procs → PROCESSES ≤ n → Err Eagain ≡ fork_answer w

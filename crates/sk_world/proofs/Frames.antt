@@ -2,9 +2,8 @@
 use Rattle.std.proofs.Common.{[], ◌≡◌, ◌≢◌, ◌∙◌, ◌+◌, ◌<◌, ◌≤◌, ◌==◌, ℕ, zero, suc, arith, ap, sym, refl, true, not, List, ◌∷◌, length, get_or-set_same, get_or-set_other}
 use Rattle.std.specs.Prelude.{slice_set}
 use Rattle.sk_world.specs.Sets as set
-use Rattle.std.proofs.lemmas.Bool.Decides.{nat_tests}
-use Rattle.sk_world.specs.SignalSet.{Signals, blockable}
-use Rattle.sk_world.specs.SignalState.{AllBlockable}
+use Rattle.sk_world.proofs.Common.{nat_tests}
+use Rattle.sk_world.specs.Common.{Signals, blockable, AllBlockable}
 use Rattle.sk_world.specs.views.StateView.{frames_of}
 use Rattle.sk_world.proofs.SetLaws.{sets}
 

@@ -1,16 +1,9 @@
 -- The next free number is free, and a pid.
 use Rattle.std.proofs.Common.{◌≡◌, ◌≢◌, ◌∙◌, ◌+◌, ◌-◌, ◌*◌, ◌<◌, ◌≤◌, ◌==◌, ℕ, zero, suc, arith, ap, sym, refl, Bool, true, false, cond, ◌||◌, List, [], ◌∷◌, length, ⊎_elim, None, Some}
 use Rattle.std.specs.Prelude.{nat_le}
-use Rattle.std.specs.List.{list_any}
-use Rattle.std.specs.Ordering.{nat_cmp}
-use Rattle.std.specs.FinMap.Entries.{find}
-use Rattle.std.proofs.lemmas.Bool.{false≢true, eqb-true, cases_lt}
-use Rattle.std.proofs.lemmas.Bool.Decides.{nat_tests}
-use Rattle.sk_world.specs.declared.process.TheConstants.{LAST_PID, PROCESSES}
-use Rattle.sk_world.specs.declared.process.Proc.{Proc}
-use Rattle.sk_world.specs.Processes.{count}
-use Rattle.sk_world.specs.World.{World, at}
-use Rattle.sk_world.specs.Numbers.{has_number, is_used, next_number, distance_from, IsNextFree, free_from, fresh_of}
+use Rattle.sk_world.specs.Common.{list_any, nat_cmp, find, LAST_PID, PROCESSES, Proc, count, World, at, has_number, is_used, next_number,
+    distance_from, IsNextFree, free_from, fresh_of}
+use Rattle.sk_world.proofs.Common.{false≢true, eqb-true, cases_lt, nat_tests}
 use Rattle.sk_world.proofs.Maps.{same_number}
 
 -- ---- a short list leaves a number out

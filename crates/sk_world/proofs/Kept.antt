@@ -1,19 +1,10 @@
 -- Each change of the world keeps its rules.
 use Rattle.std.proofs.Common.{◌≡◌, ◌≢◌, ◌≤◌, ◌==◌, ℕ, sym, refl, Bool, cond, ◌&&◌, IsTrue, Option, None, Some}
 use Rattle.std.proofs.Common.{lit≤}
-use Rattle.std.specs.Option.{is_some}
-use Rattle.std.proofs.lemmas.Bool.{false≢true, cond_both}
-use Rattle.sk_world.specs.declared.signals.TheConstants.{SIGCHLD, SIGCONT}
-use Rattle.sk_world.specs.Generation.{generated, forced as sigsys_forced}
-use Rattle.sk_world.specs.declared.process.TheConstants.{INIT, LAST_PID}
-use Rattle.sk_world.specs.declared.process.Life.TheVariants.{Running}
-use Rattle.sk_world.specs.declared.process.Note.TheVariants.{Continued}
-use Rattle.sk_world.specs.declared.process.Body.{Body}
-use Rattle.sk_world.specs.declared.process.Proc.{Proc}
-use Rattle.sk_world.specs.Processes.{none}
-use Rattle.sk_world.specs.World.{World, at, has_ended, has_stopped, is_stopped, is_alive, parent_of, first_process, opening}
-use Rattle.sk_world.specs.Rules.{IsWorld, has_links_within}
-use Rattle.sk_world.specs.Sending.{continued, signalled, generated_at}
+use Rattle.sk_world.specs.Common.{is_some, SIGCHLD, SIGCONT, generated, sigsys_forced, INIT, LAST_PID, Running, Continued, Body, Proc, none,
+    World, at, has_ended, has_stopped, is_stopped, is_alive, parent_of, first_process, opening, IsWorld, has_links_within, continued,
+    signalled, generated_at}
+use Rattle.sk_world.proofs.Common.{false≢true, cond_both}
 use Rattle.sk_world.specs.laws.WorldLaws.{OpeningHasRules, SignalKeepsRules, ForceKeepsRules}
 use Rattle.sk_world.proofs.Stored.{everywhere, kept_changed}
 

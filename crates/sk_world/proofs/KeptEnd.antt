@@ -1,18 +1,10 @@
 -- The end of a process keeps the rules of the world.
 use Rattle.std.proofs.Common.{◌≡◌, ◌≢◌, ◌∙◌, ◌+◌, ◌≤◌, ◌==◌, ℕ, arith, ap, sym, refl, subst, Bool, true, cond, not, ◌&&◌, List, [], ◌∷◌, length, ◌⊎◌, inl, inr, IsTrue, Option, None, Some}
-use Rattle.std.specs.Option.{is_some, option_map, option_and_then}
-use Rattle.std.proofs.lemmas.Bool.{eqb-true, eqb-false, false≢true, and_parts, and_from, not-true, not-false, ne_eqb, cond_both, cond-false}
-use Rattle.sk_world.specs.declared.signals.TheConstants.{SIGCHLD, SIGCONT}
-use Rattle.sk_world.specs.declared.process.TheConstants.{INIT, LAST_PID}
-use Rattle.sk_world.specs.declared.process.Life.TheVariants.{Zombie}
-use Rattle.sk_world.specs.declared.process.Body.{Body}
-use Rattle.sk_world.specs.declared.process.Proc.{Proc}
-use Rattle.sk_world.specs.Processes.{Processes, get, count, store, each_of}
-use Rattle.sk_world.specs.World.{World, at, has_ended, is_stopped, is_zombie, is_alive, parent_of, stored, body_changed, changed}
-use Rattle.sk_world.specs.Rules.{IsWorld, is_init, has_links_within}
-use Rattle.sk_world.specs.Sending.{generated_at, sent}
-use Rattle.sk_world.specs.Subreapers.{new_parent}
-use Rattle.sk_world.specs.Ending.{ignores_children, handed_on, with_children_handed_on, has_zombie_child, reparented, zombie, left_to_parent, ended}
+use Rattle.sk_world.specs.Common.{is_some, option_map, option_and_then, SIGCHLD, SIGCONT, INIT, LAST_PID, Zombie, Body, Proc, Processes,
+    get, count, store, each_of, World, at, has_ended, is_stopped, is_zombie, is_alive, parent_of, stored, body_changed, changed, IsWorld,
+    is_init, has_links_within, generated_at, sent, new_parent, ignores_children, handed_on, with_children_handed_on, has_zombie_child,
+    reparented, zombie, left_to_parent, ended}
+use Rattle.sk_world.proofs.Common.{eqb-true, eqb-false, false≢true, and_parts, and_from, not-true, not-false, ne_eqb, cond_both, cond-false}
 use Rattle.sk_world.specs.laws.WorldLaws.{ReparentKeepsRules, EndKeepsRules}
 use Rattle.sk_world.proofs.Maps.{get_each, count_put, count_gone}
 use Rattle.sk_world.proofs.Stored.{Fits, everywhere, at_here, nobody_fits, kept_stored, kept_gone, kept_alone, fewer}

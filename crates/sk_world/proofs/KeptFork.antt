@@ -1,14 +1,8 @@
 -- A fork keeps the rules of the world.
 use Rattle.std.proofs.Common.{◌≡◌, ◌≢◌, ◌∙◌, ◌+◌, ◌≤◌, ◌<◌, ℕ, arith, ap, sym, refl, cond, IsTrue, Option, None, Some}
-use Rattle.std.specs.Option.{is_some, option_map_or}
-use Rattle.std.proofs.lemmas.Bool.{false≢true, cond_both, ltb-true}
-use Rattle.sk_world.specs.declared.process.TheConstants.{INIT, LAST_PID, PROCESSES}
-use Rattle.sk_world.specs.declared.process.Proc.{Proc}
-use Rattle.sk_world.specs.Processes.{count}
-use Rattle.sk_world.specs.World.{World, at, is_zombie, is_alive, parent_of, stored, inserted}
-use Rattle.sk_world.specs.Rules.{IsWorld, is_init, is_within, has_links_within}
-use Rattle.sk_world.specs.Numbers.{fresh_of}
-use Rattle.sk_world.specs.Forking.{has_room, child_of}
+use Rattle.sk_world.specs.Common.{is_some, option_map_or, INIT, LAST_PID, PROCESSES, Proc, count, World, at, is_zombie, is_alive, parent_of,
+    stored, inserted, IsWorld, is_init, is_within, has_links_within, fresh_of, has_room, child_of}
+use Rattle.sk_world.proofs.Common.{false≢true, cond_both, ltb-true}
 use Rattle.sk_world.specs.laws.WorldLaws.{ForkKeepsRules}
 use Rattle.sk_world.proofs.Maps.{count_put}
 use Rattle.sk_world.proofs.Fresh.{fresh_in_range, fresh_absent}

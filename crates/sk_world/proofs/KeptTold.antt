@@ -1,16 +1,9 @@
 -- What wait4(2) tells keeps the rules of the world.
 use Rattle.std.proofs.Common.{◌≡◌, ◌≢◌, ◌∙◌, ◌==◌, ℕ, arith, ap, sym, refl, subst, Bool, true, false, cond, IsTrue, List, [], ◌∷◌, Option, None, Some}
-use Rattle.std.specs.Option.{is_some, option_map_or, unwrap_or}
+use Rattle.sk_world.specs.Common.{is_some, option_map_or, unwrap_or, INIT, Proc, Request, Told, NoMatch, NotReady, pids, World, at,
+    is_zombie, parent_of, stored, changed, IsWorld, is_init, is_asked_for, is_match, is_ready, has_match, status_of, without_note, told}
 use Rattle.std.specs.List.{find}
-use Rattle.std.proofs.lemmas.Bool.{false≢true, eqb-true, and_parts, cond_both}
-use Rattle.sk_world.specs.declared.process.TheConstants.{INIT}
-use Rattle.sk_world.specs.declared.process.Proc.{Proc}
-use Rattle.sk_world.specs.declared.request.Request.{Request}
-use Rattle.sk_world.specs.declared.request.Poll.TheVariants.{Told, NoMatch, NotReady}
-use Rattle.sk_world.specs.Processes.{pids}
-use Rattle.sk_world.specs.World.{World, at, is_zombie, parent_of, stored, changed}
-use Rattle.sk_world.specs.Rules.{IsWorld, is_init}
-use Rattle.sk_world.specs.Waits.{is_asked_for, is_match, is_ready, has_match, status_of, without_note, told}
+use Rattle.sk_world.proofs.Common.{false≢true, eqb-true, and_parts, cond_both}
 use Rattle.sk_world.specs.laws.WorldLaws.{ToldKeepsRules}
 use Rattle.sk_world.proofs.Stored.{kept_changed, kept_removed}
 use Rattle.sk_world.proofs.StatusChanges.{by_first, ready_first}

@@ -25,3 +25,4 @@ pub mod Summing
 pub mod Marking
 pub mod Rows
 pub mod Same
+pub mod Common

@@ -1,14 +1,9 @@
 -- What the words on the map of processes give, pid by pid.
 use Rattle.std.proofs.Common.{◌≡◌, ◌∙◌, ◌+◌, ◌-◌, ◌==◌, ℕ, arith, ap, sym, refl, Bool, true, false, cond, not, List, [], ◌∷◌, length, Option, None, Some}
-use Rattle.std.specs.Option.{is_some, option_and_then}
-use Rattle.std.specs.Ordering.{nat_cmp, eq_by_cmp}
-use Rattle.std.specs.Cmp.{nat_cmp_total}
+use Rattle.sk_world.specs.Common.{is_some, option_and_then, nat_cmp, eq_by_cmp, nat_cmp_total, find, where_key, find-put, find-where_key,
+    length-put, length_without, same_entries, Proc, Processes, get, count, store, each_of, each, same_processes}
 use Rattle.std.specs.FinMap.{nat_cmp-IsAntisymmetric}
-use Rattle.std.specs.FinMap.Entries.{find, where_key, find-put, find-where_key, length-put, length_without, same_entries}
-use Rattle.std.proofs.lemmas.Bool.Decides.{nat_tests}
-use Rattle.sk_world.specs.declared.process.Proc.{Proc}
-use Rattle.sk_world.specs.Processes.{Processes, get, count, store, each_of, each}
-use Rattle.sk_world.specs.views.WorldCode.{same_processes}
+use Rattle.sk_world.proofs.Common.{nat_tests}
 
 pub same_number : (a b : ℕ) → eq_by_cmp nat_cmp a b ≡ (a == b)
 same_number a b = grind (arith, nat_tests)

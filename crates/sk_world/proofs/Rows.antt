@@ -1,12 +1,10 @@
 -- Rising rows of pairs: where a pair stands, and what a row has after one was put in or taken out.
 use Rattle.std.proofs.Common.{◌≡◌, ◌≢◌, ◌∙◌, ◌+◌, ◌-◌, ◌<◌, ◌≤◌, ◌==◌, ◌||◌, ◌&&◌, ℕ, zero, suc, arith, ap, sym, subst, refl, Bool, true, false, cond, not, List, [], ◌∷◌, length, get_or, take, drop, filter, Option, None, Some, inl, inr}
 use Rattle.std.specs.Prelude.{nat_lt, nat_le}
-use Rattle.std.specs.List.{insert, remove, slice_range}
+use Rattle.sk_world.specs.Common.{slice_range, IsLeastAbove, below, below_all, is_rising, has_pair}
+use Rattle.std.specs.List.{insert, remove}
 use Rattle.std.specs.List.Sorted.{IsPartitionPoint, IsPartitionedBy}
-use Rattle.std.proofs.lemmas.Bool.{and_parts, and_from, cases_lt, eq-eqb, ne_eqb}
-use Rattle.std.proofs.lemmas.Bool.Decides.{nat_tests}
-use Rattle.sk_world.specs.NumberSets.{IsLeastAbove}
-use Rattle.sk_world.specs.Pairs.{below, below_all, is_rising, has_pair}
+use Rattle.sk_world.proofs.Common.{and_parts, and_from, cases_lt, eq-eqb, ne_eqb, nat_tests}
 
 abbrev pub Pair : Type 0
 Pair = ℕ × ℕ
@@ -152,9 +150,6 @@ rising-remove (y ∷ ys) zero h = (and_parts (below_all y ys) (is_rising ys) h).
 rising-remove (y ∷ ys) (suc at) h =
     let parts = and_parts (below_all y ys) (is_rising ys) h in
     and_from (below_all y (remove ys at)) (is_rising (remove ys at)) (below_all-remove y ys at parts.0) (rising-remove ys at parts.1)
-
-not_below_itself : (x : Pair) (y : Pair) → ((y.0 == x.0) && (y.1 == x.1)) ≡ true → below y (x.0, x.1) ≡ true → true ≡ false
-not_below_itself x y e h = grind (arith, nat_tests, e, h)
 
 -- the pair that is sought stands at the place, if the row has it
 first_is : (x y : Pair) (ys : List Pair) → below y x ≡ false → below_all y ys ≡ true → (((y.0 == x.0) && (y.1 == x.1)) || has_pair ys x.0 x.1) ≡ true → ((y.0 == x.0) && (y.1 == x.1)) ≡ true

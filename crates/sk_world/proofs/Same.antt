@@ -1,8 +1,7 @@
 -- Rising rows with the same pairs are the same, and what a row has of one first number.
 use Rattle.std.proofs.Common.{◌≡◌, ◌∙◌, ◌==◌, ◌||◌, ◌&&◌, ℕ, arith, ap, sym, subst, refl, Bool, true, false, cond, List, [], ◌∷◌, filter}
-use Rattle.std.proofs.lemmas.Bool.{and_parts, and_from, eqb-true}
-use Rattle.std.proofs.lemmas.Bool.Decides.{nat_tests}
-use Rattle.sk_world.specs.Pairs.{below, below_all, is_rising, has_pair}
+use Rattle.sk_world.proofs.Common.{and_parts, and_from, eqb-true, nat_tests}
+use Rattle.sk_world.specs.Common.{below, below_all, is_rising, has_pair}
 use Rattle.sk_world.proofs.Rows.{Pair, below_member, absent_later}
 
 -- ---- rising rows with the same pairs are the same

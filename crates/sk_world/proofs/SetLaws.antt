@@ -1,12 +1,10 @@
 -- The laws of sets of signals, by membership.
 use Rattle.std.proofs.Common.{◌≡◌, ◌∙◌, ◌≤◌, ◌<◌, ◌==◌, ◌||◌, ◌&&◌, ℕ, zero, suc, arith, ap, refl, Bool, true, false, cond, not, [], ◌∷◌, inl, inr, Some, None}
 use Rattle.std.specs.List.{find}
-use Rattle.std.specs.Option.{option_or}
-use Rattle.std.proofs.lemmas.List.Folds.{find-append}
+use Rattle.sk_world.specs.Common.{option_or, same_set, contains-empty, contains-insert, contains-remove, contains-union,
+    contains-difference, Signals, IsSignal, IsLeast, signals_to, lowest}
+use Rattle.sk_world.proofs.Common.{find-append, nat_tests, leb_tells}
 use Rattle.sk_world.specs.Sets as set
-use Rattle.sk_world.specs.views.Members.{same_set, contains-empty, contains-insert, contains-remove, contains-union, contains-difference}
-use Rattle.std.proofs.lemmas.Bool.Decides.{nat_tests, leb_tells}
-use Rattle.sk_world.specs.SignalSet.{Signals, IsSignal, IsLeast, signals_to, lowest}
 
 -- ---- membership
 pub none_in_empty : (q : ℕ) → set.contains set.empty q ≡ false
@@ -38,39 +36,13 @@ insert_twice s n = same_members _ _ (λ q. grind (arith, nat_tests, sets))
 pub remove_twice : (s : Signals) (n : ℕ) → set.remove (set.remove s n) n ≡ set.remove s n
 remove_twice s n = same_members _ _ (λ q. grind (arith, nat_tests, sets))
 
-pub remove-insert : (s : Signals) (n : ℕ) → set.remove (set.insert s n) n ≡ set.remove s n
-remove-insert s n = same_members _ _ (λ q. grind (arith, nat_tests, sets))
-
-pub insert-remove : (s : Signals) (n : ℕ) → set.insert (set.remove s n) n ≡ set.insert s n
-insert-remove s n = same_members _ _ (λ q. grind (arith, nat_tests, sets))
-
-pub insert_swap : (s : Signals) (n m : ℕ) → set.insert (set.insert s n) m ≡ set.insert (set.insert s m) n
-insert_swap s n m = same_members _ _ (λ q. grind (arith, nat_tests, sets))
-
-pub remove_swap : (s : Signals) (n m : ℕ) → set.remove (set.remove s n) m ≡ set.remove (set.remove s m) n
-remove_swap s n m = same_members _ _ (λ q. grind (arith, nat_tests, sets))
-
-pub insert_member : (s : Signals) (n : ℕ) → set.contains s n ≡ true → set.insert s n ≡ s
-insert_member s n here = same_members _ _ (λ q. grind (arith, nat_tests, sets))
-
-pub remove_stranger : (s : Signals) (n : ℕ) → set.contains s n ≡ false → set.remove s n ≡ s
-remove_stranger s n absent = same_members _ _ (λ q. grind (arith, nat_tests, sets))
-
 -- ---- two sets
-pub union_swap : (s t : Signals) → set.union s t ≡ set.union t s
-union_swap s t = same_members _ _ (λ q. grind (arith, nat_tests, sets))
-
-pub union_same : (s : Signals) → set.union s s ≡ s
-union_same s = same_members _ _ (λ q. grind (arith, nat_tests, sets))
 
 pub union-one : (s : Signals) (n : ℕ) → set.union s (set.insert set.empty n) ≡ set.insert s n
 union-one s n = same_members _ _ (λ q. grind (arith, nat_tests, sets))
 
 pub difference-one : (s : Signals) (n : ℕ) → set.difference s (set.insert set.empty n) ≡ set.remove s n
 difference-one s n = same_members _ _ (λ q. grind (arith, nat_tests, sets))
-
-pub difference-union : (s t u : Signals) → set.difference s (set.union t u) ≡ set.difference (set.difference s t) u
-difference-union s t u = same_members _ _ (λ q. grind (arith, nat_tests, sets))
 
 -- ---- the lowest member
 none_found : (p : ℕ → Bool) (k : ℕ) → ((q : ℕ) → 1 ≤ q → q ≤ k → p q ≡ false) → find p (signals_to k) ≡ None

@@ -2,22 +2,12 @@
 use Rattle.std.proofs.Common.{◌≡◌, ◌∙◌, ◌≤◌, ◌==◌, ◌&&◌, ap, sym, refl, ℕ, zero, suc, arith, Bool, true, false, cond, not, [], ◌∷◌, Option, Some, None}
 use Rattle.std.specs.Prelude.{IsTrue, IsFalse}
 use Rattle.std.specs.List.{find}
-use Rattle.std.specs.Option.{option_or}
+use Rattle.sk_world.specs.Common.{option_or, SIGKILL, SIGCHLD, SIGCONT, Signals, IsSignal, signals_to, lowest, is_stop, is_handler,
+    is_ignored, SignalState, disposition_of, without_stops, generated, ready, deliverable, pushed, popped}
 use Rattle.sk_world.specs.Sets as set
-use Rattle.std.proofs.lemmas.List.Folds.{find-append}
-use Rattle.std.proofs.lemmas.Bool.Decides.{nat_tests}
-use Rattle.sk_world.specs.declared.signals.TheConstants.{SIGKILL, SIGCHLD, SIGCONT}
-use Rattle.sk_world.specs.SignalSet.{Signals, IsSignal, signals_to, lowest}
-use Rattle.sk_world.specs.Actions.{is_stop, is_handler, is_ignored}
-use Rattle.sk_world.specs.SignalState.{SignalState, disposition_of}
-use Rattle.sk_world.specs.Generation.{without_stops, generated}
-use Rattle.sk_world.specs.Delivery.{ready, deliverable, pushed, popped}
+use Rattle.sk_world.proofs.Common.{find-append, nat_tests}
 use Rattle.sk_world.proofs.SetLaws.{sets, same_members, insert_twice, remove_twice}
 use Rattle.sk_world.proofs.SignalsReady.{ready_is}
-
--- a handler's return restores what its start put aside
-pub popped-pushed : (n : ℕ) (mask : Signals) (s : SignalState) → popped (pushed n mask s) ≡ s
-popped-pushed n mask s = refl
 
 -- ---- a signal that is pending already stays once
 left : Bool → Bool → Signals → Signals
@@ -102,15 +92,3 @@ found p (suc k) t e =
     last before (Some u) f b g e = let h = before (f ∙ e) in (h.0, omega arith, h.2)
     last before None f true g e = let same : suc k ≡ t = cc in (omega arith, omega arith, ap p (sym same) ∙ g)
     last before None f false g e = cc
-
-lowest_member : (s : Signals) (n : ℕ) → lowest s ≡ Some n → IsSignal n × IsTrue (set.contains s n)
-unfolding lowest
-lowest_member s n e = let h = found (λ q. set.contains s q) 31 n e in ((h.0, h.1), h.2)
-
--- what is delivered is a signal that is pending and not blocked
-pub deliverable_is : (s : SignalState) (n : ℕ) → deliverable s ≡ Some n → IsSignal n × IsTrue (set.contains s.pending n) × IsFalse (set.contains s.mask n)
-deliverable_is s n e = let h = by_kill (set.contains (ready s) SIGKILL) refl e in let r = ready_is s.pending s.mask n h.1 in (h.0, r.0, r.1)
-  where
-    by_kill : (b : Bool) → set.contains (ready s) SIGKILL ≡ b → cond b (Some SIGKILL) (lowest (ready s)) ≡ Some n → IsSignal n × IsTrue (set.contains (ready s) n)
-    by_kill true is e = let same : SIGKILL ≡ n = cc in ((omega arith, omega arith), ap (set.contains (ready s)) (sym same) ∙ is)
-    by_kill false is e = lowest_member (ready s) n e

@@ -1,13 +1,7 @@
 -- The first of the status changes is what the first child that is ready has to tell.
 use Rattle.std.proofs.Common.{◌≡◌, ℕ, ap, sym, refl, Bool, true, false, cond, ◌&&◌, List, [], ◌∷◌, Option, None, Some}
-use Rattle.std.specs.Option.{is_some, option_map_or, unwrap_or}
-use Rattle.std.specs.List.{find as first}
-use Rattle.sk_world.specs.declared.request.Request.{Request}
-use Rattle.sk_world.specs.declared.request.Poll.{Poll}
-use Rattle.sk_world.specs.declared.request.Poll.TheVariants.{Told, NoMatch, NotReady}
-use Rattle.sk_world.specs.Processes.{pids}
-use Rattle.sk_world.specs.World.{World, at}
-use Rattle.sk_world.specs.Waits.{is_match, is_ready, has_match, with_status, status_changes, first_told, ready_of, status_of}
+use Rattle.sk_world.specs.Common.{is_some, option_map_or, unwrap_or, first, Request, Poll, Told, NoMatch, NotReady, pids, World, at,
+    is_match, is_ready, has_match, with_status, status_changes, first_told, ready_of, status_of}
 
 -- what is told of the first child that is ready
 unfoldable pub by_first : World → ℕ → Request → List ℕ → Poll → Poll

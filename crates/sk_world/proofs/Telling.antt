@@ -1,19 +1,11 @@
 -- Whom wait4(2) tells of.
 use Rattle.std.proofs.Common.{◌≡◌, ◌≢◌, ◌∙◌, ◌<◌, ◌≤◌, ◌==◌, ℕ, arith, ap, sym, refl, subst, Bool, true, false, cond, ◌&&◌, ◌||◌, IsTrue, IsFalse, List, [], ◌∷◌, map, Option, None, Some}
 use Rattle.std.specs.Prelude.{T, nat_lt}
-use Rattle.std.specs.declared.cmp.Ordering.TheVariants.{Less, Equal, Greater}
-use Rattle.std.specs.Option.{is_some, option_map_or, unwrap_or}
-use Rattle.std.specs.List.{find as first, list_any}
-use Rattle.std.specs.Ordering.{nat_cmp, is_lt}
-use Rattle.std.specs.FinMap.Entries.{find, below_all, is_sorted}
-use Rattle.std.proofs.lemmas.Bool.{false≢true, eqb-true, ltb-true, and_parts, or_parts, false_from_ne_true}
-use Rattle.sk_world.specs.declared.process.Proc.{Proc}
-use Rattle.sk_world.specs.declared.request.Request.{Request}
-use Rattle.sk_world.specs.declared.request.Poll.{Poll}
-use Rattle.sk_world.specs.declared.request.Poll.TheVariants.{Told, NoMatch, NotReady}
-use Rattle.sk_world.specs.Processes.{pids}
-use Rattle.sk_world.specs.World.{World, at, is_zombie, stored, changed}
-use Rattle.sk_world.specs.Waits.{is_match, is_ready, has_match, ready_of, status_of, without_note, told}
+use Rattle.sk_world.specs.Common.{Less, Equal, Greater, is_some, option_map_or, unwrap_or, first, list_any, nat_cmp, is_lt, find, is_sorted,
+    Proc, Request, Poll, Told, NoMatch, NotReady, pids, World, at, is_zombie, stored, changed, is_match, is_ready, has_match, ready_of,
+    status_of, without_note, told}
+use Rattle.std.specs.FinMap.Entries.{below_all}
+use Rattle.sk_world.proofs.Common.{false≢true, eqb-true, ltb-true, and_parts, or_parts, false_from_ne_true}
 use Rattle.sk_world.proofs.Maps.{same_number}
 use Rattle.sk_world.proofs.Stored.{at_here}
 use Rattle.sk_world.proofs.StatusChanges.{by_first, ready_first}

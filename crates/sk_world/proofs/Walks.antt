@@ -2,13 +2,9 @@
 -- what is found.
 use Rattle.std.proofs.Common.{◌≡◌, ◌∙◌, ◌<◌, ◌≤◌, ◌==◌, ⊎_elim, ℕ, zero, suc, arith, ap, sym, refl, subst, Bool, true, false, cond, ◌&&◌, ◌||◌, IsTrue, List, [], ◌∷◌, map, filter, None, Some}
 use Rattle.std.specs.Prelude.{T, nat_lt}
-use Rattle.std.specs.declared.cmp.Ordering.TheVariants.{Less, Equal, Greater}
-use Rattle.std.specs.Option.{is_some}
-use Rattle.std.specs.List.{find as first, list_any}
-use Rattle.std.specs.Ordering.{nat_cmp, is_lt}
-use Rattle.std.specs.Cmp.{unsigned_tied}
-use Rattle.std.specs.FinMap.Entries.{find, below_all, is_sorted}
-use Rattle.std.proofs.lemmas.Bool.{false≢true, eqb-true, ltb-true, lt-ltb, le-ltb, cases_lt}
+use Rattle.sk_world.specs.Common.{Less, Equal, Greater, is_some, first, list_any, nat_cmp, is_lt, unsigned_tied, find, is_sorted}
+use Rattle.std.specs.FinMap.Entries.{below_all}
+use Rattle.sk_world.proofs.Common.{false≢true, eqb-true, ltb-true, lt-ltb, le-ltb, cases_lt}
 
 -- the keys above one that pass
 abbrev pub above : {A : Type 0} → (ℕ → Bool) → ℕ → List (ℕ × A) → List ℕ

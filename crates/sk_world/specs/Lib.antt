@@ -22,3 +22,4 @@ pub mod NumberSets
 pub mod Summary
 pub mod Pairs
 pub mod RowView
+pub mod Common

@@ -5,7 +5,6 @@ use Rattle.std.specs.List.{list_any}
 use Rattle.sk_world.specs.declared.process.Life.{Life}
 use Rattle.sk_world.specs.declared.process.Life.TheVariants.{Running, Stopped, Zombie}
 use Rattle.sk_world.specs.declared.process.Note.{Note}
-use Rattle.sk_world.specs.declared.process.Note.TheVariants as note
 use Rattle.sk_world.specs.declared.process.Body.{Body}
 use Rattle.sk_world.specs.declared.process.Proc.{Proc}
 use Rattle.sk_world.specs.declared.request.WaitOptions.{WaitOptions}
@@ -47,9 +46,9 @@ is_match caller request pid o = option_map_or (λ p. (p.links.parent == caller) 
 -- the status of a process that has been stopped by signal n, or continued: wait(2), WIFSTOPPED and
 -- WIFCONTINUED
 abbrev pub status_of_note : WaitOptions → Note → Option ℕ
-status_of_note options note.Nothing = None
-status_of_note options (note.Stopped n) = if is_untraced options then Some (n * 256 + 0x7f) else None
-status_of_note options note.Continued = if is_continued options then Some 0xffff else None
+status_of_note options Note.Nothing = None
+status_of_note options (Note.Stopped n) = if is_untraced options then Some (n * 256 + 0x7f) else None
+status_of_note options Note.Continued = if is_continued options then Some 0xffff else None
 
 -- the status that a child has to tell, if it has any
 abbrev pub status_of_body : WaitOptions → Note → Life → Option ℕ
@@ -92,7 +91,7 @@ ready_of w caller request = first_told (status_changes w caller request (pids w.
 
 -- what a process has to tell was told
 abbrev pub without_note : Body → Body
-without_note body = record body { note = note.Nothing }
+without_note body = record body { note = Note.Nothing }
 
 -- the world after it was told: a zombie goes, and a note is told once
 abbrev pub told : World → Poll → World

@@ -1,10 +1,6 @@
 use Rattle.std.proofs.Common.{◌≡◌, ◌∙◌, ℕ, ap, cond, sym, subst}
-use Rattle.std.proofs.lemmas.Bool.{eq-eqb}
-use Rattle.sk_world.specs.declared.process.TheConstants.{INIT}
-use Rattle.sk_world.specs.declared.process.Life.TheVariants.{Zombie}
-use Rattle.sk_world.specs.World.{World, changed}
-use Rattle.sk_world.specs.Rules.{IsWorld}
-use Rattle.sk_world.specs.Ending.{reparented, left_to_parent, ended}
+use Rattle.sk_world.proofs.Common.{eq-eqb}
+use Rattle.sk_world.specs.Common.{INIT, Zombie, World, changed, IsWorld, reparented, left_to_parent, ended}
 use Rattle.sk_world.proofs.KeptEnd.{kept_ended, ended_later}
 use Rattle.sk_world.proofs.ending.end.Goals as goal
 

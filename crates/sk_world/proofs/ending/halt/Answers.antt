@@ -1,6 +1,5 @@
 use Rattle.std.proofs.Common.{◌∙◌}
-use Rattle.sk_world.specs.declared.process.TheConstants.{INIT}
-use Rattle.sk_world.specs.declared.process.Life.TheVariants.{Zombie}
+use Rattle.sk_world.specs.Common.{INIT, Zombie}
 use Rattle.sk_world.proofs.Bodies.{given_back, nobody_there}
 use Rattle.sk_world.proofs.ending.halt.Goals as goal
 

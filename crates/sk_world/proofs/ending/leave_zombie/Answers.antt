@@ -1,6 +1,5 @@
 use Rattle.std.proofs.Common.{◌∙◌, ap}
-use Rattle.sk_world.specs.World.{with_body}
-use Rattle.sk_world.specs.Ending.{zombie}
+use Rattle.sk_world.specs.Common.{with_body, zombie}
 use Rattle.sk_world.proofs.Bodies.{given_back, nobody_there}
 use Rattle.sk_world.proofs.ending.leave_zombie.Goals as goal
 

@@ -1,6 +1,5 @@
 use Rattle.std.proofs.Common.{◌∙◌, ap, Ok, subst, sym}
-use Rattle.sk_world.specs.World.{inserted}
-use Rattle.sk_world.specs.Rules.{IsWorld, is_within}
+use Rattle.sk_world.specs.Common.{inserted, IsWorld, is_within}
 use Rattle.sk_world.proofs.KeptFork.{kept_forked}
 use Rattle.sk_world.proofs.Children.{full_answer, room, room_answer, room_forked, child_within}
 use Rattle.sk_world.proofs.forking.fork.Goals as goal

@@ -1,7 +1,6 @@
 use Rattle.std.proofs.Common.{◌∙◌, ◌/◌, ap, sym, arith, nat_eq}
-use Rattle.std.specs.Int.{bit_at}
-use Rattle.std.proofs.lemmas.Bool.{ltb-true}
-use Rattle.std.proofs.lemmas.Grind.{get_or_default_zero}
+use Rattle.sk_world.specs.Common.{bit_at}
+use Rattle.sk_world.proofs.Common.{ltb-true, get_or_default_zero}
 use Rattle.sk_world.proofs.Summing.{bit_of_word}
 use Rattle.sk_world.proofs.Marking.{none_from, none_until, is_there}
 use Rattle.sk_world.proofs.number_set.least_from.Goals as goal

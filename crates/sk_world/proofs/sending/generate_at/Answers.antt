@@ -1,7 +1,5 @@
 use Rattle.std.proofs.Common.{◌==◌, ◌∙◌, ap}
-use Rattle.sk_world.specs.declared.process.TheConstants.{INIT}
-use Rattle.sk_world.specs.World.{with_body}
-use Rattle.sk_world.specs.Sending.{signalled}
+use Rattle.sk_world.specs.Common.{INIT, with_body, signalled}
 use Rattle.sk_world.proofs.Bodies.{given_back, nobody_there}
 use Rattle.sk_world.proofs.sending.generate_at.Goals as goal
 

@@ -1,6 +1,5 @@
 use Rattle.std.proofs.Common.{sym, subst}
-use Rattle.sk_world.specs.declared.signals.TheConstants.{SIGCHLD}
-use Rattle.sk_world.specs.Rules.{IsWorld}
+use Rattle.sk_world.specs.Common.{SIGCHLD, IsWorld}
 use Rattle.sk_world.proofs.Kept.{kept_generated}
 use Rattle.sk_world.proofs.sending.send.Goals as goal
 

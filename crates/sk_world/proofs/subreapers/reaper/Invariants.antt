@@ -1,6 +1,5 @@
 use Rattle.std.proofs.Common.{◌≡◌, ◌-◌}
-use Rattle.sk_world.specs.declared.process.TheConstants.{PROCESSES}
-use Rattle.sk_world.specs.Subreapers.{new_parent}
+use Rattle.sk_world.specs.Common.{PROCESSES, new_parent}
 use Rattle.sk_world.proofs.Ancestors.{found_above}
 use Rattle.sk_world.proofs.subreapers.reaper.Given as goal
 

@@ -1,6 +1,5 @@
 use Rattle.std.proofs.Common.{◌≡◌, ◌-◌, ◌≤◌, ℕ, true, false, IsTrue}
-use Rattle.sk_world.specs.World.{at}
-use Rattle.sk_world.specs.Waits.{is_match, is_ready}
+use Rattle.sk_world.specs.Common.{at, is_match, is_ready}
 use Rattle.sk_world.proofs.waiting.ready.Given as goal
 
 abbrev pub invariant-loop-child : goal.invariant-loop-child

@@ -1,6 +1,5 @@
 use Rattle.std.proofs.Common.{◌∙◌, ap, sym, subst}
-use Rattle.sk_world.specs.Rules.{IsWorld}
-use Rattle.sk_world.specs.Waits.{told}
+use Rattle.sk_world.specs.Common.{IsWorld, told}
 use Rattle.sk_world.proofs.KeptTold.{kept_told}
 use Rattle.sk_world.proofs.waiting.wait_poll.Goals as goal
 

@@ -1,7 +1,6 @@
 use Rattle.std.proofs.Common.{◌∙◌, ◌/◌, ◌%◌, ◌<◌, ap, sym, arith, nat_eq}
-use Rattle.std.specs.Int.{bit_at}
-use Rattle.std.proofs.lemmas.Bool.{ltb-false, ltb-true}
-use Rattle.std.proofs.lemmas.Grind.{get_or_default_zero}
+use Rattle.sk_world.specs.Common.{bit_at}
+use Rattle.sk_world.proofs.Common.{ltb-false, ltb-true, get_or_default_zero}
 use Rattle.sk_world.proofs.Members.{member_at, none_between, no_member_above}
 use Rattle.sk_world.proofs.Summing.{none_above, none_before, word_is_some}
 use Rattle.sk_world.proofs.number_set.NumberSet.from.Goals as goal

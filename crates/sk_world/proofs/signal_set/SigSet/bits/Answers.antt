@@ -1,6 +1,5 @@
 use Rattle.std.proofs.Common.{◌∙◌, ap, sym}
-use Rattle.sk_world.specs.SignalSet.{signals_of, number_of}
-use Rattle.sk_world.specs.views.SignalBits.{number_of-signals_of}
+use Rattle.sk_world.specs.Common.{signals_of, number_of, number_of-signals_of}
 use Rattle.sk_world.proofs.signal_set.SigSet.bits.Goals as goal
 
 pub returns-clause-value : goal.returns-clause-value

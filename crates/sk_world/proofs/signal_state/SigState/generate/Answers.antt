@@ -1,6 +1,5 @@
 use Rattle.std.proofs.Common.{◌≡◌, ◌∙◌, ap, sym, rules, ℕ, Bool}
-use Rattle.sk_world.specs.SignalState.{SignalState}
-use Rattle.sk_world.specs.Generation.{generated}
+use Rattle.sk_world.specs.Common.{SignalState, generated}
 use Rattle.sk_world.proofs.SignalLaws.{generated_twice}
 use Rattle.sk_world.proofs.signal_state.SigState.generate.Goals as goal
 
