@@ -56,10 +56,6 @@ pub kept_sent_to_each : (w : World) (to : List ℕ) (n : ℕ) → IsWorld w → 
 unfolding KeepsRules
 kept_sent_to_each w to n = each_sent_by KeepsRules (λ w rules. rules) (λ v w x f g rules. g (f rules)) (λ w pid n. kept_sent w pid n) w to n
 
-pub kept_hung_up : (w : World) (group : ℕ) → IsWorld w → IsWorld (hung_up w group)
-unfolding KeepsRules
-kept_hung_up w group = hung_up_by KeepsRules (λ w rules. rules) (λ v w x f g rules. g (f rules)) (λ w pid n. kept_sent w pid n) w group
-
 pub kept_ended_and_hung_up : EndKeepsRules
 unfolding KeepsRules
 kept_ended_and_hung_up w pid status rules alive =

@@ -33,16 +33,6 @@ ties_its_own w pid p is group =
       | false ↦ λ other. no_member_ties w group pid (ap (is_member_of group) is ∙ ne_eqb p.links.group group (λ e. eqb-false group p.links.group other (sym e)))
     ] refl
 
--- the group of a process is added where it ties it
-pub tie_added : (w : World) (pid : ℕ) (p : Proc) → at w pid ≡ Some p → IsTrue (is_tie w p.links.group pid) → (group : ℕ) (old now : Bool)
-    → now ≡ ((group == p.links.group) || old) → now ≡ (is_tie w group pid || old)
-tie_added w pid p is tie group old now e =
-    e ∙ ap (λ b. b || old) (sym (ties_its_own w pid p is group ∙ ap (λ b. (group == p.links.group) && b) tie ∙ and_true (group == p.links.group)))
-  where
-    and_true : (b : Bool) → (b && true) ≡ b
-    and_true true = refl
-    and_true false = refl
-
 -- and none where it does not
 pub no_tie_added : (w : World) (pid : ℕ) (p : Proc) → at w pid ≡ Some p → is_tie w p.links.group pid ≡ false → (group : ℕ) (old : Bool) → old ≡ (is_tie w group pid || old)
 no_tie_added w pid p is none group old =
@@ -62,9 +52,6 @@ ties_none w pid p is none group = sym (no_tie_added w pid p is none group false 
 
 pub nobody_ties_any : (w : World) (pid : ℕ) → at w pid ≡ None → TiesNone w pid
 nobody_ties_any w pid is group = no_member_ties w group pid (ap (is_member_of group) is)
-
-pub nobody_ties : (w : World) (pid : ℕ) → at w pid ≡ None → (group : ℕ) (old : Bool) → old ≡ (is_tie w group pid || old)
-nobody_ties w pid is group old = ap (λ b. b || old) (sym (no_member_ties w group pid (ap (is_member_of group) is)))
 
 -- ---- a walk that adds ties
 
@@ -93,12 +80,6 @@ more_ties w goes after next old now has between added group q le going tie = ⊎
   where
     same : next ≤ q → next ≡ q
     same ge = omega arith
-
--- where the walk goes to nobody else, they are all in it
-pub all_ties : (w : World) (goes : ℕ → Bool) (after : ℕ) (set : List ℕ) → HasTies w goes after set → ((q : ℕ) → after < q → goes q ≡ false)
-    → (group q : ℕ) → IsTrue (is_tie w group q) → IsTrue (goes q) → IsTrue (contains set group)
-all_ties w goes after set has none group q tie going =
-    ⊎_elim (λ above. absurd (false≢true (sym (none q above) ∙ going))) (λ ge. has group q ge going tie) (cases_lt after q)
 
 -- those of the walk tie no group, up to a pid
 abbrev pub NoneTies : World → (ℕ → Bool) → ℕ → Type 0
