@@ -1,25 +1,13 @@
 -- Every filter in force was accepted by the rules.
 use Rattle.std.proofs.Common.{◌≡◌, ℕ, ◌+◌, ◌==◌, arith, sym, refl, subst, cond, Bool, true, false, nat_lt, length, IsTrue, List, [], ◌∷◌, Option, None, Some, IfSome}
-use Rattle.sk_world.specs.declared.process.Proc.{Proc}
-use Rattle.std.specs.Option.{is_some, option_map}
-use Rattle.std.proofs.lemmas.Bool.{true≢false, ltb-false}
-use Rattle.sk_insn.specs.declared.insn.Insn.{Insn}
-use Rattle.sk_insn.specs.declared.record.Record.{Record}
+use Rattle.sk_laws.specs.Common.{Proc, is_some, option_map, Insn, Record, first_fault, cost_of, StepsAreBounded, AllValid, INIT, none,
+    first_process, opening, at, Images, Authority, step_of, world_after, lineage_before, calls_added, authority_after_calls, authority_at}
+use Rattle.sk_world.proofs.Common.{true≢false, ltb-false}
 use Rattle.sk_filter.specs.declared.fault.CheckFault.{CheckFault}
-use Rattle.sk_filter.specs.FirstFault.{first_fault}
 use Rattle.sk_filter.proofs.FirstFaults.{first_fault-None}
 use Rattle.sk_filter.proofs.ValidMeanings.{valid_returns}
-use Rattle.sk_filter.specs.PathLimit.{cost_of}
-use Rattle.sk_filter.specs.Chains.{StepsAreBounded, AllValid}
 use Rattle.sk_filter.proofs.Bounds.{bounded}
-use Rattle.sk_world.specs.declared.process.TheConstants.{INIT}
-use Rattle.sk_world.specs.Processes.{none}
-use Rattle.sk_world.specs.World.{first_process, opening, at}
 use Rattle.sk_world.proofs.Maps.{get_store}
-use Rattle.sk_machine.specs.Images.{Images}
-use Rattle.sk_machine.specs.Authority.{Authority}
-use Rattle.sk_machine.specs.Machine.{step_of, world_after}
-use Rattle.sk_machine.specs.Lineages.{lineage_before, calls_added, authority_after_calls, authority_at}
 use Rattle.sk_laws.specs.LineageLaws.{happening}
 use Rattle.sk_laws.specs.FilterLaws.{AreAccepted, HasAccepted, EventKeepsAccepted, RunKeepsAccepted, AllReturn, AcceptedReturn, AcceptedAreBounded, FiltersInForceAreAccepted, StepsInForceAreBounded}
 use Rattle.sk_laws.proofs.EachChange.{Changes, after_calls}

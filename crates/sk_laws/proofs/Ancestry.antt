@@ -1,13 +1,9 @@
 -- Who the children of a process go to, as an ancestor so many steps up.
 use Rattle.std.proofs.Common.{◌≡◌, ◌∙◌, ◌<◌, ℕ, zero, suc, arith, ap, sym, refl, Bool, true, false, cond, [], ◌∷◌, ◌⊎◌, inl, inr, IsTrue, Option, None, Some}
 use Rattle.std.specs.Prelude.{find}
-use Rattle.std.specs.Option.{is_some, unwrap_or}
-use Rattle.std.proofs.lemmas.Bool.{false≢true, and_parts}
-use Rattle.sk_world.specs.declared.process.TheConstants.{INIT, PROCESSES}
-use Rattle.sk_world.specs.declared.process.Proc.{Proc}
-use Rattle.sk_world.specs.World.{World, at, parent_of}
-use Rattle.sk_world.specs.Rules.{IsWorld}
-use Rattle.sk_world.specs.Subreapers.{is_subreaper, line_up, ancestors, takes_children, new_parent}
+use Rattle.sk_laws.specs.Common.{is_some, unwrap_or, INIT, PROCESSES, Proc, World, at, parent_of, IsWorld, is_subreaper, line_up, ancestors,
+    takes_children, new_parent}
+use Rattle.sk_world.proofs.Common.{false≢true, and_parts}
 use Rattle.sk_world.proofs.Ancestors.{found_or, new_parent_by, new_parent_other, new_parent_alive, subreaper_there, zero_is_nobody}
 use Rattle.sk_laws.specs.ReaperLaws.{ancestor, NewParentLives, WithoutSubreapers, NearestSubreaper, NewParentIsAncestor}
 

@@ -1,12 +1,7 @@
 -- One SIGCHLD for all the zombies that are handed on.
 use Rattle.std.proofs.Common.{◌≡◌, ◌∙◌, ℕ, ap, sym, refl, Bool, true, false, cond, not, ◌&&◌, ◌||◌, List, [], ◌∷◌, map, filter}
-use Rattle.std.specs.List.{list_any}
-use Rattle.sk_world.specs.declared.signals.TheConstants.{SIGCHLD}
-use Rattle.sk_world.specs.Processes.{pids}
-use Rattle.sk_world.specs.World.{World, at, is_zombie, is_child_of}
-use Rattle.sk_world.specs.Sending.{sent, sent_to_each}
-use Rattle.sk_world.specs.Subreapers.{new_parent}
-use Rattle.sk_world.specs.Ending.{with_children_handed_on, has_zombie_child}
+use Rattle.sk_laws.specs.Common.{list_any, SIGCHLD, pids, World, at, is_zombie, is_child_of, sent, sent_to_each, new_parent,
+    with_children_handed_on, has_zombie_child}
 use Rattle.sk_laws.specs.ChangeLaws.{EachZombieIsAnnounced}
 use Rattle.sk_laws.proofs.Locality.{not_queued}
 

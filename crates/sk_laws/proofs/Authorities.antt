@@ -1,19 +1,11 @@
 -- Who comes from whom, with which authority.
 use Rattle.std.proofs.Common.{◌≡◌, ◌∙◌, ℕ, ap, sym, refl, subst, Option, None, Some}
-use Rattle.std.specs.Option.{is_some, unwrap_or, option_map}
-use Rattle.std.proofs.lemmas.Bool.{false≢true}
-use Rattle.sk_world.specs.declared.process.Links.{Links}
-use Rattle.sk_world.specs.declared.process.Body.{Body}
-use Rattle.sk_world.specs.declared.process.Proc.{Proc}
-use Rattle.sk_world.specs.declared.request.Poll.TheVariants as poll
-use Rattle.sk_world.specs.World.{World, at, body_changed, changed, links_changed, relinked}
-use Rattle.sk_world.specs.Sending.{sent}
-use Rattle.sk_world.specs.Ending.{ended}
-use Rattle.sk_world.specs.Waits.{told}
+use Rattle.sk_laws.specs.Common.{is_some, unwrap_or, option_map, Links, Body, Proc, Poll, World, at, body_changed, changed, links_changed,
+    relinked, sent, ended, told, Authority, authority_of}
+use Rattle.sk_world.proofs.Common.{false≢true}
 use Rattle.sk_laws.specs.ChangeLaws.{StaysInRights, KeepsRights}
 use Rattle.sk_world.proofs.Stored.{everywhere, at_here}
 use Rattle.sk_laws.proofs.Rights.{sent_rights, told_rights, ended_rights}
-use Rattle.sk_machine.specs.Authority.{Authority, authority_of}
 use Rattle.sk_laws.proofs.Carrying.{Carries}
 
 -- a process that is here now was there before, with another authority
@@ -87,8 +79,8 @@ keeps_sent w pid n = keeps_by_rights w (sent w pid n) (sent_rights w pid n)
 pub keeps_ended : (w : World) (pid status : ℕ) → Keeps w (ended w pid status)
 keeps_ended w pid status = keeps_by_rights w (ended w pid status) (ended_rights w pid status)
 
-keeps_told : (w : World) (child status : ℕ) → Keeps w (told w (poll.Told child status))
-keeps_told w child status = keeps_by_rights w (told w (poll.Told child status)) (told_rights w child status)
+keeps_told : (w : World) (child status : ℕ) → Keeps w (told w (Poll.Told child status))
+keeps_told w child status = keeps_by_rights w (told w (Poll.Told child status)) (told_rights w child status)
 
 -- so every call, delivery and resumption that does no more leaves every authority
 pub keeps : Carries Keeps

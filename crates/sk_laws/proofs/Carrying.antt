@@ -1,46 +1,17 @@
 -- What holds of each process through signals, ends and waits, and links and notes, holds through every call that does no more.
 use Rattle.std.proofs.Common.{◌≡◌, ◌∙◌, ℕ, ℤ, ◌==◌, ◌&&◌, ap, refl, not, length, nat_le, IsTrue, IfOk, List, [], ◌∷◌, Option, None, Some, Result, Ok, Err}
 use Rattle.std.specs.Prelude.{filter}
-use Rattle.std.specs.Option.{is_some, option_map}
-use Rattle.std.specs.Int.{is_negative}
-use Rattle.std.proofs.lemmas.Bool.{cond_both}
-use Rattle.sk_insn.specs.declared.record.Record.{Record}
-use Rattle.sk_world.specs.declared.errno.Errno.{Errno}
-use Rattle.sk_world.specs.declared.errno.Errno.TheVariants.{Eperm, Esrch, Einval}
-use Rattle.sk_world.specs.declared.signals.TheConstants.{SIGHUP, SIGKILL, SIGSEGV, SIGCHLD, SIGCONT, SIGSYS}
-use Rattle.sk_world.specs.declared.signal_state.TheConstants.{FRAMES}
-use Rattle.sk_world.specs.declared.disposition.DefaultAction.{DefaultAction}
+use Rattle.sk_laws.specs.Common.{is_some, option_map, is_negative, Record, Errno, Eperm, Esrch, Einval, SIGHUP, SIGKILL, SIGSEGV, SIGCHLD,
+    SIGCONT, SIGSYS, FRAMES, DefaultAction, Disposition, Signals, default_action, is_tty_stop, SignalState, disposition_of, INIT, Links,
+    Body, Proc, Waiting, Request, Poll, pids, World, at, parent_of, body_changed, changed, relinked, sent, sent_to_each, ended, is_no_hang,
+    ready_of, told, is_living_member, is_orphaned, is_left_orphaned, groups, sent_to_group, hung_up, each_hung_up, ended_and_hung_up,
+    group_of, pid_named, is_group, links_in_group, links_of_leader, may_regroup, put_into_group, regrouped, after_setpgid, after_setsid,
+    unsigned, authority_of, Performed, returns, fails, asked, changes, waiting_in, waits, with_signals, resignals, targets, permitted,
+    killed, after_kill, are_wait_options, request_of, polled, wait4, polled_again, resumed, Delivered, terminated_by, in_handler,
+    enters_handler, stopping, ignored, acts_by_default, acts_by_disposition, taking, acted_on, delivered, stopped_by, Creds}
+use Rattle.sk_world.proofs.Common.{cond_both}
 use Rattle.sk_world.specs.declared.disposition.DefaultAction.TheVariants as default
-use Rattle.sk_world.specs.declared.disposition.Disposition.{Disposition}
-use Rattle.sk_world.specs.declared.disposition.Disposition.TheVariants as disposition
-use Rattle.sk_world.specs.SignalSet.{Signals}
-use Rattle.sk_world.specs.Actions.{default_action, is_tty_stop}
-use Rattle.sk_world.specs.SignalState.{SignalState, disposition_of}
-use Rattle.sk_world.specs.declared.process.TheConstants.{INIT}
-use Rattle.sk_world.specs.declared.process.Links.{Links}
-use Rattle.sk_world.specs.declared.process.Body.{Body}
-use Rattle.sk_world.specs.declared.process.Proc.{Proc}
-use Rattle.sk_world.specs.declared.process.Waiting.{Waiting}
-use Rattle.sk_world.specs.declared.process.Waiting.TheVariants as waiting
-use Rattle.sk_world.specs.declared.request.Request.{Request}
-use Rattle.sk_world.specs.declared.request.Poll.{Poll}
-use Rattle.sk_world.specs.declared.request.Poll.TheVariants as poll
-use Rattle.sk_world.specs.Processes.{pids}
-use Rattle.sk_world.specs.World.{World, at, parent_of, body_changed, changed, relinked}
-use Rattle.sk_world.specs.Sending.{sent, sent_to_each}
-use Rattle.sk_world.specs.Ending.{ended}
-use Rattle.sk_world.specs.Waits.{is_no_hang, ready_of, told}
 use Rattle.sk_world.proofs.Stored.{at_here}
-use Rattle.sk_machine.specs.Orphans.{is_living_member, is_orphaned, is_left_orphaned, groups, sent_to_group, hung_up, each_hung_up, ended_and_hung_up}
-use Rattle.sk_machine.specs.Sessions.{group_of, pid_named, is_group, links_in_group, links_of_leader, may_regroup, put_into_group, regrouped, after_setpgid, after_setsid}
-use Rattle.sk_machine.specs.Arguments.{unsigned}
-use Rattle.sk_machine.specs.Authority.{authority_of}
-use Rattle.sk_machine.specs.Performed.{Performed, returns, fails, asked, changes, waiting_in, waits}
-use Rattle.sk_machine.specs.SignalCalls.{with_signals, resignals}
-use Rattle.sk_machine.specs.Killing.{targets, permitted, killed, after_kill}
-use Rattle.sk_machine.specs.WaitCalls.{are_wait_options, request_of, polled, wait4, polled_again, resumed}
-use Rattle.sk_machine.specs.Delivering.{Delivered, terminated_by, in_handler, enters_handler, stopping, ignored, acts_by_default, acts_by_disposition, taking, acted_on, delivered, stopped_by}
-use Rattle.sk_world.specs.declared.creds.Creds.{Creds}
 
 -- a change of a process that leaves its authority and its mark
 abbrev pub IsOrdinary : (Body → Body) → Type 0
@@ -55,12 +26,12 @@ pub record Carries (R : World → World → Type 0) : Type 0 where
   pub links : (w : World) (pid : ℕ) (f : Links → Links) → ((l : Links) → (f l).parent ≡ l.parent) → R w (relinked w pid f)
   pub sent : (w : World) (pid n : ℕ) → R w (sent w pid n)
   pub ended : (w : World) (pid status : ℕ) → IsTrue (is_some (at w pid)) → R w (ended w pid status)
-  pub telling : (w : World) (child status : ℕ) → R w (told w (poll.Told child status))
+  pub telling : (w : World) (child status : ℕ) → R w (told w (Poll.Told child status))
 
 pub over_told : (R : World → World → Type 0) (c : Carries R) (w : World) (p : Poll) → R w (told w p)
-over_told R c w (poll.Told child status) = c.telling w child status
-over_told R c w poll.NoMatch = c.still w
-over_told R c w poll.NotReady = c.still w
+over_told R c w (Poll.Told child status) = c.telling w child status
+over_told R c w Poll.NoMatch = c.still w
+over_told R c w Poll.NotReady = c.still w
 
 -- ---- calls
 pub over_asked : (R : World → World → Type 0) (c : Carries R) (w : World) (r : Result ℕ Errno) → R w (asked w r).world
@@ -105,11 +76,11 @@ over_setsid R c w caller =
     (λ _. c.links w caller (links_of_leader caller) (λ l. refl))
 
 pub over_polled : (R : World → World → Type 0) (c : Carries R) (w : World) (pid : ℕ) (request : Request) (p : Poll) → R w (polled w pid request p).world
-over_polled R c w pid request (poll.Told child status) = over_told R c w (poll.Told child status)
-over_polled R c w pid request poll.NoMatch = c.still w
-over_polled R c w pid request poll.NotReady =
-    cond_both (is_no_hang request.options) (returns w 0) (waits w pid (waiting.Asks request)) (λ (p : Performed). R w p.world) (λ _. c.still w)
-    (λ _. over_waits R c w pid (waiting.Asks request))
+over_polled R c w pid request (Poll.Told child status) = over_told R c w (Poll.Told child status)
+over_polled R c w pid request Poll.NoMatch = c.still w
+over_polled R c w pid request Poll.NotReady =
+    cond_both (is_no_hang request.options) (returns w 0) (waits w pid (Waiting.Asks request)) (λ (p : Performed). R w p.world) (λ _. c.still w)
+    (λ _. over_waits R c w pid (Waiting.Asks request))
 
 pub over_wait4 : (R : World → World → Type 0) (c : Carries R) (w : World) (pid : ℕ) (call : Record) → R w (wait4 w pid call).world
 over_wait4 R c w pid call =
@@ -159,9 +130,9 @@ over_default R c w pid n default.Terminate there = over_end R c w pid n there
 
 over_disposition : (R : World → World → Type 0) (c : Carries R) (w : World) (pid : ℕ) (body : Body) (n : ℕ) (d : Disposition)
     → IsTrue (is_some (at w pid)) → R w (acts_by_disposition w pid body n d).world
-over_disposition R c w pid body n disposition.Ignore there = c.still w
-over_disposition R c w pid body n (disposition.Handler program mask) there = over_handler R c w pid body n program mask there
-over_disposition R c w pid body n disposition.Default there =
+over_disposition R c w pid body n Disposition.Ignore there = c.still w
+over_disposition R c w pid body n (Disposition.Handler program mask) there = over_handler R c w pid body n program mask there
+over_disposition R c w pid body n Disposition.Default there =
     cond_both ((pid == INIT) && not (n == SIGSYS)) (ignored w) (acts_by_default w pid n (default_action n)) (λ (d : Delivered). R w d.world) (λ _. c.still w)
     (λ _. over_default R c w pid n (default_action n) there)
 
@@ -184,13 +155,13 @@ over_delivered R c w pid body n there =
     c.twice w took (acted_on took pid (taking n body) n).world (c.changed w pid (taking n) (λ body. (refl, refl))) (over_acted_on R c took pid (taking n body) n (stays_there w pid (taking n) there))
 
 pub over_polled_again : (R : World → World → Type 0) (c : Carries R) (w : World) (pid : ℕ) (p : Poll) → R w (polled_again w pid p).world
-over_polled_again R c w pid (poll.Told child status) =
-    let after : World = told w (poll.Told child status) in
-    c.twice w after (changed after pid (waiting_in waiting.Nothing)) (over_told R c w (poll.Told child status)) (c.changed after pid (waiting_in waiting.Nothing) (λ body. (refl, refl)))
-over_polled_again R c w pid poll.NoMatch = c.changed w pid (waiting_in waiting.Nothing) (λ body. (refl, refl))
-over_polled_again R c w pid poll.NotReady = c.still w
+over_polled_again R c w pid (Poll.Told child status) =
+    let after : World = told w (Poll.Told child status) in
+    c.twice w after (changed after pid (waiting_in Waiting.Nothing)) (over_told R c w (Poll.Told child status)) (c.changed after pid (waiting_in Waiting.Nothing) (λ body. (refl, refl)))
+over_polled_again R c w pid Poll.NoMatch = c.changed w pid (waiting_in Waiting.Nothing) (λ body. (refl, refl))
+over_polled_again R c w pid Poll.NotReady = c.still w
 
 pub over_resumed : (R : World → World → Type 0) (c : Carries R) (w : World) (pid : ℕ) (waiting : Waiting) → R w (resumed w pid waiting).world
-over_resumed R c w pid (waiting.Asks request) = over_polled_again R c w pid (ready_of w pid request)
-over_resumed R c w pid waiting.Pause = c.still w
-over_resumed R c w pid waiting.Nothing = c.still w
+over_resumed R c w pid (Waiting.Asks request) = over_polled_again R c w pid (ready_of w pid request)
+over_resumed R c w pid Waiting.Pause = c.still w
+over_resumed R c w pid Waiting.Nothing = c.still w

@@ -1,72 +1,30 @@
 -- What an event leaves of a process that it is not meant to touch.
 use Rattle.std.proofs.Common.{◌≡◌, ◌≢◌, ◌∙◌, ℕ, ℤ, ◌==◌, ◌&&◌, ◌||◌, arith, ap, sym, refl, subst, cond, not, Bool, true, false, length, IsTrue, List, [], ◌∷◌, ◌++◌, Option, None, Some, Result, Ok, Err, IfSome}
 use Rattle.std.specs.Prelude.{filter}
-use Rattle.std.specs.Option.{is_some, option_map, option_and_then}
-use Rattle.std.specs.List.{list_all}
-use Rattle.std.specs.Result.{result_and}
-use Rattle.std.specs.Int.{is_negative}
-use Rattle.std.proofs.lemmas.Int.{ints}
-use Rattle.std.proofs.lemmas.Bool.{false≢true, cond_both, eqb-true, eq-eqb, ne_eqb, not-false, and_parts, and_from, eqb-false, false_from_ne_true}
-use Rattle.sk_insn.specs.declared.record.Record.{Record}
-use Rattle.sk_insn.specs.Record.{IsNative}
-use Rattle.sk_insn.specs.declared.action.Action.{Action}
-use Rattle.sk_insn.specs.declared.action.Action.TheVariants as action
-use Rattle.sk_insn.specs.Actions.{action_of, performs}
-use Rattle.sk_filter.specs.Verdict.{verdict_of}
-use Rattle.sk_world.specs.declared.errno.Errno.{Errno}
-use Rattle.sk_world.specs.declared.errno.Errno.TheVariants.{Eperm, Esrch, Eagain, Eacces, Einval}
-use Rattle.sk_world.specs.declared.signals.TheConstants.{SIGHUP, SIGKILL, SIGSEGV, SIGCHLD, SIGCONT, SIGSYS}
-use Rattle.sk_world.specs.declared.signal_state.TheConstants.{FRAMES}
-use Rattle.sk_world.specs.declared.disposition.DefaultAction.{DefaultAction}
+use Rattle.sk_laws.specs.Common.{is_some, option_map, option_and_then, list_all, result_and, is_negative, Record, IsNative, Action,
+    action_of, performs, verdict_of, Errno, Eperm, Esrch, Eagain, Eacces, Einval, SIGHUP, SIGKILL, SIGSEGV, SIGCHLD, SIGCONT, SIGSYS,
+    FRAMES, DefaultAction, Disposition, Signals, default_action, is_tty_stop, SignalState, disposition_of, INIT, Body, Proc, Waiting,
+    Request, Poll, World, at, is_alive, is_child_of, is_member_of, is_stopped, parent_of, stored, body_changed, changed, relinked, IsWorld,
+    fresh_of, has_room, forked, signalled, generated_at, sent, sent_to_each, new_parent, ignores_children, handed_on,
+    with_children_handed_on, has_zombie_child, reparented, zombie, left_to_parent, ended, is_no_hang, is_match, status_of, ready_of, told,
+    PROCESSES, count, pids, is_living_member, is_orphaned, has_stopped_member, is_left_orphaned, groups, sent_to_group, hung_up,
+    each_hung_up, ended_and_hung_up, group_of, pid_named, session_of, has_executed, is_group, is_group_of_session, links_in_group,
+    links_of_leader, may_move_child, may_join, put_into_group, regrouped, after_setpgid, after_setsid, Event, Call, Deliver, Resume, Fault,
+    Syscall, pid_of, recorded, Images, syscall_of, register, unsigned, signed, Authority, with_authority, Performed, returns, fails, asked,
+    changes, authorises, waiting_in, waits, with_signals, resignals, are_wait_options, request_of, polled, wait4, polled_again, resumed,
+    executing, execve, forks, subreaper_set, subreaper_asked, where_subreapers, with_subreaper, row, Delivered, signal_for, terminated_by,
+    in_handler, enters_handler, stopping, ignored, acts_by_default, acts_by_disposition, taking, acted_on, delivered, stopped_by, Stepped,
+    judged, happened}
+use Rattle.sk_world.proofs.Common.{ints, false≢true, cond_both, eqb-true, eq-eqb, ne_eqb, not-false, and_parts, and_from, eqb-false,
+    false_from_ne_true, ltb-true}
 use Rattle.sk_world.specs.declared.disposition.DefaultAction.TheVariants as default
-use Rattle.sk_world.specs.declared.disposition.Disposition.{Disposition}
-use Rattle.sk_world.specs.declared.disposition.Disposition.TheVariants as disposition
-use Rattle.sk_world.specs.SignalSet.{Signals}
-use Rattle.sk_world.specs.Actions.{default_action, is_tty_stop}
-use Rattle.sk_world.specs.SignalState.{SignalState, disposition_of}
-use Rattle.sk_world.specs.declared.process.TheConstants.{INIT}
-use Rattle.sk_world.specs.declared.process.Body.{Body}
-use Rattle.sk_world.specs.declared.process.Proc.{Proc}
-use Rattle.sk_world.specs.declared.process.Waiting.{Waiting}
-use Rattle.sk_world.specs.declared.process.Waiting.TheVariants as waiting
-use Rattle.sk_world.specs.declared.request.Request.{Request}
-use Rattle.sk_world.specs.declared.request.Poll.{Poll}
-use Rattle.sk_world.specs.declared.request.Poll.TheVariants as poll
-use Rattle.sk_world.specs.World.{World, at, is_alive, is_child_of, is_member_of, is_stopped, parent_of, stored, body_changed, changed, relinked}
-use Rattle.sk_world.specs.Rules.{IsWorld}
-use Rattle.sk_world.specs.Numbers.{fresh_of}
-use Rattle.sk_world.specs.Forking.{has_room, forked}
-use Rattle.sk_world.specs.Sending.{signalled, generated_at, sent, sent_to_each}
-use Rattle.sk_world.specs.Subreapers.{new_parent}
-use Rattle.sk_world.specs.Ending.{ignores_children, handed_on, with_children_handed_on, has_zombie_child, reparented, zombie, left_to_parent, ended}
-use Rattle.sk_world.specs.Waits.{is_no_hang, is_match, status_of, ready_of, told}
 use Rattle.sk_world.proofs.Stored.{everywhere, at_here, at_other}
 use Rattle.sk_world.proofs.KeptEnd.{handed_cases, handed_at}
 use Rattle.sk_world.proofs.KeptTold.{match_parent}
 use Rattle.sk_laws.proofs.Locality.{forced_touches, told_touches, forked_touches}
 use Rattle.sk_world.proofs.Telling.{ready_lowest}
 use Rattle.sk_world.proofs.Fresh.{fresh_absent}
-use Rattle.std.proofs.lemmas.Bool.{ltb-true}
-use Rattle.sk_world.specs.declared.process.TheConstants.{PROCESSES}
-use Rattle.sk_world.specs.Processes.{count, pids}
-use Rattle.sk_machine.specs.Orphans.{is_living_member, is_orphaned, has_stopped_member, is_left_orphaned, groups, sent_to_group, hung_up, each_hung_up, ended_and_hung_up}
-use Rattle.sk_machine.specs.Sessions.{group_of, pid_named, session_of, has_executed, is_group, is_group_of_session, links_in_group, links_of_leader, may_move_child, may_join, put_into_group, regrouped, after_setpgid, after_setsid}
-use Rattle.sk_machine.specs.declared.event.Event.{Event}
-use Rattle.sk_machine.specs.declared.event.Event.TheVariants.{Call, Deliver, Resume, Fault}
-use Rattle.sk_names.specs.declared.syscall.Syscall.{Syscall}
-use Rattle.sk_names.specs.declared.syscall.Syscall.TheVariants as syscall
-use Rattle.sk_machine.specs.Events.{pid_of, recorded}
-use Rattle.sk_machine.specs.Images.{Images}
-use Rattle.sk_names.specs.Syscalls.{syscall_of}
 use Rattle.sk_names.proofs.SyscallTable.{number_of-syscall_of}
-use Rattle.sk_machine.specs.Arguments.{register, unsigned, signed}
-use Rattle.sk_machine.specs.Authority.{Authority, with_authority}
-use Rattle.sk_machine.specs.Performed.{Performed, returns, fails, asked, changes, authorises, waiting_in, waits}
-use Rattle.sk_machine.specs.SignalCalls.{with_signals, resignals}
-use Rattle.sk_machine.specs.WaitCalls.{are_wait_options, request_of, polled, wait4, polled_again, resumed}
-use Rattle.sk_machine.specs.Performing.{executing, execve, forks, subreaper_set, subreaper_asked, where_subreapers, with_subreaper, row}
-use Rattle.sk_machine.specs.Delivering.{Delivered, signal_for, terminated_by, in_handler, enters_handler, stopping, ignored, acts_by_default, acts_by_disposition, taking, acted_on, delivered, stopped_by}
-use Rattle.sk_machine.specs.Machine.{Stepped, judged, happened}
 use Rattle.sk_laws.specs.ConfinementLaws.{RefusesKill, after_signals, is_of_stop, is_of_end, becomes_orphaned, IsTold, IsConfined, is_end, is_end_by_signal, is_stop, ends, stops, EventIsConfined}
 use Rattle.sk_machine.proofs.HangingUp.{each_hung_up_by}
 use Rattle.sk_laws.proofs.LeftOrphaned.{AreAlike, alike_still, alike_twice, alike_sent, alike_changed, orphaned_alike, StopsNobody, stopped_group, changed_stops, ended_stops}
@@ -76,13 +34,13 @@ use Rattle.sk_laws.proofs.Happened.{at_step, at_delivery}
 use Rattle.sk_laws.proofs.LineageSteps.{authority_in}
 
 -- ---- which call is a kill
-only_kill : (o : Option Syscall) → is_kill_row o ≡ true → o ≡ Some syscall.Kill
-only_kill (Some syscall.Kill) is = refl
+only_kill : (o : Option Syscall) → is_kill_row o ≡ true → o ≡ Some Syscall.Kill
+only_kill (Some Syscall.Kill) is = refl
 only_kill other is = absurd (false≢true is)
 
 kill_number_else : (nr : ℕ) → (nr == 62) ≡ false → is_kill_row (syscall_of nr) ≡ false
 kill_number_else nr other =
-    false_from_ne_true (is_kill_row (syscall_of nr)) (λ is. eqb-false nr 62 other (number_of-syscall_of nr syscall.Kill (only_kill (syscall_of nr) is)))
+    false_from_ne_true (is_kill_row (syscall_of nr)) (λ is. eqb-false nr 62 other (number_of-syscall_of nr Syscall.Kill (only_kill (syscall_of nr) is)))
 
 kill_number : (nr : ℕ) → is_kill_row (syscall_of nr) ≡ (nr == 62)
 kill_number nr =
@@ -312,18 +270,18 @@ spares_forks w pid q true room rules there =
 spares_forks w pid q false room rules there = spares_world w pid q
 
 -- the child that is told of is another one
-child_told : (w : World) (pid q child status : ℕ) (request : Request) → IsApart w pid q → ready_of w pid request ≡ poll.Told child status → at (told w (poll.Told child status)) q ≡ at w q
+child_told : (w : World) (pid q child status : ℕ) (request : Request) → IsApart w pid q → ready_of w pid request ≡ Poll.Told child status → at (told w (Poll.Told child status)) q ≡ at w q
 child_told w pid q child status request apart ready =
     let is = (ready_lowest w pid request child status ready).0 in
     let parent : parent_of (at w child) ≡ pid = match_parent pid request child (at w child) (and_parts (is_match pid request child (at w child)) (is_some (status_of request.options (at w child))) is).0 in
     told_touches w child status q (λ same. apart.no_child (ap (λ k. parent_of (at w k)) same ∙ parent))
 
 spares_polled : (w : World) (pid q : ℕ) (request : Request) (p : Poll) → IsApart w pid q → ready_of w pid request ≡ p → Spares w pid q (polled w pid request p)
-spares_polled w pid q request (poll.Told child status) apart ready = untouched w pid q _ (child_told w pid q child status request apart ready)
-spares_polled w pid q request poll.NoMatch apart ready = spares_world w pid q
-spares_polled w pid q request poll.NotReady apart ready =
-    cond_both (is_no_hang request.options) (returns w 0) (waits w pid (waiting.Asks request)) (Spares w pid q) (λ _. spares_world w pid q)
-    (λ _. spares_changed w pid q (waiting_in (waiting.Asks request)) apart.other)
+spares_polled w pid q request (Poll.Told child status) apart ready = untouched w pid q _ (child_told w pid q child status request apart ready)
+spares_polled w pid q request Poll.NoMatch apart ready = spares_world w pid q
+spares_polled w pid q request Poll.NotReady apart ready =
+    cond_both (is_no_hang request.options) (returns w 0) (waits w pid (Waiting.Asks request)) (Spares w pid q) (λ _. spares_world w pid q)
+    (λ _. spares_changed w pid q (waiting_in (Waiting.Asks request)) apart.other)
 
 spares_wait4 : (w : World) (pid q : ℕ) (call : Record) → IsApart w pid q → Spares w pid q (wait4 w pid call)
 spares_wait4 w pid q call apart =
@@ -389,7 +347,7 @@ spares_row declared w pid q body which call rules apart there other =
       executes = λ r _. spares_execve w pid q r apart.other;
       marks = λ _. spares_subreapers declared.subreapers w pid q (subreaper_set w pid call) (spares_changed w pid q (with_subreaper (not (register call 1 == 0))) apart.other);
       asks_mark = λ _. spares_subreapers declared.subreapers w pid q (subreaper_asked w body.subreaper) (spares_world w pid q);
-      pauses = λ _. spares_changed w pid q (waiting_in waiting.Pause) apart.other;
+      pauses = λ _. spares_changed w pid q (waiting_in Waiting.Pause) apart.other;
       waits_for = λ _. spares_wait4 w pid q call apart;
       forks_one = λ _. spares_forks w pid q (has_room w) refl rules there;
       ends = λ status _. spares_ends w pid status q apart;
@@ -401,15 +359,15 @@ spares_row declared w pid q body which call rules apart there other =
 spares_judged : (declared : Images) (w : World) (pid q : ℕ) (body : Body) (call : Record) (verdict : ℕ) (a : Action) → IsWorld w → IsApart w pid q
     → IsTrue (is_some (at w q))
     → (IsTrue (performs a) → is_kill_row (syscall_of call.nr) ≡ false) → Spares w pid q (judged declared w pid body call verdict a)
-spares_judged declared w pid q body call verdict action.Allow rules apart there other = spares_row declared w pid q body (syscall_of call.nr) call rules apart there (other refl)
-spares_judged declared w pid q body call verdict action.Log rules apart there other = spares_row declared w pid q body (syscall_of call.nr) call rules apart there (other refl)
-spares_judged declared w pid q body call verdict action.Trap rules apart there other = untouched w pid q _ (forced_touches w pid q apart.other)
-spares_judged declared w pid q body call verdict action.Errno rules apart there other = spares_world w pid q
-spares_judged declared w pid q body call verdict action.UserNotif rules apart there other = spares_world w pid q
-spares_judged declared w pid q body call verdict action.Trace rules apart there other = spares_world w pid q
-spares_judged declared w pid q body call verdict action.KillProcess rules apart there other = spares_ends w pid SIGSYS q apart
-spares_judged declared w pid q body call verdict action.KillThread rules apart there other = spares_ends w pid SIGSYS q apart
-spares_judged declared w pid q body call verdict action.Unknown rules apart there other = spares_ends w pid SIGSYS q apart
+spares_judged declared w pid q body call verdict Action.Allow rules apart there other = spares_row declared w pid q body (syscall_of call.nr) call rules apart there (other refl)
+spares_judged declared w pid q body call verdict Action.Log rules apart there other = spares_row declared w pid q body (syscall_of call.nr) call rules apart there (other refl)
+spares_judged declared w pid q body call verdict Action.Trap rules apart there other = untouched w pid q _ (forced_touches w pid q apart.other)
+spares_judged declared w pid q body call verdict Action.Errno rules apart there other = spares_world w pid q
+spares_judged declared w pid q body call verdict Action.UserNotif rules apart there other = spares_world w pid q
+spares_judged declared w pid q body call verdict Action.Trace rules apart there other = spares_world w pid q
+spares_judged declared w pid q body call verdict Action.KillProcess rules apart there other = spares_ends w pid SIGSYS q apart
+spares_judged declared w pid q body call verdict Action.KillThread rules apart there other = spares_ends w pid SIGSYS q apart
+spares_judged declared w pid q body call verdict Action.Unknown rules apart there other = spares_ends w pid SIGSYS q apart
 
 -- ---- deliveries and resumptions
 abbrev SparesBy : World → ℕ → ℕ → Delivered → Type 0
@@ -443,9 +401,9 @@ spares_default w pid n q default.Stop apart =
 spares_default w pid n q default.Terminate apart = spares_ends w pid n q apart
 
 spares_done_by : (w : World) (pid : ℕ) (body : Body) (n q : ℕ) (d : Disposition) → IsApart w pid q → SparesBy w pid q (acts_by_disposition w pid body n d)
-spares_done_by w pid body n q disposition.Ignore apart = spares_world w pid q
-spares_done_by w pid body n q (disposition.Handler program mask) apart = spares_handled w pid body n program mask q apart
-spares_done_by w pid body n q disposition.Default apart =
+spares_done_by w pid body n q Disposition.Ignore apart = spares_world w pid q
+spares_done_by w pid body n q (Disposition.Handler program mask) apart = spares_handled w pid body n program mask q apart
+spares_done_by w pid body n q Disposition.Default apart =
     cond_both ((pid == INIT) && not (n == SIGSYS)) (ignored w) (acts_by_default w pid n (default_action n)) (SparesBy w pid q) (λ _. spares_world w pid q)
     (λ _. spares_default w pid n q (default_action n) apart)
 
@@ -488,15 +446,15 @@ spares_delivered w pid body n q apart =
     }))
 
 spares_polled_again : (w : World) (pid q : ℕ) (request : Request) (p : Poll) → IsApart w pid q → ready_of w pid request ≡ p → Spares w pid q (polled_again w pid p)
-spares_polled_again w pid q request (poll.Told child status) apart ready =
-    untouched w pid q _ (at_other (told w (poll.Told child status)) pid _ q apart.other ∙ child_told w pid q child status request apart ready)
-spares_polled_again w pid q request poll.NoMatch apart ready = spares_changed w pid q (waiting_in waiting.Nothing) apart.other
-spares_polled_again w pid q request poll.NotReady apart ready = spares_world w pid q
+spares_polled_again w pid q request (Poll.Told child status) apart ready =
+    untouched w pid q _ (at_other (told w (Poll.Told child status)) pid _ q apart.other ∙ child_told w pid q child status request apart ready)
+spares_polled_again w pid q request Poll.NoMatch apart ready = spares_changed w pid q (waiting_in Waiting.Nothing) apart.other
+spares_polled_again w pid q request Poll.NotReady apart ready = spares_world w pid q
 
 spares_resumed : (w : World) (pid q : ℕ) (waiting : Waiting) → IsApart w pid q → Spares w pid q (resumed w pid waiting)
-spares_resumed w pid q (waiting.Asks request) apart = spares_polled_again w pid q request (ready_of w pid request) apart refl
-spares_resumed w pid q waiting.Pause apart = spares_world w pid q
-spares_resumed w pid q waiting.Nothing apart = spares_world w pid q
+spares_resumed w pid q (Waiting.Asks request) apart = spares_polled_again w pid q request (ready_of w pid request) apart refl
+spares_resumed w pid q Waiting.Pause apart = spares_world w pid q
+spares_resumed w pid q Waiting.Nothing apart = spares_world w pid q
 
 -- ---- events
 -- a call that is performed is no kill

@@ -1,37 +1,21 @@
 -- What a performed call comes to, by what it does, so that a law goes through a dozen cases and not through each call.
 use Rattle.std.specs.Prelude.{ℕ, Bool, true, false, Option, None, Some, Result, Ok, Err}
-use Rattle.sk_insn.specs.declared.record.Record.{Record}
-use Rattle.sk_world.specs.declared.errno.Errno.{Errno}
-use Rattle.sk_world.specs.declared.errno.Errno.TheVariants.{Einval, Enosys}
-use Rattle.sk_world.specs.SignalSet.{Signals}
-use Rattle.sk_world.specs.SignalState.{SignalState}
-use Rattle.sk_world.specs.declared.process.Body.{Body}
-use Rattle.sk_world.specs.declared.process.Waiting.TheVariants as waiting
-use Rattle.sk_world.specs.World.{World, at, parent_of}
-use Rattle.sk_world.specs.Forking.{fork_answer}
-use Rattle.sk_machine.specs.Sessions.{group_of, after_setpgid, after_setsid, group_asked, session_asked}
-use Rattle.sk_machine.specs.declared.operation.PrctlOption.{PrctlOption}
+use Rattle.sk_laws.specs.Common.{Record, Errno, Einval, Enosys, Signals, SignalState, Body, Waiting, World, at, parent_of, fork_answer,
+    group_of, after_setpgid, after_setsid, group_asked, session_asked, PrctlOption, SeccompOperation, Syscall, Images, unsigned, signed,
+    prctl_option_of, seccomp_operation_of, Authority, authority_of, after_prctl, after_seccomp, authority_after, Performed, asked, changes,
+    authorises, waits, resignals, after_sigaction, after_sigprocmask, after_sigreturn, after_kill, wait4, execve, forks, exit_status,
+    end_of_caller, ids, pending_signals, authorised, seccomp_mode, no_new_privs_asked, where_subreapers, subreaper_set, subreaper_asked,
+    prctl, action_available, seccomp, row}
 use Rattle.sk_machine.specs.declared.operation.PrctlOption.TheVariants as option
-use Rattle.sk_machine.specs.declared.operation.SeccompOperation.{SeccompOperation}
 use Rattle.sk_machine.specs.declared.operation.SeccompOperation.TheVariants as operation
-use Rattle.sk_names.specs.declared.syscall.Syscall.{Syscall}
-use Rattle.sk_names.specs.declared.syscall.Syscall.TheVariants as syscall
-use Rattle.sk_machine.specs.Images.{Images}
-use Rattle.sk_machine.specs.Arguments.{unsigned, signed, prctl_option_of, seccomp_operation_of}
-use Rattle.sk_machine.specs.Authority.{Authority, authority_of, after_prctl, after_seccomp, authority_after}
-use Rattle.sk_machine.specs.Performed.{Performed, asked, changes, authorises, waits}
-use Rattle.sk_machine.specs.SignalCalls.{resignals, after_sigaction, after_sigprocmask, after_sigreturn}
-use Rattle.sk_machine.specs.Killing.{after_kill}
-use Rattle.sk_machine.specs.WaitCalls.{wait4}
-use Rattle.sk_machine.specs.Performing.{execve, forks, exit_status, end_of_caller, ids, pending_signals, authorised, seccomp_mode, no_new_privs_asked, where_subreapers, subreaper_set, subreaper_asked, prctl, action_available, seccomp, row}
 
 -- which call is a fork, and which a kill
 abbrev pub is_fork_row : Option Syscall → Bool
-is_fork_row (Some syscall.Fork) = true
+is_fork_row (Some Syscall.Fork) = true
 is_fork_row other = false
 
 abbrev pub is_kill_row : Option Syscall → Bool
-is_kill_row (Some syscall.Kill) = true
+is_kill_row (Some Syscall.Kill) = true
 is_kill_row other = false
 
 -- what a law may go by beside what the call comes to: whether it is fork(2), or kill(2), and what it makes of its
@@ -66,7 +50,7 @@ pub record EachCall (declared : Images) (w : World) (pid : ℕ) (body : Body) (c
   pub executes : (r : Result Authority Errno) → P (changing r) (execve w pid r)
   pub marks : P (leaving body) (where_subreapers declared.subreapers w (subreaper_set w pid call))
   pub asks_mark : P (leaving body) (where_subreapers declared.subreapers w (subreaper_asked w body.subreaper))
-  pub pauses : P (leaving body) (waits w pid waiting.Pause)
+  pub pauses : P (leaving body) (waits w pid Waiting.Pause)
   pub waits_for : P (leaving body) (wait4 w pid call)
   pub forks_one : P (record (leaving body) { is_fork = true }) (forks w pid (fork_answer w))
   pub ends : (status : ℕ) → P (leaving body) (end_of_caller w pid status)
@@ -89,30 +73,30 @@ module _ (declared : Images) (w : World) (pid : ℕ) (body : Body) (call : Recor
   each_seccomp setting = c.authorises (after_seccomp declared setting call (authority_of body))
 
   pub each_call : (which : Option Syscall) → P (facts_of declared body which call) (row declared w pid body which call)
-  each_call (Some syscall.RtSigaction) = c.resignals (after_sigaction pid call body.signals)
-  each_call (Some syscall.RtSigprocmask) = c.resignals (after_sigprocmask call body.signals)
-  each_call (Some syscall.RtSigreturn) = c.resignals (after_sigreturn body.signals.frames body.signals)
-  each_call (Some syscall.RtSigpending) = c.tells_signals body.signals.pending
-  each_call (Some syscall.SchedYield) = c.answers (Ok 0)
-  each_call (Some syscall.Pause) = c.pauses
-  each_call (Some syscall.Getpid) = c.answers (Ok pid)
-  each_call (Some syscall.Getppid) = c.answers (Ok (parent_of (at w pid)))
-  each_call (Some syscall.Fork) = c.forks_one
-  each_call (Some syscall.Execve) = c.executes (authorised declared body syscall.Execve call)
-  each_call (Some syscall.Exit) = c.ends (exit_status (unsigned call 0))
-  each_call (Some syscall.ExitGroup) = c.ends (exit_status (unsigned call 0))
-  each_call (Some syscall.Wait4) = c.waits_for
-  each_call (Some syscall.Kill) = c.kills
-  each_call (Some syscall.Getuid) = c.answers (Ok body.creds.real)
-  each_call (Some syscall.Geteuid) = c.answers (Ok body.creds.effective)
-  each_call (Some syscall.Setuid) = c.authorises (authorised declared body syscall.Setuid call)
-  each_call (Some syscall.Setresuid) = c.authorises (authorised declared body syscall.Setresuid call)
-  each_call (Some syscall.Getresuid) = c.tells_ids
-  each_call (Some syscall.Setpgid) = c.regroups
-  each_call (Some syscall.Getpgrp) = c.answers (Ok (group_of (at w pid)))
-  each_call (Some syscall.Setsid) = c.leads
-  each_call (Some syscall.Getpgid) = c.answers (group_asked w pid (signed call 0))
-  each_call (Some syscall.Getsid) = c.answers (session_asked w pid (signed call 0))
-  each_call (Some syscall.Prctl) = each_prctl (prctl_option_of (unsigned call 0))
-  each_call (Some syscall.Seccomp) = each_seccomp (seccomp_operation_of (unsigned call 0))
+  each_call (Some Syscall.RtSigaction) = c.resignals (after_sigaction pid call body.signals)
+  each_call (Some Syscall.RtSigprocmask) = c.resignals (after_sigprocmask call body.signals)
+  each_call (Some Syscall.RtSigreturn) = c.resignals (after_sigreturn body.signals.frames body.signals)
+  each_call (Some Syscall.RtSigpending) = c.tells_signals body.signals.pending
+  each_call (Some Syscall.SchedYield) = c.answers (Ok 0)
+  each_call (Some Syscall.Pause) = c.pauses
+  each_call (Some Syscall.Getpid) = c.answers (Ok pid)
+  each_call (Some Syscall.Getppid) = c.answers (Ok (parent_of (at w pid)))
+  each_call (Some Syscall.Fork) = c.forks_one
+  each_call (Some Syscall.Execve) = c.executes (authorised declared body Syscall.Execve call)
+  each_call (Some Syscall.Exit) = c.ends (exit_status (unsigned call 0))
+  each_call (Some Syscall.ExitGroup) = c.ends (exit_status (unsigned call 0))
+  each_call (Some Syscall.Wait4) = c.waits_for
+  each_call (Some Syscall.Kill) = c.kills
+  each_call (Some Syscall.Getuid) = c.answers (Ok body.creds.real)
+  each_call (Some Syscall.Geteuid) = c.answers (Ok body.creds.effective)
+  each_call (Some Syscall.Setuid) = c.authorises (authorised declared body Syscall.Setuid call)
+  each_call (Some Syscall.Setresuid) = c.authorises (authorised declared body Syscall.Setresuid call)
+  each_call (Some Syscall.Getresuid) = c.tells_ids
+  each_call (Some Syscall.Setpgid) = c.regroups
+  each_call (Some Syscall.Getpgrp) = c.answers (Ok (group_of (at w pid)))
+  each_call (Some Syscall.Setsid) = c.leads
+  each_call (Some Syscall.Getpgid) = c.answers (group_asked w pid (signed call 0))
+  each_call (Some Syscall.Getsid) = c.answers (session_asked w pid (signed call 0))
+  each_call (Some Syscall.Prctl) = each_prctl (prctl_option_of (unsigned call 0))
+  each_call (Some Syscall.Seccomp) = each_seccomp (seccomp_operation_of (unsigned call 0))
   each_call None = c.answers (Err Enosys)

@@ -1,30 +1,15 @@
 -- What holds of each change that performed calls make to what their caller may do, so that a law goes through four cases
 -- and not through each call.
 use Rattle.std.proofs.Common.{◌≡◌, ℕ, ◌+◌, ◌==◌, ◌&&◌, refl, not, true, false, nat_lt, length, IfOk, List, [], ◌∷◌, Option, None, Some, Result, Ok, Err}
-use Rattle.std.specs.Option.{is_some}
-use Rattle.std.specs.Result.{result_unwrap_or}
-use Rattle.std.proofs.lemmas.Bool.{cond_both}
-use Rattle.sk_insn.specs.declared.insn.Insn.{Insn}
-use Rattle.sk_insn.specs.declared.record.Record.{Record}
-use Rattle.sk_filter.specs.FirstFault.{first_fault}
-use Rattle.sk_filter.specs.PathLimit.{cost_of}
-use Rattle.sk_world.specs.declared.errno.Errno.{Errno}
-use Rattle.sk_world.specs.declared.errno.Errno.TheVariants.{Eperm, Enomem, Eacces, Einval}
-use Rattle.sk_world.specs.declared.creds.Creds.{Creds}
+use Rattle.sk_laws.specs.Common.{is_some, result_unwrap_or, Insn, Record, first_fault, cost_of, Errno, Eperm, Enomem, Eacces, Einval, Creds,
+    Mark, PrctlOption, SeccompOperation, Syscall, Images, filter_image, mark_of, syscall_of, register, unsigned, prctl_option_of,
+    seccomp_operation_of, Authority, filter_of, filtered, after_attach, with_creds, after_execve, after_no_new_privs, after_set_seccomp,
+    after_prctl, after_seccomp, authority_after, authority_after_call, authority_after_calls}
+use Rattle.sk_world.proofs.Common.{cond_both}
 use Rattle.sk_world.specs.declared.creds.TheConstants.{NO_ID}
 use Rattle.sk_world.specs.Creds.{is_privileged, is_real_or_saved, may_take, after_setuid, after_setresuid}
-use Rattle.sk_machine.specs.declared.images.Mark.{Mark}
-use Rattle.sk_machine.specs.declared.operation.PrctlOption.{PrctlOption}
 use Rattle.sk_machine.specs.declared.operation.PrctlOption.TheVariants as option
-use Rattle.sk_machine.specs.declared.operation.SeccompOperation.{SeccompOperation}
 use Rattle.sk_machine.specs.declared.operation.SeccompOperation.TheVariants as operation
-use Rattle.sk_names.specs.declared.syscall.Syscall.{Syscall}
-use Rattle.sk_names.specs.declared.syscall.Syscall.TheVariants as syscall
-use Rattle.sk_machine.specs.Images.{Images, filter_image, mark_of}
-use Rattle.sk_names.specs.Syscalls.{syscall_of}
-use Rattle.sk_machine.specs.Arguments.{register, unsigned, prctl_option_of, seccomp_operation_of}
-use Rattle.sk_machine.specs.Authority.{Authority, filter_of, filtered, after_attach, with_creds, after_execve, after_no_new_privs, after_set_seccomp, after_prctl, after_seccomp, authority_after, authority_after_call}
-use Rattle.sk_machine.specs.Lineages.{authority_after_calls}
 
 -- ids change, and no_new_privs does not
 abbrev KeepsMark : Creds → Creds → Type 0
@@ -89,12 +74,12 @@ module _ (P : Authority → Authority → Type 0) (each : Changes P) (declared :
   each_seccomp other call a = each.stays a
 
   each_row : (which : Option Syscall) (call : Record) (a : Authority) → IfOk (authority_after declared which call a) (P a)
-  each_row (Some syscall.Setuid) call a = each_creds a (after_setuid (unsigned call 0) a.creds) (setuid_keeps (unsigned call 0) a.creds)
-  each_row (Some syscall.Setresuid) call a =
+  each_row (Some Syscall.Setuid) call a = each_creds a (after_setuid (unsigned call 0) a.creds) (setuid_keeps (unsigned call 0) a.creds)
+  each_row (Some Syscall.Setresuid) call a =
       each_creds a (after_setresuid (unsigned call 0) (unsigned call 1) (unsigned call 2) a.creds) (setresuid_keeps (unsigned call 0) (unsigned call 1) (unsigned call 2) a.creds)
-  each_row (Some syscall.Execve) call a = each_execve a (mark_of declared (register call 0))
-  each_row (Some syscall.Prctl) call a = each_prctl (prctl_option_of (unsigned call 0)) call a
-  each_row (Some syscall.Seccomp) call a = each_seccomp (seccomp_operation_of (unsigned call 0)) call a
+  each_row (Some Syscall.Execve) call a = each_execve a (mark_of declared (register call 0))
+  each_row (Some Syscall.Prctl) call a = each_prctl (prctl_option_of (unsigned call 0)) call a
+  each_row (Some Syscall.Seccomp) call a = each_seccomp (seccomp_operation_of (unsigned call 0)) call a
   each_row other call a = each.stays a
 
   or_stays : (a : Authority) (r : Result Authority Errno) → IfOk r (P a) → P a (result_unwrap_or r a)

@@ -1,26 +1,12 @@
 -- A lineage keeps its filters, and its verdicts are theirs.
 use Rattle.std.proofs.Common.{◌≡◌, ◌∙◌, ℕ, ◌==◌, ℤ, ◌≤ℤ◌, inl, inr, arith, slice_get, ap, sym, refl, subst, true, append_assoc, IsTrue, List, [], ◌∷◌, ◌++◌, Option, None, Some}
-use Rattle.std.specs.Option.{is_some, unwrap_or, option_map}
-use Rattle.std.proofs.lemmas.Int.{ints}
-use Rattle.std.specs.Int.{cast_signed, w32}
-use Rattle.std.proofs.lemmas.Bool.{false≢true, cond_both, eqb-true}
-use Rattle.sk_insn.specs.declared.record.Record.{Record}
-use Rattle.sk_insn.specs.declared.action.Action.{Action}
-use Rattle.sk_insn.specs.declared.action.Action.TheVariants as action
-use Rattle.sk_insn.specs.Actions.{action_of, action_part, performs}
-use Rattle.sk_filter.specs.Verdict.{values_of, first_of, verdict_of, IsAtMost, precedence_of}
+use Rattle.sk_laws.specs.Common.{is_some, unwrap_or, option_map, cast_signed, w32, Record, Action, action_of, action_part, performs,
+    values_of, first_of, verdict_of, IsAtMost, precedence_of, World, at, Event, Answer, Outcome, recorded, Images, Authority, step_of,
+    world_after, Stepped, Lineage, authority_after_calls, authority_of_lineage, authority_at}
+use Rattle.sk_world.proofs.Common.{ints, false≢true, cond_both, eqb-true}
 use Rattle.sk_filter.proofs.Verdicts.{first_of-least}
 use Rattle.sk_names.specs.declared.call.Call.{Call}
-use Rattle.sk_world.specs.World.{World, at}
 use Rattle.sk_world.proofs.KeptEnd.{alive_is_there}
-use Rattle.sk_machine.specs.declared.event.Event.TheVariants as event
-use Rattle.sk_machine.specs.declared.answer.Answer.TheVariants as answer
-use Rattle.sk_machine.specs.declared.answer.Outcome.{Outcome}
-use Rattle.sk_machine.specs.Events.{recorded}
-use Rattle.sk_machine.specs.Images.{Images}
-use Rattle.sk_machine.specs.Authority.{Authority}
-use Rattle.sk_machine.specs.Machine.{step_of, world_after, Stepped}
-use Rattle.sk_machine.specs.Lineages.{Lineage, authority_after_calls, authority_of_lineage, authority_at}
 use Rattle.sk_laws.specs.LineageLaws.{lineage_after, judged_by, GrowsFrom, LineageKeepsFilters, EqualLineagesMayDoTheSame, EqualLineagesAreJudgedAlike, VerdictIsOfLineage, PerformedMeetsNoRefusal}
 use Rattle.sk_laws.proofs.EachChange.{Changes, after_calls}
 use Rattle.sk_laws.proofs.LineageSteps.{after_more, authority_is_of_lineage, authority_in}
@@ -53,13 +39,13 @@ lineage_keeps_filters declared calls more a =
 -- the verdict in the answer to a call is that of the caller's filters
 abbrev JudgedByFilters : World → ℕ → Record → ℕ → Outcome → Stepped → Type 0
 JudgedByFilters w pid call verdict outcome s =
-    s.answer ≡ answer.Call verdict outcome → IsTrue (is_some (at w pid)) × (judged_by call (authority_at w pid) ≡ Some verdict)
+    s.answer ≡ Answer.Call verdict outcome → IsTrue (is_some (at w pid)) × (judged_by call (authority_at w pid) ≡ Some verdict)
 
 pub judged_by_filters : (declared : Images) (w : World) (pid ip : ℕ) (asked : Call) (verdict : ℕ) (outcome : Outcome)
-    → JudgedByFilters w pid (recorded ip asked) verdict outcome (step_of declared w (event.Call pid ip asked))
+    → JudgedByFilters w pid (recorded ip asked) verdict outcome (step_of declared w (Event.Call pid ip asked))
 judged_by_filters declared w pid ip asked verdict outcome =
     let call : Record = recorded ip asked in
-    at_step declared w (event.Call pid ip asked) (JudgedByFilters w pid call verdict outcome) (λ _ _ made. cc) (λ p there alive made.
+    at_step declared w (Event.Call pid ip asked) (JudgedByFilters w pid call verdict outcome) (λ _ _ made. cc) (λ p there alive made.
     let same : verdict_of p.body.chain call ≡ verdict = cc in
     (alive_is_there (at w pid) alive, ap (λ o. judged_by call (authority_in o)) there ∙ ap (λ v. Some v) same))
 
@@ -82,7 +68,7 @@ equal_lineages_are_judged_alike declared v w one other p q call equal =
 -- ---- a verdict that lets a call through
 -- an action that performs has no precedence over SECCOMP_RET_LOG
 abbrev LetsThrough : ℕ → Option Action → Type 0
-LetsThrough value o = IsTrue (performs (unwrap_or o action.Unknown)) → precedence_of 0x7ffc0000 ≤ℤ precedence_of value
+LetsThrough value o = IsTrue (performs (unwrap_or o Action.Unknown)) → precedence_of 0x7ffc0000 ≤ℤ precedence_of value
 
 of_action : (value part : ℕ) → (part == action_part value) ≡ true → precedence_of 0x7ffc0000 ≤ℤ cast_signed w32 part → precedence_of 0x7ffc0000 ≤ℤ precedence_of value
 of_action value part is later = subst (λ k. precedence_of 0x7ffc0000 ≤ℤ cast_signed w32 k) (eqb-true part (action_part value) is) later
@@ -90,14 +76,14 @@ of_action value part is later = subst (λ k. precedence_of 0x7ffc0000 ≤ℤ cas
 pub lets_through : (value : ℕ) → IsTrue (performs (action_of value)) → precedence_of 0x7ffc0000 ≤ℤ precedence_of value
 unfolding action_of
 lets_through value =
-    cond_both (0x80000000 == action_part value) (Some action.KillProcess) _ (LetsThrough value) (λ _ h. absurd (false≢true h))
-    (λ _. cond_both (0 == action_part value) (Some action.KillThread) _ (LetsThrough value) (λ _ h. absurd (false≢true h))
-    (λ _. cond_both (0x00030000 == action_part value) (Some action.Trap) _ (LetsThrough value) (λ _ h. absurd (false≢true h))
-    (λ _. cond_both (0x00050000 == action_part value) (Some action.Errno) _ (LetsThrough value) (λ _ h. absurd (false≢true h))
-    (λ _. cond_both (0x7fc00000 == action_part value) (Some action.UserNotif) _ (LetsThrough value) (λ _ h. absurd (false≢true h))
-    (λ _. cond_both (0x7ff00000 == action_part value) (Some action.Trace) _ (LetsThrough value) (λ _ h. absurd (false≢true h))
-    (λ _. cond_both (0x7ffc0000 == action_part value) (Some action.Log) _ (LetsThrough value) (λ is _. of_action value 0x7ffc0000 is (omega (arith, ints)))
-    (λ _. cond_both (0x7fff0000 == action_part value) (Some action.Allow) None (LetsThrough value) (λ is _. of_action value 0x7fff0000 is (omega (arith, ints)))
+    cond_both (0x80000000 == action_part value) (Some Action.KillProcess) _ (LetsThrough value) (λ _ h. absurd (false≢true h))
+    (λ _. cond_both (0 == action_part value) (Some Action.KillThread) _ (LetsThrough value) (λ _ h. absurd (false≢true h))
+    (λ _. cond_both (0x00030000 == action_part value) (Some Action.Trap) _ (LetsThrough value) (λ _ h. absurd (false≢true h))
+    (λ _. cond_both (0x00050000 == action_part value) (Some Action.Errno) _ (LetsThrough value) (λ _ h. absurd (false≢true h))
+    (λ _. cond_both (0x7fc00000 == action_part value) (Some Action.UserNotif) _ (LetsThrough value) (λ _ h. absurd (false≢true h))
+    (λ _. cond_both (0x7ff00000 == action_part value) (Some Action.Trace) _ (LetsThrough value) (λ _ h. absurd (false≢true h))
+    (λ _. cond_both (0x7ffc0000 == action_part value) (Some Action.Log) _ (LetsThrough value) (λ is _. of_action value 0x7ffc0000 is (omega (arith, ints)))
+    (λ _. cond_both (0x7fff0000 == action_part value) (Some Action.Allow) None (LetsThrough value) (λ is _. of_action value 0x7fff0000 is (omega (arith, ints)))
     (λ _ h. absurd (false≢true h)))))))))
 
 at_most_later : (a p q : ℤ) (m n : ℕ) → a ≤ℤ p → IsAtMost p m q n → a ≤ℤ q

@@ -1,21 +1,11 @@
 -- What becomes of the children of a process that ends, and of itself.
 use Rattle.std.proofs.Common.{◌≡◌, ◌≢◌, ◌∙◌, ◌==◌, ℕ, ap, sym, refl, Bool, true, false, cond, not, ◌&&◌, inl, inr, IsTrue, Option, None, Some}
-use Rattle.std.specs.Option.{is_some, option_map, option_and_then}
-use Rattle.std.proofs.lemmas.Bool.{false≢true, eq-eqb, not-true, cond_both}
-use Rattle.sk_world.specs.declared.signals.TheConstants.{SIGCHLD, SIGCONT}
-use Rattle.sk_world.specs.Actions.{is_handler, is_ignored, is_ignore}
+use Rattle.sk_laws.specs.Common.{is_some, option_map, option_and_then, SIGCHLD, SIGCONT, is_handler, is_ignored, is_ignore, SignalState,
+    disposition_of, left_pending, generated, INIT, Running, Continued, Body, Proc, World, at, has_ended, has_stopped, is_stopped, is_alive,
+    parent_of, stored, body_changed, changed, continued, signalled, generated_at, sent, new_parent, ignores_children, handed_on,
+    with_children_handed_on, has_zombie_child, reparented, zombie, left_to_parent}
+use Rattle.sk_world.proofs.Common.{false≢true, eq-eqb, not-true, cond_both}
 use Rattle.sk_world.specs.Sets as set
-use Rattle.sk_world.specs.SignalState.{SignalState, disposition_of}
-use Rattle.sk_world.specs.Generation.{left_pending, generated}
-use Rattle.sk_world.specs.declared.process.TheConstants.{INIT}
-use Rattle.sk_world.specs.declared.process.Life.TheVariants.{Running}
-use Rattle.sk_world.specs.declared.process.Note.TheVariants.{Continued}
-use Rattle.sk_world.specs.declared.process.Body.{Body}
-use Rattle.sk_world.specs.declared.process.Proc.{Proc}
-use Rattle.sk_world.specs.World.{World, at, has_ended, has_stopped, is_stopped, is_alive, parent_of, stored, body_changed, changed}
-use Rattle.sk_world.specs.Sending.{continued, signalled, generated_at, sent}
-use Rattle.sk_world.specs.Subreapers.{new_parent}
-use Rattle.sk_world.specs.Ending.{ignores_children, handed_on, with_children_handed_on, has_zombie_child, reparented, zombie, left_to_parent}
 use Rattle.sk_laws.specs.ChangeLaws.{EndHandsChildrenOn, EndLeavesZombie}
 use Rattle.sk_world.proofs.Stored.{everywhere, at_here}
 use Rattle.sk_world.proofs.Ancestors.{new_parent_other}

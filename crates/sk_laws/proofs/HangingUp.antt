@@ -1,20 +1,14 @@
 -- What it leaves of the world that groups are hung up.
 use Rattle.std.proofs.Common.{◌≡◌, ◌∙◌, ◌==◌, ℕ, ap, refl, Bool, true, false, not, ◌&&◌, filter, IsTrue, Option, None, Some}
-use Rattle.std.specs.Option.{option_map}
-use Rattle.std.proofs.lemmas.Bool.{cond_both, cond-true}
-use Rattle.sk_world.specs.declared.signals.TheConstants.{SIGCHLD, SIGCONT}
-use Rattle.sk_world.specs.declared.process.TheConstants.{INIT}
-use Rattle.sk_world.specs.declared.process.Proc.{Proc}
-use Rattle.sk_world.specs.Processes.{pids}
-use Rattle.sk_world.specs.World.{World, at, has_ended, is_stopped, is_zombie, is_alive, is_member_of, parent_of, body_changed}
-use Rattle.sk_world.specs.Sending.{signalled, generated_at, sent}
-use Rattle.sk_world.specs.Ending.{ended}
+use Rattle.sk_laws.specs.Common.{option_map, SIGCHLD, SIGCONT, INIT, Proc, pids, World, at, has_ended, is_stopped, is_zombie, is_alive,
+    is_member_of, parent_of, body_changed, signalled, generated_at, sent, ended, is_orphaned, is_left_orphaned, groups, each_hung_up,
+    ended_and_hung_up}
+use Rattle.sk_world.proofs.Common.{cond_both, cond-true}
 use Rattle.sk_world.proofs.Stored.{everywhere}
 use Rattle.sk_world.proofs.Walks.{none_any, none_left}
 use Rattle.sk_laws.specs.ChangeLaws.{unsignalled, KeepsRights}
 use Rattle.sk_laws.proofs.Locality.{sent_leaves}
 use Rattle.sk_laws.proofs.Rights.{stays, kept_twice, sent_rights, ended_rights}
-use Rattle.sk_machine.specs.Orphans.{is_orphaned, is_left_orphaned, groups, each_hung_up, ended_and_hung_up}
 use Rattle.sk_machine.proofs.HangingUp.{ended_by, sent_life}
 use Rattle.sk_laws.specs.HangingUpLaws.{EndKeepsRights, HangingUpKeepsAllElse, HangingUpEndsNobody, HangingUpKeepsZombies, EndWithoutStopped}
 

@@ -1,18 +1,11 @@
 -- What a step comes to, by the process whose event it is.
 use Rattle.std.proofs.Common.{◌≡◌, ◌&&◌, ap, refl, cond, not, Bool, false, IsTrue, Option, None, Some, ℕ}
-use Rattle.std.specs.Option.{is_some}
-use Rattle.std.proofs.lemmas.Bool.{false≢true, cond_both, not-false}
-use Rattle.sk_world.specs.declared.process.Proc.{Proc}
-use Rattle.sk_world.specs.World.{World, at, is_alive, is_halted, is_stopped, is_zombie}
+use Rattle.sk_laws.specs.Common.{is_some, Proc, World, at, is_alive, is_halted, is_stopped, is_zombie, Event, Reason, NoProcess, Halted,
+    NothingWaits, pid_of, Images, Stepped, happened, is_due_delivery, own_reason, reason_of, not_now, happened_to, stepped, step_of,
+    signal_answered, delivery, Body, delivered}
+use Rattle.sk_world.proofs.Common.{false≢true, cond_both, not-false}
 use Rattle.sk_world.proofs.KeptEnd.{alive_is_there}
-use Rattle.sk_machine.specs.declared.event.Event.{Event}
-use Rattle.sk_machine.specs.declared.answer.Reason.{Reason}
-use Rattle.sk_machine.specs.declared.answer.Reason.TheVariants.{NoProcess, Zombie, Stopped, Halted, NothingWaits}
-use Rattle.sk_machine.specs.Events.{pid_of}
-use Rattle.sk_machine.specs.Images.{Images}
-use Rattle.sk_machine.specs.Machine.{Stepped, happened, is_due_delivery, own_reason, reason_of, not_now, happened_to, stepped, step_of, signal_answered, delivery}
-use Rattle.sk_world.specs.declared.process.Body.{Body}
-use Rattle.sk_machine.specs.Delivering.{delivered}
+use Rattle.sk_machine.specs.declared.answer.Reason.TheVariants.{Zombie, Stopped}
 
 there_and_no_zombie : (o : Option Proc) → IsTrue (is_some o) → is_zombie o ≡ false → IsTrue (is_alive o)
 there_and_no_zombie None there zombie = there

@@ -1,65 +1,27 @@
 -- Every event keeps the rules of the world.
 use Rattle.std.proofs.Common.{◌≡◌, ◌≢◌, ◌∙◌, ℕ, ◌==◌, ◌&&◌, ap, sym, refl, subst, not, Bool, true, false, length, nat_le, IsTrue, IfOk, ℤ, List, [], ◌∷◌, ◌⊎◌, inl, inr, Option, None, Some, Result, Ok, Err}
 use Rattle.std.specs.Prelude.{filter}
-use Rattle.std.specs.Option.{option_map}
-use Rattle.std.proofs.lemmas.Bool.{cond_both, eqb-true, eqb-false, not-true, not-false}
-use Rattle.sk_insn.specs.declared.record.Record.{Record}
-use Rattle.sk_insn.specs.declared.action.Action.{Action}
-use Rattle.sk_insn.specs.declared.action.Action.TheVariants as action
-use Rattle.sk_insn.specs.Actions.{action_of}
-use Rattle.sk_filter.specs.Verdict.{verdict_of}
-use Rattle.sk_world.specs.declared.errno.Errno.{Errno}
-use Rattle.sk_world.specs.declared.errno.Errno.TheVariants.{Eperm, Esrch, Einval}
-use Rattle.sk_world.specs.declared.signals.TheConstants.{SIGHUP, SIGKILL, SIGSEGV, SIGCHLD, SIGCONT, SIGSYS}
-use Rattle.sk_world.specs.declared.signal_state.TheConstants.{FRAMES}
-use Rattle.sk_world.specs.declared.disposition.DefaultAction.{DefaultAction}
+use Rattle.sk_laws.specs.Common.{option_map, Record, Action, action_of, verdict_of, Errno, Eperm, Esrch, Einval, SIGHUP, SIGKILL, SIGSEGV,
+    SIGCHLD, SIGCONT, SIGSYS, FRAMES, DefaultAction, Disposition, Signals, default_action, is_tty_stop, SignalState, disposition_of, INIT,
+    Body, Proc, Waiting, Request, Poll, pids, World, at, has_ended, has_stopped, is_alive, parent_of, body_changed, changed, opening,
+    IsWorld, fork_answer, sent, sent_to_each, is_no_hang, ready_of, told, ended, is_living_member, is_orphaned, is_left_orphaned, groups,
+    sent_to_group, hung_up, each_hung_up, ended_and_hung_up, group_of, Event, Call, Deliver, Resume, Fault, Syscall, pid_of, recorded,
+    Images, syscall_of, register, unsigned, signed, Authority, with_authority, Performed, returns, fails, asked, changes, authorises,
+    waiting_in, waits, with_signals, resignals, targets, permitted, killed, after_kill, are_wait_options, request_of, polled, wait4,
+    polled_again, executing, execve, forks, subreaper_set, subreaper_asked, where_subreapers, with_subreaper, row, Delivered, signal_for,
+    terminated_by, in_handler, enters_handler, stopping, stopped_by, ignored, acts_by_default, acts_by_disposition, taking, acted_on,
+    judged, happened, step_of, Creds}
+use Rattle.sk_world.proofs.Common.{cond_both, eqb-true, eqb-false, not-true, not-false}
 use Rattle.sk_world.specs.declared.disposition.DefaultAction.TheVariants as default
-use Rattle.sk_world.specs.declared.disposition.Disposition.{Disposition}
-use Rattle.sk_world.specs.declared.disposition.Disposition.TheVariants as disposition
-use Rattle.sk_world.specs.SignalSet.{Signals}
-use Rattle.sk_world.specs.Actions.{default_action, is_tty_stop}
-use Rattle.sk_world.specs.SignalState.{SignalState, disposition_of}
-use Rattle.sk_world.specs.declared.process.TheConstants.{INIT}
-use Rattle.sk_world.specs.declared.process.Body.{Body}
-use Rattle.sk_world.specs.declared.process.Proc.{Proc}
-use Rattle.sk_world.specs.declared.process.Waiting.TheVariants as waiting
-use Rattle.sk_world.specs.declared.request.Request.{Request}
-use Rattle.sk_world.specs.declared.request.Poll.{Poll}
-use Rattle.sk_world.specs.declared.request.Poll.TheVariants as poll
-use Rattle.sk_world.specs.Processes.{pids}
-use Rattle.sk_world.specs.World.{World, at, has_ended, has_stopped, is_alive, parent_of, body_changed, changed, opening}
-use Rattle.sk_world.specs.Rules.{IsWorld}
-use Rattle.sk_world.specs.Forking.{fork_answer}
-use Rattle.sk_world.specs.Sending.{sent, sent_to_each}
-use Rattle.sk_world.specs.Waits.{is_no_hang, ready_of, told}
 use Rattle.sk_world.proofs.Stored.{at_here, kept_changed}
 use Rattle.sk_world.proofs.Kept.{kept_opening, kept_sent, kept_forced}
 use Rattle.sk_world.proofs.KeptFork.{kept_forked}
 use Rattle.sk_world.proofs.KeptEnd.{kept_ended, alive_is_there}
 use Rattle.sk_world.proofs.KeptTold.{kept_told}
-use Rattle.sk_world.specs.Ending.{ended}
-use Rattle.sk_machine.specs.Orphans.{is_living_member, is_orphaned, is_left_orphaned, groups, sent_to_group, hung_up, each_hung_up, ended_and_hung_up}
-use Rattle.sk_machine.specs.Sessions.{group_of}
 use Rattle.sk_machine.proofs.KeptLinks.{kept_setpgid, kept_setsid}
-use Rattle.sk_machine.specs.declared.event.Event.{Event}
-use Rattle.sk_machine.specs.declared.event.Event.TheVariants.{Call, Deliver, Resume, Fault}
-use Rattle.sk_names.specs.declared.syscall.Syscall.{Syscall}
-use Rattle.sk_machine.specs.Events.{pid_of, recorded}
-use Rattle.sk_machine.specs.Images.{Images}
-use Rattle.sk_names.specs.Syscalls.{syscall_of}
-use Rattle.sk_machine.specs.Arguments.{register, unsigned, signed}
-use Rattle.sk_machine.specs.Authority.{Authority, with_authority}
-use Rattle.sk_machine.specs.Performed.{Performed, returns, fails, asked, changes, authorises, waiting_in, waits}
-use Rattle.sk_machine.specs.SignalCalls.{with_signals, resignals}
-use Rattle.sk_machine.specs.Killing.{targets, permitted, killed, after_kill}
-use Rattle.sk_machine.specs.WaitCalls.{are_wait_options, request_of, polled, wait4, polled_again}
-use Rattle.sk_machine.specs.Performing.{executing, execve, forks, subreaper_set, subreaper_asked, where_subreapers, with_subreaper, row}
-use Rattle.sk_machine.specs.Delivering.{Delivered, signal_for, terminated_by, in_handler, enters_handler, stopping, stopped_by, ignored, acts_by_default, acts_by_disposition, taking, acted_on}
-use Rattle.sk_machine.specs.Machine.{judged, happened, step_of}
 use Rattle.sk_laws.specs.MachineLaws.{CallKeepsRules, DeliveryKeepsRules, ResumptionKeepsRules, EventKeepsRules, RunKeepsRules, ReachedHasRules}
 use Rattle.sk_laws.proofs.Happened.{at_step, at_delivery}
 use Rattle.sk_laws.proofs.EachCall.{each_call}
-use Rattle.sk_world.specs.declared.creds.Creds.{Creds}
 
 -- a change that leaves a process running, stopped or ended as it is
 kept_body : (w : World) (pid : ℕ) (f : Body → Body) → IsWorld w → ((body : Body) → (f body).life ≡ body.life) → IsWorld (changed w pid f)
@@ -123,11 +85,11 @@ kept_end w pid status rules alive =
     cond_both (pid == INIT) after (each_hung_up after left) IsWorld (λ _. kept) (λ _. kept_each_hung_up after left kept)
 
 kept_polled : (w : World) (pid : ℕ) (request : Request) (p : Poll) → IsWorld w → IsWorld (told w p) → IsWorld (polled w pid request p).world
-kept_polled w pid request (poll.Told child status) rules kept = kept
-kept_polled w pid request poll.NoMatch rules kept = rules
-kept_polled w pid request poll.NotReady rules kept =
-    cond_both (is_no_hang request.options) (returns w 0) (waits w pid (waiting.Asks request)) (λ (p : Performed). IsWorld p.world) (λ _. rules)
-    (λ _. kept_body w pid (waiting_in (waiting.Asks request)) rules (λ body. refl))
+kept_polled w pid request (Poll.Told child status) rules kept = kept
+kept_polled w pid request Poll.NoMatch rules kept = rules
+kept_polled w pid request Poll.NotReady rules kept =
+    cond_both (is_no_hang request.options) (returns w 0) (waits w pid (Waiting.Asks request)) (λ (p : Performed). IsWorld p.world) (λ _. rules)
+    (λ _. kept_body w pid (waiting_in (Waiting.Asks request)) rules (λ body. refl))
 
 kept_wait4 : (w : World) (pid : ℕ) (call : Record) → IsWorld w → IsTrue (is_alive (at w pid)) → IsWorld (wait4 w pid call).world
 kept_wait4 w pid call rules alive =
@@ -151,7 +113,7 @@ kept_row declared w pid body which call rules alive =
       executes = λ r. kept_execve w pid r rules;
       marks = kept_subreapers declared.subreapers w (subreaper_set w pid call) rules (kept_body w pid (with_subreaper (not (register call 1 == 0))) rules (λ body. refl));
       asks_mark = kept_subreapers declared.subreapers w (subreaper_asked w body.subreaper) rules rules;
-      pauses = kept_body w pid (waiting_in waiting.Pause) rules (λ body. refl);
+      pauses = kept_body w pid (waiting_in Waiting.Pause) rules (λ body. refl);
       waits_for = kept_wait4 w pid call rules alive;
       forks_one = kept_forks w pid (fork_answer w) rules alive;
       ends = λ status. kept_end w pid status rules alive;
@@ -165,15 +127,15 @@ kept_performed declared w pid body call rules alive = kept_row declared w pid bo
 
 kept_judged : (declared : Images) (w : World) (pid : ℕ) (body : Body) (call : Record) (verdict : ℕ) (a : Action) → IsWorld w
     → IsTrue (is_alive (at w pid)) → IsWorld (judged declared w pid body call verdict a).world
-kept_judged declared w pid body call verdict action.Allow rules alive = kept_performed declared w pid body call rules alive
-kept_judged declared w pid body call verdict action.Log rules alive = kept_performed declared w pid body call rules alive
-kept_judged declared w pid body call verdict action.Trap rules alive = kept_forced w pid rules
-kept_judged declared w pid body call verdict action.Errno rules alive = rules
-kept_judged declared w pid body call verdict action.UserNotif rules alive = rules
-kept_judged declared w pid body call verdict action.Trace rules alive = rules
-kept_judged declared w pid body call verdict action.KillProcess rules alive = kept_end w pid SIGSYS rules alive
-kept_judged declared w pid body call verdict action.KillThread rules alive = kept_end w pid SIGSYS rules alive
-kept_judged declared w pid body call verdict action.Unknown rules alive = kept_end w pid SIGSYS rules alive
+kept_judged declared w pid body call verdict Action.Allow rules alive = kept_performed declared w pid body call rules alive
+kept_judged declared w pid body call verdict Action.Log rules alive = kept_performed declared w pid body call rules alive
+kept_judged declared w pid body call verdict Action.Trap rules alive = kept_forced w pid rules
+kept_judged declared w pid body call verdict Action.Errno rules alive = rules
+kept_judged declared w pid body call verdict Action.UserNotif rules alive = rules
+kept_judged declared w pid body call verdict Action.Trace rules alive = rules
+kept_judged declared w pid body call verdict Action.KillProcess rules alive = kept_end w pid SIGSYS rules alive
+kept_judged declared w pid body call verdict Action.KillThread rules alive = kept_end w pid SIGSYS rules alive
+kept_judged declared w pid body call verdict Action.Unknown rules alive = kept_end w pid SIGSYS rules alive
 
 -- ---- deliveries
 lives_on : (f : Body → Body) (o : Option Proc) → ((body : Body) → (f body).life ≡ body.life) → IsTrue (is_alive o) → IsTrue (is_alive (option_map (body_changed f) o))
@@ -213,9 +175,9 @@ init_or_sigsys true b h = inr (not-false b h)
 
 kept_done_by : (w : World) (pid : ℕ) (body : Body) (n : ℕ) (d : Disposition) → IsWorld w → IsTrue (is_alive (at w pid))
     → IsWorld (acts_by_disposition w pid body n d).world
-kept_done_by w pid body n disposition.Ignore rules alive = rules
-kept_done_by w pid body n (disposition.Handler program mask) rules alive = kept_handled w pid body n program mask rules alive
-kept_done_by w pid body n disposition.Default rules alive =
+kept_done_by w pid body n Disposition.Ignore rules alive = rules
+kept_done_by w pid body n (Disposition.Handler program mask) rules alive = kept_handled w pid body n program mask rules alive
+kept_done_by w pid body n Disposition.Default rules alive =
     cond_both ((pid == INIT) && not (n == SIGSYS)) (ignored w) (acts_by_default w pid n (default_action n)) (λ (d : Delivered). IsWorld d.world) (λ _. rules)
     (λ h. elim (init_or_sigsys (pid == INIT) (n == SIGSYS) h) [
       | inl other ↦ kept_default w pid n (default_action n) rules alive (eqb-false pid INIT other)
@@ -233,14 +195,14 @@ kept_delivered w pid body n rules alive =
 
 -- ---- a call in which a process waits
 kept_polled_again : (w : World) (pid : ℕ) (p : Poll) → IsWorld w → IsWorld (told w p) → IsWorld (polled_again w pid p).world
-kept_polled_again w pid (poll.Told child status) rules kept = kept_body (told w (poll.Told child status)) pid (waiting_in waiting.Nothing) kept (λ body. refl)
-kept_polled_again w pid poll.NoMatch rules kept = kept_body w pid (waiting_in waiting.Nothing) rules (λ body. refl)
-kept_polled_again w pid poll.NotReady rules kept = rules
+kept_polled_again w pid (Poll.Told child status) rules kept = kept_body (told w (Poll.Told child status)) pid (waiting_in Waiting.Nothing) kept (λ body. refl)
+kept_polled_again w pid Poll.NoMatch rules kept = kept_body w pid (waiting_in Waiting.Nothing) rules (λ body. refl)
+kept_polled_again w pid Poll.NotReady rules kept = rules
 
 pub kept_resumed : ResumptionKeepsRules
-kept_resumed w pid (waiting.Asks request) rules alive = kept_polled_again w pid (ready_of w pid request) rules (kept_told w pid request rules (alive_is_there (at w pid) alive))
-kept_resumed w pid waiting.Pause rules alive = rules
-kept_resumed w pid waiting.Nothing rules alive = rules
+kept_resumed w pid (Waiting.Asks request) rules alive = kept_polled_again w pid (ready_of w pid request) rules (kept_told w pid request rules (alive_is_there (at w pid) alive))
+kept_resumed w pid Waiting.Pause rules alive = rules
+kept_resumed w pid Waiting.Nothing rules alive = rules
 
 -- ---- events
 pub kept_happened : (declared : Images) (w : World) (body : Body) (event : Event) → IsWorld w → IsTrue (is_alive (at w (pid_of event)))

@@ -1,27 +1,15 @@
 -- Which groups are orphaned after signals, and which had a stopped process before an end.
 use Rattle.std.proofs.Common.{◌≡◌, ◌≢◌, ◌∙◌, ◌==◌, ℕ, ap, sym, refl, subst, Bool, true, false, cond, not, ◌&&◌, IsTrue, Option, None, Some}
-use Rattle.std.specs.Option.{is_some, option_map, option_map_or, option_and_then}
-use Rattle.std.specs.List.{list_any}
-use Rattle.std.proofs.lemmas.Bool.{false≢true, cond_both, and_parts, and_from}
-use Rattle.sk_world.specs.declared.signals.TheConstants.{SIGCHLD, SIGCONT}
-use Rattle.sk_world.specs.Generation.{generated}
-use Rattle.sk_world.specs.declared.process.TheConstants.{INIT}
-use Rattle.sk_world.specs.declared.process.Life.TheVariants.{Running}
-use Rattle.sk_world.specs.declared.process.Note.TheVariants.{Continued}
-use Rattle.sk_world.specs.declared.process.Links.{Links}
-use Rattle.sk_world.specs.declared.process.Body.{Body}
-use Rattle.sk_world.specs.declared.process.Proc.{Proc}
-use Rattle.sk_world.specs.Processes.{pids}
-use Rattle.sk_world.specs.World.{World, at, has_ended, has_stopped, is_alive, is_stopped, is_member_of, parent_of, stored, body_changed, changed}
-use Rattle.sk_world.specs.Sending.{continued, signalled, generated_at, sent}
-use Rattle.sk_world.specs.Subreapers.{new_parent}
-use Rattle.sk_world.specs.Ending.{ignores_children, handed_on, with_children_handed_on, has_zombie_child, reparented, zombie, left_to_parent, ended}
+use Rattle.sk_laws.specs.Common.{is_some, option_map, option_map_or, option_and_then, list_any, SIGCHLD, SIGCONT, generated, INIT, Running,
+    Continued, Links, Body, Proc, pids, World, at, has_ended, has_stopped, is_alive, is_stopped, is_member_of, parent_of, stored,
+    body_changed, changed, continued, signalled, generated_at, sent, new_parent, ignores_children, handed_on, with_children_handed_on,
+    has_zombie_child, reparented, zombie, left_to_parent, ended, session_of, is_living_member, is_outside, is_tie, is_orphaned,
+    has_stopped_member}
+use Rattle.sk_world.proofs.Common.{false≢true, cond_both, and_parts, and_from}
 use Rattle.sk_world.proofs.Stored.{everywhere}
 use Rattle.sk_world.proofs.KeptEnd.{ended_later, handed_cases, handed_at}
 use Rattle.sk_world.proofs.Telling.{some_passes}
 use Rattle.sk_world.proofs.Walks.{any_here}
-use Rattle.sk_machine.specs.Sessions.{session_of}
-use Rattle.sk_machine.specs.Orphans.{is_living_member, is_outside, is_tie, is_orphaned, has_stopped_member}
 use Rattle.sk_machine.proofs.HangingUp.{sent_life}
 use Rattle.sk_machine.proofs.Hanging.{sent_view}
 use Rattle.sk_machine.proofs.Ties.{tie_holds}
@@ -58,9 +46,6 @@ alike_changed w pid f same = record {
   lives = everywhere w pid (option_map (body_changed f) (at w pid)) (λ q x. is_alive x ≡ is_alive (at w q)) (life_seen f same (at w pid)) (λ q ne. refl);
   links = everywhere w pid (option_map (body_changed f) (at w pid)) (λ q x. links_in x ≡ links_in (at w q)) (links_seen f (at w pid)) (λ q ne. refl);
 }
-
-pub alike_back : (v w : World) → AreAlike v w → AreAlike w v
-alike_back v w alike = record { lives = λ q. sym (alike.lives q); links = λ q. sym (alike.links q) }
 
 member_by_links : (group : ℕ) (o : Option Proc) → is_member_of group o ≡ option_map_or (λ l. l.group == group) (links_in o) false
 member_by_links group None = refl

@@ -1,43 +1,16 @@
 -- What each event does to authorities, and that they are those of the lineages.
 use Rattle.std.proofs.Common.{◌≡◌, ◌∙◌, ℕ, ◌==◌, ◌&&◌, ap, sym, refl, subst, cond, not, Bool, true, false, IsTrue, List, [], ◌∷◌, ◌++◌, Option, None, Some, Result, Ok, Err}
-use Rattle.std.specs.Option.{is_some, unwrap_or, option_to_list, option_map}
-use Rattle.std.specs.Result.{result_unwrap_or}
-use Rattle.std.proofs.lemmas.Bool.{false≢true, cond_both, and_parts, eqb-true, eqb-false, false_from_ne_true}
-use Rattle.sk_insn.specs.declared.record.Record.{Record}
-use Rattle.sk_insn.specs.declared.action.Action.{Action}
-use Rattle.sk_insn.specs.declared.action.Action.TheVariants as action
-use Rattle.sk_insn.specs.Actions.{action_of, performs}
-use Rattle.sk_filter.specs.Verdict.{verdict_of}
-use Rattle.sk_world.specs.declared.errno.Errno.{Errno}
-use Rattle.sk_world.specs.declared.errno.Errno.TheVariants.{Eagain}
-use Rattle.sk_world.specs.declared.signals.TheConstants.{SIGSEGV, SIGSYS}
-use Rattle.sk_world.specs.declared.process.TheConstants.{INIT}
-use Rattle.sk_world.specs.declared.process.Body.{Body}
-use Rattle.sk_world.specs.declared.process.Proc.{Proc}
-use Rattle.sk_world.specs.declared.process.Waiting.TheVariants as waiting
-use Rattle.sk_world.specs.Processes.{none}
-use Rattle.sk_world.specs.World.{World, at, is_alive, changed, first_process, opening}
-use Rattle.sk_world.specs.Numbers.{fresh_of}
-use Rattle.sk_world.specs.Forking.{has_room, forked}
+use Rattle.sk_laws.specs.Common.{is_some, unwrap_or, option_to_list, option_map, result_unwrap_or, Record, Action, action_of, performs,
+    verdict_of, Errno, Eagain, SIGSEGV, SIGSYS, INIT, Body, Proc, Waiting, none, World, at, is_alive, changed, first_process, opening,
+    fresh_of, has_room, forked, forced, Event, Call, Deliver, Resume, Fault, Syscall, pid_of, recorded, Images, syscall_of, register,
+    unsigned, signed, Authority, authority_of, with_authority, authority_after, Performed, authorises, executing, execve, forks,
+    subreaper_set, subreaper_asked, where_subreapers, with_subreaper, row, signal_for, Stepped, judged, happened, step_of, world_after,
+    Lineage, Happening, is_fork, has_returned, lineage_before, calls_added, lineage_of, authority_after_calls, history_after}
+use Rattle.sk_world.proofs.Common.{false≢true, cond_both, and_parts, eqb-true, eqb-false, false_from_ne_true}
 use Rattle.sk_world.proofs.Stored.{everywhere, at_other}
 use Rattle.sk_laws.proofs.Rights.{forced_rights, forked_rights}
-use Rattle.sk_world.specs.Sending.{forced}
 use Rattle.sk_world.proofs.KeptEnd.{alive_is_there}
-use Rattle.sk_machine.specs.declared.event.Event.{Event}
-use Rattle.sk_machine.specs.declared.event.Event.TheVariants.{Call, Deliver, Resume, Fault}
-use Rattle.sk_names.specs.declared.syscall.Syscall.{Syscall}
-use Rattle.sk_names.specs.declared.syscall.Syscall.TheVariants as syscall
-use Rattle.sk_machine.specs.Events.{pid_of, recorded}
-use Rattle.sk_machine.specs.Images.{Images}
-use Rattle.sk_names.specs.Syscalls.{syscall_of}
 use Rattle.sk_names.proofs.SyscallTable.{number_of-syscall_of}
-use Rattle.sk_machine.specs.Arguments.{register, unsigned, signed}
-use Rattle.sk_machine.specs.Authority.{Authority, authority_of, with_authority, authority_after}
-use Rattle.sk_machine.specs.Performed.{Performed, authorises}
-use Rattle.sk_machine.specs.Performing.{executing, execve, forks, subreaper_set, subreaper_asked, where_subreapers, with_subreaper, row}
-use Rattle.sk_machine.specs.Delivering.{signal_for}
-use Rattle.sk_machine.specs.Machine.{Stepped, judged, happened, step_of, world_after}
-use Rattle.sk_machine.specs.Lineages.{Lineage, Happening, is_fork, has_returned, lineage_before, calls_added, lineage_of, authority_after_calls, history_after}
 use Rattle.sk_laws.specs.LineageLaws.{happening, EventChangesAuthority, AuthorityIsOfLineage, LineageComesFromInit}
 use Rattle.sk_laws.proofs.Carrying.{over_asked, over_changes, over_resignals, over_waits, over_kill, over_setpgid, over_setsid, over_wait4, over_end, over_delivered, over_resumed}
 use Rattle.sk_laws.proofs.Authorities.{CameBy, Came, Keeps, came_still, came_at, came_by_rights, keeps_by_rights, keeps_still, keeps_changed, keeps}
@@ -45,13 +18,13 @@ use Rattle.sk_laws.proofs.EachCall.{is_fork_row, CallFacts, changing, each_call}
 use Rattle.sk_laws.proofs.Happened.{at_step, at_delivery}
 
 -- ---- which call is a fork
-only_fork : (o : Option Syscall) → is_fork_row o ≡ true → o ≡ Some syscall.Fork
-only_fork (Some syscall.Fork) is = refl
+only_fork : (o : Option Syscall) → is_fork_row o ≡ true → o ≡ Some Syscall.Fork
+only_fork (Some Syscall.Fork) is = refl
 only_fork other is = absurd (false≢true is)
 
 fork_number_else : (nr : ℕ) → (nr == 57) ≡ false → is_fork_row (syscall_of nr) ≡ false
 fork_number_else nr other =
-    false_from_ne_true (is_fork_row (syscall_of nr)) (λ is. eqb-false nr 57 other (number_of-syscall_of nr syscall.Fork (only_fork (syscall_of nr) is)))
+    false_from_ne_true (is_fork_row (syscall_of nr)) (λ is. eqb-false nr 57 other (number_of-syscall_of nr Syscall.Fork (only_fork (syscall_of nr) is)))
 
 pub fork_number : (nr : ℕ) → is_fork_row (syscall_of nr) ≡ (nr == 57)
 fork_number nr =
@@ -142,7 +115,7 @@ step_row declared w pid q body which call own alive =
       executes = step_execve w pid q old own;
       marks = kept _ (keeps_subreapers declared.subreapers w (subreaper_set w pid call) (keeps_changed w pid (with_subreaper (not (register call 1 == 0))) (λ body. refl)) q);
       asks_mark = kept _ (keeps_subreapers declared.subreapers w (subreaper_asked w body.subreaper) (keeps_still w) q);
-      pauses = kept _ (over_waits Keeps keeps w pid waiting.Pause q);
+      pauses = kept _ (over_waits Keeps keeps w pid Waiting.Pause q);
       waits_for = kept _ (over_wait4 Keeps keeps w pid call q);
       forks_one = step_fork w pid q old own (has_room w) refl alive;
       ends = λ status. kept _ (over_end Keeps keeps w pid status (alive_is_there (at w pid) alive) q);
@@ -182,15 +155,15 @@ step_refused declared w pid q p keeps = no_calls declared ((pid == q) && true) (
 step_judged : (declared : Images) (w : World) (pid q : ℕ) (body : Body) (call : Record) (verdict : ℕ) (a : Action)
     → HasAuthority w pid (authority_of body) → IsTrue (is_alive (at w pid))
     → CallStep declared w pid q (cond (performs a) (Some call) None) (judged declared w pid body call verdict a)
-step_judged declared w pid q body call verdict action.Allow own alive = step_performed declared w pid q body call own alive
-step_judged declared w pid q body call verdict action.Log own alive = step_performed declared w pid q body call own alive
-step_judged declared w pid q body call verdict action.Trap own alive = step_refused declared w pid q (judged declared w pid body call verdict action.Trap) (keeps_by_rights w (forced w pid) (forced_rights w pid))
-step_judged declared w pid q body call verdict action.Errno own alive = step_refused declared w pid q (judged declared w pid body call verdict action.Errno) (keeps_still w)
-step_judged declared w pid q body call verdict action.UserNotif own alive = step_refused declared w pid q (judged declared w pid body call verdict action.UserNotif) (keeps_still w)
-step_judged declared w pid q body call verdict action.Trace own alive = step_refused declared w pid q (judged declared w pid body call verdict action.Trace) (keeps_still w)
-step_judged declared w pid q body call verdict action.KillProcess own alive = step_refused declared w pid q (judged declared w pid body call verdict action.KillProcess) (over_end Keeps keeps w pid SIGSYS (alive_is_there (at w pid) alive))
-step_judged declared w pid q body call verdict action.KillThread own alive = step_refused declared w pid q (judged declared w pid body call verdict action.KillThread) (over_end Keeps keeps w pid SIGSYS (alive_is_there (at w pid) alive))
-step_judged declared w pid q body call verdict action.Unknown own alive = step_refused declared w pid q (judged declared w pid body call verdict action.Unknown) (over_end Keeps keeps w pid SIGSYS (alive_is_there (at w pid) alive))
+step_judged declared w pid q body call verdict Action.Allow own alive = step_performed declared w pid q body call own alive
+step_judged declared w pid q body call verdict Action.Log own alive = step_performed declared w pid q body call own alive
+step_judged declared w pid q body call verdict Action.Trap own alive = step_refused declared w pid q (judged declared w pid body call verdict Action.Trap) (keeps_by_rights w (forced w pid) (forced_rights w pid))
+step_judged declared w pid q body call verdict Action.Errno own alive = step_refused declared w pid q (judged declared w pid body call verdict Action.Errno) (keeps_still w)
+step_judged declared w pid q body call verdict Action.UserNotif own alive = step_refused declared w pid q (judged declared w pid body call verdict Action.UserNotif) (keeps_still w)
+step_judged declared w pid q body call verdict Action.Trace own alive = step_refused declared w pid q (judged declared w pid body call verdict Action.Trace) (keeps_still w)
+step_judged declared w pid q body call verdict Action.KillProcess own alive = step_refused declared w pid q (judged declared w pid body call verdict Action.KillProcess) (over_end Keeps keeps w pid SIGSYS (alive_is_there (at w pid) alive))
+step_judged declared w pid q body call verdict Action.KillThread own alive = step_refused declared w pid q (judged declared w pid body call verdict Action.KillThread) (over_end Keeps keeps w pid SIGSYS (alive_is_there (at w pid) alive))
+step_judged declared w pid q body call verdict Action.Unknown own alive = step_refused declared w pid q (judged declared w pid body call verdict Action.Unknown) (over_end Keeps keeps w pid SIGSYS (alive_is_there (at w pid) alive))
 
 abbrev EventStep : Images → World → Event → Stepped → ℕ → Type 0
 EventStep declared w event s q =

@@ -1,24 +1,11 @@
 -- Whom a change of the world touches, and what a signal leaves of every process.
 use Rattle.std.proofs.Common.{◌≡◌, ◌≢◌, ◌∙◌, ◌==◌, ℕ, arith, ap, sym, refl, subst, Bool, true, false, cond, not, ◌&&◌, ◌⊎◌, inl, inr, IsTrue, Option, None, Some}
-use Rattle.std.specs.Option.{is_some, option_map, option_map_or, option_and_then}
-use Rattle.std.proofs.lemmas.Bool.{false≢true, eqb-true, and_parts, cond_both, cond-false}
-use Rattle.sk_world.specs.declared.signals.TheConstants.{SIGCHLD, SIGCONT}
-use Rattle.sk_world.specs.Generation.{generated, forced as sigsys_forced}
+use Rattle.sk_laws.specs.Common.{is_some, option_map, option_map_or, option_and_then, SIGCHLD, SIGCONT, generated, sigsys_forced, INIT,
+    Life, Running, Stopped, Zombie, Note, Continued, Body, Proc, World, at, has_ended, has_stopped, is_stopped, is_zombie, is_alive,
+    parent_of, stored, body_changed, changed, inserted, fresh_of, continued, signalled, generated_at, sent, has_room, child_of, new_parent,
+    ignores_children, handed_on, with_children_handed_on, has_zombie_child, reparented, zombie, left_to_parent, without_note}
+use Rattle.sk_world.proofs.Common.{false≢true, eqb-true, and_parts, cond_both, cond-false}
 use Rattle.sk_world.proofs.SignalLaws.{generated_twice, settled_by_chld}
-use Rattle.sk_world.specs.declared.process.TheConstants.{INIT}
-use Rattle.sk_world.specs.declared.process.Life.{Life}
-use Rattle.sk_world.specs.declared.process.Life.TheVariants.{Running, Stopped, Zombie}
-use Rattle.sk_world.specs.declared.process.Note.{Note}
-use Rattle.sk_world.specs.declared.process.Note.TheVariants.{Continued}
-use Rattle.sk_world.specs.declared.process.Body.{Body}
-use Rattle.sk_world.specs.declared.process.Proc.{Proc}
-use Rattle.sk_world.specs.World.{World, at, has_ended, has_stopped, is_stopped, is_zombie, is_alive, parent_of, stored, body_changed, changed, inserted}
-use Rattle.sk_world.specs.Numbers.{fresh_of}
-use Rattle.sk_world.specs.Sending.{continued, signalled, generated_at, sent}
-use Rattle.sk_world.specs.Forking.{has_room, child_of}
-use Rattle.sk_world.specs.Subreapers.{new_parent}
-use Rattle.sk_world.specs.Ending.{ignores_children, handed_on, with_children_handed_on, has_zombie_child, reparented, zombie, left_to_parent}
-use Rattle.sk_world.specs.Waits.{without_note}
 use Rattle.sk_laws.specs.ChangeLaws.{SignalIsNotQueued, SignalTouches, ForceTouches, without_signals, unsignalled, SignalKeepsAllElse, ForceKeepsAllElse, TellingTouches, ForkTouches, EndTouches, EndLeavesNoOrphan, ForkGivesChild}
 use Rattle.sk_world.proofs.Stored.{everywhere, at_here, at_other, changed_twice}
 use Rattle.sk_world.proofs.Bodies.{kept_at}

@@ -1,12 +1,7 @@
 -- The machine of the definitions has the laws that are said of any machine.
 use Rattle.std.proofs.Common.{◌≡◌, sym, refl, subst, IsTrue, List, [], ◌∷◌, Some}
-use Rattle.std.specs.Option.{is_some}
-use Rattle.std.specs.List.{list_any}
-use Rattle.sk_world.specs.World.{World, at}
-use Rattle.sk_machine.specs.declared.event.Event.{Event}
-use Rattle.sk_machine.specs.Images.{Images}
-use Rattle.sk_machine.specs.Machine.{step_of, world_after}
-use Rattle.sk_machine.specs.Lineages.{Happening, lineage_of, is_fork_of, history_after, authority_of_lineage, authority_at}
+use Rattle.sk_laws.specs.Common.{is_some, list_any, World, at, Event, Images, step_of, world_after, Happening, lineage_of, is_fork_of,
+    history_after, authority_of_lineage, authority_at}
 use Rattle.sk_laws.specs.TellingLaws.{told_by}
 use Rattle.sk_laws.specs.AnyMachine.{world_by, history_by, GivesAuthorityByLineage, TellsEndsOnce, HasMachineLaws}
 use Rattle.sk_laws.proofs.LineageSteps.{authority_is_of_lineage}

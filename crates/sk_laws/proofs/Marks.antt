@@ -1,48 +1,18 @@
 -- Where there are no subreapers no event makes one.
 use Rattle.std.proofs.Common.{◌≡◌, ◌∙◌, ℕ, ◌==◌, ◌&&◌, ap, sym, refl, cond, not, Bool, true, false, IsTrue, List, [], ◌∷◌, Option, None, Some, Result, Ok, Err}
-use Rattle.std.specs.Option.{is_some, option_map, option_map_or, option_and_then, unwrap_or}
-use Rattle.std.specs.List.{find}
-use Rattle.std.proofs.lemmas.Bool.{false≢true, cond_both}
-use Rattle.sk_insn.specs.declared.record.Record.{Record}
-use Rattle.sk_insn.specs.declared.action.Action.{Action}
-use Rattle.sk_insn.specs.declared.action.Action.TheVariants as action
-use Rattle.sk_insn.specs.Actions.{action_of}
-use Rattle.sk_filter.specs.Verdict.{verdict_of}
-use Rattle.sk_world.specs.declared.errno.Errno.{Errno}
-use Rattle.sk_world.specs.declared.signals.TheConstants.{SIGSEGV, SIGCHLD, SIGSYS}
-use Rattle.sk_world.specs.Generation.{forced as sigsys_forced}
-use Rattle.sk_names.specs.declared.syscall.Syscall.{Syscall}
-use Rattle.sk_names.specs.Syscalls.{syscall_of}
-use Rattle.sk_world.specs.declared.process.TheConstants.{INIT}
-use Rattle.sk_world.specs.declared.process.Life.TheVariants.{Zombie}
-use Rattle.sk_world.specs.declared.process.Links.{Links}
-use Rattle.sk_world.specs.declared.process.Body.{Body}
-use Rattle.sk_world.specs.declared.process.Proc.{Proc}
-use Rattle.sk_world.specs.declared.process.Waiting.TheVariants as waiting
-use Rattle.sk_world.specs.declared.request.Poll.TheVariants as poll
-use Rattle.sk_world.specs.Processes.{none}
-use Rattle.sk_world.specs.World.{World, at, is_zombie, parent_of, stored, body_changed, changed, links_changed, relinked, first_process, opening}
-use Rattle.sk_world.specs.Numbers.{fresh_of}
-use Rattle.sk_world.specs.Sending.{sent}
-use Rattle.sk_world.specs.Forking.{has_room, child_of, fork_answer}
-use Rattle.sk_world.specs.Subreapers.{is_subreaper, ancestors, takes_children, new_parent}
-use Rattle.sk_world.specs.Ending.{ignores_children, handed_on, with_children_handed_on, has_zombie_child, reparented, zombie, left_to_parent, ended}
-use Rattle.sk_world.specs.Waits.{without_note, told}
+use Rattle.sk_laws.specs.Common.{is_some, option_map, option_map_or, option_and_then, unwrap_or, find, Record, Action, action_of,
+    verdict_of, Errno, SIGSEGV, SIGCHLD, SIGSYS, sigsys_forced, Syscall, syscall_of, INIT, Zombie, Links, Body, Proc, Waiting, Poll, none,
+    World, at, is_zombie, parent_of, stored, body_changed, changed, links_changed, relinked, first_process, opening, fresh_of, sent,
+    has_room, child_of, fork_answer, is_subreaper, ancestors, takes_children, new_parent, ignores_children, handed_on,
+    with_children_handed_on, has_zombie_child, reparented, zombie, left_to_parent, ended, without_note, told, Event, Call, Deliver, Resume,
+    Fault, unsigned, signed, pid_of, recorded, Images, Authority, with_authority, Performed, authorises, executing, execve, forks,
+    subreaper_set, subreaper_asked, where_subreapers, row, signal_for, judged, happened, step_of, world_after}
+use Rattle.sk_world.proofs.Common.{false≢true, cond_both}
 use Rattle.sk_laws.specs.ChangeLaws.{unsignalled}
 use Rattle.sk_world.proofs.Maps.{get_store}
 use Rattle.sk_world.proofs.Stored.{everywhere}
 use Rattle.sk_world.proofs.KeptEnd.{handed_cases, handed_at, alive_is_there}
 use Rattle.sk_laws.proofs.Locality.{sent_leaves}
-use Rattle.sk_machine.specs.declared.event.Event.{Event}
-use Rattle.sk_machine.specs.declared.event.Event.TheVariants.{Call, Deliver, Resume, Fault}
-use Rattle.sk_machine.specs.Arguments.{unsigned, signed}
-use Rattle.sk_machine.specs.Events.{pid_of, recorded}
-use Rattle.sk_machine.specs.Images.{Images}
-use Rattle.sk_machine.specs.Authority.{Authority, with_authority}
-use Rattle.sk_machine.specs.Performed.{Performed, authorises}
-use Rattle.sk_machine.specs.Performing.{executing, execve, forks, subreaper_set, subreaper_asked, where_subreapers, row}
-use Rattle.sk_machine.specs.Delivering.{signal_for}
-use Rattle.sk_machine.specs.Machine.{judged, happened, step_of, world_after}
 use Rattle.sk_laws.specs.MachineLaws.{HasNoSubreapers, EventMarksNobody, RunMarksNobody, NobodyIsMarked, InitTakesOrphans, OrphansGoToInit}
 use Rattle.sk_laws.proofs.Carrying.{Carries, over_asked, over_changes, over_resignals, over_waits, over_kill, over_setpgid, over_setsid, over_wait4, over_end, over_delivered, over_resumed}
 use Rattle.sk_laws.proofs.EachCall.{each_call}
@@ -105,7 +75,7 @@ marks_ended w pid status =
     (λ _. marks_changed w INIT (λ body. record body { life = Zombie status }) (λ body. refl))
     (λ _ none. marks_died (reparented w pid) pid status (marks_reparented w pid none))
 
-marks_told : (w : World) (child status : ℕ) → MarksNobody w (told w (poll.Told child status))
+marks_told : (w : World) (child status : ℕ) → MarksNobody w (told w (Poll.Told child status))
 marks_told w child status =
     cond_both (is_zombie (at w child)) (stored w child None) (changed w child without_note) (MarksNobody w) (λ _. marks_gone w child) (λ _. marks_changed w child without_note (λ body. refl))
 
@@ -154,7 +124,7 @@ marks_row declared w pid body which call is there =
       executes = marks_execve w pid;
       marks = marks_where declared.subreapers w (subreaper_set w pid call) is;
       asks_mark = marks_where declared.subreapers w (subreaper_asked w body.subreaper) is;
-      pauses = over_waits MarksNobody marks w pid waiting.Pause;
+      pauses = over_waits MarksNobody marks w pid Waiting.Pause;
       waits_for = over_wait4 MarksNobody marks w pid call;
       forks_one = marks_forks w pid (fork_answer w);
       ends = λ status. over_end MarksNobody marks w pid status there;
@@ -166,15 +136,15 @@ marks_row declared w pid body which call is there =
 -- ---- events
 marks_judged : (declared : Images) (w : World) (pid : ℕ) (body : Body) (call : Record) (verdict : ℕ) (a : Action) → declared.subreapers ≡ false
     → IsTrue (is_some (at w pid)) → MarksNobody w (judged declared w pid body call verdict a).world
-marks_judged declared w pid body call verdict action.Allow is there = marks_row declared w pid body (syscall_of call.nr) call is there
-marks_judged declared w pid body call verdict action.Log is there = marks_row declared w pid body (syscall_of call.nr) call is there
-marks_judged declared w pid body call verdict action.Trap is there = marks_changed w pid (λ body. record body { signals = sigsys_forced body.signals }) (λ body. refl)
-marks_judged declared w pid body call verdict action.Errno is there = λ none. none
-marks_judged declared w pid body call verdict action.UserNotif is there = λ none. none
-marks_judged declared w pid body call verdict action.Trace is there = λ none. none
-marks_judged declared w pid body call verdict action.KillProcess is there = over_end MarksNobody marks w pid SIGSYS there
-marks_judged declared w pid body call verdict action.KillThread is there = over_end MarksNobody marks w pid SIGSYS there
-marks_judged declared w pid body call verdict action.Unknown is there = over_end MarksNobody marks w pid SIGSYS there
+marks_judged declared w pid body call verdict Action.Allow is there = marks_row declared w pid body (syscall_of call.nr) call is there
+marks_judged declared w pid body call verdict Action.Log is there = marks_row declared w pid body (syscall_of call.nr) call is there
+marks_judged declared w pid body call verdict Action.Trap is there = marks_changed w pid (λ body. record body { signals = sigsys_forced body.signals }) (λ body. refl)
+marks_judged declared w pid body call verdict Action.Errno is there = λ none. none
+marks_judged declared w pid body call verdict Action.UserNotif is there = λ none. none
+marks_judged declared w pid body call verdict Action.Trace is there = λ none. none
+marks_judged declared w pid body call verdict Action.KillProcess is there = over_end MarksNobody marks w pid SIGSYS there
+marks_judged declared w pid body call verdict Action.KillThread is there = over_end MarksNobody marks w pid SIGSYS there
+marks_judged declared w pid body call verdict Action.Unknown is there = over_end MarksNobody marks w pid SIGSYS there
 
 marks_happened : (declared : Images) (w : World) (body : Body) (event : Event) → declared.subreapers ≡ false → IsTrue (is_some (at w (pid_of event)))
     → MarksNobody w (happened declared w body event).world

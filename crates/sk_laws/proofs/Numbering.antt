@@ -1,15 +1,8 @@
 -- The number of a child is nobody's.
 use Rattle.std.proofs.Common.{◌≡◌, ◌∙◌, ◌==◌, ℕ, ap, sym, refl, Bool, true, false, cond, ◌||◌, IsTrue, List, [], ◌∷◌, Some}
-use Rattle.std.specs.Option.{is_some, unwrap_or}
-use Rattle.std.specs.List.{list_any}
-use Rattle.std.specs.Ordering.{nat_cmp}
+use Rattle.sk_laws.specs.Common.{is_some, unwrap_or, list_any, nat_cmp, PROCESSES, Proc, count, World, at, has_number, is_used, fresh_of}
 use Rattle.std.specs.FinMap.Entries.{find}
-use Rattle.std.proofs.lemmas.Bool.{false≢true, eq-eqb, eqb-true, ltb-true, or_left, or_right}
-use Rattle.sk_world.specs.declared.process.TheConstants.{PROCESSES}
-use Rattle.sk_world.specs.declared.process.Proc.{Proc}
-use Rattle.sk_world.specs.Processes.{count}
-use Rattle.sk_world.specs.World.{World, at}
-use Rattle.sk_world.specs.Numbers.{has_number, is_used, fresh_of}
+use Rattle.sk_world.proofs.Common.{false≢true, eq-eqb, eqb-true, ltb-true, or_left, or_right}
 use Rattle.sk_laws.specs.ChangeLaws.{NumberIsNew}
 use Rattle.sk_world.proofs.Maps.{same_number}
 use Rattle.sk_world.proofs.Fresh.{fresh_unused}

@@ -1,56 +1,23 @@
 -- Whose child each process is after an event, and that those who come from confined ones are confined.
 use Rattle.std.proofs.Common.{◌≡◌, ◌≢◌, ◌∙◌, ℕ, ℤ, zero, suc, ◌+◌, ◌≤◌, ◌==◌, ◌&&◌, ◌⊎◌, ◌<ℤ◌, ◌≤ℤ◌, inl, inr, arith, ap, sym, refl, subst, cond, not, Bool, true, false, length, slice_get, IsTrue, List, [], ◌∷◌, ◌++◌, Option, None, Some, Result, Ok, Err, IfSome}
-use Rattle.std.specs.Option.{is_some, unwrap_or, option_map, option_and_then}
-use Rattle.std.specs.List.{find}
-use Rattle.std.proofs.lemmas.Int.{ints}
-use Rattle.std.proofs.lemmas.Bool.{false≢true, cond_both, cond-true, eqb-true, eqb-false, eq-eqb, ne_eqb, and_parts, ltb-true}
-use Rattle.sk_insn.specs.declared.insn.Insn.{Insn}
-use Rattle.sk_insn.specs.declared.record.Record.{Record}
-use Rattle.sk_insn.specs.declared.action.Action.{Action}
-use Rattle.sk_insn.specs.declared.action.Action.TheVariants as action
-use Rattle.sk_insn.specs.Actions.{action_of, performs}
+use Rattle.sk_laws.specs.Common.{is_some, unwrap_or, option_map, option_and_then, find, Insn, Record, Action, action_of, performs,
+    meaning_value, values_of, first_of, verdict_of, IsAtMost, precedence_of, Errno, Eagain, SIGSEGV, SIGCHLD, SIGCONT, SIGSYS,
+    sigsys_forced, INIT, PROCESSES, Links, Zombie, Body, Proc, Waiting, Poll, count, World, at, is_stopped, is_zombie, is_halted, parent_of,
+    stored, body_changed, changed, links_changed, relinked, IsWorld, is_init, fresh_of, has_room, forked, generated_at, sent, forced,
+    is_subreaper, line_up, ancestors, takes_children, new_parent, ignores_children, handed_on, with_children_handed_on, has_zombie_child,
+    reparented, zombie, left_to_parent, ended, without_note, told, Event, Call, Deliver, Resume, Fault, Halted, Syscall, pid_of, recorded,
+    Images, syscall_of, register, unsigned, signed, Authority, with_authority, Performed, authorises, executing, execve, forks,
+    subreaper_set, subreaper_asked, where_subreapers, with_subreaper, row, signal_for, Stepped, judged, happened, reason_of, step_of,
+    world_after, Happening, is_fork, has_returned, is_fork_of, lineage_before, calls_added, lineage_of, authority_after_calls,
+    history_after, authority_at}
+use Rattle.sk_world.proofs.Common.{ints, false≢true, cond_both, cond-true, eqb-true, eqb-false, eq-eqb, ne_eqb, and_parts, ltb-true}
 use Rattle.sk_filter.specs.Meaning.{meaning_of}
-use Rattle.sk_filter.specs.Verdict.{meaning_value, values_of, first_of, verdict_of, IsAtMost, precedence_of}
 use Rattle.sk_filter.proofs.Verdicts.{first_of-least}
-use Rattle.sk_world.specs.declared.errno.Errno.{Errno}
-use Rattle.sk_world.specs.declared.errno.Errno.TheVariants.{Eagain}
-use Rattle.sk_world.specs.declared.signals.TheConstants.{SIGSEGV, SIGCHLD, SIGCONT, SIGSYS}
-use Rattle.sk_world.specs.Generation.{forced as sigsys_forced}
-use Rattle.sk_world.specs.declared.process.TheConstants.{INIT, PROCESSES}
-use Rattle.sk_world.specs.declared.process.Links.{Links}
-use Rattle.sk_world.specs.declared.process.Life.TheVariants.{Zombie}
-use Rattle.sk_world.specs.declared.process.Body.{Body}
-use Rattle.sk_world.specs.declared.process.Proc.{Proc}
-use Rattle.sk_world.specs.declared.process.Waiting.TheVariants as waiting
-use Rattle.sk_world.specs.declared.request.Poll.TheVariants as poll
-use Rattle.sk_world.specs.Processes.{count}
-use Rattle.sk_world.specs.World.{World, at, is_stopped, is_zombie, is_halted, parent_of, stored, body_changed, changed, links_changed, relinked}
-use Rattle.sk_world.specs.Rules.{IsWorld, is_init}
-use Rattle.sk_world.specs.Numbers.{fresh_of}
-use Rattle.sk_world.specs.Forking.{has_room, forked}
-use Rattle.sk_world.specs.Sending.{generated_at, sent, forced}
-use Rattle.sk_world.specs.Subreapers.{is_subreaper, line_up, ancestors, takes_children, new_parent}
-use Rattle.sk_world.specs.Ending.{ignores_children, handed_on, with_children_handed_on, has_zombie_child, reparented, zombie, left_to_parent, ended}
-use Rattle.sk_world.specs.Waits.{without_note, told}
 use Rattle.sk_world.proofs.Stored.{everywhere}
 use Rattle.sk_world.proofs.Ancestors.{new_parent_by}
 use Rattle.sk_world.proofs.KeptEnd.{handed_cases, handed_at, alive_is_there}
 use Rattle.sk_laws.proofs.Locality.{forked_touches, forked_child}
 use Rattle.sk_world.proofs.Fresh.{fresh_in_range, fresh_absent}
-use Rattle.sk_machine.specs.declared.event.Event.{Event}
-use Rattle.sk_machine.specs.declared.event.Event.TheVariants.{Call, Deliver, Resume, Fault}
-use Rattle.sk_machine.specs.declared.answer.Reason.TheVariants.{Halted}
-use Rattle.sk_names.specs.declared.syscall.Syscall.{Syscall}
-use Rattle.sk_machine.specs.Events.{pid_of, recorded}
-use Rattle.sk_machine.specs.Images.{Images}
-use Rattle.sk_names.specs.Syscalls.{syscall_of}
-use Rattle.sk_machine.specs.Arguments.{register, unsigned, signed}
-use Rattle.sk_machine.specs.Authority.{Authority, with_authority}
-use Rattle.sk_machine.specs.Performed.{Performed, authorises}
-use Rattle.sk_machine.specs.Performing.{executing, execve, forks, subreaper_set, subreaper_asked, where_subreapers, with_subreaper, row}
-use Rattle.sk_machine.specs.Delivering.{signal_for}
-use Rattle.sk_machine.specs.Machine.{Stepped, judged, happened, reason_of, step_of, world_after}
-use Rattle.sk_machine.specs.Lineages.{Happening, is_fork, has_returned, is_fork_of, lineage_before, calls_added, lineage_of, authority_after_calls, history_after, authority_at}
 use Rattle.sk_laws.specs.LineageLaws.{happening, lineage_after}
 use Rattle.sk_laws.specs.ConfinementLaws.{RefusesKill, IsConfined, ConfinementStays, LineageIsConfined}
 use Rattle.sk_laws.proofs.Carrying.{Carries, over_asked, over_changes, over_resignals, over_waits, over_kill, over_setpgid, over_setsid, over_wait4, over_end, over_delivered, over_resumed}
@@ -153,7 +120,7 @@ moved_sent w pid n =
     (λ _. moved_twice w once (generated_at once (parent_of (at w pid)) SIGCHLD) (moved_changed w pid _) (moved_changed once (parent_of (at w pid)) _))
     (λ _. moved_changed w pid _)
 
-moved_told : (w : World) (child status : ℕ) → Moves w (told w (poll.Told child status))
+moved_told : (w : World) (child status : ℕ) → Moves w (told w (Poll.Told child status))
 moved_told w child status = cond_both (is_zombie (at w child)) (stored w child None) (changed w child without_note) (Moves w) (λ _. moved_gone w child) (λ _. moved_changed w child without_note)
 
 -- who is found on the way up is an ancestor
@@ -300,7 +267,7 @@ comes_row declared w pid q body which call rules there =
       executes = λ r. comes_moved w _ pid q (moved_execve w pid r q);
       marks = comes_moved w _ pid q (moved_subreapers declared.subreapers w (subreaper_set w pid call) (moved_changed w pid (with_subreaper (not (register call 1 == 0)))) q);
       asks_mark = comes_moved w _ pid q (moved_subreapers declared.subreapers w (subreaper_asked w body.subreaper) (moved_still w) q);
-      pauses = comes_moved w _ pid q (over_waits Moves moves w pid waiting.Pause q);
+      pauses = comes_moved w _ pid q (over_waits Moves moves w pid Waiting.Pause q);
       waits_for = comes_moved w _ pid q (over_wait4 Moves moves w pid call q);
       forks_one = comes_fork w pid q (has_room w) refl rules there;
       ends = λ status. comes_moved w _ pid q (over_end Moves moves w pid status there q);
@@ -321,15 +288,15 @@ comes_performed declared w pid q body call rules there =
 
 comes_judged : (declared : Images) (w : World) (pid q : ℕ) (body : Body) (call : Record) (verdict : ℕ) (a : Action) → IsWorld w → IsTrue (is_some (at w pid))
     → CallComes w pid q (cond (performs a) (Some call) None) (judged declared w pid body call verdict a)
-comes_judged declared w pid q body call verdict action.Allow rules there = comes_performed declared w pid q body call rules there
-comes_judged declared w pid q body call verdict action.Log rules there = comes_performed declared w pid q body call rules there
-comes_judged declared w pid q body call verdict action.Trap rules there = comes_moved w (forced w pid) pid q (moved_changed w pid (λ body. record body { signals = sigsys_forced body.signals }) q)
-comes_judged declared w pid q body call verdict action.Errno rules there = comes_moved w w pid q (moved_still w q)
-comes_judged declared w pid q body call verdict action.UserNotif rules there = comes_moved w w pid q (moved_still w q)
-comes_judged declared w pid q body call verdict action.Trace rules there = comes_moved w w pid q (moved_still w q)
-comes_judged declared w pid q body call verdict action.KillProcess rules there = comes_moved w _ pid q (over_end Moves moves w pid SIGSYS there q)
-comes_judged declared w pid q body call verdict action.KillThread rules there = comes_moved w _ pid q (over_end Moves moves w pid SIGSYS there q)
-comes_judged declared w pid q body call verdict action.Unknown rules there = comes_moved w _ pid q (over_end Moves moves w pid SIGSYS there q)
+comes_judged declared w pid q body call verdict Action.Allow rules there = comes_performed declared w pid q body call rules there
+comes_judged declared w pid q body call verdict Action.Log rules there = comes_performed declared w pid q body call rules there
+comes_judged declared w pid q body call verdict Action.Trap rules there = comes_moved w (forced w pid) pid q (moved_changed w pid (λ body. record body { signals = sigsys_forced body.signals }) q)
+comes_judged declared w pid q body call verdict Action.Errno rules there = comes_moved w w pid q (moved_still w q)
+comes_judged declared w pid q body call verdict Action.UserNotif rules there = comes_moved w w pid q (moved_still w q)
+comes_judged declared w pid q body call verdict Action.Trace rules there = comes_moved w w pid q (moved_still w q)
+comes_judged declared w pid q body call verdict Action.KillProcess rules there = comes_moved w _ pid q (over_end Moves moves w pid SIGSYS there q)
+comes_judged declared w pid q body call verdict Action.KillThread rules there = comes_moved w _ pid q (over_end Moves moves w pid SIGSYS there q)
+comes_judged declared w pid q body call verdict Action.Unknown rules there = comes_moved w _ pid q (over_end Moves moves w pid SIGSYS there q)
 
 abbrev EventComes : World → Event → Stepped → ℕ → Type 0
 EventComes w event s q = Comes w s.world (pid_of event) q (is_fork_of q (event, s.answer))

@@ -1,21 +1,10 @@
 -- No change but a call of the process itself gives it rights, or takes them.
 use Rattle.std.proofs.Common.{◌≡◌, ◌∙◌, ◌==◌, ℕ, ap, sym, refl, subst, Bool, true, false, cond, not, ◌&&◌, IsTrue, Option, None, Some}
-use Rattle.std.specs.Option.{is_some, option_map, option_map_or, option_and_then}
-use Rattle.std.proofs.lemmas.Bool.{false≢true, eq-eqb, eqb-true, and_parts, and_from, cond_both}
-use Rattle.sk_world.specs.declared.signals.TheConstants.{SIGCHLD, SIGCONT}
-use Rattle.sk_world.specs.Generation.{generated, forced as sigsys_forced}
-use Rattle.sk_world.specs.declared.process.TheConstants.{INIT}
-use Rattle.sk_world.specs.declared.process.Life.TheVariants.{Running, Zombie}
-use Rattle.sk_world.specs.declared.process.Note.TheVariants.{Continued}
-use Rattle.sk_world.specs.declared.process.Body.{Body}
-use Rattle.sk_world.specs.declared.process.Proc.{Proc}
-use Rattle.sk_world.specs.World.{World, at, has_ended, has_stopped, is_stopped, is_zombie, is_alive, parent_of, stored, body_changed, changed, inserted}
-use Rattle.sk_world.specs.Numbers.{fresh_of}
-use Rattle.sk_world.specs.Sending.{continued, signalled, generated_at, sent}
-use Rattle.sk_world.specs.Forking.{forked, has_room, child_of}
-use Rattle.sk_world.specs.Subreapers.{new_parent}
-use Rattle.sk_world.specs.Ending.{ignores_children, handed_on, with_children_handed_on, has_zombie_child, reparented, zombie, left_to_parent}
-use Rattle.sk_world.specs.Waits.{without_note}
+use Rattle.sk_laws.specs.Common.{is_some, option_map, option_map_or, option_and_then, SIGCHLD, SIGCONT, generated, sigsys_forced, INIT,
+    Running, Zombie, Continued, Body, Proc, World, at, has_ended, has_stopped, is_stopped, is_zombie, is_alive, parent_of, stored,
+    body_changed, changed, inserted, fresh_of, continued, signalled, generated_at, sent, forked, has_room, child_of, new_parent,
+    ignores_children, handed_on, with_children_handed_on, has_zombie_child, reparented, zombie, left_to_parent, without_note}
+use Rattle.sk_world.proofs.Common.{false≢true, eq-eqb, eqb-true, and_parts, and_from, cond_both}
 use Rattle.sk_laws.specs.ChangeLaws.{HasSameRights, StaysInRights, KeepsRights, SignalKeepsRights, ForceKeepsRights, ReparentKeepsRights, EndKeepsRights, TellingKeepsRights, ForkKeepsRights}
 use Rattle.sk_world.proofs.Stored.{everywhere}
 use Rattle.sk_world.proofs.KeptEnd.{handed_cases, handed_at}

@@ -1,20 +1,10 @@
 -- Each run is lawful.
 use Rattle.std.proofs.Common.{◌≡◌, ◌∙◌, ℕ, ap, sym, refl, subst, reverse, append_assoc, IsTrue, List, [], ◌∷◌, ◌++◌, Option, None, Some, IfSome}
-use Rattle.sk_world.specs.declared.process.Proc.{Proc}
-use Rattle.std.proofs.lemmas.Bool.{false≢true}
-use Rattle.std.specs.Option.{is_some, option_map, unwrap_or}
-use Rattle.std.specs.List.{zip}
-use Rattle.std.proofs.lemmas.List.{reverse-append}
-use Rattle.sk_insn.specs.declared.record.Record.{Record}
-use Rattle.sk_filter.specs.Verdict.{values_of, verdict_of, IsLeast}
+use Rattle.sk_laws.specs.Common.{Proc, is_some, option_map, unwrap_or, zip, Record, values_of, verdict_of, IsLeast, World, at, Event,
+    recorded, Images, step_of, answers_of, world_after, Lineage, Happening, authority_after_calls, history_after, authority_at, Authority,
+    authority_of}
+use Rattle.sk_world.proofs.Common.{false≢true, reverse-append}
 use Rattle.sk_filter.proofs.Verdicts.{verdict_of_least}
-use Rattle.sk_world.specs.World.{World, at}
-use Rattle.sk_machine.specs.declared.event.Event.{Event}
-use Rattle.sk_machine.specs.Events.{recorded}
-use Rattle.sk_machine.specs.Images.{Images}
-use Rattle.sk_machine.specs.Machine.{step_of, answers_of, world_after}
-use Rattle.sk_machine.specs.Lineages.{Lineage, Happening, authority_after_calls, history_after, authority_at}
-use Rattle.sk_machine.specs.Authority.{Authority, authority_of}
 use Rattle.sk_laws.specs.FilterLaws.{AreAccepted, AllReturn}
 use Rattle.sk_laws.specs.LineageLaws.{lineage_after, judged_by}
 use Rattle.sk_laws.specs.RunLaws.{IsVerdictOf, HasGrown, RunsAreLawful}

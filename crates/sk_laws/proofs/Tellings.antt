@@ -1,62 +1,28 @@
 -- Whom wait4(2) tells of, and how often.
 use Rattle.std.proofs.Common.{◌≡◌, ◌∙◌, ℕ, ◌+◌, ◌*◌, ◌==◌, arith, ap, sym, refl, subst, cond, not, Bool, true, false, IsTrue, List, [], ◌∷◌, Option, None, Some, Result, Ok, Err}
-use Rattle.std.specs.Option.{is_some, unwrap_or, option_map, option_map_or}
-use Rattle.std.specs.List.{list_any, find}
-use Rattle.std.proofs.lemmas.Bool.{false≢true, cond_both, or_parts, and_parts}
-use Rattle.sk_insn.specs.declared.record.Record.{Record}
-use Rattle.sk_insn.specs.declared.action.Action.{Action}
-use Rattle.sk_insn.specs.declared.action.Action.TheVariants as action
-use Rattle.sk_insn.specs.Actions.{action_of}
-use Rattle.sk_filter.specs.Verdict.{verdict_of}
-use Rattle.sk_world.specs.declared.errno.Errno.{Errno}
-use Rattle.sk_world.specs.declared.errno.Errno.TheVariants.{Esrch, Einval}
-use Rattle.sk_world.specs.SignalState.{SignalState}
-use Rattle.sk_world.specs.declared.process.Life.{Life}
-use Rattle.sk_world.specs.declared.process.Life.TheVariants.{Running, Stopped, Zombie}
-use Rattle.sk_world.specs.declared.process.Note.{Note}
-use Rattle.sk_world.specs.declared.process.Note.TheVariants as note
-use Rattle.sk_world.specs.declared.process.Waiting.{Waiting}
-use Rattle.sk_world.specs.declared.process.Waiting.TheVariants as waiting
-use Rattle.sk_world.specs.declared.process.Body.{Body}
-use Rattle.sk_world.specs.declared.process.Proc.{Proc}
+use Rattle.sk_laws.specs.Common.{is_some, unwrap_or, option_map, option_map_or, list_any, find, Record, Action, action_of, verdict_of,
+    Errno, Esrch, Einval, SignalState, Life, Running, Stopped, Zombie, Note, Waiting, Body, Proc, Request, Poll, pids, World, at, is_zombie,
+    stored, body_changed, changed, fork_answer, is_no_hang, is_untraced, is_continued, is_match, is_ready, has_match, status_of_note,
+    status_of_body, status_of, ready_of, without_note, told, after_setpgid, after_setsid, Event, Call, Deliver, Resume, Fault, Syscall,
+    pid_of, recorded, Images, syscall_of, unsigned, signed, Authority, Performed, returns, fails, asked, changes, authorises, waiting_in,
+    waits, resignals, after_kill, are_wait_options, request_of, polled, wait4, polled_again, resumed, execve, forks, subreaper_set,
+    subreaper_asked, where_subreapers, row, judged, step_of, world_after, Stepped, happened, Happening, is_fork_of, lineage_before,
+    history_after, signal_for}
+use Rattle.sk_world.proofs.Common.{false≢true, cond_both, or_parts, and_parts}
 use Rattle.sk_world.specs.declared.request.WaitOptions.{WaitOptions}
-use Rattle.sk_world.specs.declared.request.Request.{Request}
-use Rattle.sk_world.specs.declared.request.Poll.{Poll}
-use Rattle.sk_world.specs.declared.request.Poll.TheVariants as poll
-use Rattle.sk_world.specs.Processes.{pids}
-use Rattle.sk_world.specs.World.{World, at, is_zombie, stored, body_changed, changed}
-use Rattle.sk_world.specs.Forking.{fork_answer}
-use Rattle.sk_world.specs.Waits.{is_no_hang, is_untraced, is_continued, is_match, is_ready, has_match, status_of_note, status_of_body, status_of, ready_of, without_note, told}
 use Rattle.sk_world.proofs.StatusChanges.{by_first, ready_first}
 use Rattle.sk_world.proofs.Stored.{everywhere, at_here}
 use Rattle.sk_world.proofs.KeptTold.{match_parent}
 use Rattle.sk_world.proofs.Telling.{ready_lowest}
-use Rattle.sk_machine.specs.Sessions.{after_setpgid, after_setsid}
-use Rattle.sk_machine.specs.declared.event.Event.{Event}
-use Rattle.sk_machine.specs.declared.event.Event.TheVariants.{Call, Deliver, Resume, Fault}
-use Rattle.sk_names.specs.declared.syscall.Syscall.{Syscall}
-use Rattle.sk_machine.specs.Events.{pid_of, recorded}
-use Rattle.sk_machine.specs.Images.{Images}
-use Rattle.sk_names.specs.Syscalls.{syscall_of}
-use Rattle.sk_machine.specs.Arguments.{unsigned, signed}
-use Rattle.sk_machine.specs.Authority.{Authority}
-use Rattle.sk_machine.specs.Performed.{Performed, returns, fails, asked, changes, authorises, waiting_in, waits}
-use Rattle.sk_machine.specs.SignalCalls.{resignals}
-use Rattle.sk_machine.specs.Killing.{after_kill}
-use Rattle.sk_machine.specs.WaitCalls.{are_wait_options, request_of, polled, wait4, polled_again, resumed}
-use Rattle.sk_machine.specs.Performing.{execve, forks, subreaper_set, subreaper_asked, where_subreapers, row}
-use Rattle.sk_machine.specs.Machine.{judged, step_of, world_after, Stepped, happened}
-use Rattle.sk_machine.specs.Lineages.{Happening, is_fork_of, lineage_before, history_after}
 use Rattle.sk_laws.specs.LineageLaws.{happening}
 use Rattle.sk_laws.specs.TellingLaws.{told_in, told_by, IsEnd, HasEndedUnder, EndIsToldToParent, EndIsToldOnce}
 use Rattle.sk_laws.proofs.LineageSteps.{event_changes_authority}
 use Rattle.sk_laws.proofs.EachCall.{each_call}
 use Rattle.sk_laws.proofs.Happened.{at_step, at_delivery}
-use Rattle.sk_machine.specs.Delivering.{signal_for}
 
 -- what a search tells
 found_status : (o : Option ℕ) (status_at : ℕ → ℕ) (b : Bool) (child status : ℕ)
-    → option_map_or (λ k. poll.Told k (status_at k)) o (cond b poll.NotReady poll.NoMatch) ≡ poll.Told child status → status ≡ status_at child
+    → option_map_or (λ k. Poll.Told k (status_at k)) o (cond b Poll.NotReady Poll.NoMatch) ≡ Poll.Told child status → status ≡ status_at child
 found_status None status_at true child status is = cc
 found_status None status_at false child status is = cc
 found_status (Some k) status_at b child status is =
@@ -69,11 +35,11 @@ stopped_is_no_end : (n : ℕ) → IsEnd (n * 256 + 0x7f) → ⊥
 stopped_is_no_end n low = omega arith
 
 note_is_no_end : (options : WaitOptions) (n : Note) → IsTrue (is_some (status_of_note options n)) → IsEnd (unwrap_or (status_of_note options n) 0) → ⊥
-note_is_no_end options note.Nothing some low = false≢true some
-note_is_no_end options (note.Stopped n) some low =
+note_is_no_end options Note.Nothing some low = false≢true some
+note_is_no_end options (Note.Stopped n) some low =
     cond_both (is_untraced options) (Some (n * 256 + 0x7f)) None (λ o. IsTrue (is_some o) → IsEnd (unwrap_or o 0) → ⊥)
     (λ _ _ low. stopped_is_no_end n low) (λ _ some _. false≢true some) some low
-note_is_no_end options note.Continued some low =
+note_is_no_end options Note.Continued some low =
     cond_both (is_continued options) (Some 0xffff) None (λ o. IsTrue (is_some o) → IsEnd (unwrap_or o 0) → ⊥)
     (λ _ _ low. omega arith) (λ _ some _. false≢true some) some low
 
@@ -109,11 +75,11 @@ ended_of caller request child status (Some p) is some same low =
 zombie_at : (w : World) (caller child status : ℕ) → (p : Proc) × (at w child ≡ Some p) × HasEndedUnder caller status p → IsTrue (is_zombie (at w child))
 zombie_at w caller child status (p, there, ended) = ap is_zombie there ∙ ap (λ life. is_zombie (Some (record p { body = record p.body { life = life } }))) ended.life
 
-told_gone : (w : World) (child status : ℕ) → IsTrue (is_zombie (at w child)) → at (told w (poll.Told child status)) child ≡ None
+told_gone : (w : World) (child status : ℕ) → IsTrue (is_zombie (at w child)) → at (told w (Poll.Told child status)) child ≡ None
 told_gone w child status zombie = ap (λ b. at (cond b (stored w child None) (changed w child without_note)) child) zombie ∙ at_here w child None
 
-told_of_ready : (w : World) (caller : ℕ) (request : Request) (child status : ℕ) → ready_of w caller request ≡ poll.Told child status
-    → IsTold w (told w (poll.Told child status)) caller child status
+told_of_ready : (w : World) (caller : ℕ) (request : Request) (child status : ℕ) → ready_of w caller request ≡ Poll.Told child status
+    → IsTold w (told w (Poll.Told child status)) caller child status
 unfolding by_first
 told_of_ready w caller request child status is =
     let ready = (ready_lowest w caller request child status is).0 in
@@ -159,14 +125,14 @@ tells_asked w pid (Ok n) child status is = nothing_told w _ pid child status is
 tells_asked w pid (Err e) child status is = nothing_told w _ pid child status is
 
 tells_polled : (w : World) (pid : ℕ) (request : Request) (p : Poll) → ready_of w pid request ≡ p → TellsRight w pid (polled w pid request p)
-tells_polled w pid request (poll.Told k s) ready child status is =
+tells_polled w pid request (Poll.Told k s) ready child status is =
     let same_child : k ≡ child = ap (λ (o : Option (ℕ × ℕ)). (unwrap_or o (0, 0)).0) is in
     let same_status : s ≡ status = ap (λ (o : Option (ℕ × ℕ)). (unwrap_or o (0, 0)).1) is in
-    subst (λ n. IsTold w (told w (poll.Told k s)) pid child n) same_status
-    (subst (λ c. IsTold w (told w (poll.Told k s)) pid c s) same_child (told_of_ready w pid request k s ready))
-tells_polled w pid request poll.NoMatch ready child status is = nothing_told w _ pid child status is
-tells_polled w pid request poll.NotReady ready child status is =
-    cond_both (is_no_hang request.options) (returns w 0) (waits w pid (waiting.Asks request)) (λ (p : Performed). told_in p.outcome ≡ Some (child, status) → IsTold w p.world pid child status)
+    subst (λ n. IsTold w (told w (Poll.Told k s)) pid child n) same_status
+    (subst (λ c. IsTold w (told w (Poll.Told k s)) pid c s) same_child (told_of_ready w pid request k s ready))
+tells_polled w pid request Poll.NoMatch ready child status is = nothing_told w _ pid child status is
+tells_polled w pid request Poll.NotReady ready child status is =
+    cond_both (is_no_hang request.options) (returns w 0) (waits w pid (Waiting.Asks request)) (λ (p : Performed). told_in p.outcome ≡ Some (child, status) → IsTold w p.world pid child status)
     (λ _ is. nothing_told w _ pid child status is) (λ _ is. nothing_told w _ pid child status is) is
 
 tells_wait4 : (w : World) (pid : ℕ) (call : Record) → TellsRight w pid (wait4 w pid call)
@@ -202,15 +168,15 @@ tells_row declared w pid body which call =
 
 tells_judged : (declared : Images) (w : World) (pid : ℕ) (body : Body) (call : Record) (verdict : ℕ) (a : Action)
     → TellsRight w pid (judged declared w pid body call verdict a)
-tells_judged declared w pid body call verdict action.Allow = tells_row declared w pid body (syscall_of call.nr) call
-tells_judged declared w pid body call verdict action.Log = tells_row declared w pid body (syscall_of call.nr) call
-tells_judged declared w pid body call verdict action.Trap = λ child status is. nothing_told w _ pid child status is
-tells_judged declared w pid body call verdict action.Errno = λ child status is. nothing_told w _ pid child status is
-tells_judged declared w pid body call verdict action.UserNotif = λ child status is. nothing_told w _ pid child status is
-tells_judged declared w pid body call verdict action.Trace = λ child status is. nothing_told w _ pid child status is
-tells_judged declared w pid body call verdict action.KillProcess = λ child status is. nothing_told w _ pid child status is
-tells_judged declared w pid body call verdict action.KillThread = λ child status is. nothing_told w _ pid child status is
-tells_judged declared w pid body call verdict action.Unknown = λ child status is. nothing_told w _ pid child status is
+tells_judged declared w pid body call verdict Action.Allow = tells_row declared w pid body (syscall_of call.nr) call
+tells_judged declared w pid body call verdict Action.Log = tells_row declared w pid body (syscall_of call.nr) call
+tells_judged declared w pid body call verdict Action.Trap = λ child status is. nothing_told w _ pid child status is
+tells_judged declared w pid body call verdict Action.Errno = λ child status is. nothing_told w _ pid child status is
+tells_judged declared w pid body call verdict Action.UserNotif = λ child status is. nothing_told w _ pid child status is
+tells_judged declared w pid body call verdict Action.Trace = λ child status is. nothing_told w _ pid child status is
+tells_judged declared w pid body call verdict Action.KillProcess = λ child status is. nothing_told w _ pid child status is
+tells_judged declared w pid body call verdict Action.KillThread = λ child status is. nothing_told w _ pid child status is
+tells_judged declared w pid body call verdict Action.Unknown = λ child status is. nothing_told w _ pid child status is
 
 still_gone : (w : World) (pid k : ℕ) (f : Body → Body) → at w k ≡ None → at (changed w pid f) k ≡ None
 still_gone w pid k f gone =
@@ -218,24 +184,24 @@ still_gone w pid k f gone =
     (λ q ne is. ap (at w) is ∙ gone) k refl
 
 tells_again : (w : World) (pid : ℕ) (request : Request) (p : Poll) → ready_of w pid request ≡ p → TellsRight w pid (polled_again w pid p)
-tells_again w pid request (poll.Told k s) ready child status is =
+tells_again w pid request (Poll.Told k s) ready child status is =
     let same_child : k ≡ child = ap (λ (o : Option (ℕ × ℕ)). (unwrap_or o (0, 0)).0) is in
     let same_status : s ≡ status = ap (λ (o : Option (ℕ × ℕ)). (unwrap_or o (0, 0)).1) is in
-    let after : World = told w (poll.Told k s) in
+    let after : World = told w (Poll.Told k s) in
     let tells = told_of_ready w pid request k s ready in
-    subst (λ n. IsTold w (changed after pid (waiting_in waiting.Nothing)) pid child n) same_status
-    (subst (λ c. IsTold w (changed after pid (waiting_in waiting.Nothing)) pid c s) same_child (record {
+    subst (λ n. IsTold w (changed after pid (waiting_in Waiting.Nothing)) pid child n) same_status
+    (subst (λ c. IsTold w (changed after pid (waiting_in Waiting.Nothing)) pid c s) same_child (record {
       there = tells.there;
       ended = tells.ended;
-      gone = λ low. still_gone after pid k (waiting_in waiting.Nothing) (tells.gone low);
+      gone = λ low. still_gone after pid k (waiting_in Waiting.Nothing) (tells.gone low);
     }))
-tells_again w pid request poll.NoMatch ready child status is = nothing_told w _ pid child status is
-tells_again w pid request poll.NotReady ready child status is = nothing_told w _ pid child status is
+tells_again w pid request Poll.NoMatch ready child status is = nothing_told w _ pid child status is
+tells_again w pid request Poll.NotReady ready child status is = nothing_told w _ pid child status is
 
 tells_resumed : (w : World) (pid : ℕ) (waiting : Waiting) → TellsRight w pid (resumed w pid waiting)
-tells_resumed w pid (waiting.Asks request) = tells_again w pid request (ready_of w pid request) refl
-tells_resumed w pid waiting.Pause = λ child status is. nothing_told w _ pid child status is
-tells_resumed w pid waiting.Nothing = λ child status is. nothing_told w _ pid child status is
+tells_resumed w pid (Waiting.Asks request) = tells_again w pid request (ready_of w pid request) refl
+tells_resumed w pid Waiting.Pause = λ child status is. nothing_told w _ pid child status is
+tells_resumed w pid Waiting.Nothing = λ child status is. nothing_told w _ pid child status is
 
 -- what is told by what a step comes to
 abbrev StepTells : World → ℕ → Stepped → Type 0

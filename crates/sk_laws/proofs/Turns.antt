@@ -1,34 +1,16 @@
 -- Whose turn it is, and that who can run has the event that it needs, and who cannot does nothing.
 use Rattle.std.proofs.Common.{◌≡◌, ◌∙◌, ◌⊎◌, ◌↔◌, inl, inr, ℕ, arith, ◌&&◌, ◌||◌, ap, sym, refl, subst, cond, not, nat_lt, Bool, true, false, IsTrue, List, [], ◌∷◌, Option, None, Some}
-use Rattle.std.specs.Option.{is_some, option_or, option_map_or, unwrap_or}
-use Rattle.std.specs.List.{find, list_any}
-use Rattle.std.proofs.lemmas.Bool.{false≢true, not-true, not-false, and_parts, and_from, or_parts, cond_both, ltb-true, lt-ltb, ltb-false}
-use Rattle.sk_world.specs.declared.process.Proc.{Proc}
-use Rattle.sk_world.specs.declared.process.Waiting.{Waiting}
-use Rattle.sk_world.specs.declared.process.Waiting.TheVariants as waiting
-use Rattle.sk_world.specs.declared.request.Poll.{Poll}
-use Rattle.sk_world.specs.declared.request.Poll.TheVariants as poll
-use Rattle.sk_world.specs.Processes.{pids}
-use Rattle.sk_world.specs.World.{World, at, has_ended, is_halted, is_stopped, is_zombie, is_alive}
-use Rattle.sk_world.specs.Waits.{is_ready, has_match, status_of}
+use Rattle.sk_laws.specs.Common.{is_some, option_or, option_map_or, unwrap_or, find, list_any, Proc, Waiting, Poll, pids, World, at,
+    has_ended, is_halted, is_stopped, is_zombie, is_alive, is_ready, has_match, status_of, Event, Call, Deliver, Resume, Fault, Resumed,
+    Waits, Reason, pid_of, Images, polled_again, resumed, signal_due, is_waiting, is_in_call, Stepped, resume_answered, call_reason,
+    own_reason, is_due_delivery, reason_of, stepped, step_of, world_after, happened_to, waits_no_more, is_runnable, need_of, need_met_by,
+    goes_on}
+use Rattle.sk_world.proofs.Common.{false≢true, not-true, not-false, and_parts, and_from, or_parts, cond_both, ltb-true, lt-ltb, ltb-false}
 use Rattle.sk_world.proofs.StatusChanges.{by_first, ready_first}
 use Rattle.sk_world.proofs.KeptTold.{found}
 use Rattle.sk_world.proofs.Telling.{least_found, none_found as nobody_found}
 use Rattle.sk_world.proofs.KeptEnd.{alive_is_there}
-use Rattle.sk_machine.specs.declared.event.Event.{Event}
-use Rattle.sk_machine.specs.declared.event.Event.TheVariants.{Call, Deliver, Resume, Fault}
 use Rattle.sk_machine.specs.declared.event.Need.{Need}
-use Rattle.sk_machine.specs.declared.event.Need.TheVariants as need
-use Rattle.sk_machine.specs.declared.answer.Answer.TheVariants.{Resumed}
-use Rattle.sk_machine.specs.declared.answer.Outcome.TheVariants.{Waits}
-use Rattle.sk_machine.specs.declared.answer.Reason.{Reason}
-use Rattle.sk_machine.specs.declared.answer.Reason.TheVariants as reason
-use Rattle.sk_machine.specs.Events.{pid_of}
-use Rattle.sk_machine.specs.Images.{Images}
-use Rattle.sk_machine.specs.WaitCalls.{polled_again, resumed}
-use Rattle.sk_machine.specs.Delivering.{signal_due, is_waiting, is_in_call}
-use Rattle.sk_machine.specs.Machine.{Stepped, resume_answered, call_reason, own_reason, is_due_delivery, reason_of, stepped, step_of, world_after, happened_to}
-use Rattle.sk_machine.specs.Turns.{waits_no_more, is_runnable, need_of, need_met_by, goes_on}
 use Rattle.sk_laws.specs.TurnLaws.{IsTurn, NextIsTurn, NobodysTurn, RunnableHasEvent, IdleDoesNothing, EndIsFinal}
 
 -- ---- whose turn it is
@@ -69,11 +51,11 @@ next_is_turn w last pid is = turn_from w last pid (find (can_run_above w last) (
 -- ---- who can run
 -- nothing stands in the way of a process that lives
 no_reason : (halted nobody zombie : Bool) (own : Option Reason) → halted ≡ false → nobody ≡ false → zombie ≡ false
-    → cond halted (Some reason.Halted) (cond nobody (Some reason.NoProcess) (cond zombie (Some reason.Zombie) own)) ≡ own
+    → cond halted (Some Reason.Halted) (cond nobody (Some Reason.NoProcess) (cond zombie (Some Reason.Zombie) own)) ≡ own
 no_reason halted nobody zombie own going there living =
-    ap (λ b. cond b (Some reason.Halted) (cond nobody (Some reason.NoProcess) (cond zombie (Some reason.Zombie) own))) going
-    ∙ ap (λ b. cond b (Some reason.NoProcess) (cond zombie (Some reason.Zombie) own)) there
-    ∙ ap (λ b. cond b (Some reason.Zombie) own) living
+    ap (λ b. cond b (Some Reason.Halted) (cond nobody (Some Reason.NoProcess) (cond zombie (Some Reason.Zombie) own))) going
+    ∙ ap (λ b. cond b (Some Reason.NoProcess) (cond zombie (Some Reason.Zombie) own)) there
+    ∙ ap (λ b. cond b (Some Reason.Zombie) own) living
 
 has_not_ended : (o : Option Proc) → IsTrue (is_alive o) → is_zombie o ≡ false
 has_not_ended None alive = refl
@@ -81,14 +63,14 @@ has_not_ended (Some p) alive = not-true (has_ended p.body.life) alive
 
 -- what is needed of a process that a signal is due to, or not, and that waits, or not
 abbrev needed : Bool → Bool → Need
-needed due waits = cond due need.Deliver (cond waits need.Resume need.Call)
+needed due waits = cond due Need.Deliver (cond waits Need.Resume Need.Call)
 
 -- the answer to an event of a process that is stopped, or not
 abbrev own : Bool → Option Reason → Option Reason
-own stopped r = cond stopped (Some reason.Stopped) r
+own stopped r = cond stopped (Some Reason.Stopped) r
 
 call_meets : (due stopped waits end_of_caller : Bool) → IsTrue (due || (not stopped && end_of_caller))
-    → (own (stopped && true) (cond waits (Some reason.Waiting) (cond due (Some reason.SignalFirst) None)) ≡ None) ↔ (need.Call ≡ needed due waits)
+    → (own (stopped && true) (cond waits (Some Reason.Waiting) (cond due (Some Reason.SignalFirst) None)) ≡ None) ↔ (Need.Call ≡ needed due waits)
 call_meets true true waits end_of_caller runs = (λ is. cc, λ is. cc)
 call_meets true false true end_of_caller runs = (λ is. cc, λ is. cc)
 call_meets true false false end_of_caller runs = (λ is. cc, λ is. cc)
@@ -97,7 +79,7 @@ call_meets false false true end_of_caller runs = (λ is. cc, λ is. cc)
 call_meets false false false end_of_caller runs = (λ is. refl, λ is. refl)
 
 resumption_meets : (due stopped waits end_of_caller : Bool) → IsTrue (due || (not stopped && end_of_caller))
-    → (own (stopped && true) (cond (not waits) (Some reason.NothingWaits) (cond due (Some reason.SignalFirst) None)) ≡ None) ↔ (need.Resume ≡ needed due waits)
+    → (own (stopped && true) (cond (not waits) (Some Reason.NothingWaits) (cond due (Some Reason.SignalFirst) None)) ≡ None) ↔ (Need.Resume ≡ needed due waits)
 resumption_meets true true waits end_of_caller runs = (λ is. cc, λ is. cc)
 resumption_meets true false true end_of_caller runs = (λ is. cc, λ is. cc)
 resumption_meets true false false end_of_caller runs = (λ is. cc, λ is. cc)
@@ -106,7 +88,7 @@ resumption_meets false false true end_of_caller runs = (λ is. refl, λ is. refl
 resumption_meets false false false end_of_caller runs = (λ is. cc, λ is. cc)
 
 delivery_meets : (due stopped waits end_of_caller : Bool) → IsTrue (due || (not stopped && end_of_caller))
-    → (own (stopped && not due) (cond due None (Some reason.NothingWaits)) ≡ None) ↔ (need.Deliver ≡ needed due waits)
+    → (own (stopped && not due) (cond due None (Some Reason.NothingWaits)) ≡ None) ↔ (Need.Deliver ≡ needed due waits)
 delivery_meets true true waits end_of_caller runs = (λ is. refl, λ is. refl)
 delivery_meets true false waits end_of_caller runs = (λ is. refl, λ is. refl)
 delivery_meets false true waits end_of_caller runs = absurd (false≢true runs)
@@ -141,20 +123,20 @@ none_found p (x ∷ xs) none =
 -- a call that would not end goes on waiting
 keeps_waiting : (w : World) (pid : ℕ) (what : Waiting) → waits_no_more w pid what ≡ false → resumed w pid what ≡ record { outcome = Waits; world = w }
 unfolding by_first
-keeps_waiting w pid waiting.Nothing waits = refl
-keeps_waiting w pid waiting.Pause waits = refl
-keeps_waiting w pid (waiting.Asks request) waits =
+keeps_waiting w pid Waiting.Nothing waits = refl
+keeps_waiting w pid Waiting.Pause waits = refl
+keeps_waiting w pid (Waiting.Asks request) waits =
     let both = or_parts (list_any (is_ready w pid request) (pids w.procs)) (not (has_match w pid request)) waits in
-    let answer : Option ℕ → Poll → Poll = λ o none. option_map_or (λ k. poll.Told k (unwrap_or (status_of request.options (at w k)) 0)) o none in
+    let answer : Option ℕ → Poll → Poll = λ o none. option_map_or (λ k. Poll.Told k (unwrap_or (status_of request.options (at w k)) 0)) o none in
     ap (polled_again w pid) (ready_first w pid request)
-    ∙ ap (λ o. polled_again w pid (answer o (cond (has_match w pid request) poll.NotReady poll.NoMatch))) (none_found (is_ready w pid request) (pids w.procs) both.0)
-    ∙ ap (λ b. polled_again w pid (cond b poll.NotReady poll.NoMatch)) (not-false (has_match w pid request) both.1)
+    ∙ ap (λ o. polled_again w pid (answer o (cond (has_match w pid request) Poll.NotReady Poll.NoMatch))) (none_found (is_ready w pid request) (pids w.procs) both.0)
+    ∙ ap (λ b. polled_again w pid (cond b Poll.NotReady Poll.NoMatch)) (not-false (has_match w pid request) both.1)
 
 -- one that waits in no call would go on
 waits_in_none : (w : World) (pid : ℕ) (what : Waiting) → is_waiting what ≡ false → waits_no_more w pid what ≡ true
-waits_in_none w pid waiting.Nothing is = refl
-waits_in_none w pid waiting.Pause is = absurd (false≢true (sym is))
-waits_in_none w pid (waiting.Asks request) is = absurd (false≢true (sym is))
+waits_in_none w pid Waiting.Nothing is = refl
+waits_in_none w pid Waiting.Pause is = absurd (false≢true (sym is))
+waits_in_none w pid (Waiting.Asks request) is = absurd (false≢true (sym is))
 
 runs_on : (w : World) (pid : ℕ) (o : Option Proc) → IsTrue (is_some o) → is_in_call o ≡ false → goes_on w pid o ≡ true
 runs_on w pid None there free = absurd (false≢true there)
@@ -178,7 +160,7 @@ Idles declared w event o = IsTrue (is_some o) ⊎ (stepped declared w event o �
 idle_call : (declared : Images) (w : World) (pid : ℕ) (event : Event) → IsTrue (is_some (at w pid)) → goes_on w pid (at w pid) ≡ false
     → Idles declared w event (call_reason w pid)
 idle_call declared w pid event there waits =
-    cond_both (is_in_call (at w pid)) (Some reason.Waiting) _ (Idles declared w event) (λ _. inl refl)
+    cond_both (is_in_call (at w pid)) (Some Reason.Waiting) _ (Idles declared w event) (λ _. inl refl)
     (λ free. absurd (false≢true (sym waits ∙ runs_on w pid (at w pid) there free)))
 
 -- one that asks again goes on waiting
@@ -196,11 +178,11 @@ idle_own declared w (Fault pid) there idle moves =
     idle_call declared w pid (Fault pid) there (idle_waits (is_some (signal_due (at w pid))) (is_stopped (at w pid)) (goes_on w pid (at w pid)) idle moves)
 idle_own declared w (Deliver pid) there idle moves =
     let quiet = (or_parts (is_some (signal_due (at w pid))) (not (is_stopped (at w pid)) && goes_on w pid (at w pid)) idle).0 in
-    cond_both (is_some (signal_due (at w pid))) None (Some reason.NothingWaits) (Idles declared w (Deliver pid)) (λ due. absurd (false≢true (sym quiet ∙ due))) (λ _. inl refl)
+    cond_both (is_some (signal_due (at w pid))) None (Some Reason.NothingWaits) (Idles declared w (Deliver pid)) (λ due. absurd (false≢true (sym quiet ∙ due))) (λ _. inl refl)
 idle_own declared w (Resume pid) there idle moves =
     let waits : goes_on w pid (at w pid) ≡ false = idle_waits (is_some (signal_due (at w pid))) (is_stopped (at w pid)) (goes_on w pid (at w pid)) idle moves in
-    cond_both (not (is_in_call (at w pid))) (Some reason.NothingWaits) _ (Idles declared w (Resume pid)) (λ _. inl refl)
-    (λ _. cond_both (is_some (signal_due (at w pid))) (Some reason.SignalFirst) None (Idles declared w (Resume pid)) (λ _. inl refl)
+    cond_both (not (is_in_call (at w pid))) (Some Reason.NothingWaits) _ (Idles declared w (Resume pid)) (λ _. inl refl)
+    (λ _. cond_both (is_some (signal_due (at w pid))) (Some Reason.SignalFirst) None (Idles declared w (Resume pid)) (λ _. inl refl)
     (λ _. inr (asks_again declared w pid (at w pid) there waits)))
 
 pub idle_does_nothing : IdleDoesNothing
@@ -208,11 +190,11 @@ unfolding step_of
 idle_does_nothing declared w event idle =
     let o : Option Proc = at w (pid_of event) in
     let P : Option Reason → Type 0 = Idles declared w event in
-    cond_both (is_halted w) (Some reason.Halted) _ P (λ _. inl refl) (λ going.
-    cond_both (not (is_some o)) (Some reason.NoProcess) _ P (λ _. inl refl) (λ there.
-    cond_both (is_zombie o) (Some reason.Zombie) _ P (λ _. inl refl) (λ living.
+    cond_both (is_halted w) (Some Reason.Halted) _ P (λ _. inl refl) (λ going.
+    cond_both (not (is_some o)) (Some Reason.NoProcess) _ P (λ _. inl refl) (λ there.
+    cond_both (is_zombie o) (Some Reason.Zombie) _ P (λ _. inl refl) (λ living.
     let quiet = idle_parts (is_halted w) o (is_some (signal_due o) || (not (is_stopped o) && goes_on w (pid_of event) (at w (pid_of event)))) idle going there living in
-    cond_both (is_stopped o && not (is_due_delivery w event)) (Some reason.Stopped) (own_reason w event) P (λ _. inl refl)
+    cond_both (is_stopped o && not (is_due_delivery w event)) (Some Reason.Stopped) (own_reason w event) P (λ _. inl refl)
     (λ moves. idle_own declared w event (not-false (is_some o) there) quiet moves))))
 
 -- ---- where nobody can run

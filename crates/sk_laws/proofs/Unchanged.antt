@@ -1,61 +1,22 @@
 -- What leaves the world as it is.
 use Rattle.std.proofs.Common.{◌≡◌, ◌∙◌, ℕ, negsuc, ◌==◌, ap, sym, refl, subst, not, Bool, true, false, IsTrue, Option, None, Some, Result, Ok, Err, cond, ◌&&◌}
-use Rattle.std.specs.Option.{is_some, option_and_then}
-use Rattle.std.proofs.lemmas.Bool.{false≢true, cond_both}
-use Rattle.sk_insn.specs.declared.record.Record.{Record}
-use Rattle.sk_insn.specs.declared.action.Action.{Action}
-use Rattle.sk_insn.specs.declared.action.Action.TheVariants as action
-use Rattle.sk_insn.specs.Actions.{action_of}
-use Rattle.sk_filter.specs.Verdict.{verdict_of}
-use Rattle.sk_world.specs.declared.errno.Errno.{Errno}
-use Rattle.sk_world.specs.declared.errno.Errno.TheVariants.{Esrch, Einval}
-use Rattle.sk_world.specs.declared.signals.TheConstants.{SIGSYS}
-use Rattle.sk_world.specs.SignalState.{SignalState}
-use Rattle.sk_world.specs.declared.process.TheConstants.{INIT}
-use Rattle.sk_world.specs.declared.process.Life.{Life}
-use Rattle.sk_world.specs.declared.process.Life.TheVariants as life
-use Rattle.sk_world.specs.declared.process.Proc.{Proc}
-use Rattle.sk_world.specs.declared.process.Waiting.TheVariants as waiting
-use Rattle.sk_world.specs.declared.request.Request.{Request}
-use Rattle.sk_world.specs.declared.request.Poll.{Poll}
-use Rattle.sk_world.specs.declared.request.Poll.TheVariants as poll
-use Rattle.sk_world.specs.World.{World, at, has_ended, is_zombie, is_halted, is_stopped}
-use Rattle.sk_world.specs.Sending.{forced}
-use Rattle.sk_machine.specs.Orphans.{ended_and_hung_up}
-use Rattle.sk_world.specs.Forking.{fork_answer}
-use Rattle.sk_world.specs.Waits.{is_no_hang, ready_of}
-use Rattle.sk_machine.specs.Sessions.{after_setpgid, after_setsid}
-use Rattle.sk_machine.specs.declared.event.Event.{Event}
-use Rattle.sk_machine.specs.declared.event.Event.TheVariants.{Call, Deliver, Resume, Fault}
-use Rattle.sk_machine.specs.declared.answer.Answer.TheVariants as answer
-use Rattle.sk_machine.specs.declared.answer.Outcome.{Outcome}
-use Rattle.sk_machine.specs.declared.answer.Outcome.TheVariants.{Returned, Trapped, Ended}
-use Rattle.sk_machine.specs.declared.answer.Reason.{Reason}
-use Rattle.sk_names.specs.declared.syscall.Syscall.{Syscall}
-use Rattle.sk_machine.specs.Events.{pid_of, recorded}
-use Rattle.sk_machine.specs.Images.{Images}
-use Rattle.sk_names.specs.Syscalls.{syscall_of}
-use Rattle.sk_machine.specs.Arguments.{unsigned, signed}
-use Rattle.sk_machine.specs.Authority.{Authority}
-use Rattle.sk_machine.specs.Performed.{Performed, returns, fails, asked, changes, authorises, waits}
-use Rattle.sk_machine.specs.SignalCalls.{resignals}
-use Rattle.sk_machine.specs.Killing.{after_kill}
-use Rattle.sk_machine.specs.WaitCalls.{are_wait_options, request_of, polled, wait4}
-use Rattle.sk_machine.specs.Performing.{end_of_caller, execve, forks, subreaper_set, subreaper_asked, where_subreapers, row}
-use Rattle.sk_machine.specs.Machine.{Stepped, judged, call_answered, called_with, happened, stepped, step_of, end_status, delivery, reason_of}
+use Rattle.sk_laws.specs.Common.{is_some, option_and_then, Record, Action, action_of, verdict_of, Errno, Esrch, Einval, SIGSYS, SignalState,
+    INIT, Life, Proc, Waiting, Request, Poll, World, at, has_ended, is_zombie, is_halted, is_stopped, forced, ended_and_hung_up,
+    fork_answer, is_no_hang, ready_of, after_setpgid, after_setsid, Event, Call, Deliver, Resume, Fault, Answer, Outcome, Returned, Trapped,
+    Ended, Reason, Syscall, pid_of, recorded, Images, syscall_of, unsigned, signed, Authority, Performed, returns, fails, asked, changes,
+    authorises, waits, resignals, after_kill, are_wait_options, request_of, polled, wait4, end_of_caller, execve, forks, subreaper_set,
+    subreaper_asked, where_subreapers, row, Stepped, judged, call_answered, called_with, happened, stepped, step_of, end_status, delivery,
+    reason_of, Body, NoProcess, NothingWaits, Halted, signal_for, signal_due}
+use Rattle.sk_world.proofs.Common.{false≢true, cond_both}
 use Rattle.sk_laws.specs.MachineLaws.{ImpossibleChangesNothing, PossibleHappens, only_refuses, RefusedChangesNothing, TrapForcesSigsys, ends_caller, KillEndsCaller, FailedChangesNothing, HaltHasStatus}
 use Rattle.sk_laws.proofs.Happened.{at_step, at_delivery}
 use Rattle.sk_laws.proofs.EachCall.{each_call}
-use Rattle.sk_world.specs.declared.process.Body.{Body}
-use Rattle.sk_machine.specs.declared.answer.Reason.TheVariants as reason
-use Rattle.sk_machine.specs.declared.answer.Reason.TheVariants.{NoProcess, NothingWaits, Halted}
-use Rattle.sk_machine.specs.Delivering.{signal_for, signal_due}
 
 pub impossible_changes_nothing : ImpossibleChangesNothing
 unfolding step_of
 impossible_changes_nothing declared w event reason is = ap (stepped declared w event) is
 
-delivers : (w : World) (pid : ℕ) (body : Body) (o : Option ℕ) (reason : Reason) → IsTrue (is_some o) → (delivery w pid body o).answer ≡ answer.NotNow reason → ⊥
+delivers : (w : World) (pid : ℕ) (body : Body) (o : Option ℕ) (reason : Reason) → IsTrue (is_some o) → (delivery w pid body o).answer ≡ Answer.NotNow reason → ⊥
 delivers w pid body None reason due is = absurd (false≢true due)
 delivers w pid body (Some n) reason due is = cc
 
@@ -69,12 +30,12 @@ due_to w pid p there possible =
     sym (ap (λ o. is_some (signal_due o)) there)
     ∙ cond_both (is_halted w) (Some Halted) _ P (λ _ is. cc)
     (λ _. cond_both (not (is_some o)) (Some NoProcess) _ P (λ _ is. cc)
-    (λ _. cond_both (is_zombie o) (Some reason.Zombie) _ P (λ _ is. cc)
-    (λ _. cond_both (is_stopped o && not due) (Some reason.Stopped) own P (λ _ is. cc)
+    (λ _. cond_both (is_zombie o) (Some Reason.Zombie) _ P (λ _ is. cc)
+    (λ _. cond_both (is_stopped o && not due) (Some Reason.Stopped) own P (λ _ is. cc)
     (λ _. cond_both due None (Some NothingWaits) P (λ due _. due) (λ _ is. cc))))) possible
 
 happens : (declared : Images) (w : World) (event : Event) (p : Proc) (reason : Reason) → at w (pid_of event) ≡ Some p → reason_of w event ≡ None
-    → (happened declared w p.body event).answer ≡ answer.NotNow reason → ⊥
+    → (happened declared w p.body event).answer ≡ Answer.NotNow reason → ⊥
 happens declared w (Call pid ip call) p reason there possible is = cc
 happens declared w (Deliver pid) p reason there possible is = delivers w pid p.body (signal_for p.body) reason (due_to w pid p there possible) is
 happens declared w (Resume pid) p reason there possible is = cc
@@ -82,15 +43,15 @@ happens declared w (Fault pid) p reason there possible is = cc
 
 pub possible_happens : PossibleHappens
 possible_happens declared w event reason none =
-    at_step declared w event (λ s. s.answer ≡ answer.NotNow reason → ⊥) (λ _ is _. absurd (false≢true (ap is_some (sym none ∙ is))))
+    at_step declared w event (λ s. s.answer ≡ Answer.NotNow reason → ⊥) (λ _ is _. absurd (false≢true (ap is_some (sym none ∙ is))))
     (λ p there alive. happens declared w event p reason there none)
 
 -- where the answer is a call's, what holds of a call with this verdict holds of the step
 at_called : (declared : Images) (w : World) (body : Body) (event : Event) (verdict : ℕ) (outcome : Outcome) (P : ℕ → Stepped → Type 0)
     → ((pid : ℕ) (body : Body) (call : Record) → (judged declared w pid body call verdict (action_of verdict)).outcome ≡ outcome → P pid (called_with declared w pid body call verdict))
-    → (happened declared w body event).answer ≡ answer.Call verdict outcome → P (pid_of event) (happened declared w body event)
+    → (happened declared w body event).answer ≡ Answer.Call verdict outcome → P (pid_of event) (happened declared w body event)
 at_called declared w body (Deliver pid) verdict outcome P made is =
-    at_delivery w pid body (signal_for body) (λ s. s.answer ≡ answer.Call verdict outcome → P pid s) (λ is. cc) (λ n is. cc) is
+    at_delivery w pid body (signal_for body) (λ s. s.answer ≡ Answer.Call verdict outcome → P pid s) (λ is. cc) (λ n is. cc) is
 at_called declared w body (Resume pid) verdict outcome P made is = cc
 at_called declared w body (Fault pid) verdict outcome P made is = cc
 at_called declared w body (Call pid ip asked) verdict outcome P made is =
@@ -102,18 +63,18 @@ at_called declared w body (Call pid ip asked) verdict outcome P made is =
     (made pid body call (subst (λ v. (judged declared w pid body call v (action_of v)).outcome ≡ outcome) same outcome_is))
 
 at_call : (declared : Images) (w : World) (event : Event) (verdict : ℕ) (outcome : Outcome) (P : ℕ → Stepped → Type 0)
-    → (step_of declared w event).answer ≡ answer.Call verdict outcome
+    → (step_of declared w event).answer ≡ Answer.Call verdict outcome
     → ((pid : ℕ) (body : Body) (call : Record) → (judged declared w pid body call verdict (action_of verdict)).outcome ≡ outcome → P pid (called_with declared w pid body call verdict))
     → P (pid_of event) (step_of declared w event)
 at_call declared w event verdict outcome P is made =
-    at_step declared w event (λ s. s.answer ≡ answer.Call verdict outcome → P (pid_of event) s) (λ _ _ is. cc)
+    at_step declared w event (λ s. s.answer ≡ Answer.Call verdict outcome → P (pid_of event) s) (λ _ _ is. cc)
     (λ p there alive. at_called declared w p.body event verdict outcome P made) is
 
 refused_world : (declared : Images) (w : World) (pid : ℕ) (body : Body) (call : Record) (verdict : ℕ) (a : Action) → IsTrue (only_refuses a)
     → (judged declared w pid body call verdict a).world ≡ w
-refused_world declared w pid body call errno action.Errno refuses = refl
-refused_world declared w pid body call errno action.UserNotif refuses = refl
-refused_world declared w pid body call errno action.Trace refuses = refl
+refused_world declared w pid body call errno Action.Errno refuses = refl
+refused_world declared w pid body call errno Action.UserNotif refuses = refl
+refused_world declared w pid body call errno Action.Trace refuses = refl
 refused_world declared w pid body call errno other refuses = absurd (false≢true refuses)
 
 pub refused_changes_nothing : RefusedChangesNothing
@@ -123,19 +84,19 @@ refused_changes_nothing declared w event verdict outcome is refuses =
 
 pub trap_forces_sigsys : TrapForcesSigsys
 trap_forces_sigsys declared w event verdict outcome is trap =
-    at_call declared w event verdict outcome (λ pid s. s ≡ record { answer = answer.Call verdict Trapped; world = forced w pid }) is
+    at_call declared w event verdict outcome (λ pid s. s ≡ record { answer = Answer.Call verdict Trapped; world = forced w pid }) is
     (λ pid body call _. ap (λ a. call_answered verdict (judged declared w pid body call verdict a)) trap)
 
 ended_by_filter : (declared : Images) (w : World) (pid : ℕ) (body : Body) (call : Record) (verdict : ℕ) (a : Action) → IsTrue (ends_caller a)
     → judged declared w pid body call verdict a ≡ end_of_caller w pid SIGSYS
-ended_by_filter declared w pid body call errno action.KillProcess kills = refl
-ended_by_filter declared w pid body call errno action.KillThread kills = refl
-ended_by_filter declared w pid body call errno action.Unknown kills = refl
+ended_by_filter declared w pid body call errno Action.KillProcess kills = refl
+ended_by_filter declared w pid body call errno Action.KillThread kills = refl
+ended_by_filter declared w pid body call errno Action.Unknown kills = refl
 ended_by_filter declared w pid body call errno other kills = absurd (false≢true kills)
 
 pub kill_ends_caller : KillEndsCaller
 kill_ends_caller declared w event verdict outcome is kills =
-    at_call declared w event verdict outcome (λ pid s. s ≡ record { answer = answer.Call verdict (Ended SIGSYS); world = ended_and_hung_up w pid SIGSYS }) is
+    at_call declared w event verdict outcome (λ pid s. s ≡ record { answer = Answer.Call verdict (Ended SIGSYS); world = ended_and_hung_up w pid SIGSYS }) is
     (λ pid body call _. ap (call_answered verdict) (ended_by_filter declared w pid body call verdict (action_of verdict) kills))
 
 -- where the outcome is an error, the world is as it was
@@ -170,10 +131,10 @@ clean_asked w (Ok m) n is = refl
 clean_asked w (Err e) n is = refl
 
 clean_polled : (w : World) (pid : ℕ) (request : Request) (p : Poll) → FailsClean w (polled w pid request p)
-clean_polled w pid request (poll.Told child status) = λ n is. cc
-clean_polled w pid request poll.NoMatch = λ n is. refl
-clean_polled w pid request poll.NotReady =
-    cond_both (is_no_hang request.options) (returns w 0) (waits w pid (waiting.Asks request)) (FailsClean w) (λ _. clean_returns w w 0) (λ _ n is. cc)
+clean_polled w pid request (Poll.Told child status) = λ n is. cc
+clean_polled w pid request Poll.NoMatch = λ n is. refl
+clean_polled w pid request Poll.NotReady =
+    cond_both (is_no_hang request.options) (returns w 0) (waits w pid (Waiting.Asks request)) (FailsClean w) (λ _. clean_returns w w 0) (λ _ n is. cc)
 
 clean_wait4 : (w : World) (pid : ℕ) (call : Record) → FailsClean w (wait4 w pid call)
 clean_wait4 w pid call =
@@ -207,8 +168,8 @@ clean_row declared w pid body which call =
 
 clean_judged : (declared : Images) (w : World) (pid : ℕ) (body : Body) (call : Record) (verdict : ℕ) (a : Action)
     → FailsClean w (judged declared w pid body call verdict a)
-clean_judged declared w pid body call verdict action.Allow = clean_row declared w pid body (syscall_of call.nr) call
-clean_judged declared w pid body call verdict action.Log = clean_row declared w pid body (syscall_of call.nr) call
+clean_judged declared w pid body call verdict Action.Allow = clean_row declared w pid body (syscall_of call.nr) call
+clean_judged declared w pid body call verdict Action.Log = clean_row declared w pid body (syscall_of call.nr) call
 clean_judged declared w pid body call verdict other = λ n is. cc
 
 pub failed_changes_nothing : FailedChangesNothing
@@ -222,9 +183,9 @@ ended_has_status None = refl
 ended_has_status (Some p) = of_life p.body.life
   where
     of_life : (l : Life) → is_some (end_status l) ≡ has_ended l
-    of_life (life.Zombie status) = refl
-    of_life life.Stopped = refl
-    of_life life.Running = refl
+    of_life (Life.Zombie status) = refl
+    of_life Life.Stopped = refl
+    of_life Life.Running = refl
 
 pub halt_has_status : HaltHasStatus
 halt_has_status w = ended_has_status (at w INIT)

@@ -1,9 +1,6 @@
 -- Each worked world is what the definitions compute.
 use Rattle.std.proofs.Common.{refl}
-use Rattle.sk_world.specs.Sets.{empty, contains, insert, retain, remove, from_list}
-use Rattle.sk_world.specs.Signalling.{opening as no_signal}
-use Rattle.sk_world.specs.Numbers.{fresh_of}
-use Rattle.sk_world.specs.Subreapers.{ancestors, new_parent}
+use Rattle.sk_laws.specs.Common.{empty, contains, insert, retain, remove, from_list, no_signal, fresh_of, ancestors, new_parent}
 use Rattle.sk_laws.specs.WorkedWorlds.{WorkedForks, WorkedEnds, WorkedReapers, WorkedWaits, WorkedSignals}
 
 pub worked_forks : WorkedForks

@@ -1,28 +1,11 @@
 -- Each wrong machine is refused by a run.
 use Rattle.std.proofs.Common.{◌≡◌, ◌∙◌, ◌<ℤ◌, ℕ, ◌==◌, ◌||◌, arith, ap, sym, refl, subst, cond, Bool, true, false, length, IsTrue, IfSome, List, [], ◌∷◌, Option, None, Some}
-use Rattle.std.specs.Option.{is_some, option_map, option_map_or}
-use Rattle.std.specs.List.{list_all}
-use Rattle.std.specs.Ordering.{nat_cmp}
+use Rattle.sk_laws.specs.Common.{is_some, option_map, option_map_or, list_all, nat_cmp, Insn, Record, architecture, image_of, verdict_of,
+    precedence_of, contains, SIGHUP, SIGCHLD, INIT, Proc, World, at, parent_of, body_changed, opening, signalled, Event, Deliver, Images,
+    Authority, world_after, authority_at}
 use Rattle.std.specs.FinMap.Entries.{find}
-use Rattle.std.proofs.lemmas.Int.{ints}
-use Rattle.std.proofs.lemmas.Bool.{false≢true, eqb-true, and_parts}
-use Rattle.sk_insn.specs.declared.insn.Insn.{Insn}
-use Rattle.sk_insn.specs.declared.record.Record.{Record}
-use Rattle.sk_insn.specs.Record.{architecture}
-use Rattle.sk_insn.specs.Instructions.{image_of}
-use Rattle.sk_filter.specs.Verdict.{verdict_of, precedence_of}
-use Rattle.sk_world.specs.Sets.{contains}
-use Rattle.sk_world.specs.declared.signals.TheConstants.{SIGHUP, SIGCHLD}
-use Rattle.sk_world.specs.declared.process.TheConstants.{INIT}
-use Rattle.sk_world.specs.declared.process.Proc.{Proc}
-use Rattle.sk_world.specs.World.{World, at, parent_of, body_changed, opening}
-use Rattle.sk_world.specs.Sending.{signalled}
+use Rattle.sk_world.proofs.Common.{ints, false≢true, eqb-true, and_parts}
 use Rattle.sk_world.proofs.Maps.{same_number}
-use Rattle.sk_machine.specs.declared.event.Event.{Event}
-use Rattle.sk_machine.specs.declared.event.Event.TheVariants.{Deliver}
-use Rattle.sk_machine.specs.Images.{Images}
-use Rattle.sk_machine.specs.Authority.{Authority}
-use Rattle.sk_machine.specs.Machine.{world_after}
 use Rattle.sk_laws.specs.AnyMachine.{GivesAuthorityByLineage, TellsEndsOnce, KeepsToConfined}
 use Rattle.sk_laws.specs.ConfinementLaws.{RefusesKill, IsConfined, after_signals, is_of_stop, is_of_end}
 use Rattle.sk_laws.proofs.LineageSteps.{authority_in}
@@ -30,7 +13,6 @@ use Rattle.sk_laws.proofs.KeptEvents.{kept_reached}
 use Rattle.sk_laws.specs.Scripts.{nothing_given, given, plain, always, fork, execve, exit, wait4, kill, setuid, seccomp}
 use Rattle.sk_laws.specs.WrongMachines.{forks_bare, forks_into_old, executes_bare, orphans_with_first_ids, leaves_zombies, performs_refused, stops_with_hangup, ends_with_hangup, WrongsAreRefused}
 use Rattle.sk_laws.proofs.Computing.{worked_runs}
-use Rattle.sk_machine.specs.Lineages.{authority_at}
 
 -- a filter that allows everything, and a program
 allowing : Images

@@ -1,14 +1,7 @@
 -- The laws on authority, said of any machine: of one that is wrong in what they speak of they do not hold.
 use Rattle.std.specs.Prelude.{ℕ, ◌≡◌, false, IsTrue, Bool, List, [], ◌∷◌, Some}
-use Rattle.std.specs.Option.{is_some}
-use Rattle.std.specs.List.{list_any}
-use Rattle.sk_world.specs.World.{World, at}
-use Rattle.sk_world.specs.Rules.{IsWorld}
-use Rattle.sk_machine.specs.declared.event.Event.{Event}
-use Rattle.sk_machine.specs.Events.{pid_of}
-use Rattle.sk_machine.specs.Images.{Images}
-use Rattle.sk_machine.specs.Machine.{Stepped, step_of}
-use Rattle.sk_machine.specs.Lineages.{Happening, lineage_of, is_fork_of, authority_of_lineage, authority_at}
+use Rattle.sk_laws.specs.Common.{is_some, list_any, World, at, IsWorld, Event, pid_of, Images, Stepped, step_of, Happening, lineage_of,
+    is_fork_of, authority_of_lineage, authority_at}
 use Rattle.sk_laws.specs.TellingLaws.{told_by, IsEnd}
 use Rattle.sk_laws.specs.ConfinementLaws.{IsConfined, LeavesAlone}
 

@@ -1,23 +1,10 @@
 -- Laws on the changes of a world: whom they touch, and what they leave as it was.
 use Rattle.std.specs.Prelude.{ℕ, ◌≡◌, ◌≢◌, ◌<◌, ◌≤◌, ◌==◌, ◌&&◌, IsTrue, IsFalse, if◌then◌else◌, List, filter, map, Option, None, Some}
-use Rattle.std.specs.Option.{is_some, option_map}
-use Rattle.sk_world.specs.declared.signals.TheConstants.{SIGCHLD, SIGCONT}
-use Rattle.sk_world.specs.Signalling.{opening as no_signal}
-use Rattle.sk_world.specs.declared.process.TheConstants.{INIT, LAST_PID}
-use Rattle.sk_world.specs.declared.process.Life.TheVariants.{Running}
-use Rattle.sk_world.specs.declared.process.Note.TheVariants as note
-use Rattle.sk_world.specs.declared.process.Proc.{Proc}
-use Rattle.sk_world.specs.declared.request.Request.{Request}
-use Rattle.sk_world.specs.declared.request.Poll.TheVariants.{Told, NoMatch, NotReady}
-use Rattle.sk_world.specs.Processes.{pids}
-use Rattle.sk_world.specs.World.{World, at, has_ended, is_zombie, is_child_of, is_alive, is_halted, parent_of}
-use Rattle.sk_world.specs.Rules.{IsWorld}
-use Rattle.sk_world.specs.Numbers.{is_used, distance_from, IsNextFree, fresh_of}
-use Rattle.sk_world.specs.Sending.{sent, sent_to_each, forced}
-use Rattle.sk_world.specs.Forking.{forked, has_room, child_of}
-use Rattle.sk_world.specs.Subreapers.{new_parent}
-use Rattle.sk_world.specs.Ending.{ignores_children, with_children_handed_on, zombie, reparented, ended}
-use Rattle.sk_world.specs.Waits.{is_match, is_ready, status_of, ready_of, told}
+use Rattle.sk_laws.specs.Common.{is_some, option_map, SIGCHLD, SIGCONT, no_signal, INIT, LAST_PID, Running, Note, Proc, Request, NoMatch,
+    NotReady, pids, World, at, has_ended, is_zombie, is_child_of, is_alive, is_halted, parent_of, IsWorld, is_used, distance_from,
+    IsNextFree, fresh_of, sent, sent_to_each, forced, forked, has_room, child_of, new_parent, ignores_children, with_children_handed_on,
+    zombie, reparented, ended, is_match, is_ready, status_of, ready_of, told}
+use Rattle.sk_world.specs.declared.request.Poll.TheVariants.{Told}
 
 -- signals are not queued: one that is sent again changes nothing, SIGCONT neither: signal(7)
 abbrev pub SignalIsNotQueued : Type 0
@@ -37,7 +24,7 @@ without_signals p = record p { body = record p.body { signals = no_signal } }
 
 -- a process but for its signals, its life and its note
 abbrev pub unsignalled : Proc → Proc
-unsignalled p = record p { body = record p.body { life = Running; signals = no_signal; note = note.Nothing } }
+unsignalled p = record p { body = record p.body { life = Running; signals = no_signal; note = Note.Nothing } }
 
 -- a signal leaves all of every process as it was but its signals, its life and its note, and nobody comes
 -- or goes

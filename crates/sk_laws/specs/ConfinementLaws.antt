@@ -1,39 +1,14 @@
 -- Laws on confinement: what a process whose filters refuse kill(2), and those that come from it, can do to
 -- all others.
 use Rattle.std.specs.Prelude.{ℕ, ◌≡◌, ◌≢◌, ◌<ℤ◌, ◌==◌, not, ◌&&◌, ◌||◌, Bool, true, false, IsTrue, IfSome, List, [], ◌∷◌, Option}
-use Rattle.std.specs.Option.{is_some, option_map}
-use Rattle.std.specs.List.{list_all}
-use Rattle.sk_insn.specs.declared.insn.Insn.{Insn}
-use Rattle.sk_insn.specs.declared.record.Record.{Record}
-use Rattle.sk_insn.specs.Record.{IsNative}
-use Rattle.sk_names.specs.declared.syscall.Syscall.TheVariants as syscall
-use Rattle.sk_names.specs.Syscalls.{number_of}
-use Rattle.sk_filter.specs.Verdict.{verdict_of, precedence_of}
-use Rattle.sk_world.specs.declared.signals.TheConstants.{SIGHUP, SIGCHLD, SIGCONT}
-use Rattle.sk_world.specs.declared.process.TheConstants.{INIT}
-use Rattle.sk_world.specs.declared.process.Body.{Body}
-use Rattle.sk_world.specs.declared.process.Proc.{Proc}
-use Rattle.sk_world.specs.World.{World, at, parent_of, body_changed}
-use Rattle.sk_world.specs.Rules.{IsWorld}
-use Rattle.sk_world.specs.Sending.{signalled}
-use Rattle.sk_machine.specs.Sessions.{group_of}
-use Rattle.sk_machine.specs.Orphans.{is_orphaned, has_stopped_member}
-use Rattle.sk_machine.specs.declared.event.Event.{Event}
-use Rattle.sk_machine.specs.declared.answer.Answer.{Answer}
-use Rattle.sk_machine.specs.declared.answer.Answer.TheVariants as answer
-use Rattle.sk_machine.specs.declared.answer.Outcome.{Outcome}
-use Rattle.sk_machine.specs.declared.answer.Outcome.TheVariants as outcome
-use Rattle.sk_machine.specs.declared.answer.Effect.{Effect}
-use Rattle.sk_machine.specs.declared.answer.Effect.TheVariants as effect
-use Rattle.sk_machine.specs.Images.{Images}
-use Rattle.sk_machine.specs.Events.{pid_of}
-use Rattle.sk_machine.specs.Machine.{step_of, world_after}
-use Rattle.sk_machine.specs.Lineages.{lineage_before, authority_at}
+use Rattle.sk_laws.specs.Common.{is_some, option_map, list_all, Insn, Record, IsNative, Syscall, number_of, verdict_of, precedence_of,
+    SIGHUP, SIGCHLD, SIGCONT, INIT, Body, Proc, World, at, parent_of, body_changed, IsWorld, signalled, group_of, is_orphaned,
+    has_stopped_member, Event, Answer, Outcome, Effect, Images, pid_of, step_of, world_after, lineage_before, authority_at}
 use Rattle.sk_laws.specs.LineageLaws.{happening, lineage_after}
 
 -- the filters answer every kill(2) of x86-64 with an action that has precedence over SECCOMP_RET_LOG
 abbrev pub RefusesKill : List (List Insn) → Type 0
-RefusesKill filters = (call : Record) → IsNative call → call.nr ≡ number_of syscall.Kill → precedence_of (verdict_of filters call) <ℤ precedence_of 0x7ffc0000
+RefusesKill filters = (call : Record) → IsNative call → call.nr ≡ number_of Syscall.Kill → precedence_of (verdict_of filters call) <ℤ precedence_of 0x7ffc0000
 
 -- processes that refuse kill(2), with all their children; process 1 is none of them
 pub record IsConfined (w : World) (inside : ℕ → Bool) : Type 0 where
@@ -43,44 +18,44 @@ pub record IsConfined (w : World) (inside : ℕ → Bool) : Type 0 where
 
 -- the outcome says that the process whose call it is has ended
 abbrev pub is_end : Outcome → Bool
-is_end (outcome.Ended status) = true
-is_end (outcome.Returned n) = false
-is_end (outcome.Told child status) = false
-is_end (outcome.Ids real effective saved) = false
-is_end (outcome.Signals pending) = false
-is_end outcome.Waits = false
-is_end outcome.Trapped = false
-is_end outcome.Executed = false
+is_end (Outcome.Ended status) = true
+is_end (Outcome.Returned n) = false
+is_end (Outcome.Told child status) = false
+is_end (Outcome.Ids real effective saved) = false
+is_end (Outcome.Signals pending) = false
+is_end Outcome.Waits = false
+is_end Outcome.Trapped = false
+is_end Outcome.Executed = false
 
 -- the signal has ended the process
 abbrev pub is_end_by_signal : Effect → Bool
-is_end_by_signal (effect.Ended status) = true
-is_end_by_signal effect.Stopped = false
-is_end_by_signal effect.Ignored = false
-is_end_by_signal (effect.Handler program interrupted) = false
+is_end_by_signal (Effect.Ended status) = true
+is_end_by_signal Effect.Stopped = false
+is_end_by_signal Effect.Ignored = false
+is_end_by_signal (Effect.Handler program interrupted) = false
 
 -- the signal has stopped the process
 abbrev pub is_stop : Effect → Bool
-is_stop effect.Stopped = true
-is_stop (effect.Ended status) = false
-is_stop effect.Ignored = false
-is_stop (effect.Handler program interrupted) = false
+is_stop Effect.Stopped = true
+is_stop (Effect.Ended status) = false
+is_stop Effect.Ignored = false
+is_stop (Effect.Handler program interrupted) = false
 
 -- the event with this answer has ended its process
 abbrev pub ends : Answer → Bool
-ends (answer.Call verdict o) = is_end o
-ends (answer.Signal n e) = is_end_by_signal e
-ends (answer.Resumed o) = is_end o
-ends answer.Crashed = true
-ends (answer.NotNow reason) = false
+ends (Answer.Call verdict o) = is_end o
+ends (Answer.Signal n e) = is_end_by_signal e
+ends (Answer.Resumed o) = is_end o
+ends Answer.Crashed = true
+ends (Answer.NotNow reason) = false
 
 -- the event with this answer has stopped its process
 abbrev pub stops : Answer → Bool
-stops (answer.Signal n e) = is_stop e
-stops (answer.Call verdict o) = false
-stops (answer.Resumed o) = false
-stops answer.Crashed = false
-stops (answer.NotNow reason) = false
+stops (Answer.Signal n e) = is_stop e
+stops (Answer.Call verdict o) = false
+stops (Answer.Resumed o) = false
+stops Answer.Crashed = false
+stops (Answer.NotNow reason) = false
 
 -- a process after these signals, one after the other
 abbrev pub after_signals : Bool → List ℕ → Body → Body

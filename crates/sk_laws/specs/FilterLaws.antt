@@ -1,14 +1,8 @@
 -- Laws on the filters in force: the rules have accepted each of them.
 use Rattle.std.specs.Prelude.{ℕ, IfSome, List, [], ◌∷◌}
-use Rattle.sk_insn.specs.declared.insn.Insn.{Insn}
-use Rattle.sk_insn.specs.declared.record.Record.{Record}
+use Rattle.sk_laws.specs.Common.{Insn, Record, IsWithinLimit, AllValid, StepsAreBounded, World, opening, Event, Images, step_of,
+    world_after, authority_at}
 use Rattle.sk_filter.specs.MeaningLaws.{ReturnsWithinLength}
-use Rattle.sk_filter.specs.Chains.{IsWithinLimit, AllValid, StepsAreBounded}
-use Rattle.sk_world.specs.World.{World, opening}
-use Rattle.sk_machine.specs.declared.event.Event.{Event}
-use Rattle.sk_machine.specs.Images.{Images}
-use Rattle.sk_machine.specs.Machine.{step_of, world_after}
-use Rattle.sk_machine.specs.Lineages.{authority_at}
 
 -- filters that seccomp(2) accepts: each is valid, and they hold to the path limit
 pub record AreAccepted (filters : List (List Insn)) : Type 0 where

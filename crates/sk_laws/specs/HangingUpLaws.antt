@@ -1,11 +1,8 @@
 -- Laws on what hanging up groups leaves.
 use Rattle.std.specs.Prelude.{ℕ, ◌≡◌, true, false, IsTrue}
-use Rattle.std.specs.Option.{option_map}
-use Rattle.sk_world.specs.declared.process.TheConstants.{INIT}
-use Rattle.sk_world.specs.World.{World, at, is_zombie, is_alive, is_stopped, opening}
-use Rattle.sk_world.specs.Ending.{ended}
+use Rattle.sk_laws.specs.Common.{option_map, INIT, World, at, is_zombie, is_alive, is_stopped, opening, ended, is_orphaned,
+    ended_and_hung_up}
 use Rattle.sk_laws.specs.ChangeLaws.{unsignalled, KeepsRights}
-use Rattle.sk_machine.specs.Orphans.{is_orphaned, ended_and_hung_up}
 
 -- the end of a process gives nobody rights, and takes none, whoever is hung up
 abbrev pub EndKeepsRights : Type 0

@@ -25,3 +25,4 @@ pub mod WorkedReapers
 pub mod WorkedWidths
 pub mod WorkedLimits
 pub mod WrongMachines
+pub mod Common

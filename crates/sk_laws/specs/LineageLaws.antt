@@ -1,22 +1,9 @@
 -- Laws on lineages: what a process may do is what its lineage says.
 use Rattle.std.specs.Prelude.{ℕ, ◌≡◌, ◌≤ℤ◌, ◌++◌, IsTrue, List, [], slice_get, Option, Some}
-use Rattle.std.specs.Option.{is_some, option_map}
-use Rattle.sk_insn.specs.declared.insn.Insn.{Insn}
-use Rattle.sk_insn.specs.declared.record.Record.{Record}
-use Rattle.sk_insn.specs.Actions.{action_of, performs}
-use Rattle.sk_filter.specs.Verdict.{values_of, verdict_of, precedence_of}
+use Rattle.sk_laws.specs.Common.{is_some, option_map, Insn, Record, action_of, performs, values_of, verdict_of, precedence_of, INIT, World,
+    at, opening, Event, Answer, Outcome, Authority, recorded, Images, step_of, world_after, Lineage, Happening, lineage_before, calls_added,
+    lineage_of, authority_after_calls, authority_of_lineage, history_after, authority_at}
 use Rattle.sk_names.specs.declared.call.Call.{Call}
-use Rattle.sk_world.specs.declared.process.TheConstants.{INIT}
-use Rattle.sk_world.specs.World.{World, at, opening}
-use Rattle.sk_machine.specs.declared.event.Event.{Event}
-use Rattle.sk_machine.specs.declared.event.Event.TheVariants as event
-use Rattle.sk_machine.specs.declared.answer.Answer.TheVariants as answer
-use Rattle.sk_machine.specs.declared.answer.Outcome.{Outcome}
-use Rattle.sk_machine.specs.Authority.{Authority}
-use Rattle.sk_machine.specs.Events.{recorded}
-use Rattle.sk_machine.specs.Images.{Images}
-use Rattle.sk_machine.specs.Machine.{step_of, world_after}
-use Rattle.sk_machine.specs.Lineages.{Lineage, Happening, lineage_before, calls_added, lineage_of, authority_after_calls, authority_of_lineage, history_after, authority_at}
 
 -- an event with its answer
 abbrev pub happening : Images → World → Event → Happening
@@ -90,14 +77,14 @@ EqualLineagesAreJudgedAlike =
 abbrev pub VerdictIsOfLineage : Type 0
 VerdictIsOfLineage =
     (declared : Images) (w : World) (events : List Event) (pid ip : ℕ) (call : Call) (verdict : ℕ) (outcome : Outcome)
-    → (step_of declared (world_after declared w events) (event.Call pid ip call)).answer ≡ answer.Call verdict outcome
+    → (step_of declared (world_after declared w events) (Event.Call pid ip call)).answer ≡ Answer.Call verdict outcome
     → judged_by (recorded ip call) (authority_of_lineage declared w (lineage_after declared w events pid)) ≡ Some verdict
 
 -- a call that is performed has met no filter of its lineage whose action has precedence over SECCOMP_RET_LOG
 abbrev pub PerformedMeetsNoRefusal : Type 0
 PerformedMeetsNoRefusal =
     (declared : Images) (w : World) (events : List Event) (pid ip : ℕ) (call : Call) (verdict : ℕ) (outcome : Outcome) (a : Authority) (place value : ℕ)
-    → (step_of declared (world_after declared w events) (event.Call pid ip call)).answer ≡ answer.Call verdict outcome → IsTrue (performs (action_of verdict))
+    → (step_of declared (world_after declared w events) (Event.Call pid ip call)).answer ≡ Answer.Call verdict outcome → IsTrue (performs (action_of verdict))
     → authority_of_lineage declared w (lineage_after declared w events pid) ≡ Some a
     → slice_get (values_of a.filters (recorded ip call)) place ≡ Some value
     → precedence_of 0x7ffc0000 ≤ℤ precedence_of value

@@ -1,89 +1,67 @@
 -- Laws on the process machine: what leaves the world as it is, and that every event keeps its rules.
 use Rattle.std.specs.Prelude.{ℕ, negsuc, ◌≡◌, ◌≢◌, Bool, true, false, IsTrue, List, Some, None}
-use Rattle.std.specs.Option.{is_some}
-use Rattle.sk_insn.specs.declared.record.Record.{Record}
-use Rattle.sk_insn.specs.declared.action.Action.{Action}
-use Rattle.sk_insn.specs.declared.action.Action.TheVariants as action
-use Rattle.sk_insn.specs.Actions.{action_of}
-use Rattle.sk_world.specs.declared.signals.TheConstants.{SIGSYS}
-use Rattle.sk_world.specs.declared.process.TheConstants.{INIT}
-use Rattle.sk_world.specs.declared.process.Body.{Body}
-use Rattle.sk_world.specs.World.{World, at, is_alive, is_halted, opening}
-use Rattle.sk_world.specs.Rules.{IsWorld}
-use Rattle.sk_world.specs.Sending.{forced}
-use Rattle.sk_world.specs.Subreapers.{is_subreaper, new_parent}
-use Rattle.sk_machine.specs.Orphans.{ended_and_hung_up}
-use Rattle.sk_machine.specs.declared.event.Event.{Event}
-use Rattle.sk_machine.specs.declared.answer.Answer.TheVariants as answer
-use Rattle.sk_machine.specs.declared.answer.Outcome.{Outcome}
-use Rattle.sk_machine.specs.declared.answer.Outcome.TheVariants.{Returned, Trapped, Ended}
-use Rattle.sk_machine.specs.declared.answer.Reason.{Reason}
-use Rattle.sk_world.specs.declared.process.Waiting.{Waiting}
-use Rattle.sk_machine.specs.Events.{pid_of}
-use Rattle.sk_machine.specs.Images.{Images}
-use Rattle.sk_machine.specs.Performing.{performed}
-use Rattle.sk_machine.specs.WaitCalls.{resumed}
-use Rattle.sk_machine.specs.Delivering.{delivered}
-use Rattle.sk_machine.specs.Machine.{reason_of, step_of, halted_of, world_after}
+use Rattle.sk_laws.specs.Common.{is_some, Record, Action, action_of, SIGSYS, INIT, Body, World, at, is_alive, is_halted, opening, IsWorld,
+    forced, is_subreaper, new_parent, ended_and_hung_up, Event, Answer, Outcome, Returned, Trapped, Ended, Reason, Waiting, pid_of, Images,
+    performed, resumed, delivered, reason_of, step_of, halted_of, world_after}
 
 -- an event that is not possible answers with the first reason, and changes nothing
 abbrev pub ImpossibleChangesNothing : Type 0
 ImpossibleChangesNothing =
     (declared : Images) (w : World) (event : Event) (reason : Reason) → reason_of w event ≡ Some reason
-    → step_of declared w event ≡ record { answer = answer.NotNow reason; world = w }
+    → step_of declared w event ≡ record { answer = Answer.NotNow reason; world = w }
 
 -- an event that is possible happens
 abbrev pub PossibleHappens : Type 0
 PossibleHappens =
-    (declared : Images) (w : World) (event : Event) (reason : Reason) → reason_of w event ≡ None → (step_of declared w event).answer ≢ answer.NotNow reason
+    (declared : Images) (w : World) (event : Event) (reason : Reason) → reason_of w event ≡ None → (step_of declared w event).answer ≢ Answer.NotNow reason
 
 -- an action of a filter that refuses the call and does nothing else: seccomp(2)
 abbrev pub only_refuses : Action → Bool
-only_refuses action.Errno = true
-only_refuses action.UserNotif = true
-only_refuses action.Trace = true
-only_refuses action.KillProcess = false
-only_refuses action.KillThread = false
-only_refuses action.Trap = false
-only_refuses action.Log = false
-only_refuses action.Allow = false
-only_refuses action.Unknown = false
+only_refuses Action.Errno = true
+only_refuses Action.UserNotif = true
+only_refuses Action.Trace = true
+only_refuses Action.KillProcess = false
+only_refuses Action.KillThread = false
+only_refuses Action.Trap = false
+only_refuses Action.Log = false
+only_refuses Action.Allow = false
+only_refuses Action.Unknown = false
 
 -- a call that is refused so changes nothing
 abbrev pub RefusedChangesNothing : Type 0
 RefusedChangesNothing =
-    (declared : Images) (w : World) (event : Event) (verdict : ℕ) (outcome : Outcome) → (step_of declared w event).answer ≡ answer.Call verdict outcome
+    (declared : Images) (w : World) (event : Event) (verdict : ℕ) (outcome : Outcome) → (step_of declared w event).answer ≡ Answer.Call verdict outcome
     → IsTrue (only_refuses (action_of verdict)) → (step_of declared w event).world ≡ w
 
 -- SECCOMP_RET_TRAP forces SIGSYS on the caller, and does nothing else: seccomp(2)
 abbrev pub TrapForcesSigsys : Type 0
 TrapForcesSigsys =
-    (declared : Images) (w : World) (event : Event) (verdict : ℕ) (outcome : Outcome) → (step_of declared w event).answer ≡ answer.Call verdict outcome
-    → action_of verdict ≡ action.Trap → step_of declared w event ≡ record { answer = answer.Call verdict Trapped; world = forced w (pid_of event) }
+    (declared : Images) (w : World) (event : Event) (verdict : ℕ) (outcome : Outcome) → (step_of declared w event).answer ≡ Answer.Call verdict outcome
+    → action_of verdict ≡ Action.Trap → step_of declared w event ≡ record { answer = Answer.Call verdict Trapped; world = forced w (pid_of event) }
 
 -- an action of a filter that ends the caller: the two kills, and every action that has no name: seccomp(2)
 abbrev pub ends_caller : Action → Bool
-ends_caller action.KillProcess = true
-ends_caller action.KillThread = true
-ends_caller action.Unknown = true
-ends_caller action.Errno = false
-ends_caller action.UserNotif = false
-ends_caller action.Trace = false
-ends_caller action.Trap = false
-ends_caller action.Log = false
-ends_caller action.Allow = false
+ends_caller Action.KillProcess = true
+ends_caller Action.KillThread = true
+ends_caller Action.Unknown = true
+ends_caller Action.Errno = false
+ends_caller Action.UserNotif = false
+ends_caller Action.Trace = false
+ends_caller Action.Trap = false
+ends_caller Action.Log = false
+ends_caller Action.Allow = false
 
 -- it ends as by SIGSYS, and nothing else is done
 abbrev pub KillEndsCaller : Type 0
 KillEndsCaller =
-    (declared : Images) (w : World) (event : Event) (verdict : ℕ) (outcome : Outcome) → (step_of declared w event).answer ≡ answer.Call verdict outcome
+    (declared : Images) (w : World) (event : Event) (verdict : ℕ) (outcome : Outcome) → (step_of declared w event).answer ≡ Answer.Call verdict outcome
     → IsTrue (ends_caller (action_of verdict))
-    → step_of declared w event ≡ record { answer = answer.Call verdict (Ended SIGSYS); world = ended_and_hung_up w (pid_of event) SIGSYS }
+    → step_of declared w event ≡ record { answer = Answer.Call verdict (Ended SIGSYS); world = ended_and_hung_up w (pid_of event) SIGSYS }
 
 -- a call that answers an error, a filter's or its own, changes nothing
 abbrev pub FailedChangesNothing : Type 0
 FailedChangesNothing =
-    (declared : Images) (w : World) (event : Event) (verdict n : ℕ) → (step_of declared w event).answer ≡ answer.Call verdict (Returned (negsuc n))
+    (declared : Images) (w : World) (event : Event) (verdict n : ℕ) → (step_of declared w event).answer ≡ Answer.Call verdict (Returned (negsuc n))
     → (step_of declared w event).world ≡ w
 
 -- a performed call of a process that is alive keeps the rules of the world

@@ -1,27 +1,10 @@
 -- What is known of each run of the machine, as predicates of what is given, of the world before, and of a list
 -- of events: a kernel that makes just this run can promise them.
 use Rattle.std.specs.Prelude.{ℕ, ◌≡◌, ◌≢◌, ◌≤ℤ◌, ◌++◌, false, IsTrue, IfSome, List, [], ◌∷◌, slice_get, Option, Some, None}
-use Rattle.std.specs.Option.{is_some}
-use Rattle.std.specs.List.{list_any}
-use Rattle.sk_insn.specs.declared.insn.Insn.{Insn}
-use Rattle.sk_insn.specs.declared.record.Record.{Record}
-use Rattle.sk_insn.specs.Actions.{action_of, performs}
-use Rattle.sk_filter.specs.Verdict.{values_of, verdict_of, IsLeast, precedence_of}
+use Rattle.sk_laws.specs.Common.{is_some, list_any, Insn, Record, action_of, performs, values_of, verdict_of, IsLeast, precedence_of, INIT,
+    Proc, World, at, parent_of, IsWorld, is_subreaper, new_parent, Event, Answer, Outcome, Authority, pid_of, recorded, Images, step_of,
+    answers_of, world_after, is_fork_of, history_of, history_after, authority_of_lineage, authority_at}
 use Rattle.sk_names.specs.declared.call.Call.{Call}
-use Rattle.sk_world.specs.declared.process.TheConstants.{INIT}
-use Rattle.sk_world.specs.declared.process.Proc.{Proc}
-use Rattle.sk_world.specs.World.{World, at, parent_of}
-use Rattle.sk_world.specs.Rules.{IsWorld}
-use Rattle.sk_world.specs.Subreapers.{is_subreaper, new_parent}
-use Rattle.sk_machine.specs.declared.event.Event.{Event}
-use Rattle.sk_machine.specs.declared.event.Event.TheVariants as event
-use Rattle.sk_machine.specs.declared.answer.Answer.TheVariants as answer
-use Rattle.sk_machine.specs.declared.answer.Outcome.{Outcome}
-use Rattle.sk_machine.specs.Authority.{Authority}
-use Rattle.sk_machine.specs.Events.{pid_of, recorded}
-use Rattle.sk_machine.specs.Images.{Images}
-use Rattle.sk_machine.specs.Machine.{step_of, answers_of, world_after}
-use Rattle.sk_machine.specs.Lineages.{is_fork_of, history_of, history_after, authority_of_lineage, authority_at}
 use Rattle.sk_laws.specs.LineageLaws.{lineage_after, judged_by, GrowsFrom}
 use Rattle.sk_laws.specs.FilterLaws.{HasAccepted, AllReturn}
 use Rattle.sk_laws.specs.TellingLaws.{told_by, IsEnd, HasEndedUnder}
@@ -50,8 +33,8 @@ pub record IsVerdictOf (filters : List (List Insn)) (call : Record) (verdict : �
 -- the verdict on each call of the run is that of its caller's filters before it
 abbrev pub VerdictsAreLeast : Images → World → List Event → Type 0
 VerdictsAreLeast declared w events =
-    (earlier later : List Event) (pid ip : ℕ) (call : Call) (verdict : ℕ) (outcome : Outcome) → events ≡ earlier ++ event.Call pid ip call ∷ later
-    → (step_of declared (world_after declared w earlier) (event.Call pid ip call)).answer ≡ answer.Call verdict outcome
+    (earlier later : List Event) (pid ip : ℕ) (call : Call) (verdict : ℕ) (outcome : Outcome) → events ≡ earlier ++ Event.Call pid ip call ∷ later
+    → (step_of declared (world_after declared w earlier) (Event.Call pid ip call)).answer ≡ Answer.Call verdict outcome
     → (a : Authority) × (authority_at (world_after declared w earlier) pid ≡ Some a) × IsVerdictOf a.filters (recorded ip call) verdict
 
 -- each process that is there afterwards comes from one that was there before, and its filters, ids and
@@ -81,8 +64,8 @@ FiltersStay declared w events =
 -- the verdict on each call of the run is that of the filters that its caller's lineage has attached until then
 abbrev pub VerdictsAreOfLineages : Images → World → List Event → Type 0
 VerdictsAreOfLineages declared w events =
-    (earlier later : List Event) (pid ip : ℕ) (call : Call) (verdict : ℕ) (outcome : Outcome) → events ≡ earlier ++ event.Call pid ip call ∷ later
-    → (step_of declared (world_after declared w earlier) (event.Call pid ip call)).answer ≡ answer.Call verdict outcome
+    (earlier later : List Event) (pid ip : ℕ) (call : Call) (verdict : ℕ) (outcome : Outcome) → events ≡ earlier ++ Event.Call pid ip call ∷ later
+    → (step_of declared (world_after declared w earlier) (Event.Call pid ip call)).answer ≡ Answer.Call verdict outcome
     → judged_by (recorded ip call) (authority_of_lineage declared w (lineage_after declared w earlier pid)) ≡ Some verdict
 
 -- no call of the run that was performed has met a filter of its lineage whose action has precedence over
@@ -90,8 +73,8 @@ VerdictsAreOfLineages declared w events =
 abbrev pub PerformedMeetNoRefusal : Images → World → List Event → Type 0
 PerformedMeetNoRefusal declared w events =
     (earlier later : List Event) (pid ip : ℕ) (call : Call) (verdict : ℕ) (outcome : Outcome) (a : Authority) (place value : ℕ)
-    → events ≡ earlier ++ event.Call pid ip call ∷ later
-    → (step_of declared (world_after declared w earlier) (event.Call pid ip call)).answer ≡ answer.Call verdict outcome → IsTrue (performs (action_of verdict))
+    → events ≡ earlier ++ Event.Call pid ip call ∷ later
+    → (step_of declared (world_after declared w earlier) (Event.Call pid ip call)).answer ≡ Answer.Call verdict outcome → IsTrue (performs (action_of verdict))
     → authority_of_lineage declared w (lineage_after declared w earlier pid) ≡ Some a
     → slice_get (values_of a.filters (recorded ip call)) place ≡ Some value
     → precedence_of 0x7ffc0000 ≤ℤ precedence_of value

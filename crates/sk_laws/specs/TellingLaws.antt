@@ -1,18 +1,8 @@
 -- Laws on what wait4(2) tells: of whom, to whom, and how often.
 use Rattle.std.specs.Prelude.{ℕ, ◌≡◌, ◌%◌, ◌<◌, IsTrue, List, [], Option, None, Some}
-use Rattle.std.specs.List.{list_any}
-use Rattle.sk_world.specs.declared.process.Life.TheVariants.{Zombie}
-use Rattle.sk_world.specs.declared.process.Proc.{Proc}
-use Rattle.sk_world.specs.World.{World, at}
-use Rattle.sk_machine.specs.declared.event.Event.{Event}
-use Rattle.sk_machine.specs.declared.answer.Answer.{Answer}
-use Rattle.sk_machine.specs.declared.answer.Answer.TheVariants as answer
-use Rattle.sk_machine.specs.declared.answer.Outcome.{Outcome}
-use Rattle.sk_machine.specs.declared.answer.Outcome.TheVariants.{Returned, Told, Ids, Signals, Waits, Trapped, Ended, Executed}
-use Rattle.sk_machine.specs.Images.{Images}
-use Rattle.sk_machine.specs.Events.{pid_of}
-use Rattle.sk_machine.specs.Machine.{step_of, world_after}
-use Rattle.sk_machine.specs.Lineages.{is_fork_of, history_after}
+use Rattle.sk_laws.specs.Common.{list_any, Zombie, Proc, World, at, Event, Answer, Outcome, Returned, Told, Ids, Waits, Trapped, Ended,
+    Executed, Images, pid_of, step_of, world_after, is_fork_of, history_after}
+use Rattle.sk_machine.specs.declared.answer.Outcome.TheVariants.{Signals}
 
 -- the child and the status that are told, if any are
 abbrev pub told_in : Outcome → Option (ℕ × ℕ)
@@ -27,11 +17,11 @@ told_in Executed = None
 
 -- the child and the status that an answer tells, if it tells any
 abbrev pub told_by : Answer → Option (ℕ × ℕ)
-told_by (answer.Call verdict outcome) = told_in outcome
-told_by (answer.Resumed outcome) = told_in outcome
-told_by (answer.Signal n effect) = None
-told_by answer.Crashed = None
-told_by (answer.NotNow reason) = None
+told_by (Answer.Call verdict outcome) = told_in outcome
+told_by (Answer.Resumed outcome) = told_in outcome
+told_by (Answer.Signal n effect) = None
+told_by Answer.Crashed = None
+told_by (Answer.NotNow reason) = None
 
 -- the status is that of a process that has ended: wait(2), WIFEXITED and WIFSIGNALED
 abbrev pub IsEnd : ℕ → Type 0

@@ -1,14 +1,7 @@
 -- Laws on turns: whose turn it is can run, who can run has the event that it needs, and who cannot does nothing.
 use Rattle.std.specs.Prelude.{ℕ, ◌≡◌, ◌<◌, ◌≤◌, ◌⊎◌, ◌↔◌, false, IsTrue, List, None, Some}
-use Rattle.std.specs.Option.{is_some}
-use Rattle.sk_world.specs.World.{World}
-use Rattle.sk_machine.specs.declared.event.Event.{Event}
-use Rattle.sk_machine.specs.declared.answer.Answer.TheVariants.{Resumed}
-use Rattle.sk_machine.specs.declared.answer.Outcome.TheVariants.{Waits}
-use Rattle.sk_machine.specs.Events.{pid_of}
-use Rattle.sk_machine.specs.Images.{Images}
-use Rattle.sk_machine.specs.Machine.{reason_of, step_of, world_after}
-use Rattle.sk_machine.specs.Turns.{is_runnable, need_of, need_met_by, next_of}
+use Rattle.sk_laws.specs.Common.{is_some, World, Event, Resumed, Waits, pid_of, Images, reason_of, step_of, world_after, is_runnable,
+    need_of, need_met_by, next_of}
 
 -- it is the turn of this process: it can run, and it is the least that can above the one that ran last, or,
 -- where none above can, the least of all that can

@@ -1,82 +1,8 @@
 -- Runs that are worked out by hand: filters, and the calls on ids, programs and no_new_privs.
 use Rattle.std.specs.Prelude.{pos, neg_ℤ, [], ◌∷◌, List}
-use Rattle.sk_machine.specs.declared.answer.Answer.TheVariants as answer
-use Rattle.sk_machine.specs.declared.answer.Outcome.TheVariants.{Returned, Told, Ids, Ended}
-use Rattle.sk_machine.specs.declared.answer.Reason.TheVariants as reason
-use Rattle.sk_machine.specs.declared.event.Event.TheVariants.{Resume}
-use Rattle.sk_world.specs.declared.errno.Errno.TheVariants.{Eperm, Enoent, Eacces, Efault, Einval, Enosys, Eopnotsupp}
-use Rattle.sk_world.specs.World.{opening}
-use Rattle.sk_machine.specs.Lineages.{Happening}
+use Rattle.sk_laws.specs.Common.{Answer, Returned, Told, Ids, Ended, Reason, Resume, Eperm, Enoent, Eacces, Efault, Einval, Enosys,
+    Eopnotsupp, opening, Happening}
 use Rattle.sk_laws.specs.Scripts.{nothing_given, given, plain, set_user_id, always, for_number, minus, getpid, fork, execve, wait4, getuid, setuid, geteuid, getppid, setresuid, getresuid, prctl, exit_group, seccomp, call, allowed, gives, fails, waits, told, ends, executed, refused, resumes, not_now, Runs}
-
--- a call that SECCOMP_RET_ERRNO refuses is not performed, and the others are
-abbrev pub AnswersErrno : Type 0
-AnswersErrno =
-    Runs (given (for_number 110 0x00050001 ∷ []) (plain ∷ [])) opening (
-    (seccomp 1 1 0 0, gives 0)
-    ∷ (getppid 1, refused 1)
-    ∷ (getpid 1, gives 1)
-    ∷ (exit_group 1 0, ends 0)
-    ∷ (getpid 1, not_now reason.Halted)
-    ∷ [])
-
--- the data of SECCOMP_RET_ERRNO are the error, at most 4095
-abbrev pub AnswersNoErrno : Type 0
-AnswersNoErrno =
-    Runs (given (for_number 39 0x00050000 ∷ []) []) opening ((seccomp 1 1 0 0, gives 0) ∷ (getpid 1, refused 0) ∷ [])
-
--- a greater error is answered as 4095
-abbrev pub AnswersGreatestErrno : Type 0
-AnswersGreatestErrno =
-    Runs (given (for_number 39 0x0005ffff ∷ []) []) opening (
-    (seccomp 1 1 0 0, gives 0)
-    ∷ (getpid 1, answer.Call 0x0005ffff (Returned (neg_ℤ (pos 4095))))
-    ∷ [])
-
--- an unknown action ends the process, here process 1
-abbrev pub EndsByUnknownAction : Type 0
-EndsByUnknownAction =
-    Runs (given (for_number 39 0x00060000 ∷ []) []) opening (
-    (seccomp 1 1 0 0, gives 0)
-    ∷ (getpid 1, answer.Call 0x00060000 (Ended 0x1f))
-    ∷ (getpid 1, not_now reason.Halted)
-    ∷ [])
-
--- what every other action does to a child that it meets
-abbrev pub ActionsOnChildren : Type 0
-ActionsOnChildren =
-    Runs (given
-    (for_number 39 0x80000000 ∷ for_number 39 0 ∷ for_number 39 0x7fc00000 ∷ for_number 39 0x7ff00000 ∷ for_number 39 0x7ffc0000 ∷ [])
-    []) opening (
-    (fork 1, gives 2)
-    ∷ (seccomp 2 1 0 0, gives 0)
-    ∷ (getpid 2, answer.Call 0x80000000 (Ended 0x1f))
-    ∷ (wait4 1 2 0, told 2 0x1f)
-    ∷ (fork 1, gives 3)
-    ∷ (seccomp 3 1 0 1, gives 0)
-    ∷ (getpid 3, answer.Call 0 (Ended 0x1f))
-    ∷ (wait4 1 3 0, told 3 0x1f)
-    ∷ (fork 1, gives 4)
-    ∷ (seccomp 4 1 0 2, gives 0)
-    ∷ (getpid 4, answer.Call 0x7fc00000 (Returned (neg_ℤ (pos 38))))
-    ∷ (fork 1, gives 5)
-    ∷ (seccomp 5 1 0 3, gives 0)
-    ∷ (getpid 5, answer.Call 0x7ff00000 (Returned (neg_ℤ (pos 38))))
-    ∷ (fork 1, gives 6)
-    ∷ (seccomp 6 1 0 4, gives 0)
-    ∷ (getpid 6, answer.Call 0x7ffc0000 (Returned (pos 6)))
-    ∷ [])
-
--- of several filters the one whose action has precedence decides, and among equal ones the newest
-abbrev pub JudgesByAllFilters : Type 0
-JudgesByAllFilters =
-    Runs (given (for_number 39 0x00050002 ∷ for_number 39 0x00050001 ∷ for_number 39 0x7ffc0000 ∷ []) []) opening (
-    (seccomp 1 1 0 0, gives 0)
-    ∷ (seccomp 1 1 0 1, gives 0)
-    ∷ (seccomp 1 1 0 2, gives 0)
-    ∷ (getpid 1, refused 1)
-    ∷ (getppid 1, gives 0)
-    ∷ [])
 
 -- no_new_privs lets a user attach a filter, which execve(2) and fork(2) keep, and a set-user-ID program
 -- then gives no other id
@@ -96,14 +22,63 @@ kept_filter =
     ∷ (exit_group 1 0, ends 0)
     ∷ []
 
--- these are its answers
-abbrev pub KeepsFilterThroughExec : Type 0
-KeepsFilterThroughExec = Runs (given (for_number 110 0x00050001 ∷ []) (plain ∷ plain ∷ set_user_id 0 ∷ [])) opening kept_filter
-
--- without no_new_privs a set-user-ID program gives its owner's id
-abbrev pub TakesOwner : Type 0
-TakesOwner =
-    Runs (given [] (plain ∷ set_user_id 7 ∷ [])) opening (
+pub record WorkedCalls : Type 0 where
+  -- a call that SECCOMP_RET_ERRNO refuses is not performed, and the others are
+  pub answers_errno : Runs (given (for_number 110 0x00050001 ∷ []) (plain ∷ [])) opening (
+    (seccomp 1 1 0 0, gives 0)
+    ∷ (getppid 1, refused 1)
+    ∷ (getpid 1, gives 1)
+    ∷ (exit_group 1 0, ends 0)
+    ∷ (getpid 1, not_now Reason.Halted)
+    ∷ [])
+  -- the data of SECCOMP_RET_ERRNO are the error, at most 4095
+  pub answers_no_errno : Runs (given (for_number 39 0x00050000 ∷ []) []) opening ((seccomp 1 1 0 0, gives 0) ∷ (getpid 1, refused 0) ∷ [])
+  -- a greater error is answered as 4095
+  pub answers_greatest_errno : Runs (given (for_number 39 0x0005ffff ∷ []) []) opening (
+    (seccomp 1 1 0 0, gives 0)
+    ∷ (getpid 1, Answer.Call 0x0005ffff (Returned (neg_ℤ (pos 4095))))
+    ∷ [])
+  -- an unknown action ends the process, here process 1
+  pub ends_by_unknown_action : Runs (given (for_number 39 0x00060000 ∷ []) []) opening (
+    (seccomp 1 1 0 0, gives 0)
+    ∷ (getpid 1, Answer.Call 0x00060000 (Ended 0x1f))
+    ∷ (getpid 1, not_now Reason.Halted)
+    ∷ [])
+  -- what every other action does to a child that it meets
+  pub actions_on_children : Runs (given
+    (for_number 39 0x80000000 ∷ for_number 39 0 ∷ for_number 39 0x7fc00000 ∷ for_number 39 0x7ff00000 ∷ for_number 39 0x7ffc0000 ∷ [])
+    []) opening (
+    (fork 1, gives 2)
+    ∷ (seccomp 2 1 0 0, gives 0)
+    ∷ (getpid 2, Answer.Call 0x80000000 (Ended 0x1f))
+    ∷ (wait4 1 2 0, told 2 0x1f)
+    ∷ (fork 1, gives 3)
+    ∷ (seccomp 3 1 0 1, gives 0)
+    ∷ (getpid 3, Answer.Call 0 (Ended 0x1f))
+    ∷ (wait4 1 3 0, told 3 0x1f)
+    ∷ (fork 1, gives 4)
+    ∷ (seccomp 4 1 0 2, gives 0)
+    ∷ (getpid 4, Answer.Call 0x7fc00000 (Returned (neg_ℤ (pos 38))))
+    ∷ (fork 1, gives 5)
+    ∷ (seccomp 5 1 0 3, gives 0)
+    ∷ (getpid 5, Answer.Call 0x7ff00000 (Returned (neg_ℤ (pos 38))))
+    ∷ (fork 1, gives 6)
+    ∷ (seccomp 6 1 0 4, gives 0)
+    ∷ (getpid 6, Answer.Call 0x7ffc0000 (Returned (pos 6)))
+    ∷ [])
+  -- of several filters the one whose action has precedence decides, and among equal ones the newest
+  pub judges_by_all_filters :
+    Runs (given (for_number 39 0x00050002 ∷ for_number 39 0x00050001 ∷ for_number 39 0x7ffc0000 ∷ []) []) opening (
+    (seccomp 1 1 0 0, gives 0)
+    ∷ (seccomp 1 1 0 1, gives 0)
+    ∷ (seccomp 1 1 0 2, gives 0)
+    ∷ (getpid 1, refused 1)
+    ∷ (getppid 1, gives 0)
+    ∷ [])
+  -- these are its answers
+  pub keeps_filter_through_exec : Runs (given (for_number 110 0x00050001 ∷ []) (plain ∷ plain ∷ set_user_id 0 ∷ [])) opening kept_filter
+  -- without no_new_privs a set-user-ID program gives its owner's id
+  pub takes_owner : Runs (given [] (plain ∷ set_user_id 7 ∷ [])) opening (
     (setuid 1 1000, gives 0)
     ∷ (execve 1 1, executed)
     ∷ (getresuid 1, allowed (Ids 1000 7 7))
@@ -111,21 +86,15 @@ TakesOwner =
     ∷ (geteuid 1, gives 7)
     ∷ (execve 1 2, fails Enoent)
     ∷ [])
-
--- every execve(2) copies the effective id to the saved one
-abbrev pub SavesEffectiveId : Type 0
-SavesEffectiveId =
-    Runs (given [] (plain ∷ [])) opening (
+  -- every execve(2) copies the effective id to the saved one
+  pub saves_effective_id : Runs (given [] (plain ∷ [])) opening (
     (setresuid 1 0 5 7, gives 0)
     ∷ (getresuid 1, allowed (Ids 0 5 7))
     ∷ (execve 1 0, executed)
     ∷ (getresuid 1, allowed (Ids 0 5 5))
     ∷ [])
-
--- an unprivileged process moves among its three ids
-abbrev pub MovesAmongItsIds : Type 0
-MovesAmongItsIds =
-    Runs nothing_given opening (
+  -- an unprivileged process moves among its three ids
+  pub moves_among_its_ids : Runs nothing_given opening (
     (setuid 1 4294967295, fails Einval)
     ∷ (setresuid 1 1000 1001 1002, gives 0)
     ∷ (setresuid 1 1002 1000 4294967295, gives 0)
@@ -137,11 +106,8 @@ MovesAmongItsIds =
     ∷ (getuid 1, gives 1002)
     ∷ (geteuid 1, gives 1002)
     ∷ [])
-
--- what prctl(2) and seccomp(2) tell, and what they refuse
-abbrev pub AsksForModes : Type 0
-AsksForModes =
-    Runs (given (always 0x7fff0000 ∷ []) []) opening (
+  -- what prctl(2) and seccomp(2) tell, and what they refuse
+  pub asks_for_modes : Runs (given (always 0x7fff0000 ∷ []) []) opening (
     (prctl 1 21 0 0, gives 0)
     ∷ (prctl 1 22 2 0, gives 0)
     ∷ (prctl 1 21 0 0, gives 2)
@@ -154,11 +120,8 @@ AsksForModes =
     ∷ (prctl 1 39 1 0, fails Einval)
     ∷ (prctl 1 36 1 0, fails Einval)
     ∷ [])
-
--- which actions seccomp(2) has, and what it refuses to tell; a call without a meaning fails with ENOSYS
-abbrev pub AsksForActions : Type 0
-AsksForActions =
-    Runs nothing_given opening (
+  -- which actions seccomp(2) has, and what it refuses to tell; a call without a meaning fails with ENOSYS
+  pub asks_for_actions : Runs nothing_given opening (
     (seccomp 1 2 0 0x7fc00000, gives 0)
     ∷ (seccomp 1 2 0 0x80000000, gives 0)
     ∷ (seccomp 1 2 0 0x00060000, fails Eopnotsupp)
@@ -167,12 +130,9 @@ AsksForActions =
     ∷ (seccomp 1 0 0 0, fails Einval)
     ∷ (call 1 999 0 0 0, fails Enosys)
     ∷ [])
-
--- the refusals of an attach in their order: flags, an image that is not declared, one without whole
--- instructions, a user without no_new_privs, a filter that is not valid
-abbrev pub RefusesToAttach : Type 0
-RefusesToAttach =
-    Runs (given ([] ∷ (6 ∷ 0 ∷ 0 ∷ []) ∷ (0x30 ∷ 0 ∷ 0 ∷ 0 ∷ 0 ∷ 0 ∷ 0 ∷ 0 ∷ []) ∷ []) []) opening (
+  -- the refusals of an attach in their order: flags, an image that is not declared, one without whole
+  -- instructions, a user without no_new_privs, a filter that is not valid
+  pub refuses_to_attach : Runs (given ([] ∷ (6 ∷ 0 ∷ 0 ∷ []) ∷ (0x30 ∷ 0 ∷ 0 ∷ 0 ∷ 0 ∷ 0 ∷ 0 ∷ 0 ∷ []) ∷ []) []) opening (
     (seccomp 1 1 1 3, fails Einval)
     ∷ (seccomp 1 1 0 3, fails Efault)
     ∷ (seccomp 1 1 0 0, fails Einval)
@@ -183,19 +143,3 @@ RefusesToAttach =
     ∷ (seccomp 1 1 0 2, fails Eacces)
     ∷ (seccomp 1 1 0 3, fails Efault)
     ∷ [])
-
--- all of these
-pub record WorkedCalls : Type 0 where
-  pub answers_errno : AnswersErrno
-  pub answers_no_errno : AnswersNoErrno
-  pub answers_greatest_errno : AnswersGreatestErrno
-  pub ends_by_unknown_action : EndsByUnknownAction
-  pub actions_on_children : ActionsOnChildren
-  pub judges_by_all_filters : JudgesByAllFilters
-  pub keeps_filter_through_exec : KeepsFilterThroughExec
-  pub takes_owner : TakesOwner
-  pub saves_effective_id : SavesEffectiveId
-  pub moves_among_its_ids : MovesAmongItsIds
-  pub asks_for_modes : AsksForModes
-  pub asks_for_actions : AsksForActions
-  pub refuses_to_attach : RefusesToAttach

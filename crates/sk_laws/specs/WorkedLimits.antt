@@ -1,11 +1,7 @@
 -- Runs that are worked out by hand: the limits on pids, on processes and on filters.
 use Rattle.std.specs.Prelude.{ℕ, zero, suc, ◌≡◌, ◌+◌, [], ◌∷◌, List, Ok, Err, false, replicate}
-use Rattle.sk_insn.specs.declared.insn.Insn.{Insn}
-use Rattle.sk_world.specs.declared.errno.Errno.TheVariants.{Eagain, Eacces, Einval, Enomem}
-use Rattle.sk_world.specs.declared.process.Proc.{Proc}
-use Rattle.sk_world.specs.World.{World, first_process, opening}
+use Rattle.sk_laws.specs.Common.{Insn, Eagain, Eacces, Einval, Enomem, Proc, World, first_process, opening, Authority, filtered}
 use Rattle.sk_laws.specs.WorkedWorlds.{world_of, child}
-use Rattle.sk_machine.specs.Authority.{Authority, filtered}
 use Rattle.sk_laws.specs.Scripts.{nothing_given, fork, exit, wait4, setpgid, getppid, getpgrp, gives, fails, told, ends, Runs, after}
 
 -- after the greatest pid they go on from 2, the next that is free; one that is free again is not given

@@ -1,13 +1,6 @@
 -- Runs that are worked out by hand: subreapers, prctl(2), PR_SET_CHILD_SUBREAPER.
 use Rattle.std.specs.Prelude.{◌+◌, ◌^◌, [], ◌∷◌, List}
-use Rattle.sk_world.specs.declared.errno.Errno.TheVariants.{Esrch, Echild, Einval}
-use Rattle.sk_world.specs.World.{opening}
-use Rattle.sk_machine.specs.declared.answer.Outcome.TheVariants.{Told}
-use Rattle.sk_machine.specs.declared.answer.Effect.TheVariants as effect
-use Rattle.sk_machine.specs.declared.answer.Reason.TheVariants as reason
-use Rattle.sk_machine.specs.declared.event.Event.TheVariants.{Deliver, Resume}
-use Rattle.sk_machine.specs.Images.{Images}
-use Rattle.sk_machine.specs.Lineages.{Happening}
+use Rattle.sk_laws.specs.Common.{Esrch, Echild, Einval, opening, Told, Effect, Reason, Deliver, Resume, Images, Happening}
 use Rattle.sk_laws.specs.Scripts.{given, given_with_subreapers, plain, call_with, minus, only, sigaction, sigprocmask, getpid, fork, execve, exit, wait4, kill, setpgid, getppid, setsid, getpgid, sigpending, prctl, exit_group, gives, fails, waits, told, ends, executed, signals, resumes, delivers, not_now, Runs, after}
 use Rattle.sk_laws.specs.WorkedTurns.{TakesTurns}
 
@@ -39,14 +32,6 @@ with_subreapers = given_with_subreapers [] (plain ∷ plain ∷ plain ∷ plain 
 abbrev pub without_subreapers : Images
 without_subreapers = given [] (plain ∷ plain ∷ plain ∷ plain ∷ [])
 
--- these are its answers
-abbrev pub ReapsForServer : Type 0
-ReapsForServer = Runs with_subreapers opening server
-
--- and its turns
-abbrev pub TurnsOfServer : Type 0
-TurnsOfServer = TakesTurns with_subreapers server
-
 -- where there are no subreapers process 1 gets them
 abbrev pub unmarked : List Happening
 unmarked =
@@ -65,18 +50,32 @@ unmarked =
     ∷ (wait4 2 (minus 1) 0, fails Echild)
     ∷ []
 
--- these are its answers
-abbrev pub ReapsForInit : Type 0
-ReapsForInit = Runs without_subreapers opening unmarked
-
 -- the numbers mean nothing then, to process 1 as well
 abbrev pub HasNoSubreapers : Type 0
 HasNoSubreapers = Runs without_subreapers opening ((prctl 1 36 1 0, fails Einval) ∷ (prctl 1 37 0 0, fails Einval) ∷ [])
 
--- a child has no mark, and execve(2) keeps it
-abbrev pub KeepsMarkThroughExec : Type 0
-KeepsMarkThroughExec =
-    Runs with_subreapers opening (
+-- a subreaper in the session keeps the groups of its orphans tied to it, so that nobody hangs them up
+abbrev pub session_of_three : List Happening
+session_of_three =
+    (fork 1, gives 2)
+    ∷ (setsid 2, gives 2)
+    ∷ (fork 2, gives 3)
+    ∷ (fork 3, gives 4)
+    ∷ (setpgid 3 4 0, gives 0)
+    ∷ (kill 3 4 19, gives 0)
+    ∷ (Deliver 4, delivers 19 Effect.Stopped)
+    ∷ []
+
+pub record WorkedReapers : Type 0 where
+  -- these are its answers
+  pub reaps_for_server : Runs with_subreapers opening server
+  -- and its turns
+  pub turns_of_server : TakesTurns with_subreapers server
+  -- these are its answers
+  pub reaps_for_init : Runs without_subreapers opening unmarked
+  pub has_no_subreapers : HasNoSubreapers
+  -- a child has no mark, and execve(2) keeps it
+  pub keeps_mark_through_exec : Runs with_subreapers opening (
     (prctl 1 37 0 0, gives 0)
     ∷ (prctl 1 36 1 0, gives 0)
     ∷ (prctl 1 37 0 0, gives 1)
@@ -85,11 +84,8 @@ KeepsMarkThroughExec =
     ∷ (execve 1 0, executed)
     ∷ (prctl 1 37 0 0, gives 1)
     ∷ [])
-
--- any number but 0, of all 64 bits, sets the mark, 0 clears it, and the other arguments do not matter
-abbrev pub SetsAndClearsMark : Type 0
-SetsAndClearsMark =
-    Runs with_subreapers opening (
+  -- any number but 0, of all 64 bits, sets the mark, 0 clears it, and the other arguments do not matter
+  pub sets_and_clears_mark : Runs with_subreapers opening (
     (prctl 1 36 (2 ^ 32) 9, gives 0)
     ∷ (call_with 1 157 (37 ∷ 7 ∷ 7 ∷ 7 ∷ 7 ∷ 7 ∷ []), gives 1)
     ∷ (call_with 1 157 (36 ∷ 0 ∷ 7 ∷ 7 ∷ 7 ∷ 7 ∷ []), gives 0)
@@ -97,12 +93,9 @@ SetsAndClearsMark =
     ∷ (prctl 1 (2 ^ 32 + 36) 2 0, gives 0)
     ∷ (prctl 1 37 0 0, gives 1)
     ∷ [])
-
--- of two marked ancestors the nearer one gets the orphan, and when it ends the other; a mark of one's own does
--- not count
-abbrev pub ReapsForNearest : Type 0
-ReapsForNearest =
-    Runs with_subreapers opening (
+  -- of two marked ancestors the nearer one gets the orphan, and when it ends the other; a mark of one's own does
+  -- not count
+  pub reaps_for_nearest : Runs with_subreapers opening (
     (fork 1, gives 2)
     ∷ (prctl 2 36 1 0, gives 0)
     ∷ (fork 2, gives 3)
@@ -118,11 +111,8 @@ ReapsForNearest =
     ∷ (exit 2 0, ends 0)
     ∷ (getppid 6, gives 1)
     ∷ [])
-
--- one that has cleared its mark gets no orphans any more, and keeps those that it has
-abbrev pub ClearsMark : Type 0
-ClearsMark =
-    Runs with_subreapers opening (
+  -- one that has cleared its mark gets no orphans any more, and keeps those that it has
+  pub clears_mark : Runs with_subreapers opening (
     (fork 1, gives 2)
     ∷ (prctl 2 36 1 0, gives 0)
     ∷ (fork 2, gives 3)
@@ -136,26 +126,20 @@ ClearsMark =
     ∷ (exit 5 0, ends 0)
     ∷ (getppid 6, gives 1)
     ∷ [])
-
--- a subreaper that is stopped gets them all the same
-abbrev pub ReapsWhileStopped : Type 0
-ReapsWhileStopped =
-    Runs with_subreapers opening (
+  -- a subreaper that is stopped gets them all the same
+  pub reaps_while_stopped : Runs with_subreapers opening (
     (fork 1, gives 2)
     ∷ (prctl 2 36 1 0, gives 0)
     ∷ (fork 2, gives 3)
     ∷ (fork 3, gives 4)
     ∷ (kill 1 2 19, gives 0)
-    ∷ (Deliver 2, delivers 19 effect.Stopped)
+    ∷ (Deliver 2, delivers 19 Effect.Stopped)
     ∷ (exit 3 0, ends 0)
     ∷ (getppid 4, gives 2)
-    ∷ (getpid 2, not_now reason.Stopped)
+    ∷ (getpid 2, not_now Reason.Stopped)
     ∷ [])
-
--- a zombie among the orphans is the subreaper's to wait for, though process 1 ignores SIGCHLD
-abbrev pub HandsZombieToReaper : Type 0
-HandsZombieToReaper =
-    Runs with_subreapers opening (
+  -- a zombie among the orphans is the subreaper's to wait for, though process 1 ignores SIGCHLD
+  pub hands_zombie_to_reaper : Runs with_subreapers opening (
     (fork 1, gives 2)
     ∷ (sigaction 1 17 1 0, gives 0)
     ∷ (prctl 2 36 1 0, gives 0)
@@ -165,11 +149,8 @@ HandsZombieToReaper =
     ∷ (exit 3 0, ends 0)
     ∷ (wait4 2 4 0, told 4 0x0500)
     ∷ [])
-
--- and goes where the subreaper ignores SIGCHLD, though process 1 does not
-abbrev pub LeavesReaperNoZombies : Type 0
-LeavesReaperNoZombies =
-    Runs with_subreapers opening (
+  -- and goes where the subreaper ignores SIGCHLD, though process 1 does not
+  pub leaves_reaper_no_zombies : Runs with_subreapers opening (
     (fork 1, gives 2)
     ∷ (prctl 2 36 1 0, gives 0)
     ∷ (fork 2, gives 3)
@@ -180,11 +161,8 @@ LeavesReaperNoZombies =
     ∷ (getpgid 1 4, fails Esrch)
     ∷ (getpgid 1 3, fails Esrch)
     ∷ [])
-
--- it is announced to the subreaper that there is a zombie among the orphans, and not to process 1
-abbrev pub AnnouncesToReaper : Type 0
-AnnouncesToReaper =
-    Runs with_subreapers opening (
+  -- it is announced to the subreaper that there is a zombie among the orphans, and not to process 1
+  pub announces_to_reaper : Runs with_subreapers opening (
     (sigaction 1 17 2 0, gives 0)
     ∷ (sigprocmask 1 0 (only 17), gives 0)
     ∷ (fork 1, gives 2)
@@ -199,42 +177,21 @@ AnnouncesToReaper =
     ∷ (sigpending 3, signals (only 17))
     ∷ (wait4 2 5 0, told 5 0)
     ∷ [])
-
--- a subreaper in the session keeps the groups of its orphans tied to it, so that nobody hangs them up
-abbrev pub session_of_three : List Happening
-session_of_three =
-    (fork 1, gives 2)
-    ∷ (setsid 2, gives 2)
-    ∷ (fork 2, gives 3)
-    ∷ (fork 3, gives 4)
-    ∷ (setpgid 3 4 0, gives 0)
-    ∷ (kill 3 4 19, gives 0)
-    ∷ (Deliver 4, delivers 19 effect.Stopped)
-    ∷ []
-
--- with the mark the orphan stays stopped
-abbrev pub ReaperTiesGroup : Type 0
-ReaperTiesGroup =
-    Runs with_subreapers (after with_subreapers opening session_of_three) (
+  -- with the mark the orphan stays stopped
+  pub reaper_ties_group : Runs with_subreapers (after with_subreapers opening session_of_three) (
     (prctl 2 36 1 0, gives 0)
     ∷ (exit 3 0, ends 0)
-    ∷ (getpid 4, not_now reason.Stopped)
+    ∷ (getpid 4, not_now Reason.Stopped)
     ∷ (exit 2 0, ends 0)
-    ∷ (Deliver 4, delivers 1 (effect.Ended 1))
+    ∷ (Deliver 4, delivers 1 (Effect.Ended 1))
     ∷ [])
-
--- without it the orphan is hung up at once
-abbrev pub InitTiesNoGroup : Type 0
-InitTiesNoGroup =
-    Runs with_subreapers (after with_subreapers opening session_of_three) (
+  -- without it the orphan is hung up at once
+  pub init_ties_no_group : Runs with_subreapers (after with_subreapers opening session_of_three) (
     (exit 3 0, ends 0)
-    ∷ (Deliver 4, delivers 1 (effect.Ended 1))
+    ∷ (Deliver 4, delivers 1 (Effect.Ended 1))
     ∷ [])
-
--- a subreaper that ignores SIGCHLD is told nothing of a zombie among its orphans: the zombie has gone
-abbrev pub TellsIgnorerOfNoOrphan : Type 0
-TellsIgnorerOfNoOrphan =
-    Runs with_subreapers opening (
+  -- a subreaper that ignores SIGCHLD is told nothing of a zombie among its orphans: the zombie has gone
+  pub tells_ignorer_of_no_orphan : Runs with_subreapers opening (
     (fork 1, gives 2)
     ∷ (prctl 2 36 1 0, gives 0)
     ∷ (sigaction 2 17 1 0, gives 0)
@@ -247,11 +204,8 @@ TellsIgnorerOfNoOrphan =
     ∷ (sigpending 2, signals 0)
     ∷ (wait4 2 (minus 1) 1, fails Echild)
     ∷ [])
-
--- a mark that is set by a number above 32 bits takes orphans like any other, and that of process 1 takes none from it
-abbrev pub MarksByWholeRegister : Type 0
-MarksByWholeRegister =
-    Runs with_subreapers opening (
+  -- a mark that is set by a number above 32 bits takes orphans like any other, and that of process 1 takes none from it
+  pub marks_by_whole_register : Runs with_subreapers opening (
     (prctl 1 36 (2 ^ 32) 0, gives 0)
     ∷ (fork 1, gives 2)
     ∷ (prctl 2 36 (2 ^ 32) 0, gives 0)
@@ -260,22 +214,3 @@ MarksByWholeRegister =
     ∷ (exit 3 0, ends 0)
     ∷ (getppid 4, gives 2)
     ∷ [])
-
--- all of these
-pub record WorkedReapers : Type 0 where
-  pub reaps_for_server : ReapsForServer
-  pub turns_of_server : TurnsOfServer
-  pub reaps_for_init : ReapsForInit
-  pub has_no_subreapers : HasNoSubreapers
-  pub keeps_mark_through_exec : KeepsMarkThroughExec
-  pub sets_and_clears_mark : SetsAndClearsMark
-  pub reaps_for_nearest : ReapsForNearest
-  pub clears_mark : ClearsMark
-  pub reaps_while_stopped : ReapsWhileStopped
-  pub hands_zombie_to_reaper : HandsZombieToReaper
-  pub leaves_reaper_no_zombies : LeavesReaperNoZombies
-  pub announces_to_reaper : AnnouncesToReaper
-  pub reaper_ties_group : ReaperTiesGroup
-  pub init_ties_no_group : InitTiesNoGroup
-  pub tells_ignorer_of_no_orphan : TellsIgnorerOfNoOrphan
-  pub marks_by_whole_register : MarksByWholeRegister

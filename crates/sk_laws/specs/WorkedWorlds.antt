@@ -1,26 +1,12 @@
 -- Worlds that are worked out by hand.
 use Rattle.std.specs.Prelude.{◌≡◌, ℕ, ◌-◌, true, false, List, [], ◌∷◌, slice_set, None, Some, Ok}
-use Rattle.sk_world.specs.declared.signals.TheConstants.{SIGHUP, SIGTERM, SIGCHLD, SIGCONT, SIGKILL, SIGSTOP, SIGTSTP, SIGUSR1, SIGSYS}
-use Rattle.sk_world.specs.declared.disposition.Disposition.{Disposition}
-use Rattle.sk_world.specs.declared.disposition.Disposition.TheVariants.{Ignore, Handler}
+use Rattle.sk_laws.specs.Common.{SIGHUP, SIGTERM, SIGCHLD, SIGCONT, SIGKILL, SIGSTOP, SIGTSTP, SIGUSR1, SIGSYS, Disposition, Ignore,
+    Handler, Signals, Life, Running, Stopped, Zombie, Note, Waiting, Proc, Request, NoMatch, NotReady, none, World, at, is_halted, stored,
+    changed, first_process, opening, sent, forced, fork_answer, forked, child_of, ended, options_of, ready_of, told}
 use Rattle.sk_world.specs.Sets as set
-use Rattle.sk_world.specs.SignalSet.{Signals}
-use Rattle.sk_world.specs.declared.process.Life.{Life}
-use Rattle.sk_world.specs.declared.process.Life.TheVariants.{Running, Stopped, Zombie}
-use Rattle.sk_world.specs.declared.process.Note.{Note}
-use Rattle.sk_world.specs.declared.process.Note.TheVariants as note
-use Rattle.sk_world.specs.declared.process.Waiting.TheVariants as waiting
-use Rattle.sk_world.specs.declared.process.Proc.{Proc}
 use Rattle.sk_world.specs.declared.request.Who.{Who}
 use Rattle.sk_world.specs.declared.request.Who.TheVariants.{Child, Any, Group}
-use Rattle.sk_world.specs.declared.request.Request.{Request}
-use Rattle.sk_world.specs.declared.request.Poll.TheVariants.{Told, NoMatch, NotReady}
-use Rattle.sk_world.specs.Processes.{none}
-use Rattle.sk_world.specs.World.{World, at, is_halted, stored, changed, first_process, opening}
-use Rattle.sk_world.specs.Sending.{sent, forced}
-use Rattle.sk_world.specs.Forking.{fork_answer, forked, child_of}
-use Rattle.sk_world.specs.Ending.{ended}
-use Rattle.sk_world.specs.Waits.{options_of, ready_of, told}
+use Rattle.sk_world.specs.declared.request.Poll.TheVariants.{Told}
 
 -- the world of these processes, where this pid was the last one given
 abbrev pub world_of : List (ℕ × Proc) → ℕ → World
@@ -103,7 +89,7 @@ pub record WorkedForks : Type 0 where
   pub caller_stays : at (forked opening 1) 1 ≡ Some first_process
   pub last_given : (forked opening 1).last ≡ 2
   pub starts_anew :
-      child_of 1 (record first_process { body = record first_process.body { executed = true; waiting = waiting.Pause; note = note.Continued } }) ≡ child
+      child_of 1 (record first_process { body = record first_process.body { executed = true; waiting = Waiting.Pause; note = Note.Continued } }) ≡ child
   pub rights_are_kept : child_of 1 (with_rights first_process) ≡ with_rights child
   pub nothing_pends : child_of 1 (pending (SIGUSR1 ∷ []) first_process) ≡ child
   pub mask_is_kept : child_of 1 (blocking (set.from_list (SIGUSR1 ∷ [])) first_process) ≡ blocking (set.from_list (SIGUSR1 ∷ [])) child
@@ -111,18 +97,18 @@ pub record WorkedForks : Type 0 where
 
 -- how processes end
 pub record WorkedEnds : Type 0 where
-  pub zombie_is_left : at (ended (family first_process child grandchild) 2 0x100) 2 ≡ Some (living (Zombie 0x100) note.Nothing child)
+  pub zombie_is_left : at (ended (family first_process child grandchild) 2 0x100) 2 ≡ Some (living (Zombie 0x100) Note.Nothing child)
   pub orphan_is_handed_on : at (ended (family first_process child grandchild) 2 0x100) 3 ≡ Some child
   pub zombie_is_handed_on :
-      at (ended (family first_process child (living (Zombie 9) note.Nothing grandchild)) 2 0) 3 ≡ Some (living (Zombie 9) note.Nothing child)
+      at (ended (family first_process child (living (Zombie 9) Note.Nothing grandchild)) 2 0) 3 ≡ Some (living (Zombie 9) Note.Nothing child)
   -- process 1 is not the parent of 3, so it gets SIGCHLD for the zombie that it takes over and not for the end of 3
   pub zombie_is_announced :
-      at (ended (line_of_four (disposed SIGCHLD caught first_process) child grandchild (living (Zombie 9) note.Nothing third_generation)) 3 0) 1
+      at (ended (line_of_four (disposed SIGCHLD caught first_process) child grandchild (living (Zombie 9) Note.Nothing third_generation)) 3 0) 1
       ≡ Some (pending (SIGCHLD ∷ []) (disposed SIGCHLD caught first_process))
   -- a living orphan is handed on in silence
   pub living_orphan_is_unannounced :
       at (ended (line_of_four (disposed SIGCHLD caught first_process) child grandchild third_generation) 3 0) 1 ≡ Some (disposed SIGCHLD caught first_process)
-  pub zombie_goes : at (ended (family (disposed SIGCHLD Ignore first_process) child (living (Zombie 9) note.Nothing grandchild)) 2 0) 3 ≡ None
+  pub zombie_goes : at (ended (family (disposed SIGCHLD Ignore first_process) child (living (Zombie 9) Note.Nothing grandchild)) 2 0) 3 ≡ None
   pub living_orphan_stays : at (ended (family (disposed SIGCHLD Ignore first_process) child grandchild) 2 0) 3 ≡ Some child
   pub end_is_announced : at (ended (family first_process (disposed SIGCHLD caught child) grandchild) 3 9) 2 ≡ Some (pending (SIGCHLD ∷ []) (disposed SIGCHLD caught child))
   pub parent_ignores : at (ended (family first_process (disposed SIGCHLD Ignore child) grandchild) 3 9) 3 ≡ None
@@ -130,12 +116,12 @@ pub record WorkedEnds : Type 0 where
   pub ignored_end_is_unannounced :
       at (ended (family first_process (blocking (set.from_list (SIGCHLD ∷ [])) (disposed SIGCHLD Ignore child)) grandchild) 3 0) 2
       ≡ Some (blocking (set.from_list (SIGCHLD ∷ [])) (disposed SIGCHLD Ignore child))
-  pub nothing_pends : at (ended (family first_process child (pending (SIGTERM ∷ []) grandchild)) 3 9) 3 ≡ Some (living (Zombie 9) note.Nothing grandchild)
-  pub note_goes : at (ended (family first_process child (living Stopped (note.Stopped SIGSTOP) grandchild)) 3 9) 3 ≡ Some (living (Zombie 9) note.Nothing grandchild)
+  pub nothing_pends : at (ended (family first_process child (pending (SIGTERM ∷ []) grandchild)) 3 9) 3 ≡ Some (living (Zombie 9) Note.Nothing grandchild)
+  pub note_goes : at (ended (family first_process child (living Stopped (Note.Stopped SIGSTOP) grandchild)) 3 9) 3 ≡ Some (living (Zombie 9) Note.Nothing grandchild)
   -- a process that ends in a call waits in it no more
   pub waiting_goes :
-      at (ended (family first_process child (record grandchild { body = record grandchild.body { waiting = waiting.Pause } })) 3 9) 3
-      ≡ Some (living (Zombie 9) note.Nothing grandchild)
+      at (ended (family first_process child (record grandchild { body = record grandchild.body { waiting = Waiting.Pause } })) 3 9) 3
+      ≡ Some (living (Zombie 9) Note.Nothing grandchild)
   pub end_of_first_halts : is_halted (ended (family first_process child grandchild) 1 0x600) ≡ true
   pub end_of_another_does_not : is_halted (ended (family first_process child grandchild) 2 0x600) ≡ false
   pub end_of_first_hands_none_on : at (ended (family first_process child grandchild) 1 0x600) 2 ≡ Some child
@@ -152,9 +138,9 @@ pub record WorkedReapers : Type 0 where
   pub own_mark : at (ended (line_of_four first_process child (marked grandchild) (marked third_generation)) 3 0) 4 ≡ Some (marked child)
   -- a subreaper that is no ancestor gets nobody
   pub no_ancestor : at (ended (line_of_four first_process (marked child) child third_generation) 3 0) 4 ≡ Some child
-  pub stopped_subreaper : at (ended (line_of_four first_process (living Stopped note.Nothing (marked child)) grandchild third_generation) 3 0) 4 ≡ Some grandchild
+  pub stopped_subreaper : at (ended (line_of_four first_process (living Stopped Note.Nothing (marked child)) grandchild third_generation) 3 0) 4 ≡ Some grandchild
   pub child_is_unmarked : child_of 1 (marked first_process) ≡ child
-  pub zombie_stays_marked : at (ended (family first_process (marked child) grandchild) 2 0) 2 ≡ Some (living (Zombie 0) note.Nothing (marked child))
+  pub zombie_stays_marked : at (ended (family first_process (marked child) grandchild) 2 0) 2 ≡ Some (living (Zombie 0) Note.Nothing (marked child))
   -- clearing the mark moves nobody, and the next orphan goes to process 1
   pub cleared_mark :
       at (changed (ended (line_of_four first_process (marked child) grandchild third_generation) 3 0) 2 (λ body. record body { subreaper = false })) 4 ≡ Some grandchild
@@ -162,17 +148,17 @@ pub record WorkedReapers : Type 0 where
       at (ended (changed (line_of_four first_process (marked child) grandchild third_generation) 2 (λ body. record body { subreaper = false })) 3 0) 4 ≡ Some child
   -- a zombie is announced to the subreaper, and not to process 1
   pub zombie_is_announced :
-      at (ended (line_of_five first_process (disposed SIGCHLD caught (marked child)) grandchild third_generation (living (Zombie 9) note.Nothing fourth_generation)) 4 0) 2
+      at (ended (line_of_five first_process (disposed SIGCHLD caught (marked child)) grandchild third_generation (living (Zombie 9) Note.Nothing fourth_generation)) 4 0) 2
       ≡ Some (pending (SIGCHLD ∷ []) (disposed SIGCHLD caught (marked child)))
   pub not_to_first :
-      at (ended (line_of_five (disposed SIGCHLD caught first_process) (marked child) grandchild third_generation (living (Zombie 9) note.Nothing fourth_generation)) 4 0) 1
+      at (ended (line_of_five (disposed SIGCHLD caught first_process) (marked child) grandchild third_generation (living (Zombie 9) Note.Nothing fourth_generation)) 4 0) 1
       ≡ Some (disposed SIGCHLD caught first_process)
   -- whether it goes is by the subreaper's disposition, and not by that of process 1
   pub zombie_goes :
-      at (ended (line_of_four first_process (disposed SIGCHLD Ignore (marked child)) grandchild (living (Zombie 9) note.Nothing third_generation)) 3 0) 4 ≡ None
+      at (ended (line_of_four first_process (disposed SIGCHLD Ignore (marked child)) grandchild (living (Zombie 9) Note.Nothing third_generation)) 3 0) 4 ≡ None
   pub zombie_is_handed_on :
-      at (ended (line_of_four (disposed SIGCHLD Ignore first_process) (marked child) grandchild (living (Zombie 9) note.Nothing third_generation)) 3 0) 4
-      ≡ Some (living (Zombie 9) note.Nothing grandchild)
+      at (ended (line_of_four (disposed SIGCHLD Ignore first_process) (marked child) grandchild (living (Zombie 9) Note.Nothing third_generation)) 3 0) 4
+      ≡ Some (living (Zombie 9) Note.Nothing grandchild)
   -- an orphan keeps its ids and its filters, whoever it goes to
   pub orphan_keeps_rights : at (ended (family first_process child (with_rights grandchild)) 2 0) 3 ≡ Some (with_rights child)
   pub orphan_keeps_rights_below : at (ended (line_of_four first_process (marked child) grandchild (with_rights third_generation)) 3 0) 4 ≡ Some (with_rights grandchild)
@@ -186,15 +172,15 @@ pub record WorkedWaits : Type 0 where
   pub not_yet : ready_of (family first_process child grandchild) 1 (ask Any 0) ≡ NotReady
   pub not_yet_in_group : ready_of (family first_process child grandchild) 1 (ask (Group 1) 0) ≡ NotReady
   pub ended : ready_of (ended (family first_process child grandchild) 2 0x100) 1 (ask Any 0) ≡ Told 2 0x100
-  pub lowest_first : ready_of (family first_process (living (Zombie 1) note.Nothing child) (living (Zombie 2) note.Nothing child)) 1 (ask Any 0) ≡ Told 2 1
-  pub one_of_them : ready_of (family first_process (living (Zombie 1) note.Nothing child) (living (Zombie 2) note.Nothing child)) 1 (ask (Child 3) 0) ≡ Told 3 2
+  pub lowest_first : ready_of (family first_process (living (Zombie 1) Note.Nothing child) (living (Zombie 2) Note.Nothing child)) 1 (ask Any 0) ≡ Told 2 1
+  pub one_of_them : ready_of (family first_process (living (Zombie 1) Note.Nothing child) (living (Zombie 2) Note.Nothing child)) 1 (ask (Child 3) 0) ≡ Told 3 2
   pub then_the_other :
-      ready_of (told (family first_process (living (Zombie 1) note.Nothing child) (living (Zombie 2) note.Nothing child)) (Told 2 1)) 1 (ask Any 0) ≡ Told 3 2
-  pub stopped : ready_of (family first_process (living Stopped (note.Stopped SIGSTOP) child) grandchild) 1 (ask Any 2) ≡ Told 2 0x137f
-  pub stopped_unasked : ready_of (family first_process (living Stopped (note.Stopped SIGSTOP) child) grandchild) 1 (ask Any 9) ≡ NotReady
-  pub continued : ready_of (family first_process (living Running note.Continued child) grandchild) 1 (ask Any 8) ≡ Told 2 0xffff
-  pub continued_unasked : ready_of (family first_process (living Running note.Continued child) grandchild) 1 (ask Any 3) ≡ NotReady
-  pub told_once : ready_of (told (family first_process (living Stopped (note.Stopped SIGSTOP) child) grandchild) (Told 2 0x137f)) 1 (ask Any 2) ≡ NotReady
+      ready_of (told (family first_process (living (Zombie 1) Note.Nothing child) (living (Zombie 2) Note.Nothing child)) (Told 2 1)) 1 (ask Any 0) ≡ Told 3 2
+  pub stopped : ready_of (family first_process (living Stopped (Note.Stopped SIGSTOP) child) grandchild) 1 (ask Any 2) ≡ Told 2 0x137f
+  pub stopped_unasked : ready_of (family first_process (living Stopped (Note.Stopped SIGSTOP) child) grandchild) 1 (ask Any 9) ≡ NotReady
+  pub continued : ready_of (family first_process (living Running Note.Continued child) grandchild) 1 (ask Any 8) ≡ Told 2 0xffff
+  pub continued_unasked : ready_of (family first_process (living Running Note.Continued child) grandchild) 1 (ask Any 3) ≡ NotReady
+  pub told_once : ready_of (told (family first_process (living Stopped (Note.Stopped SIGSTOP) child) grandchild) (Told 2 0x137f)) 1 (ask Any 2) ≡ NotReady
 
 -- what signals do
 pub record WorkedSignals : Type 0 where
@@ -205,18 +191,18 @@ pub record WorkedSignals : Type 0 where
       ≡ Some (pending (SIGTERM ∷ []) (blocking (set.from_list (SIGTERM ∷ [])) (disposed SIGTERM Ignore child)))
   pub first_is_spared : at (sent opening 1 SIGKILL) 1 ≡ Some first_process
   pub first_catches : at (sent (family (disposed SIGHUP caught first_process) child grandchild) 1 SIGHUP) 1 ≡ Some (pending (SIGHUP ∷ []) (disposed SIGHUP caught first_process))
-  pub zombie_gets_none : at (sent (family first_process (living (Zombie 0) note.Nothing child) grandchild) 2 SIGKILL) 2 ≡ Some (living (Zombie 0) note.Nothing child)
-  pub continues : at (sent (family first_process (living Stopped (note.Stopped SIGSTOP) child) grandchild) 2 SIGCONT) 2 ≡ Some (living Running note.Continued child)
+  pub zombie_gets_none : at (sent (family first_process (living (Zombie 0) Note.Nothing child) grandchild) 2 SIGKILL) 2 ≡ Some (living (Zombie 0) Note.Nothing child)
+  pub continues : at (sent (family first_process (living Stopped (Note.Stopped SIGSTOP) child) grandchild) 2 SIGCONT) 2 ≡ Some (living Running Note.Continued child)
   -- SIGCONT continues a stopped process that ignores it
   pub continues_ignored :
-      at (sent (family first_process (living Stopped (note.Stopped SIGSTOP) (disposed SIGCONT Ignore child)) grandchild) 2 SIGCONT) 2
-      ≡ Some (living Running note.Continued (disposed SIGCONT Ignore child))
+      at (sent (family first_process (living Stopped (Note.Stopped SIGSTOP) (disposed SIGCONT Ignore child)) grandchild) 2 SIGCONT) 2
+      ≡ Some (living Running Note.Continued (disposed SIGCONT Ignore child))
   -- SIGCONT continues a stopped process that blocks it, and pends besides
   pub continues_blocked :
-      at (sent (family first_process (living Stopped (note.Stopped SIGSTOP) (blocking (set.from_list (SIGCONT ∷ [])) child)) grandchild) 2 SIGCONT) 2
-      ≡ Some (pending (SIGCONT ∷ []) (living Running note.Continued (blocking (set.from_list (SIGCONT ∷ [])) child)))
+      at (sent (family first_process (living Stopped (Note.Stopped SIGSTOP) (blocking (set.from_list (SIGCONT ∷ [])) child)) grandchild) 2 SIGCONT) 2
+      ≡ Some (pending (SIGCONT ∷ []) (living Running Note.Continued (blocking (set.from_list (SIGCONT ∷ [])) child)))
   pub continuation_is_announced :
-      at (sent (family (disposed SIGCHLD caught first_process) (living Stopped (note.Stopped SIGSTOP) child) grandchild) 2 SIGCONT) 1
+      at (sent (family (disposed SIGCHLD caught first_process) (living Stopped (Note.Stopped SIGSTOP) child) grandchild) 2 SIGCONT) 1
       ≡ Some (pending (SIGCHLD ∷ []) (disposed SIGCHLD caught first_process))
   pub continues_nobody : at (sent (family (disposed SIGCHLD caught first_process) child grandchild) 2 SIGCONT) 1 ≡ Some (disposed SIGCHLD caught first_process)
   pub discards_stops : at (sent (family first_process (pending (SIGSTOP ∷ SIGTSTP ∷ []) child) grandchild) 2 SIGCONT) 2 ≡ Some child

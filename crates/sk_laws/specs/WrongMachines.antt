@@ -1,34 +1,15 @@
 -- Machines that are wrong, and that the laws on authority refuse by themselves.
 use Rattle.std.specs.Prelude.{ℕ, pos, Bool, true, false, if◌then◌else◌, [], Option, None, Some}
-use Rattle.std.specs.Option.{option_map_or}
-use Rattle.sk_insn.specs.declared.action.Action.{Action}
-use Rattle.sk_insn.specs.declared.action.Action.TheVariants as action
-use Rattle.sk_insn.specs.Actions.{action_of}
-use Rattle.sk_world.specs.declared.signals.TheConstants.{SIGHUP}
-use Rattle.sk_world.specs.declared.process.TheConstants.{INIT}
-use Rattle.sk_world.specs.declared.process.Body.{Body}
-use Rattle.sk_world.specs.declared.process.Proc.{Proc}
-use Rattle.sk_world.specs.Processes.{each}
-use Rattle.sk_world.specs.World.{World, at, is_child_of, parent_of, body_changed, changed}
-use Rattle.sk_world.specs.Sending.{sent}
-use Rattle.sk_machine.specs.declared.event.Event.{Event}
-use Rattle.sk_machine.specs.declared.event.Event.TheVariants.{Call}
-use Rattle.sk_machine.specs.declared.answer.Answer.{Answer}
-use Rattle.sk_machine.specs.declared.answer.Answer.TheVariants as answer
-use Rattle.sk_machine.specs.declared.answer.Outcome.TheVariants.{Returned, Executed, Ended}
-use Rattle.sk_machine.specs.Events.{pid_of, recorded}
-use Rattle.sk_machine.specs.Performing.{performed}
-use Rattle.sk_machine.specs.Machine.{step_of}
-use Rattle.sk_machine.specs.Lineages.{is_fork_of}
+use Rattle.sk_laws.specs.Common.{option_map_or, Action, action_of, SIGHUP, INIT, Body, Proc, each, World, at, is_child_of, parent_of,
+    body_changed, changed, sent, Event, Call, Answer, Returned, Executed, Ended, pid_of, recorded, performed, step_of, is_fork_of, Images,
+    Record}
 use Rattle.sk_laws.specs.TellingLaws.{told_by}
 use Rattle.sk_laws.specs.ConfinementLaws.{ends, stops}
 use Rattle.sk_laws.specs.AnyMachine.{Machine, GivesAuthorityByLineage, TellsEndsOnce, KeepsToConfined}
-use Rattle.sk_machine.specs.Images.{Images}
-use Rattle.sk_insn.specs.declared.record.Record.{Record}
 
 -- the number that a call has returned
 abbrev pub number_in : Answer → Option ℕ
-number_in (answer.Call verdict (Returned (pos n))) = Some n
+number_in (Answer.Call verdict (Returned (pos n))) = Some n
 number_in other = None
 
 -- the machine of the definitions, but for the process that a fork has made
@@ -51,7 +32,7 @@ forks_into_old declared w event = with_child (λ before body. record body { chai
 
 -- the call was an execve(2)
 abbrev pub has_executed : Answer → Bool
-has_executed (answer.Call verdict Executed) = true
+has_executed (Answer.Call verdict Executed) = true
 has_executed other = false
 
 -- execve(2) clears the filters
@@ -62,7 +43,7 @@ executes_bare declared w event =
 
 -- the call has ended its caller
 abbrev pub has_ended_caller : Answer → Bool
-has_ended_caller (answer.Call verdict (Ended status)) = true
+has_ended_caller (Answer.Call verdict (Ended status)) = true
 has_ended_caller other = false
 
 -- an orphan gets the ids of process 1
@@ -85,12 +66,12 @@ leaves_zombies declared w event = option_map_or (λ told. record (step_of declar
 
 -- a filter answered the call with an error
 abbrev pub is_errno : Action → Bool
-is_errno action.Errno = true
+is_errno Action.Errno = true
 is_errno other = false
 
 -- it was refused so
 abbrev pub is_refused : Answer → Bool
-is_refused (answer.Call verdict outcome) = is_errno (action_of verdict)
+is_refused (Answer.Call verdict outcome) = is_errno (action_of verdict)
 is_refused other = false
 
 -- the world after a process, if it is there, has performed a call

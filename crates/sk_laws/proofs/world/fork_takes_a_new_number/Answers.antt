@@ -1,6 +1,5 @@
-use Rattle.std.proofs.lemmas.Bool.{ltb-true}
-use Rattle.sk_world.specs.declared.process.TheConstants.{PROCESSES}
-use Rattle.sk_world.specs.Processes.{count}
+use Rattle.sk_world.proofs.Common.{ltb-true}
+use Rattle.sk_laws.specs.Common.{PROCESSES, count}
 use Rattle.sk_world.proofs.Fresh.{number_next, fresh_is_next, next_is_unique}
 use Rattle.sk_laws.proofs.Locality.{forked_child}
 use Rattle.sk_laws.proofs.Numbering.{number_new}
