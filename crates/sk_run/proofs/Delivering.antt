@@ -81,8 +81,3 @@ fails_one input reading.Memory now = inl (refl, Appends-nil now)
 pub fails : (left : Option (List ℕ)) (fault : ReadFault) (now : Option (List ℕ)) → IfSome left (λ input. LeavesReport input (Err (of_reading fault)) now now)
 fails None fault now = tt
 fails (Some input) fault now = fails_one input fault now
-
--- memory was refused before the first turn
-pub starves : (left : Option (List ℕ)) (now : Option (List ℕ)) → IfSome left (λ input. LeavesReport input (Err (Memory 0)) now now)
-starves None now = tt
-starves (Some input) now = inl (refl, Appends-nil now)

@@ -42,19 +42,18 @@ for_number nr value = image_of (insn 0x20 0 0 0 ∷ insn 0x15 0 1 nr ∷ insn 0x
 abbrev pub minus : ℕ → ℕ
 minus n = 2 ^ 64 - n
 
--- a filter refuses one call of a script
-abbrev pub ReportsRefused : Type 0
-ReportsRefused = Reports attaching_setting (
+-- the definitions give what was worked out
+pub record WorkedReports : Type 0 where
+  -- a filter refuses one call of a script
+  pub refused : Reports attaching_setting (
     codes "1 1 call seccomp allow/0 0"
     ∷ codes "2 1 call getppid errno/1 -1"
     ∷ codes "3 1 call getpid allow/0 1"
     ∷ codes "4 1 call exit_group allow/0 ended 0x0000"
     ∷ codes "end halt 0x0000"
     ∷ [])
-
--- a trapped call, whose handler runs and returns
-abbrev pub ReportsTrapped : Type 0
-ReportsTrapped = Reports (setting_with (for_number 110 0x00030007 ∷ []) (
+  -- a trapped call, whose handler runs and returns
+  pub trapped : Reports (setting_with (for_number 110 0x00030007 ∷ []) (
     script (with3 syscall.RtSigaction 31 3 0 ∷ with3 syscall.Seccomp 1 0 0 ∷ plain syscall.Getppid ∷ plain syscall.Getpid ∷ [])
     ∷ script []
     ∷ [])) (
@@ -67,43 +66,34 @@ ReportsTrapped = Reports (setting_with (for_number 110 0x00030007 ∷ []) (
     ∷ codes "7 1 call exit_group allow/0 ended 0x0000"
     ∷ codes "end halt 0x0000"
     ∷ [])
-
--- nothing is declared: process 1 has the empty script
-abbrev pub ReportsNothing : Type 0
-ReportsNothing = Reports (setting_with [] []) (codes "1 1 call exit_group allow/0 ended 0x0000" ∷ codes "end halt 0x0000" ∷ [])
-
--- nobody can run
-abbrev pub ReportsIdle : Type 0
-ReportsIdle = Reports (setting_with [] (script (plain syscall.Pause ∷ []) ∷ [])) (codes "1 1 call pause allow/0 waits" ∷ codes "end idle" ∷ [])
-
--- all turns are used
-abbrev pub ReportsLimit : Type 0
-ReportsLimit = Reports (record {
-  turns = 5;
-  subreapers = false;
-  filters = [];
-  programs = script (with3 syscall.RtSigaction 10 3 0 ∷ with2 syscall.Kill 1 10 ∷ plain syscall.Pause ∷ []) ∷ script (with2 syscall.Kill 1 10 ∷ []) ∷ [];
-}) (
-    codes "1 1 call rt_sigaction allow/0 0"
-    ∷ codes "2 1 call kill allow/0 0"
-    ∷ codes "3 1 signal 10 handler 1"
-    ∷ codes "4 1 call kill allow/0 0"
-    ∷ codes "5 1 call rt_sigreturn allow/0 0"
-    ∷ codes "end limit"
-    ∷ [])
-
--- the call that ends a script is refused, and the process runs into a fault
-abbrev pub ReportsRefusedEnd : Type 0
-ReportsRefusedEnd = Reports (setting_with (for_number 231 0x00050001 ∷ []) (script (with3 syscall.Seccomp 1 0 0 ∷ []) ∷ [])) (
+  -- nothing is declared: process 1 has the empty script
+  pub nothing : Reports (setting_with [] []) (codes "1 1 call exit_group allow/0 ended 0x0000" ∷ codes "end halt 0x0000" ∷ [])
+  -- nobody can run
+  pub idle :
+    Reports (setting_with [] (script (plain syscall.Pause ∷ []) ∷ [])) (codes "1 1 call pause allow/0 waits" ∷ codes "end idle" ∷ [])
+  -- all turns are used
+  pub limit : Reports (record {
+    turns = 5;
+    subreapers = false;
+    filters = [];
+    programs = script (with3 syscall.RtSigaction 10 3 0 ∷ with2 syscall.Kill 1 10 ∷ plain syscall.Pause ∷ []) ∷ script (with2 syscall.Kill 1 10 ∷ []) ∷ [];
+  }) (
+      codes "1 1 call rt_sigaction allow/0 0"
+      ∷ codes "2 1 call kill allow/0 0"
+      ∷ codes "3 1 signal 10 handler 1"
+      ∷ codes "4 1 call kill allow/0 0"
+      ∷ codes "5 1 call rt_sigreturn allow/0 0"
+      ∷ codes "end limit"
+      ∷ [])
+  -- the call that ends a script is refused, and the process runs into a fault
+  pub refused_end : Reports (setting_with (for_number 231 0x00050001 ∷ []) (script (with3 syscall.Seccomp 1 0 0 ∷ []) ∷ [])) (
     codes "1 1 call seccomp allow/0 0"
     ∷ codes "2 1 call exit_group errno/1 -1"
     ∷ codes "3 1 crash"
     ∷ codes "end halt 0x000b"
     ∷ [])
-
--- the handler's return is refused, and the child runs into a fault
-abbrev pub ReportsRefusedReturn : Type 0
-ReportsRefusedReturn = Reports (setting_with (for_number 15 0x00050001 ∷ []) (
+  -- the handler's return is refused, and the child runs into a fault
+  pub refused_return : Reports (setting_with (for_number 15 0x00050001 ∷ []) (
     script (fork_to 1 ∷ with3 syscall.Wait4 (minus 1) 0 0 ∷ [])
     ∷ script (with3 syscall.RtSigaction 10 4 0 ∷ with3 syscall.Seccomp 1 0 0 ∷ with2 syscall.Kill 2 10 ∷ plain syscall.Pause ∷ [])
     ∷ script []
@@ -120,10 +110,8 @@ ReportsRefusedReturn = Reports (setting_with (for_number 15 0x00050001 ∷ []) (
     ∷ codes "10 1 call exit_group allow/0 ended 0x0000"
     ∷ codes "end halt 0x0000"
     ∷ [])
-
--- a filter looks at where a call stands: the one at position 2 of program 0 is refused
-abbrev pub ReportsPositions : Type 0
-ReportsPositions = Reports (setting_with
+  -- a filter looks at where a call stands: the one at position 2 of program 0 is refused
+  pub positions : Reports (setting_with
     (image_of (insn 0x20 0 0 8 ∷ insn 0x15 0 1 2 ∷ insn 0x06 0 0 0x00050001 ∷ insn 0x06 0 0 0x7fff0000 ∷ []) ∷ [])
     (script (with3 syscall.Seccomp 1 0 0 ∷ plain syscall.Getpid ∷ plain syscall.Getpid ∷ []) ∷ [])) (
     codes "1 1 call seccomp allow/0 0"
@@ -132,10 +120,8 @@ ReportsPositions = Reports (setting_with
     ∷ codes "4 1 call exit_group allow/0 ended 0x0000"
     ∷ codes "end halt 0x0000"
     ∷ [])
-
--- a child execs, and its parent may not move it any more
-abbrev pub ReportsExec : Type 0
-ReportsExec = Reports (setting_with [] (
+  -- a child execs, and its parent may not move it any more
+  pub exec : Reports (setting_with [] (
     script (plain syscall.Setsid ∷ fork_to 1 ∷ with2 syscall.Setpgid 2 0 ∷ with2 syscall.Setpgid 2 1 ∷ with1 syscall.Getpgid 2 ∷ [])
     ∷ script (plain syscall.SchedYield ∷ with1 syscall.Execve 2 ∷ [])
     ∷ script (plain syscall.Getpgrp ∷ [])
@@ -152,10 +138,8 @@ ReportsExec = Reports (setting_with [] (
     ∷ codes "10 1 call exit_group allow/0 ended 0x0000"
     ∷ codes "end halt 0x0000"
     ∷ [])
-
--- a stopped child is told, goes on and is killed
-abbrev pub ReportsStop : Type 0
-ReportsStop = Reports (setting_with [] (
+  -- a stopped child is told, goes on and is killed
+  pub stop : Reports (setting_with [] (
     script (
     fork_to 1
     ∷ with3 syscall.Wait4 (minus 1) 0 2
@@ -180,18 +164,14 @@ ReportsStop = Reports (setting_with [] (
     ∷ codes "12 1 call exit_group allow/0 ended 0x0000"
     ∷ codes "end halt 0x0000"
     ∷ [])
-
--- a call that has no name
-abbrev pub ReportsNumber : Type 0
-ReportsNumber = Reports (setting_with [] (script (call 999 (1 ∷ 0 ∷ 0 ∷ 0 ∷ 0 ∷ 0 ∷ []) None ∷ []) ∷ [])) (
+  -- a call that has no name
+  pub number : Reports (setting_with [] (script (call 999 (1 ∷ 0 ∷ 0 ∷ 0 ∷ 0 ∷ 0 ∷ []) None ∷ []) ∷ [])) (
     codes "1 1 call 999 allow/0 -38"
     ∷ codes "2 1 call exit_group allow/0 ended 0x0000"
     ∷ codes "end halt 0x0000"
     ∷ [])
-
--- the call that ends the script is trapped: its handler runs and returns, and the mark is that of the level below
-abbrev pub ReportsTrappedEnd : Type 0
-ReportsTrappedEnd = Reports (setting_with (for_number 231 0x00030000 ∷ []) (
+  -- the call that ends the script is trapped: its handler runs and returns, and the mark is that of the level below
+  pub trapped_end : Reports (setting_with (for_number 231 0x00030000 ∷ []) (
     script (with3 syscall.RtSigaction 31 3 0 ∷ with3 syscall.Seccomp 1 0 0 ∷ []) ∷ script [] ∷ [])) (
     codes "1 1 call rt_sigaction allow/0 0"
     ∷ codes "2 1 call seccomp allow/0 0"
@@ -201,10 +181,8 @@ ReportsTrappedEnd = Reports (setting_with (for_number 231 0x00030000 ∷ []) (
     ∷ codes "6 1 crash"
     ∷ codes "end halt 0x000b"
     ∷ [])
-
--- a handler's return that is refused with errno 0 takes no level off, though it gives 0
-abbrev pub ReportsZero : Type 0
-ReportsZero = Reports (setting_with (for_number 15 0x00050000 ∷ []) (
+  -- a handler's return that is refused with errno 0 takes no level off, though it gives 0
+  pub zero : Reports (setting_with (for_number 15 0x00050000 ∷ []) (
     script (with3 syscall.RtSigaction 10 3 0 ∷ with3 syscall.Seccomp 1 0 0 ∷ with2 syscall.Kill 1 10 ∷ plain syscall.Getpid ∷ []) ∷ script [] ∷ [])) (
     codes "1 1 call rt_sigaction allow/0 0"
     ∷ codes "2 1 call seccomp allow/0 0"
@@ -214,19 +192,15 @@ ReportsZero = Reports (setting_with (for_number 15 0x00050000 ∷ []) (
     ∷ codes "6 1 crash"
     ∷ codes "end halt 0x000b"
     ∷ [])
-
--- a call of a script that is refused is behind the process, and rt_sigreturn(2) where no handler runs is one
-abbrev pub ReportsReturnAlone : Type 0
-ReportsReturnAlone = Reports (setting_with [] (script (plain syscall.RtSigreturn ∷ plain syscall.Getpid ∷ []) ∷ [])) (
+  -- a call of a script that is refused is behind the process, and rt_sigreturn(2) where no handler runs is one
+  pub return_alone : Reports (setting_with [] (script (plain syscall.RtSigreturn ∷ plain syscall.Getpid ∷ []) ∷ [])) (
     codes "1 1 call rt_sigreturn allow/0 -22"
     ∷ codes "2 1 call getpid allow/0 1"
     ∷ codes "3 1 call exit_group allow/0 ended 0x0000"
     ∷ codes "end halt 0x0000"
     ∷ [])
-
--- a filter and no_new_privs hold through fork and execve
-abbrev pub ReportsKept : Type 0
-ReportsKept = Reports (setting_with (for_number 110 0x00050001 ∷ []) (
+  -- a filter and no_new_privs hold through fork and execve
+  pub kept : Reports (setting_with (for_number 110 0x00050001 ∷ []) (
     script (
     with1 syscall.Setuid 1000
     ∷ with3 syscall.Seccomp 1 0 0
@@ -252,10 +226,8 @@ ReportsKept = Reports (setting_with (for_number 110 0x00050001 ∷ []) (
     ∷ codes "12 1 call exit_group allow/0 ended 0x0000"
     ∷ codes "end halt 0x0000"
     ∷ [])
-
--- signals among users, in the order of the turns
-abbrev pub ReportsKills : Type 0
-ReportsKills = Reports (setting_with [] (
+  -- signals among users, in the order of the turns
+  pub kills : Reports (setting_with [] (
     script (fork_to 1 ∷ fork_to 2 ∷ plain syscall.Pause ∷ [])
     ∷ script (with2 syscall.Kill 1 9 ∷ with1 syscall.Setuid 1000 ∷ plain syscall.Pause ∷ [])
     ∷ script (with1 syscall.Setuid 1001 ∷ with2 syscall.Kill 2 15 ∷ with2 syscall.Kill 2 18 ∷ with2 syscall.Kill (minus 1) 0 ∷ [])
@@ -273,10 +245,8 @@ ReportsKills = Reports (setting_with [] (
     ∷ codes "11 3 call exit_group allow/0 ended 0x0000"
     ∷ codes "end idle"
     ∷ [])
-
--- an orphan is handed on, and told
-abbrev pub ReportsOrphan : Type 0
-ReportsOrphan = Reports (setting_with [] (
+  -- an orphan is handed on, and told
+  pub orphan : Reports (setting_with [] (
     script (fork_to 1 ∷ with3 syscall.Wait4 (minus 1) 0 0 ∷ with3 syscall.Wait4 (minus 1) 0 16 ∷ with3 syscall.Wait4 (minus 1) 0 0 ∷ [])
     ∷ script (fork_to 2 ∷ with1 syscall.Exit 1 ∷ [])
     ∷ script (with1 syscall.Exit 2 ∷ [])
@@ -292,10 +262,9 @@ ReportsOrphan = Reports (setting_with [] (
     ∷ codes "9 1 call exit_group allow/0 ended 0x0000"
     ∷ codes "end halt 0x0000"
     ∷ [])
-
--- fork(2) without a name: the child goes on behind the call, as its parent does
-abbrev pub ReportsPlainFork : Type 0
-ReportsPlainFork = Reports (setting_with [] (script (plain syscall.Fork ∷ plain syscall.Getpid ∷ with3 syscall.Wait4 (minus 1) 0 0 ∷ []) ∷ [])) (
+  -- fork(2) without a name: the child goes on behind the call, as its parent does
+  pub plain_fork :
+    Reports (setting_with [] (script (plain syscall.Fork ∷ plain syscall.Getpid ∷ with3 syscall.Wait4 (minus 1) 0 0 ∷ []) ∷ [])) (
     codes "1 1 call fork allow/0 2"
     ∷ codes "2 2 call getpid allow/0 2"
     ∷ codes "3 1 call getpid allow/0 1"
@@ -306,10 +275,8 @@ ReportsPlainFork = Reports (setting_with [] (script (plain syscall.Fork ∷ plai
     ∷ codes "8 1 call exit_group allow/0 ended 0x0000"
     ∷ codes "end halt 0x0000"
     ∷ [])
-
--- a child of a handler returns from it too
-abbrev pub ReportsForkInHandler : Type 0
-ReportsForkInHandler = Reports (setting_with [] (
+  -- a child of a handler returns from it too
+  pub fork_in_handler : Reports (setting_with [] (
     script (with3 syscall.RtSigaction 10 3 0 ∷ with2 syscall.Kill 1 10 ∷ []) ∷ script (plain syscall.Fork ∷ []) ∷ [])) (
     codes "1 1 call rt_sigaction allow/0 0"
     ∷ codes "2 1 call kill allow/0 0"
@@ -321,10 +288,8 @@ ReportsForkInHandler = Reports (setting_with [] (
     ∷ codes "8 1 call exit_group allow/0 ended 0x0000"
     ∷ codes "end halt 0x0000"
     ∷ [])
-
--- so does one that begins with a program of its own, when that is at its end
-abbrev pub ReportsNamedForkInHandler : Type 0
-ReportsNamedForkInHandler = Reports (setting_with [] (
+  -- so does one that begins with a program of its own, when that is at its end
+  pub named_fork_in_handler : Reports (setting_with [] (
     script (with3 syscall.RtSigaction 10 3 0 ∷ with2 syscall.Kill 1 10 ∷ [])
     ∷ script (fork_to 2 ∷ [])
     ∷ script (plain syscall.Getppid ∷ [])
@@ -339,10 +304,8 @@ ReportsNamedForkInHandler = Reports (setting_with [] (
     ∷ codes "8 1 call exit_group allow/0 ended 0x0000"
     ∷ codes "end halt 0x0000"
     ∷ [])
-
--- execve(2) in a handler leaves one level, which has nothing to return to
-abbrev pub ReportsExecInHandler : Type 0
-ReportsExecInHandler = Reports (setting_with [] (
+  -- execve(2) in a handler leaves one level, which has nothing to return to
+  pub exec_in_handler : Reports (setting_with [] (
     script (with3 syscall.RtSigaction 10 3 0 ∷ with2 syscall.Kill 1 10 ∷ []) ∷ script (with1 syscall.Execve 2 ∷ []) ∷ script [] ∷ [])) (
     codes "1 1 call rt_sigaction allow/0 0"
     ∷ codes "2 1 call kill allow/0 0"
@@ -351,10 +314,8 @@ ReportsExecInHandler = Reports (setting_with [] (
     ∷ codes "5 1 call exit_group allow/0 ended 0x0000"
     ∷ codes "end halt 0x0000"
     ∷ [])
-
--- a handler ends pause(2), which is behind the process then
-abbrev pub ReportsInterrupted : Type 0
-ReportsInterrupted = Reports (setting_with [] (
+  -- a handler ends pause(2), which is behind the process then
+  pub interrupted : Reports (setting_with [] (
     script (with3 syscall.RtSigaction 10 4 0 ∷ fork_to 1 ∷ plain syscall.Pause ∷ plain syscall.Getpid ∷ [])
     ∷ script (with2 syscall.Kill 1 0 ∷ with2 syscall.Kill 1 10 ∷ [])
     ∷ script []
@@ -371,10 +332,8 @@ ReportsInterrupted = Reports (setting_with [] (
     ∷ codes "10 1 call exit_group allow/0 ended 0x0000"
     ∷ codes "end halt 0x0000"
     ∷ [])
-
--- a handler that is not declared has no calls, and its return is a turn
-abbrev pub ReportsUndeclared : Type 0
-ReportsUndeclared = Reports (setting_with [] (script (with3 syscall.RtSigaction 10 9 0 ∷ with2 syscall.Kill 1 10 ∷ []) ∷ [])) (
+  -- a handler that is not declared has no calls, and its return is a turn
+  pub undeclared : Reports (setting_with [] (script (with3 syscall.RtSigaction 10 9 0 ∷ with2 syscall.Kill 1 10 ∷ []) ∷ [])) (
     codes "1 1 call rt_sigaction allow/0 0"
     ∷ codes "2 1 call kill allow/0 0"
     ∷ codes "3 1 signal 10 handler 7"
@@ -382,19 +341,15 @@ ReportsUndeclared = Reports (setting_with [] (script (with3 syscall.RtSigaction 
     ∷ codes "5 1 call exit_group allow/0 ended 0x0000"
     ∷ codes "end halt 0x0000"
     ∷ [])
-
--- a set of signals has eight digits
-abbrev pub ReportsSet : Type 0
-ReportsSet = Reports (setting_with [] (script (plain syscall.RtSigpending ∷ []) ∷ [])) (
+  -- a set of signals has eight digits
+  pub set : Reports (setting_with [] (script (plain syscall.RtSigpending ∷ []) ∷ [])) (
     codes "1 1 call rt_sigpending allow/0 set 0x00000000" ∷ codes "2 1 call exit_group allow/0 ended 0x0000" ∷ codes "end halt 0x0000" ∷ [])
-
--- the system halts in the last turn, which is not the end by the limit
-abbrev pub ReportsLastTurn : Type 0
-ReportsLastTurn = Reports (record { turns = 1; subreapers = false; filters = []; programs = [] }) (codes "1 1 call exit_group allow/0 ended 0x0000" ∷ codes "end halt 0x0000" ∷ [])
-
--- what filters see as the address has the number of the program: the second one's first call is at 65536
-abbrev pub ReportsAddress : Type 0
-ReportsAddress = Reports (setting_with (image_of (insn 0x20 0 0 8 ∷ insn 0x15 0 1 65536 ∷ insn 0x06 0 0 0x00050001 ∷ insn 0x06 0 0 0x7fff0000 ∷ []) ∷ []) (
+  -- the system halts in the last turn, which is not the end by the limit
+  pub last_turn :
+    Reports (record { turns = 1; subreapers = false; filters = []; programs = [] }) (codes "1 1 call exit_group allow/0 ended 0x0000" ∷ codes "end halt 0x0000" ∷ [])
+  -- what filters see as the address has the number of the program: the second one's first call is at 65536
+  pub address :
+    Reports (setting_with (image_of (insn 0x20 0 0 8 ∷ insn 0x15 0 1 65536 ∷ insn 0x06 0 0 0x00050001 ∷ insn 0x06 0 0 0x7fff0000 ∷ []) ∷ []) (
     script (with3 syscall.Seccomp 1 0 0 ∷ with1 syscall.Execve 1 ∷ []) ∷ script (plain syscall.Getpid ∷ []) ∷ [])) (
     codes "1 1 call seccomp allow/0 0"
     ∷ codes "2 1 call execve allow/0 executed"
@@ -402,32 +357,3 @@ ReportsAddress = Reports (setting_with (image_of (insn 0x20 0 0 8 ∷ insn 0x15 
     ∷ codes "4 1 call exit_group allow/0 ended 0x0000"
     ∷ codes "end halt 0x0000"
     ∷ [])
-
--- the definitions give what was worked out
-pub record WorkedReports : Type 0 where
-  pub refused : ReportsRefused
-  pub trapped : ReportsTrapped
-  pub nothing : ReportsNothing
-  pub idle : ReportsIdle
-  pub limit : ReportsLimit
-  pub refused_end : ReportsRefusedEnd
-  pub refused_return : ReportsRefusedReturn
-  pub positions : ReportsPositions
-  pub exec : ReportsExec
-  pub stop : ReportsStop
-  pub number : ReportsNumber
-  pub trapped_end : ReportsTrappedEnd
-  pub zero : ReportsZero
-  pub return_alone : ReportsReturnAlone
-  pub kept : ReportsKept
-  pub kills : ReportsKills
-  pub orphan : ReportsOrphan
-  pub plain_fork : ReportsPlainFork
-  pub fork_in_handler : ReportsForkInHandler
-  pub named_fork_in_handler : ReportsNamedForkInHandler
-  pub exec_in_handler : ReportsExecInHandler
-  pub interrupted : ReportsInterrupted
-  pub undeclared : ReportsUndeclared
-  pub set : ReportsSet
-  pub last_turn : ReportsLastTurn
-  pub address : ReportsAddress
