@@ -2,12 +2,13 @@
 use Rattle.std.proofs.Common.{refl}
 use Rattle.json.proofs.OnLiterals.{json_on_literals}
 use Rattle.sk_text.specs.Numbers.{number_of}
+use Rattle.sk_names.specs.Names.{number_at, number_in, runs_of, number_on}
 use Rattle.sk_names.specs.X86_64.{name_of, number_named}
 use Rattle.sk_filter.specs.Errors.{error_named}
 use Rattle.sk_profile_json.specs.WorkedProfiles.{WorkedProfiles}
 
 pub worked_profiles : WorkedProfiles
-unfolding json_on_literals number_of name_of number_named error_named
+unfolding json_on_literals number_of name_of number_named number_at number_in runs_of number_on error_named
 worked_profiles = record {
   personality = refl;
   clone_by_mask = refl;
@@ -22,7 +23,7 @@ worked_profiles = record {
   trace = refl;
   kill_thread = refl;
   trap = refl;
-  told = refl;
+  notified = refl;
   number_for_told = refl;
   traced_number = refl;
   no_traced_number = refl;
@@ -59,22 +60,45 @@ worked_profiles = record {
   no_object = refl;
   unknown_key = refl;
   both_lists = refl;
-  named = refl;
+  listed_ones = refl;
   mapped = refl;
   every_name = refl;
-  x32_of_x86_64 = refl;
+  every_name_alone = refl;
+  first_map = refl;
+  later_map = refl;
   x32_of_another = refl;
+  not_mapped = refl;
+  of_i386_alone = refl;
+  of_both = refl;
+  of_the_machine = refl;
+  of_x32 = refl;
+  on_aarch64 = refl;
+  on_riscv64 = refl;
+  on_ppc64le = refl;
+  on_loongarch64 = refl;
+  not_of_the_machine = refl;
+  told_by_socketcall = refl;
+  told_by_ipc = refl;
+  told_last = refl;
+  unseen_where_refused = refl;
+  unseen_where_allowed = refl;
+  unseen_between_equals = refl;
+  plain_goes_first = refl;
+  default_goes_last = refl;
   stub = refl;
   stub_with_x32 = refl;
+  stub_of_the_default = refl;
+  stub_without_told = refl;
   stub_at_kill = refl;
   stub_not_asked_for = refl;
   no_architectures = refl;
+  no_map = refl;
   performed = refl;
   logged = refl;
   traced = refl;
-  not_named = refl;
+  not_listed = refl;
   unknown_architecture = refl;
-  not_mapped = refl;
+  unknown_map = refl;
   no_default = refl;
   unknown_action = refl;
   default_notify = refl;
@@ -96,6 +120,9 @@ worked_profiles = record {
   one_argument_twice = refl;
   no_version = refl;
   empty_version = refl;
+  machine_x86_64 = refl;
+  machine_loongarch64 = refl;
+  no_machine = refl;
   version = refl;
   more_than_a_byte = refl;
   three_numbers = refl;

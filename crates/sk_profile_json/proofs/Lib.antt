@@ -1,6 +1,7 @@
 pub mod Reading
 pub mod Following
 pub mod Gathering
+pub mod Finding
 pub mod Examples
 pub mod Bounded
 pub mod Asked
@@ -8,5 +9,5 @@ pub mod Good
 pub mod Images
 pub mod Noting
 pub mod Built
-pub mod Named
+pub mod Placed
 pub mod Worked

@@ -2,6 +2,7 @@
 use Rattle.std.proofs.Common.{refl}
 use Rattle.json.proofs.OnLiterals.{json_on_literals}
 use Rattle.sk_text.specs.Numbers.{number_of}
+use Rattle.sk_names.specs.Names.{name_at, number_at, name_in, number_in, runs_of, name_on, number_on}
 use Rattle.sk_names.specs.X86_64.{name_of, number_named}
 use Rattle.sk_names.specs.Elsewhere.{is_elsewhere}
 use Rattle.sk_filter.specs.Errors.{error_named}
@@ -9,7 +10,7 @@ use Rattle.sk_profile_json.specs.Capabilities.{capability}
 use Rattle.sk_profile_json.specs.WorkedFiles.{WorkedFiles}
 
 pub worked_files : WorkedFiles
-unfolding json_on_literals number_of name_of number_named is_elsewhere error_named capability
+unfolding json_on_literals number_of name_of number_named number_at number_in runs_of number_on name_at name_in name_on is_elsewhere error_named capability
 worked_files = record {
   all_by_name = refl;
   docker_by_name = refl;
@@ -26,7 +27,12 @@ worked_files = record {
   after_it = refl;
   the_newest = refl;
   nothing_to_tell = refl;
-  others = refl;
+  both_parts = refl;
+  one_part = refl;
+  no_other = refl;
+  on_x86_64 = refl;
+  on_x32 = refl;
+  on_i386 = refl;
   an_object = refl;
   a_list = refl;
   empty = refl;

@@ -1,9 +1,10 @@
 -- Where an entry counts: `includes` and `excludes` of docker's and podman's profiles, as moby's
 -- profiles/seccomp/seccomp_linux.go reads them. An entry that excludes the architecture, any of the capabilities that
 -- are held, or the kernel, is left out, and so is one that includes others only.
-use Rattle.std.specs.Prelude.{ℕ, ◌+◌, ◌-◌, ◌^◌, ◌==◌, ◌&&◌, ◌||◌, not, nat_lt, nat_le, Bool, true, false, if◌then◌else◌, List, [], ◌∷◌, length, take, drop, codes, Option, Some, None, Result, Ok, Err}
+use Rattle.std.specs.Prelude.{ℕ, ◌+◌, ◌-◌, ◌^◌, ◌==◌, ◌&&◌, ◌||◌, not, nat_lt, nat_le, Bool, true, false, if◌then◌else◌, List, [], ◌∷◌, length, take, drop, Option, Some, None, Result, Ok, Err}
 use Rattle.std.specs.Borrow.{Bor}
 use Rattle.std.specs.List.{list_any, list_all, position_from}
+use Rattle.std.specs.Option.{option_map_or}
 use Rattle.std.specs.Result.{result_ok}
 use Rattle.json.specs.Json.{Json}
 use Rattle.sk_text.specs.Numbers.{number_of, up_to}
@@ -13,6 +14,7 @@ use Rattle.sk_profile_json.specs.declared.fault.Field.{Field}
 use Rattle.sk_profile_json.specs.declared.fault.Field.TheVariants as field
 use Rattle.sk_profile_json.specs.declared.fault.Wrong.{Wrong}
 use Rattle.sk_profile_json.specs.Fields.{result_then, taken, text_in, texts_in, wrong_keys, given, is_the}
+use Rattle.sk_profile_json.specs.Machines.{row}
 
 -- ---- versions: two numbers with a point between, as `4.8`
 
@@ -90,15 +92,19 @@ reaches otherwise now (Some least) = is_reached now least
 abbrev pub is_empty : List Json → Bool
 is_empty js = length js == 0
 
-abbrev pub has_arch : Where → Bool
-has_arch place = list_any (is_the (codes "amd64")) place.arches
+-- the name of the machine
+abbrev pub is_arch : Context → Json → Bool
+is_arch context j = option_map_or (λ machine. is_the (row machine).arch j) context.machine false
+
+abbrev pub has_arch : Context → Where → Bool
+has_arch context place = list_any (is_arch context) place.arches
 
 abbrev pub leaves_out : Context → Where → Bool
-leaves_out context place = has_arch place || (list_any (is_held context) place.caps || reaches false context.kernel place.kernel)
+leaves_out context place = has_arch context place || (list_any (is_held context) place.caps || reaches false context.kernel place.kernel)
 
 abbrev pub takes_in : Context → Where → Bool
 takes_in context place =
-    (is_empty place.arches || has_arch place) && (list_all (is_held context) place.caps && reaches true context.kernel place.kernel)
+    (is_empty place.arches || has_arch context place) && (list_all (is_held context) place.caps && reaches true context.kernel place.kernel)
 
 abbrev pub counts : Context → Json → Result Bool Wrong
 counts context j =

@@ -1,15 +1,13 @@
--- One entry of `syscalls`: rules for the calls that it names (config-linux.md of the OCI runtime specification, section
--- "Seccomp"). An older profile has one `name` in place of `names`. A name that no call of x86-64 has gives no rule.
+-- One entry of `syscalls`: what it says of the calls that it names (config-linux.md of the OCI runtime specification, section
+-- "Seccomp"). An older profile has one `name` in place of `names`.
 use Rattle.std.specs.Prelude.{ℕ, ◌&&◌, Bool, true, false, if◌then◌else◌, List, [], ◌∷◌, codes, Option, Some, None, Result, Ok, Err}
 use Rattle.std.specs.List.{list_any, list_all, filter_map}
-use Rattle.std.specs.Option.{option_and_then, option_map}
+use Rattle.std.specs.Option.{option_map}
 use Rattle.json.specs.Json.{Json}
 use Rattle.json.specs.Find.{as_str}
-use Rattle.sk_names.specs.X86_64.{number_named}
 use Rattle.sk_insn.specs.declared.action.Action.{Action}
 use Rattle.sk_insn.specs.declared.action.Action.TheVariants.{UserNotif}
 use Rattle.sk_profile.specs.declared.condition.Condition.{Condition}
-use Rattle.sk_profile.specs.Profiles.{Rule}
 use Rattle.sk_profile_json.specs.declared.fault.Field.{Field}
 use Rattle.sk_profile_json.specs.declared.fault.Field.TheVariants as field
 use Rattle.sk_profile_json.specs.declared.fault.Wrong.{Wrong}
@@ -67,12 +65,18 @@ entry_if None j = result_then (entry_with j) (names_in j)
 abbrev pub entry_of : Json → Result Entry Wrong
 entry_of j = entry_if (wrong_keys entry_fields j) j
 
--- ---- its rules, which have the number of the entry
+-- ---- what it says of each of its names
 
-abbrev pub rule_for : ℕ → List Condition → ℕ → Json → Option Rule
-rule_for place conditions value j =
-    option_map (λ number. record { number = number; conditions = conditions; value = value; entry = place })
-    (option_and_then number_named (as_str j))
+-- the value for the calls with a name whose arguments meet all conditions, and the number of the entry
+pub record Named : Type 0 where
+  pub name : List ℕ
+  pub conditions : List Condition
+  pub value : ℕ
+  pub entry : ℕ
 
-abbrev pub rules_for : ℕ → List Condition → ℕ → List Json → List Rule
-rules_for place conditions value names = filter_map (rule_for place conditions value) names
+abbrev pub named_as : ℕ → List Condition → ℕ → Json → Option Named
+named_as entry conditions value j =
+    option_map (λ name. record { name = name; conditions = conditions; value = value; entry = entry }) (as_str j)
+
+abbrev pub all_named : ℕ → List Condition → ℕ → List Json → List Named
+all_named entry conditions value names = filter_map (named_as entry conditions value) names

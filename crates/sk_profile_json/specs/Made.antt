@@ -1,5 +1,5 @@
 -- What a profile's file is made into.
-use Rattle.std.specs.Prelude.{ℕ, ◌≡◌, List, map, string_bytes, Vec, None, Result, Ok, Err}
+use Rattle.std.specs.Prelude.{ℕ, ◌≡◌, List, map, string_bytes, Vec, Option, Some, None, Result, Ok, Err}
 use Rattle.std.specs.Global.{Global}
 use Rattle.std.specs.Option.{IsSomeAnd}
 use Rattle.std.specs.Str.{IsUtf8}
@@ -7,19 +7,20 @@ use Rattle.json.specs.Json.{Json, document}
 use Rattle.json.specs.Strict.{HasUniqueKeys}
 use Rattle.sk_profile.specs.Clashes.{IsClash}
 use Rattle.sk_profile.specs.Profiles.{Profile}
-use Rattle.sk_profile.specs.Rows.{HasLongTree}
+use Rattle.sk_profile.specs.Rows.{HasLongSections}
 use Rattle.sk_profile_json.specs.declared.context.Context.{Context}
+use Rattle.sk_profile_json.specs.declared.machine.Machine.{Machine}
 use Rattle.sk_profile_json.specs.Wholes.{IsText, profile_in}
 use Rattle.sk_profile_json.specs.declared.answer.Made.{Made}
 use Rattle.sk_profile_json.specs.declared.answer.Refusal.{Refusal}
-use Rattle.sk_profile_json.specs.declared.answer.Refusal.TheVariants.{NotText, NotJson, KeyTwice, Wrong, Clashes, TooLong}
+use Rattle.sk_profile_json.specs.declared.answer.Refusal.TheVariants.{NoMachine, NotText, NotJson, KeyTwice, Wrong, Clashes, TooLong}
 use Rattle.sk_profile_json.specs.Filters.{IsFilterOf}
 use Rattle.sk_profile_json.specs.Notes.{notes_of}
 
 -- why a profile has no filter
 abbrev pub IsUnbuilt : Profile → Refusal → Type 0
 IsUnbuilt profile (Clashes it) = IsClash profile it
-IsUnbuilt profile TooLong = HasLongTree profile
+IsUnbuilt profile TooLong = HasLongSections profile
 IsUnbuilt profile refusal = ⊥
 
 -- a filter that means the profile
@@ -40,12 +41,21 @@ IsMadeOf context j (Err refusal) = IsRefusedValue context j refusal
 
 -- a text is made into what its value is
 abbrev pub IsMadeOfText : Context → List ℕ → Result Made Refusal → Type 0
+IsMadeOfText context text (Err NoMachine) = ⊥
 IsMadeOfText context text (Err NotText) = ⊥
 IsMadeOfText context text (Err NotJson) = document text ≡ None
 IsMadeOfText context text (Err KeyTwice) = IsSomeAnd (document text) (λ j. ¬ HasUniqueKeys j)
 IsMadeOfText context text made = (j : Json) × IsText text j × IsMadeOf context j made
 
 -- bytes that are no text are refused as such
+abbrev pub IsMadeOfBytes : Context → List ℕ → Result Made Refusal → Type 0
+IsMadeOfBytes context bytes (Err NotText) = ¬ IsUtf8 bytes
+IsMadeOfBytes context bytes made = IsUtf8 bytes × IsMadeOfText context bytes made
+
+-- where there is no machine, it is that which is refused, whatever the bytes are
+abbrev pub IsMadeOn : Option Machine → Context → List ℕ → Result Made Refusal → Type 0
+IsMadeOn None context bytes made = made ≡ Err NoMachine
+IsMadeOn (Some machine) context bytes made = IsMadeOfBytes context bytes made
+
 abbrev pub IsMade : Context → List ℕ → Result Made Refusal → Type 0
-IsMade context bytes (Err NotText) = ¬ IsUtf8 bytes
-IsMade context bytes made = IsUtf8 bytes × IsMadeOfText context bytes made
+IsMade context bytes made = IsMadeOn context.machine context bytes made

@@ -1,26 +1,24 @@
--- Where runc has instructions of its own stand before a filter: generatePatch of libcontainer/seccomp/patchbpf/enosys_linux.go.
-use Rattle.std.specs.Prelude.{◌&&◌, ◌||◌, not, Bool, true, false, List, codes, Result, Ok}
-use Rattle.std.specs.List.{list_any}
+-- Where runc has instructions of its own stand before a filter, and which numbers they know: generatePatch of
+-- libcontainer/seccomp/patchbpf/enosys_linux.go.
+use Rattle.std.specs.Prelude.{ℕ, ◌&&◌, ◌||◌, not, nat_lt, Bool, true, false, if◌then◌else◌, List, is_some, Option, None, Result, Ok}
+use Rattle.std.specs.List.{filter_map, fold}
 use Rattle.json.specs.Json.{Json}
 use Rattle.sk_insn.specs.declared.action.Action.{Action}
 use Rattle.sk_insn.specs.declared.action.Action.TheVariants.{Allow, Log, Trace}
+use Rattle.sk_names.specs.declared.architecture.Architecture.{Architecture}
+use Rattle.sk_names.specs.Names.{number_on}
 use Rattle.sk_profile_json.specs.declared.context.Context.{Context}
 use Rattle.sk_profile_json.specs.declared.fault.Field.TheVariants as field
 use Rattle.sk_profile_json.specs.declared.fault.Wrong.{Wrong}
 use Rattle.sk_profile_json.specs.Actions.{action_in}
-use Rattle.sk_profile_json.specs.Architectures.{maps_x86_64}
+use Rattle.sk_profile_json.specs.Architectures.{architectures, own_map}
 use Rattle.sk_profile_json.specs.Contexts.{is_empty}
-use Rattle.sk_profile_json.specs.Fields.{items_or_none, list_in, is_the}
+use Rattle.sk_profile_json.specs.Entries.{Named}
+use Rattle.sk_profile_json.specs.Multiplexed.{is_multiplexed}
 
-abbrev pub architectures : Json → List Json
-architectures j = items_or_none (list_in field.Architectures j)
-
-abbrev pub maps : Json → List Json
-maps j = items_or_none (list_in field.ArchMap j)
-
--- they stand there where architectures are named
-abbrev pub names_any : Json → Bool
-names_any j = not (is_empty (architectures j)) || not (is_empty (maps j))
+-- they stand there where architectures are listed
+abbrev pub lists_any : Context → Json → Bool
+lists_any context j = not (is_empty (architectures j)) || is_some (own_map context j)
 
 -- and calls are not performed that no entry is for; a tracer is to know new calls by itself
 abbrev pub performs : Result Action Wrong → Bool
@@ -30,15 +28,16 @@ performs (Ok Trace) = true
 performs action = false
 
 abbrev pub has_stub : Context → Json → Bool
-has_stub context j = context.runc && (names_any j && not (performs (action_in field.DefaultAction j)))
+has_stub context j = context.runc && (lists_any context j && not (performs (action_in field.DefaultAction j)))
 
--- ---- x32 among the architectures that x86-64 stands for
+-- ---- the greatest number of an architecture that an entry names, whatever it says. libseccomp has negative numbers for calls that
+-- another one tells, and these are never the greatest
 
-abbrev pub is_x32 : Json → Bool
-is_x32 j = is_the (codes "SCMP_ARCH_X32") j
+abbrev pub known_number : Architecture → Named → Option ℕ
+known_number architecture it = if is_multiplexed architecture it.name then None else number_on architecture it.name
 
-abbrev pub maps_x32 : Json → Bool
-maps_x32 j = maps_x86_64 j && list_any is_x32 (items_or_none (list_in field.SubArchitectures j))
+abbrev pub greater : ℕ → ℕ → ℕ
+greater top nr = if nat_lt top nr then nr else top
 
-abbrev pub names_x32 : Json → Bool
-names_x32 j = list_any is_x32 (architectures j) || list_any maps_x32 (maps j)
+abbrev pub top_on : Architecture → List Named → ℕ
+top_on architecture named = fold greater 0 (filter_map (known_number architecture) named)

@@ -1,8 +1,12 @@
 -- What is said of a profile that is refused, behind its file's name: where, what is wrong, and what was expected. Entries and
 -- the rest are counted from 1 on.
-use Rattle.std.specs.Prelude.{ℕ, ◌+◌, ◌++◌, false, List, [], ◌∷◌, codes, flat_map, Option, Some, None}
+use Rattle.std.specs.Prelude.{ℕ, ◌+◌, ◌++◌, ◌^◌, ◌==◌, ◌&&◌, nat_le, Bool, true, false, if◌then◌else◌, List, [], ◌∷◌, codes, find, flat_map, Option, Some, None}
 use Rattle.std.specs.Fmt.{decimal, radix_digits}
-use Rattle.sk_names.specs.X86_64.{name_of}
+use Rattle.std.specs.Option.{option_and_then}
+use Rattle.sk_names.specs.declared.architecture.Architecture.{Architecture}
+use Rattle.sk_names.specs.declared.architecture.Architecture.TheVariants as architecture
+use Rattle.sk_names.specs.Architectures.{architectures, audit_of, text_of}
+use Rattle.sk_names.specs.Names.{name_on}
 use Rattle.sk_profile_json.specs.declared.fault.Fault.{Fault}
 use Rattle.sk_profile_json.specs.declared.fault.Field.{Field}
 use Rattle.sk_profile_json.specs.declared.fault.Field.TheVariants as field
@@ -13,7 +17,7 @@ use Rattle.sk_profile_json.specs.declared.fault.Wrong.TheVariants as wrong
 use Rattle.sk_profile_json.specs.Keys.{key_of}
 use Rattle.sk_profile.specs.declared.fault.Clash.{Clash}
 use Rattle.sk_profile_json.specs.declared.answer.Refusal.{Refusal}
-use Rattle.sk_profile_json.specs.declared.answer.Refusal.TheVariants.{NotText, NotJson, KeyTwice, Wrong as IsWrong, Clashes, TooLong}
+use Rattle.sk_profile_json.specs.declared.answer.Refusal.TheVariants.{NoMachine, NotText, NotJson, KeyTwice, Wrong as IsWrong, Clashes, TooLong}
 
 -- ---- where
 
@@ -39,8 +43,8 @@ abbrev pub expected_text : Field → List ℕ
 expected_text field.DefaultAction = codes "an action as SCMP_ACT_ERRNO, and not SCMP_ACT_NOTIFY"
 expected_text field.DefaultErrnoRet = codes "a number up to 4094, or beside SCMP_ACT_TRACE up to 65535"
 expected_text field.DefaultErrno = codes "the name of an error"
-expected_text field.Architectures = codes "a list of names as SCMP_ARCH_X86, with SCMP_ARCH_X86_64 among them"
-expected_text field.ArchMap = codes "a list of objects with architecture and subArchitectures, one of them for SCMP_ARCH_X86_64"
+expected_text field.Architectures = codes "a list of names as SCMP_ARCH_X86, with that of the machine among them"
+expected_text field.ArchMap = codes "a list of objects with architecture and subArchitectures"
 expected_text field.Syscalls = codes "a list of entries"
 expected_text field.Names = codes "a list of names of calls, with one at least"
 expected_text field.Name = codes "the name of a call"
@@ -81,10 +85,32 @@ wrong_text spot (wrong.Contradicts field) = key_of field ++ codes ": " ++ contra
 abbrev pub fault_text : Fault → List ℕ
 fault_text fault = place_text fault.place ++ wrong_text fault.place fault.wrong
 
+-- the architecture of a call, by its number of linux/audit.h; those of x32 have bit 30 in their own number
+abbrev pub is_of_x32 : ℕ → ℕ → Bool
+is_of_x32 arch nr = arch == audit_of architecture.X32 && nat_le (2 ^ 30) nr
+
+abbrev pub by_audit : ℕ → Option Architecture
+by_audit arch = find (λ architecture. audit_of architecture == arch) architectures
+
+abbrev pub architecture_at : ℕ → ℕ → Option Architecture
+architecture_at arch nr = if is_of_x32 arch nr then Some architecture.X32 else by_audit arch
+
 -- a call by its name; one that has none by its number
 abbrev pub call_text : ℕ → Option (List ℕ) → List ℕ
 call_text nr None = decimal nr
 call_text nr (Some name) = name
+
+abbrev pub name_at : Option Architecture → ℕ → Option (List ℕ)
+name_at on nr = option_and_then (λ architecture. name_on architecture nr) on
+
+abbrev pub is_x86_64 : Architecture → Bool
+is_x86_64 architecture.X86_64 = true
+is_x86_64 other = false
+
+-- which architecture's it is, unless it is x86-64's
+abbrev pub of_text : Option Architecture → List ℕ
+of_text None = []
+of_text (Some on) = if is_x86_64 on then [] else codes " of " ++ text_of on
 
 unfoldable pub argument_text : ℕ → List ℕ
 argument_text argument = codes "0x" ++ radix_digits 16 false argument
@@ -96,12 +122,17 @@ arguments_text (first ∷ others) = argument_text first ++ flat_map (λ other. c
 abbrev pub both_text : ℕ → ℕ → List ℕ
 both_text first second = codes "entries " ++ decimal (first + 1) ++ codes " and " ++ decimal (second + 1) ++ codes " of syscalls"
 
+-- a call with its arguments
+abbrev pub shown_text : Option Architecture → ℕ → List ℕ → List ℕ
+shown_text on nr args = call_text nr (name_at on nr) ++ (codes "(" ++ (arguments_text args ++ (codes ")" ++ of_text on)))
+
 abbrev pub clash_text : Clash → List ℕ
 clash_text it =
-    both_text it.first it.second ++ codes " clash: both fit " ++ (call_text it.number (name_of it.number) ++ (codes "(" ++ (arguments_text it.args
-    ++ codes "), and they say different things")))
+    both_text it.first it.second ++ codes " clash: both fit " ++ (shown_text (architecture_at it.arch it.number) it.number it.args
+    ++ codes ", and they say different things")
 
 abbrev pub refusal_text : Refusal → List ℕ
+refusal_text NoMachine = codes "no filter is made of a profile for s390x: its arguments have their highest byte first"
 refusal_text NotText = codes "is no text in UTF-8: expected the JSON of a profile"
 refusal_text NotJson = codes "is no JSON: expected the JSON of a profile, no more than 128 deep"
 refusal_text KeyTwice = codes "a key comes twice in one object"

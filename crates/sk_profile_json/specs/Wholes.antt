@@ -8,7 +8,7 @@ use Rattle.json.specs.Strict.{HasUniqueKeys}
 use Rattle.sk_insn.specs.declared.action.Action.{Action}
 use Rattle.sk_profile.specs.declared.condition.Condition.{Condition}
 use Rattle.sk_profile.specs.Faults.{is_good}
-use Rattle.sk_profile.specs.Profiles.{Rule, Profile}
+use Rattle.sk_profile.specs.Profiles.{Part, Profile}
 use Rattle.sk_profile_json.specs.declared.conditions.WrongArgument.{WrongArgument}
 use Rattle.sk_profile_json.specs.declared.context.Context.{Context}
 use Rattle.sk_profile_json.specs.declared.fault.Fault.{Fault}
@@ -25,49 +25,50 @@ use Rattle.sk_profile_json.specs.Architectures.{wrong_lists}
 use Rattle.sk_profile.specs.Sayings.{are_apart}
 use Rattle.sk_profile_json.specs.Conditions.{wrong_argument, conditions_of}
 use Rattle.sk_profile_json.specs.Contexts.{counts}
-use Rattle.sk_profile_json.specs.Entries.{Entry, entry_of, rules_for, is_told}
+use Rattle.sk_profile_json.specs.Entries.{Entry, Named, entry_of, all_named, is_told}
 use Rattle.sk_profile_json.specs.Fields.{result_then, list_in, wrong_keys}
-use Rattle.sk_profile_json.specs.Runc.{has_stub, names_x32}
+use Rattle.sk_profile_json.specs.Parts.{parts_of}
 
 -- ---- its entries
 
 abbrev pub fault_at : Place → Wrong → Fault
 fault_at spot wrong = record { place = spot; wrong = wrong }
 
-abbrev pub rules_if : ℕ → List Rule → Result Bool Wrong → Result (List Rule) Fault
-rules_if at rules (Ok true) = Ok rules
-rules_if at rules (Ok false) = Ok []
-rules_if at rules (Err wrong) = Err (fault_at (place.Entry at) wrong)
+-- what an entry says counts, or nothing
+abbrev pub named_if : ℕ → List Named → Result Bool Wrong → Result (List Named) Fault
+named_if at named (Ok true) = Ok named
+named_if at named (Ok false) = Ok []
+named_if at named (Err wrong) = Err (fault_at (place.Entry at) wrong)
 
 -- two conditions on one argument contradict the field, since the runtimes differ there: either is enough for runc and crun,
 -- and libseccomp refuses the rule
-abbrev pub rules_with : Context → ℕ → Json → Entry → List Condition → Result (List Rule) Fault
-rules_with context at j entry conditions =
-    if are_apart conditions then rules_if at (rules_for at conditions entry.value entry.names) (counts context j)
+abbrev pub named_with : Context → ℕ → Json → Entry → List Condition → Result (List Named) Fault
+named_with context at j entry conditions =
+    if are_apart conditions then named_if at (all_named at conditions entry.value entry.names) (counts context j)
     else Err (fault_at (place.Entry at) (Contradicts field.Args))
 
-abbrev pub rules_unless : Context → ℕ → Json → Entry → Option WrongArgument → Result (List Rule) Fault
-rules_unless context at j entry None = rules_with context at j entry (conditions_of entry.arguments)
-rules_unless context at j entry (Some it) = Err (fault_at (place.Argument at it.place) it.wrong)
+abbrev pub named_unless : Context → ℕ → Json → Entry → Option WrongArgument → Result (List Named) Fault
+named_unless context at j entry None = named_with context at j entry (conditions_of entry.arguments)
+named_unless context at j entry (Some it) = Err (fault_at (place.Argument at it.place) it.wrong)
 
-abbrev pub rules_of_entry : Context → ℕ → Json → Result Entry Wrong → Result (List Rule) Fault
-rules_of_entry context at j (Ok entry) = rules_unless context at j entry (wrong_argument 0 entry.arguments)
-rules_of_entry context at j (Err wrong) = Err (fault_at (place.Entry at) wrong)
+abbrev pub named_of_entry : Context → ℕ → Json → Result Entry Wrong → Result (List Named) Fault
+named_of_entry context at j (Ok entry) = named_unless context at j entry (wrong_argument 0 entry.arguments)
+named_of_entry context at j (Err wrong) = Err (fault_at (place.Entry at) wrong)
 
--- the rules of the entry with this number
-abbrev pub entry_rules : Context → ℕ → Json → Result (List Rule) Fault
-entry_rules context at j = rules_of_entry context at j (entry_of j)
+-- what the entry with this number says of its names
+abbrev pub entry_named : Context → ℕ → Json → Result (List Named) Fault
+entry_named context at j = named_of_entry context at j (entry_of j)
 
--- these before others, if those are some
-abbrev pub before : List Rule → Result (List Rule) Fault → Result (List Rule) Fault
-before rules (Ok more) = Ok (rules ++ more)
-before rules (Err fault) = Err fault
+-- this before more, if that is right
+abbrev pub before : List Named → Result (List Named) Fault → Result (List Named) Fault
+before named (Ok more) = Ok (named ++ more)
+before named (Err fault) = Err fault
 
--- the rules of all entries, the first of which has this number, in their order
-abbrev pub rules_from : Context → ℕ → List Json → Result (List Rule) Fault
-rules_from context at [] = Ok []
-rules_from context at (j ∷ js) =
-    result_then (λ rules. before rules (rules_from context (at + 1) js)) (entry_rules context at j)
+-- what all entries say, the first of which has this number, in their order
+abbrev pub named_from : Context → ℕ → List Json → Result (List Named) Fault
+named_from context at [] = Ok []
+named_from context at (j ∷ js) =
+    result_then (λ named. before named (named_from context (at + 1) js)) (entry_named context at j)
 
 -- ---- the rest
 
@@ -93,35 +94,37 @@ head_unless (Some wrong) j = Err wrong
 head_unless None j =
     result_then (λ default. result_then (λ entries. Ok (record { default = default; entries = entries })) (list_in field.Syscalls j)) (default_in j)
 
-abbrev pub head_with : Json → Result Head Wrong
-head_with j =
-    result_then (λ architectures. result_then (λ maps. head_unless (wrong_lists architectures maps) j) (list_in field.ArchMap j))
+abbrev pub head_with : Context → Json → Result Head Wrong
+head_with context j =
+    result_then (λ architectures. result_then (λ maps. head_unless (wrong_lists context architectures maps) j) (list_in field.ArchMap j))
     (list_in field.Architectures j)
 
-abbrev pub head_if : Option Wrong → Json → Result Head Wrong
-head_if (Some wrong) j = Err wrong
-head_if None j = head_with j
+abbrev pub head_if : Context → Option Wrong → Json → Result Head Wrong
+head_if context (Some wrong) j = Err wrong
+head_if context None j = head_with context j
 
-abbrev pub head_of : Json → Result Head Wrong
-head_of j = head_if (wrong_keys profile_fields j) j
+abbrev pub head_of : Context → Json → Result Head Wrong
+head_of context j = head_if context (wrong_keys profile_fields j) j
 
--- what is no call of x86-64 is killed, as libseccomp has it where nothing else is said: SECCOMP_RET_KILL_THREAD
-abbrev pub profile_with : Context → Json → ℕ → Result (List Rule) Fault → Result Profile Fault
-profile_with context j default (Ok rules) =
-    Ok (record { rules = rules; default = default; bad = 0; stub = has_stub context j; x32 = names_x32 j })
+-- what is no call of the parts is killed, as libseccomp has it where nothing else is said: SECCOMP_RET_KILL_THREAD
+abbrev pub profile_with : Context → Json → ℕ → Result (List Named) Fault → Result Profile Fault
+profile_with context j default (Ok named) = Ok (record { parts = parts_of context j default named; default = default; bad = 0 })
 profile_with context j default (Err fault) = Err fault
 
 abbrev pub profile_if : Context → Json → Result Head Wrong → Result Profile Fault
-profile_if context j (Ok head) = profile_with context j head.default (rules_from context 0 head.entries)
+profile_if context j (Ok head) = profile_with context j head.default (named_from context 0 head.entries)
 profile_if context j (Err wrong) = Err (fault_at place.Profile wrong)
 
 -- the profile that a value says, where it counts, or the first thing that is wrong with it
 abbrev pub profile_in : Context → Json → Result Profile Fault
-profile_in context j = profile_if context j (head_of j)
+profile_in context j = profile_if context j (head_of context j)
 
--- each of its rules is one that a filter can be made of
+-- each rule of its parts is one that a filter can be made of
+abbrev pub AreGood : List Part → Type 0
+AreGood parts = All (λ (part : Part). All (λ rule. is_good rule ≡ true) part.rules) parts
+
 abbrev pub RulesAreGood : Type 0
-RulesAreGood = (context : Context) (j : Json) (profile : Profile) → profile_in context j ≡ Ok profile → All (λ rule. is_good rule ≡ true) profile.rules
+RulesAreGood = (context : Context) (j : Json) (profile : Profile) → profile_in context j ≡ Ok profile → AreGood profile.parts
 
 -- ---- reading
 

@@ -3,15 +3,18 @@ use Rattle.std.specs.Prelude.{ℕ, ◌≡◌, ◌++◌, true, false, List, [], �
 use Rattle.std.specs.Borrow.{Bor}
 use Rattle.std.specs.Option.{option_map}
 use Rattle.json.specs.Json.{document}
-use Rattle.sk_profile.specs.Profiles.{Profile}
+use Rattle.sk_profile.specs.declared.fault.Clash.{Clash}
+use Rattle.sk_profile.specs.Profiles.{Rule, Part, Profile}
 use Rattle.sk_profile_json.specs.declared.context.Context.{Context}
 use Rattle.sk_profile_json.specs.declared.context.Kernel.{Kernel}
 use Rattle.sk_profile_json.specs.declared.fault.Fault.{Fault}
+use Rattle.sk_profile_json.specs.declared.machine.Machine.TheVariants as machine
 use Rattle.sk_profile_json.specs.Contexts.{kernel_of}
 use Rattle.sk_profile_json.specs.Wholes.{profile_in}
 use Rattle.sk_profile_json.specs.Capabilities.{capability}
 use Rattle.sk_profile_json.specs.Forms.{is_profile}
 use Rattle.sk_profile_json.specs.Notes.{notes_of, unknown_text}
+use Rattle.sk_profile_json.specs.Texts.{arguments_text, both_text, clash_text}
 
 -- ---- where they are to hold, by the words behind the options
 
@@ -22,10 +25,14 @@ abbrev pub newest : Kernel
 newest = record { major = 6; minor = 12 }
 
 abbrev pub there : List (List ℕ) → Kernel → Context
-there names kernel = record { capabilities = lent (map lent names); kernel = kernel; runc = false }
+there names kernel =
+    record { capabilities = lent (map lent names); kernel = kernel; runc = false; machine = Some machine.X86_64; native = false }
 
 abbrev pub plain : Context
 plain = there [] newest
+
+abbrev pub native : Context
+native = record plain { native = true }
 
 abbrev pub with_cap : List ℕ → Context
 with_cap word = there (unwrap_or (capability word) []) newest
@@ -41,10 +48,16 @@ said context text = option_map (profile_in context) (document text)
 abbrev pub told : Context → List ℕ → Option (List (List ℕ))
 told context text = option_map (notes_of context) (document text)
 
+abbrev pub allowed : ℕ → Rule
+allowed nr = record { number = nr; conditions = []; value = 0x7fff0000; entry = 0 }
+
+abbrev pub x86_64_part : List Rule → Part
+x86_64_part rules = record { audit = 0xC000003E; narrow = false; without_x32 = true; rules = rules; top = 0; x32_top = 0 }
+
 -- a profile that refuses by EPERM but for calls with these numbers
 abbrev pub allows : List ℕ → Option (Result Profile Fault)
 allows numbers =
-    Some (Ok (record { rules = map (λ nr. record { number = nr; conditions = []; value = 0x7fff0000; entry = 0 }) numbers; default = 0x50001; bad = 0; stub = false; x32 = false }))
+    Some (Ok (record { parts = x86_64_part (map allowed numbers) ∷ []; default = 0x50001; bad = 0 }))
 
 -- opennat is no call, and chown32 one of i386
 abbrev pub mistyped : List ℕ
@@ -60,6 +73,15 @@ tracing = codes "{\"defaultAction\": \"SCMP_ACT_ERRNO\", \"syscalls\": [{\"names
 
 abbrev pub of_two_architectures : List ℕ
 of_two_architectures = codes "{\"defaultAction\": \"SCMP_ACT_ERRNO\", \"architectures\": [\"SCMP_ARCH_X86\", \"SCMP_ARCH_X86_64\"]}"
+
+abbrev pub clash : ℕ → ℕ → Clash
+clash arch number = record { arch = arch; number = number; first = 0; second = 1; args = 2 ∷ 0 ∷ [] }
+
+-- what is said of it, where the call has this name
+abbrev pub both_fit : List ℕ → List ℕ → List ℕ
+both_fit name of =
+    both_text 0 1 ++ codes " clash: both fit " ++ ((name ++ (codes "(" ++ (arguments_text (2 ∷ 0 ∷ []) ++ (codes ")" ++ of))))
+    ++ codes ", and they say different things")
 
 -- the capabilities of linux/capability.h, in the order of their numbers
 abbrev pub of_linux : List (List ℕ)
@@ -102,7 +124,13 @@ pub record WorkedFiles : Type 0 where
   pub the_newest : said plain tracing ≡ allows (101 ∷ [])
   -- what else is told beside
   pub nothing_to_tell : told plain tracing ≡ Some []
-  pub others : told plain of_two_architectures ≡ Some (codes "x86-64's part alone: its other architectures have no filter here" ∷ [])
+  pub both_parts : told plain of_two_architectures ≡ Some []
+  pub one_part : told native of_two_architectures ≡ Some (codes "x86-64's part alone: programs of its other architectures are killed" ∷ [])
+  pub no_other : told native tracing ≡ Some []
+  -- clashes on three architectures
+  pub on_x86_64 : clash_text (clash 0xC000003E 41) ≡ both_fit (codes "socket") []
+  pub on_x32 : clash_text (clash 0xC000003E 0x40000029) ≡ both_fit (codes "socket") (codes " of x32")
+  pub on_i386 : clash_text (clash 0x40000003 117) ≡ both_fit (codes "ipc") (codes " of i386")
   -- which files are profiles
   pub an_object : is_profile (codes " \n{}") ≡ true
   pub a_list : is_profile (codes "[]") ≡ false

@@ -13,6 +13,8 @@ pub struct Made {
 /// Why a profile has no filter.
 #[derive(Clone, Copy, Debug, PartialEq, Eq)]
 pub enum Refusal {
+    /// It is to hold on no machine that filters are made for.
+    NoMachine,
     /// The file is no text in UTF-8.
     NotText,
     /// It is no JSON, or nests deeper than is read.

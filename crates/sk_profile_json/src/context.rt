@@ -1,15 +1,15 @@
 //! Where a profile is to hold, and whether an entry counts there.
-ghost use Rattle.std.specs.Prelude.{◌≡◌, ◌==◌, ◌<◌, ◌||◌, codes, length, map, IfSome};
+ghost use Rattle.std.specs.Prelude.{◌≡◌, ◌==◌, ◌<◌, ◌||◌, length, map, IfSome};
 ghost use Rattle.std.specs.List.{list_any, list_all, position_from};
 ghost use Rattle.std.specs.Result.{result_map_both};
 ghost use Rattle.std.specs.Option.{option_map};
 ghost use Rattle.json.specs.Value.{value_view};
-ghost use Rattle.sk_profile_json.specs.Contexts.{counts, where_in, where_of, kernel_in, kernel_of, kernel_at, is_version_byte, is_reached, is_held, reaches, leaves_out, takes_in, nowhere, is_empty};
-ghost use Rattle.sk_profile_json.specs.Fields.{is_the};
+ghost use Rattle.sk_profile_json.specs.Contexts.{counts, where_in, where_of, kernel_in, kernel_of, kernel_at, is_version_byte, is_reached, is_held, reaches, leaves_out, takes_in, nowhere, is_arch, is_empty};
 ghost use Rattle.sk_profile_json.specs.ContextViews.{where_view};
 
 use crate::fault::{Field, Wrong};
-use crate::fields::{given, has_text, is_the, text, texts, wrong_keys};
+use crate::fields::{given, is_the, text, texts, wrong_keys};
+use crate::machine::Machine;
 use json::Value;
 use sk_text::number_up_to;
 
@@ -20,12 +20,15 @@ pub struct Kernel {
     pub minor: u32,
 }
 
-/// Where a profile is to hold: the capabilities that are held, by name, the kernel, and whether runc attaches the filter.
+/// Where a profile is to hold: the capabilities that are held, by name, the kernel, and whether runc attaches the filter; on which
+/// machine, if that is one, and whether its own architecture is to stand alone, whatever others the profile lists.
 #[derive(Clone, Copy, Debug, Drop)]
 pub struct Context<'a> {
     pub capabilities: &'a [&'a str],
     pub kernel: Kernel,
     pub runc: bool,
+    pub machine: Option<Machine>,
+    pub native: bool,
 }
 
 /// What an entry includes, or excludes.
@@ -194,7 +197,7 @@ fn all_are_held(context: &Context<'_>, caps: &[Value<'_>]) -> bool
 fn leaves_out(context: &Context<'_>, place: &Where<'_, '_>) -> bool
     ensures leaves_out { result ≡ leaves_out context.now (where_view place.now) }
 {
-    has_text("amd64", place.arches)
+    has_arch(context, place.arches)
         || holds_any(context, place.caps)
         || reaches(false, context.kernel, place.kernel)
 }
@@ -202,13 +205,36 @@ fn leaves_out(context: &Context<'_>, place: &Where<'_, '_>) -> bool
 fn takes_in(context: &Context<'_>, place: &Where<'_, '_>) -> bool
     ensures takes_in { result ≡ takes_in context.now (where_view place.now) }
 {
-    is_for_arch(place.arches)
+    is_for_arch(context, place.arches)
         && holds_all(context, place.caps)
         && reaches(true, context.kernel, place.kernel)
 }
 
-fn is_for_arch(arches: &[Value<'_>]) -> bool
-    ensures arch { result ≡ is_empty (map value_view arches.now) || list_any (is_the (codes "amd64")) (map value_view arches.now) }
+fn is_for_arch(context: &Context<'_>, arches: &[Value<'_>]) -> bool
+    ensures arch { result ≡ is_empty (map value_view arches.now) || list_any (is_arch context.now) (map value_view arches.now) }
 {
-    arches.is_empty() || has_text("amd64", arches)
+    arches.is_empty() || has_arch(context, arches)
+}
+
+#[tactic(auto, using(crate::proofs::Reading::any_of_map))]
+fn has_arch(context: &Context<'_>, arches: &[Value<'_>]) -> bool
+    ensures any { result ≡ list_any (is_arch context.now) (map value_view arches.now) }
+{
+    any_is_arch(context, arches)
+}
+
+fn any_is_arch(context: &Context<'_>, arches: &[Value<'_>]) -> bool
+    ensures any { result ≡ list_any (λ v. is_arch context.now (value_view v)) arches.now }
+{
+    arches.iter().any(|value| is_arch(context, value))
+}
+
+// Whether a value is the name of the machine.
+fn is_arch(context: &Context<'_>, value: &Value<'_>) -> bool
+    ensures arch { result ≡ is_arch context.now (value_view value.now) }
+{
+    match context.machine {
+        None => false,
+        Some(machine) => is_the(machine.arch(), value),
+    }
 }

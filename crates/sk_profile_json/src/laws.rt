@@ -7,7 +7,7 @@ pub fn worked_profiles()
     ensures law { WorkedProfiles }
 {}
 
-/// The rules of a profile that is read are for calls of x86-64, with conditions on their six arguments.
+/// The rules of a profile that is read have conditions on six arguments, each on another one.
 #[tactic(auto, using(crate::proofs::Good::rules_good))]
 pub fn rules_are_good()
     ensures law { RulesAreGood }

@@ -4,6 +4,7 @@
 
 mod actions;
 mod answer;
+mod architectures;
 mod argument;
 mod capabilities;
 mod conditions;
@@ -15,7 +16,10 @@ pub mod filter_laws;
 mod form;
 mod image;
 pub mod laws;
+mod machine;
 mod making;
+mod multiplexed;
+mod named;
 mod note;
 mod parts;
 mod rules;
@@ -28,7 +32,7 @@ pub use capabilities::capability;
 pub use context::{Context, Kernel, kernel_of};
 pub use fault::{Fault, Field, Place, ReadFault, Wrong};
 pub use form::is_profile;
+pub use machine::Machine;
 pub use making::made;
-pub use parts::{counted_names, entries_of, names_others};
 pub use text::refusal_text;
 pub use whole::{profile_in, read, value_of};

@@ -1,10 +1,9 @@
 //! From the bytes of a profile's file to the image of its filter.
-ghost use Rattle.std.specs.Prelude.{◌≡◌, true, All, Ok, IfOk};
+ghost use Rattle.std.specs.Prelude.{◌≡◌, Ok, IfOk};
 ghost use Rattle.json.specs.Value.{value_view};
-ghost use Rattle.sk_profile.specs.Faults.{is_good};
 ghost use Rattle.sk_profile.specs.Views.{profile_of};
-ghost use Rattle.sk_profile_json.specs.Wholes.{profile_in};
-ghost use Rattle.sk_profile_json.specs.Made.{IsMade, IsMadeOfText, IsMadeOf, Builds};
+ghost use Rattle.sk_profile_json.specs.Wholes.{AreGood, profile_in};
+ghost use Rattle.sk_profile_json.specs.Made.{IsMade, IsMadeOfBytes, IsMadeOfText, IsMadeOf, Builds};
 
 use crate::answer::{Made, Refusal};
 use crate::image::image_of;
@@ -21,6 +20,19 @@ pub fn made(
     bytes: &[u8],
 ) -> Result<Result<Made, Refusal>, AllocError>
     ensures made { IfOk result (IsMade context.now bytes.now) }
+{
+    match context.machine {
+        None => Ok(Err(Refusal::NoMachine)),
+        Some(_) => made_of_bytes(alloc, context, bytes),
+    }
+}
+
+fn made_of_bytes(
+    alloc: Global,
+    context: &Context<'_>,
+    bytes: &[u8],
+) -> Result<Result<Made, Refusal>, AllocError>
+    ensures made { IfOk result (IsMadeOfBytes context.now bytes.now) }
 {
     match str::from_utf8(bytes) {
         Ok(text) => made_of_text(alloc, context, text),
@@ -80,7 +92,7 @@ fn made_of_profile(
 
 // The image of the filter of a profile whose rules are good.
 fn built(alloc: Global, profile: &Profile) -> Result<Result<Vec<u8>, Refusal>, AllocError>
-    requires good { All (λ rule. is_good rule ≡ true) (profile_of profile.now).rules }
+    requires good { AreGood (profile_of profile.now).parts }
     ensures builds { IfOk result (Builds (profile_of profile.now)) }
 {
     match profile_filter(alloc, profile) {

@@ -1,14 +1,21 @@
 //! What is told of a profile beside its filter.
 ghost use Rattle.std.specs.Prelude.{◌≡◌, ◌<◌, ◌++◌, [], ◌∷◌, map, IfOk, OnOk, string_bytes};
-ghost use Rattle.std.specs.List.{cons_option};
+ghost use Rattle.std.specs.List.{cons_option, list_any};
 ghost use Rattle.json.specs.Value.{value_view};
-ghost use Rattle.sk_profile_json.specs.Notes.{notes_of, notes_from, others_note, entry_notes, names_notes, name_note, unknown_note, unknown_text, is_unknown, shown_byte};
+ghost use Rattle.sk_profile_json.specs.Architectures.{is_listed};
+ghost use Rattle.sk_profile_json.specs.Contexts.{counts};
+ghost use Rattle.sk_profile_json.specs.Notes.{alone_note, alone_text, counted_names, entries_of, entry_notes, is_unknown, is_yes, lists_relative, name_note, names_notes, notes_from, notes_of, shown_byte, unknown_note, unknown_text};
 
+use crate::architectures::is_listed;
+use crate::context::{Context, counts};
+use crate::entry::names;
+use crate::fault::Field;
+use crate::fields::{items_or_none, list, no_items};
+use crate::machine::Machine;
 use crate::text::push_entry;
-use crate::{Context, counted_names, entries_of, names_others};
 use json::Value;
-use sk_names::is_elsewhere;
 use sk_names::x86_64::number;
+use sk_names::{Architecture, is_elsewhere};
 use std::alloc::{AllocError, Global};
 
 /// The notes of a profile, each in one line.
@@ -20,26 +27,76 @@ pub(crate) fn notes_of(
     ensures notes { IfOk result (λ notes. map string_bytes notes.items ≡ notes_of context.now (value_view profile.now)) }
 {
     let mut notes = Vec::new(alloc);
-    push_others(alloc, &mut notes, profile)?;
+    push_alone(alloc, &mut notes, context, profile)?;
     push_unknown(alloc, &mut notes, context, entries_of(profile))?;
     Ok(notes)
 }
 
-fn push_others(
+// That architectures are left out which the profile lists.
+fn push_alone(
     alloc: Global,
     notes: &mut Vec<String>,
+    context: &Context<'_>,
     profile: &Value<'_>,
 ) -> Result<(), AllocError>
-    ensures pushed { OnOk result (map string_bytes notes.new.items ≡ map string_bytes notes.old.items ++ others_note (value_view profile.now)) }
+    ensures pushed { OnOk result (map string_bytes notes.new.items ≡
+        map string_bytes notes.old.items ++ alone_note context.now (value_view profile.now) context.now.machine) }
 {
-    if names_others(profile) {
-        let note = String::from_str(
-            alloc,
-            "x86-64's part alone: its other architectures have no filter here",
-        )?;
-        notes.push(note)?;
+    match context.machine {
+        Some(machine) if context.native && lists_relative(context, profile, machine) => {
+            let note = alone_text(alloc, machine)?;
+            notes.push(note)?;
+            Ok(())
+        }
+        _ => Ok(()),
     }
-    Ok(())
+}
+
+fn lists_relative(context: &Context<'_>, profile: &Value<'_>, machine: Machine) -> bool
+    ensures any { result ≡ lists_relative context.now (value_view profile.now) machine }
+{
+    lists_any_of(context, profile, machine.relatives())
+}
+
+fn lists_any_of(context: &Context<'_>, profile: &Value<'_>, relatives: &[Architecture]) -> bool
+    ensures any { result ≡ list_any (is_listed context.now (value_view profile.now)) relatives.now }
+{
+    relatives
+        .iter()
+        .any(|architecture| is_listed(context, profile, *architecture))
+}
+
+fn alone_text(alloc: Global, machine: Machine) -> Result<String, AllocError>
+    ensures text { IfOk result (λ text. string_bytes text ≡ alone_text machine) }
+{
+    let mut text = String::new(alloc);
+    text.push_str(machine.own().text())?;
+    text.push_str("'s part alone: programs of its other architectures are killed")?;
+    Ok(text)
+}
+
+// The entries of a profile, in their order.
+fn entries_of<'v, 'a>(profile: &'v Value<'a>) -> &'v [Value<'a>]
+    ensures entries { map value_view result.now ≡ entries_of (value_view profile.now) }
+{
+    items_or_none(list(profile, Field::Syscalls))
+}
+
+// The names of an entry, each a text, where it counts, and else none.
+fn counted_names<'v, 'a>(context: &Context<'_>, entry: &'v Value<'a>) -> &'v [Value<'a>]
+    ensures names { map value_view result.now ≡ counted_names context.now (value_view entry.now) }
+{
+    if is_counted(context, entry) {
+        items_or_none(names(entry))
+    } else {
+        no_items()
+    }
+}
+
+fn is_counted(context: &Context<'_>, entry: &Value<'_>) -> bool
+    ensures counted { result ≡ is_yes (counts context.now (value_view entry.now)) }
+{
+    counts(context, entry).unwrap_or(false)
 }
 
 // Of each entry that counts the names that no call has.

@@ -1,81 +1,174 @@
-//! Parts of a profile that is read which say nothing of its filter.
-ghost use Rattle.std.specs.Prelude.{◌≡◌, ◌||◌, map, not, []};
-ghost use Rattle.std.specs.List.{list_any};
+//! The parts of a profile.
+ghost use Rattle.std.specs.Prelude.{◌≡◌, ◌++◌, flat_map, map, IfOk, OnOk};
 ghost use Rattle.json.specs.Value.{value_view};
-ghost use Rattle.sk_profile_json.specs.Fields.{is_the};
-ghost use Rattle.sk_profile_json.specs.Parts.{entries_of, counted_names, is_yes, names_others, maps_others, is_other};
-ghost use Rattle.sk_profile_json.specs.Contexts.{counts};
-ghost use Rattle.sk_profile_json.specs.Fields.{list_in};
-ghost use Rattle.sk_profile_json.specs.declared.fault.Field.TheVariants as field;
+ghost use Rattle.sk_profile.specs.Views.{part_of};
+ghost use Rattle.sk_profile_json.specs.EntryViews.{named_view};
+ghost use Rattle.sk_profile_json.specs.PartViews.{basis_view};
+ghost use Rattle.sk_profile_json.specs.Parts.{has_part, own_part, part_on, parts_of, relative_part, top_if, with_x32, without_x32};
 
-use crate::context::{Context, counts};
-use crate::entry::names;
-use crate::fault::Field;
-use crate::fields::{is_the, items_or_none, list, no_items};
-use crate::whole::maps_x86_64;
+use crate::architectures::counts_too;
+use crate::context::Context;
+use crate::machine::{Machine, is_narrow};
+use crate::named::Named;
+use crate::rules::push_rules;
+use crate::runc::{has_stub, top_on};
 use json::Value;
+use sk_names::Architecture;
+use sk_profile::Part;
+use std::alloc::{AllocError, Global};
 
-/// The entries of a profile, in their order.
-pub fn entries_of<'v, 'a>(profile: &'v Value<'a>) -> &'v [Value<'a>]
-    ensures entries { map value_view result.now ≡ entries_of (value_view profile.now) }
-{
-    items_or_none(list(profile, Field::Syscalls))
+/// What parts are made of: what is said of names, the value of calls that no entry is for, and whether runc's instructions stand before
+/// the filter.
+#[derive(Drop)]
+pub(crate) struct Basis<'n, 'a> {
+    pub named: &'n [Named<'a>],
+    pub default: u32,
+    pub stub: bool,
 }
 
-/// The names of an entry, each a text, where it counts, and else none.
-pub fn counted_names<'v, 'a>(context: &Context<'_>, entry: &'v Value<'a>) -> &'v [Value<'a>]
-    ensures names { map value_view result.now ≡ counted_names context.now (value_view entry.now) }
+/// The parts of a profile that says this of names.
+pub(crate) fn parts_of(
+    alloc: Global,
+    context: &Context<'_>,
+    profile: &Value<'_>,
+    default: u32,
+    named: &[Named<'_>],
+) -> Result<Vec<Part>, AllocError>
+    ensures parts { IfOk result (λ parts. map part_of parts.items ≡ parts_of context.now (value_view profile.now) default (map named_view named.now)) }
 {
-    if is_counted(context, entry) {
-        items_or_none(names(entry))
-    } else {
-        no_items()
+    let mut parts = Vec::new(alloc);
+    if let Some(machine) = context.machine {
+        let stub = has_stub(context, profile);
+        let basis = Basis {
+            named,
+            default,
+            stub,
+        };
+        let x32 = counts_too(context, profile, Architecture::X32);
+        parts.push(own_part(alloc, &basis, machine, x32)?)?;
+        push_relatives(
+            alloc,
+            &mut parts,
+            context,
+            profile,
+            &basis,
+            machine.relatives(),
+        )?;
+    }
+    Ok(parts)
+}
+
+fn push_relatives(
+    alloc: Global,
+    parts: &mut Vec<Part>,
+    context: &Context<'_>,
+    profile: &Value<'_>,
+    basis: &Basis<'_, '_>,
+    relatives: &[Architecture],
+) -> Result<(), AllocError>
+    ensures pushed { OnOk result (map part_of parts.new.items ≡
+        map part_of parts.old.items ++ flat_map (relative_part context.now (value_view profile.now) (basis_view basis.now)) relatives.now) }
+{
+    for architecture in relatives {
+        push_relative(alloc, parts, context, profile, basis, *architecture)?;
+    }
+    Ok(())
+}
+
+fn push_relative(
+    alloc: Global,
+    parts: &mut Vec<Part>,
+    context: &Context<'_>,
+    profile: &Value<'_>,
+    basis: &Basis<'_, '_>,
+    architecture: Architecture,
+) -> Result<(), AllocError>
+    ensures pushed { OnOk result (map part_of parts.new.items ≡
+        map part_of parts.old.items ++ relative_part context.now (value_view profile.now) (basis_view basis.now) architecture) }
+{
+    if has_part(context, profile, architecture) {
+        parts.push(part_on(alloc, basis, architecture)?)?;
+    }
+    Ok(())
+}
+
+// Whether a relative of the machine has a part: x32's calls are shown as x86-64's.
+fn has_part(context: &Context<'_>, profile: &Value<'_>, architecture: Architecture) -> bool
+    ensures has { result ≡ has_part context.now (value_view profile.now) architecture }
+{
+    match architecture {
+        Architecture::X32 => false,
+        _ => counts_too(context, profile, architecture),
     }
 }
 
-/// Whether an entry counts.
-pub(crate) fn is_counted(context: &Context<'_>, entry: &Value<'_>) -> bool
-    ensures counted { result ≡ is_yes (counts context.now (value_view entry.now)) }
+fn own_part(
+    alloc: Global,
+    basis: &Basis<'_, '_>,
+    machine: Machine,
+    x32: bool,
+) -> Result<Part, AllocError>
+    ensures own { IfOk result (λ part. part_of part ≡ own_part (basis_view basis.now) machine x32) }
 {
-    counts(context, entry).unwrap_or(false)
+    let part = part_on(alloc, basis, machine.own())?;
+    match machine {
+        Machine::X86_64 if x32 => with_x32(alloc, basis, part),
+        Machine::X86_64 => Ok(without_x32(part)),
+        _ => Ok(part),
+    }
 }
 
-/// Whether a profile names architectures beside x86-64.
-pub fn names_others(profile: &Value<'_>) -> bool
-    ensures others { result ≡ names_others (value_view profile.now) }
+fn with_x32(alloc: Global, basis: &Basis<'_, '_>, part: Part) -> Result<Part, AllocError>
+    ensures with { IfOk result (λ more. part_of more ≡ with_x32 (basis_view basis.now) (part_of part)) }
 {
-    has_other(items_or_none(list(profile, Field::Architectures)))
-        || any_maps_others(items_or_none(list(profile, Field::ArchMap)))
+    let mut part = part;
+    push_rules(
+        alloc,
+        &mut part.rules,
+        Architecture::X32,
+        basis.default,
+        basis.named,
+    )?;
+    part.x32_top = top_if(basis, Architecture::X32);
+    Ok(part)
 }
 
-#[tactic(auto, using(crate::proofs::Reading::any_of_map))]
-fn has_other(items: &[Value<'_>]) -> bool
-    ensures any { result ≡ list_any is_other (map value_view items.now) }
+fn without_x32(part: Part) -> Part
+    ensures without { part_of result ≡ without_x32 (part_of part) }
 {
-    any_is_other(items)
+    let mut part = part;
+    part.without_x32 = true;
+    part.x32_top = 0;
+    part
 }
 
-fn any_is_other(items: &[Value<'_>]) -> bool
-    ensures any { result ≡ list_any (λ v. is_other (value_view v)) items.now }
+fn part_on(
+    alloc: Global,
+    basis: &Basis<'_, '_>,
+    architecture: Architecture,
+) -> Result<Part, AllocError>
+    ensures part { IfOk result (λ part. part_of part ≡ part_on (basis_view basis.now) architecture) }
 {
-    items.iter().any(|item| !is_the("SCMP_ARCH_X86_64", item))
+    let mut rules = Vec::new(alloc);
+    push_rules(alloc, &mut rules, architecture, basis.default, basis.named)?;
+    let top = top_if(basis, architecture);
+    Ok(Part {
+        audit: architecture.audit(),
+        narrow: is_narrow(architecture),
+        without_x32: false,
+        rules,
+        top,
+        x32_top: top,
+    })
 }
 
-#[tactic(auto, using(crate::proofs::Reading::any_of_map))]
-fn any_maps_others(items: &[Value<'_>]) -> bool
-    ensures any { result ≡ list_any maps_others (map value_view items.now) }
+// The greatest number that runc's instructions know, where they stand before the filter.
+fn top_if(basis: &Basis<'_, '_>, architecture: Architecture) -> u32
+    ensures top { result ≡ top_if (basis_view basis.now) architecture }
 {
-    each_maps_others(items)
-}
-
-fn each_maps_others(items: &[Value<'_>]) -> bool
-    ensures any { result ≡ list_any (λ v. maps_others (value_view v)) items.now }
-{
-    items.iter().any(|item| maps_others(item))
-}
-
-fn maps_others(item: &Value<'_>) -> bool
-    ensures others { result ≡ maps_others (value_view item.now) }
-{
-    !maps_x86_64(item) || has_other(items_or_none(list(item, Field::SubArchitectures)))
+    if basis.stub {
+        top_on(architecture, basis.named)
+    } else {
+        0
+    }
 }

@@ -1,49 +1,33 @@
-//! Whether runc has instructions of its own stand before the filter of a profile.
-ghost use Rattle.std.specs.Prelude.{◌≡◌, map};
-ghost use Rattle.std.specs.List.{list_any};
+//! Whether runc has instructions of its own stand before the filter of a profile, and which numbers they know.
+ghost use Rattle.std.specs.Prelude.{◌≡◌, [], map};
+ghost use Rattle.std.specs.List.{cons_option, fold};
 ghost use Rattle.json.specs.Value.{value_view};
 ghost use Rattle.sk_profile_json.specs.declared.fault.Field.TheVariants as field;
 ghost use Rattle.sk_profile_json.specs.Actions.{action_in};
-ghost use Rattle.sk_profile_json.specs.Runc.{architectures, has_stub, is_x32, maps, maps_x32, names_any, names_x32, performs};
+ghost use Rattle.sk_profile_json.specs.EntryViews.{named_view};
+ghost use Rattle.sk_profile_json.specs.Runc.{greater, has_stub, known_number, lists_any, performs, top_on};
 
 use crate::actions::action;
+use crate::architectures::{architectures, own_map};
 use crate::context::Context;
 use crate::fault::Field;
-use crate::fields::{has_text, items_or_none, list};
-use crate::whole::maps_x86_64;
+use crate::multiplexed::is_multiplexed;
+use crate::named::Named;
 use json::Value;
 use sk_insn::Action;
+use sk_names::{Architecture, number};
 
 /// Whether they stand there.
 pub(crate) fn has_stub(context: &Context<'_>, profile: &Value<'_>) -> bool
     ensures stub { result ≡ has_stub context.now (value_view profile.now) }
 {
-    context.runc && names_any(profile) && !default_performs(profile)
+    context.runc && lists_any(context, profile) && !default_performs(profile)
 }
 
-/// Whether x32 is among the architectures.
-pub(crate) fn names_x32(profile: &Value<'_>) -> bool
-    ensures x32 { result ≡ names_x32 (value_view profile.now) }
+fn lists_any(context: &Context<'_>, profile: &Value<'_>) -> bool
+    ensures any { result ≡ lists_any context.now (value_view profile.now) }
 {
-    has_x32(architectures(profile)) || any_maps_x32(maps(profile))
-}
-
-fn architectures<'v, 'a>(profile: &'v Value<'a>) -> &'v [Value<'a>]
-    ensures items { map value_view result.now ≡ architectures (value_view profile.now) }
-{
-    items_or_none(list(profile, Field::Architectures))
-}
-
-fn maps<'v, 'a>(profile: &'v Value<'a>) -> &'v [Value<'a>]
-    ensures items { map value_view result.now ≡ maps (value_view profile.now) }
-{
-    items_or_none(list(profile, Field::ArchMap))
-}
-
-fn names_any(profile: &Value<'_>) -> bool
-    ensures any { result ≡ names_any (value_view profile.now) }
-{
-    !architectures(profile).is_empty() || !maps(profile).is_empty()
+    !architectures(profile).is_empty() || own_map(context, profile).is_some()
 }
 
 fn default_performs(profile: &Value<'_>) -> bool
@@ -55,27 +39,32 @@ fn default_performs(profile: &Value<'_>) -> bool
     )
 }
 
-fn has_x32(items: &[Value<'_>]) -> bool
-    ensures any { result ≡ list_any is_x32 (map value_view items.now) }
+/// The greatest number of an architecture that they know, 0 where there is none.
+pub(crate) fn top_on(architecture: Architecture, named: &[Named<'_>]) -> u32
+    ensures top { result ≡ top_on architecture (map named_view named.now) }
 {
-    has_text("SCMP_ARCH_X32", items)
+    let mut top = 0;
+    for it in named {
+        top = greater(top, known_number(architecture, it));
+    }
+    top
 }
 
-#[tactic(auto, using(crate::proofs::Reading::any_of_map))]
-fn any_maps_x32(items: &[Value<'_>]) -> bool
-    ensures any { result ≡ list_any maps_x32 (map value_view items.now) }
+fn greater(top: u32, number: Option<u32>) -> u32
+    ensures greater { result ≡ fold greater top (cons_option number []) }
 {
-    each_maps_x32(items)
+    match number {
+        Some(number) if top < number => number,
+        _ => top,
+    }
 }
 
-fn each_maps_x32(items: &[Value<'_>]) -> bool
-    ensures any { result ≡ list_any (λ v. maps_x32 (value_view v)) items.now }
+fn known_number(architecture: Architecture, it: &Named<'_>) -> Option<u32>
+    ensures number { result ≡ known_number architecture (named_view it.now) }
 {
-    items.iter().any(|item| maps_x32(item))
-}
-
-fn maps_x32(item: &Value<'_>) -> bool
-    ensures maps { result ≡ maps_x32 (value_view item.now) }
-{
-    maps_x86_64(item) && has_x32(items_or_none(list(item, Field::SubArchitectures)))
+    if is_multiplexed(architecture, it.name) {
+        None
+    } else {
+        number(architecture, it.name.as_bytes())
+    }
 }

@@ -1,12 +1,12 @@
 //! What is said of a profile that is refused.
 ghost use Rattle.std.specs.Prelude.{◌≡◌, ◌+◌, ◌++◌, IfOk, OnOk, codes, flat_map, string_bytes};
 ghost use Rattle.std.specs.Fmt.{decimal};
-ghost use Rattle.sk_names.specs.X86_64.{name_of};
-ghost use Rattle.sk_profile_json.specs.Texts.{refusal_text, clash_text, argument_text, arguments_text, both_text, call_text, fault_text, place_text, wrong_text, entry_text, keys_text, expected_text, contradiction_text};
+ghost use Rattle.std.specs.Option.{option_map};
+ghost use Rattle.sk_profile_json.specs.Texts.{refusal_text, clash_text, architecture_at, by_audit, is_of_x32, is_x86_64, name_at, of_text, shown_text, argument_text, arguments_text, both_text, call_text, fault_text, place_text, wrong_text, entry_text, keys_text, expected_text, contradiction_text};
 
 use crate::answer::Refusal;
 use crate::{Fault, Field, Place, Wrong};
-use sk_names::x86_64::name;
+use sk_names::{Architecture, name};
 use sk_profile::Clash;
 use std::alloc::{AllocError, Global};
 use std::fmt::Write;
@@ -17,6 +17,11 @@ pub fn refusal_text(alloc: Global, refusal: Refusal) -> Result<String, AllocErro
 {
     let mut text = String::new(alloc);
     match refusal {
+        Refusal::NoMachine => {
+            text.push_str(
+                "no filter is made of a profile for s390x: its arguments have their highest byte first",
+            )?;
+        }
         Refusal::NotText => {
             text.push_str("is no text in UTF-8: expected the JSON of a profile")?;
         }
@@ -38,10 +43,81 @@ fn push_clash(text: &mut String, it: Clash) -> Result<(), AllocError>
 {
     push_both(text, it.first, it.second)?;
     text.push_str(" clash: both fit ")?;
-    push_call(text, it.number)?;
+    push_shown(
+        text,
+        architecture_at(it.arch, it.number),
+        it.number,
+        &it.args,
+    )?;
+    text.push_str(", and they say different things")
+}
+
+// A call with its arguments.
+fn push_shown(
+    text: &mut String,
+    on: Option<Architecture>,
+    number: u32,
+    args: &[u64],
+) -> Result<(), AllocError>
+    ensures text { OnOk result (string_bytes text.new ≡ string_bytes text.old ++ shown_text on number args.now) }
+{
+    push_call(text, name_at(on, number), number)?;
     text.push_str("(")?;
-    push_arguments(text, &it.args)?;
-    text.push_str("), and they say different things")
+    push_arguments(text, args)?;
+    text.push_str(")")?;
+    push_of(text, on)
+}
+
+// The architecture of a call: its numbers are those of x32 from bit 30 on.
+fn architecture_at(arch: u32, number: u32) -> Option<Architecture>
+    ensures at { result ≡ architecture_at arch number }
+{
+    if is_of_x32(arch, number) {
+        Some(Architecture::X32)
+    } else {
+        by_audit(arch)
+    }
+}
+
+fn is_of_x32(arch: u32, number: u32) -> bool
+    ensures x32 { result ≡ is_of_x32 arch number }
+{
+    arch == Architecture::X32.audit() && 0x4000_0000 <= number
+}
+
+// The first architecture with a number of linux/audit.h.
+fn by_audit(arch: u32) -> Option<Architecture>
+    ensures first { result ≡ by_audit arch }
+{
+    Architecture::ALL
+        .iter()
+        .copied()
+        .find(|architecture| architecture.audit() == arch)
+}
+
+fn name_at(on: Option<Architecture>, number: u32) -> Option<&'static str>
+    ensures name { option_map (λ name. name.now) result ≡ name_at on number }
+{
+    name(on?, number)
+}
+
+// Which architecture's call it is, unless it is x86-64's.
+fn push_of(text: &mut String, on: Option<Architecture>) -> Result<(), AllocError>
+    ensures text { OnOk result (string_bytes text.new ≡ string_bytes text.old ++ of_text on) }
+{
+    match on {
+        Some(architecture) if !is_x86_64(architecture) => {
+            text.push_str(" of ")?;
+            text.push_str(architecture.text())
+        }
+        _ => Ok(()),
+    }
+}
+
+fn is_x86_64(architecture: Architecture) -> bool
+    ensures is { result ≡ is_x86_64 architecture }
+{
+    matches!(architecture, Architecture::X86_64)
 }
 
 fn push_arguments(text: &mut String, args: &[u64]) -> Result<(), AllocError>
@@ -88,10 +164,10 @@ fn push_both(text: &mut String, first: usize, second: usize) -> Result<(), Alloc
     text.push_str(" of syscalls")
 }
 
-fn push_call(text: &mut String, number: u32) -> Result<(), AllocError>
-    ensures text { OnOk result (string_bytes text.new ≡ string_bytes text.old ++ call_text number (name_of number)) }
+fn push_call(text: &mut String, name: Option<&'static str>, number: u32) -> Result<(), AllocError>
+    ensures text { OnOk result (string_bytes text.new ≡ string_bytes text.old ++ call_text number (option_map (λ name. name.now) name.entry)) }
 {
-    match name(number) {
+    match name {
         Some(name) => text.push_str(name),
         None => write!(text, "{number}"),
     }
@@ -187,9 +263,8 @@ fn expected_text(field: Field) -> &'static str
             "a number up to 4094, or beside SCMP_ACT_TRACE up to 65535",
         Field::DefaultErrno | Field::Errno => "the name of an error",
         Field::Architectures =>
-            "a list of names as SCMP_ARCH_X86, with SCMP_ARCH_X86_64 among them",
-        Field::ArchMap =>
-            "a list of objects with architecture and subArchitectures, one of them for SCMP_ARCH_X86_64",
+            "a list of names as SCMP_ARCH_X86, with that of the machine among them",
+        Field::ArchMap => "a list of objects with architecture and subArchitectures",
         Field::Syscalls => "a list of entries",
         Field::Names => "a list of names of calls, with one at least",
         Field::Name => "the name of a call",

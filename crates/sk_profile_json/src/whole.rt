@@ -1,55 +1,23 @@
 //! A whole profile.
 ghost use Rattle.std.specs.Prelude.{◌≡◌, map, None, Ok, IfOk, IfErr};
-ghost use Rattle.std.specs.List.{list_any, list_all};
-ghost use Rattle.std.specs.Option.{option_map};
 ghost use Rattle.std.specs.Result.{result_map_both};
 ghost use Rattle.json.specs.Value.{value_view};
 ghost use Rattle.sk_profile.specs.Views.{profile_of};
-ghost use Rattle.sk_profile_json.specs.Contexts.{is_empty};
 ghost use Rattle.sk_profile_json.specs.WholeViews.{head_view};
-ghost use Rattle.sk_profile_json.specs.Architectures.{is_architecture, is_x86_64, are_architectures, is_map, maps_x86_64, is_some_and, are_maps, are_all, wrong_lists};
 ghost use Rattle.sk_profile_json.specs.Wholes.{default_in, default_with, head_of, head_with, head_unless, profile_in, Says, IsText, IsTextFault, IsFault, IsReadFault};
-ghost use Rattle.sk_profile_json.specs.Fields.{list_in, given, is_the};
-ghost use Rattle.sk_profile_json.specs.declared.fault.Field.TheVariants as field;
 
 use crate::actions::{action, value};
+use crate::architectures::wrong_lists;
 use crate::context::Context;
 use crate::entry::is_told;
 use crate::fault::{Fault, Field, Place, ReadFault, Wrong};
-use crate::fields::{given, has_text, is_the, list, wrong_keys};
-use crate::rules::rules_of;
-use crate::runc::{has_stub, names_x32};
+use crate::fields::{list, wrong_keys};
+use crate::named::named_of;
+use crate::parts::parts_of;
 use json::{Error, Scratch, Value};
 use sk_insn::Action;
 use sk_profile::Profile;
 use std::alloc::Global;
-
-/// The architectures of the OCI runtime specification.
-pub(crate) const ARCHITECTURES: [&str; 23] = [
-    "SCMP_ARCH_X86",
-    "SCMP_ARCH_X86_64",
-    "SCMP_ARCH_X32",
-    "SCMP_ARCH_ARM",
-    "SCMP_ARCH_AARCH64",
-    "SCMP_ARCH_MIPS",
-    "SCMP_ARCH_MIPS64",
-    "SCMP_ARCH_MIPS64N32",
-    "SCMP_ARCH_MIPSEL",
-    "SCMP_ARCH_MIPSEL64",
-    "SCMP_ARCH_MIPSEL64N32",
-    "SCMP_ARCH_PPC",
-    "SCMP_ARCH_PPC64",
-    "SCMP_ARCH_PPC64LE",
-    "SCMP_ARCH_S390",
-    "SCMP_ARCH_S390X",
-    "SCMP_ARCH_PARISC",
-    "SCMP_ARCH_PARISC64",
-    "SCMP_ARCH_RISCV64",
-    "SCMP_ARCH_LOONGARCH64",
-    "SCMP_ARCH_M68K",
-    "SCMP_ARCH_SH",
-    "SCMP_ARCH_SHEB",
-];
 
 /// The fields that a profile may have.
 const FIELDS: [Field; 9] = [
@@ -63,9 +31,6 @@ const FIELDS: [Field; 9] = [
     Field::ListenerMetadata,
     Field::Syscalls,
 ];
-
-/// The fields that one of `archMap` may have.
-const MAP_FIELDS: [Field; 2] = [Field::Architecture, Field::SubArchitectures];
 
 /// The value of calls that no rule fits, and the entries.
 #[derive(Clone, Copy, Debug, Drop)]
@@ -112,32 +77,31 @@ pub fn profile_in(
     ensures says { IfOk result (λ profile. profile_in context.now (value_view value.now) ≡ Ok (profile_of profile)) }
     ensures fault { IfErr result (IsFault (profile_in context.now (value_view value.now))) }
 {
-    let Head { default, entries } = match head_of(value) {
+    let Head { default, entries } = match head_of(context, value) {
         Ok(head) => head,
         Err(wrong) => return Err(ReadFault::Profile(Fault {
             place: Place::Profile,
             wrong,
         })),
     };
-    let rules = rules_of(alloc, context, entries)?;
+    let named = named_of(alloc, context, entries)?;
+    let parts = parts_of(alloc, context, value, default, &named)?;
     Ok(Profile {
-        rules,
+        parts,
         default,
         bad: 0,
-        stub: has_stub(context, value),
-        x32: names_x32(value),
     })
 }
 
-fn head_of<'v, 'a>(profile: &'v Value<'a>) -> Result<Head<'v, 'a>, Wrong>
-    ensures head { result_map_both head_view (λ e. e) result ≡ head_of (value_view profile.now) }
+fn head_of<'v, 'a>(context: &Context<'_>, profile: &'v Value<'a>) -> Result<Head<'v, 'a>, Wrong>
+    ensures head { result_map_both head_view (λ e. e) result ≡ head_of context.now (value_view profile.now) }
 {
     if let Some(wrong) = wrong_keys(&FIELDS, profile) {
         return Err(wrong);
     }
     let architectures = list(profile, Field::Architectures)?;
     let maps = list(profile, Field::ArchMap)?;
-    if let Some(wrong) = wrong_lists(architectures, maps) {
+    if let Some(wrong) = wrong_lists(context, architectures, maps) {
         return Err(wrong);
     }
     head_unless(profile)
@@ -159,117 +123,4 @@ fn default_in(profile: &Value<'_>) -> Result<u32, Wrong>
         return Err(Wrong::NotTaken(Field::DefaultAction));
     }
     value(profile, action, Field::DefaultErrnoRet, Field::DefaultErrno)
-}
-
-// What is wrong with the lists of architectures.
-fn wrong_lists(architectures: &[Value<'_>], maps: &[Value<'_>]) -> Option<Wrong>
-    ensures wrong { result ≡ wrong_lists (map value_view architectures.now) (map value_view maps.now) }
-{
-    if !architectures.is_empty() && !maps.is_empty() {
-        Some(Wrong::Contradicts(Field::ArchMap))
-    } else if !are_architectures(architectures) {
-        Some(Wrong::NotTaken(Field::Architectures))
-    } else if !are_maps(maps) {
-        Some(Wrong::NotTaken(Field::ArchMap))
-    } else {
-        None
-    }
-}
-
-fn are_architectures(items: &[Value<'_>]) -> bool
-    ensures all { result ≡ are_architectures (map value_view items.now) }
-{
-    all_architectures(items) && (items.is_empty() || has_text("SCMP_ARCH_X86_64", items))
-}
-
-#[tactic(auto, using(crate::proofs::Reading::all_of_map))]
-fn all_architectures(items: &[Value<'_>]) -> bool
-    ensures all { result ≡ list_all is_architecture (map value_view items.now) }
-{
-    each_is_architecture(items)
-}
-
-fn each_is_architecture(items: &[Value<'_>]) -> bool
-    ensures all { result ≡ list_all (λ v. is_architecture (value_view v)) items.now }
-{
-    items.iter().all(|item| is_architecture(item))
-}
-
-fn is_architecture(value: &Value<'_>) -> bool
-    ensures architecture { result ≡ is_architecture (value_view value.now) }
-{
-    is_any(&ARCHITECTURES, value)
-}
-
-fn is_any(names: &[&str], value: &Value<'_>) -> bool
-    ensures any { result ≡ list_any (λ name. is_the name.now (value_view value.now)) names.now }
-{
-    names.iter().any(|name| is_the(*name, value))
-}
-
-fn are_maps(items: &[Value<'_>]) -> bool
-    ensures all { result ≡ are_maps (map value_view items.now) }
-{
-    all_maps(items) && (items.is_empty() || any_for_x86_64(items))
-}
-
-#[tactic(auto, using(crate::proofs::Reading::all_of_map))]
-fn all_maps(items: &[Value<'_>]) -> bool
-    ensures all { result ≡ list_all is_map (map value_view items.now) }
-{
-    each_is_map(items)
-}
-
-fn each_is_map(items: &[Value<'_>]) -> bool
-    ensures all { result ≡ list_all (λ v. is_map (value_view v)) items.now }
-{
-    items.iter().all(|item| is_map(item))
-}
-
-#[tactic(auto, using(crate::proofs::Reading::any_of_map))]
-fn any_for_x86_64(items: &[Value<'_>]) -> bool
-    ensures any { result ≡ list_any maps_x86_64 (map value_view items.now) }
-{
-    any_maps_x86_64(items)
-}
-
-fn any_maps_x86_64(items: &[Value<'_>]) -> bool
-    ensures any { result ≡ list_any (λ v. maps_x86_64 (value_view v)) items.now }
-{
-    items.iter().any(|item| maps_x86_64(item))
-}
-
-fn is_map(value: &Value<'_>) -> bool
-    ensures map { result ≡ is_map (value_view value.now) }
-{
-    wrong_keys(&MAP_FIELDS, value).is_none()
-        && names_architecture(value)
-        && has_sub_architectures(value)
-}
-
-fn names_architecture(value: &Value<'_>) -> bool
-    ensures architecture { result ≡ is_some_and is_architecture (given field.Architecture (value_view value.now)) }
-{
-    match given(value, Field::Architecture) {
-        None => false,
-        Some(name) => is_architecture(name),
-    }
-}
-
-fn has_sub_architectures(value: &Value<'_>) -> bool
-    ensures all { result ≡ are_all (list_in field.SubArchitectures (value_view value.now)) }
-{
-    match list(value, Field::SubArchitectures) {
-        Err(_) => false,
-        Ok(items) => all_architectures(items),
-    }
-}
-
-pub(crate) fn maps_x86_64(value: &Value<'_>) -> bool
-    ensures maps { result ≡ maps_x86_64 (value_view value.now) }
-{
-    match given(value, Field::Architecture) {
-        None => false,
-        Some(name) => is_the("SCMP_ARCH_X86_64", name),
-    }
 }

@@ -1,4 +1,4 @@
-use Rattle.sk_profile_json.proofs.Named.{one_name}
+use Rattle.sk_profile_json.proofs.Placed.{one_name}
 use Rattle.sk_profile_json.proofs.capabilities.names_at.Goals as goal
 
 pub returns : goal.returns

@@ -1,8 +1,6 @@
-use Rattle.std.proofs.Common.{◌≡◌, List, Ok, subst, sym}
+use Rattle.std.proofs.Common.{◌≡◌, List, Ok, subst}
 use Rattle.sk_insn.specs.declared.insn.Insn.{Insn}
 use Rattle.sk_insn.specs.Instructions.{image_instructions}
-use Rattle.sk_profile.specs.Means.{AnswersOthers}
-use Rattle.sk_profile.proofs.Trees.{code_answers_others}
 use Rattle.sk_profile.specs.Views.{profile_of}
 use Rattle.sk_profile_json.proofs.Built.{no_wrong_rule}
 use Rattle.sk_profile_json.proofs.making.built.Goals as goal
@@ -22,9 +20,6 @@ returns-in_ok-image_of-in-Ok c =
         read = subst (λ (insns : List Insn). image_instructions image ≡ Ok insns) c.deref.ensures.value c.in_ok-image_of-in-Ok.ensures.read;
         valid = c.in-Ok.ensures.valid;
         means = c.in-Ok.ensures.means;
-        others =
-            subst (λ (insns : List Insn). AnswersOthers insns c.args.profile.now.bad) (sym c.in-Ok.ensures.guard.1)
-            (code_answers_others c.args.profile.now.bad c.in-Ok.ensures.guard.0);
         guard = c.in-Ok.ensures.guard;
       };
     }

@@ -1,7 +1,7 @@
 use Rattle.std.proofs.Common.{◌∙◌}
 use Rattle.std.proofs.lemmas.Result.{err_from_is_err_and}
 use Rattle.sk_profile_json.proofs.Gathering.{more_entries, fault_here}
-use Rattle.sk_profile_json.proofs.rules.rules_of.Goals as goal
+use Rattle.sk_profile_json.proofs.named.named_of.Goals as goal
 
 pub returns-in_err-push_entry-clause-fault : goal.returns-in_err-push_entry-clause-fault
 returns-in_err-push_entry-clause-fault c =
