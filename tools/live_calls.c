@@ -1,4 +1,5 @@
-/* live_calls: makes system calls under a filter, and tells what the kernel answered to each. It is used by check_calls.py.
+/* live_calls [apart]: makes system calls under a filter, and tells what the kernel answered to each. It is used by check_calls.py
+ * and by check_profiles.py.
  *
  * Standard input begins with the number of the filter's instructions and that of the calls, each of 32 bits, then has the
  * instructions as struct sock_filter, and then each call as a word of 32 bits, which is 1 for a call of i386 and 0 for one of
@@ -7,13 +8,18 @@
  * nothing performed the process under it can neither write nor end itself. So its answers stand in memory that is shared, and
  * an instruction without a meaning ends it.
  *
+ * With the word apart each call is made by a process of its own, under the filter as it is: a call that the filter allows is
+ * performed, and where one ends its process the line is "signal" and the number of the signal.
+ *
  * The status is 0, or 3 where the kernel takes no filter or no call of i386, which is told on standard error, or 2 for trouble. */
 #define _GNU_SOURCE
 #include <linux/filter.h>
 #include <linux/seccomp.h>
+#include <signal.h>
 #include <stdint.h>
 #include <stdio.h>
 #include <stdlib.h>
+#include <string.h>
 #include <sys/mman.h>
 #include <sys/prctl.h>
 #include <sys/syscall.h>
@@ -76,8 +82,36 @@ static void *given(size_t count, size_t size)
     return all;
 }
 
-int main(void)
+/* How a process under the filter that makes these calls ended. */
+static int ended(const struct sock_fprog *program, const struct call *calls, uint32_t count, struct answers *answers)
 {
+    int status;
+    pid_t child = fork();
+    if (child == 0)
+        under(program, calls, count, answers);
+    if (child < 0 || waitpid(child, &status, 0) != child) {
+        perror("live_calls");
+        exit(2);
+    }
+    return WIFSIGNALED(status) ? WTERMSIG(status) : 0;
+}
+
+/* Without i386 its instruction is a fault; a filter ends a process by SIGSYS. */
+static void told(const struct answers *answers, uint32_t count, int signal)
+{
+    if (answers->count != count && !(answers->attached && signal == SIGSYS)) {
+        fprintf(stderr, "live_calls: the kernel takes no %s\n", answers->attached ? "call of i386" : "filter");
+        exit(3);
+    }
+    for (uint32_t at = 0; at < answers->count; at++)
+        printf("%lld\n", (long long)answers->results[at]);
+    if (answers->count != count)
+        printf("signal %d\n", signal);
+}
+
+int main(int count, char **words)
+{
+    int is_apart = count > 1 && !strcmp(words[1], "apart");
     uint32_t *counts = given(2, sizeof *counts);
     struct sock_fprog program = {.len = counts[0], .filter = given(counts[0], sizeof(struct sock_filter))};
     struct call *calls = given(counts[1], sizeof *calls);
@@ -87,18 +121,10 @@ int main(void)
         perror("live_calls");
         return 2;
     }
-    pid_t child = fork();
-    if (child == 0)
-        under(&program, calls, counts[1], answers);
-    if (child < 0 || waitpid(child, NULL, 0) != child) {
-        perror("live_calls");
-        return 2;
+    uint32_t step = is_apart ? 1 : counts[1];
+    for (uint32_t at = 0; at < counts[1]; at += step) {
+        answers->attached = answers->count = 0;
+        told(answers, step, ended(&program, calls + at, step, answers));
     }
-    if (answers->count != counts[1]) {
-        fprintf(stderr, "live_calls: the kernel takes no %s\n", answers->attached ? "call of i386" : "filter");
-        return 3;
-    }
-    for (uint32_t at = 0; at < counts[1]; at++)
-        printf("%lld\n", (long long)answers->results[at]);
     return fflush(stdout) ? 2 : 0;
 }
