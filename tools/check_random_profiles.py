@@ -1,56 +1,73 @@
 #!/usr/bin/env python3
 """Compares the filters that `ask` makes of random profiles with what the profiles say, told a second time in Python.
 
-check_random_profiles.py [COUNT [SEED]]: makes so many profiles without contradictions, 1,000 where nothing is said, and runs
-the filter that `ask filter` writes of each, with --runc or without, on calls at the borders of what its rules compare. An entry that contradicts an
-earlier one is refused with both numbers and a call that fits both, and left out here: that is judged too, since the two have to
-say different things of that call. Prints each problem, and at last 'N passed, M failed'."""
+check_random_profiles.py [COUNT [SEED]]: makes so many profiles without contradictions, 1,000 where nothing is said, which list
+x32 and i386 beside x86-64 or do not, and runs the filter that `ask filter` writes of each, with --runc or --native or without,
+on calls of the three and of others, at the borders of what its rules compare. An entry that contradicts an earlier one is
+refused with both numbers and a call that fits both, and left out here: that is judged too, since the two have to say different
+things of that call. Prints each problem, and at last 'N passed, M failed'."""
 import random
 import re
 import subprocess
 import sys
 from concurrent.futures import ThreadPoolExecutor
 
-from check_calls import ARCHITECTURE, LIMIT, PROGRAM, instructions, judge, results, run
-from random_profiles import Profile, calls, profile
+sys.dont_write_bytecode = True
 
-OTHERS = "ask: -: x86-64's part alone: its other architectures have no filter here\n"
-CLASH = re.compile(r"ask: -: entries (\d+) and (\d+) of syscalls clash: both fit (\w+)\((.*)\), and they say different things\n")
+from check_calls import LIMIT, PROGRAM, instructions, judge, results, run
+from random_profiles import ACTIONS, NAMES, ONE_OF_SEVERAL, X86_64, Profile, Rule, calls, several
+
+OTHERS = "ask: -: x86-64's part alone: programs of its other architectures are killed\n"
+CLASH = re.compile(r"ask: -: entries (\d+) and (\d+) of syscalls clash: both fit (\w+)\((.*)\)(?: of ([\w-]+))?, and they say different things\n")
 
 
 def ask_filter(given: Profile) -> tuple[int, bytes, str]:
-    """The status, the filter, and what is told but for the note on x32."""
-    words = [PROGRAM, "filter", "--raw", *["--runc"] * given.runc, "-"]
+    """The status, the filter, and what is told but for the note that has to be there on other architectures."""
+    words = [PROGRAM, "filter", "--raw", *["--runc"] * given.runc, *["--native"] * given.native, "-"]
     ran = subprocess.run(words, input=given.text().encode(), capture_output=True, timeout=60, check=False)
     complaint = ran.stderr.decode(errors="replace")
-    is_noted = given.x32 and ran.returncode == 0 and complaint.startswith(OTHERS)
-    return ran.returncode, ran.stdout, complaint.removeprefix(OTHERS) if is_noted else complaint
+    if ran.returncode or not given.native or len(given.listed) == 1:
+        return ran.returncode, ran.stdout, complaint
+    return ran.returncode, ran.stdout, complaint.removeprefix(OTHERS) if complaint.startswith(OTHERS) else f"no note: {complaint}"
 
 
-def words_of(number: int, args: tuple[int, ...]) -> list[int]:
+def words_of(audit: int, number: int, args: tuple[int, ...]) -> list[int]:
     """The 32-bit words of struct seccomp_data."""
-    return [number, ARCHITECTURE, 0, 0, *(half for it in args for half in (it % LIMIT, it // LIMIT))]
+    return [number, audit, 0, 0, *(half for it in args for half in (it % LIMIT, it // LIMIT))]
 
 
-def problem_of_clash(given: Profile, first: int, second: int, name: str, args: tuple[int, ...]) -> str | None:
-    """What is wrong with a refusal that names these two entries and this call."""
+def value_of(given: Profile, it: Rule, name: str, architecture: str, args: tuple[int, ...]) -> int | None:
+    """What an entry says of a call, or none where the call does not fit it: the call is its own, or stands for it on i386."""
+    if it not in given.given():
+        return None
+    if it.name == name:
+        return ACTIONS[it.action] if all(asked.holds(args, architecture != X86_64) for asked in it.conditions) else None
+    call, at, mask = ONE_OF_SEVERAL.get(it.name, ("", 0, 0))
+    return given.unseen(it.name) if (call, at) == (name, args[0] & mask) else None
+
+
+def problem_of_clash(given: Profile, found: re.Match[str]) -> str | None:
+    """What is wrong with a refusal that names two entries and a call."""
+    first, second, name, architecture = int(found[1]), int(found[2]), found[3], found[5] or X86_64
     if not 0 < first < second <= len(given.rules):
         return f"entries {first} and {second} of {len(given.rules)}"
-    both = [given.rules[it - 1] for it in (first, second)]
-    fit = all(it.name == name and it in given.given() and all(asked.holds(args) for asked in it.conditions) for it in both)
-    return None if fit and both[0].action != both[1].action else f"{both[0]} and {both[1]} do not clash on {name}{args}"
+    if found[5] == X86_64 or architecture not in given.architectures() or name not in NAMES[architecture]:
+        return f"{name} of {found[5]}, and {given.architectures()} are listed"
+    args = tuple(int(it, 16) for it in found[4].split(", "))
+    said = [value_of(given, given.rules[it - 1], name, architecture, args) for it in (first, second)]
+    return None if None not in said and said[0] != said[1] else f"{given.text()}: no clash: {found[0]}"
 
 
 def check_profile(number: int, seed: int) -> list[str]:
     """What is wrong with the filter of a random profile, without the entries that contradict an earlier one."""
     dice = random.Random(f"{seed} {number}")
-    given = profile(dice)._replace(runc=dice.random() < 0.5, x32=dice.random() < 0.3)
+    given = several(dice)
     while True:
         status, image, complaint = ask_filter(given)
         clash = CLASH.fullmatch(complaint)
         if not clash or status != 2 or image:
             break
-        problem = problem_of_clash(given, int(clash[1]), int(clash[2]), clash[3], tuple(int(it, 16) for it in clash[4].split(", ")))
+        problem = problem_of_clash(given, clash)
         if problem:
             return [problem]
         at = int(clash[2]) - 1
@@ -58,10 +75,11 @@ def check_profile(number: int, seed: int) -> list[str]:
     if (status, complaint) != (0, ""):
         return [f"{given.text()}: status {status}: {complaint}"]
     program = instructions(image.hex())
-    answers = ((nr, args, run(program, words_of(nr, args))[0]) for nr, args in calls(given, dice))
+    answers = ((it, run(program, words_of(*it))[0]) for it in calls(given, dice))
+    words = " ".join(["--runc"] * given.runc + ["--native"] * given.native)
     return [
-        f"{given.text()}: of {nr} {args} it says {given.says(nr, args):#x}, and the filter {found:#x}"
-        for nr, args, found in answers if found != given.says(nr, args)
+        f"{given.text()} {words}: of {audit:#x} {nr:#x} {args} it says {given.says(audit, nr, args):#x}, and the filter {found:#x}"
+        for (audit, nr, args), found in answers if found != given.says(audit, nr, args)
     ]
 
 
