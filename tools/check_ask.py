@@ -134,6 +134,12 @@ FILES = {
     "profile_long": profile(*[entry("read", "SCMP_ACT_LOG", args=[argument(0, it << 32)]) for it in range(1000)]),
     "profile_runc": profile(entry("getpid"), default="SCMP_ACT_ERRNO", architectures=["SCMP_ARCH_X86_64"]),
     "profile_x32": profile(entry("getpid"), default="SCMP_ACT_ERRNO", architectures=["SCMP_ARCH_X86_64", "SCMP_ARCH_X32"]),
+    "profile_i386": profile(entry("getpid"), entry("chown32", "SCMP_ACT_LOG"), default="SCMP_ACT_ERRNO", architectures=["SCMP_ARCH_X86_64", "SCMP_ARCH_X86"]),
+    "profile_arm": profile(entry("getpid"), entry("set_tls", includes={"arches": ["arm64"]}), default="SCMP_ACT_ERRNO", archMap=[
+        {"architecture": "SCMP_ARCH_AARCH64", "subArchitectures": ["SCMP_ARCH_ARM"]}]),
+    "profile_ipc": profile(entry("semget"), entry("semop", args=[argument(1, 1)]), default="SCMP_ACT_ERRNO", architectures=["SCMP_ARCH_X86_64", "SCMP_ARCH_X86"]),
+    "profile_several": profile(entry("ipc", "SCMP_ACT_LOG", args=[argument(1, 7)]), entry("semget", "SCMP_ACT_ERRNO"),
+                               architectures=["SCMP_ARCH_X86_64", "SCMP_ARCH_X86"]),
     "profile_mapped": profile(entry("getpid"), default="SCMP_ACT_TRAP", archMap=[{"architecture": "SCMP_ARCH_X86_64"}]),
     **{f"profile_{it}": profile(entry("getpid"), default=f"SCMP_ACT_{it.upper()}", architectures=["SCMP_ARCH_X86_64"]) for it in (
         "log", "trace")},
@@ -295,7 +301,7 @@ ARCHITECTURES = [
     good("ask calls --arch i386 --call getuid32 raw", "199 getuid32 allow\n"),
 ]
 NOTE = "ask: profile_noted: entry 2 of syscalls: no call is named opennat: passed over\n"
-NO_X32 = "ask: profile_x32: x86-64's part alone: its other architectures have no filter here\n"
+OTHERS = "x86-64's part alone: programs of its other architectures are killed"
 PROFILES = [
     *[good(f"ask calls --call getpid {name}", GOT) for name in ("profile", "profile_blank", "- < profile", "/dev/stdin < profile", "<(cat profile)")],
     good("cat profile | ask calls --call getpid -", GOT), good("cat profile | ask calls --call getpid /dev/stdin", GOT),
@@ -310,8 +316,29 @@ PROFILES = [
         (38, "setitimer errno/1 EPERM"), (39, "getpid allow"), (40, "sendfile errno/38 ENOSYS"), (1073741823, "- errno/38 ENOSYS"),
         (1073741824, "- kill_thread"), (2147483647, "- kill_thread"), (2147483648, "- errno/38 ENOSYS"), (3221225471, "- errno/38 ENOSYS"),
         (3221225472, "- kill_thread"), (4294967294, "- kill_thread"), (4294967295, "- errno/1 EPERM"))],
-    *[Row(f"ask calls --runc --call {nr} profile_x32", 0, NO_X32, f"{nr} {told}\n") for nr, told in (
-        (40, "sendfile errno/38 ENOSYS"), (1073741824, "- kill_thread"), (4294967294, "- kill_thread"), (4294967295, "- errno/38 ENOSYS"))],
+    *[good(f"ask calls --runc --call {nr} profile_x32", f"{nr} {told}\n") for nr, told in (
+        (40, "sendfile errno/38 ENOSYS"), (1073741824, "- errno/1 EPERM"), (1073741863, "- allow"), (1073741864, "- errno/38 ENOSYS"),
+        (2147483648, "- errno/38 ENOSYS"), (4294967294, "- errno/38 ENOSYS"), (4294967295, "- errno/38 ENOSYS"))],
+    *[good(f"ask calls --call {nr} profile_x32", f"{nr} {told}\n") for nr, told in (
+        (1073741824, "- errno/1 EPERM"), (1073741863, "- allow"), (2147483648, "- errno/1 EPERM"), (4294967295, "- errno/1 EPERM"))],
+    *[Row(f"ask calls --native --call {nr} profile_x32", 0, f"ask: profile_x32: {OTHERS}\n", f"{nr} {told}\n") for nr, told in (
+        (39, "getpid allow"), (1073741824, "- kill_thread"), (1073741863, "- kill_thread"), (4294967295, "- errno/1 EPERM"))],
+    *[good(f"ask calls {words} --call {call} {name}", answer) for words, call, name, answer in (
+        ("--arch i386", "getpid", "profile_i386", "20 getpid allow\n"), ("--arch i386", "chown32", "profile_i386", "212 chown32 log\n"),
+        ("--arch i386", "mkdir", "profile_i386", "39 mkdir errno/1 EPERM\n"), ("--arch x32", "getpid", "profile_i386", "1073741863 getpid kill_thread\n"),
+        ("--machine x86-64 --arch aarch64", "getpid", "profile_i386", "172 getpid kill_thread\n"),
+        ("--arch i386", "getpid", "profile_runc", "20 getpid kill_thread\n"), ("--native", "getpid", "profile_runc", "39 getpid allow\n"),
+        ("--arch aarch64", "getpid", "profile_arm", "172 getpid allow\n"), ("--arch arm", "getpid", "profile_arm", "20 getpid allow\n"),
+        ("--arch arm", "set_tls", "profile_arm", "983045 set_tls allow\n"), ("", "getpid", "profile_arm", "39 getpid allow\n"),
+        ("--machine riscv64 --arch riscv64", "getpid", "profile_arm", "172 getpid allow\n"),
+        ("--machine aarch64 --arch arm --runc", "983046", "profile_arm", "983046 get_tls errno/38 ENOSYS\n"))],
+    Row("ask calls --native --arch i386 --call getpid profile_i386", 0, f"ask: profile_i386: {OTHERS}\n", "20 getpid kill_thread\n"),
+    Row("ask filter --native profile_i386 profile_x32 | wc -l", 0, f"ask: profile_i386: {OTHERS}\nask: profile_x32: {OTHERS}\n", "2\n"),
+    *[good(f"ask why --arch i386 'ipc({given})' profile_ipc | tail -n 1 | cut -d' ' -f 1,2", told) for given, told in (
+        ("2", "allow by\n"), ("0x10002", "allow by\n"), ("3", "errno/1 EPERM\n"), ("1, 1", "errno/1 EPERM\n"))],
+    trouble("ask calls profile_several", "profile_several: entries 1 and 2 of syscalls clash: both fit ipc(0x2, 0x7, 0x0, 0x0, 0x0, 0x0) of i386, "
+            "and they say different things"),
+    Row("ask calls --native --call semget profile_several", 0, f"ask: profile_several: {OTHERS}\n", "64 semget errno/1 EPERM\n"),
     *[good(f"ask calls {asking}", f"40 sendfile {told}\n") for asking, told in (
         ("--call 40 profile_runc", "errno/1 EPERM"), ("--runc --call 40 profile_mapped", "errno/38 ENOSYS"),
         ("--runc --call 40 profile_log", "log"), ("--runc --call 40 profile_trace", "trace/1"), ("--runc --call 40 profile_unlisted", "errno/1 EPERM"),
@@ -442,6 +469,10 @@ WORDS = [
     trouble("ask calls --call \"$(printf 'a\\nb')\" raw", "no call is named a?b"),
     *[trouble(f"ask {word} raw --cap", f"{word}: expected a name behind --cap") for word in ("calls", "filter", "when", "diff", "replay", "why", "show", "arches")],
     *[trouble(f"ask {word} raw --kernel", f"{word}: expected a version as 6.1 behind --kernel") for word in ("calls", "diff", "replay", "why", "show")],
+    *[trouble(f"ask {word} raw --machine", f"{word}: expected a name behind --machine") for word in ("calls", "filter", "when", "diff", "arches")],
+    *[trouble(f"ask calls --machine '{name}' raw", f"calls: no machine is named {name}") for name in ("x32", "i386", "arm", "amd64", "", "vax")],
+    trouble("ask calls --machine aarch64 --machine aarch64 raw", "calls: given twice: --machine"),
+    trouble("ask calls --native=1 raw", "calls: no option is named --native=1"),
     *[trouble(f"ask calls --cap '{name}' raw", f"calls: no capability is named {name}") for name in (
         "CAP_FOO", "", "CAP_", "CAP", "DOCKER", "All", "none", "sys admin", "CAP_CAP_KILL", "kill ", "--kernel", "0", "raw")],
     *[trouble(f"ask calls --kernel '{version}' raw", "calls: expected a version as 6.1 behind --kernel") for version in (
