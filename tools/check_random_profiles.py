@@ -5,7 +5,8 @@ check_random_profiles.py [COUNT [SEED]]: makes so many profiles without contradi
 x32 and i386 beside x86-64 or do not, and runs the filter that `ask filter` writes of each, with --runc or --native or without,
 on calls of the three and of others, at the borders of what its rules compare. An entry that contradicts an earlier one is
 refused with both numbers and a call that fits both, and left out here: that is judged too, since the two have to say different
-things of that call. Prints each problem, and at last 'N passed, M failed'."""
+things of that call. The numbers of calls that the telling goes by have to be those of the tables, which check_call_names.py
+compares with the headers of Linux. Prints each problem, and at last 'N passed, M failed'."""
 import random
 import re
 import subprocess
@@ -14,8 +15,9 @@ from concurrent.futures import ThreadPoolExecutor
 
 sys.dont_write_bytecode = True
 
+from call_tables import TOP, calls_of_table, read
 from check_calls import LIMIT, PROGRAM, instructions, judge, results, run
-from random_profiles import ACTIONS, NAMES, ONE_OF_SEVERAL, X86_64, Profile, Rule, calls, several
+from random_profiles import ACTIONS, FIRST_X32, NAMES, NUMBERS, ONE_OF_SEVERAL, X32, X86_64, Profile, Rule, calls, several
 
 OTHERS = "ask: -: x86-64's part alone: programs of its other architectures are killed\n"
 CLASH = re.compile(r"ask: -: entries (\d+) and (\d+) of syscalls clash: both fit (\w+)\((.*)\)(?: of ([\w-]+))?, and they say different things\n")
@@ -83,8 +85,20 @@ def check_profile(number: int, seed: int) -> list[str]:
     ]
 
 
+def number_problems(architecture: str) -> list[str]:
+    """Names whose number here is not that of the table, or that only the table has."""
+    if architecture == X86_64:
+        rows = [line.split() for line in read(TOP / "examples/calls").splitlines()]
+        table = {name: int(number) for number, name in rows}
+    else:
+        table = {name: number | FIRST_X32 * (architecture == X32) for number, name in calls_of_table(architecture).items()}
+    return [f"{it}: {NAMES[architecture].get(it)} here, {table.get(it)} in the table" for it in NUMBERS if NAMES[architecture].get(it) != table.get(it)]
+
+
 def main(words: list[str]) -> int:
     count, seed = map(int, [*words, *("1000", "1")[len(words):]])
+    for it in NAMES:
+        judge(number_problems(it), f"numbers of {it}")
     with ThreadPoolExecutor() as lanes:
         for number, problems in enumerate(lanes.map(check_profile, range(count), [seed] * count)):
             judge(problems, f"random profile {number}")

@@ -98,6 +98,9 @@ MADE = [
     Row("tools/libseccomp_filters $room $room/none.json", 2, r"libseccomp_filters: .*\n", ""),
     Row("tools/libseccomp_filters $room gate", 2, r"libseccomp_filters: .*\n", ""),
     Row("echo [1] > $room/list.json; tools/libseccomp_filters $room $room/list.json", 2, r"libseccomp_filters: .*\n", ""),
+    Row("tools/libseccomp_filters --native $room $room/none.json", 2, r"libseccomp_filters: .*\n", ""),
+    Row("tools/libseccomp_filters --machine s390x $room examples/profiles/service.json", 2, r"(libseccomp_filters|usage): [\s\S]*\n", ""),
+    Row("tools/filter_sizes.py $room $room/none.json", 2, r"filter_sizes.py: .*\n", ""),
 ]
 # What compares tables with headers: where there are none, and where these say something else.
 COMPARED = [

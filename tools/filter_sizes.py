@@ -103,11 +103,12 @@ def main(words: list[str]) -> int:
     if len(words) < 2:
         print(__doc__, file=sys.stderr)
         return 2
-    print("| Profile | Filter | Instructions | x86-64 | x32 | i386 |\n|---|---|---|---|---|---|")
+    lines = []
     for path in words[1:]:
+        name = os.path.basename(path).removesuffix(".json")
         for what, program in rows(words[0], path):
-            name = os.path.basename(path).removesuffix(".json")
-            print(f"| {name} | {what} | {len(program)} | {' | '.join(cell(program, it) for it in AUDIT)} |")
+            lines.append(f"| {name} | {what} | {len(program)} | {' | '.join(cell(program, it) for it in AUDIT)} |\n")
+    print("| Profile | Filter | Instructions | x86-64 | x32 | i386 |\n|---|---|---|---|---|---|\n" + "".join(lines), end="")
     return 0
 
 
