@@ -9,8 +9,8 @@ does not, NAME-CAPS-FORM.hex with --native, and without it where the profile lis
 but, with --native, that the profile lists other architectures too. Where the filters of two sets of capabilities differ, `ask
 diff` has to show a call. The filter that `ask filter` writes has to be the same as the profile, as lines and as raw bytes, and
 with itself as one chain. The filters of examples/profiles/runc, with its name, have to be the same with --runc, and not without
-it. And calls of x86-64, x32 and i386 are made under the filter of a profile that lists all three: Linux has to answer to each
-as `ask replay` says, where it takes them.
+it where the default is another answer than runc's. And calls of x86-64, x32 and i386 are made under the filter of a profile that
+lists all three: Linux has to answer to each as `ask replay` says, where it takes them.
 
 tools/libseccomp_filters made the first, and `examples/attached runc run` showed the others. Prints each problem, and at last 'N
 passed, M failed'."""
@@ -50,7 +50,7 @@ GETPID = {"i386": 20, "x86-64": 39}
 
 
 class Said(NamedTuple):
-    """What is asked: words before the files, a filter of another, and whose it is."""
+    """A question: what it is about, the words before the files, and the filter that is held beside the profile."""
 
     what: str
     words: list[str]
@@ -75,10 +75,20 @@ def options_of(caps: str) -> list[str]:
     return KERNEL if caps == "none" else ["--cap", caps, *KERNEL]
 
 
+def document_of(profile: str) -> dict:
+    with open(profile, encoding="utf-8") as file:
+        return json.load(file)
+
+
+def says_enosys(profile: str) -> bool:
+    """Whether the profile says by default what runc says: then nothing tells whose answer it is."""
+    document = document_of(profile)
+    return document["defaultAction"] == "SCMP_ACT_ERRNO" and document.get("defaultErrnoRet") == 38
+
+
 def lists_others(profile: str) -> bool:
     """Whether the profile lists x32 or i386 for x86-64."""
-    with open(profile, encoding="utf-8") as file:
-        document = json.load(file)
+    document = document_of(profile)
     maps = (it.get("subArchitectures") or [] for it in document.get("archMap") or [] if it["architecture"] == OWN)
     return bool(BESIDE & {*(document.get("architectures") or []), *(it for listed in maps for it in listed)})
 
@@ -125,8 +135,9 @@ def check_runc(profile: str) -> Iterator[tuple[str, object]]:
         for pair in ((profile, it.path), (it.path, profile)):
             said = diff("--runc", *it.words, *pair)
             yield it.what, None if said == SAME else said
-        said = diff(*it.words, profile, it.path)
-        yield f"{it.what} without --runc", None if said[0] == 1 and " -> errno/38 ENOSYS\n" in said[1] else said
+        if not says_enosys(profile):
+            said = diff(*it.words, profile, it.path)
+            yield f"{it.what} without --runc", None if said[0] == 1 and " -> errno/38 ENOSYS\n" in said[1] else said
 
 
 def check_capabilities(profile: str, folder: str) -> Iterator[tuple[str, object]]:

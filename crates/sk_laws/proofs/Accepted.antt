@@ -1,7 +1,6 @@
 -- Every filter in force was accepted by the rules.
 use Rattle.std.proofs.Common.{◌≡◌, ℕ, ◌+◌, ◌==◌, arith, sym, refl, subst, cond, Bool, true, false, nat_lt, length, IsTrue, List, [], ◌∷◌, Option, None, Some, IfSome}
-use Rattle.sk_laws.specs.Common.{Proc, is_some, option_map, Insn, Record, first_fault, cost_of, StepsAreBounded, AllValid, INIT, none,
-    first_process, opening, at, Images, Authority, step_of, world_after, lineage_before, calls_added, authority_after_calls, authority_at}
+use Rattle.sk_laws.specs.Common.{Proc, is_some, option_map, Insn, Record, first_fault, cost_of, StepsAreBounded, AllValid, INIT, none, first_process, opening, at, Images, Authority, step_of, world_after, lineage_before, calls_added, authority_after_calls, authority_at}
 use Rattle.sk_world.proofs.Common.{true≢false, ltb-false}
 use Rattle.sk_filter.specs.declared.fault.CheckFault.{CheckFault}
 use Rattle.sk_filter.proofs.FirstFaults.{first_fault-None}

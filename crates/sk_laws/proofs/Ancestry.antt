@@ -1,8 +1,7 @@
 -- Who the children of a process go to, as an ancestor so many steps up.
 use Rattle.std.proofs.Common.{◌≡◌, ◌∙◌, ◌<◌, ℕ, zero, suc, arith, ap, sym, refl, Bool, true, false, cond, [], ◌∷◌, ◌⊎◌, inl, inr, IsTrue, Option, None, Some}
 use Rattle.std.specs.Prelude.{find}
-use Rattle.sk_laws.specs.Common.{is_some, unwrap_or, INIT, PROCESSES, Proc, World, at, parent_of, IsWorld, is_subreaper, line_up, ancestors,
-    takes_children, new_parent}
+use Rattle.sk_laws.specs.Common.{is_some, unwrap_or, INIT, PROCESSES, Proc, World, at, parent_of, IsWorld, is_subreaper, line_up, ancestors, takes_children, new_parent}
 use Rattle.sk_world.proofs.Common.{false≢true, and_parts}
 use Rattle.sk_world.proofs.Ancestors.{found_or, new_parent_by, new_parent_other, new_parent_alive, subreaper_there, zero_is_nobody}
 use Rattle.sk_laws.specs.ReaperLaws.{ancestor, NewParentLives, WithoutSubreapers, NearestSubreaper, NewParentIsAncestor}

@@ -1,7 +1,6 @@
 -- One SIGCHLD for all the zombies that are handed on.
 use Rattle.std.proofs.Common.{◌≡◌, ◌∙◌, ℕ, ap, sym, refl, Bool, true, false, cond, not, ◌&&◌, ◌||◌, List, [], ◌∷◌, map, filter}
-use Rattle.sk_laws.specs.Common.{list_any, SIGCHLD, pids, World, at, is_zombie, is_child_of, sent, sent_to_each, new_parent,
-    with_children_handed_on, has_zombie_child}
+use Rattle.sk_laws.specs.Common.{list_any, SIGCHLD, pids, World, at, is_zombie, is_child_of, sent, sent_to_each, new_parent, with_children_handed_on, has_zombie_child}
 use Rattle.sk_laws.specs.ChangeLaws.{EachZombieIsAnnounced}
 use Rattle.sk_laws.proofs.Locality.{not_queued}
 

@@ -1,7 +1,6 @@
 -- Who comes from whom, with which authority.
 use Rattle.std.proofs.Common.{◌≡◌, ◌∙◌, ℕ, ap, sym, refl, subst, Option, None, Some}
-use Rattle.sk_laws.specs.Common.{is_some, unwrap_or, option_map, Links, Body, Proc, Poll, World, at, body_changed, changed, links_changed,
-    relinked, sent, ended, told, Authority, authority_of}
+use Rattle.sk_laws.specs.Common.{is_some, unwrap_or, option_map, Links, Body, Proc, Poll, World, at, body_changed, changed, links_changed, relinked, sent, ended, told, Authority, authority_of}
 use Rattle.sk_world.proofs.Common.{false≢true}
 use Rattle.sk_laws.specs.ChangeLaws.{StaysInRights, KeepsRights}
 use Rattle.sk_world.proofs.Stored.{everywhere, at_here}

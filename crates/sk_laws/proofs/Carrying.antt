@@ -1,14 +1,7 @@
 -- What holds of each process through signals, ends and waits, and links and notes, holds through every call that does no more.
 use Rattle.std.proofs.Common.{◌≡◌, ◌∙◌, ℕ, ℤ, ◌==◌, ◌&&◌, ap, refl, not, length, nat_le, IsTrue, IfOk, List, [], ◌∷◌, Option, None, Some, Result, Ok, Err}
 use Rattle.std.specs.Prelude.{filter}
-use Rattle.sk_laws.specs.Common.{is_some, option_map, is_negative, Record, Errno, Eperm, Esrch, Einval, SIGHUP, SIGKILL, SIGSEGV, SIGCHLD,
-    SIGCONT, SIGSYS, FRAMES, DefaultAction, Disposition, Signals, default_action, is_tty_stop, SignalState, disposition_of, INIT, Links,
-    Body, Proc, Waiting, Request, Poll, pids, World, at, parent_of, body_changed, changed, relinked, sent, sent_to_each, ended, is_no_hang,
-    ready_of, told, is_living_member, is_orphaned, is_left_orphaned, groups, sent_to_group, hung_up, each_hung_up, ended_and_hung_up,
-    group_of, pid_named, is_group, links_in_group, links_of_leader, may_regroup, put_into_group, regrouped, after_setpgid, after_setsid,
-    unsigned, authority_of, Performed, returns, fails, asked, changes, waiting_in, waits, with_signals, resignals, targets, permitted,
-    killed, after_kill, are_wait_options, request_of, polled, wait4, polled_again, resumed, Delivered, terminated_by, in_handler,
-    enters_handler, stopping, ignored, acts_by_default, acts_by_disposition, taking, acted_on, delivered, stopped_by, Creds}
+use Rattle.sk_laws.specs.Common.{is_some, option_map, is_negative, Record, Errno, Eperm, Esrch, Einval, SIGHUP, SIGKILL, SIGSEGV, SIGCHLD, SIGCONT, SIGSYS, FRAMES, DefaultAction, Disposition, Signals, default_action, is_tty_stop, SignalState, disposition_of, INIT, Links, Body, Proc, Waiting, Request, Poll, pids, World, at, parent_of, body_changed, changed, relinked, sent, sent_to_each, ended, is_no_hang, ready_of, told, is_living_member, is_orphaned, is_left_orphaned, groups, sent_to_group, hung_up, each_hung_up, ended_and_hung_up, group_of, pid_named, is_group, links_in_group, links_of_leader, may_regroup, put_into_group, regrouped, after_setpgid, after_setsid, unsigned, authority_of, Performed, returns, fails, asked, changes, waiting_in, waits, with_signals, resignals, targets, permitted, killed, after_kill, are_wait_options, request_of, polled, wait4, polled_again, resumed, Delivered, terminated_by, in_handler, enters_handler, stopping, ignored, acts_by_default, acts_by_disposition, taking, acted_on, delivered, stopped_by, Creds}
 use Rattle.sk_world.proofs.Common.{cond_both}
 use Rattle.sk_world.specs.declared.disposition.DefaultAction.TheVariants as default
 use Rattle.sk_world.proofs.Stored.{at_here}

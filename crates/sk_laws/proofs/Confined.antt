@@ -1,22 +1,8 @@
 -- What an event leaves of a process that it is not meant to touch.
 use Rattle.std.proofs.Common.{◌≡◌, ◌≢◌, ◌∙◌, ℕ, ℤ, ◌==◌, ◌&&◌, ◌||◌, arith, ap, sym, refl, subst, cond, not, Bool, true, false, length, IsTrue, List, [], ◌∷◌, ◌++◌, Option, None, Some, Result, Ok, Err, IfSome}
 use Rattle.std.specs.Prelude.{filter}
-use Rattle.sk_laws.specs.Common.{is_some, option_map, option_and_then, list_all, result_and, is_negative, Record, IsNative, Action,
-    action_of, performs, verdict_of, Errno, Eperm, Esrch, Eagain, Eacces, Einval, SIGHUP, SIGKILL, SIGSEGV, SIGCHLD, SIGCONT, SIGSYS,
-    FRAMES, DefaultAction, Disposition, Signals, default_action, is_tty_stop, SignalState, disposition_of, INIT, Body, Proc, Waiting,
-    Request, Poll, World, at, is_alive, is_child_of, is_member_of, is_stopped, parent_of, stored, body_changed, changed, relinked, IsWorld,
-    fresh_of, has_room, forked, signalled, generated_at, sent, sent_to_each, new_parent, ignores_children, handed_on,
-    with_children_handed_on, has_zombie_child, reparented, zombie, left_to_parent, ended, is_no_hang, is_match, status_of, ready_of, told,
-    PROCESSES, count, pids, is_living_member, is_orphaned, has_stopped_member, is_left_orphaned, groups, sent_to_group, hung_up,
-    each_hung_up, ended_and_hung_up, group_of, pid_named, session_of, has_executed, is_group, is_group_of_session, links_in_group,
-    links_of_leader, may_move_child, may_join, put_into_group, regrouped, after_setpgid, after_setsid, Event, Call, Deliver, Resume, Fault,
-    Syscall, pid_of, recorded, Images, syscall_of, register, unsigned, signed, Authority, with_authority, Performed, returns, fails, asked,
-    changes, authorises, waiting_in, waits, with_signals, resignals, are_wait_options, request_of, polled, wait4, polled_again, resumed,
-    executing, execve, forks, subreaper_set, subreaper_asked, where_subreapers, with_subreaper, row, Delivered, signal_for, terminated_by,
-    in_handler, enters_handler, stopping, ignored, acts_by_default, acts_by_disposition, taking, acted_on, delivered, stopped_by, Stepped,
-    judged, happened}
-use Rattle.sk_world.proofs.Common.{ints, false≢true, cond_both, eqb-true, eq-eqb, ne_eqb, not-false, and_parts, and_from, eqb-false,
-    false_from_ne_true, ltb-true}
+use Rattle.sk_laws.specs.Common.{is_some, option_map, option_and_then, list_all, result_and, is_negative, Record, IsNative, Action, action_of, performs, verdict_of, Errno, Eperm, Esrch, Eagain, Eacces, Einval, SIGHUP, SIGKILL, SIGSEGV, SIGCHLD, SIGCONT, SIGSYS, FRAMES, DefaultAction, Disposition, Signals, default_action, is_tty_stop, SignalState, disposition_of, INIT, Body, Proc, Waiting, Request, Poll, World, at, is_alive, is_child_of, is_member_of, is_stopped, parent_of, stored, body_changed, changed, relinked, IsWorld, fresh_of, has_room, forked, signalled, generated_at, sent, sent_to_each, new_parent, ignores_children, handed_on, with_children_handed_on, has_zombie_child, reparented, zombie, left_to_parent, ended, is_no_hang, is_match, status_of, ready_of, told, PROCESSES, count, pids, is_living_member, is_orphaned, has_stopped_member, is_left_orphaned, groups, sent_to_group, hung_up, each_hung_up, ended_and_hung_up, group_of, pid_named, session_of, has_executed, is_group, is_group_of_session, links_in_group, links_of_leader, may_move_child, may_join, put_into_group, regrouped, after_setpgid, after_setsid, Event, Call, Deliver, Resume, Fault, Syscall, pid_of, recorded, Images, syscall_of, register, unsigned, signed, Authority, with_authority, Performed, returns, fails, asked, changes, authorises, waiting_in, waits, with_signals, resignals, are_wait_options, request_of, polled, wait4, polled_again, resumed, executing, execve, forks, subreaper_set, subreaper_asked, where_subreapers, with_subreaper, row, Delivered, signal_for, terminated_by, in_handler, enters_handler, stopping, ignored, acts_by_default, acts_by_disposition, taking, acted_on, delivered, stopped_by, Stepped, judged, happened}
+use Rattle.sk_world.proofs.Common.{ints, false≢true, cond_both, eqb-true, eq-eqb, ne_eqb, not-false, and_parts, and_from, eqb-false, false_from_ne_true, ltb-true}
 use Rattle.sk_world.specs.declared.disposition.DefaultAction.TheVariants as default
 use Rattle.sk_world.proofs.Stored.{everywhere, at_here, at_other}
 use Rattle.sk_world.proofs.KeptEnd.{handed_cases, handed_at}

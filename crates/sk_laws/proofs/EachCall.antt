@@ -1,11 +1,6 @@
 -- What a performed call comes to, by what it does, so that a law goes through a dozen cases and not through each call.
 use Rattle.std.specs.Prelude.{ℕ, Bool, true, false, Option, None, Some, Result, Ok, Err}
-use Rattle.sk_laws.specs.Common.{Record, Errno, Einval, Enosys, Signals, SignalState, Body, Waiting, World, at, parent_of, fork_answer,
-    group_of, after_setpgid, after_setsid, group_asked, session_asked, PrctlOption, SeccompOperation, Syscall, Images, unsigned, signed,
-    prctl_option_of, seccomp_operation_of, Authority, authority_of, after_prctl, after_seccomp, authority_after, Performed, asked, changes,
-    authorises, waits, resignals, after_sigaction, after_sigprocmask, after_sigreturn, after_kill, wait4, execve, forks, exit_status,
-    end_of_caller, ids, pending_signals, authorised, seccomp_mode, no_new_privs_asked, where_subreapers, subreaper_set, subreaper_asked,
-    prctl, action_available, seccomp, row}
+use Rattle.sk_laws.specs.Common.{Record, Errno, Einval, Enosys, Signals, SignalState, Body, Waiting, World, at, parent_of, fork_answer, group_of, after_setpgid, after_setsid, group_asked, session_asked, PrctlOption, SeccompOperation, Syscall, Images, unsigned, signed, prctl_option_of, seccomp_operation_of, Authority, authority_of, after_prctl, after_seccomp, authority_after, Performed, asked, changes, authorises, waits, resignals, after_sigaction, after_sigprocmask, after_sigreturn, after_kill, wait4, execve, forks, exit_status, end_of_caller, ids, pending_signals, authorised, seccomp_mode, no_new_privs_asked, where_subreapers, subreaper_set, subreaper_asked, prctl, action_available, seccomp, row}
 use Rattle.sk_machine.specs.declared.operation.PrctlOption.TheVariants as option
 use Rattle.sk_machine.specs.declared.operation.SeccompOperation.TheVariants as operation
 

@@ -1,10 +1,7 @@
 -- What holds of each change that performed calls make to what their caller may do, so that a law goes through four cases
 -- and not through each call.
 use Rattle.std.proofs.Common.{◌≡◌, ℕ, ◌+◌, ◌==◌, ◌&&◌, refl, not, true, false, nat_lt, length, IfOk, List, [], ◌∷◌, Option, None, Some, Result, Ok, Err}
-use Rattle.sk_laws.specs.Common.{is_some, result_unwrap_or, Insn, Record, first_fault, cost_of, Errno, Eperm, Enomem, Eacces, Einval, Creds,
-    Mark, PrctlOption, SeccompOperation, Syscall, Images, filter_image, mark_of, syscall_of, register, unsigned, prctl_option_of,
-    seccomp_operation_of, Authority, filter_of, filtered, after_attach, with_creds, after_execve, after_no_new_privs, after_set_seccomp,
-    after_prctl, after_seccomp, authority_after, authority_after_call, authority_after_calls}
+use Rattle.sk_laws.specs.Common.{is_some, result_unwrap_or, Insn, Record, first_fault, cost_of, Errno, Eperm, Enomem, Eacces, Einval, Creds, Mark, PrctlOption, SeccompOperation, Syscall, Images, filter_image, mark_of, syscall_of, register, unsigned, prctl_option_of, seccomp_operation_of, Authority, filter_of, filtered, after_attach, with_creds, after_execve, after_no_new_privs, after_set_seccomp, after_prctl, after_seccomp, authority_after, authority_after_call, authority_after_calls}
 use Rattle.sk_world.proofs.Common.{cond_both}
 use Rattle.sk_world.specs.declared.creds.TheConstants.{NO_ID}
 use Rattle.sk_world.specs.Creds.{is_privileged, is_real_or_saved, may_take, after_setuid, after_setresuid}

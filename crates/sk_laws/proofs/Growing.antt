@@ -1,8 +1,6 @@
 -- A lineage keeps its filters, and its verdicts are theirs.
 use Rattle.std.proofs.Common.{◌≡◌, ◌∙◌, ℕ, ◌==◌, ℤ, ◌≤ℤ◌, inl, inr, arith, slice_get, ap, sym, refl, subst, true, append_assoc, IsTrue, List, [], ◌∷◌, ◌++◌, Option, None, Some}
-use Rattle.sk_laws.specs.Common.{is_some, unwrap_or, option_map, cast_signed, w32, Record, Action, action_of, action_part, performs,
-    values_of, first_of, verdict_of, IsAtMost, precedence_of, World, at, Event, Answer, Outcome, recorded, Images, Authority, step_of,
-    world_after, Stepped, Lineage, authority_after_calls, authority_of_lineage, authority_at}
+use Rattle.sk_laws.specs.Common.{is_some, unwrap_or, option_map, cast_signed, w32, Record, Action, action_of, action_part, performs, values_of, first_of, verdict_of, IsAtMost, precedence_of, World, at, Event, Answer, Outcome, recorded, Images, Authority, step_of, world_after, Stepped, Lineage, authority_after_calls, authority_of_lineage, authority_at}
 use Rattle.sk_world.proofs.Common.{ints, false≢true, cond_both, eqb-true}
 use Rattle.sk_filter.proofs.Verdicts.{first_of-least}
 use Rattle.sk_names.specs.declared.call.Call.{Call}

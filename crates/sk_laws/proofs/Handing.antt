@@ -1,9 +1,6 @@
 -- What becomes of the children of a process that ends, and of itself.
 use Rattle.std.proofs.Common.{◌≡◌, ◌≢◌, ◌∙◌, ◌==◌, ℕ, ap, sym, refl, Bool, true, false, cond, not, ◌&&◌, inl, inr, IsTrue, Option, None, Some}
-use Rattle.sk_laws.specs.Common.{is_some, option_map, option_and_then, SIGCHLD, SIGCONT, is_handler, is_ignored, is_ignore, SignalState,
-    disposition_of, left_pending, generated, INIT, Running, Continued, Body, Proc, World, at, has_ended, has_stopped, is_stopped, is_alive,
-    parent_of, stored, body_changed, changed, continued, signalled, generated_at, sent, new_parent, ignores_children, handed_on,
-    with_children_handed_on, has_zombie_child, reparented, zombie, left_to_parent}
+use Rattle.sk_laws.specs.Common.{is_some, option_map, option_and_then, SIGCHLD, SIGCONT, is_handler, is_ignored, is_ignore, SignalState, disposition_of, left_pending, generated, INIT, Running, Continued, Body, Proc, World, at, has_ended, has_stopped, is_stopped, is_alive, parent_of, stored, body_changed, changed, continued, signalled, generated_at, sent, new_parent, ignores_children, handed_on, with_children_handed_on, has_zombie_child, reparented, zombie, left_to_parent}
 use Rattle.sk_world.proofs.Common.{false≢true, eq-eqb, not-true, cond_both}
 use Rattle.sk_world.specs.Sets as set
 use Rattle.sk_laws.specs.ChangeLaws.{EndHandsChildrenOn, EndLeavesZombie}

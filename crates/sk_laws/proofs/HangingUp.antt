@@ -1,8 +1,6 @@
 -- What it leaves of the world that groups are hung up.
 use Rattle.std.proofs.Common.{◌≡◌, ◌∙◌, ◌==◌, ℕ, ap, refl, Bool, true, false, not, ◌&&◌, filter, IsTrue, Option, None, Some}
-use Rattle.sk_laws.specs.Common.{option_map, SIGCHLD, SIGCONT, INIT, Proc, pids, World, at, has_ended, is_stopped, is_zombie, is_alive,
-    is_member_of, parent_of, body_changed, signalled, generated_at, sent, ended, is_orphaned, is_left_orphaned, groups, each_hung_up,
-    ended_and_hung_up}
+use Rattle.sk_laws.specs.Common.{option_map, SIGCHLD, SIGCONT, INIT, Proc, pids, World, at, has_ended, is_stopped, is_zombie, is_alive, is_member_of, parent_of, body_changed, signalled, generated_at, sent, ended, is_orphaned, is_left_orphaned, groups, each_hung_up, ended_and_hung_up}
 use Rattle.sk_world.proofs.Common.{cond_both, cond-true}
 use Rattle.sk_world.proofs.Stored.{everywhere}
 use Rattle.sk_world.proofs.Walks.{none_any, none_left}

@@ -1,8 +1,6 @@
 -- What a step comes to, by the process whose event it is.
 use Rattle.std.proofs.Common.{◌≡◌, ◌&&◌, ap, refl, cond, not, Bool, false, IsTrue, Option, None, Some, ℕ}
-use Rattle.sk_laws.specs.Common.{is_some, Proc, World, at, is_alive, is_halted, is_stopped, is_zombie, Event, Reason, NoProcess, Halted,
-    NothingWaits, pid_of, Images, Stepped, happened, is_due_delivery, own_reason, reason_of, not_now, happened_to, stepped, step_of,
-    signal_answered, delivery, Body, delivered}
+use Rattle.sk_laws.specs.Common.{is_some, Proc, World, at, is_alive, is_halted, is_stopped, is_zombie, Event, Reason, NoProcess, Halted, NothingWaits, pid_of, Images, Stepped, happened, is_due_delivery, own_reason, reason_of, not_now, happened_to, stepped, step_of, signal_answered, delivery, Body, delivered}
 use Rattle.sk_world.proofs.Common.{false≢true, cond_both, not-false}
 use Rattle.sk_world.proofs.KeptEnd.{alive_is_there}
 use Rattle.sk_machine.specs.declared.answer.Reason.TheVariants.{Zombie, Stopped}

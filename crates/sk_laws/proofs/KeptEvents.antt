@@ -1,16 +1,7 @@
 -- Every event keeps the rules of the world.
 use Rattle.std.proofs.Common.{◌≡◌, ◌≢◌, ◌∙◌, ℕ, ◌==◌, ◌&&◌, ap, sym, refl, subst, not, Bool, true, false, length, nat_le, IsTrue, IfOk, ℤ, List, [], ◌∷◌, ◌⊎◌, inl, inr, Option, None, Some, Result, Ok, Err}
 use Rattle.std.specs.Prelude.{filter}
-use Rattle.sk_laws.specs.Common.{option_map, Record, Action, action_of, verdict_of, Errno, Eperm, Esrch, Einval, SIGHUP, SIGKILL, SIGSEGV,
-    SIGCHLD, SIGCONT, SIGSYS, FRAMES, DefaultAction, Disposition, Signals, default_action, is_tty_stop, SignalState, disposition_of, INIT,
-    Body, Proc, Waiting, Request, Poll, pids, World, at, has_ended, has_stopped, is_alive, parent_of, body_changed, changed, opening,
-    IsWorld, fork_answer, sent, sent_to_each, is_no_hang, ready_of, told, ended, is_living_member, is_orphaned, is_left_orphaned, groups,
-    sent_to_group, hung_up, each_hung_up, ended_and_hung_up, group_of, Event, Call, Deliver, Resume, Fault, Syscall, pid_of, recorded,
-    Images, syscall_of, register, unsigned, signed, Authority, with_authority, Performed, returns, fails, asked, changes, authorises,
-    waiting_in, waits, with_signals, resignals, targets, permitted, killed, after_kill, are_wait_options, request_of, polled, wait4,
-    polled_again, executing, execve, forks, subreaper_set, subreaper_asked, where_subreapers, with_subreaper, row, Delivered, signal_for,
-    terminated_by, in_handler, enters_handler, stopping, stopped_by, ignored, acts_by_default, acts_by_disposition, taking, acted_on,
-    judged, happened, step_of, Creds}
+use Rattle.sk_laws.specs.Common.{option_map, Record, Action, action_of, verdict_of, Errno, Eperm, Esrch, Einval, SIGHUP, SIGKILL, SIGSEGV, SIGCHLD, SIGCONT, SIGSYS, FRAMES, DefaultAction, Disposition, Signals, default_action, is_tty_stop, SignalState, disposition_of, INIT, Body, Proc, Waiting, Request, Poll, pids, World, at, has_ended, has_stopped, is_alive, parent_of, body_changed, changed, opening, IsWorld, fork_answer, sent, sent_to_each, is_no_hang, ready_of, told, ended, is_living_member, is_orphaned, is_left_orphaned, groups, sent_to_group, hung_up, each_hung_up, ended_and_hung_up, group_of, Event, Call, Deliver, Resume, Fault, Syscall, pid_of, recorded, Images, syscall_of, register, unsigned, signed, Authority, with_authority, Performed, returns, fails, asked, changes, authorises, waiting_in, waits, with_signals, resignals, targets, permitted, killed, after_kill, are_wait_options, request_of, polled, wait4, polled_again, executing, execve, forks, subreaper_set, subreaper_asked, where_subreapers, with_subreaper, row, Delivered, signal_for, terminated_by, in_handler, enters_handler, stopping, stopped_by, ignored, acts_by_default, acts_by_disposition, taking, acted_on, judged, happened, step_of, Creds}
 use Rattle.sk_world.proofs.Common.{cond_both, eqb-true, eqb-false, not-true, not-false}
 use Rattle.sk_world.specs.declared.disposition.DefaultAction.TheVariants as default
 use Rattle.sk_world.proofs.Stored.{at_here, kept_changed}

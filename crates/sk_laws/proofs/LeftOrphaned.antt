@@ -1,10 +1,6 @@
 -- Which groups are orphaned after signals, and which had a stopped process before an end.
 use Rattle.std.proofs.Common.{◌≡◌, ◌≢◌, ◌∙◌, ◌==◌, ℕ, ap, sym, refl, subst, Bool, true, false, cond, not, ◌&&◌, IsTrue, Option, None, Some}
-use Rattle.sk_laws.specs.Common.{is_some, option_map, option_map_or, option_and_then, list_any, SIGCHLD, SIGCONT, generated, INIT, Running,
-    Continued, Links, Body, Proc, pids, World, at, has_ended, has_stopped, is_alive, is_stopped, is_member_of, parent_of, stored,
-    body_changed, changed, continued, signalled, generated_at, sent, new_parent, ignores_children, handed_on, with_children_handed_on,
-    has_zombie_child, reparented, zombie, left_to_parent, ended, session_of, is_living_member, is_outside, is_tie, is_orphaned,
-    has_stopped_member}
+use Rattle.sk_laws.specs.Common.{is_some, option_map, option_map_or, option_and_then, list_any, SIGCHLD, SIGCONT, generated, INIT, Running, Continued, Links, Body, Proc, pids, World, at, has_ended, has_stopped, is_alive, is_stopped, is_member_of, parent_of, stored, body_changed, changed, continued, signalled, generated_at, sent, new_parent, ignores_children, handed_on, with_children_handed_on, has_zombie_child, reparented, zombie, left_to_parent, ended, session_of, is_living_member, is_outside, is_tie, is_orphaned, has_stopped_member}
 use Rattle.sk_world.proofs.Common.{false≢true, cond_both, and_parts, and_from}
 use Rattle.sk_world.proofs.Stored.{everywhere}
 use Rattle.sk_world.proofs.KeptEnd.{ended_later, handed_cases, handed_at}

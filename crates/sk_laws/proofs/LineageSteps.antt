@@ -1,11 +1,6 @@
 -- What each event does to authorities, and that they are those of the lineages.
 use Rattle.std.proofs.Common.{◌≡◌, ◌∙◌, ℕ, ◌==◌, ◌&&◌, ap, sym, refl, subst, cond, not, Bool, true, false, IsTrue, List, [], ◌∷◌, ◌++◌, Option, None, Some, Result, Ok, Err}
-use Rattle.sk_laws.specs.Common.{is_some, unwrap_or, option_to_list, option_map, result_unwrap_or, Record, Action, action_of, performs,
-    verdict_of, Errno, Eagain, SIGSEGV, SIGSYS, INIT, Body, Proc, Waiting, none, World, at, is_alive, changed, first_process, opening,
-    fresh_of, has_room, forked, forced, Event, Call, Deliver, Resume, Fault, Syscall, pid_of, recorded, Images, syscall_of, register,
-    unsigned, signed, Authority, authority_of, with_authority, authority_after, Performed, authorises, executing, execve, forks,
-    subreaper_set, subreaper_asked, where_subreapers, with_subreaper, row, signal_for, Stepped, judged, happened, step_of, world_after,
-    Lineage, Happening, is_fork, has_returned, lineage_before, calls_added, lineage_of, authority_after_calls, history_after}
+use Rattle.sk_laws.specs.Common.{is_some, unwrap_or, option_to_list, option_map, result_unwrap_or, Record, Action, action_of, performs, verdict_of, Errno, Eagain, SIGSEGV, SIGSYS, INIT, Body, Proc, Waiting, none, World, at, is_alive, changed, first_process, opening, fresh_of, has_room, forked, forced, Event, Call, Deliver, Resume, Fault, Syscall, pid_of, recorded, Images, syscall_of, register, unsigned, signed, Authority, authority_of, with_authority, authority_after, Performed, authorises, executing, execve, forks, subreaper_set, subreaper_asked, where_subreapers, with_subreaper, row, signal_for, Stepped, judged, happened, step_of, world_after, Lineage, Happening, is_fork, has_returned, lineage_before, calls_added, lineage_of, authority_after_calls, history_after}
 use Rattle.sk_world.proofs.Common.{false≢true, cond_both, and_parts, eqb-true, eqb-false, false_from_ne_true}
 use Rattle.sk_world.proofs.Stored.{everywhere, at_other}
 use Rattle.sk_laws.proofs.Rights.{forced_rights, forked_rights}

@@ -1,9 +1,6 @@
 -- Whom a change of the world touches, and what a signal leaves of every process.
 use Rattle.std.proofs.Common.{◌≡◌, ◌≢◌, ◌∙◌, ◌==◌, ℕ, arith, ap, sym, refl, subst, Bool, true, false, cond, not, ◌&&◌, ◌⊎◌, inl, inr, IsTrue, Option, None, Some}
-use Rattle.sk_laws.specs.Common.{is_some, option_map, option_map_or, option_and_then, SIGCHLD, SIGCONT, generated, sigsys_forced, INIT,
-    Life, Running, Stopped, Zombie, Note, Continued, Body, Proc, World, at, has_ended, has_stopped, is_stopped, is_zombie, is_alive,
-    parent_of, stored, body_changed, changed, inserted, fresh_of, continued, signalled, generated_at, sent, has_room, child_of, new_parent,
-    ignores_children, handed_on, with_children_handed_on, has_zombie_child, reparented, zombie, left_to_parent, without_note}
+use Rattle.sk_laws.specs.Common.{is_some, option_map, option_map_or, option_and_then, SIGCHLD, SIGCONT, generated, sigsys_forced, INIT, Life, Running, Stopped, Zombie, Note, Continued, Body, Proc, World, at, has_ended, has_stopped, is_stopped, is_zombie, is_alive, parent_of, stored, body_changed, changed, inserted, fresh_of, continued, signalled, generated_at, sent, has_room, child_of, new_parent, ignores_children, handed_on, with_children_handed_on, has_zombie_child, reparented, zombie, left_to_parent, without_note}
 use Rattle.sk_world.proofs.Common.{false≢true, eqb-true, and_parts, cond_both, cond-false}
 use Rattle.sk_world.proofs.SignalLaws.{generated_twice, settled_by_chld}
 use Rattle.sk_laws.specs.ChangeLaws.{SignalIsNotQueued, SignalTouches, ForceTouches, without_signals, unsignalled, SignalKeepsAllElse, ForceKeepsAllElse, TellingTouches, ForkTouches, EndTouches, EndLeavesNoOrphan, ForkGivesChild}

@@ -1,7 +1,6 @@
 -- The machine of the definitions has the laws that are said of any machine.
 use Rattle.std.proofs.Common.{◌≡◌, sym, refl, subst, IsTrue, List, [], ◌∷◌, Some}
-use Rattle.sk_laws.specs.Common.{is_some, list_any, World, at, Event, Images, step_of, world_after, Happening, lineage_of, is_fork_of,
-    history_after, authority_of_lineage, authority_at}
+use Rattle.sk_laws.specs.Common.{is_some, list_any, World, at, Event, Images, step_of, world_after, Happening, lineage_of, is_fork_of, history_after, authority_of_lineage, authority_at}
 use Rattle.sk_laws.specs.TellingLaws.{told_by}
 use Rattle.sk_laws.specs.AnyMachine.{world_by, history_by, GivesAuthorityByLineage, TellsEndsOnce, HasMachineLaws}
 use Rattle.sk_laws.proofs.LineageSteps.{authority_is_of_lineage}

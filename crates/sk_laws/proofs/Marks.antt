@@ -1,12 +1,6 @@
 -- Where there are no subreapers no event makes one.
 use Rattle.std.proofs.Common.{◌≡◌, ◌∙◌, ℕ, ◌==◌, ◌&&◌, ap, sym, refl, cond, not, Bool, true, false, IsTrue, List, [], ◌∷◌, Option, None, Some, Result, Ok, Err}
-use Rattle.sk_laws.specs.Common.{is_some, option_map, option_map_or, option_and_then, unwrap_or, find, Record, Action, action_of,
-    verdict_of, Errno, SIGSEGV, SIGCHLD, SIGSYS, sigsys_forced, Syscall, syscall_of, INIT, Zombie, Links, Body, Proc, Waiting, Poll, none,
-    World, at, is_zombie, parent_of, stored, body_changed, changed, links_changed, relinked, first_process, opening, fresh_of, sent,
-    has_room, child_of, fork_answer, is_subreaper, ancestors, takes_children, new_parent, ignores_children, handed_on,
-    with_children_handed_on, has_zombie_child, reparented, zombie, left_to_parent, ended, without_note, told, Event, Call, Deliver, Resume,
-    Fault, unsigned, signed, pid_of, recorded, Images, Authority, with_authority, Performed, authorises, executing, execve, forks,
-    subreaper_set, subreaper_asked, where_subreapers, row, signal_for, judged, happened, step_of, world_after}
+use Rattle.sk_laws.specs.Common.{is_some, option_map, option_map_or, option_and_then, unwrap_or, find, Record, Action, action_of, verdict_of, Errno, SIGSEGV, SIGCHLD, SIGSYS, sigsys_forced, Syscall, syscall_of, INIT, Zombie, Links, Body, Proc, Waiting, Poll, none, World, at, is_zombie, parent_of, stored, body_changed, changed, links_changed, relinked, first_process, opening, fresh_of, sent, has_room, child_of, fork_answer, is_subreaper, ancestors, takes_children, new_parent, ignores_children, handed_on, with_children_handed_on, has_zombie_child, reparented, zombie, left_to_parent, ended, without_note, told, Event, Call, Deliver, Resume, Fault, unsigned, signed, pid_of, recorded, Images, Authority, with_authority, Performed, authorises, executing, execve, forks, subreaper_set, subreaper_asked, where_subreapers, row, signal_for, judged, happened, step_of, world_after}
 use Rattle.sk_world.proofs.Common.{false≢true, cond_both}
 use Rattle.sk_laws.specs.ChangeLaws.{unsignalled}
 use Rattle.sk_world.proofs.Maps.{get_store}

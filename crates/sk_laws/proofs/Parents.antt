@@ -1,15 +1,6 @@
 -- Whose child each process is after an event, and that those who come from confined ones are confined.
 use Rattle.std.proofs.Common.{◌≡◌, ◌≢◌, ◌∙◌, ℕ, ℤ, zero, suc, ◌+◌, ◌≤◌, ◌==◌, ◌&&◌, ◌⊎◌, ◌<ℤ◌, ◌≤ℤ◌, inl, inr, arith, ap, sym, refl, subst, cond, not, Bool, true, false, length, slice_get, IsTrue, List, [], ◌∷◌, ◌++◌, Option, None, Some, Result, Ok, Err, IfSome}
-use Rattle.sk_laws.specs.Common.{is_some, unwrap_or, option_map, option_and_then, find, Insn, Record, Action, action_of, performs,
-    meaning_value, values_of, first_of, verdict_of, IsAtMost, precedence_of, Errno, Eagain, SIGSEGV, SIGCHLD, SIGCONT, SIGSYS,
-    sigsys_forced, INIT, PROCESSES, Links, Zombie, Body, Proc, Waiting, Poll, count, World, at, is_stopped, is_zombie, is_halted, parent_of,
-    stored, body_changed, changed, links_changed, relinked, IsWorld, is_init, fresh_of, has_room, forked, generated_at, sent, forced,
-    is_subreaper, line_up, ancestors, takes_children, new_parent, ignores_children, handed_on, with_children_handed_on, has_zombie_child,
-    reparented, zombie, left_to_parent, ended, without_note, told, Event, Call, Deliver, Resume, Fault, Halted, Syscall, pid_of, recorded,
-    Images, syscall_of, register, unsigned, signed, Authority, with_authority, Performed, authorises, executing, execve, forks,
-    subreaper_set, subreaper_asked, where_subreapers, with_subreaper, row, signal_for, Stepped, judged, happened, reason_of, step_of,
-    world_after, Happening, is_fork, has_returned, is_fork_of, lineage_before, calls_added, lineage_of, authority_after_calls,
-    history_after, authority_at}
+use Rattle.sk_laws.specs.Common.{is_some, unwrap_or, option_map, option_and_then, find, Insn, Record, Action, action_of, performs, meaning_value, values_of, first_of, verdict_of, IsAtMost, precedence_of, Errno, Eagain, SIGSEGV, SIGCHLD, SIGCONT, SIGSYS, sigsys_forced, INIT, PROCESSES, Links, Zombie, Body, Proc, Waiting, Poll, count, World, at, is_stopped, is_zombie, is_halted, parent_of, stored, body_changed, changed, links_changed, relinked, IsWorld, is_init, fresh_of, has_room, forked, generated_at, sent, forced, is_subreaper, line_up, ancestors, takes_children, new_parent, ignores_children, handed_on, with_children_handed_on, has_zombie_child, reparented, zombie, left_to_parent, ended, without_note, told, Event, Call, Deliver, Resume, Fault, Halted, Syscall, pid_of, recorded, Images, syscall_of, register, unsigned, signed, Authority, with_authority, Performed, authorises, executing, execve, forks, subreaper_set, subreaper_asked, where_subreapers, with_subreaper, row, signal_for, Stepped, judged, happened, reason_of, step_of, world_after, Happening, is_fork, has_returned, is_fork_of, lineage_before, calls_added, lineage_of, authority_after_calls, history_after, authority_at}
 use Rattle.sk_world.proofs.Common.{ints, false≢true, cond_both, cond-true, eqb-true, eqb-false, eq-eqb, ne_eqb, and_parts, ltb-true}
 use Rattle.sk_filter.specs.Meaning.{meaning_of}
 use Rattle.sk_filter.proofs.Verdicts.{first_of-least}

@@ -1,9 +1,6 @@
 -- No change but a call of the process itself gives it rights, or takes them.
 use Rattle.std.proofs.Common.{◌≡◌, ◌∙◌, ◌==◌, ℕ, ap, sym, refl, subst, Bool, true, false, cond, not, ◌&&◌, IsTrue, Option, None, Some}
-use Rattle.sk_laws.specs.Common.{is_some, option_map, option_map_or, option_and_then, SIGCHLD, SIGCONT, generated, sigsys_forced, INIT,
-    Running, Zombie, Continued, Body, Proc, World, at, has_ended, has_stopped, is_stopped, is_zombie, is_alive, parent_of, stored,
-    body_changed, changed, inserted, fresh_of, continued, signalled, generated_at, sent, forked, has_room, child_of, new_parent,
-    ignores_children, handed_on, with_children_handed_on, has_zombie_child, reparented, zombie, left_to_parent, without_note}
+use Rattle.sk_laws.specs.Common.{is_some, option_map, option_map_or, option_and_then, SIGCHLD, SIGCONT, generated, sigsys_forced, INIT, Running, Zombie, Continued, Body, Proc, World, at, has_ended, has_stopped, is_stopped, is_zombie, is_alive, parent_of, stored, body_changed, changed, inserted, fresh_of, continued, signalled, generated_at, sent, forked, has_room, child_of, new_parent, ignores_children, handed_on, with_children_handed_on, has_zombie_child, reparented, zombie, left_to_parent, without_note}
 use Rattle.sk_world.proofs.Common.{false≢true, eq-eqb, eqb-true, and_parts, and_from, cond_both}
 use Rattle.sk_laws.specs.ChangeLaws.{HasSameRights, StaysInRights, KeepsRights, SignalKeepsRights, ForceKeepsRights, ReparentKeepsRights, EndKeepsRights, TellingKeepsRights, ForkKeepsRights}
 use Rattle.sk_world.proofs.Stored.{everywhere}

@@ -1,8 +1,6 @@
 -- Each run is lawful.
 use Rattle.std.proofs.Common.{◌≡◌, ◌∙◌, ℕ, ap, sym, refl, subst, reverse, append_assoc, IsTrue, List, [], ◌∷◌, ◌++◌, Option, None, Some, IfSome}
-use Rattle.sk_laws.specs.Common.{Proc, is_some, option_map, unwrap_or, zip, Record, values_of, verdict_of, IsLeast, World, at, Event,
-    recorded, Images, step_of, answers_of, world_after, Lineage, Happening, authority_after_calls, history_after, authority_at, Authority,
-    authority_of}
+use Rattle.sk_laws.specs.Common.{Proc, is_some, option_map, unwrap_or, zip, Record, values_of, verdict_of, IsLeast, World, at, Event, recorded, Images, step_of, answers_of, world_after, Lineage, Happening, authority_after_calls, history_after, authority_at, Authority, authority_of}
 use Rattle.sk_world.proofs.Common.{false≢true, reverse-append}
 use Rattle.sk_filter.proofs.Verdicts.{verdict_of_least}
 use Rattle.sk_laws.specs.FilterLaws.{AreAccepted, AllReturn}

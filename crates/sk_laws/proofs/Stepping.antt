@@ -1,7 +1,6 @@
 -- What a call comes to by its verdict, in a world that is not computed.
 use Rattle.std.proofs.Common.{◌≡◌, ℕ, ap, sym, subst, Option, None, Some}
-use Rattle.sk_laws.specs.Common.{option_map, unwrap_or, Record, verdict_of, Body, Proc, World, at, Event, recorded, Images, Stepped,
-    called_with, reason_of, happened_to, stepped, step_of}
+use Rattle.sk_laws.specs.Common.{option_map, unwrap_or, Record, verdict_of, Body, Proc, World, at, Event, recorded, Images, Stepped, called_with, reason_of, happened_to, stepped, step_of}
 use Rattle.sk_names.specs.declared.call.Call.{Call}
 
 -- the verdict of a process on a call, if the process is there

@@ -1,13 +1,6 @@
 -- Whom wait4(2) tells of, and how often.
 use Rattle.std.proofs.Common.{◌≡◌, ◌∙◌, ℕ, ◌+◌, ◌*◌, ◌==◌, arith, ap, sym, refl, subst, cond, not, Bool, true, false, IsTrue, List, [], ◌∷◌, Option, None, Some, Result, Ok, Err}
-use Rattle.sk_laws.specs.Common.{is_some, unwrap_or, option_map, option_map_or, list_any, find, Record, Action, action_of, verdict_of,
-    Errno, Esrch, Einval, SignalState, Life, Running, Stopped, Zombie, Note, Waiting, Body, Proc, Request, Poll, pids, World, at, is_zombie,
-    stored, body_changed, changed, fork_answer, is_no_hang, is_untraced, is_continued, is_match, is_ready, has_match, status_of_note,
-    status_of_body, status_of, ready_of, without_note, told, after_setpgid, after_setsid, Event, Call, Deliver, Resume, Fault, Syscall,
-    pid_of, recorded, Images, syscall_of, unsigned, signed, Authority, Performed, returns, fails, asked, changes, authorises, waiting_in,
-    waits, resignals, after_kill, are_wait_options, request_of, polled, wait4, polled_again, resumed, execve, forks, subreaper_set,
-    subreaper_asked, where_subreapers, row, judged, step_of, world_after, Stepped, happened, Happening, is_fork_of, lineage_before,
-    history_after, signal_for}
+use Rattle.sk_laws.specs.Common.{is_some, unwrap_or, option_map, option_map_or, list_any, find, Record, Action, action_of, verdict_of, Errno, Esrch, Einval, SignalState, Life, Running, Stopped, Zombie, Note, Waiting, Body, Proc, Request, Poll, pids, World, at, is_zombie, stored, body_changed, changed, fork_answer, is_no_hang, is_untraced, is_continued, is_match, is_ready, has_match, status_of_note, status_of_body, status_of, ready_of, without_note, told, after_setpgid, after_setsid, Event, Call, Deliver, Resume, Fault, Syscall, pid_of, recorded, Images, syscall_of, unsigned, signed, Authority, Performed, returns, fails, asked, changes, authorises, waiting_in, waits, resignals, after_kill, are_wait_options, request_of, polled, wait4, polled_again, resumed, execve, forks, subreaper_set, subreaper_asked, where_subreapers, row, judged, step_of, world_after, Stepped, happened, Happening, is_fork_of, lineage_before, history_after, signal_for}
 use Rattle.sk_world.proofs.Common.{false≢true, cond_both, or_parts, and_parts}
 use Rattle.sk_world.specs.declared.request.WaitOptions.{WaitOptions}
 use Rattle.sk_world.proofs.StatusChanges.{by_first, ready_first}

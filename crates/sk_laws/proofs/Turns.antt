@@ -1,10 +1,6 @@
 -- Whose turn it is, and that who can run has the event that it needs, and who cannot does nothing.
 use Rattle.std.proofs.Common.{◌≡◌, ◌∙◌, ◌⊎◌, ◌↔◌, inl, inr, ℕ, arith, ◌&&◌, ◌||◌, ap, sym, refl, subst, cond, not, nat_lt, Bool, true, false, IsTrue, List, [], ◌∷◌, Option, None, Some}
-use Rattle.sk_laws.specs.Common.{is_some, option_or, option_map_or, unwrap_or, find, list_any, Proc, Waiting, Poll, pids, World, at,
-    has_ended, is_halted, is_stopped, is_zombie, is_alive, is_ready, has_match, status_of, Event, Call, Deliver, Resume, Fault, Resumed,
-    Waits, Reason, pid_of, Images, polled_again, resumed, signal_due, is_waiting, is_in_call, Stepped, resume_answered, call_reason,
-    own_reason, is_due_delivery, reason_of, stepped, step_of, world_after, happened_to, waits_no_more, is_runnable, need_of, need_met_by,
-    goes_on}
+use Rattle.sk_laws.specs.Common.{is_some, option_or, option_map_or, unwrap_or, find, list_any, Proc, Waiting, Poll, pids, World, at, has_ended, is_halted, is_stopped, is_zombie, is_alive, is_ready, has_match, status_of, Event, Call, Deliver, Resume, Fault, Resumed, Waits, Reason, pid_of, Images, polled_again, resumed, signal_due, is_waiting, is_in_call, Stepped, resume_answered, call_reason, own_reason, is_due_delivery, reason_of, stepped, step_of, world_after, happened_to, waits_no_more, is_runnable, need_of, need_met_by, goes_on}
 use Rattle.sk_world.proofs.Common.{false≢true, not-true, not-false, and_parts, and_from, or_parts, cond_both, ltb-true, lt-ltb, ltb-false}
 use Rattle.sk_world.proofs.StatusChanges.{by_first, ready_first}
 use Rattle.sk_world.proofs.KeptTold.{found}

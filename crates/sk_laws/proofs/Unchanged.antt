@@ -1,12 +1,6 @@
 -- What leaves the world as it is.
 use Rattle.std.proofs.Common.{◌≡◌, ◌∙◌, ℕ, negsuc, ◌==◌, ap, sym, refl, subst, not, Bool, true, false, IsTrue, Option, None, Some, Result, Ok, Err, cond, ◌&&◌}
-use Rattle.sk_laws.specs.Common.{is_some, option_and_then, Record, Action, action_of, verdict_of, Errno, Esrch, Einval, SIGSYS, SignalState,
-    INIT, Life, Proc, Waiting, Request, Poll, World, at, has_ended, is_zombie, is_halted, is_stopped, forced, ended_and_hung_up,
-    fork_answer, is_no_hang, ready_of, after_setpgid, after_setsid, Event, Call, Deliver, Resume, Fault, Answer, Outcome, Returned, Trapped,
-    Ended, Reason, Syscall, pid_of, recorded, Images, syscall_of, unsigned, signed, Authority, Performed, returns, fails, asked, changes,
-    authorises, waits, resignals, after_kill, are_wait_options, request_of, polled, wait4, end_of_caller, execve, forks, subreaper_set,
-    subreaper_asked, where_subreapers, row, Stepped, judged, call_answered, called_with, happened, stepped, step_of, end_status, delivery,
-    reason_of, Body, NoProcess, NothingWaits, Halted, signal_for, signal_due}
+use Rattle.sk_laws.specs.Common.{is_some, option_and_then, Record, Action, action_of, verdict_of, Errno, Esrch, Einval, SIGSYS, SignalState, INIT, Life, Proc, Waiting, Request, Poll, World, at, has_ended, is_zombie, is_halted, is_stopped, forced, ended_and_hung_up, fork_answer, is_no_hang, ready_of, after_setpgid, after_setsid, Event, Call, Deliver, Resume, Fault, Answer, Outcome, Returned, Trapped, Ended, Reason, Syscall, pid_of, recorded, Images, syscall_of, unsigned, signed, Authority, Performed, returns, fails, asked, changes, authorises, waits, resignals, after_kill, are_wait_options, request_of, polled, wait4, end_of_caller, execve, forks, subreaper_set, subreaper_asked, where_subreapers, row, Stepped, judged, call_answered, called_with, happened, stepped, step_of, end_status, delivery, reason_of, Body, NoProcess, NothingWaits, Halted, signal_for, signal_due}
 use Rattle.sk_world.proofs.Common.{false≢true, cond_both}
 use Rattle.sk_laws.specs.MachineLaws.{ImpossibleChangesNothing, PossibleHappens, only_refuses, RefusedChangesNothing, TrapForcesSigsys, ends_caller, KillEndsCaller, FailedChangesNothing, HaltHasStatus}
 use Rattle.sk_laws.proofs.Happened.{at_step, at_delivery}

@@ -1,8 +1,6 @@
 -- Each wrong machine is refused by a run.
 use Rattle.std.proofs.Common.{◌≡◌, ◌∙◌, ◌<ℤ◌, ℕ, ◌==◌, ◌||◌, arith, ap, sym, refl, subst, cond, Bool, true, false, length, IsTrue, IfSome, List, [], ◌∷◌, Option, None, Some}
-use Rattle.sk_laws.specs.Common.{is_some, option_map, option_map_or, list_all, nat_cmp, Insn, Record, architecture, image_of, verdict_of,
-    precedence_of, contains, SIGHUP, SIGCHLD, INIT, Proc, World, at, parent_of, body_changed, opening, signalled, Event, Deliver, Images,
-    Authority, world_after, authority_at}
+use Rattle.sk_laws.specs.Common.{is_some, option_map, option_map_or, list_all, nat_cmp, Insn, Record, architecture, image_of, verdict_of, precedence_of, contains, SIGHUP, SIGCHLD, INIT, Proc, World, at, parent_of, body_changed, opening, signalled, Event, Deliver, Images, Authority, world_after, authority_at}
 use Rattle.std.specs.FinMap.Entries.{find}
 use Rattle.sk_world.proofs.Common.{ints, false≢true, eqb-true, and_parts}
 use Rattle.sk_world.proofs.Maps.{same_number}

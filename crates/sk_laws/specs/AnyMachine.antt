@@ -1,7 +1,6 @@
 -- The laws on authority, said of any machine: of one that is wrong in what they speak of they do not hold.
 use Rattle.std.specs.Prelude.{ℕ, ◌≡◌, false, IsTrue, Bool, List, [], ◌∷◌, Some}
-use Rattle.sk_laws.specs.Common.{is_some, list_any, World, at, IsWorld, Event, pid_of, Images, Stepped, step_of, Happening, lineage_of,
-    is_fork_of, authority_of_lineage, authority_at}
+use Rattle.sk_laws.specs.Common.{is_some, list_any, World, at, IsWorld, Event, pid_of, Images, Stepped, step_of, Happening, lineage_of, is_fork_of, authority_of_lineage, authority_at}
 use Rattle.sk_laws.specs.TellingLaws.{told_by, IsEnd}
 use Rattle.sk_laws.specs.ConfinementLaws.{IsConfined, LeavesAlone}
 

@@ -1,9 +1,6 @@
 -- Laws on the changes of a world: whom they touch, and what they leave as it was.
 use Rattle.std.specs.Prelude.{ℕ, ◌≡◌, ◌≢◌, ◌<◌, ◌≤◌, ◌==◌, ◌&&◌, IsTrue, IsFalse, if◌then◌else◌, List, filter, map, Option, None, Some}
-use Rattle.sk_laws.specs.Common.{is_some, option_map, SIGCHLD, SIGCONT, no_signal, INIT, LAST_PID, Running, Note, Proc, Request, NoMatch,
-    NotReady, pids, World, at, has_ended, is_zombie, is_child_of, is_alive, is_halted, parent_of, IsWorld, is_used, distance_from,
-    IsNextFree, fresh_of, sent, sent_to_each, forced, forked, has_room, child_of, new_parent, ignores_children, with_children_handed_on,
-    zombie, reparented, ended, is_match, is_ready, status_of, ready_of, told}
+use Rattle.sk_laws.specs.Common.{is_some, option_map, SIGCHLD, SIGCONT, no_signal, INIT, LAST_PID, Running, Note, Proc, Request, NoMatch, NotReady, pids, World, at, has_ended, is_zombie, is_child_of, is_alive, is_halted, parent_of, IsWorld, is_used, distance_from, IsNextFree, fresh_of, sent, sent_to_each, forced, forked, has_room, child_of, new_parent, ignores_children, with_children_handed_on, zombie, reparented, ended, is_match, is_ready, status_of, ready_of, told}
 use Rattle.sk_world.specs.declared.request.Poll.TheVariants.{Told}
 
 -- signals are not queued: one that is sent again changes nothing, SIGCONT neither: signal(7)

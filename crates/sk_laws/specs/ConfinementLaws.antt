@@ -1,9 +1,7 @@
 -- Laws on confinement: what a process whose filters refuse kill(2), and those that come from it, can do to
 -- all others.
 use Rattle.std.specs.Prelude.{ℕ, ◌≡◌, ◌≢◌, ◌<ℤ◌, ◌==◌, not, ◌&&◌, ◌||◌, Bool, true, false, IsTrue, IfSome, List, [], ◌∷◌, Option}
-use Rattle.sk_laws.specs.Common.{is_some, option_map, list_all, Insn, Record, IsNative, Syscall, number_of, verdict_of, precedence_of,
-    SIGHUP, SIGCHLD, SIGCONT, INIT, Body, Proc, World, at, parent_of, body_changed, IsWorld, signalled, group_of, is_orphaned,
-    has_stopped_member, Event, Answer, Outcome, Effect, Images, pid_of, step_of, world_after, lineage_before, authority_at}
+use Rattle.sk_laws.specs.Common.{is_some, option_map, list_all, Insn, Record, IsNative, Syscall, number_of, verdict_of, precedence_of, SIGHUP, SIGCHLD, SIGCONT, INIT, Body, Proc, World, at, parent_of, body_changed, IsWorld, signalled, group_of, is_orphaned, has_stopped_member, Event, Answer, Outcome, Effect, Images, pid_of, step_of, world_after, lineage_before, authority_at}
 use Rattle.sk_laws.specs.LineageLaws.{happening, lineage_after}
 
 -- the filters answer every kill(2) of x86-64 with an action that has precedence over SECCOMP_RET_LOG

@@ -1,7 +1,6 @@
 -- Laws on the filters in force: the rules have accepted each of them.
 use Rattle.std.specs.Prelude.{ℕ, IfSome, List, [], ◌∷◌}
-use Rattle.sk_laws.specs.Common.{Insn, Record, IsWithinLimit, AllValid, StepsAreBounded, World, opening, Event, Images, step_of,
-    world_after, authority_at}
+use Rattle.sk_laws.specs.Common.{Insn, Record, IsWithinLimit, AllValid, StepsAreBounded, World, opening, Event, Images, step_of, world_after, authority_at}
 use Rattle.sk_filter.specs.MeaningLaws.{ReturnsWithinLength}
 
 -- filters that seccomp(2) accepts: each is valid, and they hold to the path limit

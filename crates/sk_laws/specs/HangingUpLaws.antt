@@ -1,7 +1,6 @@
 -- Laws on what hanging up groups leaves.
 use Rattle.std.specs.Prelude.{ℕ, ◌≡◌, true, false, IsTrue}
-use Rattle.sk_laws.specs.Common.{option_map, INIT, World, at, is_zombie, is_alive, is_stopped, opening, ended, is_orphaned,
-    ended_and_hung_up}
+use Rattle.sk_laws.specs.Common.{option_map, INIT, World, at, is_zombie, is_alive, is_stopped, opening, ended, is_orphaned, ended_and_hung_up}
 use Rattle.sk_laws.specs.ChangeLaws.{unsignalled, KeepsRights}
 
 -- the end of a process gives nobody rights, and takes none, whoever is hung up

@@ -1,8 +1,6 @@
 -- Laws on lineages: what a process may do is what its lineage says.
 use Rattle.std.specs.Prelude.{ℕ, ◌≡◌, ◌≤ℤ◌, ◌++◌, IsTrue, List, [], slice_get, Option, Some}
-use Rattle.sk_laws.specs.Common.{is_some, option_map, Insn, Record, action_of, performs, values_of, verdict_of, precedence_of, INIT, World,
-    at, opening, Event, Answer, Outcome, Authority, recorded, Images, step_of, world_after, Lineage, Happening, lineage_before, calls_added,
-    lineage_of, authority_after_calls, authority_of_lineage, history_after, authority_at}
+use Rattle.sk_laws.specs.Common.{is_some, option_map, Insn, Record, action_of, performs, values_of, verdict_of, precedence_of, INIT, World, at, opening, Event, Answer, Outcome, Authority, recorded, Images, step_of, world_after, Lineage, Happening, lineage_before, calls_added, lineage_of, authority_after_calls, authority_of_lineage, history_after, authority_at}
 use Rattle.sk_names.specs.declared.call.Call.{Call}
 
 -- an event with its answer

@@ -1,8 +1,6 @@
 -- Laws on the process machine: what leaves the world as it is, and that every event keeps its rules.
 use Rattle.std.specs.Prelude.{ℕ, negsuc, ◌≡◌, ◌≢◌, Bool, true, false, IsTrue, List, Some, None}
-use Rattle.sk_laws.specs.Common.{is_some, Record, Action, action_of, SIGSYS, INIT, Body, World, at, is_alive, is_halted, opening, IsWorld,
-    forced, is_subreaper, new_parent, ended_and_hung_up, Event, Answer, Outcome, Returned, Trapped, Ended, Reason, Waiting, pid_of, Images,
-    performed, resumed, delivered, reason_of, step_of, halted_of, world_after}
+use Rattle.sk_laws.specs.Common.{is_some, Record, Action, action_of, SIGSYS, INIT, Body, World, at, is_alive, is_halted, opening, IsWorld, forced, is_subreaper, new_parent, ended_and_hung_up, Event, Answer, Outcome, Returned, Trapped, Ended, Reason, Waiting, pid_of, Images, performed, resumed, delivered, reason_of, step_of, halted_of, world_after}
 
 -- an event that is not possible answers with the first reason, and changes nothing
 abbrev pub ImpossibleChangesNothing : Type 0

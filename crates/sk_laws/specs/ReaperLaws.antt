@@ -1,7 +1,6 @@
 -- Laws on who the children of a process go to when it ends.
 use Rattle.std.specs.Prelude.{ℕ, zero, suc, ◌≡◌, ◌≢◌, ◌<◌, ◌⊎◌, IsTrue, IsFalse}
-use Rattle.sk_laws.specs.Common.{is_some, INIT, PROCESSES, World, at, is_alive, is_halted, parent_of, IsWorld, is_subreaper, takes_children,
-    new_parent}
+use Rattle.sk_laws.specs.Common.{is_some, INIT, PROCESSES, World, at, is_alive, is_halted, parent_of, IsWorld, is_subreaper, takes_children, new_parent}
 
 -- the ancestor of a process so many steps up: one step up is its parent
 abbrev pub ancestor : ℕ → World → ℕ → ℕ

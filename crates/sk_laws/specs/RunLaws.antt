@@ -1,9 +1,7 @@
 -- What is known of each run of the machine, as predicates of what is given, of the world before, and of a list
 -- of events: a kernel that makes just this run can promise them.
 use Rattle.std.specs.Prelude.{ℕ, ◌≡◌, ◌≢◌, ◌≤ℤ◌, ◌++◌, false, IsTrue, IfSome, List, [], ◌∷◌, slice_get, Option, Some, None}
-use Rattle.sk_laws.specs.Common.{is_some, list_any, Insn, Record, action_of, performs, values_of, verdict_of, IsLeast, precedence_of, INIT,
-    Proc, World, at, parent_of, IsWorld, is_subreaper, new_parent, Event, Answer, Outcome, Authority, pid_of, recorded, Images, step_of,
-    answers_of, world_after, is_fork_of, history_of, history_after, authority_of_lineage, authority_at}
+use Rattle.sk_laws.specs.Common.{is_some, list_any, Insn, Record, action_of, performs, values_of, verdict_of, IsLeast, precedence_of, INIT, Proc, World, at, parent_of, IsWorld, is_subreaper, new_parent, Event, Answer, Outcome, Authority, pid_of, recorded, Images, step_of, answers_of, world_after, is_fork_of, history_of, history_after, authority_of_lineage, authority_at}
 use Rattle.sk_names.specs.declared.call.Call.{Call}
 use Rattle.sk_laws.specs.LineageLaws.{lineage_after, judged_by, GrowsFrom}
 use Rattle.sk_laws.specs.FilterLaws.{HasAccepted, AllReturn}

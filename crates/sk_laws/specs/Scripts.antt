@@ -1,8 +1,7 @@
 -- Words in which runs of the machine are told: what was worked out by hand stands beside its definitions
 -- as lines of an event and its answer.
 use Rattle.std.specs.Prelude.{ℕ, ◌≡◌, ◌+◌, ◌-◌, ◌^◌, neg_ℤ, pos, true, false, List, [], ◌∷◌, map}
-use Rattle.sk_laws.specs.Common.{image_of, Errno, Syscall, number_of, signals_of, World, Event, Call, Answer, Outcome, Effect, Reason, Mark,
-    Images, Happening, answers_of, world_after}
+use Rattle.sk_laws.specs.Common.{image_of, Errno, Syscall, number_of, signals_of, World, Event, Call, Answer, Outcome, Effect, Reason, Mark, Images, Happening, answers_of, world_after}
 use Rattle.sk_world.specs.Errno.{number_of as errno_number}
 
 -- ---- what is declared

@@ -1,7 +1,6 @@
 -- Laws on what wait4(2) tells: of whom, to whom, and how often.
 use Rattle.std.specs.Prelude.{ℕ, ◌≡◌, ◌%◌, ◌<◌, IsTrue, List, [], Option, None, Some}
-use Rattle.sk_laws.specs.Common.{list_any, Zombie, Proc, World, at, Event, Answer, Outcome, Returned, Told, Ids, Waits, Trapped, Ended,
-    Executed, Images, pid_of, step_of, world_after, is_fork_of, history_after}
+use Rattle.sk_laws.specs.Common.{list_any, Zombie, Proc, World, at, Event, Answer, Outcome, Returned, Told, Ids, Waits, Trapped, Ended, Executed, Images, pid_of, step_of, world_after, is_fork_of, history_after}
 use Rattle.sk_machine.specs.declared.answer.Outcome.TheVariants.{Signals}
 
 -- the child and the status that are told, if any are

@@ -1,7 +1,6 @@
 -- Laws on turns: whose turn it is can run, who can run has the event that it needs, and who cannot does nothing.
 use Rattle.std.specs.Prelude.{ℕ, ◌≡◌, ◌<◌, ◌≤◌, ◌⊎◌, ◌↔◌, false, IsTrue, List, None, Some}
-use Rattle.sk_laws.specs.Common.{is_some, World, Event, Resumed, Waits, pid_of, Images, reason_of, step_of, world_after, is_runnable,
-    need_of, need_met_by, next_of}
+use Rattle.sk_laws.specs.Common.{is_some, World, Event, Resumed, Waits, pid_of, Images, reason_of, step_of, world_after, is_runnable, need_of, need_met_by, next_of}
 
 -- it is the turn of this process: it can run, and it is the least that can above the one that ran last, or,
 -- where none above can, the least of all that can

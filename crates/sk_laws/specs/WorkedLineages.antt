@@ -1,7 +1,6 @@
 -- Lineages that are worked out by hand.
 use Rattle.std.specs.Prelude.{Some, ℕ, ◌≡◌, true, [], ◌∷◌, List}
-use Rattle.sk_laws.specs.Common.{Reason, Deliver, Einval, opening, Record, native, Event, Lineage, lineage_of, history_after,
-    authority_of_lineage}
+use Rattle.sk_laws.specs.Common.{Reason, Deliver, Einval, opening, Record, native, Event, Lineage, lineage_of, history_after, authority_of_lineage}
 use Rattle.sk_laws.specs.Scripts.{nothing_given, given, for_number, getpid, fork, setuid, prctl, seccomp, gives, fails, refused, not_now, events_of}
 
 -- a privileged process drops its ids after a fork, and so does its child: two lineages from one root
@@ -27,12 +26,12 @@ pub record WorkedLineages : Type 0 where
   pub lineage_of_child : lineage_after_parting 2 ≡ record { root = 1; calls = call_record 157 38 1 ∷ call_record 105 7 0 ∷ [] }
   -- the parent has the fork as well, and its own
   pub lineage_of_parent :
-    lineage_after_parting 1 ≡ record { root = 1; calls = call_record 157 38 1 ∷ call_record 57 0 0 ∷ call_record 105 5 0 ∷ [] }
+      lineage_after_parting 1 ≡ record { root = 1; calls = call_record 157 38 1 ∷ call_record 57 0 0 ∷ call_record 105 5 0 ∷ [] }
   -- where nobody is, a lineage has no calls
   pub lineage_of_nobody : lineage_after_parting 9 ≡ record { root = 9; calls = [] }
   -- what the child may do is what its lineage says
   pub authority_of_child : authority_of_lineage nothing_given opening (lineage_after_parting 2)
-    ≡ Some (record { filters = []; creds = record { real = 7; effective = 7; saved = 7; no_new_privs = true } })
+      ≡ Some (record { filters = []; creds = record { real = 7; effective = 7; saved = 7; no_new_privs = true } })
   -- it has the attach and the setuid that failed
   pub lineage_without_refusals :
-    lineage_refused ≡ record { root = 1; calls = native 317 0 (1 ∷ 0 ∷ 0 ∷ 0 ∷ 0 ∷ 0 ∷ []) ∷ call_record 105 4294967295 0 ∷ [] }
+      lineage_refused ≡ record { root = 1; calls = native 317 0 (1 ∷ 0 ∷ 0 ∷ 0 ∷ 0 ∷ 0 ∷ []) ∷ call_record 105 4294967295 0 ∷ [] }

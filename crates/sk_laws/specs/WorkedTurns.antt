@@ -1,7 +1,6 @@
 -- Runs that are worked out by hand: events that are not possible, whose turn is next, and what it needs.
 use Rattle.std.specs.Prelude.{ℕ, ◌≡◌, true, [], ◌∷◌, List, Option, Some, None}
-use Rattle.sk_laws.specs.Common.{Zombie, Ended, Outcome, Effect, Reason, Deliver, Resume, Fault, INIT, World, opening, Happening, Images,
-    Event, pid_of, step_of, is_runnable, need_of, next_of}
+use Rattle.sk_laws.specs.Common.{Zombie, Ended, Outcome, Effect, Reason, Deliver, Resume, Fault, INIT, World, opening, Happening, Images, Event, pid_of, step_of, is_runnable, need_of, next_of}
 use Rattle.sk_laws.specs.Scripts.{nothing_given, given, plain, set_user_id, for_number, pause, getpid, fork, exit, wait4, kill, gives, waits, ends, resumes, delivers, crashes, not_now, events_of, Runs, after}
 use Rattle.sk_machine.specs.declared.event.Need.TheVariants as need
 use Rattle.sk_laws.specs.WorkedCalls.{kept_filter}
@@ -42,36 +41,36 @@ killed_child =
 pub record WorkedTurns : Type 0 where
   -- every reason for which an event is not possible
   pub tells_reasons : Runs nothing_given opening (
-    (getpid 9, not_now Reason.NoProcess)
-    ∷ (Deliver 1, not_now Reason.NothingWaits)
-    ∷ (Resume 1, not_now Reason.NothingWaits)
-    ∷ (fork 1, gives 2)
-    ∷ (exit 2 0, ends 0)
-    ∷ (getpid 2, not_now Reason.Zombie)
-    ∷ (fork 1, gives 3)
-    ∷ (kill 1 3 19, gives 0)
-    ∷ (Fault 3, not_now Reason.SignalFirst)
-    ∷ (Deliver 3, delivers 19 Effect.Stopped)
-    ∷ (getpid 3, not_now Reason.Stopped)
-    ∷ (Deliver 3, not_now Reason.Stopped)
-    ∷ (kill 1 3 9, gives 0)
-    ∷ (Resume 3, not_now Reason.Stopped)
-    ∷ (Deliver 3, delivers 9 (Effect.Ended 9))
-    ∷ (pause 1, waits)
-    ∷ (getpid 1, not_now Reason.Waiting)
-    ∷ (Fault 1, not_now Reason.Waiting)
-    ∷ (Resume 1, resumes Outcome.Waits)
-    ∷ [])
+      (getpid 9, not_now Reason.NoProcess)
+      ∷ (Deliver 1, not_now Reason.NothingWaits)
+      ∷ (Resume 1, not_now Reason.NothingWaits)
+      ∷ (fork 1, gives 2)
+      ∷ (exit 2 0, ends 0)
+      ∷ (getpid 2, not_now Reason.Zombie)
+      ∷ (fork 1, gives 3)
+      ∷ (kill 1 3 19, gives 0)
+      ∷ (Fault 3, not_now Reason.SignalFirst)
+      ∷ (Deliver 3, delivers 19 Effect.Stopped)
+      ∷ (getpid 3, not_now Reason.Stopped)
+      ∷ (Deliver 3, not_now Reason.Stopped)
+      ∷ (kill 1 3 9, gives 0)
+      ∷ (Resume 3, not_now Reason.Stopped)
+      ∷ (Deliver 3, delivers 9 (Effect.Ended 9))
+      ∷ (pause 1, waits)
+      ∷ (getpid 1, not_now Reason.Waiting)
+      ∷ (Fault 1, not_now Reason.Waiting)
+      ∷ (Resume 1, resumes Outcome.Waits)
+      ∷ [])
   -- process 1 has ended by SIGSEGV
   pub ends_system : life_at halted INIT ≡ Some (Zombie 11)
   -- and no event is possible
   pub halts_all : Runs nothing_given halted (
-    (getpid 1, not_now Reason.Halted)
-    ∷ (getpid 2, not_now Reason.Halted)
-    ∷ (Deliver 9, not_now Reason.Halted)
-    ∷ (Resume 1, not_now Reason.Halted)
-    ∷ (Fault 2, not_now Reason.Halted)
-    ∷ [])
+      (getpid 1, not_now Reason.Halted)
+      ∷ (getpid 2, not_now Reason.Halted)
+      ∷ (Deliver 9, not_now Reason.Halted)
+      ∷ (Resume 1, not_now Reason.Halted)
+      ∷ (Fault 2, not_now Reason.Halted)
+      ∷ [])
   -- the run with a kept filter
   pub turns_with_filter : TakesTurns (given (for_number 110 0x00050001 ∷ []) (plain ∷ plain ∷ set_user_id 0 ∷ [])) kept_filter
   -- the run without zombies
@@ -98,6 +97,6 @@ pub record WorkedTurns : Type 0 where
   pub paused_needs_resumption : need_of killed_child 1 ≡ need.Resume
   -- where a signal is due to a process that waits, the delivery comes first
   pub signalled_needs_delivery :
-    need_of (after nothing_given opening ((fork 1, gives 2) ∷ (pause 2, waits) ∷ (kill 1 2 15, gives 0) ∷ [])) 2 ≡ need.Deliver
+      need_of (after nothing_given opening ((fork 1, gives 2) ∷ (pause 2, waits) ∷ (kill 1 2 15, gives 0) ∷ [])) 2 ≡ need.Deliver
   -- process 1 as the system starts makes a call
   pub first_needs_call : need_of opening INIT ≡ need.Call

@@ -1,8 +1,6 @@
 -- Worlds that are worked out by hand.
 use Rattle.std.specs.Prelude.{◌≡◌, ℕ, ◌-◌, true, false, List, [], ◌∷◌, slice_set, None, Some, Ok}
-use Rattle.sk_laws.specs.Common.{SIGHUP, SIGTERM, SIGCHLD, SIGCONT, SIGKILL, SIGSTOP, SIGTSTP, SIGUSR1, SIGSYS, Disposition, Ignore,
-    Handler, Signals, Life, Running, Stopped, Zombie, Note, Waiting, Proc, Request, NoMatch, NotReady, none, World, at, is_halted, stored,
-    changed, first_process, opening, sent, forced, fork_answer, forked, child_of, ended, options_of, ready_of, told}
+use Rattle.sk_laws.specs.Common.{SIGHUP, SIGTERM, SIGCHLD, SIGCONT, SIGKILL, SIGSTOP, SIGTSTP, SIGUSR1, SIGSYS, Disposition, Ignore, Handler, Signals, Life, Running, Stopped, Zombie, Note, Waiting, Proc, Request, NoMatch, NotReady, none, World, at, is_halted, stored, changed, first_process, opening, sent, forced, fork_answer, forked, child_of, ended, options_of, ready_of, told}
 use Rattle.sk_world.specs.Sets as set
 use Rattle.sk_world.specs.declared.request.Who.{Who}
 use Rattle.sk_world.specs.declared.request.Who.TheVariants.{Child, Any, Group}

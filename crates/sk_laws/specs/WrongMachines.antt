@@ -1,8 +1,6 @@
 -- Machines that are wrong, and that the laws on authority refuse by themselves.
 use Rattle.std.specs.Prelude.{ℕ, pos, Bool, true, false, if◌then◌else◌, [], Option, None, Some}
-use Rattle.sk_laws.specs.Common.{option_map_or, Action, action_of, SIGHUP, INIT, Body, Proc, each, World, at, is_child_of, parent_of,
-    body_changed, changed, sent, Event, Call, Answer, Returned, Executed, Ended, pid_of, recorded, performed, step_of, is_fork_of, Images,
-    Record}
+use Rattle.sk_laws.specs.Common.{option_map_or, Action, action_of, SIGHUP, INIT, Body, Proc, each, World, at, is_child_of, parent_of, body_changed, changed, sent, Event, Call, Answer, Returned, Executed, Ended, pid_of, recorded, performed, step_of, is_fork_of, Images, Record}
 use Rattle.sk_laws.specs.TellingLaws.{told_by}
 use Rattle.sk_laws.specs.ConfinementLaws.{ends, stops}
 use Rattle.sk_laws.specs.AnyMachine.{Machine, GivesAuthorityByLineage, TellsEndsOnce, KeepsToConfined}

@@ -1,6 +1,6 @@
 -- Calls that conditions hold of, argument by argument, and arms that do not clash.
-use Rattle.std.proofs.Common.{◌≡◌, ℕ, zero, suc, ◌^◌, ◌<◌, ◌≤◌, ◌&&◌, not, if◌then◌else◌, Bool, true, false, inl, inr, List, [], ◌∷◌, length, map, slice_get, slice_index_or, refl, sym, ap, ◌∙◌, subst, arith}
-use Rattle.std.specs.Prelude.{◌||◌, Option, Some, None, IfSome, IfNone, IsSome}
+use Rattle.std.proofs.Common.{◌≡◌, ℕ, zero, suc, ◌^◌, ◌<◌, ◌&&◌, not, if◌then◌else◌, Bool, true, false, inl, inr, List, [], ◌∷◌, length, map, slice_get, slice_index_or, refl, sym, ap, ◌∙◌, subst, arith}
+use Rattle.std.specs.Prelude.{◌||◌, Option, Some, None, IsSome}
 use Rattle.std.specs.List.{All, Contains, list_any}
 use Rattle.std.proofs.lemmas.Bool.{eqb-true, eq-eqb, ne_eqb, le-leb, cases_lt, cases_Bool, and_parts}
 use Rattle.std.proofs.lemmas.List.{get_or_past, length-map}
@@ -79,7 +79,7 @@ none_so_low false least n e great small = cc
 pub within_limit : (narrow : Bool) (n : ℕ) → n < 2 ^ 64 → (narrow ≡ true → 0xffffffff < n → ⊥) → n < limit narrow
 within_limit false n small low = small
 within_limit true n small low =
-    elim (cases_lt n (2 ^ 32)) [ | inl less ↦ less | inr up ↦ absurd (low refl (omega (arith, up))) ]
+    elim (cases_lt n (2 ^ 32)) [ inl less ↦ less | inr up ↦ absurd (low refl (omega (arith, up))) ]
 
 -- ---- from arguments to calls, and back
 

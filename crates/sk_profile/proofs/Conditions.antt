@@ -15,7 +15,7 @@ use Rattle.sk_profile.specs.declared.condition.Condition.{Condition}
 use Rattle.sk_profile.specs.declared.condition.Test.{Test}
 use Rattle.sk_profile.specs.declared.condition.Test.TheVariants.{Is, IsNot, Below, AtMost, Above, AtLeast, Masked}
 use Rattle.sk_profile.specs.Sayings.{low, seen, compares, holds_of, all_hold}
-use Rattle.sk_profile.specs.Code.{load, constant, with, branch, high, high_place, low_place, order_code, high_code, low_code, upper_code, is_short, test_code, conditions_code}
+use Rattle.sk_profile.specs.Code.{load, with, branch, high, high_place, low_place, order_code, high_code, low_code, upper_code, is_short, test_code, conditions_code}
 use Rattle.sk_profile.specs.Means.{IsCall}
 use Rattle.sk_profile.proofs.Steps.{Comes, load_on, constant_on, with_on, branch_two, past}
 use Rattle.sk_profile.proofs.Halves.{register, argument, lower_seen, upper_seen, high_word, low_word}

@@ -24,7 +24,7 @@ use Rattle.sk_profile.specs.declared.condition.Condition.{Condition}
 use Rattle.sk_profile.specs.declared.condition.Test.{Test}
 use Rattle.sk_profile.specs.declared.condition.Test.TheVariants.{Is, IsNot, Below, AtMost, Above, AtLeast, Masked}
 use Rattle.sk_profile.specs.Sayings.{low, Piece, Single, Joined, Tree, Leaf, Away, Fork}
-use Rattle.sk_profile.specs.Code.{load, constant, with, branch, jump, answer, high, high_place, low_place, order_code, high_code, low_code, upper_code, is_short, test_code, conditions_code, passed_over, lows_code, half_code, piece_code, place_of, far, over_code, head_code, fork_code, tree_code, Section, section_code, past_code, guarded_code, filter_code}
+use Rattle.sk_profile.specs.Code.{load, constant, with, branch, jump, answer, high, high_place, low_place, order_code, high_code, low_code, upper_code, is_short, test_code, conditions_code, passed_over, lows_code, half_code, piece_code, place_of, far, over_code, head_code, tree_code, Section, section_code, past_code, guarded_code, filter_code}
 use Rattle.sk_profile.specs.Means.{IsPiece, IsTree, IsSection}
 use Rattle.sk_profile.proofs.Joining.{as_many}
 use Rattle.sk_profile.proofs.Trees.{others_have}
@@ -172,8 +172,7 @@ piece_fits narrow (Joined choice) behind some fits =
     let lower = load (low_place choice.index) ∷ (lows ++ (answer choice.value ∷ [])) in
     let many = as_many choice.others in
     both_fit (half_code narrow choice.index choice.first (length choice.others)) lower behind
-    (half_fits narrow choice.index choice.first (length choice.others) (length lower + behind) fits.inside (omega (arith, some, many, length-append lows (answer choice.value ∷ []))))
-    (
+    (half_fits narrow choice.index choice.first (length choice.others) (length lower + behind) fits.inside (omega (arith, some, many, length-append lows (answer choice.value ∷ [])))) (
       low_load choice.index _ fits.inside,
       both_fit lows (answer choice.value ∷ []) behind (lows_fit (choice.first ∷ choice.others) (1 + behind) (omega (arith, some))) (answer_fits _ _, tt),
     )

@@ -1,25 +1,22 @@
 -- Rows that are cut in two, and the code of the parts.
-use Rattle.std.proofs.Common.{◌≡◌, Bool, true, false, inl, inr, if◌then◌else◌, ℕ, zero, suc, ◌+◌, ◌<◌, ◌≤◌, List, [], ◌∷◌, ◌++◌, ◌-◌, length, get_or, take, drop, map, flat_map, refl, ap, sym, ◌∙◌, subst, arith, append_assoc, append-nil, length-append}
+use Rattle.std.proofs.Common.{◌≡◌, Bool, true, false, inl, inr, ℕ, zero, suc, ◌+◌, ◌<◌, ◌≤◌, List, [], ◌∷◌, ◌++◌, ◌-◌, length, get_or, take, drop, map, flat_map, refl, ap, sym, ◌∙◌, subst, arith, append_assoc, length-append}
 use Rattle.std.specs.Prelude.{All, Contains, Result, Ok, Err, IfOk, IfErr, IsErrAnd, ◌==◌}
 use Rattle.std.specs.List.{list_all}
 use Rattle.std.proofs.lemmas.Bool.{eq-eqb, eqb-true, both_ways}
 use Rattle.std.proofs.lemmas.List.Sums.{AllPass-from_list_all}
 use Rattle.std.proofs.lemmas.List.{length-map}
-use Rattle.std.proofs.lemmas.List.Elements.{All-nil, All-cons, All-head, All-tail, All-get_or, All-take, All-drop, All-map, All-append, All-weaker}
+use Rattle.std.proofs.lemmas.List.Elements.{All-nil, All-cons, All-head, All-tail, All-get_or, All-take, All-drop, All-map, All-weaker}
 use Rattle.sk_insn.specs.declared.insn.Insn.{Insn}
-use Rattle.sk_insn.specs.declared.record.Record.{Record}
-use Rattle.sk_insn.specs.declared.operation.Comparison.TheVariants.{Equal, GreaterOrEqual}
-use Rattle.sk_profile.specs.declared.condition.Condition.{Condition}
 use Rattle.sk_profile.specs.declared.saying.Arm.{Arm as ArmOfCode}
 use Rattle.sk_profile.specs.declared.saying.Saying.{Saying as SayingOfCode}
 use Rattle.sk_profile.specs.declared.saying.Row.{Row as RowOfCode}
-use Rattle.sk_profile.specs.Sayings.{seen, Saying, Arm, first_held, Piece, Single, arms_of, Tree, Leaf, Away, Fork}
-use Rattle.sk_profile.specs.CodeRows.{Row, saying_in, Cuts}
+use Rattle.sk_profile.specs.Sayings.{seen, Arm, first_held, Single, arms_of, Tree, Leaf, Away, Fork}
+use Rattle.sk_profile.specs.CodeRows.{Row, Cuts}
 use Rattle.sk_profile.specs.Code.{branch, jump, answer, place_of, far, over_code, head_code, fork_code, tree_code, Section, section_code, past_code, guarded_code}
-use Rattle.sk_profile.specs.Means.{IsPiece, IsTree, HasCode, IsSection}
-use Rattle.sk_profile.specs.CodeViews.{arm_of, saying_of, row_of, IsArmOfCode, IsSayingOfCode, IsRowOfCode, AreRising, AreRows, PutsSaying, CutsRows, IsAway, IsSideOf, IsTreeOf, IsOverlong, IsSectionFor, PutsSection, IsLongSection}
+use Rattle.sk_profile.specs.Means.{IsPiece, HasCode}
+use Rattle.sk_profile.specs.CodeViews.{arm_of, saying_of, row_of, IsArmOfCode, IsSayingOfCode, IsRowOfCode, AreRising, AreRows, PutsSaying, CutsRows, IsAway, IsSideOf, IsTreeOf, IsOverlong, PutsSection, IsLongSection}
 use Rattle.sk_profile.proofs.Emitting.{none_matters, of_code, rest_of}
-use Rattle.sk_profile.proofs.Trees.{begins_here, others_have}
+use Rattle.sk_profile.proofs.Trees.{begins_here}
 
 rising_take : (n : ℕ) (rows : List RowOfCode) → AreRising rows → AreRising (take n rows)
 rising_take zero rows rising = tt
@@ -296,8 +293,12 @@ section_put old tree new audit values before rows n it so_many is =
 
 guarded_longer : (section : Section) → length (tree_code section.values section.tree 0) + length section.values < length (guarded_code section)
 guarded_longer section =
-    omega (arith, length-append (past_code section.audit (length (section_code section))) (section_code section),
-    length-append (tree_code section.values section.tree 0) (map answer section.values), length-map section.values answer)
+    omega (
+      arith,
+      length-append (past_code section.audit (length (section_code section))) (section_code section),
+      length-append (tree_code section.values section.tree 0) (map answer section.values),
+      length-map section.values answer,
+    )
 
 pub long_section : (audit : ℕ) (values : List ℕ) (before : SayingOfCode) (rows : List RowOfCode) (tree : Tree) → CutsRows values before rows tree → HasCode tree
     → 4096 < length (tree_code values tree 0) + length values + 1 → IsLongSection audit before rows

@@ -10,7 +10,7 @@ use Rattle.sk_filter.specs.Meaning.{State}
 use Rattle.sk_profile.specs.declared.condition.Condition.{Condition}
 use Rattle.sk_profile.specs.Sayings.{low, seen, Arm, all_hold, first_held, asks, Choice, Piece, Single, Joined, arms_of}
 use Rattle.sk_profile.specs.Code.{load, answer, high, high_place, low_place, half_code, conditions_code, single_code, passed_over, lows_code, choice_code, piece_code, saying_code}
-use Rattle.sk_profile.specs.Means.{IsCall, IsChoice, IsPiece}
+use Rattle.sk_profile.specs.Means.{IsCall, IsPiece}
 use Rattle.sk_profile.proofs.Steps.{Comes, load_on, branch_two, answers, past}
 use Rattle.sk_profile.proofs.Halves.{register, argument, lower_seen, upper_seen, high_word, low_word}
 use Rattle.sk_profile.proofs.Conditions.{conditions_on}

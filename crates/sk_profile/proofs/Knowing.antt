@@ -1,6 +1,6 @@
 -- Linux's walk for a number of x86-64 comes to yes where the tree allows it and asks for nothing.
 use Rattle.std.proofs.Common.{◌≡◌, ℕ, zero, suc, ◌+◌, ◌==◌, ◌&&◌, Bool, true, false, if◌then◌else◌, nat_le, List, [], ◌∷◌, ◌++◌, length, map, flat_map, refl, ap, sym, ◌∙◌, subst, arith, append_assoc, length-append}
-use Rattle.std.specs.Prelude.{IsTrue, Contains, All, Some, None}
+use Rattle.std.specs.Prelude.{Contains, All, Some}
 use Rattle.std.proofs.lemmas.Bool.{eqb-true, eqb-false, eq-eqb, ne_eqb}
 use Rattle.std.proofs.lemmas.List.Elements.{All-head, All-tail}
 use Rattle.sk_insn.specs.declared.insn.Insn.{Insn}
@@ -12,9 +12,9 @@ use Rattle.sk_insn.specs.Actions.{allow}
 use Rattle.sk_insn.specs.Record.{architecture}
 use Rattle.sk_insn.proofs.OperationTable.{operation_of-code_of}
 use Rattle.sk_filter.specs.Meaning.{holds}
-use Rattle.sk_filter.specs.Walk.{walks_on, walks_from, walks}
+use Rattle.sk_filter.specs.Walk.{walks_on, walks_from}
 use Rattle.sk_profile.specs.Sayings.{Saying, IsBare, Piece, Single, Joined, arms_of, Tree, Leaf, Away, Fork, saying_at}
-use Rattle.sk_profile.specs.Code.{load, branch, jump, answer, place_of, far, over_code, head_code, fork_code, saying_code, tree_code, Section, section_code, past_code, guarded_code, filter_code}
+use Rattle.sk_profile.specs.Code.{load, branch, jump, answer, place_of, far, over_code, head_code, fork_code, saying_code, tree_code, Section, section_code, past_code, guarded_code}
 use Rattle.sk_profile.specs.Means.{IsTree, IsSection, IsAllowed, SectionsAreKnown, section_for}
 use Rattle.sk_profile.proofs.Trees.{others_have, begins_here}
 

@@ -1,10 +1,8 @@
 -- What settles a number: a rule without conditions, or no rule, or those with conditions.
-use Rattle.std.proofs.Common.{◌≡◌, ℕ, Bool, List, [], ◌∷◌, length, map, refl, ap, sym, ◌∙◌, arith}
+use Rattle.std.proofs.Common.{◌≡◌, ℕ, Bool, List, [], ◌∷◌, length, refl, ap, arith}
 use Rattle.std.specs.Prelude.{Option, Some, None}
 use Rattle.std.specs.Option.{option_map}
-use Rattle.sk_profile.specs.declared.saying.Arm.{Arm as ArmOfCode}
-use Rattle.sk_profile.specs.CodeViews.{arm_of}
-use Rattle.sk_profile.specs.Sayings.{Arm, Saying, always}
+use Rattle.sk_profile.specs.Sayings.{Arm, always}
 use Rattle.sk_profile.specs.Profiles.{Rule, settled}
 
 pub settled_plain : (narrow : Bool) (rule : Option Rule) (arms : List Arm) (default value : ℕ) → Some value ≡ option_map (λ (rule : Rule). rule.value) rule → always value ≡ settled narrow rule arms default

@@ -1,5 +1,5 @@
 -- What rows say from one more start on, and behind the last.
-use Rattle.std.proofs.Common.{zero, suc, ◌≡◌, ◌==◌, ◌&&◌, ℕ, ◌+◌, ◌-◌, ◌<◌, ◌≤◌, nat_le, ◌^◌, inl, inr, Bool, true, false, if◌then◌else◌, List, [], ◌∷◌, ◌++◌, map, length, Some, None, slice_get, refl, sym, ap, ◌∙◌, subst, arith, append_assoc}
+use Rattle.std.proofs.Common.{zero, suc, ◌≡◌, ◌==◌, ℕ, ◌+◌, ◌-◌, ◌<◌, ◌≤◌, nat_le, ◌^◌, inl, inr, Bool, true, false, if◌then◌else◌, List, [], ◌∷◌, ◌++◌, map, length, Some, None, slice_get, refl, sym, ap, ◌∙◌, subst, arith, append_assoc}
 use Rattle.std.specs.Prelude.{All}
 use Rattle.std.proofs.lemmas.Bool.{cases_lt, leb-true, leb-false, le-leb, lt-leb, ne_eqb}
 use Rattle.std.proofs.lemmas.List.{map-append}
@@ -113,7 +113,6 @@ without_arms (arm ∷ arms) = sym (ne_eqb (length (arm ∷ arms)) 0 (λ e. absur
 -- a row more where something else is said
 pub row_of_change : (old new : ℕ) (before last now : Saying) → new ≡ old + 1 → before ≡ last → says_same last now ≡ false → new ≤ old + (if says_same before now then 0 else 1)
 row_of_change old new before last now more is other = rw (ap (λ said. says_same said now) is ∙ other) (omega (arith, more))
-
 
 -- ---- rows up to a number, with all that is owed
 

@@ -1,6 +1,6 @@
 -- The code of sections answers what they say.
 use Rattle.std.proofs.Common.{◌≡◌, ℕ, zero, suc, ◌+◌, ◌==◌, ◌&&◌, Bool, true, false, if◌then◌else◌, nat_le, List, [], ◌∷◌, ◌++◌, length, map, flat_map, refl, ap, sym, ◌∙◌, subst, arith, append_assoc, length-append}
-use Rattle.std.specs.Prelude.{All, Contains, Option, Some, None, find}
+use Rattle.std.specs.Prelude.{All, Contains, Some}
 use Rattle.std.proofs.lemmas.Bool.{eqb-true, eqb-false, eq-eqb, ne_eqb}
 use Rattle.std.proofs.lemmas.List.Elements.{All-head, All-tail}
 use Rattle.sk_insn.specs.declared.insn.Insn.{Insn}
@@ -9,7 +9,7 @@ use Rattle.sk_insn.specs.declared.operation.Comparison.TheVariants.{Equal, Great
 use Rattle.sk_insn.proofs.RecordWords.{number_there, word_of_architecture}
 use Rattle.sk_filter.specs.Meaning.{State, start}
 use Rattle.sk_profile.specs.Sayings.{Saying, Tree, Leaf, Away, Fork, said, saying_at}
-use Rattle.sk_profile.specs.Code.{load, branch, jump, answer, place_of, far, over_code, head_code, fork_code, tree_code, Section, section_code, past_code, guarded_code, filter_code}
+use Rattle.sk_profile.specs.Code.{branch, jump, answer, place_of, far, over_code, head_code, fork_code, tree_code, Section, section_code, past_code, guarded_code}
 use Rattle.sk_profile.specs.Means.{IsCall, IsTree, HasCode, IsSection, section_for, said_if, CodeMeansSections}
 use Rattle.sk_profile.proofs.Steps.{Comes, answers, load_on, branch_on, branch_two, jump_on, past}
 use Rattle.sk_profile.proofs.Joining.{pieces_on}

@@ -1,6 +1,6 @@
 -- The sections of all parts, and the filter of them.
-use Rattle.std.proofs.Common.{◌≡◌, ◌==◌, ℕ, zero, suc, ◌+◌, ◌-◌, ◌<◌, ◌≤◌, ◌^◌, Bool, true, false, if◌then◌else◌, inl, inr, List, [], ◌∷◌, ◌++◌, length, map, flat_map, refl, ap, sym, ◌∙◌, subst, arith, append_assoc, append-nil, length-append}
-use Rattle.std.specs.Prelude.{All, Contains, IsTrue, Option, Some, None, find, Result, Ok, Err, IfErr, IsErrAnd, ◌≢◌}
+use Rattle.std.proofs.Common.{◌≡◌, ◌==◌, ℕ, suc, ◌-◌, ◌<◌, ◌≤◌, ◌^◌, Bool, true, false, List, [], ◌∷◌, ◌++◌, length, map, flat_map, refl, ap, sym, ◌∙◌, subst, arith, append_assoc, append-nil, length-append}
+use Rattle.std.specs.Prelude.{All, Contains, IsTrue, Some, find, Result, Ok, Err, IfErr, IsErrAnd, ◌≢◌}
 use Rattle.std.proofs.lemmas.List.{flat_map_more, map-append}
 use Rattle.std.proofs.lemmas.List.Elements.{All-nil, All-cons, All-head, All-tail, All-append}
 use Rattle.sk_insn.specs.declared.insn.Insn.{Insn}
@@ -22,10 +22,9 @@ use Rattle.sk_profile.specs.declared.profile.Profile.{Profile as ProfileOfCode}
 use Rattle.sk_profile.specs.Sayings.{Saying, AlwaysSays, said, saying_at}
 use Rattle.sk_profile.specs.Code.{answer, load, Section, guarded_code, filter_code}
 use Rattle.sk_profile.specs.CodeViews.{saying_of, row_of, IsSectionFor, PutsSection, IsLongSection}
-use Rattle.sk_profile.specs.CodeRows.{saying_in}
 use Rattle.sk_profile.specs.Means.{IsCall, IsSection, IsAllowed, Gives, section_for, said_if}
 use Rattle.sk_profile.specs.Clashes.{IsClear, IsClearPart, IsClash, IsClashIn, AreClear}
-use Rattle.sk_profile.specs.Profiles.{Part, Profile, saying_in_part, part_for, saying_if, saying_for, said_by}
+use Rattle.sk_profile.specs.Profiles.{Part, Profile, saying_in_part, saying_if, saying_for, said_by}
 use Rattle.sk_profile.specs.Views.{part_of, profile_of}
 use Rattle.sk_profile.specs.Rows.{IsSectionOf, AreSections, PutsSectionOf, PutsSections, IsLongPart, HasLongSections, AreGood, said_at, changes}
 use Rattle.sk_profile.specs.Faults.{of_code, IsFaultIn, IsFaultOf}
@@ -182,8 +181,12 @@ its_parts profile left rest part old code steps so_far = ap (map part_of) (so_fa
 
 no_less : (sections : List Section) (section : Section) (bad : ℕ) → length (guarded_code section) ≤ length (filter_code bad (sections ++ section ∷ []))
 no_less sections section bad =
-    omega (arith, ap length (flat_map_more guarded_code [] sections section), length-append (flat_map guarded_code sections) (guarded_code section),
-    length-append (flat_map guarded_code (sections ++ section ∷ [])) (answer bad ∷ []))
+    omega (
+      arith,
+      ap length (flat_map_more guarded_code [] sections section),
+      length-append (flat_map guarded_code sections) (guarded_code section),
+      length-append (flat_map guarded_code (sections ++ section ∷ [])) (answer bad ∷ []),
+    )
 
 pub long_parts : (profile : ProfileOfCode) (left rest : List PartOfCode) (part : PartOfCode) (old code : List Insn) → left ≡ part ∷ rest → SoFar profile left old code
     → IsLongPart profile.default profile.bad (part_of part) → HasLongSections (profile_of profile)

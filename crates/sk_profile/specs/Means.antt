@@ -1,13 +1,12 @@
 -- The main theorem's statement.
-use Rattle.std.specs.Prelude.{ℕ, ◌≡◌, ◌<◌, ◌≤◌, ◌^◌, ◌==◌, Bool, true, List, length, All, IsTrue, find, Option, Some, None, ⊤, Contains}
-use Rattle.sk_insn.specs.declared.insn.Insn.{Insn}
+use Rattle.std.specs.Prelude.{ℕ, ◌≡◌, ◌<◌, ◌^◌, ◌==◌, Bool, true, List, length, All, IsTrue, find, Option, Some, None, ⊤, Contains}
 use Rattle.sk_insn.specs.declared.record.Record.{Record}
 use Rattle.sk_insn.specs.Actions.{allow}
 use Rattle.sk_insn.specs.Record.{architecture}
 use Rattle.sk_filter.specs.Meaning.{Returned, Meaning, meaning_of}
 use Rattle.sk_filter.specs.Walk.{walks}
 use Rattle.sk_profile.specs.declared.condition.Condition.{Condition}
-use Rattle.sk_profile.specs.Sayings.{Saying, IsBare, Piece, Single, Joined, Tree, Leaf, Away, Fork, said, saying_at}
+use Rattle.sk_profile.specs.Sayings.{IsBare, Piece, Single, Joined, Tree, Leaf, Away, Fork, said, saying_at}
 use Rattle.sk_profile.specs.Code.{high, Section, filter_code}
 
 -- a call as the machine makes one: six arguments of 64 bits, and a number and an architecture of 32

@@ -1,5 +1,5 @@
 -- Rows of what is said of the numbers of calls.
-use Rattle.std.specs.Prelude.{ℕ, zero, suc, ◌≡◌, ◌+◌, ◌-◌, ◌*◌, ◌^◌, ◌<◌, ◌≤◌, ◌==◌, ◌&&◌, nat_le, nat_lt, not, Bool, true, false, if◌then◌else◌, List, [], ◌∷◌, ◌++◌, map, flat_map, length, All, Option, Some, None, ⊤}
+use Rattle.std.specs.Prelude.{ℕ, zero, suc, ◌≡◌, ◌+◌, ◌-◌, ◌*◌, ◌^◌, ◌<◌, ◌≤◌, ◌==◌, ◌&&◌, nat_lt, not, Bool, true, false, if◌then◌else◌, List, [], ◌∷◌, ◌++◌, map, flat_map, length, All, Option, Some, None, ⊤}
 use Rattle.sk_insn.specs.declared.insn.Insn.{Insn}
 use Rattle.sk_profile.specs.declared.saying.Row.{Row}
 use Rattle.sk_profile.specs.Sayings.{Arm, Saying}

@@ -154,7 +154,15 @@ pub(crate) fn tree_of(
     let middle = &rows[at];
     let (low, high) = numbers.cut_at(middle.start);
     let near = NEAR.saturating_sub(most(before, &rows[..at]));
-    let above = side_of(alloc, values, behind, near, &middle.saying, &rows[at + 1..], high)?;
+    let above = side_of(
+        alloc,
+        values,
+        behind,
+        near,
+        &middle.saying,
+        &rows[at + 1..],
+        high,
+    )?;
     let more = above.code.len() + behind;
     if more > MOST_INSNS {
         return Err(CodeFault::TooLong);
@@ -195,7 +203,12 @@ fn forked(alloc: Global, number: u32, below: &Side, above: &Side) -> Result<Vec<
     ensures long { IfErr result (λ fault. fault ≡ TooLong → length below.now.code.items + above.now.begins ≤ 4096 → 4096 < below.now.begins) }
 {
     let mut code = Vec::new(alloc);
-    push_head(&mut code, number, below.code.len() + above.begins, below.begins)?;
+    push_head(
+        &mut code,
+        number,
+        below.code.len() + above.begins,
+        below.begins,
+    )?;
     code.extend_from_slice(&below.code)?;
     code.extend_from_slice(&above.code)?;
     Ok(code)

@@ -83,7 +83,12 @@ fn push_low(code: &mut Vec<Insn>, test: Test, low: u32, away: u8) -> Result<(), 
 }
 
 // Compares an argument, and goes on where the test holds.
-fn push_test(code: &mut Vec<Insn>, narrow: bool, condition: Condition, away: u8) -> Result<(), AllocError>
+fn push_test(
+    code: &mut Vec<Insn>,
+    narrow: bool,
+    condition: Condition,
+    away: u8,
+) -> Result<(), AllocError>
     requires index { condition.index < 6 }
     requires near { away ≤ 200 }
     ensures code { OnOk result (code.new.items ≡
@@ -107,7 +112,8 @@ fn length_of_all(narrow: bool, conditions: &[Condition]) -> u8
 {
     match conditions.split_first() {
         None => 0,
-        Some((condition, rest)) => length_of(narrow, *condition) as u8 + length_of_all(narrow, rest),
+        Some((condition, rest)) => length_of(narrow, *condition) as u8
+            + length_of_all(narrow, rest),
     }
 }
 

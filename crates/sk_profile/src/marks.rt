@@ -55,6 +55,10 @@ fn nearer(from: u32, best: Option<u32>, mark: u64) -> Option<u32>
     };
     match best {
         None => if from < mark { Some(mark) } else { None },
-        Some(found) => if from < mark && mark < found { Some(mark) } else { Some(found) },
+        Some(found) => if from < mark && mark < found {
+            Some(mark)
+        } else {
+            Some(found)
+        },
     }
 }

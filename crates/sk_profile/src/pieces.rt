@@ -112,7 +112,12 @@ fn alike(first: Question, arms: &[Arm]) -> usize
 }
 
 // Asks for the upper half of a number, before so many more.
-fn push_half(code: &mut Vec<Insn>, narrow: bool, first: Question, more: u8) -> Result<(), AllocError>
+fn push_half(
+    code: &mut Vec<Insn>,
+    narrow: bool,
+    first: Question,
+    more: u8,
+) -> Result<(), AllocError>
     requires index { first.index < 6 }
     requires few { more ≤ MOST_JOINED }
     ensures code { OnOk result (code.new.items ≡ code.old.items ++ half_code narrow first.index first.number more) }
@@ -127,7 +132,12 @@ fn push_half(code: &mut Vec<Insn>, narrow: bool, first: Question, more: u8) -> R
 }
 
 // An arm and those behind it that share what it asks.
-fn push_joined(code: &mut Vec<Insn>, narrow: bool, first: Question, others: &[Arm]) -> Result<(), AllocError>
+fn push_joined(
+    code: &mut Vec<Insn>,
+    narrow: bool,
+    first: Question,
+    others: &[Arm],
+) -> Result<(), AllocError>
     requires index { first.index < 6 }
     requires within { narrow ≡ true → high first.number ≡ 0 }
     requires few { length others.now ≤ MOST_JOINED }
@@ -153,7 +163,12 @@ fn push_single(code: &mut Vec<Insn>, narrow: bool, arm: &Arm) -> Result<(), Allo
 }
 
 // The first arm, with those of the rest that it is joined with: so many.
-fn push_piece(code: &mut Vec<Insn>, narrow: bool, arm: &Arm, rest: &[Arm]) -> Result<usize, AllocError>
+fn push_piece(
+    code: &mut Vec<Insn>,
+    narrow: bool,
+    arm: &Arm,
+    rest: &[Arm],
+) -> Result<usize, AllocError>
     requires arm { IsArmOfCode arm.now }
     ensures inside { IfOk result (λ joined. joined ≤ length rest.now) }
     ensures piece { IfOk result (λ joined. PutsPiece narrow code.old.items code.new.items

@@ -52,7 +52,13 @@ pub fn rows_of(alloc: Global, default: u32, bad: u32, part: &Part) -> Result<Row
 }
 
 // What is said of the calls with a number, if no two rules clash there.
-fn clear_saying(alloc: Global, default: u32, bad: u32, part: &Part, nr: u32) -> Result<Saying, ProfileFault>
+fn clear_saying(
+    alloc: Global,
+    default: u32,
+    bad: u32,
+    part: &Part,
+    nr: u32,
+) -> Result<Saying, ProfileFault>
     requires good { AreGood part.now }
     ensures saying { IfOk result (λ saying. saying_of saying ≡ saying_in_part default bad (part_of part.now) nr) }
     ensures good { IfOk result IsSayingOfCode }
@@ -67,7 +73,13 @@ fn clear_saying(alloc: Global, default: u32, bad: u32, part: &Part, nr: u32) -> 
 }
 
 // What is said of the calls with a number.
-fn said_of(alloc: Global, default: u32, bad: u32, part: &Part, nr: u32) -> Result<Saying, AllocError>
+fn said_of(
+    alloc: Global,
+    default: u32,
+    bad: u32,
+    part: &Part,
+    nr: u32,
+) -> Result<Saying, AllocError>
     requires good { AreGood part.now }
     ensures saying { IfOk result (λ saying. saying_of saying ≡ saying_in_part default bad (part_of part.now) nr) }
     ensures good { IfOk result IsSayingOfCode }
@@ -145,5 +157,8 @@ fn is_same(one: &Saying, other: &Saying) -> bool
     ensures same { IsTrue result → saying_of one.now ≡ saying_of other.now }
     ensures exact { result ≡ says_same (saying_of one.now) (saying_of other.now) }
 {
-    one.arms.is_empty() && other.arms.is_empty() && one.otherwise == other.otherwise && one.narrow == other.narrow
+    one.arms.is_empty()
+        && other.arms.is_empty()
+        && one.otherwise == other.otherwise
+        && one.narrow == other.narrow
 }

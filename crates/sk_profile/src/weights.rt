@@ -162,10 +162,7 @@ impl Numbers {
     /// Those below a number, and those from it on.
     pub fn cut_at(self, number: u32) -> (Numbers, Numbers) {
         (
-            Numbers {
-                to: number,
-                ..self
-            },
+            Numbers { to: number, ..self },
             Numbers {
                 from: number,
                 ..self
@@ -209,7 +206,9 @@ pub fn most(before: &Saying, rows: &[Row]) -> usize {
 fn most_of(saying: &Saying) -> usize {
     let mut most = 1_usize;
     for arm in saying.arms.iter() {
-        most = most.saturating_add(1).saturating_add(arm.conditions.len().saturating_mul(6));
+        most = most
+            .saturating_add(1)
+            .saturating_add(arm.conditions.len().saturating_mul(6));
     }
     most
 }

@@ -1,8 +1,7 @@
 -- Who the children of a process go to.
 use Rattle.std.proofs.Common.{◌≡◌, ◌≢◌, ◌∙◌, ◌+◌, ◌-◌, ◌<◌, ◌≤◌, ◌==◌, ℕ, zero, suc, arith, ap, sym, refl, Bool, true, false, cond, not, ◌&&◌, [], ◌∷◌, ◌⊎◌, inl, inr, IsTrue, IsFalse, Option, None, Some}
 use Rattle.std.specs.Prelude.{find}
-use Rattle.sk_world.specs.Common.{is_some, unwrap_or, INIT, LAST_PID, PROCESSES, Proc, World, at, is_zombie, is_alive, is_halted, parent_of,
-    IsWorld, is_init, is_subreaper, line_up, ancestors, takes_children, new_parent}
+use Rattle.sk_world.specs.Common.{is_some, unwrap_or, INIT, LAST_PID, PROCESSES, Proc, World, at, is_zombie, is_alive, is_halted, parent_of, IsWorld, is_init, is_subreaper, line_up, ancestors, takes_children, new_parent}
 use Rattle.sk_world.proofs.Common.{false≢true, and_parts, not-true, eqb-false, eqb-true}
 use Rattle.sk_world.proofs.KeptTold.{found, no_parent}
 

@@ -1,7 +1,6 @@
 -- A change through `body_mut`, as a change of the world.
 use Rattle.std.proofs.Common.{◌≡◌, ◌∙◌, ◌==◌, ℕ, ap, sym, refl, subst, true, false, cond, IsTrue, Option, Some, None}
-use Rattle.sk_world.specs.Common.{option_map, option_map_or, INIT, Body, Proc, get, store, World, at, has_ended, has_stopped, stored,
-    body_changed, changed, with_body, IsWorld}
+use Rattle.sk_world.specs.Common.{option_map, option_map_or, INIT, Body, Proc, get, store, World, at, has_ended, has_stopped, stored, body_changed, changed, with_body, IsWorld}
 use Rattle.sk_world.proofs.Maps.{same_map, get_store, equal_numbers}
 use Rattle.sk_world.proofs.Stored.{kept_changed}
 

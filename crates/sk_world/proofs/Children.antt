@@ -1,7 +1,6 @@
 -- What a fork answers and leaves, by whether there is room.
 use Rattle.std.proofs.Common.{◌≡◌, ◌∙◌, ◌<◌, ◌≤◌, ℕ, ap, sym, cond, ◌&&◌, nat_lt, nat_le, IsTrue, Some, Ok, Err}
-use Rattle.sk_world.specs.Common.{is_some, option_map_or, Eagain, LAST_PID, PROCESSES, Proc, count, World, at, inserted, IsWorld, is_within,
-    has_links_within, fresh_of, fork_answer, forked, has_room, child_of}
+use Rattle.sk_world.specs.Common.{is_some, option_map_or, Eagain, LAST_PID, PROCESSES, Proc, count, World, at, inserted, IsWorld, is_within, has_links_within, fresh_of, fork_answer, forked, has_room, child_of}
 use Rattle.sk_world.proofs.Common.{lt-ltb, le-ltb, le-leb, and_parts, and_from}
 
 -- where there is no room

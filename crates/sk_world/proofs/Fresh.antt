@@ -1,8 +1,7 @@
 -- The next free number is free, and a pid.
 use Rattle.std.proofs.Common.{◌≡◌, ◌≢◌, ◌∙◌, ◌+◌, ◌-◌, ◌*◌, ◌<◌, ◌≤◌, ◌==◌, ℕ, zero, suc, arith, ap, sym, refl, Bool, true, false, cond, ◌||◌, List, [], ◌∷◌, length, ⊎_elim, None, Some}
 use Rattle.std.specs.Prelude.{nat_le}
-use Rattle.sk_world.specs.Common.{list_any, nat_cmp, find, LAST_PID, PROCESSES, Proc, count, World, at, has_number, is_used, next_number,
-    distance_from, IsNextFree, free_from, fresh_of}
+use Rattle.sk_world.specs.Common.{list_any, nat_cmp, find, LAST_PID, PROCESSES, Proc, count, World, at, has_number, is_used, next_number, distance_from, IsNextFree, free_from, fresh_of}
 use Rattle.sk_world.proofs.Common.{false≢true, eqb-true, cases_lt, nat_tests}
 use Rattle.sk_world.proofs.Maps.{same_number}
 

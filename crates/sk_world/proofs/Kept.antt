@@ -1,9 +1,7 @@
 -- Each change of the world keeps its rules.
 use Rattle.std.proofs.Common.{◌≡◌, ◌≢◌, ◌≤◌, ◌==◌, ℕ, sym, refl, Bool, cond, ◌&&◌, IsTrue, Option, None, Some}
 use Rattle.std.proofs.Common.{lit≤}
-use Rattle.sk_world.specs.Common.{is_some, SIGCHLD, SIGCONT, generated, sigsys_forced, INIT, LAST_PID, Running, Continued, Body, Proc, none,
-    World, at, has_ended, has_stopped, is_stopped, is_alive, parent_of, first_process, opening, IsWorld, has_links_within, continued,
-    signalled, generated_at}
+use Rattle.sk_world.specs.Common.{is_some, SIGCHLD, SIGCONT, generated, sigsys_forced, INIT, LAST_PID, Running, Continued, Body, Proc, none, World, at, has_ended, has_stopped, is_stopped, is_alive, parent_of, first_process, opening, IsWorld, has_links_within, continued, signalled, generated_at}
 use Rattle.sk_world.proofs.Common.{false≢true, cond_both}
 use Rattle.sk_world.specs.laws.WorldLaws.{OpeningHasRules, SignalKeepsRules, ForceKeepsRules}
 use Rattle.sk_world.proofs.Stored.{everywhere, kept_changed}

@@ -1,9 +1,6 @@
 -- The end of a process keeps the rules of the world.
 use Rattle.std.proofs.Common.{◌≡◌, ◌≢◌, ◌∙◌, ◌+◌, ◌≤◌, ◌==◌, ℕ, arith, ap, sym, refl, subst, Bool, true, cond, not, ◌&&◌, List, [], ◌∷◌, length, ◌⊎◌, inl, inr, IsTrue, Option, None, Some}
-use Rattle.sk_world.specs.Common.{is_some, option_map, option_and_then, SIGCHLD, SIGCONT, INIT, LAST_PID, Zombie, Body, Proc, Processes,
-    get, count, store, each_of, World, at, has_ended, is_stopped, is_zombie, is_alive, parent_of, stored, body_changed, changed, IsWorld,
-    is_init, has_links_within, generated_at, sent, new_parent, ignores_children, handed_on, with_children_handed_on, has_zombie_child,
-    reparented, zombie, left_to_parent, ended}
+use Rattle.sk_world.specs.Common.{is_some, option_map, option_and_then, SIGCHLD, SIGCONT, INIT, LAST_PID, Zombie, Body, Proc, Processes, get, count, store, each_of, World, at, has_ended, is_stopped, is_zombie, is_alive, parent_of, stored, body_changed, changed, IsWorld, is_init, has_links_within, generated_at, sent, new_parent, ignores_children, handed_on, with_children_handed_on, has_zombie_child, reparented, zombie, left_to_parent, ended}
 use Rattle.sk_world.proofs.Common.{eqb-true, eqb-false, false≢true, and_parts, and_from, not-true, not-false, ne_eqb, cond_both, cond-false}
 use Rattle.sk_world.specs.laws.WorldLaws.{ReparentKeepsRules, EndKeepsRules}
 use Rattle.sk_world.proofs.Maps.{get_each, count_put, count_gone}

@@ -1,7 +1,6 @@
 -- A fork keeps the rules of the world.
 use Rattle.std.proofs.Common.{◌≡◌, ◌≢◌, ◌∙◌, ◌+◌, ◌≤◌, ◌<◌, ℕ, arith, ap, sym, refl, cond, IsTrue, Option, None, Some}
-use Rattle.sk_world.specs.Common.{is_some, option_map_or, INIT, LAST_PID, PROCESSES, Proc, count, World, at, is_zombie, is_alive, parent_of,
-    stored, inserted, IsWorld, is_init, is_within, has_links_within, fresh_of, has_room, child_of}
+use Rattle.sk_world.specs.Common.{is_some, option_map_or, INIT, LAST_PID, PROCESSES, Proc, count, World, at, is_zombie, is_alive, parent_of, stored, inserted, IsWorld, is_init, is_within, has_links_within, fresh_of, has_room, child_of}
 use Rattle.sk_world.proofs.Common.{false≢true, cond_both, ltb-true}
 use Rattle.sk_world.specs.laws.WorldLaws.{ForkKeepsRules}
 use Rattle.sk_world.proofs.Maps.{count_put}

@@ -1,7 +1,6 @@
 -- What wait4(2) tells keeps the rules of the world.
 use Rattle.std.proofs.Common.{◌≡◌, ◌≢◌, ◌∙◌, ◌==◌, ℕ, arith, ap, sym, refl, subst, Bool, true, false, cond, IsTrue, List, [], ◌∷◌, Option, None, Some}
-use Rattle.sk_world.specs.Common.{is_some, option_map_or, unwrap_or, INIT, Proc, Request, Told, NoMatch, NotReady, pids, World, at,
-    is_zombie, parent_of, stored, changed, IsWorld, is_init, is_asked_for, is_match, is_ready, has_match, status_of, without_note, told}
+use Rattle.sk_world.specs.Common.{is_some, option_map_or, unwrap_or, INIT, Proc, Request, Told, NoMatch, NotReady, pids, World, at, is_zombie, parent_of, stored, changed, IsWorld, is_init, is_asked_for, is_match, is_ready, has_match, status_of, without_note, told}
 use Rattle.std.specs.List.{find}
 use Rattle.sk_world.proofs.Common.{false≢true, eqb-true, and_parts, cond_both}
 use Rattle.sk_world.specs.laws.WorldLaws.{ToldKeepsRules}

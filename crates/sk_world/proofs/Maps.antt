@@ -1,7 +1,6 @@
 -- What the words on the map of processes give, pid by pid.
 use Rattle.std.proofs.Common.{◌≡◌, ◌∙◌, ◌+◌, ◌-◌, ◌==◌, ℕ, arith, ap, sym, refl, Bool, true, false, cond, not, List, [], ◌∷◌, length, Option, None, Some}
-use Rattle.sk_world.specs.Common.{is_some, option_and_then, nat_cmp, eq_by_cmp, nat_cmp_total, find, where_key, find-put, find-where_key,
-    length-put, length_without, same_entries, Proc, Processes, get, count, store, each_of, each, same_processes}
+use Rattle.sk_world.specs.Common.{is_some, option_and_then, nat_cmp, eq_by_cmp, nat_cmp_total, find, where_key, find-put, find-where_key, length-put, length_without, same_entries, Proc, Processes, get, count, store, each_of, each, same_processes}
 use Rattle.std.specs.FinMap.{nat_cmp-IsAntisymmetric}
 use Rattle.sk_world.proofs.Common.{nat_tests}
 

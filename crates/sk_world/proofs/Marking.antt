@@ -1,8 +1,7 @@
 -- The bits of one word that say which words of a list have a bit.
 use Rattle.std.proofs.Common.{◌≡◌, ◌≢◌, ◌∙◌, ◌+◌, ◌*◌, ◌/◌, ◌%◌, ◌^◌, ◌<◌, ◌≤◌, ◌==◌, ℕ, arith, ap, sym, false, not, List, length, get_or, set, inl, inr, bit_and, bit_or, w64, replicate}
 use Rattle.sk_world.specs.Common.{bit_at, bit_not, has_bit}
-use Rattle.sk_world.proofs.Common.{cases_lt, get_or_past, bit_at-zero, bit_at_set_same, bit_at_set_other, bit_at_clear_same,
-    bit_at_clear_other}
+use Rattle.sk_world.proofs.Common.{cases_lt, get_or_past, bit_at-zero, bit_at_set_same, bit_at_set_other, bit_at_clear_same, bit_at_clear_other}
 use Rattle.sk_world.specs.Summary.{IsMarked}
 use Rattle.sk_world.proofs.Summing.{is_zero, is_some, not_zero, zeros, no_bit_between, no_bit_past, tells-written, tells-kept}
 

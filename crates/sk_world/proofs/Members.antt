@@ -2,8 +2,7 @@
 use Rattle.std.proofs.Common.{◌≡◌, ◌≢◌, ◌∙◌, ◌+◌, ◌-◌, ◌*◌, ◌/◌, ◌%◌, ◌^◌, ◌<◌, ◌≤◌, ◌==◌, ◌||◌, ◌&&◌, ℕ, zero, suc, arith, ap, sym, refl, Bool, true, false, cond, not, List, [], ◌∷◌, ◌++◌, length, get_or, set, inl, inr, nat_eq, filter, bit_and, bit_or, w64, replicate, get_or-set_same, get_or-set_other}
 use Rattle.std.specs.Prelude.{nat_lt}
 use Rattle.sk_world.specs.Common.{list_any, bit_at, bit_not, trailing_zeros, numbers_below, contains, has_bit, members_of}
-use Rattle.sk_world.proofs.Common.{cases_eq, cases_lt, nat_tests, list_any-append, shr-shr, shr_le, bit_at-zero, bit_at_above,
-    bit_at-trailing_zeros, bit_at_set_same, bit_at_set_other, bit_at_clear_same, bit_at_clear_other, shr_and_one}
+use Rattle.sk_world.proofs.Common.{cases_eq, cases_lt, nat_tests, list_any-append, shr-shr, shr_le, bit_at-zero, bit_at_above, bit_at-trailing_zeros, bit_at_set_same, bit_at_set_other, bit_at_clear_same, bit_at_clear_other, shr_and_one}
 use Rattle.std.proofs.lemmas.List.Elements.{filter-append}
 
 -- ---- the members, by the bits

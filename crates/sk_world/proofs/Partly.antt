@@ -1,8 +1,7 @@
 -- Children that are handed on one by one.
 use Rattle.std.proofs.Common.{◌≡◌, ◌≢◌, ◌∙◌, ◌<◌, ◌≤◌, ◌==◌, ⊎_elim, ◌||◌, List, [], ◌∷◌, ℕ, arith, ap, sym, refl, subst, Bool, true, false, cond, not, ◌&&◌, IsTrue, Option, None, Some}
 use Rattle.std.specs.Prelude.{nat_lt}
-use Rattle.sk_world.specs.Common.{is_some, option_and_then, list_any, Proc, pids, World, at, stored, has_ended, is_zombie, is_child_of,
-    IsNext, IsWorld, new_parent, handed_on, ignores_children, has_zombie_child, with_children_handed_on}
+use Rattle.sk_world.specs.Common.{is_some, option_and_then, list_any, Proc, pids, World, at, stored, has_ended, is_zombie, is_child_of, IsNext, IsWorld, new_parent, handed_on, ignores_children, has_zombie_child, with_children_handed_on}
 use Rattle.sk_world.proofs.Common.{false≢true, false_from_ne_true, cases_lt, lt-ltb, ltb-true, eqb-true, eqb-false}
 use Rattle.sk_world.proofs.Maps.{same_map, get_store}
 use Rattle.sk_world.proofs.Ancestors.{zero_is_nobody}

@@ -1,7 +1,6 @@
 -- Whom a search from child to child tells of.
 use Rattle.std.proofs.Common.{◌≡◌, ◌∙◌, ◌<◌, ◌≤◌, ℕ, arith, ap, sym, refl, subst, Bool, true, false, cond, ◌&&◌, ⊎_elim, IsTrue, Option, None, Some}
-use Rattle.sk_world.specs.Common.{is_some, option_map_or, unwrap_or, Proc, Request, Poll, Told, NoMatch, NotReady, pids, World, at,
-    is_child_of, is_asked_for, is_match, is_ready, has_match, ready_of, status_of}
+use Rattle.sk_world.specs.Common.{is_some, option_map_or, unwrap_or, Proc, Request, Poll, Told, NoMatch, NotReady, pids, World, at, is_child_of, is_asked_for, is_match, is_ready, has_match, ready_of, status_of}
 use Rattle.std.specs.List.{find}
 use Rattle.sk_world.proofs.Common.{false≢true, cases_lt, and_parts}
 use Rattle.sk_world.proofs.StatusChanges.{by_first, ready_first}

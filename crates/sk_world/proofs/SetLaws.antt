@@ -1,8 +1,7 @@
 -- The laws of sets of signals, by membership.
 use Rattle.std.proofs.Common.{◌≡◌, ◌∙◌, ◌≤◌, ◌<◌, ◌==◌, ◌||◌, ◌&&◌, ℕ, zero, suc, arith, ap, refl, Bool, true, false, cond, not, [], ◌∷◌, inl, inr, Some, None}
 use Rattle.std.specs.List.{find}
-use Rattle.sk_world.specs.Common.{option_or, same_set, contains-empty, contains-insert, contains-remove, contains-union,
-    contains-difference, Signals, IsSignal, IsLeast, signals_to, lowest}
+use Rattle.sk_world.specs.Common.{option_or, same_set, contains-empty, contains-insert, contains-remove, contains-union, contains-difference, Signals, IsSignal, IsLeast, signals_to, lowest}
 use Rattle.sk_world.proofs.Common.{find-append, nat_tests, leb_tells}
 use Rattle.sk_world.specs.Sets as set
 

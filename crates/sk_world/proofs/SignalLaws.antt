@@ -2,8 +2,7 @@
 use Rattle.std.proofs.Common.{◌≡◌, ◌∙◌, ◌≤◌, ◌==◌, ◌&&◌, ap, sym, refl, ℕ, zero, suc, arith, Bool, true, false, cond, not, [], ◌∷◌, Option, Some, None}
 use Rattle.std.specs.Prelude.{IsTrue, IsFalse}
 use Rattle.std.specs.List.{find}
-use Rattle.sk_world.specs.Common.{option_or, SIGKILL, SIGCHLD, SIGCONT, Signals, IsSignal, signals_to, lowest, is_stop, is_handler,
-    is_ignored, SignalState, disposition_of, without_stops, generated, ready, deliverable, pushed, popped}
+use Rattle.sk_world.specs.Common.{option_or, SIGKILL, SIGCHLD, SIGCONT, Signals, IsSignal, signals_to, lowest, is_stop, is_handler, is_ignored, SignalState, disposition_of, without_stops, generated, ready, deliverable, pushed, popped}
 use Rattle.sk_world.specs.Sets as set
 use Rattle.sk_world.proofs.Common.{find-append, nat_tests}
 use Rattle.sk_world.proofs.SetLaws.{sets, same_members, insert_twice, remove_twice}

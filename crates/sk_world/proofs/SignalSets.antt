@@ -1,10 +1,8 @@
 -- What an operation on the bits of a set does to the set.
 use Rattle.std.proofs.Common.{◌≡◌, ◌∙◌, ◌+◌, ◌-◌, ◌*◌, ◌^◌, ◌<◌, ◌≤◌, ◌==◌, ◌||◌, ◌&&◌, ℕ, zero, suc, arith, ap, sym, subst, refl, Bool, true, false, not, nat_le, min, max, bit_and, bit_or, w32}
-use Rattle.sk_world.specs.Common.{bit_at, bit_not, trailing_zeros, same_set, Signals, IsSignal, IsLeast, signals_of, number_of,
-    contains-signals_of, number_of-signals_of}
+use Rattle.sk_world.specs.Common.{bit_at, bit_not, trailing_zeros, same_set, Signals, IsSignal, IsLeast, signals_of, number_of, contains-signals_of, number_of-signals_of}
 use Rattle.sk_world.specs.Sets as set
-use Rattle.sk_world.proofs.Common.{nat_tests, pow_pos, pow_below, bit_at_or, bit_at_and, bit_at_not, bit_at-lt, bit_at-zero,
-    bit_at-pow_same, bit_at-pow_other, bit_at_ones, bit_at_above, bit_at-trailing_zeros, and_pow}
+use Rattle.sk_world.proofs.Common.{nat_tests, pow_pos, pow_below, bit_at_or, bit_at_and, bit_at_not, bit_at-lt, bit_at-zero, bit_at-pow_same, bit_at-pow_other, bit_at_ones, bit_at_above, bit_at-trailing_zeros, and_pow}
 use Rattle.sk_world.specs.SignalSet.{has_bit}
 use Rattle.sk_world.proofs.SetLaws.{none_in_empty, in_insert, in_union, in_difference, union-one, difference-one}
 

@@ -1,7 +1,6 @@
 -- The first of the status changes is what the first child that is ready has to tell.
 use Rattle.std.proofs.Common.{◌≡◌, ℕ, ap, sym, refl, Bool, true, false, cond, ◌&&◌, List, [], ◌∷◌, Option, None, Some}
-use Rattle.sk_world.specs.Common.{is_some, option_map_or, unwrap_or, first, Request, Poll, Told, NoMatch, NotReady, pids, World, at,
-    is_match, is_ready, has_match, with_status, status_changes, first_told, ready_of, status_of}
+use Rattle.sk_world.specs.Common.{is_some, option_map_or, unwrap_or, first, Request, Poll, Told, NoMatch, NotReady, pids, World, at, is_match, is_ready, has_match, with_status, status_changes, first_told, ready_of, status_of}
 
 -- what is told of the first child that is ready
 unfoldable pub by_first : World → ℕ → Request → List ℕ → Poll → Poll

@@ -1,7 +1,6 @@
 -- What a change of one process gives, pid by pid, and which of them keep the rules of the world.
 use Rattle.std.proofs.Common.{◌≡◌, ◌≢◌, ◌∙◌, ◌+◌, ◌-◌, ◌≤◌, ◌==◌, ℕ, arith, ap, sym, refl, subst, Bool, true, false, cond, not, ◌&&◌, IsTrue, IsFalse, Option, None, Some}
-use Rattle.sk_world.specs.Common.{is_some, option_map, INIT, Links, Body, Proc, count, store, World, at, has_ended, has_stopped, is_zombie,
-    is_alive, is_halted, parent_of, stored, body_changed, changed, links_changed, IsWorld, is_init, has_links_within}
+use Rattle.sk_world.specs.Common.{is_some, option_map, INIT, Links, Body, Proc, count, store, World, at, has_ended, has_stopped, is_zombie, is_alive, is_halted, parent_of, stored, body_changed, changed, links_changed, IsWorld, is_init, has_links_within}
 use Rattle.sk_world.proofs.Common.{eq-eqb, ne_eqb, eqb-true, eqb-false, false≢true, and_parts, and_from, not-true}
 use Rattle.sk_world.specs.laws.WorldLaws.{KeepsGoing, Regroups, ChangeKeepsRules, LinksKeepRules, RemovalKeepsRules}
 use Rattle.sk_world.proofs.Maps.{get_store, store_twice, count_put, count_gone}

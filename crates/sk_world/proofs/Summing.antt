@@ -2,8 +2,7 @@
 use Rattle.std.proofs.Common.{◌≡◌, ◌≢◌, ◌∙◌, ◌+◌, ◌-◌, ◌*◌, ◌/◌, ◌%◌, ◌^◌, ◌<◌, ◌≤◌, ◌==◌, ℕ, zero, suc, arith, ap, sym, refl, Bool, true, false, not, List, length, get_or, set, inl, inr, bit_and, bit_or, w64, replicate, get_or-set_same, get_or-set_other}
 use Rattle.sk_world.specs.Common.{bit_at, bit_not, contains, has_bit, members_of}
 use Rattle.std.specs.Int.Bits.{and_zero_l}
-use Rattle.sk_world.proofs.Common.{cases_eq, cases_lt, nat_tests, get_or_past, length-set, bit_at-zero, bit_at_set_same, bit_at_set_other,
-    bit_at_clear_same, bit_at_clear_other}
+use Rattle.sk_world.proofs.Common.{cases_eq, cases_lt, nat_tests, get_or_past, length-set, bit_at-zero, bit_at_set_same, bit_at_set_other, bit_at_clear_same, bit_at_clear_other}
 use Rattle.sk_world.specs.Summary.{IsSummed}
 use Rattle.sk_world.proofs.Members.{has_bit-set_same, has_bit-set_other, member_below, none_between, no_member_above}
 

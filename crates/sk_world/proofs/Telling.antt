@@ -1,9 +1,7 @@
 -- Whom wait4(2) tells of.
 use Rattle.std.proofs.Common.{◌≡◌, ◌≢◌, ◌∙◌, ◌<◌, ◌≤◌, ◌==◌, ℕ, arith, ap, sym, refl, subst, Bool, true, false, cond, ◌&&◌, ◌||◌, IsTrue, IsFalse, List, [], ◌∷◌, map, Option, None, Some}
 use Rattle.std.specs.Prelude.{T, nat_lt}
-use Rattle.sk_world.specs.Common.{Less, Equal, Greater, is_some, option_map_or, unwrap_or, first, list_any, nat_cmp, is_lt, find, is_sorted,
-    Proc, Request, Poll, Told, NoMatch, NotReady, pids, World, at, is_zombie, stored, changed, is_match, is_ready, has_match, ready_of,
-    status_of, without_note, told}
+use Rattle.sk_world.specs.Common.{Less, Equal, Greater, is_some, option_map_or, unwrap_or, first, list_any, nat_cmp, is_lt, find, is_sorted, Proc, Request, Poll, Told, NoMatch, NotReady, pids, World, at, is_zombie, stored, changed, is_match, is_ready, has_match, ready_of, status_of, without_note, told}
 use Rattle.std.specs.FinMap.Entries.{below_all}
 use Rattle.sk_world.proofs.Common.{false≢true, eqb-true, ltb-true, and_parts, or_parts, false_from_ne_true}
 use Rattle.sk_world.proofs.Maps.{same_number}

@@ -1,8 +1,7 @@
 -- The words of the world, and those of std, of filters and of instructions that go with them, passed on from one place. Declares nothing.
 pub use Rattle.std.specs.Cmp.{nat_cmp_total, unsigned_tied}
 pub use Rattle.std.specs.Coded.{Coded, code_by, coded_bool, coded_list, coded_option, coded_ℕ, coded×}
-pub use Rattle.std.specs.FinMap.Entries.{by_order, find, find-put, find-where_key, is_sorted, length-put, length_without, put, same_entries,
-    where_key}
+pub use Rattle.std.specs.FinMap.Entries.{by_order, find, find-put, find-where_key, is_sorted, length-put, length_without, put, same_entries, where_key}
 pub use Rattle.std.specs.Int.{bit_at, bit_not, cast_signed, is_negative, trailing_zeros, w32}
 pub use Rattle.std.specs.Io.KnownBytes.{Appends}
 pub use Rattle.std.specs.List.{concat, find as first, list_all, list_any, position_from, slice_range, zip}
@@ -18,8 +17,7 @@ pub use Rattle.sk_filter.specs.Verdict.{IsAtMost, first_of, meaning_value, prece
 pub use Rattle.sk_world.specs.Actions.{default_action, disposition_after_exec, is_handler, is_ignore, is_ignored, is_stop, is_tty_stop}
 pub use Rattle.sk_world.specs.Creds.{after_exec, after_setresuid, after_setuid, is_privileged, is_real_or_saved, may_signal, may_take}
 pub use Rattle.sk_world.specs.Delivery.{deliverable, popped, pushed, ready, taken}
-pub use Rattle.sk_world.specs.Ending.{ended, handed_on, has_zombie_child, ignores_children, left_to_parent, reparented,
-    with_children_handed_on, zombie}
+pub use Rattle.sk_world.specs.Ending.{ended, handed_on, has_zombie_child, ignores_children, left_to_parent, reparented, with_children_handed_on, zombie}
 pub use Rattle.sk_world.specs.Errno.{answer_of, number_of as errno_number}
 pub use Rattle.sk_world.specs.Forking.{child_of, fork_answer, forked, has_filters, has_room}
 pub use Rattle.sk_world.specs.Generation.{forced as sigsys_forced, generated, left_pending, without_stops}
@@ -39,17 +37,14 @@ pub use Rattle.sk_world.specs.Signalling.{with_action, with_mask}
 unfoldable pub use Rattle.sk_world.specs.Signalling.{opening as no_signal}
 pub use Rattle.sk_world.specs.Subreapers.{is_subreaper, line_up, takes_children}
 unfoldable pub use Rattle.sk_world.specs.Subreapers.{ancestors, new_parent}
-pub use Rattle.sk_world.specs.Waits.{first_told, has_match, is_asked_for, is_continued, is_match, is_no_hang, is_ready, is_untraced,
-    options_of, ready_of, status_changes, status_of, status_of_body, status_of_note, told, with_status, without_note}
-pub use Rattle.sk_world.specs.World.{IsNext, World, at, body_changed, changed, first_process, has_ended, has_stopped, inserted, is_alive,
-    is_child_of, is_halted, is_member_of, is_stopped, is_zombie, links_changed, opening, parent_of, relinked, stored, with_body, with_links}
+pub use Rattle.sk_world.specs.Waits.{first_told, has_match, is_asked_for, is_continued, is_match, is_no_hang, is_ready, is_untraced, options_of, ready_of, status_changes, status_of, status_of_body, status_of_note, told, with_status, without_note}
+pub use Rattle.sk_world.specs.World.{IsNext, World, at, body_changed, changed, first_process, has_ended, has_stopped, inserted, is_alive, is_child_of, is_halted, is_member_of, is_stopped, is_zombie, links_changed, opening, parent_of, relinked, stored, with_body, with_links}
 pub use Rattle.sk_world.specs.declared.creds.Creds.{Creds}
 pub use Rattle.sk_world.specs.declared.disposition.DefaultAction.{DefaultAction}
 pub use Rattle.sk_world.specs.declared.disposition.Disposition.{Disposition}
 pub use Rattle.sk_world.specs.declared.disposition.Disposition.TheVariants.{Default, Handler, Ignore}
 pub use Rattle.sk_world.specs.declared.errno.Errno.{Errno}
-pub use Rattle.sk_world.specs.declared.errno.Errno.TheVariants.{Eacces, Eagain, Echild, Efault, Einval, Enoent, Enomem, Enosys, Eopnotsupp,
-    Eperm, Esrch}
+pub use Rattle.sk_world.specs.declared.errno.Errno.TheVariants.{Eacces, Eagain, Echild, Efault, Einval, Enoent, Enomem, Enosys, Eopnotsupp, Eperm, Esrch}
 pub use Rattle.sk_world.specs.declared.process.Body.{Body}
 pub use Rattle.sk_world.specs.declared.process.Life.{Life}
 pub use Rattle.sk_world.specs.declared.process.Life.TheVariants.{Running, Stopped, Zombie}
@@ -67,9 +62,7 @@ pub use Rattle.sk_world.specs.declared.request.WaitOptions.{WaitOptions}
 pub use Rattle.sk_world.specs.declared.request.Who.{Who}
 pub use Rattle.sk_world.specs.declared.request.Who.TheVariants.{Any, Child, Group}
 pub use Rattle.sk_world.specs.declared.signal_state.TheConstants.{FRAMES}
-pub use Rattle.sk_world.specs.declared.signals.TheConstants.{SIGCHLD, SIGCONT, SIGHUP, SIGKILL, SIGSEGV, SIGSTOP, SIGSYS, SIGTERM, SIGTSTP,
-    SIGUSR1}
-pub use Rattle.sk_world.specs.views.Members.{contains-difference, contains-empty, contains-from_list, contains-insert, contains-remove,
-    contains-union, same_set}
+pub use Rattle.sk_world.specs.declared.signals.TheConstants.{SIGCHLD, SIGCONT, SIGHUP, SIGKILL, SIGSEGV, SIGSTOP, SIGSYS, SIGTERM, SIGTSTP, SIGUSR1}
+pub use Rattle.sk_world.specs.views.Members.{contains-difference, contains-empty, contains-from_list, contains-insert, contains-remove, contains-union, same_set}
 pub use Rattle.sk_world.specs.views.SignalBits.{contains-signals_of, number_of-signals_of}
 pub use Rattle.sk_world.specs.views.WorldCode.{same_processes, world_code}

@@ -3,8 +3,8 @@
 ghost use Rattle.std.specs.Prelude.{◌≡◌, ◌∷◌, []};
 ghost use Rattle.sk_insn.specs.Record.{native};
 
-use sk_insn::{ALLOW, Record};
-use sk_profile::{Condition, Profile, Rule, Test};
+use sk_insn::{ALLOW, ARCHITECTURE, Record};
+use sk_profile::{Condition, Part, Profile, Rule, Test};
 use std::alloc::{AllocError, Global};
 
 /// SCMP_ACT_ERRNO with EPERM, its default.
@@ -50,7 +50,7 @@ const NAMESPACES: u64 = 0x7e02_0000;
 /// The first and the last numbers around those of the x32 ABI.
 const BORDERS: [u32; 4] = [0x3fff_ffff, 0x4000_0000, 0xffff_fffe, 0xffff_ffff];
 
-/// The profile.
+/// The profile, for x86-64 alone.
 pub fn profile(alloc: Global) -> Result<Profile, AllocError> {
     let mut rules = Vec::new(alloc);
     push_allowed(alloc, &mut rules)?;
@@ -64,12 +64,19 @@ pub fn profile(alloc: Global) -> Result<Profile, AllocError> {
         value: ENOSYS,
         entry: 3,
     })?;
-    Ok(Profile {
+    let mut parts = Vec::new(alloc);
+    parts.push(Part {
+        audit: ARCHITECTURE,
+        narrow: false,
+        without_x32: true,
         rules,
+        top: 0,
+        x32_top: 0,
+    })?;
+    Ok(Profile {
+        parts,
         default: EPERM,
         bad: KILL_THREAD,
-        stub: false,
-        x32: false,
     })
 }
 

@@ -1,7 +1,4 @@
 use Rattle.std.proofs.Common.{length}
-use Rattle.std.specs.Prelude.{All}
-use Rattle.sk_profile.specs.Rows.{AreGood}
-use Rattle.sk_profile.specs.Views.{profile_of}
 use Rattle.sk_profile.proofs.Whole.{SoFar}
 use Rattle.sk_profile.proofs.filter.push_parts.Given as goal
 

@@ -1,4 +1,4 @@
-use Rattle.std.proofs.Common.{◌≡◌, ◌+◌, ◌*◌, ◌^◌, ◌-◌, ◌∷◌, [], map, flat_map, ap, sym, ◌∙◌}
+use Rattle.std.proofs.Common.{◌+◌, ◌*◌, ◌^◌, ◌-◌, ◌∷◌, [], map, flat_map, ap, sym, ◌∙◌}
 use Rattle.std.specs.Prelude.{None, List}
 use Rattle.sk_profile.specs.declared.profile.Rule.{Rule}
 use Rattle.sk_profile.specs.Rows.{marks_of_rule, next_of}

@@ -1,5 +1,5 @@
-use Rattle.std.proofs.Common.{◌≡◌, ◌+◌, ◌<◌, length, arith, subst}
-use Rattle.sk_profile.specs.CodeViews.{CutsRows, IsTreeOf}
+use Rattle.std.proofs.Common.{◌+◌, ◌<◌, length, arith, subst}
+use Rattle.sk_profile.specs.CodeViews.{IsTreeOf}
 use Rattle.sk_profile.proofs.Growing.{handed_on, long_of, long_section, section_put}
 use Rattle.sk_profile.proofs.section.push_section.Goals as goal
 
