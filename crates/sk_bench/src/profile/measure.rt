@@ -13,7 +13,7 @@ const X32: u32 = 0x4000_0000;
 const KNOWN_WORDS: u32 = 8;
 
 /// So many instructions the first filter is to have at most, and so many steps a hundred calls of `OFTEN` are to take in it.
-const MOST_INSTRUCTIONS: usize = 150;
+const MOST_INSTRUCTIONS: usize = 100;
 
 const MOST_STEPS: u64 = 650;
 
