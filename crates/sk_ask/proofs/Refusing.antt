@@ -11,7 +11,7 @@ use Rattle.sk_ask.specs.declared.answer.Answer.{Answer}
 use Rattle.sk_ask.specs.Asking.{Question}
 use Rattle.sk_ask.specs.Asked.{Asks}
 use Rattle.sk_ask.specs.Answering.{AnswersAsked, AnswersThere}
-use Rattle.sk_ask.specs.Contexts.{newest}
+use Rattle.sk_ask.specs.Contexts.{machine_there, newest}
 use Rattle.sk_ask.specs.Endings.{ending_of, refused, no_memory}
 
 either : (b : Bool) (P Q : Type 0) → P → Q → MatchBool b P Q
@@ -28,11 +28,16 @@ lent_now (name ∷ names) = ap (λ more. name ∷ more) (lent_now names)
 
 -- some context is the one that is asked for
 abbrev context_for : Question → Context
-context_for asked =
-    record { capabilities = record { ref_ptr = (0, 0); now = lent asked.caps }; kernel = unwrap_or asked.kernel newest; runc = asked.runc }
+context_for asked = record {
+  capabilities = record { ref_ptr = (0, 0); now = lent asked.caps };
+  kernel = unwrap_or asked.kernel newest;
+  runc = asked.runc;
+  machine = machine_there asked.machine asked.arch;
+  native = asked.native;
+}
 
 no_answer : (held : List ℕ → Held) (may_spend : ℕ → Bool) (asked : Question) → AnswersThere held may_spend asked no_memory
-no_answer held may_spend asked = (context_for asked, (lent_now asked.caps, refl, refl), inr (Memory, tt, refl))
+no_answer held may_spend asked = (context_for asked, (lent_now asked.caps, refl, refl, refl, refl), inr (Memory, tt, refl))
 
 asked_wrong : (held : List ℕ → Held) (may_spend : ℕ → Bool) (said : Result Question (List ℕ)) (why : Trouble) → Asks (Err why) said → AnswersAsked held may_spend said (ending_of (Err why))
 asked_wrong held may_spend said (Refused line) h = subst (λ s. AnswersAsked held may_spend s (refused line.items)) (sym h) refl

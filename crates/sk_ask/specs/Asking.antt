@@ -4,24 +4,28 @@ use Rattle.std.specs.Str.{bytes_eq}
 use Rattle.sk_names.specs.declared.architecture.Architecture.{Architecture}
 use Rattle.sk_names.specs.Architectures.{architecture_named, is_big_endian_of}
 use Rattle.sk_profile_json.specs.declared.context.Kernel.{Kernel as Version}
+use Rattle.sk_profile_json.specs.declared.machine.Machine.{Machine as Host}
 use Rattle.sk_profile_json.specs.Contexts.{kernel_of}
 use Rattle.sk_profile_json.specs.Capabilities.{capability}
+use Rattle.sk_profile_json.specs.Machines.{machine_named}
 use Rattle.sk_ask.specs.Complaints.{of_word}
 use Rattle.sk_ask.specs.declared.word.Valued.{Valued}
-use Rattle.sk_ask.specs.declared.word.Valued.TheVariants.{Call, Cap, Kernel, Arch}
+use Rattle.sk_ask.specs.declared.word.Valued.TheVariants.{Call, Cap, Kernel, Machine, Arch}
 use Rattle.sk_ask.specs.declared.word.Word.{Word}
 use Rattle.sk_ask.specs.declared.word.Word.TheVariants.{Calls, Filter, When, Diff, Replay, Why, Show, Arches}
 
 -- the word, with the options that it alone has; the word behind `--call`, the capabilities behind each `--cap`, the version behind
--- `--kernel`, and the architecture behind `--arch`; the option whose word is awaited; whether there was `--runc` or `--help`; and
--- the names of the files
+-- `--kernel`, the machine behind `--machine`, and the architecture behind `--arch`; the option whose word is awaited; whether there
+-- was `--native`, `--runc` or `--help`; and the names of the files
 pub record Question : Type 0 where
   pub word : Word
   pub call : Option (List ℕ)
   pub caps : List (List ℕ)
   pub kernel : Option Version
+  pub machine : Option Host
   pub arch : Option Architecture
   pub awaits : Option Valued
+  pub native : Bool
   pub runc : Bool
   pub help : Bool
   pub names : List (List ℕ)
@@ -33,8 +37,10 @@ nothing_asked word = record {
   call = None;
   caps = [];
   kernel = None;
+  machine = None;
   arch = None;
   awaits = None;
+  native = false;
   runc = false;
   help = false;
   names = [];
@@ -80,6 +86,7 @@ abbrev pub valued_name : Valued → List ℕ
 valued_name Call = codes "--call"
 valued_name Cap = codes "--cap"
 valued_name Kernel = codes "--kernel"
+valued_name Machine = codes "--machine"
 valued_name Arch = codes "--arch"
 
 -- what is expected behind one
@@ -87,6 +94,7 @@ abbrev pub value_kind : Valued → List ℕ
 value_kind Call = codes "a name or a number"
 value_kind Cap = codes "a name"
 value_kind Kernel = codes "a version as 6.1"
+value_kind Machine = codes "a name"
 value_kind Arch = codes "a name"
 
 -- each call is told of by these
@@ -107,6 +115,7 @@ valued_named word text =
     if tells_calls word && bytes_eq text (codes "--call") then Some Call
     else if bytes_eq text (codes "--cap") then Some Cap
     else if bytes_eq text (codes "--kernel") then Some Kernel
+    else if bytes_eq text (codes "--machine") then Some Machine
     else if tells_of_one word && bytes_eq text (codes "--arch") then Some Arch
     else None
 
@@ -115,6 +124,7 @@ abbrev pub is_given : Valued → Question → Bool
 is_given Call asked = is_some asked.call
 is_given Cap asked = false
 is_given Kernel asked = is_some asked.kernel
+is_given Machine asked = is_some asked.machine
 is_given Arch asked = is_some asked.arch
 
 abbrev pub with_valued : Valued → Question → Result Question (List ℕ)
@@ -135,6 +145,24 @@ abbrev pub with_kernel : Question → Option Version → Result Question (List �
 with_kernel asked None = Err (expected_line asked.word Kernel)
 with_kernel asked (Some version) = Ok (record asked { kernel = Some version; awaits = None })
 
+-- the halves of arguments stand the other way round where their highest byte comes first, and that is followed nowhere
+abbrev pub is_turned : Option Architecture → Bool
+is_turned None = false
+is_turned (Some by) = is_big_endian_of by
+
+abbrev pub turned_line : Word → List ℕ → List ℕ
+turned_line word what = of_word (word_name word ++ codes ": arguments with their highest byte first are not followed: ") what
+
+-- what is said of a word that names no machine; it may still name an architecture
+abbrev pub no_machine_line : Word → List ℕ → List ℕ
+no_machine_line word text =
+    if is_turned (architecture_named text) then turned_line word (codes "--machine s390x")
+    else of_word (word_name word ++ codes ": no machine is named ") text
+
+abbrev pub with_machine : Question → List ℕ → Option Host → Result Question (List ℕ)
+with_machine asked text None = Err (no_machine_line asked.word text)
+with_machine asked text (Some machine) = Ok (record asked { machine = Some machine; awaits = None })
+
 abbrev pub with_architecture : Question → List ℕ → Option Architecture → Result Question (List ℕ)
 with_architecture asked text None = Err (of_word (word_name asked.word ++ codes ": no architecture is named ") text)
 with_architecture asked text (Some by) = Ok (record asked { arch = Some by; awaits = None })
@@ -144,6 +172,7 @@ abbrev pub with_value : Valued → Question → List ℕ → Result Question (Li
 with_value Call asked text = Ok (record asked { call = Some text; awaits = None })
 with_value Cap asked text = with_caps asked text (capability text)
 with_value Kernel asked text = with_kernel asked (kernel_of text)
+with_value Machine asked text = with_machine asked text (machine_named text)
 with_value Arch asked text = with_architecture asked text (architecture_named text)
 
 -- ---- one word more
@@ -160,10 +189,11 @@ abbrev pub with_name_or_flag : Question → List ℕ → Option Word → Result 
 with_name_or_flag asked text (Some word) = Ok (record asked { word = word })
 with_name_or_flag asked text None = with_name asked text
 
--- or that of all words, where there may be a profile
+-- or one that all words have, where there may be a profile
 abbrev pub with_flag : Question → List ℕ → Result Question (List ℕ)
 with_flag asked text =
-    if bytes_eq text (codes "--runc") then Ok (record asked { runc = true })
+    if bytes_eq text (codes "--native") then Ok (record asked { native = true })
+    else if bytes_eq text (codes "--runc") then Ok (record asked { runc = true })
     else with_name_or_flag asked text (with_own_flag asked.word text)
 
 abbrev pub with_option : Question → List ℕ → Option Valued → Result Question (List ℕ)
@@ -209,11 +239,6 @@ abbrev pub named : Word → Question → Result Question (List ℕ)
 named (Diff stricter) asked = two_named asked
 named word asked = none_missing asked (missing asked)
 
--- the halves of arguments stand the other way round where their highest byte comes first, and that is followed nowhere
-abbrev pub is_turned : Option Architecture → Bool
-is_turned None = false
-is_turned (Some by) = is_big_endian_of by
-
 -- arguments are told of by all words but these
 abbrev pub tells_arguments : Word → Bool
 tells_arguments (Calls examples) = examples
@@ -223,7 +248,7 @@ tells_arguments word = true
 abbrev pub understood : Question → Result Question (List ℕ)
 understood asked =
     if is_turned asked.arch && tells_arguments asked.word
-    then Err (of_word (word_name asked.word ++ codes ": arguments with their highest byte first are not followed: ") (codes "--arch s390x"))
+    then Err (turned_line asked.word (codes "--arch s390x"))
     else Ok asked
 
 abbrev pub draws : Word → Bool

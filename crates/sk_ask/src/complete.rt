@@ -1,14 +1,14 @@
 //! Whether all is there that a word of `ask` wants.
 ghost use Rattle.std.specs.Prelude.{◌≡◌, ◌≤◌, IfOk, length, slice_get};
 ghost use Rattle.std.specs.Option.{option_map};
-ghost use Rattle.sk_ask.specs.Asking.{draws, tells_arguments, is_turned, ended, complete, understood, named, none_missing, two_named, missing, wanted};
+ghost use Rattle.sk_ask.specs.Asking.{draws, tells_arguments, is_turned, turned_line, ended, complete, understood, named, none_missing, two_named, missing, wanted};
 ghost use Rattle.sk_ask.specs.Asked.{question_of, Asks, HasNames};
 
 use crate::word::Word;
 use crate::words::{Asked, expected_line};
 use crate::{Trouble, of_word};
 use sk_names::Architecture;
-use std::alloc::Global;
+use std::alloc::{AllocError, Global};
 
 // What was asked, where it is whole.
 pub(crate) fn ended<'a>(alloc: Global, asked: Asked<'a>) -> Result<Asked<'a>, Trouble>
@@ -50,11 +50,7 @@ fn understood<'a>(alloc: Global, asked: Asked<'a>) -> Result<Asked<'a>, Trouble>
     ensures named { IfOk result HasNames }
 {
     if is_turned(asked.arch) && tells_arguments(asked.word) {
-        let what = format!(in alloc;
-            "{}: arguments with their highest byte first are not followed: ",
-            asked.word.name()
-        )?;
-        return Err(Trouble::Refused(of_word(alloc, &what, b"--arch s390x")?));
+        return Err(Trouble::Refused(turned_line(alloc, asked.word, b"--arch s390x")?));
     }
     Ok(asked)
 }
@@ -67,6 +63,17 @@ pub(crate) fn is_turned(arch: Option<Architecture>) -> bool
         Some(arch) => arch.is_big_endian(),
         None => false,
     }
+}
+
+// The line that refuses what has its highest byte first.
+pub(crate) fn turned_line(alloc: Global, word: Word, what: &[u8]) -> Result<Vec<u8>, AllocError>
+    ensures line { IfOk result (λ line. line.items ≡ turned_line word what.now) }
+{
+    let refused = format!(in alloc;
+        "{}: arguments with their highest byte first are not followed: ",
+        word.name()
+    )?;
+    of_word(alloc, &refused, what)
 }
 
 fn tells_arguments(word: Word) -> bool

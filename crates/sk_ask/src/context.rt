@@ -1,9 +1,12 @@
 //! Where the profiles among the files are to hold.
+ghost use Rattle.std.specs.Prelude.{◌≡◌};
 ghost use Rattle.sk_ask.specs.Asked.{question_of};
-ghost use Rattle.sk_ask.specs.Contexts.{IsContextOf};
+ghost use Rattle.sk_ask.specs.Contexts.{IsContextOf, machine_there};
 
+use crate::on::architecture_of;
 use crate::words::Asked;
-use sk_profile_json::{Context, Kernel};
+use sk_names::Architecture;
+use sk_profile_json::{Context, Kernel, Machine};
 
 /// The kernel where none is named: the newest whose calls have names here.
 const NEWEST: Kernel = Kernel {
@@ -19,5 +22,16 @@ pub fn context_of<'a>(asked: &'a Asked<'_>) -> Context<'a>
         capabilities: &asked.caps,
         kernel: asked.kernel.unwrap_or(NEWEST),
         runc: asked.runc,
+        machine: machine_there(asked.machine, asked.arch),
+        native: asked.native,
+    }
+}
+
+fn machine_there(machine: Option<Machine>, arch: Option<Architecture>) -> Option<Machine>
+    ensures machine { result ≡ machine_there machine arch }
+{
+    match machine {
+        Some(machine) => Some(machine),
+        None => Machine::of(architecture_of(arch)),
     }
 }

@@ -22,6 +22,8 @@ JSON, which stands for its filter; - is standard input. Several FILEs are one ch
 Where a FILE is a profile, each WORD takes
   --cap NAME        a capability that is held there, as CAP_SYS_ADMIN, or docker, or all; as often as there are; else none is
   --kernel VERSION  the kernel there, as 6.1; else it is 6.12
+  --machine M       the profile's machine: x86-64, aarch64, riscv64, ppc64le or loongarch64; without it that of --arch, else x86-64
+  --native          the machine's own architecture alone; programs of its others are killed
   --runc            as runc attaches it, which has calls above the greatest number that is named fail with ENOSYS
 Status: 0 yes or answered, 1 answered with no, 2 trouble, which standard error tells.
 ";
@@ -33,14 +35,14 @@ For each call of x86-64, or of ARCH, by its number and its name, the verdicts th
   --examples    below each line a call for each verdict, or ? where none was found
   --arch ARCH   the calls of this architecture: ask --help has their names
 The last line begins with warning where all calls are told and no filter looks at the architecture.
-A FILE may be a profile, and then --cap, --kernel and --runc say where it is to hold: ask --help has them.
+A FILE may be a profile, and then --cap, --kernel, --machine, --native and --runc say where it is to hold: ask --help has them.
 ";
 
 /// What `ask filter --help` says.
 pub const FILTER_HELP: &str = "usage: ask filter [--raw] FILE..
 The filters in the FILEs as lines filter HEX, the oldest first.
   --raw         one filter as the bytes of struct sock_filter
-A FILE may be a profile, and then --cap, --kernel and --runc say where it is to hold: ask --help has them.
+A FILE may be a profile, and then --cap, --kernel, --machine, --native and --runc say where it is to hold: ask --help has them.
 ";
 
 /// What `ask when --help` says.
@@ -50,7 +52,7 @@ decide the condition on each as an expression of C over args[0] to args[5], ip, 
   --call CALL   only this call: a name or a number, decimal or 0x and hexadecimal
   --dot         a picture of the call's conditions and verdicts, as text for Graphviz
   --arch ARCH   the calls of this architecture: ask --help has their names; s390x is not followed
-A FILE may be a profile, and then --cap, --kernel and --runc say where it is to hold: ask --help has them.
+A FILE may be a profile, and then --cap, --kernel, --machine, --native and --runc say where it is to hold: ask --help has them.
 ";
 
 /// What `ask diff --help` says.
@@ -59,7 +61,7 @@ Whether the filters of two FILEs answer the same to every call of x86-64, or of 
 the numbers with the old and the new verdict, and below them a call that shows it, those first where NEW is looser.
   --stricter    whether NEW is at least as strict, by what becomes of the process: an unknown action counts as kill_process
   --arch ARCH   the calls of this architecture: ask --help has their names; s390x is not followed
-A FILE may be a profile, and then --cap, --kernel and --runc say where it is to hold: ask --help has them.
+A FILE may be a profile, and then --cap, --kernel, --machine, --native and --runc say where it is to hold: ask --help has them.
 ";
 
 /// What `ask replay --help` says.
@@ -68,7 +70,7 @@ The calls in LOG, which strace -f -X raw -e raw=all -o LOG COMMAND wrote: each o
 of the filters in the FILEs, those first that are not performed; then how many lines are no calls, or are not understood.
   --arch ARCH   the program was one of this architecture: ask --help has their names; s390x is not followed
 Status 1 where a call is not performed, or a line not understood. LOG has at most 268435456 bytes; - is standard input.
-A FILE may be a profile, and then --cap, --kernel and --runc say where it is to hold: ask --help has them.
+A FILE may be a profile, and then --cap, --kernel, --machine, --native and --runc say where it is to hold: ask --help has them.
 ";
 
 /// What `ask why --help` says.
@@ -79,7 +81,7 @@ that it comes from.
 CALL is a name or a number, decimal or 0x and hexadecimal; an ARG, of at most six, a number of 64 bits, or - and one of at most 2^63.
 Arguments that are not given are 0, and so is the instruction pointer.
   --arch ARCH   a call of this architecture: ask --help has their names; s390x is not followed
-A FILE may be a profile, and then --cap, --kernel and --runc say where it is to hold: ask --help has them.
+A FILE may be a profile, and then --cap, --kernel, --machine, --native and --runc say where it is to hold: ask --help has them.
 ";
 
 /// What `ask show --help` says.
@@ -88,7 +90,7 @@ The instructions of one filter, with labels where jumps go, and above each as a 
 that it loads, the call or the architecture that it compares with, the verdict that it returns. skern asm takes the text, and
 gives the same instructions.
   --arch ARCH   numbers have the names of this architecture where no test tells of which calls are: ask --help has their names
-A FILE may be a profile, and then --cap, --kernel and --runc say where it is to hold: ask --help has them.
+A FILE may be a profile, and then --cap, --kernel, --machine, --native and --runc say where it is to hold: ask --help has them.
 ";
 
 /// What `ask arches --help` says.
@@ -97,7 +99,7 @@ For each architecture, and for any other, the verdict of the filters in the FILE
 by call. The calls of x86-64 are those with numbers below 0x40000000, and those of x32 have the numbers behind, to 0x7fffffff.
 Status 1 and a line that begins with warning where calls of i386 or x32, which a Linux of x86-64 takes too, are judged by the
 numbers of x86-64.
-A FILE may be a profile, and then --cap, --kernel and --runc say where it is to hold: ask --help has them.
+A FILE may be a profile, and then --cap, --kernel, --machine, --native and --runc say where it is to hold: ask --help has them.
 ";
 
 /// What `ask WORD --help` says.

@@ -94,6 +94,8 @@ pub enum Valued {
     Cap,
     /// The version of the kernel there.
     Kernel,
+    /// The machine that their filters are for.
+    Machine,
     /// The architecture whose calls are asked of.
     Arch,
 }
@@ -106,6 +108,7 @@ impl Valued {
             Valued::Call => "--call",
             Valued::Cap => "--cap",
             Valued::Kernel => "--kernel",
+            Valued::Machine => "--machine",
             Valued::Arch => "--arch",
         }
     }
@@ -116,7 +119,7 @@ impl Valued {
     {
         match self {
             Valued::Call => "a name or a number",
-            Valued::Cap | Valued::Arch => "a name",
+            Valued::Cap | Valued::Machine | Valued::Arch => "a name",
             Valued::Kernel => "a version as 6.1",
         }
     }
@@ -131,6 +134,8 @@ impl Valued {
             Some(Valued::Cap)
         } else if is_same(name, b"--kernel") {
             Some(Valued::Kernel)
+        } else if is_same(name, b"--machine") {
+            Some(Valued::Machine)
         } else if tells_of_one(word) && is_same(name, b"--arch") {
             Some(Valued::Arch)
         } else {

@@ -2,14 +2,15 @@
 ghost use Rattle.std.specs.Prelude.{◌≡◌, ◌≤◌, ◌∷◌, IfOk, length, string_bytes, map};
 ghost use Rattle.sk_names.specs.Architectures.{architecture_named};
 ghost use Rattle.sk_profile_json.specs.Capabilities.{capability};
-ghost use Rattle.sk_ask.specs.Asking.{asked_of, nothing_asked, with_word, with_free, with_valued, with_value, with_caps, with_kernel, with_architecture, with_flag, with_name, is_given, expected_line, is_option};
+ghost use Rattle.sk_profile_json.specs.Machines.{machine_named};
+ghost use Rattle.sk_ask.specs.Asking.{asked_of, nothing_asked, with_word, with_free, with_valued, with_value, with_caps, with_kernel, with_machine, with_architecture, with_flag, with_name, is_given, expected_line, is_option, no_machine_line};
 ghost use Rattle.sk_ask.specs.Asked.{question_of, Asks, HasNames};
 
-use crate::complete::ended;
+use crate::complete::{ended, is_turned, turned_line};
 use crate::word::{Valued, Word};
 use crate::{Trouble, of_word};
 use sk_names::Architecture;
-use sk_profile_json::{Kernel, capability, kernel_of};
+use sk_profile_json::{Kernel, Machine, capability, kernel_of};
 use sk_text::is_same;
 use std::alloc::{AllocError, Global};
 
@@ -23,10 +24,14 @@ pub struct Asked<'a> {
     pub caps: Vec<&'static str>,
     /// The version behind `--kernel`.
     pub kernel: Option<Kernel>,
+    /// The machine behind `--machine`.
+    pub machine: Option<Machine>,
     /// The architecture behind `--arch`.
     pub arch: Option<Architecture>,
     /// The last word was this option.
     pub awaits: Option<Valued>,
+    /// The machine's own architecture stands alone.
+    pub native: bool,
     /// runc attaches the filter.
     pub runc: bool,
     pub help: bool,
@@ -52,8 +57,10 @@ pub fn asked_in<'a>(alloc: Global, word: Word, words: &'a [String]) -> Result<As
         call: None,
         caps: Vec::new(alloc),
         kernel: None,
+        machine: None,
         arch: None,
         awaits: None,
+        native: false,
         runc: false,
         help: false,
         names: Vec::new(alloc),
@@ -92,6 +99,7 @@ fn with_value<'a>(
         }),
         Valued::Cap => with_caps(alloc, asked, text.as_bytes()),
         Valued::Kernel => with_kernel(alloc, asked, kernel_of(text.as_bytes())),
+        Valued::Machine => with_machine(alloc, asked, text.as_bytes()),
         Valued::Arch => with_architecture(alloc, asked, text.as_bytes()),
     }
 }
@@ -126,6 +134,31 @@ fn with_kernel<'a>(
         awaits: None,
         ..asked
     })
+}
+
+fn with_machine<'a>(alloc: Global, asked: Asked<'a>, text: &[u8]) -> Result<Asked<'a>, Trouble>
+    ensures exact { Asks result (with_machine (question_of asked.entry) text.now (machine_named text.now)) }
+{
+    let machine = Machine::named(text);
+    if machine.is_none() {
+        return Err(Trouble::Refused(no_machine_line(alloc, asked.word, text)?));
+    }
+    Ok(Asked {
+        machine,
+        awaits: None,
+        ..asked
+    })
+}
+
+// What is said of a word that names no machine.
+fn no_machine_line(alloc: Global, word: Word, text: &[u8]) -> Result<Vec<u8>, AllocError>
+    ensures line { IfOk result (λ line. line.items ≡ no_machine_line word text.now) }
+{
+    if is_turned(Architecture::named(text)) {
+        return turned_line(alloc, word, b"--machine s390x");
+    }
+    let what = format!(in alloc; "{}: no machine is named ", word.name())?;
+    of_word(alloc, &what, text)
 }
 
 fn with_architecture<'a>(alloc: Global, asked: Asked<'a>, text: &[u8]) -> Result<Asked<'a>, Trouble>
@@ -181,6 +214,7 @@ fn is_given(option: Valued, asked: &Asked<'_>) -> bool
         Valued::Call => asked.call.is_some(),
         Valued::Cap => false,
         Valued::Kernel => asked.kernel.is_some(),
+        Valued::Machine => asked.machine.is_some(),
         Valued::Arch => asked.arch.is_some(),
     }
 }
@@ -188,6 +222,12 @@ fn is_given(option: Valued, asked: &Asked<'_>) -> bool
 fn with_flag<'a>(alloc: Global, asked: Asked<'a>, text: &String) -> Result<Asked<'a>, Trouble>
     ensures exact { Asks result (with_flag (question_of asked.entry) (string_bytes text.now)) }
 {
+    if is_same(text.as_bytes(), b"--native") {
+        return Ok(Asked {
+            native: true,
+            ..asked
+        });
+    }
     if is_same(text.as_bytes(), b"--runc") {
         return Ok(Asked {
             runc: true,
