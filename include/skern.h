@@ -110,8 +110,9 @@ struct skern_setting {
 
 /*
  * The filter of a container's profile, the JSON of docker, podman and their like: it answers to every call of x86-64 what
- * the profile says. With SKERN_OK `*size` is how many bytes the filter takes, and `insns` has them. With SKERN_NO_ROOM
- * `*size` says the same, and nothing else is written. Else nothing is. SKERN_MOST_BYTES is room for each filter.
+ * the profile says, and to every call of x32 and of i386 where the profile lists these. With SKERN_OK `*size` is how many
+ * bytes the filter takes, and `insns` has them. With SKERN_NO_ROOM `*size` says the same, and nothing else is written. Else
+ * nothing is. SKERN_MOST_BYTES is room for each filter.
  */
 #define SKERN_MOST_BYTES 32768
 struct skern_fault skern_profile(const char *json, size_t length, const struct skern_setting *setting, void *insns,

@@ -1,10 +1,11 @@
 -- The filter of a profile, as its bytes go out to C: the JSON of a container runtime, and where it is to hold.
-use Rattle.std.specs.Prelude.{ℕ, ◌≡◌, ◌/◌, ◌%◌, ◌==◌, if◌then◌else◌, List, [], ◌∷◌, Vec, Result, Ok, Err}
+use Rattle.std.specs.Prelude.{ℕ, ◌≡◌, ◌/◌, ◌%◌, ◌==◌, false, if◌then◌else◌, List, [], ◌∷◌, Vec, Some, Result, Ok, Err}
 use Rattle.std.specs.Global.{Global}
 use Rattle.sk_profile_json.specs.declared.answer.Made.{Made}
 use Rattle.sk_profile_json.specs.declared.answer.Refusal.{Refusal}
-use Rattle.sk_profile_json.specs.declared.answer.Refusal.TheVariants.{NotText, NotJson, KeyTwice, Wrong, Clashes, TooLong}
+use Rattle.sk_profile_json.specs.declared.answer.Refusal.TheVariants.{NoMachine, NotText, NotJson, KeyTwice, Wrong, Clashes, TooLong}
 use Rattle.sk_profile_json.specs.declared.context.Context.{Context}
+use Rattle.sk_profile_json.specs.declared.machine.Machine.TheVariants.{X86_64}
 use Rattle.sk_profile_json.specs.Capabilities.{all_names, names_of}
 use Rattle.sk_profile_json.specs.Made.{IsMade}
 use Rattle.libskern.specs.declared.fault.Fault.{Fault}
@@ -16,12 +17,14 @@ abbrev pub held_names : ℕ → List (List ℕ) → List (List ℕ)
 held_names bits [] = []
 held_names bits (name ∷ names) = if bits % 2 == 1 then name ∷ held_names (bits / 2) names else held_names (bits / 2) names
 
--- the library's context for a setting
+-- the library's context for a setting: on x86-64, with all architectures that are listed for it
 pub record IsThere (setting : Setting) (context : Context) : Type 0 where
   pub held : names_of context.capabilities.now ≡ held_names setting.capabilities all_names
   pub major : context.kernel.major ≡ setting.kernel_major
   pub minor : context.kernel.minor ≡ setting.kernel_minor
   pub runc : context.runc ≡ setting.runc
+  pub machine : context.machine ≡ Some X86_64
+  pub native : context.native ≡ false
 
 -- the bytes are the image that is made of the profile there
 abbrev pub IsImageOf : Setting → List ℕ → List ℕ → Type 0
@@ -36,7 +39,7 @@ abbrev pub IsMadeThere : Setting → List ℕ → Result (Vec ℕ Global) Refusa
 IsMadeThere setting profile (Ok image) = IsImageOf setting profile image.items
 IsMadeThere setting profile (Err refusal) = HasNone setting profile refusal
 
--- the numbers of the reasons
+-- the numbers of the reasons. A setting has a machine, so that the last reason never comes
 abbrev pub refusal_number : Refusal → ℕ
 refusal_number TooLong = 2
 refusal_number NotText = 17
@@ -44,6 +47,7 @@ refusal_number NotJson = 18
 refusal_number KeyTwice = 19
 refusal_number (Wrong fault) = 20
 refusal_number (Clashes it) = 21
+refusal_number NoMachine = 20
 
 -- there is less room than the image takes
 abbrev pub no_room : ℕ

@@ -96,7 +96,8 @@ pub extern "C" fn skern_compare(
 }
 
 /// The filter of a container's profile, the JSON of docker, podman and their like, where it is to hold: it answers to every
-/// call of x86-64 what the profile says. `size` gets how many bytes it takes, and `image` gets them where there is room.
+/// call what the profile says, on all architectures that the profile lists for x86-64, which has x32 and i386 beside its own.
+/// `size` gets how many bytes it takes, and `image` gets them where there is room.
 #[unsafe(no_mangle)]
 pub extern "C" fn skern_profile(
     alloc: Global,

@@ -3,7 +3,7 @@ ghost use Rattle.std.specs.Prelude.{◌≡◌, ◌++◌, IfOk};
 ghost use Rattle.sk_profile_json.specs.Capabilities.{all_names, names_of};
 ghost use Rattle.libskern.specs.Profiles.{IsMadeThere, held_names, refusal_number};
 
-use sk_profile_json::{Context, Kernel, Refusal, capability, made};
+use sk_profile_json::{Context, Kernel, Machine, Refusal, capability, made};
 use std::alloc::{AllocError, Global};
 
 /// Where a profile is to hold.
@@ -34,6 +34,8 @@ pub(crate) fn image_of(
             minor: setting.kernel_minor,
         },
         runc: setting.runc,
+        machine: Some(Machine::X86_64),
+        native: false,
     };
     match made(alloc, &context, profile)? {
         Ok(made) => Ok(Ok(made.image)),
@@ -85,7 +87,7 @@ pub(crate) fn number_of(refusal: Refusal) -> u32
         Refusal::NotText => 17,
         Refusal::NotJson => 18,
         Refusal::KeyTwice => 19,
-        Refusal::Wrong(_) => 20,
+        Refusal::NoMachine | Refusal::Wrong(_) => 20,
         Refusal::Clashes(_) => 21,
     }
 }
