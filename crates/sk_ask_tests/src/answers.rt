@@ -112,6 +112,48 @@ const ANSWERS: &[(&str, &str)] = &[
         "calls --call 40 --runc listed",
         "40 sendfile errno/38 ENOSYS\n",
     ),
+    ("calls --call getpid several", "39 getpid allow\n"),
+    (
+        "calls --arch i386 --call getpid several",
+        "20 getpid allow\n",
+    ),
+    (
+        "calls --arch i386 --call mkdir several",
+        "39 mkdir errno/1 EPERM\n",
+    ),
+    (
+        "calls --arch x32 --call getpid several",
+        "1073741863 getpid kill_thread\n",
+    ),
+    (
+        "calls --arch aarch64 --call getpid several",
+        "172 getpid allow\n",
+    ),
+    (
+        "calls several --arch arm --call getpid",
+        "20 getpid allow\n",
+    ),
+    (
+        "calls --machine x86-64 --arch aarch64 --call getpid several",
+        "172 getpid kill_thread\n",
+    ),
+    (
+        "calls --call getpid several --machine aarch64",
+        "39 getpid kill_thread\n",
+    ),
+    (
+        "calls --machine aarch64 --arch arm --call getpid several",
+        "20 getpid allow\n",
+    ),
+    (
+        "calls --machine riscv64 --arch riscv64 --call getpid several",
+        "172 getpid allow\n",
+    ),
+    ("calls --native --call getpid listed", "39 getpid allow\n"),
+    (
+        "calls --machine loongarch64 --native --call getpid getpid",
+        "39 getpid errno/1 EPERM\n",
+    ),
     ("when --call ptrace profile", "101 ptrace allow\n"),
     (
         "when --kernel 4.4 --call ptrace profile",
@@ -210,7 +252,7 @@ fn one_filter_is_written_as_bytes(rt: HostRuntime) -> Result<(), Fail> {
 // What is passed over in a profile, and in which order an image is read, is told beside the answer, and where it can't be written the answer is the same.
 #[test]
 fn notes_stand_beside_an_answer(rt: HostRuntime) -> Result<(), Fail> {
-    let rows: [(&str, &[u8], &[u8]); 4] = [
+    let rows: [(&str, &[u8], &[u8]); 7] = [
         (
             "calls --arch s390x --call getpid turned",
             b"20 getpid errno/1 EPERM\n",
@@ -225,6 +267,21 @@ fn notes_stand_beside_an_answer(rt: HostRuntime) -> Result<(), Fail> {
             "calls --call read noted",
             b"0 read allow\n",
             b"ask: noted: entry 1 of syscalls: no call is named opennat: passed over\n",
+        ),
+        (
+            "calls --native --call getpid several",
+            b"39 getpid allow\n",
+            b"ask: several: x86-64's part alone: programs of its other architectures are killed\n",
+        ),
+        (
+            "calls --native --arch i386 --call getpid several",
+            b"20 getpid kill_thread\n",
+            b"ask: several: x86-64's part alone: programs of its other architectures are killed\n",
+        ),
+        (
+            "calls --arch aarch64 --call getpid several --native",
+            b"172 getpid allow\n",
+            b"ask: several: aarch64's part alone: programs of its other architectures are killed\n",
         ),
         (
             "diff noted noted",

@@ -1,6 +1,6 @@
 //! What profiles are made into, and what is told beside.
 use sk_insn::read_insns;
-use sk_profile_json::{Context, Kernel, is_profile, made};
+use sk_profile_json::{Context, Kernel, Machine, is_profile, made};
 use std::alloc::{AllocError, Global};
 use std::test::Fail;
 
@@ -33,15 +33,15 @@ const NOTES: &[(&[u8], &str)] = &[
     ),
     (
         b"{\"defaultAction\": \"SCMP_ACT_ALLOW\", \"architectures\": [\"SCMP_ARCH_X86_64\", \"SCMP_ARCH_X86\"]}",
-        "x86-64's part alone: its other architectures have no filter here\n",
+        "",
     ),
     (
         b"{\"defaultAction\": \"SCMP_ACT_ALLOW\", \"archMap\": [{\"architecture\": \"SCMP_ARCH_X86_64\"}, {\"architecture\": \"SCMP_ARCH_ARM\"}]}",
-        "x86-64's part alone: its other architectures have no filter here\n",
+        "",
     ),
     (
         b"{\"defaultAction\": \"SCMP_ACT_ALLOW\", \"archMap\": [{\"architecture\": \"SCMP_ARCH_X86_64\", \"subArchitectures\": [\"SCMP_ARCH_X32\"]}]}",
-        "x86-64's part alone: its other architectures have no filter here\n",
+        "",
     ),
     (
         b"{\"defaultAction\": \"SCMP_ACT_ERRNO\", \"syscalls\": [{\"names\": [\"chown32\", \"read\"], \"action\": \"SCMP_ACT_ALLOW\"}]}",
@@ -57,7 +57,41 @@ const NOTES: &[(&[u8], &str)] = &[
     ),
 ];
 
-fn told(alloc: Global, file: &[u8]) -> Result<String, AllocError> {
+/// A profile, the machine whose own architecture is to stand alone, and what is told of that.
+const ALONE: &[(&[u8], Machine, &str)] = &[
+    (
+        b"{\"defaultAction\": \"SCMP_ACT_ALLOW\"}",
+        Machine::X86_64,
+        "",
+    ),
+    (
+        b"{\"defaultAction\": \"SCMP_ACT_ALLOW\", \"architectures\": [\"SCMP_ARCH_X86_64\", \"SCMP_ARCH_ARM\"]}",
+        Machine::X86_64,
+        "",
+    ),
+    (
+        b"{\"defaultAction\": \"SCMP_ACT_ALLOW\", \"architectures\": [\"SCMP_ARCH_X86_64\", \"SCMP_ARCH_X86\"]}",
+        Machine::X86_64,
+        "x86-64's part alone: programs of its other architectures are killed\n",
+    ),
+    (
+        b"{\"defaultAction\": \"SCMP_ACT_ALLOW\", \"archMap\": [{\"architecture\": \"SCMP_ARCH_X86_64\", \"subArchitectures\": [\"SCMP_ARCH_X32\"]}]}",
+        Machine::X86_64,
+        "x86-64's part alone: programs of its other architectures are killed\n",
+    ),
+    (
+        b"{\"defaultAction\": \"SCMP_ACT_ALLOW\", \"archMap\": [{\"architecture\": \"SCMP_ARCH_X86_64\", \"subArchitectures\": [\"SCMP_ARCH_X32\"]}]}",
+        Machine::Aarch64,
+        "",
+    ),
+    (
+        b"{\"defaultAction\": \"SCMP_ACT_ALLOW\", \"architectures\": [\"SCMP_ARCH_ARM\", \"SCMP_ARCH_AARCH64\"]}",
+        Machine::Aarch64,
+        "aarch64's part alone: programs of its other architectures are killed\n",
+    ),
+];
+
+fn told(alloc: Global, machine: Machine, native: bool, file: &[u8]) -> Result<String, AllocError> {
     let context = Context {
         capabilities: &[],
         kernel: Kernel {
@@ -65,6 +99,8 @@ fn told(alloc: Global, file: &[u8]) -> Result<String, AllocError> {
             minor: 12,
         },
         runc: false,
+        machine: Some(machine),
+        native,
     };
     let mut told = String::new(alloc);
     match made(alloc, &context, file)? {
@@ -85,7 +121,11 @@ fn told(alloc: Global, file: &[u8]) -> Result<String, AllocError> {
 #[test]
 fn notes(rt: HostRuntime) -> Result<(), Fail> {
     for (file, said) in NOTES {
-        let told = told(rt.alloc(), file)?;
+        let told = told(rt.alloc(), Machine::X86_64, false, file)?;
+        assert_eq!(rt; told.as_str(), *said);
+    }
+    for (file, machine, said) in ALONE {
+        let told = told(rt.alloc(), *machine, true, file)?;
         assert_eq!(rt; told.as_str(), *said);
     }
     Ok(())

@@ -1,7 +1,7 @@
-//! Some calls by their numbers and names, on x86-64 and on others, and names of capabilities.
+//! Some calls by their numbers and names, on x86-64 and on others, and names of machines and of capabilities.
 use sk_names::x86_64::{name, number, numbers};
 use sk_names::{Architecture, is_elsewhere};
-use sk_profile_json::capability;
+use sk_profile_json::{Machine, capability};
 use std::test::Fail;
 
 #[test]
@@ -104,6 +104,41 @@ fn all_named_calls_elsewhere(rt: HostRuntime) -> Result<(), Fail> {
         )
     );
     Ok(())
+}
+
+/// An architecture, and the machine that runs its programs.
+const MACHINES: &[(Architecture, Option<Machine>)] = &[
+    (Architecture::X86_64, Some(Machine::X86_64)),
+    (Architecture::X32, Some(Machine::X86_64)),
+    (Architecture::I386, Some(Machine::X86_64)),
+    (Architecture::Aarch64, Some(Machine::Aarch64)),
+    (Architecture::Arm, Some(Machine::Aarch64)),
+    (Architecture::Riscv64, Some(Machine::Riscv64)),
+    (Architecture::Ppc64le, Some(Machine::Ppc64le)),
+    (Architecture::S390x, None),
+    (Architecture::Loongarch64, Some(Machine::Loongarch64)),
+];
+
+#[test]
+fn machines(rt: HostRuntime) {
+    for &(architecture, machine) in MACHINES {
+        assert_eq!(rt; Machine::of(architecture), machine);
+    }
+    for machine in Machine::ALL {
+        let own = machine.own();
+        assert_eq!(rt;
+            (Machine::named(own.text().as_bytes()), Machine::of(own)),
+            (Some(machine), Some(machine))
+        );
+    }
+    let names: [&[u8]; 5] = [b"x32", b"arm", b"s390x", b"amd64", b""];
+    for name in names {
+        assert_eq!(rt; Machine::named(name), None);
+    }
+    assert_eq!(rt;
+        Machine::Aarch64.relatives(),
+        [Architecture::Arm].as_slice()
+    );
 }
 
 /// A word, how many names it stands for, and the first of them.

@@ -1,5 +1,5 @@
 //! Damaged profiles, and what is said of each.
-use sk_profile_json::{Context, Kernel, made, refusal_text};
+use sk_profile_json::{Context, Kernel, Machine, Refusal, made, refusal_text};
 use std::alloc::{AllocError, Global};
 use std::process::Abort;
 use std::test::Fail;
@@ -12,6 +12,8 @@ const CONTEXT: Context<'_> = Context {
         minor: 12,
     },
     runc: false,
+    machine: Some(Machine::X86_64),
+    native: false,
 };
 
 /// Files that have more than one line, or bytes that are no text.
@@ -87,13 +89,13 @@ const KEYS: &str = "= a key comes twice in one object
 = defaultErrno: expected the name of the error in defaultErrnoRet, beside it
 \"defaultErrno\": \"EPERM\"
 \"defaultErrnoRet\": 38, \"defaultErrno\": \"EPERM\"
-= architectures: expected a list of names as SCMP_ARCH_X86, with SCMP_ARCH_X86_64 among them
+= architectures: expected a list of names as SCMP_ARCH_X86, with that of the machine among them
 \"architectures\": [\"SCMP_ARCH_X86\"]
 \"architectures\": [\"x86_64\"]
 \"architectures\": \"SCMP_ARCH_X86_64\"
 \"architectures\": [\"SCMP_ARCH_X86_64\", 1]
-= archMap: expected a list of objects with architecture and subArchitectures, one of them for SCMP_ARCH_X86_64
-\"archMap\": [{\"architecture\": \"SCMP_ARCH_AARCH64\"}]
+= archMap: expected a list of objects with architecture and subArchitectures
+\"archMap\": [{\"architecture\": \"arm64\"}]
 \"archMap\": [{}]
 \"archMap\": [\"SCMP_ARCH_X86_64\"]
 \"archMap\": [{\"architecture\": \"SCMP_ARCH_X86_64\", \"subs\": []}]
@@ -103,6 +105,8 @@ const KEYS: &str = "= a key comes twice in one object
 \"architectures\": [\"SCMP_ARCH_X86_64\"], \"archMap\": [{\"architecture\": \"SCMP_ARCH_X86_64\"}]
 = syscalls: expected a list of entries
 \"syscalls\": {}
+= a filter
+\"archMap\": [{\"architecture\": \"SCMP_ARCH_AARCH64\"}]
 ";
 
 // The second entry.
@@ -219,6 +223,25 @@ fn files(rt: HostRuntime) -> Result<(), Fail> {
     for (file, why) in FILES {
         assert_eq!(rt; said(rt.alloc(), file)?.as_str(), *why);
     }
+    Ok(())
+}
+
+// Whatever the file is, it has no filter where none is made for the machine.
+#[test]
+fn no_machine(rt: HostRuntime) -> Result<(), Fail> {
+    let context = Context {
+        machine: None,
+        ..CONTEXT
+    };
+    let files: [&[u8]; 2] = [b"{\"defaultAction\": \"SCMP_ACT_ALLOW\"}", b"{\xff}"];
+    for file in files {
+        let refusal = made(rt.alloc(), &context, file)?.err();
+        assert_eq!(rt; refusal, Some(Refusal::NoMachine));
+    }
+    let text = refusal_text(rt.alloc(), Refusal::NoMachine)?;
+    let said =
+        "no filter is made of a profile for s390x: its arguments have their highest byte first";
+    assert_eq!(rt; text.as_str(), said);
     Ok(())
 }
 
