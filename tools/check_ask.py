@@ -541,8 +541,15 @@ MADE = [
 ]
 # All that asks something of a chain of FILEs, and of each of two.
 ASKING = ("calls", "calls --examples --call read", "calls --arch i386 --call read", "when --call read", "when --arch aarch64 --call read", "when --dot --call read", "filter", "replay log", "why 'getpid(1)'", "why --arch arm 'getpid(1)'", "show", "arches")
+
+
+def of_machine(asking, says):
+    """What is said of a profile where calls of aarch64 or arm are asked about: its filter is for that machine."""
+    return says.replace("), and they", ") of aarch64, and they") if "--arch a" in asking else says
+
+
 UNREAD = [
-    *[trouble(f"ask {asking} {files}", says) for asking in ASKING for files, says in ONE + SEVERAL],
+    *[trouble(f"ask {asking} {files}", of_machine(asking, says)) for asking in ASKING for files, says in ONE + SEVERAL],
     *[trouble(command.format(ask=f"ask {asking}"), says) for asking in (*ASKING, "diff all") for command, says in MADE],
     *[trouble(f"ask diff {files}", says) for file, says in ONE for files in (f"all {file}", f"{file} all")],
     trouble("ask diff word nofile", f"word: line 2: {NO_LINE}"), trouble("ask diff nofile folder", "nofile: no such file"),

@@ -51,7 +51,7 @@ def value_of(given: Profile, it: Rule, name: str, architecture: str, args: tuple
 def problem_of_clash(given: Profile, found: re.Match[str]) -> str | None:
     """What is wrong with a refusal that names two entries and a call."""
     first, second, name, architecture = int(found[1]), int(found[2]), found[3], found[5] or X86_64
-    if not 0 < first < second <= len(given.rules):
+    if first == second or not all(0 < it <= len(given.rules) for it in (first, second)):
         return f"entries {first} and {second} of {len(given.rules)}"
     if found[5] == X86_64 or architecture not in given.architectures() or name not in NAMES[architecture]:
         return f"{name} of {found[5]}, and {given.architectures()} are listed"
