@@ -39,11 +39,11 @@ def words_of(audit: int, number: int, args: tuple[int, ...]) -> list[int]:
 
 
 def value_of(given: Profile, it: Rule, name: str, architecture: str, args: tuple[int, ...]) -> int | None:
-    """What an entry says of a call, or none where the call does not fit it: the call is its own, or stands for it on i386."""
-    if it not in given.given():
-        return None
+    """What an entry says of a call, or none where the call does not fit it: the call is its own, or stands for it on i386. There
+    the first entry of a name is named for all that is said of the name."""
     if it.name == name:
-        return ACTIONS[it.action] if all(asked.holds(args, architecture != X86_64) for asked in it.conditions) else None
+        fits = it in given.given() and all(asked.holds(args, architecture != X86_64) for asked in it.conditions)
+        return ACTIONS[it.action] if fits else None
     call, at, mask = ONE_OF_SEVERAL.get(it.name, ("", 0, 0))
     return given.unseen(it.name) if (call, at) == (name, args[0] & mask) else None
 
