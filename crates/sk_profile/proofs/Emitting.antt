@@ -1,7 +1,7 @@
 -- The pieces that arms are put in.
 use Rattle.std.proofs.Common.{◌≡◌, Bool, true, false, if◌then◌else◌, ℕ, ◌+◌, ◌<◌, List, [], ◌∷◌, ◌++◌, ◌-◌, length, get_or, take, drop, map, flat_map, refl, ap, sym, ◌∙◌, subst, arith, append_assoc, append-nil}
 use Rattle.std.specs.Prelude.{All, Result, Ok, Err, OnOk}
-use Rattle.std.proofs.lemmas.List.{length-drop, take_all, take_more, take-append-drop, map-append, flat_map_more}
+use Rattle.std.proofs.lemmas.List.{take-map, length-drop, take_all, take_more, take-append-drop, map-append, flat_map_more}
 use Rattle.std.proofs.lemmas.List.Elements.{All-nil, All-cons, All-head, All-tail, All-map, All-append, All-weaker}
 use Rattle.sk_insn.specs.declared.insn.Insn.{Insn}
 use Rattle.sk_insn.specs.declared.record.Record.{Record}
@@ -137,6 +137,8 @@ saying_put old code new saying n rest none puts is =
             ap (λ arms. first_held arms saying.otherwise it) puts.has ∙ without_them (map arm_of (take n arms)) more saying.otherwise it all
             ∙ ap (λ arms. first_held arms saying.otherwise it) whole;
         left = refl;
+        first = n;
+        shown = puts.has ∙ sym (take-map arm_of n arms);
         none = λ each. no_pieces puts.pieces (puts.has ∙ ap (λ n. map arm_of (take n arms)) (none (of_code saying.otherwise arms each)));
       };
       good = puts.good;

@@ -4,7 +4,7 @@ use Rattle.std.specs.Prelude.{All, Contains, Result, Ok, Err, IfOk, IfErr, IsErr
 use Rattle.std.specs.List.{list_all}
 use Rattle.std.proofs.lemmas.Bool.{eq-eqb, eqb-true, both_ways}
 use Rattle.std.proofs.lemmas.List.Sums.{AllPass-from_list_all}
-use Rattle.std.proofs.lemmas.List.{length-map}
+use Rattle.std.proofs.lemmas.List.{length-map, take_all}
 use Rattle.std.proofs.lemmas.List.Elements.{All-nil, All-cons, All-head, All-tail, All-get_or, All-take, All-drop, All-map, All-weaker}
 use Rattle.sk_insn.specs.declared.insn.Insn.{Insn}
 use Rattle.sk_profile.specs.declared.saying.Arm.{Arm as ArmOfCode}
@@ -102,6 +102,8 @@ no_code before none values there = record {
     record {
       same = λ call. ap (λ (arms : List ArmOfCode). first_held (map arm_of arms) before.otherwise (seen before.narrow call)) (sym none);
       left = refl;
+      first = 0;
+      shown = refl;
       none = λ all. refl;
     },
   );
@@ -166,6 +168,8 @@ leaf_of values saying good true e =
           record {
             same = λ call. sym (none_matters (map arm_of arms) saying.otherwise (seen saying.narrow call) (All-map (λ (arm : Arm). arm.value ≡ saying.otherwise) arm_of arms each));
             left = refl;
+            first = 0;
+            shown = refl;
             none = λ all. refl;
           },
         );
@@ -181,6 +185,8 @@ leaf_of values saying good false e =
           record {
             same = λ call. ap (λ arms. first_held arms saying.otherwise (seen saying.narrow call)) (arm_by_itself arms);
             left = refl;
+            first = length (map arm_of arms);
+            shown = arm_by_itself arms ∙ sym (take_all (length (map arm_of arms)) (map arm_of arms) (omega arith));
             none = λ all. absurd (both_ways _ e (each_answers saying.otherwise arms (of_code saying.otherwise arms all)));
           },
         );
@@ -273,15 +279,15 @@ overlong_head values behind before rows n d below above under over more are insi
 
 -- ---- sections
 
-pub section_put : (old tree new : List Insn) (audit : ℕ) (values : List ℕ) (before : SayingOfCode) (rows : List RowOfCode) (n : ℕ) → IsTreeOf values 0 before rows tree → n ≡ length tree + length values + 1
+pub section_put : (old tree new : List Insn) (audit : ℕ) (values : List ℕ) (before : SayingOfCode) (rows : List RowOfCode) (n : ℕ) → IsTreeOf values 0 before rows tree → n ≡ length tree + length values + 1 → length values ≤ 1 + length rows
     → new ≡ (((old ++ past_code audit n) ++ Rattle.sk_profile.specs.Code.load 0 ∷ []) ++ tree) ++ map answer values → PutsSection old new audit before rows
-section_put old tree new audit values before rows n it so_many is =
+section_put old tree new audit values before rows n it so_many brief is =
     let section : Section = record { audit = audit; values = values; tree = it.tree } in
     let code = section_code section in
     let first = Rattle.sk_profile.specs.Code.load 0 in
     let count : n ≡ length code = omega (arith, so_many, ap length it.written, length-append (tree_code values it.tree 0) (map answer values), length-map values answer) in record {
       section = section;
-      says = record { named = refl; good = record { tree = it.is.good; code = it.has }; is = it.is };
+      says = record { named = refl; good = record { tree = it.is.good; code = it.has }; is = it.is; brief = brief };
       code =
           is
           ∙ append_assoc ((old ++ past_code audit n) ++ first ∷ []) tree (map answer values)
@@ -301,11 +307,11 @@ guarded_longer section =
     )
 
 pub long_section : (audit : ℕ) (values : List ℕ) (before : SayingOfCode) (rows : List RowOfCode) (tree : Tree) → CutsRows values before rows tree → HasCode tree
-    → 4096 < length (tree_code values tree 0) + length values + 1 → IsLongSection audit before rows
-long_section audit values before rows tree is has long =
+    → length values ≤ 1 + length rows → 4096 < length (tree_code values tree 0) + length values + 1 → IsLongSection audit before rows
+long_section audit values before rows tree is has brief long =
     let section : Section = record { audit = audit; values = values; tree = tree } in record {
       section = section;
-      says = record { named = refl; good = record { tree = is.good; code = has }; is = is };
+      says = record { named = refl; good = record { tree = is.good; code = has }; is = is; brief = brief };
       long = omega (arith, long, guarded_longer section);
     }
 
@@ -321,9 +327,9 @@ own values before rows (Leaf narrow pieces otherwise) is = record { tree = Leaf 
 own values before rows (Away value) is = record { tree = Leaf false [] value; is = record { cuts = is.cuts; good = All-nil (IsPiece false) }; has = tt; longer = omega arith }
 own values before rows (Fork number below above) is = record { tree = Fork number below above; is = is; has = tt; longer = omega arith }
 
-pub long_of : (audit : ℕ) (values : List ℕ) (before : SayingOfCode) (rows : List RowOfCode) → IsOverlong values 0 before rows → IsLongSection audit before rows
-long_of audit values before rows over =
-    let it = own values before rows over.tree over.is in long_section audit values before rows it.tree it.is it.has (omega (arith, over.long, it.longer))
+pub long_of : (audit : ℕ) (values : List ℕ) (before : SayingOfCode) (rows : List RowOfCode) → length values ≤ 1 + length rows → IsOverlong values 0 before rows → IsLongSection audit before rows
+long_of audit values before rows brief over =
+    let it = own values before rows over.tree over.is in long_section audit values before rows it.tree it.is it.has brief (omega (arith, over.long, it.longer))
 
 pub on_err : {X E : Type 0} {P Q : E → Type 0} (r : Result X E) → ((fault : E) → P fault → Q fault) → IfErr r P → IfErr r Q
 on_err (Ok x) f p = p

@@ -110,11 +110,12 @@ pub record IsTreeOf (values : List ℕ) (behind : ℕ) (before : SayingOfCode) (
   pub has : HasCode tree
   pub written : code ≡ tree_code values tree behind
 
--- a section that says what rows say
+-- a section that says what rows say, with no more values than there are sayings
 pub record IsSectionFor (audit : ℕ) (before : SayingOfCode) (rows : List RowOfCode) (section : Section) : Type 0 where
   pub named : section.audit ≡ audit
   pub good : IsSection section
   pub is : CutsRows section.values before rows section.tree
+  pub brief : length section.values ≤ 1 + length rows
 
 -- its code stands behind what stood there
 pub record PutsSection (old new : List Insn) (audit : ℕ) (before : SayingOfCode) (rows : List RowOfCode) : Type 0 where

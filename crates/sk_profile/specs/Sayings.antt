@@ -1,6 +1,6 @@
 -- What a profile says of a call, once its rules stand by the number of the call: the first arm whose conditions all
 -- hold answers, and otherwise what is left (runtime-spec, config-linux.md, "Seccomp"; seccomp_rule_add(3)).
-use Rattle.std.specs.Prelude.{ℕ, ◌≡◌, ◌%◌, ◌^◌, All, ◌==◌, ◌&&◌, Bool, true, false, nat_lt, nat_le, not, if◌then◌else◌, bit_and, List, [], ◌∷◌, map, flat_map, slice_index_or}
+use Rattle.std.specs.Prelude.{ℕ, ◌≡◌, ◌%◌, ◌^◌, All, ◌==◌, ◌&&◌, Bool, true, false, nat_lt, nat_le, not, if◌then◌else◌, bit_and, List, [], ◌∷◌, map, flat_map, take, slice_index_or}
 use Rattle.std.specs.List.{list_any}
 use Rattle.sk_insn.specs.declared.record.Record.{Record}
 use Rattle.sk_profile.specs.declared.condition.Condition.{Condition}
@@ -92,10 +92,12 @@ arms_of (Joined choice) = map (asks choice.index choice.value) (choice.first ∷
 abbrev pub saying_of_pieces : Bool → List Piece → ℕ → Saying
 saying_of_pieces narrow pieces otherwise = record { narrow = narrow; arms = flat_map arms_of pieces; otherwise = otherwise }
 
--- pieces that say of every call what a saying says; none, where it says the same of all
+-- pieces of the first arms of a saying that say of every call what it says; none, where it says the same of all
 pub record Shows (narrow : Bool) (pieces : List Piece) (otherwise : ℕ) (saying : Saying) : Type 0 where
   pub same : (call : Record) → said (saying_of_pieces narrow pieces otherwise) call ≡ said saying call
   pub left : otherwise ≡ saying.otherwise
+  pub first : ℕ
+  pub shown : flat_map arms_of pieces ≡ take first saying.arms
   pub none : All (λ (arm : Arm). arm.value ≡ saying.otherwise) saying.arms → pieces ≡ []
 
 -- a saying that says this of every call, as is seen without asking for an argument

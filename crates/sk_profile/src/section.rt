@@ -1,5 +1,5 @@
 //! The section of a filter for the calls for which it is shown one number of linux/audit.h.
-ghost use Rattle.std.specs.Prelude.{ℕ, ◌≡◌, ◌≤◌, ◌++◌, map, OnOk, IfErr};
+ghost use Rattle.std.specs.Prelude.{ℕ, ◌≡◌, ◌≤◌, ◌+◌, ◌++◌, length, map, OnOk, IfOk, IfErr};
 ghost use Rattle.sk_profile.specs.declared.build.CodeFault.TheVariants.{TooLong};
 ghost use Rattle.sk_profile.specs.Code.{answer, past_code};
 ghost use Rattle.sk_profile.specs.CodeViews.{AreRows, IsLongSection, PutsSection};
@@ -58,8 +58,10 @@ fn push_answers(code: &mut Vec<Insn>, values: &[u32]) -> Result<(), AllocError>
     Ok(())
 }
 
-// The values that are answered without asking for an argument, each once. Any are right.
-fn values_of(alloc: Global, before: &Saying, rows: &[Row]) -> Result<Vec<u32>, AllocError> {
+// The values that are answered without asking for an argument, each once.
+fn values_of(alloc: Global, before: &Saying, rows: &[Row]) -> Result<Vec<u32>, AllocError>
+    ensures brief { IfOk result (λ values. length values.items ≤ 1 + length rows.now) }
+{
     let mut values = Vec::new(alloc);
     if rows.is_empty() {
         return Ok(values);
@@ -71,7 +73,9 @@ fn values_of(alloc: Global, before: &Saying, rows: &[Row]) -> Result<Vec<u32>, A
     Ok(values)
 }
 
-fn push_value(values: &mut Vec<u32>, saying: &Saying) -> Result<(), AllocError> {
+fn push_value(values: &mut Vec<u32>, saying: &Saying) -> Result<(), AllocError>
+    ensures one { OnOk result (length values.new.items ≤ 1 + length values.old.items) }
+{
     if saying.arms.is_empty() && !values.contains(&saying.otherwise) {
         values.push(saying.otherwise)?;
     }
