@@ -249,47 +249,49 @@ fn one_filter_is_written_as_bytes(rt: HostRuntime) -> Result<(), Fail> {
     Ok(())
 }
 
+// Questions, their answers, and what is told beside.
+const NOTED: &[(&str, &[u8], &[u8])] = &[
+    (
+        "calls --arch s390x --call getpid turned",
+        b"20 getpid errno/1 EPERM\n",
+        b"ask: turned: read with its highest byte first\n",
+    ),
+    (
+        "show turned --arch s390x",
+        b"; 0 nr\n    ldabs 0\n; 1 getpid\n    jeq 20 +0 at3\n; 2 errno/1 EPERM\n    ret 0x00050001\nat3:\n; 3 allow\n    ret 0x7fff0000\n",
+        b"ask: turned: read with its highest byte first\n",
+    ),
+    (
+        "calls --call read noted",
+        b"0 read allow\n",
+        b"ask: noted: entry 1 of syscalls: no call is named opennat: passed over\n",
+    ),
+    (
+        "calls --native --call getpid several",
+        b"39 getpid allow\n",
+        b"ask: several: x86-64's part alone: programs of its other architectures are killed\n",
+    ),
+    (
+        "calls --native --arch i386 --call getpid several",
+        b"20 getpid kill_thread\n",
+        b"ask: several: x86-64's part alone: programs of its other architectures are killed\n",
+    ),
+    (
+        "calls --arch aarch64 --call getpid several --native",
+        b"172 getpid allow\n",
+        b"ask: several: aarch64's part alone: programs of its other architectures are killed\n",
+    ),
+    (
+        "diff noted noted",
+        b"the same on every call\n",
+        b"ask: noted: entry 1 of syscalls: no call is named opennat: passed over\nask: noted: entry 1 of syscalls: no call is named opennat: passed over\n",
+    ),
+];
+
 // What is passed over in a profile, and in which order an image is read, is told beside the answer, and where it can't be written the answer is the same.
 #[test]
 fn notes_stand_beside_an_answer(rt: HostRuntime) -> Result<(), Fail> {
-    let rows: [(&str, &[u8], &[u8]); 7] = [
-        (
-            "calls --arch s390x --call getpid turned",
-            b"20 getpid errno/1 EPERM\n",
-            b"ask: turned: read with its highest byte first\n",
-        ),
-        (
-            "show turned --arch s390x",
-            b"; 0 nr\n    ldabs 0\n; 1 getpid\n    jeq 20 +0 at3\n; 2 errno/1 EPERM\n    ret 0x00050001\nat3:\n; 3 allow\n    ret 0x7fff0000\n",
-            b"ask: turned: read with its highest byte first\n",
-        ),
-        (
-            "calls --call read noted",
-            b"0 read allow\n",
-            b"ask: noted: entry 1 of syscalls: no call is named opennat: passed over\n",
-        ),
-        (
-            "calls --native --call getpid several",
-            b"39 getpid allow\n",
-            b"ask: several: x86-64's part alone: programs of its other architectures are killed\n",
-        ),
-        (
-            "calls --native --arch i386 --call getpid several",
-            b"20 getpid kill_thread\n",
-            b"ask: several: x86-64's part alone: programs of its other architectures are killed\n",
-        ),
-        (
-            "calls --arch aarch64 --call getpid several --native",
-            b"172 getpid allow\n",
-            b"ask: several: aarch64's part alone: programs of its other architectures are killed\n",
-        ),
-        (
-            "diff noted noted",
-            b"the same on every call\n",
-            b"ask: noted: entry 1 of syscalls: no call is named opennat: passed over\nask: noted: entry 1 of syscalls: no call is named opennat: passed over\n",
-        ),
-    ];
-    for (words, answer, notes) in rows {
+    for &(words, answer, notes) in NOTED {
         let ran = run(rt.alloc(), words, 0)?;
         assert_eq!(rt;
             (ran.status, ran.out.as_slice(), ran.complaints.as_slice()),
