@@ -1,14 +1,8 @@
 -- A lineage that is read from the last event back.
-use Rattle.std.proofs.Common.{◌≡◌, ◌∙◌, ◌<◌, ◌+◌, ℕ, suc, arith, length, ap, sym, refl, reverse, append_assoc, List, [], ◌∷◌, ◌++◌, Option, None, Some}
-use Rattle.std.specs.Prelude.{take}
-use Rattle.std.specs.Option.{option_to_list}
-use Rattle.std.specs.List.{zip}
-use Rattle.std.proofs.lemmas.List.{take_more, take_all, length-take-le, reverse-append}
+use Rattle.std.proofs.Common.{◌≡◌, ◌∙◌, ◌<◌, ◌+◌, ℕ, suc, arith, length, ap, sym, refl, reverse, append_assoc, List, [], ◌∷◌, ◌++◌, Option, None, Some, take, option_to_list, zip}
+use Rattle.std.proofs.lemmas.List.{length-take-le}
+use Rattle.sk_kernel.proofs.Common.{take_more, reverse-append, Record, Event, Answer, Lineage, Happening, lineage_before, calls_added, with_calls, lineage_of, history_of}
 use lib.ListN.{get_or}
-use Rattle.sk_insn.specs.declared.record.Record.{Record}
-use Rattle.sk_machine.specs.declared.event.Event.{Event}
-use Rattle.sk_machine.specs.declared.answer.Answer.{Answer}
-use Rattle.sk_machine.specs.Lineages.{Lineage, Happening, lineage_before, calls_added, with_calls, lineage_of, history_of}
 
 zip_more : (es : List Event) (told : List Answer) (event : Event) (answer : Answer) → length es ≡ length told
     → zip (es ++ event ∷ []) (told ++ answer ∷ []) ≡ zip es told ++ (event, answer) ∷ []
@@ -52,14 +46,3 @@ lineage_back es told left event answer root calls o lineage in_events in_answers
     ∙ ap (λ cs. record before { calls = cs }) (sym (append_assoc before.calls (calls_added root newest) (reverse calls)))
     ∙ ap (λ h. with_calls (reverse calls) (lineage_of h root)) (sym (history_more es told left event answer in_events in_answers))
     ∙ known
-
-none_behind : (calls : List Record) → calls ++ [] ≡ calls
-none_behind [] = refl
-none_behind (call ∷ calls) = ap (λ cs. call ∷ cs) (none_behind calls)
-
--- at first it is that of all events
-pub lineage_of_all : (es : List Event) (told : List Answer) (root : ℕ) → length es ≡ length told
-    → with_calls (reverse []) (lineage_of (history_of (take (length es) es) (take (length es) told)) root) ≡ lineage_of (history_of es told) root
-lineage_of_all es told root same =
-    (λ i. with_calls [] (lineage_of (history_of (take_all (length es) es (omega arith) i) (take_all (length es) told (omega (arith, same)) i)) root))
-    ∙ ap (λ cs. record (lineage_of (history_of es told) root) { calls = cs }) (none_behind (lineage_of (history_of es told) root).calls)

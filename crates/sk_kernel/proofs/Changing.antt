@@ -1,27 +1,9 @@
 -- Who is still blocked, after a process was changed.
-use Rattle.std.proofs.Common.{◌≡◌, ◌≢◌, ◌∙◌, ◌≤◌, ℕ, arith, List, [], ap, sym, refl, subst, true, false, cond, ◌==◌, ◌&&◌, ◌||◌, IsTrue, IsFalse, Option, None, Some}
-use Rattle.std.specs.Option.{is_some, option_map}
-use Rattle.std.proofs.lemmas.Bool.{false≢true, eq-eqb, eqb-true, eqb-false, ne_eqb, and_parts}
-use Rattle.sk_world.specs.declared.process.Life.{Life}
-use Rattle.sk_world.specs.declared.process.Life.TheVariants.{Running, Stopped, Zombie}
-use Rattle.sk_world.specs.declared.process.Waiting.{Waiting}
-use Rattle.sk_world.specs.declared.process.Waiting.TheVariants as waiting
-use Rattle.sk_world.specs.declared.process.Body.{Body}
-use Rattle.sk_world.specs.declared.process.Links.{Links}
-use Rattle.sk_world.specs.declared.process.Proc.{Proc}
-use Rattle.sk_world.specs.declared.request.Request.{Request}
-use Rattle.sk_world.specs.declared.request.Who.{Who}
-use Rattle.sk_world.specs.declared.request.Who.TheVariants.{Child, Any, Group}
-use Rattle.sk_world.specs.World.{World, at, opening, first_process, parent_of, stored, body_changed, links_changed, with_body, with_links, inserted}
-use Rattle.sk_world.specs.Waits.{is_asked_for, is_match, status_of}
-use Rattle.sk_world.specs.Processes.{none}
+use Rattle.std.proofs.Common.{◌≡◌, ◌≢◌, ◌∙◌, ◌≤◌, ℕ, arith, List, [], ap, sym, refl, subst, true, false, cond, ◌==◌, ◌&&◌, ◌||◌, IsTrue, IsFalse, Option, None, Some, is_some, option_map, eq-eqb, eqb-true, ne_eqb}
+use Rattle.sk_kernel.proofs.Common.{false≢true, eqb-false, and_parts, Life, Running, Stopped, Zombie, Waiting, Body, Links, Proc, Request, Who, Child, Any, Group, World, at, opening, first_process, parent_of, stored, body_changed, links_changed, with_body, with_links, inserted, is_asked_for, is_match, status_of, none, everywhere, at_here, at_other, contains, LAST_PID, AllBlocked, OthersAreThere, IsNoted, Notes, Forgets, LooksAt, has_status_change, has_change_for, IsStillAsking, KeepsWaiting, BlockedBy, BlockedAs, IsBlocked}
 use Rattle.sk_world.proofs.Maps.{get_store}
-use Rattle.sk_world.proofs.Stored.{everywhere, at_here, at_other}
-use Rattle.sk_world.specs.NumberSets.{contains}
-use Rattle.sk_world.specs.declared.process.TheConstants.{LAST_PID}
 use Rattle.sk_kernel.proofs.Idle.{unready_as}
-use Rattle.sk_kernel.specs.views.Noting.{AllBlocked, OthersAreThere, IsNoted, Notes, Forgets, LooksAt}
-use Rattle.sk_kernel.specs.views.Blocked.{has_status_change, has_change_for, IsStillAsking, KeepsWaiting, BlockedBy, BlockedAs, IsBlocked}
+use Rattle.sk_world.specs.declared.process.Waiting.TheVariants as waiting
 
 -- in another world, where it goes on asking whatever it asked
 module _ (w now : World) (pid : ℕ) (asks : (request : Request) → IsStillAsking w pid request → IsStillAsking now pid request) where

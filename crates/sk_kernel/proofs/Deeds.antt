@@ -1,24 +1,13 @@
 -- What a signal does to a body, and leaves to be done in the world, is what its delivery comes to.
 use Rattle.std.proofs.Common.{◌≡◌, ◌∙◌, ◌==◌, ℕ, ap, sym, refl, Bool, true, false, cond, not, ◌&&◌, length, Some}
-use Rattle.sk_world.specs.declared.signals.TheConstants.{SIGKILL, SIGSEGV, SIGSYS}
+use Rattle.sk_kernel.proofs.Common.{SIGKILL, SIGSEGV, SIGSYS, Signals, default_action, disposition_of, INIT, Body, Proc, World, at, changed, with_body, given_back, changed_twice, is_waiting, in_handler, taking, ignored, terminated_by, acts_by_default, acts_by_disposition, delivered, Acted, entered, deed_of, default_deed, acted_by, acted, left}
 use Rattle.sk_world.specs.declared.signal_state.TheConstants.{FRAMES}
 use Rattle.sk_world.specs.declared.disposition.DefaultAction.{DefaultAction}
-use Rattle.sk_world.specs.declared.disposition.DefaultAction.TheVariants as action
 use Rattle.sk_world.specs.declared.disposition.Disposition.{Disposition}
-use Rattle.sk_world.specs.declared.disposition.Disposition.TheVariants as disposition
-use Rattle.sk_world.specs.SignalSet.{Signals}
-use Rattle.sk_world.specs.Actions.{default_action}
-use Rattle.sk_world.specs.SignalState.{disposition_of}
-use Rattle.sk_world.specs.declared.process.TheConstants.{INIT}
-use Rattle.sk_world.specs.declared.process.Body.{Body}
-use Rattle.sk_world.specs.declared.process.Proc.{Proc}
-use Rattle.sk_world.specs.World.{World, at, changed, with_body}
-use Rattle.sk_world.proofs.Bodies.{given_back}
-use Rattle.sk_world.proofs.Stored.{changed_twice}
 use Rattle.sk_machine.specs.declared.answer.Effect.TheVariants.{Ignored, Handler}
-use Rattle.sk_machine.specs.Delivering.{is_waiting, in_handler, taking, ignored, terminated_by, acts_by_default, acts_by_disposition, delivered}
 use Rattle.sk_kernel.specs.declared.delivering.Deed.TheVariants.{Nothing, End}
-use Rattle.sk_kernel.specs.Deeds.{Acted, entered, deed_of, default_deed, acted_by, acted, left}
+use Rattle.sk_world.specs.declared.disposition.DefaultAction.TheVariants as action
+use Rattle.sk_world.specs.declared.disposition.Disposition.TheVariants as disposition
 
 module _ (w : World) (pid n : ℕ) (p : Proc) (b : Body) (is : at w pid ≡ Some p) (own : p.body ≡ b) where
   taken : with_body w pid (taking n b) ≡ changed w pid (taking n)

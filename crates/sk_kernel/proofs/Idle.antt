@@ -1,24 +1,9 @@
 -- Who is blocked cannot run.
-use Rattle.std.proofs.Common.{◌≡◌, ◌∙◌, ℕ, ap, sym, refl, Bool, true, false, not, ◌==◌, ◌&&◌, ◌||◌, IsTrue, Option, None, Some}
-use Rattle.std.specs.Option.{is_some}
-use Rattle.std.proofs.lemmas.Bool.{false≢true}
-use Rattle.sk_world.specs.declared.process.Life.{Life}
-use Rattle.sk_world.specs.declared.process.Life.TheVariants.{Running, Stopped, Zombie}
+use Rattle.std.proofs.Common.{◌≡◌, ◌∙◌, ℕ, ap, sym, refl, Bool, true, false, not, ◌==◌, ◌&&◌, ◌||◌, IsTrue, Option, None, Some, is_some}
+use Rattle.sk_kernel.proofs.Common.{false≢true, Life, Running, Stopped, Zombie, Waiting, Body, Proc, Request, WaitOptions, pids, World, at, has_ended, has_stopped, is_halted, is_alive, is_stopped, is_asked_for, is_match, is_ready, status_of_body, status_of, any_here, none_any, signal_for, signal_due, waits_no_more, goes_on, is_runnable, is_unreported, has_status_change, has_change_for, KeepsWaiting, BlockedBy, BlockedAs, IsBlocked}
 use Rattle.sk_world.specs.declared.process.Note.{Note}
 use Rattle.sk_world.specs.declared.process.Note.TheVariants as note
-use Rattle.sk_world.specs.declared.process.Waiting.{Waiting}
 use Rattle.sk_world.specs.declared.process.Waiting.TheVariants as waiting
-use Rattle.sk_world.specs.declared.process.Body.{Body}
-use Rattle.sk_world.specs.declared.process.Proc.{Proc}
-use Rattle.sk_world.specs.declared.request.Request.{Request}
-use Rattle.sk_world.specs.declared.request.WaitOptions.{WaitOptions}
-use Rattle.sk_world.specs.Processes.{pids}
-use Rattle.sk_world.specs.World.{World, at, has_ended, has_stopped, is_halted, is_alive, is_stopped}
-use Rattle.sk_world.specs.Waits.{is_asked_for, is_match, is_ready, status_of_body, status_of}
-use Rattle.sk_world.proofs.Walks.{any_here, none_any}
-use Rattle.sk_machine.specs.Delivering.{signal_for, signal_due}
-use Rattle.sk_machine.specs.Turns.{waits_no_more, goes_on, is_runnable}
-use Rattle.sk_kernel.specs.views.Blocked.{is_unreported, has_status_change, has_change_for, KeepsWaiting, BlockedBy, BlockedAs, IsBlocked}
 
 and_none : (b : Bool) → (b && false) ≡ false
 and_none true = refl

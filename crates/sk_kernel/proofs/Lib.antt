@@ -1,3 +1,4 @@
+pub mod Common
 pub mod OfCaller
 pub mod Runs
 pub mod Backwards

@@ -1,11 +1,9 @@
 -- Which keys of a list pass two tests, and whether any does.
-use Rattle.std.proofs.Common.{◌≡◌, ◌∙◌, ◌==◌, ℕ, suc, arith, ap, sym, refl, Bool, true, false, cond, not, ◌&&◌, ◌||◌, IsTrue, List, [], ◌∷◌, map, filter, length, Some}
-use Rattle.std.specs.Option.{is_some}
-use Rattle.std.specs.List.{list_any}
-use Rattle.std.specs.Ordering.{nat_cmp, eq_by_cmp}
+use Rattle.std.proofs.Common.{◌≡◌, ◌∙◌, ◌==◌, ℕ, suc, arith, ap, sym, refl, Bool, true, false, cond, not, ◌&&◌, ◌||◌, IsTrue, List, [], ◌∷◌, map, filter, length, Some, is_some, nat_cmp, eq-eqb, ne_eqb}
+use Rattle.std.specs.Ordering.{eq_by_cmp}
 use Rattle.std.specs.Cmp.{unsigned_tied}
 use Rattle.std.specs.FinMap.Entries.{find}
-use Rattle.std.proofs.lemmas.Bool.{eq-eqb, ne_eqb}
+use Rattle.sk_kernel.proofs.Common.{list_any}
 
 -- the first key is found
 found_first : {A : Type 0} (e : ℕ × A) (es : List (ℕ × A)) → IsTrue (is_some (find nat_cmp e.0 (e ∷ es)))

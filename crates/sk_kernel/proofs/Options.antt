@@ -1,10 +1,6 @@
 -- What bits are the options of a wait4(2).
-use Rattle.std.proofs.Common.{◌≡◌, ◌∙◌, ℕ, ap, sym, refl, cond, bit_and, Option, None, Some}
-use Rattle.std.specs.Option.{IsSome, IfSome}
-use Rattle.std.proofs.lemmas.Bool.{false≢true, eq-eqb, ne_eqb}
-use Rattle.sk_world.specs.declared.request.WaitOptions.{WaitOptions}
-use Rattle.sk_world.specs.Waits.{options_of}
-use Rattle.sk_machine.specs.WaitCalls.{are_wait_options}
+use Rattle.std.proofs.Common.{◌≡◌, ◌∙◌, ℕ, ap, sym, refl, cond, bit_and, Option, None, Some, IsSome, IfSome, eq-eqb, ne_eqb}
+use Rattle.sk_kernel.proofs.Common.{false≢true, WaitOptions, options_of, are_wait_options}
 
 -- options that are found exactly where each bit is an option's, and have these bits, are those of the bits
 pub options_found : (bits : ℕ) (found : Option WaitOptions) → IfSome found (λ options. options.0 ≡ bits)

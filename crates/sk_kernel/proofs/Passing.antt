@@ -1,24 +1,6 @@
 -- Who is passed over on the way to the next candidate, and who is found.
-use Rattle.std.proofs.Common.{◌≡◌, ◌≢◌, ◌∙◌, ◌<◌, ◌≤◌, ⊎_elim, ℕ, zero, suc, arith, ap, sym, refl, subst, Bool, true, false, not, ◌&&◌, ◌||◌, IsTrue, IsFalse, List, Option, None, Some}
-use Rattle.std.specs.Prelude.{nat_lt}
-use Rattle.std.specs.Option.{is_some, option_and_then, option_or}
-use Rattle.std.specs.List.{find}
-use Rattle.std.proofs.lemmas.Bool.{false≢true, lt-ltb, le-ltb, cases_lt, false_from_ne_true}
-use Rattle.sk_world.specs.NumberSets.{contains}
-use Rattle.sk_world.specs.declared.process.TheConstants.{LAST_PID, INIT}
-use Rattle.sk_world.specs.declared.process.Life.{Life}
-use Rattle.sk_world.specs.declared.process.Life.TheVariants.{Running, Stopped, Zombie}
-use Rattle.sk_world.specs.declared.process.Proc.{Proc}
-use Rattle.sk_world.specs.Processes.{pids}
-use Rattle.sk_world.specs.World.{World, at, has_ended, is_zombie, is_halted, is_alive, is_stopped}
-use Rattle.sk_world.specs.Rules.{IsWorld}
-use Rattle.sk_world.proofs.Walks.{first_here, none_first}
-use Rattle.sk_machine.specs.Machine.{end_status, halted_of}
-use Rattle.sk_machine.specs.Turns.{goes_on, is_runnable, next_of}
-use Rattle.sk_machine.proofs.Walking.{nobody_at_0}
-use Rattle.sk_machine.specs.Delivering.{signal_due}
-use Rattle.sk_kernel.specs.views.Blocked.{has_change_for}
-use Rattle.sk_kernel.specs.views.Noting.{OthersBlocked, NoOtherPasses, PassesOver}
+use Rattle.std.proofs.Common.{◌≡◌, ◌≢◌, ◌∙◌, ◌<◌, ◌≤◌, ⊎_elim, ℕ, zero, suc, arith, ap, sym, refl, subst, Bool, true, false, not, ◌&&◌, ◌||◌, IsTrue, IsFalse, List, Option, None, Some, nat_lt, is_some, option_and_then, find, lt-ltb, le-ltb}
+use Rattle.sk_kernel.proofs.Common.{option_or, false≢true, cases_lt, false_from_ne_true, contains, LAST_PID, INIT, Life, Running, Stopped, Zombie, Proc, pids, World, at, has_ended, is_zombie, is_halted, is_alive, is_stopped, IsWorld, first_here, none_first, end_status, halted_of, goes_on, is_runnable, next_of, nobody_at_0, signal_due, has_change_for, OthersBlocked, NoOtherPasses, PassesOver}
 use Rattle.sk_kernel.proofs.Idle.{cannot_run}
 
 and_none : (b : Bool) → (b && false) ≡ false

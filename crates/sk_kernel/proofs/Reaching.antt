@@ -1,35 +1,11 @@
 -- Walks from one process that a signal is meant for to the next.
-use Rattle.std.proofs.Common.{◌≡◌, ◌∙◌, ◌<◌, ◌≤◌, ◌==◌, ⊎_elim, ℕ, ℤ, arith, ap, sym, refl, subst, Bool, true, false, cond, not, ◌&&◌, ◌||◌, IsTrue, [], ◌∷◌, filter, length, Option, None, Some, Ok, Err}
-use Rattle.std.specs.Prelude.{nat_le}
-use Rattle.std.specs.Option.{is_some, option_map, option_map_or}
-use Rattle.std.specs.List.{list_any}
-use Rattle.std.proofs.lemmas.Bool.{and_parts, cases_eq, cond_both, eq-eqb, ne_eqb}
+use Rattle.std.proofs.Common.{◌≡◌, ◌∙◌, ◌<◌, ◌≤◌, ◌==◌, ⊎_elim, ℕ, ℤ, arith, ap, sym, refl, subst, Bool, true, false, cond, not, ◌&&◌, ◌||◌, IsTrue, [], ◌∷◌, filter, length, Option, None, Some, Ok, Err, nat_le, is_some, option_map, eq-eqb, ne_eqb}
 use Rattle.std.proofs.lemmas.Bool.Decides.{nat_tests}
-use Rattle.sk_world.specs.declared.errno.Errno.TheVariants.{Eperm, Esrch, Einval}
-use Rattle.sk_world.specs.declared.creds.Creds.{Creds}
-use Rattle.sk_world.specs.Creds.{may_signal}
-use Rattle.sk_world.specs.declared.signals.TheConstants.{SIGCHLD, SIGCONT}
-use Rattle.sk_world.specs.Generation.{generated}
-use Rattle.sk_world.specs.declared.process.TheConstants.{INIT}
-use Rattle.sk_world.specs.declared.process.Life.TheVariants.{Running}
+use Rattle.sk_kernel.proofs.Common.{option_map_or, list_any, and_parts, cases_eq, cond_both, Eperm, Esrch, Einval, Creds, may_signal, SIGCHLD, SIGCONT, generated, INIT, Running, Links, Body, Proc, Who, pids, World, at, has_ended, has_stopped, is_stopped, is_member_of, parent_of, body_changed, IsNext, IsWorld, continued, signalled, generated_at, sent, sent_to_each, everywhere, above, none_above, next_above, all_above, none_any, any_here, beyond, group_of, session_of, nobody_at_0, who_meant, killed, after_kill, is_target, meant, reached, is_reached, after_kill_of, after_kill_of_one}
 use Rattle.sk_world.specs.declared.process.Note.TheVariants.{Continued}
-use Rattle.sk_world.specs.declared.process.Links.{Links}
-use Rattle.sk_world.specs.declared.process.Body.{Body}
-use Rattle.sk_world.specs.declared.process.Proc.{Proc}
-use Rattle.sk_world.specs.declared.request.Who.{Who}
-use Rattle.sk_world.specs.declared.request.Who.TheVariants as who
-use Rattle.sk_world.specs.Processes.{pids}
-use Rattle.sk_world.specs.World.{World, at, has_ended, has_stopped, is_stopped, is_member_of, parent_of, body_changed, IsNext}
-use Rattle.sk_world.specs.Rules.{IsWorld}
-use Rattle.sk_world.specs.Sending.{continued, signalled, generated_at, sent, sent_to_each}
-use Rattle.sk_world.proofs.Stored.{everywhere}
-use Rattle.sk_world.proofs.Walks.{above, none_above, next_above, all_above, none_any, any_here, beyond}
-use Rattle.sk_machine.specs.Sessions.{group_of, session_of}
-use Rattle.sk_machine.proofs.Walking.{nobody_at_0}
-use Rattle.sk_machine.specs.Arguments.{who_meant}
-use Rattle.sk_machine.specs.Killing.{is_meant, is_open_to, may_kill, killed, after_kill}
-use Rattle.sk_kernel.specs.Targets.{is_target, meant, reached, is_reached, after_kill_of, after_kill_of_one}
+use Rattle.sk_machine.specs.Killing.{is_meant, is_open_to, may_kill}
 use Rattle.sk_kernel.proofs.Listing.{kept_there, kept_both, some_kept}
+use Rattle.sk_world.specs.declared.request.Who.TheVariants as who
 
 -- nobody has the pid 0
 no_target_at_0 : (w : World) (caller : ℕ) (who : Who) → IsWorld w → is_target w caller who 0 ≡ false

@@ -1,24 +1,9 @@
 -- How a row is met by a change of the caller's body.
-use Rattle.std.proofs.Common.{◌≡◌, ◌∙◌, ℕ, ap, sym, refl, subst, Bool, true, false, cond, None, Some, Result, Ok, Err, IfSome}
-use Rattle.std.specs.Option.{option_map}
-use Rattle.std.specs.Result.{result_unwrap_or}
+use Rattle.std.proofs.Common.{◌≡◌, ◌∙◌, ℕ, ap, sym, refl, subst, Bool, true, false, cond, None, Some, Result, Ok, Err, IfSome, option_map}
+use Rattle.sk_kernel.proofs.Common.{result_unwrap_or, Einval, Creds, SignalState, Body, Proc, World, at, stored, changed, body_changed, with_body, kept_at, given_back, answered, Performed, returns, changes, authorises, with_subreaper, where_subreapers, with_signals, resignals, Authority, authority_of, with_authority, with_creds, ComesTo, ActsOn}
 use Rattle.sk_world.specs.declared.errno.Errno.{Errno}
-use Rattle.sk_world.specs.declared.errno.Errno.TheVariants.{Einval}
-use Rattle.sk_world.specs.declared.creds.Creds.{Creds}
 use Rattle.sk_world.specs.Errno.{answer_of}
-use Rattle.sk_world.specs.SignalState.{SignalState}
-use Rattle.sk_world.specs.declared.process.Body.{Body}
-use Rattle.sk_world.specs.declared.process.Proc.{Proc}
-use Rattle.sk_world.specs.World.{World, at, stored, changed, body_changed, with_body}
-use Rattle.sk_world.proofs.Bodies.{kept_at, given_back}
-use Rattle.sk_machine.specs.Sessions.{answered}
 use Rattle.sk_machine.specs.declared.answer.Outcome.{Outcome}
-use Rattle.sk_machine.specs.Performed.{Performed, returns, changes, authorises}
-use Rattle.sk_machine.specs.Performing.{with_subreaper, where_subreapers}
-use Rattle.sk_machine.specs.SignalCalls.{with_signals, resignals}
-use Rattle.sk_machine.specs.Authority.{Authority, authority_of, with_authority, with_creds}
-use Rattle.sk_kernel.specs.Rows.{ComesTo}
-use Rattle.sk_kernel.specs.views.Own.{ActsOn}
 use Rattle.sk_kernel.specs.views.Returned.{done, returned}
 
 -- what is shown at the caller's body

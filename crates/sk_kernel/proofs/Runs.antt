@@ -1,18 +1,10 @@
 -- What a kernel keeps over an event, and over a list of events.
-use Rattle.std.proofs.Common.{◌≡◌, ◌∙◌, ◌<◌, ◌+◌, ℕ, length, ap, sym, refl, subst, append_assoc, List, [], ◌∷◌, ◌++◌, Result, Ok, Err, OnOk, OnErr}
-use Rattle.std.specs.Prelude.{take}
-use Rattle.std.proofs.lemmas.List.{take_more}
-use lib.ListN.{get_or}
-use Rattle.sk_world.specs.World.{World}
-use Rattle.sk_world.specs.Rules.{IsWorld}
-use Rattle.sk_machine.specs.declared.event.Event.{Event}
-use Rattle.sk_machine.specs.declared.answer.Answer.{Answer}
-use Rattle.sk_machine.specs.Images.{Images}
-use Rattle.sk_machine.specs.Machine.{step_of, answers_of, world_after}
+use Rattle.std.proofs.Common.{◌≡◌, ◌∙◌, ◌<◌, ◌+◌, ℕ, length, ap, sym, refl, subst, append_assoc, List, [], ◌∷◌, ◌++◌, Result, Ok, Err, OnOk, OnErr, take}
+use Rattle.sk_kernel.proofs.Common.{take_more, World, IsWorld, Event, Answer, Images, step_of, answers_of, world_after, HasAccepted}
 use Rattle.sk_kernel.specs.State.{State}
-use Rattle.sk_laws.specs.FilterLaws.{HasAccepted}
 use Rattle.sk_laws.proofs.KeptEvents.{kept_step}
 use Rattle.sk_laws.proofs.Accepted.{event_keeps_accepted}
+use lib.ListN.{get_or}
 
 -- an event that was done or not keeps the rules, and the filters accepted
 pub kept_by : {A E : Type 0} (declared : Images) (w after : World) (event : Event) (r : Result A E) → OnOk r (after ≡ (step_of declared w event).world) → OnErr r (after ≡ w)

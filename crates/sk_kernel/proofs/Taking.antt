@@ -1,15 +1,6 @@
 -- The rules of the world hold after a change of one body.
-use Rattle.std.proofs.Common.{◌≡◌, ◌≢◌, ◌∙◌, IsTrue, ℕ, ap, sym, subst, not, Some}
-use Rattle.std.specs.Option.{option_map}
-use Rattle.std.proofs.lemmas.Bool.{not-true}
-use Rattle.sk_world.specs.declared.process.TheConstants.{INIT}
-use Rattle.sk_world.specs.declared.process.Body.{Body}
-use Rattle.sk_world.specs.declared.process.Proc.{Proc}
-use Rattle.sk_world.specs.World.{World, at, has_ended, has_stopped, is_alive, body_changed, changed, with_body}
-use Rattle.sk_world.specs.Rules.{IsWorld}
-use Rattle.sk_world.proofs.Bodies.{kept_body}
-use Rattle.sk_world.proofs.Stored.{at_here, kept_changed}
-use Rattle.sk_machine.specs.Delivering.{stopping}
+use Rattle.std.proofs.Common.{◌≡◌, ◌≢◌, ◌∙◌, IsTrue, ℕ, ap, sym, subst, not, Some, option_map}
+use Rattle.sk_kernel.proofs.Common.{not-true, INIT, Body, Proc, World, at, has_ended, has_stopped, is_alive, body_changed, changed, with_body, IsWorld, kept_body, at_here, kept_changed, stopping}
 
 -- a change of a body that leaves the process as alive as it was keeps the rules
 pub kept_with_life : (w : World) (pid : ℕ) (f : Body → Body) → ((body : Body) → (f body).life ≡ body.life) → IsWorld w → IsWorld (changed w pid f)

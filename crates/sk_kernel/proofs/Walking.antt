@@ -1,17 +1,9 @@
 -- Whether a call that waits would end.
-use Rattle.std.proofs.Common.{◌≡◌, ◌∙◌, ℕ, ap, sym, refl, Bool, true, false, not, ◌&&◌, ◌||◌, IsTrue, Option, None, Some}
-use Rattle.std.specs.Option.{is_some}
-use Rattle.std.specs.List.{list_any}
-use Rattle.sk_world.specs.declared.process.Proc.{Proc}
+use Rattle.std.proofs.Common.{◌≡◌, ◌∙◌, ℕ, ap, sym, refl, Bool, true, false, not, ◌&&◌, ◌||◌, IsTrue, Option, None, Some, is_some}
+use Rattle.sk_kernel.proofs.Common.{list_any, Proc, Request, pids, World, at, is_match, is_ready, has_match, ready_of, status_of, any_here, none_any, waits_no_more}
 use Rattle.sk_world.specs.declared.process.Waiting.TheVariants.{Asks}
-use Rattle.sk_world.specs.declared.request.Request.{Request}
 use Rattle.sk_world.specs.declared.request.Poll.TheVariants.{Told, NoMatch, NotReady}
-use Rattle.sk_world.specs.Processes.{pids}
-use Rattle.sk_world.specs.World.{World, at}
-use Rattle.sk_world.specs.Waits.{is_match, is_ready, has_match, ready_of, status_of}
 use Rattle.sk_world.proofs.Telling.{ready_lowest, no_match, not_ready}
-use Rattle.sk_world.proofs.Walks.{any_here, none_any}
-use Rattle.sk_machine.specs.Turns.{waits_no_more}
 
 and_none : (b : Bool) → (b && false) ≡ false
 and_none true = refl

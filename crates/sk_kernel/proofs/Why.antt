@@ -1,19 +1,10 @@
 -- The process of an event says why the event is not possible.
-use Rattle.std.proofs.Common.{◌≡◌, ◌∙◌, sym, refl, Bool, true, false, not, ◌&&◌, if◌then◌else◌, Option, None, Some}
-use Rattle.std.specs.Option.{is_some, option_and_then}
-use Rattle.sk_world.specs.declared.process.TheConstants.{INIT}
-use Rattle.sk_world.specs.declared.process.Life.{Life}
-use Rattle.sk_world.specs.declared.process.Life.TheVariants as life
-use Rattle.sk_world.specs.declared.process.Proc.{Proc}
-use Rattle.sk_world.specs.World.{World, at, has_ended, has_stopped, is_halted, is_zombie, is_stopped}
-use Rattle.sk_machine.specs.declared.event.Event.{Event}
-use Rattle.sk_machine.specs.declared.event.Event.TheVariants.{Call, Deliver, Resume, Fault}
+use Rattle.std.proofs.Common.{◌≡◌, ◌∙◌, sym, refl, Bool, true, false, not, ◌&&◌, if◌then◌else◌, Option, None, Some, is_some, option_and_then}
+use Rattle.sk_kernel.proofs.Common.{INIT, Life, Proc, World, at, has_ended, has_stopped, is_halted, is_zombie, is_stopped, Event, Call, Deliver, Resume, Fault, pid_of, signal_for, signal_due, is_waiting, is_in_call, reason_of, halted_of, end_status}
 use Rattle.sk_machine.specs.declared.answer.Reason.{Reason}
 use Rattle.sk_machine.specs.declared.answer.Reason.TheVariants.{NoProcess, Zombie, Stopped, Halted}
-use Rattle.sk_machine.specs.Events.{pid_of}
-use Rattle.sk_machine.specs.Delivering.{signal_for, signal_due, is_waiting, is_in_call}
-use Rattle.sk_machine.specs.Machine.{reason_of, halted_of, end_status}
 use Rattle.sk_kernel.specs.views.OfProcess.{running_reason, reason_by, reason_for}
+use Rattle.sk_world.specs.declared.process.Life.TheVariants as life
 
 -- whether the event may reach a stopped process
 kills : Bool → Event → Bool

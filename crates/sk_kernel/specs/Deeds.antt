@@ -1,22 +1,18 @@
 -- What a signal does to the body of the process that it is delivered to, and what it leaves to be done in the world. Only
 -- code and proofs look at this.
 use Rattle.std.specs.Prelude.{ℕ, ◌==◌, not, ◌&&◌, if◌then◌else◌, length}
+use Rattle.sk_laws.specs.Common.{Signals, default_action, disposition_of, World, Delivered, is_waiting, in_handler, taking, terminated_by, acts_by_default}
 use Rattle.sk_world.specs.declared.signals.TheConstants.{SIGKILL, SIGSEGV, SIGSYS}
 use Rattle.sk_world.specs.declared.signal_state.TheConstants.{FRAMES}
 use Rattle.sk_world.specs.declared.disposition.DefaultAction.{DefaultAction}
-use Rattle.sk_world.specs.declared.disposition.DefaultAction.TheVariants as action
 use Rattle.sk_world.specs.declared.disposition.Disposition.{Disposition}
-use Rattle.sk_world.specs.declared.disposition.Disposition.TheVariants as disposition
-use Rattle.sk_world.specs.SignalSet.{Signals}
-use Rattle.sk_world.specs.Actions.{default_action}
-use Rattle.sk_world.specs.SignalState.{disposition_of}
 use Rattle.sk_world.specs.declared.process.TheConstants.{INIT}
 use Rattle.sk_world.specs.declared.process.Body.{Body}
-use Rattle.sk_world.specs.World.{World}
 use Rattle.sk_machine.specs.declared.answer.Effect.TheVariants.{Ignored, Handler}
-use Rattle.sk_machine.specs.Delivering.{Delivered, is_waiting, in_handler, taking, terminated_by, acts_by_default}
 use Rattle.sk_kernel.specs.declared.delivering.Deed.{Deed}
 use Rattle.sk_kernel.specs.declared.delivering.Deed.TheVariants.{Nothing, End, Stop}
+use Rattle.sk_world.specs.declared.disposition.DefaultAction.TheVariants as action
+use Rattle.sk_world.specs.declared.disposition.Disposition.TheVariants as disposition
 
 -- what is left to be done, and the body
 pub record Acted : Type 0 where

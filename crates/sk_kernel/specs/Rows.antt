@@ -1,9 +1,8 @@
 -- What a call comes to that is performed over a store, by the row of the call.
 use Rattle.std.specs.Prelude.{ℕ, ◌≡◌, IfSome}
+use Rattle.sk_laws.specs.Common.{World, at, Performed}
 use Rattle.sk_world.specs.declared.process.Body.{Body}
-use Rattle.sk_world.specs.World.{World, at}
 use Rattle.sk_machine.specs.declared.answer.Outcome.{Outcome}
-use Rattle.sk_machine.specs.Performed.{Performed}
 
 -- a call of the process of a pid has come to this outcome and to this world, as the row says of the world before and of
 -- its body

@@ -2,10 +2,10 @@
 -- stored.
 use Rattle.std.specs.Prelude.{List, take, Result, Ok, Err, refl}
 use Rattle.std.specs.Coded.{Coded, code_by, coded×}
-use Rattle.sk_world.specs.World.{World}
+use Rattle.sk_laws.specs.Common.{World, Images}
 use Rattle.sk_world.specs.views.WorldCode.{world_code}
 use Rattle.sk_machine.specs.declared.event.Event.{Event}
-use Rattle.sk_machine.specs.Images.{Images, images_code}
+use Rattle.sk_machine.specs.Images.{images_code}
 use Rattle.sk_kernel.specs.declared.kernel.Stopped.{Stopped}
 
 -- the filters and programs that are declared, which never change, and the processes

@@ -1,15 +1,12 @@
 -- The processes that kill(2) means, once it is known whom its argument means, and what it comes to. Only code and proofs
 -- look at this.
 use Rattle.std.specs.Prelude.{ℕ, ◌==◌, Bool, not, ◌&&◌, if◌then◌else◌, List, filter, length, Result, Ok, Err}
-use Rattle.std.specs.Option.{is_some}
+use Rattle.sk_laws.specs.Common.{is_some, pids, World, at, sent, killed}
 use Rattle.sk_world.specs.declared.errno.Errno.{Errno}
 use Rattle.sk_world.specs.declared.errno.Errno.TheVariants.{Eperm, Esrch}
 use Rattle.sk_world.specs.declared.creds.Creds.{Creds}
 use Rattle.sk_world.specs.declared.request.Who.{Who}
-use Rattle.sk_world.specs.Processes.{pids}
-use Rattle.sk_world.specs.World.{World, at}
-use Rattle.sk_world.specs.Sending.{sent}
-use Rattle.sk_machine.specs.Killing.{is_meant, may_kill, killed}
+use Rattle.sk_machine.specs.Killing.{is_meant, may_kill}
 
 -- a process is there, and meant
 abbrev pub is_target : World → ℕ → Who → ℕ → Bool

@@ -1,27 +1,13 @@
 -- What a block gives when it is read is what it stands for.
-use Rattle.std.proofs.Common.{◌≡◌, ◌≤◌, ◌<◌, ◌+◌, ◌∙◌, ap, arith, refl, sym, subst, ℕ, List, [], ◌∷◌, ◌++◌, Option, Some, None, Result, Ok, Err, Bool, true, false, IsTrue, length, inl, inr, append-nil, append_assoc, length-append}
-use Rattle.std.proofs.lemmas.Bool.{cases_Bool, cases_lt, lt-ltb, le-ltb}
-use Rattle.std.specs.List.{list_all, concat, filter_map}
-use Rattle.std.specs.Option.{option_map_or}
-use Rattle.std.specs.Str.{bytes_eq}
-use Rattle.std.specs.Prelude.{codes, replicate}
+use Rattle.std.proofs.Common.{◌≡◌, ◌≤◌, ◌<◌, ◌+◌, ◌∙◌, ap, arith, refl, sym, subst, ℕ, List, [], ◌∷◌, ◌++◌, Option, Some, None, Result, Ok, Err, Bool, true, false, IsTrue, length, inl, inr, append-nil, append_assoc, length-append, lt-ltb, le-ltb, filter_map, codes, replicate}
 use Rattle.std.proofs.lemmas.Slice.Eq.{bytes_eq-Decides}
-use Rattle.sk_text.specs.Lines.{words_of, begins_comment, is_printable_byte}
-use Rattle.sk_insn.specs.Instructions.{image_of}
-use Rattle.sk_insn.specs.declared.insn.Insn.{Insn}
-use Rattle.sk_asm.specs.declared.fault.AsmFault.{AsmFault}
-use Rattle.sk_asm.specs.declared.fault.AsmFault.TheVariants as asm
+use Rattle.sk_scenario.proofs.Common.{cases_Bool, cases_lt, list_all, concat, option_map_or, bytes_eq, words_of, begins_comment, is_printable_byte, image_of, Insn, AsmFault, Statement, label_of, instruction_said, spoken, statement_of, assembled_lines, ScriptCall, TextFault, Unresolved, begins_bytes, bytes_of, Asked, asked_of, Script, Names, Says, Each, AreBytes, AreCode, IsImage, call_of, AreCalls, IsScript, ◌>>=◌, plain, understood, checked, Gained, Open, Undecided, Bytes, Code, Calls, limited, coded, decided, resolved, called, inside, finished, with_filter, with_program, with_call}
 use Rattle.sk_asm.specs.Assembly.{AssemblesBy}
-use Rattle.sk_asm.specs.Grammar.{Statement, Silent as Quiet, label_of, instruction_said, spoken, statement_of}
-use Rattle.sk_asm.specs.Passes.{assembled_lines}
+use Rattle.sk_asm.specs.Grammar.{Silent as Quiet}
 use Rattle.sk_asm.proofs.Meaning.{assembled_lines-stands, assembled_lines-only}
-use Rattle.sk_scenario.specs.declared.call.ScriptCall.{ScriptCall}
-use Rattle.sk_scenario.specs.declared.text_fault.TextFault.{TextFault}
-use Rattle.sk_scenario.specs.declared.text_fault.TextFault.TheVariants.{Unresolved}
-use Rattle.sk_scenario.specs.Grammar.{begins_bytes, bytes_in, bytes_of, Asked, asked_of}
-use Rattle.sk_scenario.specs.Scenario.{Script, Names, Says, Each, AreBytes, AreCode, IsImage, call_of, AreCalls, IsScript}
-use Rattle.sk_scenario.specs.Reading.{◌>>=◌, plain, understood, checked, Gained, Open, Undecided, Bytes, Code, Calls, limited, coded, decided, resolved, called, inside, finished, with_filter, with_program, with_call}
+use Rattle.sk_scenario.specs.Grammar.{bytes_in}
 use Rattle.sk_scenario.proofs.Steps.{ok_is, bind_ok, plain-ok, plain-is, understood-ok, checked-ok, checked-says, limited-ok, filling}
+use Rattle.sk_asm.specs.declared.fault.AsmFault.TheVariants as asm
 
 some_is : {X : Type 0} (x y : X) → ◌≡◌ {A = Option X} (Some x) (Some y) → x ≡ y
 some_is x y h = cc

@@ -1,16 +1,11 @@
 -- A fault of the assembler is told of one of its lines.
-use Rattle.std.proofs.Common.{◌≡◌, ◌≤◌, ◌<◌, ◌+◌, ◌-◌, arith, refl, subst, ℕ, List, [], ◌∷◌, Option, Some, None, is_some, Result, Ok, Err, length, nat_le, nat_lt, inl, inr}
-use Rattle.std.specs.Prelude.{◌⊎◌, ◌^◌}
-use Rattle.std.specs.Option.{option_len}
-use Rattle.std.proofs.lemmas.Bool.{cases_Bool}
-use Rattle.std.specs.List.{list_all}
-use Rattle.sk_text.specs.Lines.{is_printable_byte}
-use Rattle.sk_asm.specs.declared.fault.AsmFault.{AsmFault}
+use Rattle.std.proofs.Common.{◌≡◌, ◌≤◌, ◌<◌, ◌+◌, ◌-◌, arith, refl, subst, ℕ, List, [], ◌∷◌, Option, Some, None, is_some, Result, Ok, Err, length, nat_le, nat_lt, inl, inr, ◌⊎◌, ◌^◌}
+use Rattle.sk_scenario.proofs.Common.{option_len, cases_Bool, list_all, is_printable_byte, AsmFault, Destination, Further, Labelled, Statement, Marks, Plain, Jumps, Branches, insn, statement_of, counted, noted, labelled, landed, distance, in_front, emitted, assembled_lines}
 use Rattle.sk_asm.specs.declared.fault.AsmFault.TheVariants.{Line, Label, Twice, Far, Back, TooLong, Memory}
 use Rattle.sk_asm.specs.Faults.{◌>>=◌}
-use Rattle.sk_asm.specs.Grammar.{Destination, Further, Labelled, Statement, Silent, Marks, Plain, Jumps, Branches, insn, statement_of}
+use Rattle.sk_asm.specs.Grammar.{Silent}
 use Rattle.sk_asm.specs.Labels.{Labels, label_place}
-use Rattle.sk_asm.specs.Passes.{understood, checked, counted, noted, labelled, landed, distance, resolved, in_front, emitted, assembled_lines}
+use Rattle.sk_asm.specs.Passes.{understood, checked, resolved}
 
 -- the fault is told of a line from `first` on that stands before `last`
 abbrev pub IsWithin : ℕ → ℕ → AsmFault → Type 0

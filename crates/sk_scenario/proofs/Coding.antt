@@ -1,12 +1,7 @@
 -- What a fault of the assembler is in a scenario.
 use Rattle.std.proofs.Common.{◌≡◌, ◌≢◌, refl, List, Option, Result}
-use Rattle.sk_insn.specs.declared.insn.Insn.{Insn}
-use Rattle.sk_asm.specs.declared.fault.AsmFault.{AsmFault}
+use Rattle.sk_scenario.proofs.Common.{Insn, AsmFault, IsAsmFault, TextFault, Names, Open, coded, held, fault_of}
 use Rattle.sk_asm.specs.declared.fault.AsmFault.TheVariants as asm
-use Rattle.sk_asm.specs.Faults.{IsAsmFault}
-use Rattle.sk_scenario.specs.declared.text_fault.TextFault.{TextFault}
-use Rattle.sk_scenario.specs.Scenario.{Names}
-use Rattle.sk_scenario.specs.Reading.{Open, coded, held, fault_of}
 
 -- the fault that the assembler tells decides
 pub coded_by : (known : Option Names) (fault : AsmFault) (given : Result (List Insn) AsmFault) (answer : Result Open TextFault)

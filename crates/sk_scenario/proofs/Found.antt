@@ -1,13 +1,9 @@
 -- What an answer says of the relation.
 use Rattle.std.proofs.Common.{◌≡◌, ◌∙◌, ap, sym, ℕ, List, Result, Ok, Err, IfOk, IfErr, inl, inr}
-use Rattle.sk_scenario.specs.declared.text_fault.TextFault.{TextFault}
-use Rattle.sk_scenario.specs.Scenario.{Setting, IsScenarioText}
-use Rattle.sk_scenario.specs.Reading.{scenario}
-use Rattle.sk_scenario.specs.Faults.{IsFirstFaultOfText}
+use Rattle.sk_scenario.proofs.Common.{TextFault, Setting, IsScenarioText, scenario, IsFirstFaultOfText, ScenarioFault, Answers, Finds, IsToldOf, Tells}
 use Rattle.sk_scenario.proofs.Told.{fault-first, first-fault}
 use Rattle.sk_scenario.proofs.Relation.{scenario-stands, scenario-only}
-use Rattle.sk_scenario.specs.declared.fault.ScenarioFault.{ScenarioFault}
-use Rattle.sk_scenario.specs.Answers.{told, Answers, Finds, IsToldOf, Tells}
+use Rattle.sk_scenario.specs.Answers.{told}
 
 module _ {T : Type 0} (view : T → Setting) (text : List ℕ) where
   pub text-stands : (answer : Result T ScenarioFault) → Answers view answer (scenario text) → IfOk answer (λ value. IsScenarioText text (view value))

@@ -1,19 +1,8 @@
 -- The fault of one step of the reading is what is wrong with its line.
-use Rattle.std.proofs.Common.{◌≡◌, ◌+◌, ◌∙◌, refl, sym, ℕ, List, [], ◌∷◌, ◌++◌, Option, Some, None, is_some, Result, Ok, Err, Bool, true, false, not, ◌&&◌, cond, length, nat_eq, nat_le, nat_lt, inl, inr, length-append}
-use Rattle.std.proofs.lemmas.Bool.{cases_Bool}
-use Rattle.std.specs.Option.{option_map_or}
-use Rattle.std.specs.List.{list_all, list_any, filter}
-use Rattle.sk_text.specs.Lines.{words_of, begins_comment, is_printable_byte}
-use Rattle.sk_asm.specs.Block.{is_end, until_end}
-use Rattle.sk_asm.specs.Passes.{checked as asm_checked, labelled, assembled_lines}
-use Rattle.sk_scenario.specs.declared.call.ScriptCall.{ScriptCall}
-use Rattle.sk_scenario.specs.declared.text_fault.TextFault.{TextFault}
-use Rattle.sk_scenario.specs.declared.text_fault.TextFault.TheVariants.{Line, Unresolved, Limit}
-use Rattle.sk_scenario.specs.Grammar.{Silent, Turns, Subreapers, Filter, Program, Heading, Alone, Opens, heading_of, begins_bytes, bytes_of, Asked, asked_of}
-use Rattle.sk_scenario.specs.Scenario.{Script, Names, named_by, call_of}
-use Rattle.sk_scenario.specs.Reading.{◌>>=◌, with_call, plain, understood, checked, Gained, Open, Nothing, Undecided, Bytes, Code, Calls, remarked, given, opened, started, limited, coded, grown, decided, resolved, called, inside, within, stepped}
+use Rattle.std.proofs.Common.{◌≡◌, ◌+◌, ◌∙◌, refl, sym, ℕ, List, [], ◌∷◌, ◌++◌, Option, Some, None, is_some, Result, Ok, Err, Bool, true, false, not, ◌&&◌, cond, length, nat_eq, nat_le, nat_lt, inl, inr, length-append, filter}
+use Rattle.sk_scenario.proofs.Common.{cases_Bool, option_map_or, list_all, list_any, words_of, begins_comment, is_printable_byte, is_end, until_end, labelled, assembled_lines, ScriptCall, TextFault, Line, Unresolved, Limit, Silent, Turns, Subreapers, Filter, Program, Heading, Alone, Opens, heading_of, begins_bytes, bytes_of, Asked, asked_of, Script, Names, named_by, call_of, ◌>>=◌, with_call, plain, understood, checked, Gained, Open, Nothing, Undecided, Bytes, Code, Calls, remarked, given, opened, started, limited, coded, grown, decided, resolved, called, inside, within, stepped, Wrong, Excess, Malformed, Beyond, Nameless, Place, AtTop, InFilter, InBytes, InCode, InCalls, is_turns, is_subreapers, is_filter, is_program, gives, repeats, exceeds, is_too_long, is_wrong_at_top, is_wrong_in_bytes, is_code, is_nameless, is_wrong_in_calls, is_wrong, begins_code}
+use Rattle.sk_asm.specs.Passes.{checked as asm_checked}
 use Rattle.sk_scenario.proofs.Steps.{kind}
-use Rattle.sk_scenario.specs.Faults.{Wrong, Excess, Malformed, Beyond, Nameless, Place, AtTop, InFilter, InBytes, InCode, InCalls, is_turns, is_subreapers, is_filter, is_program, gives, repeats, exceeds, is_too_long, is_wrong_at_top, is_wrong_in_bytes, is_code, is_nameless, is_wrong_in_calls, is_wrong, begins_code}
 
 -- the fault of a step, if it has one
 abbrev pub fault_in : {X : Type 0} → Result X TextFault → Option TextFault

@@ -1,21 +1,10 @@
 -- The reading tells the fault that goes before all others.
 use Rattle.std.proofs.Common.{◌≡◌, ◌≤◌, ◌<◌, ◌+◌, ◌∙◌, ap, arith, refl, sym, subst, ℕ, List, [], ◌∷◌, Option, Some, None, Result, Ok, Err, Bool, true, false, cond, not, ◌&&◌, length, inl, inr, true≢false}
-use Rattle.std.proofs.lemmas.Bool.{cases_Bool, false≢true}
-use Rattle.sk_text.specs.Lines.{words_of, begins_comment}
-use Rattle.sk_insn.specs.declared.insn.Insn.{Insn}
-use Rattle.sk_asm.specs.declared.fault.AsmFault.{AsmFault}
-use Rattle.sk_asm.specs.declared.fault.AsmFault.TheVariants as asm
-use Rattle.sk_asm.specs.Block.{is_end, until_end}
-use Rattle.sk_asm.specs.Passes.{assembled_lines}
-use Rattle.sk_scenario.specs.declared.text_fault.TextFault.{TextFault}
-use Rattle.sk_scenario.specs.declared.text_fault.TextFault.TheVariants.{Line, Unresolved, Limit}
-use Rattle.sk_scenario.specs.Grammar.{Heading, begins_bytes}
-use Rattle.sk_scenario.specs.Scenario.{Names}
-use Rattle.sk_scenario.specs.Reading.{◌>>=◌, fault_of, held, coded, Gained, Open, Nothing, Undecided, Bytes, Code, Calls, stepped, closed, reading}
-use Rattle.sk_scenario.specs.Faults.{Wrong, Excess, Malformed, Beyond, Nameless, told, Place, AtTop, InFilter, InBytes, InCode, InCalls, is_inside, place_behind, said_behind, is_wrong_in_bytes, is_code, is_wrong, begins_code, IsWrongAt, IsWrongCode, IsWrongLine, rank, IsNotAfter}
+use Rattle.sk_scenario.proofs.Common.{cases_Bool, false≢true, words_of, begins_comment, Insn, AsmFault, is_end, until_end, assembled_lines, TextFault, Line, Unresolved, Limit, Heading, begins_bytes, Names, ◌>>=◌, fault_of, held, coded, Gained, Open, Nothing, Undecided, Bytes, Code, Calls, stepped, closed, reading, Wrong, Excess, Malformed, Beyond, Nameless, told, Place, AtTop, InFilter, InBytes, InCode, InCalls, is_inside, place_behind, said_behind, is_wrong_in_bytes, is_code, is_wrong, begins_code, IsWrongAt, IsWrongCode, IsWrongLine, rank, IsNotAfter}
 use Rattle.sk_scenario.proofs.CodeLines.{IsWithin, assembled-within}
 use Rattle.sk_scenario.proofs.Judging.{fault_in, counts, tried, first_of, AreThese, Matches, place_of, filters_so_far, programs_so_far, judged_line}
 use Rattle.sk_scenario.proofs.States.{step_after}
+use Rattle.sk_asm.specs.declared.fault.AsmFault.TheVariants as asm
 
 -- ---- the first thing that is wrong with a line
 

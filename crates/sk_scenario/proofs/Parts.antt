@@ -1,14 +1,8 @@
 -- The reading of lines is the reading of their parts.
 use Rattle.std.proofs.Common.{◌≡◌, ◌≤◌, ◌+◌, ◌∙◌, arith, refl, sym, subst, ℕ, zero, suc, List, [], ◌∷◌, Option, Result, Ok, Err, IsTrue, length, inl, inr}
-use Rattle.std.proofs.lemmas.Bool.{cases_Bool}
-use Rattle.std.specs.List.{list_any}
-use Rattle.sk_asm.specs.Block.{is_end, until_end}
-use Rattle.sk_scenario.specs.declared.text_fault.TextFault.{TextFault}
-use Rattle.sk_scenario.specs.declared.call.Named.TheVariants as named
-use Rattle.sk_scenario.specs.Grammar.{Opening, Filter, Program, Heading, Alone, Opens, heading_of}
-use Rattle.sk_scenario.specs.Scenario.{Names, Says, Part, Single, Block, behind_end, AreParts}
-use Rattle.sk_scenario.specs.Reading.{◌>>=◌, checked, Gained, Open, Nothing, Undecided, Calls, started, opened, given, remarked, stepped, finished, reading}
+use Rattle.sk_scenario.proofs.Common.{cases_Bool, list_any, is_end, until_end, TextFault, Opening, Filter, Program, Heading, Alone, Opens, heading_of, Names, Says, Part, Single, Block, behind_end, AreParts, ◌>>=◌, checked, Gained, Open, Nothing, Undecided, Calls, started, opened, given, remarked, stepped, finished, reading}
 use Rattle.sk_scenario.proofs.Steps.{ok_is, bind_ok, checked-ok, checked-says, filling, kind, reading_closes, reading_never_closes}
+use Rattle.sk_scenario.specs.declared.call.Named.TheVariants as named
 
 -- what parts give, where the first line of the first one is line n
 unfoldable pub building : Option Names → ℕ → Gained → List Part → Result Gained TextFault

@@ -1,14 +1,8 @@
 -- The two readings find the setting that lines stand for, and nothing else is found.
-use Rattle.std.proofs.Common.{◌≡◌, ◌∙◌, ap, arith, refl, sym, subst, ℕ, zero, suc, List, [], ◌∷◌, Option, Some, None, Ok, Bool, false, length, inl, inr}
-use Rattle.std.proofs.lemmas.Bool.{cases_lt, lt-ltb, le-ltb}
-use Rattle.std.specs.Option.{option_map_or}
-use Rattle.sk_text.specs.Lines.{lines_of}
-use Rattle.sk_scenario.specs.Scenario.{Setting, names_from, Part, AreParts, turns_in, marks_in, AreTurns, IsMark, StandFor, IsScenario, IsScenarioText}
-use Rattle.sk_scenario.specs.Reading.{◌>>=◌, Gained, Nothing, nothing_yet, reading, setting, scenario_of, scenario}
-use Rattle.sk_scenario.specs.declared.call.Named.{Named}
+use Rattle.std.proofs.Common.{◌≡◌, ◌∙◌, ap, arith, refl, sym, subst, ℕ, zero, suc, List, [], ◌∷◌, Option, Some, None, Ok, Bool, false, length, inl, inr, lt-ltb, le-ltb}
+use Rattle.sk_scenario.proofs.Common.{cases_lt, option_map_or, lines_of, Setting, names_from, Part, AreParts, turns_in, marks_in, AreTurns, IsMark, StandFor, IsScenario, IsScenarioText, ◌>>=◌, Gained, Nothing, nothing_yet, reading, setting, scenario_of, scenario, Named, given_once-none}
 use Rattle.sk_scenario.proofs.Steps.{ok_is, bind_ok}
 use Rattle.sk_scenario.proofs.Parts.{building, parts_read, reading_parts}
-use Rattle.sk_asm.proofs.Distinct.{given_once-none}
 use Rattle.sk_scenario.proofs.Whole.{TurnsAfter, MarksAfter, Fit, Found, names_built, found_all, made_all}
 
 turns_are : (turns : List ℕ) (t : Option ℕ) → TurnsAfter None turns t → AreTurns turns (option_map_or (λ n. n) t 1000)

@@ -1,26 +1,10 @@
 -- What a step of the reading leaves, where it finds no fault.
-use Rattle.std.proofs.Common.{◌≡◌, ◌≤◌, ◌+◌, ◌∙◌, ap, arith, refl, sym, subst, ℕ, List, [], ◌∷◌, ◌++◌, Option, Some, None, is_some, Result, Ok, Err, Bool, true, false, cond, ◌||◌, length, nat_eq, nat_lt, inl, inr, append_assoc, length-append}
-use Rattle.std.proofs.lemmas.Bool.{cases_Bool}
-use Rattle.std.specs.Option.{option_map_or}
-use Rattle.std.specs.List.{filter}
-use Rattle.std.specs.Str.{bytes_eq}
-use Rattle.sk_text.specs.Lines.{words_of, begins_comment}
-use Rattle.sk_insn.specs.Instructions.{image_of}
-use Rattle.sk_insn.specs.declared.insn.Insn.{Insn}
-use Rattle.sk_asm.specs.declared.fault.AsmFault.{AsmFault}
-use Rattle.sk_asm.specs.Block.{is_end, until_end}
-use Rattle.sk_asm.specs.Passes.{assembled_lines}
-use Rattle.sk_scenario.specs.declared.call.Named.{Named}
-use Rattle.sk_scenario.specs.declared.call.Named.TheVariants as named
-use Rattle.sk_scenario.specs.declared.text_fault.TextFault.{TextFault}
-use Rattle.sk_scenario.specs.declared.text_fault.TextFault.TheVariants.{Line, Unresolved, Limit}
-use Rattle.sk_scenario.specs.Grammar.{Silent, Turns, Subreapers, Filter, Program, Heading, Alone, Opens, heading_of, begins_bytes, bytes_of, Asked, asked_of}
-use Rattle.sk_scenario.specs.Scenario.{Script, Names, named_by}
-use Rattle.sk_scenario.specs.Reading.{◌>>=◌, with_call, with_turns, with_subreapers, with_name, plain, understood, checked, Gained, Open, Nothing, Undecided, Bytes, Code, Calls, remarked, given, opened, started, limited, fault_of, held, coded, decided, resolved, called, inside, finished, within, stepped}
-use Rattle.sk_scenario.specs.Faults.{InBytes, InCode, InCalls, is_inside, bytes_given, place_at, place_in_filter, place_behind, said_behind, is_filter, is_program, names_by, one_more_if}
+use Rattle.std.proofs.Common.{◌≡◌, ◌≤◌, ◌+◌, ◌∙◌, ap, arith, refl, sym, subst, ℕ, List, [], ◌∷◌, ◌++◌, Option, Some, None, is_some, Result, Ok, Err, Bool, true, false, cond, ◌||◌, length, nat_eq, nat_lt, inl, inr, append_assoc, length-append, filter}
+use Rattle.sk_scenario.proofs.Common.{cases_Bool, option_map_or, bytes_eq, words_of, begins_comment, image_of, Insn, AsmFault, is_end, until_end, assembled_lines, Named, TextFault, Line, Unresolved, Limit, Silent, Turns, Subreapers, Filter, Program, Heading, Alone, Opens, heading_of, begins_bytes, bytes_of, Asked, asked_of, Script, Names, named_by, ◌>>=◌, with_call, with_turns, with_subreapers, with_name, plain, understood, checked, Gained, Open, Nothing, Undecided, Bytes, Code, Calls, remarked, given, opened, started, limited, fault_of, held, coded, decided, resolved, called, inside, finished, within, stepped, InBytes, InCode, InCalls, is_inside, bytes_given, place_at, place_in_filter, place_behind, said_behind, is_filter, is_program, names_by, one_more_if}
 use Rattle.sk_scenario.proofs.Steps.{kind, ok_is, bind_ok, checked-ok, understood-ok, limited-ok, kind_inside}
 use Rattle.sk_scenario.proofs.Whole.{silent-is, turns-ok, marks-ok, given-ok}
 use Rattle.sk_scenario.proofs.Judging.{Matches, place_of, filters_so_far, programs_so_far}
+use Rattle.sk_scenario.specs.declared.call.Named.TheVariants as named
 
 -- a name is found where it is the new one, or one of those before
 named_push : (names : Names) (name : List ℕ) (what : Named) (q : List ℕ) → is_some (named_by (names ++ (name, what) ∷ []) q) ≡ (bytes_eq q name || is_some (named_by names q))

@@ -1,18 +1,7 @@
 -- Steps of the reading, one line by itself, and the parting of lines into blocks.
-use Rattle.std.proofs.Common.{◌≡◌, ◌≤◌, ◌+◌, ◌∙◌, ap, arith, refl, sym, ℕ, List, [], ◌∷◌, ◌++◌, Option, Some, None, Result, Ok, Err, false, IsTrue, length, inl, inr}
-use Rattle.std.proofs.lemmas.Bool.{cases_Bool, cases_lt, lt-ltb, le-ltb}
-use Rattle.std.specs.List.{list_all, list_any}
-use Rattle.sk_text.specs.Lines.{words_of, begins_comment, is_printable_byte}
-use Rattle.sk_insn.specs.Instructions.{image_of}
-use Rattle.sk_insn.specs.declared.insn.Insn.{Insn}
-use Rattle.sk_asm.specs.declared.fault.AsmFault.{AsmFault}
+use Rattle.std.proofs.Common.{◌≡◌, ◌≤◌, ◌+◌, ◌∙◌, ap, arith, refl, sym, ℕ, List, [], ◌∷◌, ◌++◌, Option, Some, None, Result, Ok, Err, false, IsTrue, length, inl, inr, lt-ltb, le-ltb}
+use Rattle.sk_scenario.proofs.Common.{cases_Bool, cases_lt, list_all, list_any, words_of, begins_comment, is_printable_byte, image_of, Insn, AsmFault, assembled_lines, is_end, until_end, TextFault, begins_bytes, bytes_of, asked_of, Names, Says, behind_end, ◌>>=◌, plain, understood, checked, Gained, Open, Nothing, Undecided, Bytes, Code, Calls, limited, coded, decided, called, inside, within, stepped, finished, closed, reading}
 use Rattle.sk_asm.specs.declared.fault.AsmFault.TheVariants as asm
-use Rattle.sk_asm.specs.Passes.{assembled_lines}
-use Rattle.sk_asm.specs.Block.{is_end, until_end}
-use Rattle.sk_scenario.specs.declared.text_fault.TextFault.{TextFault}
-use Rattle.sk_scenario.specs.Grammar.{begins_bytes, bytes_of, asked_of}
-use Rattle.sk_scenario.specs.Scenario.{Names, Says, behind_end}
-use Rattle.sk_scenario.specs.Reading.{◌>>=◌, plain, understood, checked, Gained, Open, Nothing, Undecided, Bytes, Code, Calls, limited, coded, decided, called, inside, within, stepped, finished, closed, reading}
 
 -- ---- steps
 

@@ -1,13 +1,6 @@
 -- The fault that the two readings tell is the first one of the text, and only that one.
-use Rattle.std.proofs.Common.{◌≡◌, ◌+◌, ◌∙◌, ap, arith, refl, sym, subst, ℕ, List, [], ◌∷◌, ◌++◌, Option, Some, None, Result, Ok, Err, true, false, cond, length, ◌==◌, inl, inr, append-nil}
-use Rattle.std.proofs.lemmas.Bool.{cases_Bool, false≢true, cases_lt, lt-ltb, le-ltb}
-use Rattle.sk_text.specs.Lines.{lines_of}
-use Rattle.sk_scenario.specs.declared.text_fault.TextFault.{TextFault}
-use Rattle.sk_scenario.specs.declared.text_fault.TextFault.TheVariants.{Limit}
-use Rattle.sk_scenario.specs.Grammar.{Heading, heading_of}
-use Rattle.sk_scenario.specs.Scenario.{Names, Setting}
-use Rattle.sk_scenario.specs.Reading.{◌>>=◌, Gained, Open, Nothing, Undecided, Bytes, Code, Calls, stepped, closed, nothing_yet, reading, setting, scenario_of, scenario}
-use Rattle.sk_scenario.specs.Faults.{Wrong, Excess, Malformed, Beyond, Nameless, told, AtTop, is_inside, place_behind, is_filter, is_program, names_by, one_more_if, names_given, IsWrongIn, rank, is_of_name, IsNotAfter, GoesFirst, IsFirstFault, IsFirstFaultOfText}
+use Rattle.std.proofs.Common.{◌≡◌, ◌+◌, ◌∙◌, ap, arith, refl, sym, subst, ℕ, List, [], ◌∷◌, ◌++◌, Option, Some, None, Result, Ok, Err, true, false, cond, length, ◌==◌, inl, inr, append-nil, lt-ltb, le-ltb}
+use Rattle.sk_scenario.proofs.Common.{cases_Bool, false≢true, cases_lt, lines_of, TextFault, Limit, Heading, heading_of, Names, Setting, ◌>>=◌, Gained, Open, Nothing, Undecided, Bytes, Code, Calls, stepped, closed, nothing_yet, reading, setting, scenario_of, scenario, Wrong, Excess, Malformed, Beyond, Nameless, told, AtTop, is_inside, place_behind, is_filter, is_program, names_by, one_more_if, names_given, IsWrongIn, rank, is_of_name, IsNotAfter, GoesFirst, IsFirstFault, IsFirstFaultOfText}
 use Rattle.sk_scenario.proofs.Steps.{ok_is, bind_ok}
 use Rattle.sk_scenario.proofs.Judging.{counts, Matches, place_of, filters_so_far, programs_so_far}
 use Rattle.sk_scenario.proofs.States.{After, step_after}

@@ -1,10 +1,6 @@
 -- One turn of the loop over the lines.
 use Rattle.std.proofs.Common.{◌≡◌, ◌+◌, ◌∙◌, refl, sym, subst, ℕ, List, [], ◌∷◌, Option, Result, Ok, Err, inl, inr}
-use Rattle.sk_scenario.specs.declared.fault.ScenarioFault.{ScenarioFault}
-use Rattle.sk_scenario.specs.declared.text_fault.TextFault.{TextFault}
-use Rattle.sk_scenario.specs.Scenario.{Names}
-use Rattle.sk_scenario.specs.Answers.{IsFaultOf}
-use Rattle.sk_scenario.specs.Reading.{◌>>=◌, Gained, Open, stepped, closed, reading}
+use Rattle.sk_scenario.proofs.Common.{ScenarioFault, TextFault, Names, IsFaultOf, ◌>>=◌, Gained, Open, stepped, closed, reading}
 
 -- a fault of the first step is one of the chain
 pub fault_of-bind : {X Y : Type 0} (fault : ScenarioFault) (first : Result X TextFault) (next : X → Result Y TextFault) → IsFaultOf fault first → IsFaultOf fault (first >>= next)

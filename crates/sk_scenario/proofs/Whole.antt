@@ -1,16 +1,10 @@
 -- What the parts of a scenario give when they are read is what they stand for.
-use Rattle.std.proofs.Common.{◌≡◌, ◌≤◌, ◌<◌, ◌+◌, ◌∙◌, ap, arith, refl, sym, subst, ℕ, zero, suc, List, [], ◌∷◌, ◌++◌, Option, Some, None, is_some, Result, Ok, Bool, true, false, length, inl, inr, append-nil, append_assoc, length-append}
-use Rattle.std.proofs.lemmas.Bool.{cases_Bool, cases_lt, lt-ltb, le-ltb, le-leb, lt-leb}
-use Rattle.sk_scenario.specs.declared.text_fault.TextFault.{TextFault}
-use Rattle.sk_scenario.specs.declared.call.Named.{Named}
-use Rattle.sk_scenario.specs.declared.call.Named.TheVariants as named
-use Rattle.sk_scenario.specs.Grammar.{Remark, Silent, Turns, Subreapers, Opening, Filter, Program}
-use Rattle.sk_scenario.specs.Scenario.{Script, Names, named_by, names_from, AreGivenOnce, Each, IsImage, IsScript, Part, Single, Block, filters_in, programs_in, turns_in, marks_in}
-use Rattle.sk_scenario.specs.Reading.{◌>>=◌, Gained, Open, Nothing, Undecided, Bytes, Code, Calls, remarked, given, opened, finished, with_turns, with_subreapers, with_name, with_filter, with_program}
+use Rattle.std.proofs.Common.{◌≡◌, ◌≤◌, ◌<◌, ◌+◌, ◌∙◌, ap, arith, refl, sym, subst, ℕ, zero, suc, List, [], ◌∷◌, ◌++◌, Option, Some, None, is_some, Result, Ok, Bool, true, false, length, inl, inr, append-nil, append_assoc, length-append, lt-ltb, le-ltb, le-leb}
+use Rattle.sk_scenario.proofs.Common.{cases_Bool, cases_lt, lt-leb, TextFault, Named, Remark, Silent, Turns, Subreapers, Opening, Filter, Program, Script, Names, named_by, names_from, AreGivenOnce, Each, IsImage, IsScript, Part, Single, Block, filters_in, programs_in, turns_in, marks_in, ◌>>=◌, Gained, Open, Nothing, Undecided, Bytes, Code, Calls, remarked, given, opened, finished, with_turns, with_subreapers, with_name, with_filter, with_program, given_once-absent, given_once-push}
 use Rattle.sk_scenario.proofs.Steps.{ok_is, bind_ok, filling, kind, kind_filling}
 use Rattle.sk_scenario.proofs.Parts.{building}
 use Rattle.sk_scenario.proofs.Blocks.{image_filled, image_fills, script_filled, script_fills, Knows}
-use Rattle.sk_asm.proofs.Distinct.{given_once-absent, given_once-push}
+use Rattle.sk_scenario.specs.declared.call.Named.TheVariants as named
 
 -- ---- lines that stand alone
 

@@ -1,13 +1,6 @@
 -- The numbers that the rows use.
-use Rattle.std.proofs.Common.{◌≡◌, ◌∙◌, ℕ, ap, sym, refl, Bool, true, false, cond, ◌||◌, List, [], ◌∷◌, None, Some}
-use Rattle.std.specs.List.{list_any}
-use Rattle.std.specs.Ordering.{nat_cmp, is_eq}
-use Rattle.std.specs.declared.cmp.Ordering.TheVariants.{Less, Equal, Greater}
-use Rattle.std.specs.FinMap.Entries.{find, put, by_order}
-use Rattle.sk_world.specs.declared.process.Proc.{Proc}
-use Rattle.sk_world.specs.Numbers.{has_number}
-use Rattle.sk_table.specs.declared.scan.Row.{Row}
-use Rattle.sk_table.specs.Rows.{processes_of, Distinct, row_has_number}
+use Rattle.std.proofs.Common.{◌≡◌, ◌∙◌, ℕ, ap, sym, refl, Bool, true, false, cond, ◌||◌, List, [], ◌∷◌, None, Some, nat_cmp, is_eq}
+use Rattle.sk_table.proofs.Common.{list_any, Less, Equal, Greater, find, put, by_order, Proc, has_number, Row, processes_of, Distinct, row_has_number}
 use Rattle.sk_table.proofs.Keeping.{get_rows}
 
 later : (a b r : Bool) → (b || (a || r)) ≡ (a || (b || r))

@@ -1,12 +1,6 @@
 -- The search for the next free number.
-use Rattle.std.proofs.Common.{◌≡◌, ◌∙◌, ◌-◌, ◌<◌, ℕ, zero, suc, ap, sym, refl, Bool, true, false, cond, List, get_or, Option, None, Some}
-use Rattle.std.specs.Prelude.{nat_lt}
-use Rattle.sk_world.specs.Numbers.{is_used, next_number, free_from, fresh_of}
-use Rattle.sk_world.specs.World.{World, IsNext}
-use Rattle.sk_world.specs.NumberSets.{IsLeastAbove}
-use Rattle.sk_table.specs.Beside.{uses_in}
-use Rattle.sk_table.specs.Free.{first_unused}
-use Rattle.sk_table.specs.declared.numbering.TheConstants.{NUMBERS}
+use Rattle.std.proofs.Common.{◌≡◌, ◌∙◌, ◌<◌, ℕ, zero, suc, ap, sym, refl, Bool, true, false, cond, List, get_or, Option, None, Some, nat_lt}
+use Rattle.sk_table.proofs.Common.{is_used, next_number, free_from, fresh_of, World, IsNext, IsLeastAbove, uses_in, first_unused, NUMBERS}
 use Rattle.sk_table.proofs.Indexing.{used_counts}
 
 pub free_here : (used : ℕ → Bool) (more n : ℕ) → used n ≡ false → first_unused used more n ≡ n

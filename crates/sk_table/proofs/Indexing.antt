@@ -1,21 +1,8 @@
 -- What stands beside the slots after a process came, went or changed.
-use Rattle.std.proofs.Common.{◌≡◌, ◌∙◌, ◌+◌, ◌*◌, ◌≤◌, ◌==◌, ◌||◌, ◌&&◌, ℕ, zero, suc, arith, ap, sym, subst, refl, Bool, true, false, cond, not, List, [], ◌∷◌, length, get_or, replicate, Option, None, Some}
-use Rattle.std.specs.Prelude.{nat_lt}
-use Rattle.std.specs.List.{list_any}
-use Rattle.std.specs.Option.{is_some, option_map_or}
-use Rattle.std.specs.Ordering.{nat_cmp, is_eq}
-use Rattle.std.specs.declared.cmp.Ordering.TheVariants.{Less, Equal, Greater}
-use Rattle.std.specs.FinMap.Entries.{find, put, by_order}
-use Rattle.std.proofs.lemmas.Bool.{eq-eqb}
-use Rattle.std.proofs.lemmas.Bool.Decides.{nat_tests}
-use Rattle.sk_world.specs.declared.process.Proc.{Proc}
-use Rattle.sk_world.specs.declared.process.Links.{Links}
-use Rattle.sk_world.specs.Processes.{Processes, none, get, store, count}
-use Rattle.sk_world.specs.Numbers.{has_number}
-use Rattle.sk_world.proofs.Maps.{get_store, same_map, store_twice, count_put, equal_numbers}
-use Rattle.sk_world.specs.Pairs.{has_pair}
+use Rattle.std.proofs.Common.{◌≡◌, ◌∙◌, ◌+◌, ◌*◌, ◌≤◌, ◌==◌, ◌||◌, ◌&&◌, ℕ, zero, suc, arith, ap, sym, subst, refl, Bool, true, false, cond, not, List, [], ◌∷◌, length, get_or, replicate, Option, None, Some, nat_lt, is_some, nat_cmp, is_eq, eq-eqb}
+use Rattle.sk_world.specs.Common.{get}
+use Rattle.sk_table.proofs.Common.{list_any, option_map_or, Less, Equal, Greater, find, put, by_order, nat_tests, Proc, Links, Processes, none, store, count, has_number, get_store, same_map, store_twice, count_put, equal_numbers, has_pair, uses_in, IsRow, IsBeside}
 use Rattle.sk_table.specs.Weights.{one, weight}
-use Rattle.sk_table.specs.Beside.{uses_in, IsRow, IsBeside}
 
 -- ---- the processes
 
@@ -162,12 +149,6 @@ module _ (number : Proc → ℕ) (m : Processes) (row row' : List (ℕ × ℕ)) 
             | true ↦ λ e. at_pid (Some p) there a b e ∙ ap (λ n. n == a) (sym same)
             | false ↦ λ e. is.pairs a b
           ] refl
-
-  pub not_there : get m k ≡ None → (a : ℕ) → has_pair row a k ≡ false
-  not_there free a = at_pid None free a k (eq-eqb k k refl)
-
-  pub there_is : get m k ≡ Some p → (a : ℕ) → number p ≡ a → has_pair row a k ≡ true
-  there_is there a same = at_pid (Some p) there a k (eq-eqb k k refl) ∙ eq-eqb (number p) a same
 
 -- no process has no pair
 pub no_row : (number : Proc → ℕ) → IsRow number none []

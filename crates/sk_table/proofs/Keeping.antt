@@ -1,19 +1,9 @@
 -- What the rows say of the world after a row was replaced, taken out or put in.
-use Rattle.std.proofs.Common.{◌≡◌, ◌∙◌, ◌+◌, ◌<◌, ◌==◌, ℕ, zero, suc, arith, ap, sym, refl, Bool, true, false, cond, List, [], ◌∷◌, ◌++◌, length, get_or, set, Option, None, Some}
-use Rattle.std.specs.Prelude.{position}
-use Rattle.std.specs.Option.{is_some, option_map}
-use Rattle.std.specs.List.{remove, position_from}
-use Rattle.std.proofs.lemmas.Bool.Decides.{nat_tests}
+use Rattle.std.proofs.Common.{◌≡◌, ◌∙◌, ◌+◌, ◌<◌, ◌==◌, ℕ, zero, suc, arith, ap, sym, refl, Bool, true, false, cond, List, [], ◌∷◌, ◌++◌, length, get_or, set, Option, None, Some, position, is_some, option_map, remove}
 use Rattle.std.proofs.lemmas.List.Quantifiers.{position-Some}
 use Rattle.std.proofs.lemmas.Iterator.Adapters.{position_from-zero}
-use Rattle.sk_world.specs.declared.process.Proc.{Proc}
-use Rattle.sk_world.specs.declared.process.Body.{Body}
-use Rattle.sk_world.specs.declared.process.Links.{Links}
-use Rattle.sk_world.specs.Processes.{Processes, get, store, count}
-use Rattle.sk_world.specs.World.{World, at, stored, body_changed, links_changed, with_body, with_links, inserted}
-use Rattle.sk_world.proofs.Maps.{get_store, same_map, count_put, equal_numbers}
-use Rattle.sk_table.specs.declared.scan.Row.{Row}
-use Rattle.sk_table.specs.Rows.{processes_of, proc_of, Distinct}
+use Rattle.sk_world.specs.Common.{get}
+use Rattle.sk_table.proofs.Common.{position_from, nat_tests, Proc, Body, Links, Processes, store, count, World, at, stored, body_changed, links_changed, with_body, with_links, inserted, get_store, same_map, count_put, equal_numbers, Row, processes_of, proc_of, Distinct}
 
 -- the world of a store with these fields
 abbrev pub world : List Row → ℕ → World

@@ -1,3 +1,4 @@
+pub mod Common
 pub mod Indexing
 pub mod Slotting
 pub mod Freely

@@ -1,19 +1,11 @@
 -- A row lists what the world has.
-use Rattle.std.proofs.Common.{◌≡◌, ◌∙◌, ◌==◌, ◌||◌, ◌&&◌, ℕ, arith, ap, sym, refl, Bool, true, false, cond, List, [], ◌∷◌, map, filter, Option, None, Some}
-use Rattle.std.specs.Prelude.{T}
-use Rattle.std.specs.Option.{is_some}
-use Rattle.std.specs.Ordering.{nat_cmp, is_lt}
-use Rattle.std.specs.FinMap.Entries as es
-use Rattle.std.proofs.lemmas.Bool.{and_from, eqb-true}
-use Rattle.std.proofs.lemmas.Bool.Decides.{nat_tests}
-use Rattle.sk_world.specs.declared.process.Proc.{Proc}
-use Rattle.sk_world.specs.Processes.{Processes, get, pids}
-use Rattle.sk_world.proofs.Maps.{same_number}
-use Rattle.sk_world.specs.Pairs.{below, below_all, is_rising, has_pair}
+use Rattle.std.proofs.Common.{◌≡◌, ◌∙◌, ◌==◌, ◌||◌, ◌&&◌, ℕ, arith, ap, sym, refl, Bool, true, false, cond, List, [], ◌∷◌, map, filter, Option, None, Some, T, is_some, nat_cmp, is_lt, eqb-true}
+use Rattle.sk_world.specs.Common.{get}
+use Rattle.sk_table.proofs.Common.{and_from, nat_tests, Proc, Processes, pids, same_number, below, below_all, is_rising, has_pair, IsRow}
 use Rattle.sk_world.proofs.Rows.{Pair}
 use Rattle.sk_world.proofs.Same.{same_rows, rising-filter, has_pair-filter}
-use Rattle.sk_table.specs.Beside.{IsRow}
 use Rattle.sk_table.proofs.Indexing.{numbered}
+use Rattle.std.specs.FinMap.Entries as es
 
 nothing_of : (v : Bool) → false ≡ (v && false)
 nothing_of true = refl

@@ -1,15 +1,7 @@
 -- The least pid that is sought among the rows.
-use Rattle.std.proofs.Common.{◌≡◌, ◌≢◌, ◌∙◌, ◌+◌, ◌<◌, ◌≤◌, ◌==◌, ℕ, zero, suc, arith, ap, sym, refl, Bool, true, false, cond, List, [], ◌∷◌, ◌++◌, length, get_or, take, Option, None, Some}
-use Rattle.std.specs.Prelude.{min, nat_lt}
-use Rattle.std.specs.Option.{is_some, option_map_or}
-use Rattle.std.proofs.lemmas.List.{take_more}
-use Rattle.std.proofs.lemmas.Bool.Decides.{nat_tests}
-use Rattle.sk_world.specs.declared.process.Proc.{Proc}
-use Rattle.sk_world.specs.World.{World, at, IsNext}
-use Rattle.sk_table.specs.declared.scan.Row.{Row}
+use Rattle.std.proofs.Common.{◌≡◌, ◌≢◌, ◌∙◌, ◌+◌, ◌<◌, ◌≤◌, ◌==◌, ℕ, zero, suc, arith, ap, sym, refl, Bool, true, false, cond, List, [], ◌∷◌, ◌++◌, length, get_or, take, Option, None, Some, min, nat_lt, is_some}
+use Rattle.sk_table.proofs.Common.{option_map_or, take_more, nat_tests, Proc, World, at, IsNext, Row, Anyone, proc_of, Distinct, is_sought, is_sought_pid}
 use Rattle.sk_table.specs.declared.scan.Sought.{Sought}
-use Rattle.sk_table.specs.declared.scan.Sought.TheVariants.{Anyone}
-use Rattle.sk_table.specs.Rows.{proc_of, Distinct, is_sought, is_sought_pid}
 use Rattle.sk_table.proofs.Keeping.{world, get_rows, not_here, turned, proc_pushed}
 
 other_number : (a b : ℕ) → a ≢ b → (a == b) ≡ false

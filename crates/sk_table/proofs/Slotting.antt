@@ -1,15 +1,7 @@
 -- What the slots say of the processes, before and after a slot was filled, emptied or written.
-use Rattle.std.proofs.Common.{◌≡◌, ◌≢◌, ◌∙◌, ◌-◌, ◌<◌, ◌==◌, ◌||◌, ◌&&◌, ℕ, suc, arith, ap, sym, refl, Bool, true, false, cond, not, List, [], ◌∷◌, length, get_or, set, Option, None, Some, inl, inr, get_or-set_same, get_or-set_other}
-use Rattle.std.specs.Prelude.{nat_lt}
-use Rattle.std.specs.Option.{is_some}
-use Rattle.std.proofs.lemmas.Bool.{eqb-true, eqb-false, eq-eqb, ne_eqb, cases_eq, cases_order, lt-ltb, le-ltb, true≢false}
-use Rattle.std.proofs.lemmas.Option.{none-some, same_Some}
-use Rattle.slab.specs.Slab.{Slab, get as slot_get, Updates}
-use Rattle.sk_world.specs.NumberSets.{contains}
-use Rattle.sk_world.specs.declared.process.Proc.{Proc}
-use Rattle.sk_world.specs.Processes.{none, get, store}
-use Rattle.sk_world.proofs.Maps.{get_store, same_map}
-use Rattle.sk_table.specs.Slots.{slot, in_slot, processes_from}
+use Rattle.std.proofs.Common.{◌≡◌, ◌≢◌, ◌∙◌, ◌-◌, ◌<◌, ◌==◌, ◌||◌, ◌&&◌, ℕ, suc, arith, ap, sym, refl, Bool, true, false, cond, not, List, [], ◌∷◌, length, get_or, set, Option, None, Some, inl, inr, get_or-set_same, get_or-set_other, nat_lt, is_some, eqb-true, eq-eqb, ne_eqb, lt-ltb, le-ltb, true≢false}
+use Rattle.sk_world.specs.Common.{get}
+use Rattle.sk_table.proofs.Common.{eqb-false, cases_eq, cases_order, none-some, same_Some, Slab, get as slot_get, Updates, contains, Proc, none, store, get_store, same_map, slot, in_slot, processes_from}
 
 -- ---- what the processes of the slots are
 
@@ -84,10 +76,6 @@ module _ (slots : Slab Proc) (table : List (Option ℕ)) (pid i : ℕ) where
   -- the one of a pid
   pub not_its : ((p q i : ℕ) → slot table p ≡ Some i → slot table q ≡ Some i → p ≡ q) → slot table pid ≡ Some i → (q : ℕ) → q ≢ pid → slot table q ≢ Some i
   not_its apart its q ne has = ne (apart q pid i has its)
-
-  -- a pid with a process has a slot with it
-  pub in_it : ((q : ℕ) → is_some (in_slot slots (slot table q)) ≡ is_some (slot table q)) → slot table pid ≡ Some i → is_some (slot_get slots i) ≡ true
-  in_it live its = ap (λ o. is_some (in_slot slots o)) (sym its) ∙ live pid ∙ ap is_some its
 
 -- ---- one slot and one entry of the table are written
 

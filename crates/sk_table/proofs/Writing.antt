@@ -1,18 +1,9 @@
 -- What a store of slots says of the world after the process of one pid was written, or taken out.
-use Rattle.std.proofs.Common.{◌≡◌, ◌∙◌, ◌<◌, ℕ, arith, ap, sym, refl, cond, List, length, Option, None, Some, inl, inr}
-use Rattle.std.specs.Option.{is_some, option_map}
-use Rattle.std.proofs.lemmas.Bool.{cases_lt}
-use Rattle.std.proofs.lemmas.List.{get_or_past}
+use Rattle.std.proofs.Common.{◌≡◌, ◌∙◌, ◌<◌, ℕ, arith, ap, sym, refl, cond, List, length, Option, None, Some, inl, inr, is_some, option_map}
 use Rattle.std.proofs.lemmas.List.Sums.{sum_by-set}
-use Rattle.std.proofs.lemmas.Option.{none-some}
-use Rattle.slab.specs.Slab.{Slab, get as slot_get, Updates, slab_len, with_value}
+use Rattle.sk_world.specs.Common.{get}
+use Rattle.sk_table.proofs.Common.{cases_lt, get_or_past, none-some, Slab, get as slot_get, Updates, slab_len, with_value, Body, Links, Proc, store, World, at, stored, body_changed, links_changed, with_body, with_links, slot, in_slot, processes_from}
 use Rattle.slab.proofs.SlabLemmas.{Updates-with_value, ContainsKey-within}
-use Rattle.sk_world.specs.declared.process.Body.{Body}
-use Rattle.sk_world.specs.declared.process.Links.{Links}
-use Rattle.sk_world.specs.declared.process.Proc.{Proc}
-use Rattle.sk_world.specs.Processes.{get, store}
-use Rattle.sk_world.specs.World.{World, at, stored, body_changed, links_changed, with_body, with_links}
-use Rattle.sk_table.specs.Slots.{slot, in_slot, processes_from}
 use Rattle.sk_table.proofs.Indexing.{none_back}
 use Rattle.sk_table.proofs.Slotting.{read, slot_kept, not_its, processes_changed, live_changed}
 

@@ -1,9 +1,7 @@
 -- What stands beside the slots of the processes: rows of pairs, and counts.
 use Rattle.std.specs.Prelude.{◌≡◌, ℕ, ◌+◌, ◌==◌, false, List, [], ◌∷◌, length, slice_index}
-use Rattle.std.specs.Option.{option_map_or}
+use Rattle.sk_world.specs.Common.{option_map_or, Processes, get, count, has_pair}
 use Rattle.sk_world.specs.declared.process.Proc.{Proc}
-use Rattle.sk_world.specs.Processes.{Processes, get, count}
-use Rattle.sk_world.specs.Pairs.{has_pair}
 use Rattle.sk_table.specs.Weights.{weight}
 
 -- how often the processes use a number

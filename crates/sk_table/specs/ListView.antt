@@ -1,7 +1,7 @@
 -- What a list store says of the world, and what holds of its rows.
 use Rattle.std.specs.Prelude.{◌≤◌, vec_capacity}
+use Rattle.sk_world.specs.Common.{World}
 use Rattle.sk_world.specs.declared.process.TheConstants.{PROCESSES}
-use Rattle.sk_world.specs.World.{World}
 use Rattle.sk_table.specs.Rows.{processes_of, Distinct}
 use Rattle.sk_table.specs.declared.list_store.ListStore.TheInside.{Inside}
 

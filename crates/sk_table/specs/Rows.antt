@@ -1,9 +1,7 @@
 -- What a list of rows, each a pid and its process, says of the world.
 use Rattle.std.specs.Prelude.{ℕ, ◌==◌, ◌≡◌, Bool, true, false, if◌then◌else◌, List, [], ◌∷◌, Option, None, Some}
-use Rattle.std.specs.Option.{option_map_or}
+use Rattle.sk_world.specs.Common.{option_map_or, Processes, none, store, has_number}
 use Rattle.sk_world.specs.declared.process.Proc.{Proc}
-use Rattle.sk_world.specs.Processes.{Processes, none, store}
-use Rattle.sk_world.specs.Numbers.{has_number}
 use Rattle.sk_table.specs.declared.scan.Row.{Row}
 use Rattle.sk_table.specs.declared.scan.Sought.{Sought}
 use Rattle.sk_table.specs.declared.scan.Sought.TheVariants.{ChildOf, MemberOf, Anyone}

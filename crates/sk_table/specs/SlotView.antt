@@ -1,10 +1,8 @@
 -- What a store of slots says of the world, and what holds of its parts.
 use Rattle.std.specs.Prelude.{◌≡◌, ℕ, ◌+◌, ◌<◌, ◌≤◌, Some, vec_len, vec_capacity}
-use Rattle.std.specs.Option.{is_some}
+use Rattle.sk_world.specs.Common.{is_some, contains, Processes, count}
 use Rattle.slab.specs.Slab.{slab_len}
-use Rattle.sk_world.specs.NumberSets.{contains}
 use Rattle.sk_world.specs.declared.process.TheConstants.{LAST_PID, PROCESSES}
-use Rattle.sk_world.specs.Processes.{Processes, count}
 use Rattle.sk_table.specs.Beside.{IsBeside}
 use Rattle.sk_table.specs.Slots.{Slotted, slot, in_slot, processes_from}
 use Rattle.sk_table.specs.declared.slot_store.SlotStore.TheInside.{Inside}

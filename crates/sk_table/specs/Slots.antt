@@ -1,11 +1,8 @@
 -- What a table of slots says of the world.
 use Rattle.std.specs.Prelude.{ℕ, suc, List, [], ◌∷◌, map, filter, Option, None, Some, slice_index_or, refl}
-use Rattle.std.specs.Coded.{Coded, code_by, coded×, coded_list, coded_option, coded_ℕ}
+use Rattle.sk_world.specs.Common.{Coded, code_by, coded×, coded_list, coded_option, coded_ℕ, Processes, none, store, pids, World, at, is_child_of, is_member_of, world_code}
 use Rattle.slab.specs.Slab.{Slab, get as slot_get}
 use Rattle.sk_world.specs.declared.process.Proc.{Proc}
-use Rattle.sk_world.specs.Processes.{Processes, none, store, pids}
-use Rattle.sk_world.specs.World.{World, at, is_child_of, is_member_of}
-use Rattle.sk_world.specs.views.WorldCode.{world_code}
 
 -- a world, and the slot of each pid
 pub record Slotted : Type 0 where

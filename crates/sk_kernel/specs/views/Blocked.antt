@@ -1,19 +1,16 @@
 -- Which processes are blocked: they cannot run, and will not before they or their children change. Only code and proofs look
 -- at this.
 use Rattle.std.specs.Prelude.{ℕ, ◌==◌, Bool, true, false, ◌&&◌, ◌||◌, IsTrue, IsFalse, IfSome, Option}
-use Rattle.std.specs.Option.{is_some, option_map_or}
+use Rattle.sk_laws.specs.Common.{is_some, option_map_or, World, at, has_ended, is_match, is_ready, signal_for}
 use Rattle.sk_world.specs.declared.process.Life.{Life}
 use Rattle.sk_world.specs.declared.process.Life.TheVariants.{Running, Stopped, Zombie}
 use Rattle.sk_world.specs.declared.process.Note.{Note}
-use Rattle.sk_world.specs.declared.process.Note.TheVariants as note
 use Rattle.sk_world.specs.declared.process.Waiting.{Waiting}
-use Rattle.sk_world.specs.declared.process.Waiting.TheVariants as waiting
 use Rattle.sk_world.specs.declared.process.Body.{Body}
 use Rattle.sk_world.specs.declared.process.Proc.{Proc}
 use Rattle.sk_world.specs.declared.request.Request.{Request}
-use Rattle.sk_world.specs.World.{World, at, has_ended}
-use Rattle.sk_world.specs.Waits.{is_match, is_ready}
-use Rattle.sk_machine.specs.Delivering.{signal_for}
+use Rattle.sk_world.specs.declared.process.Note.TheVariants as note
+use Rattle.sk_world.specs.declared.process.Waiting.TheVariants as waiting
 
 -- a stop or a continuation is not reported yet
 abbrev pub is_unreported : Note → Bool

@@ -1,9 +1,8 @@
 -- What a set of candidates owes to the processes. Only code and proofs look at this.
 use Rattle.std.specs.Prelude.{◌≡◌, ◌≢◌, ℕ, ◌<◌, ◌≤◌, Bool, false, IsTrue, IsFalse, List, Option, None, Some}
-use Rattle.std.specs.Option.{is_some}
+use Rattle.sk_laws.specs.Common.{is_some, World, at}
 use Rattle.sk_world.specs.NumberSets.{contains}
 use Rattle.sk_world.specs.declared.process.TheConstants.{LAST_PID}
-use Rattle.sk_world.specs.World.{World, at}
 use Rattle.sk_kernel.specs.views.Blocked.{has_change_for, IsBlocked}
 
 -- who is not noted is blocked

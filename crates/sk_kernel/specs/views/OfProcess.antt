@@ -1,15 +1,14 @@
 -- Why an event of a process that is there is not possible, told by the process alone. Only code and proofs look at
 -- this.
 use Rattle.std.specs.Prelude.{Bool, not, if◌then◌else◌, Option, None, Some}
-use Rattle.std.specs.Option.{is_some}
+use Rattle.sk_laws.specs.Common.{is_some, signal_for, is_waiting}
 use Rattle.sk_world.specs.declared.process.Life.{Life}
-use Rattle.sk_world.specs.declared.process.Life.TheVariants as life
 use Rattle.sk_world.specs.declared.process.Proc.{Proc}
 use Rattle.sk_machine.specs.declared.event.Event.{Event}
 use Rattle.sk_machine.specs.declared.event.Event.TheVariants.{Call, Deliver, Resume, Fault}
 use Rattle.sk_machine.specs.declared.answer.Reason.{Reason}
 use Rattle.sk_machine.specs.declared.answer.Reason.TheVariants.{Zombie, Stopped, Waiting, SignalFirst, NothingWaits}
-use Rattle.sk_machine.specs.Delivering.{signal_for, is_waiting}
+use Rattle.sk_world.specs.declared.process.Life.TheVariants as life
 
 -- of one that runs, by whether it waits in a call and whether a signal is due
 abbrev pub running_reason : Bool → Bool → Event → Option Reason

@@ -1,23 +1,19 @@
 -- The calls that act on nothing but their caller's body. Only code and proofs look at this.
 use Rattle.std.specs.Prelude.{ℕ, ◌≡◌, Option, None, Some, Result}
-use Rattle.std.specs.Result.{result_unwrap_or}
+use Rattle.sk_laws.specs.Common.{result_unwrap_or, World, at, Images, Authority, authority_of, with_authority, Performed, prctl, seccomp, row}
 use Rattle.sk_insn.specs.declared.record.Record.{Record}
 use Rattle.sk_world.specs.declared.errno.Errno.{Errno}
-use Rattle.sk_names.specs.declared.syscall.Syscall.TheVariants as syscall
 use Rattle.sk_world.specs.declared.process.Body.{Body}
 use Rattle.sk_world.specs.declared.process.Proc.{Proc}
-use Rattle.sk_world.specs.World.{World, at, with_body}
+use Rattle.sk_world.specs.World.{with_body}
 use Rattle.sk_machine.specs.declared.answer.Outcome.{Outcome}
+use Rattle.sk_machine.specs.Memory.{prctl_attaches, seccomp_attaches}
+use Rattle.sk_kernel.specs.declared.own.OwnCall.{OwnCall}
+use Rattle.sk_kernel.specs.Rows.{ComesTo}
+use Rattle.sk_names.specs.declared.syscall.Syscall.TheVariants as syscall
 use Rattle.sk_machine.specs.declared.operation.PrctlOption.TheVariants as option
 use Rattle.sk_machine.specs.declared.operation.SeccompOperation.TheVariants as operation
-use Rattle.sk_machine.specs.Images.{Images}
-use Rattle.sk_machine.specs.Authority.{Authority, authority_of, with_authority}
-use Rattle.sk_machine.specs.Memory.{prctl_attaches, seccomp_attaches}
-use Rattle.sk_machine.specs.Performed.{Performed}
-use Rattle.sk_machine.specs.Performing.{prctl, seccomp, row}
-use Rattle.sk_kernel.specs.declared.own.OwnCall.{OwnCall}
 use Rattle.sk_kernel.specs.declared.own.OwnCall.TheVariants as own
-use Rattle.sk_kernel.specs.Rows.{ComesTo}
 
 -- a call of a process of this pid with this body has come to this outcome and to this body after, as the row says of
 -- every world with such a process

@@ -1,6 +1,5 @@
-use Rattle.std.proofs.Common.{◌∙◌, ap, arith, sym}
-use Rattle.std.specs.Option.{is_some}
-use Rattle.sk_machine.specs.Turns.{is_runnable}
+use Rattle.std.proofs.Common.{◌∙◌, ap, arith, sym, is_some}
+use Rattle.sk_kernel.proofs.Common.{is_runnable}
 use Rattle.sk_kernel.proofs.Passing.{found, not_found, passed_by}
 use Rattle.sk_kernel.proofs.asking.first_runnable.Goals as goal
 

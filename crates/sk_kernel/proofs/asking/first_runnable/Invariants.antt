@@ -1,5 +1,5 @@
 use Rattle.std.proofs.Common.{◌≡◌, ◌-◌, ◌<◌, ◌≤◌, ℕ, false}
-use Rattle.sk_machine.specs.Turns.{is_runnable}
+use Rattle.sk_kernel.proofs.Common.{is_runnable}
 use Rattle.sk_kernel.proofs.asking.first_runnable.Given as goal
 
 abbrev pub invariant-loop-pid : goal.invariant-loop-pid

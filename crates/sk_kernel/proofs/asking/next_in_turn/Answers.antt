@@ -1,8 +1,5 @@
-use Rattle.std.proofs.Common.{◌∙◌, ap, sym}
-use Rattle.std.specs.Prelude.{find}
-use Rattle.std.specs.Option.{option_map, option_or}
-use Rattle.sk_world.specs.Processes.{pids}
-use Rattle.sk_machine.specs.Turns.{is_runnable}
+use Rattle.std.proofs.Common.{◌∙◌, ap, sym, find, option_map}
+use Rattle.sk_kernel.proofs.Common.{option_or, pids, is_runnable}
 use Rattle.sk_kernel.proofs.Passing.{above_0}
 use Rattle.sk_kernel.proofs.asking.next_in_turn.Goals as goal
 

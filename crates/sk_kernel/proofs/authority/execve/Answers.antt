@@ -1,9 +1,6 @@
 use Rattle.std.proofs.Common.{◌≡◌, ◌∙◌, ap, refl, Option, None}
+use Rattle.sk_kernel.proofs.Common.{register, authority_of, after_execve, mark_of, execve}
 use Rattle.sk_machine.specs.declared.images.Mark.{Mark}
-use Rattle.sk_machine.specs.Arguments.{register}
-use Rattle.sk_machine.specs.Authority.{authority_of, after_execve}
-use Rattle.sk_machine.specs.Images.{mark_of}
-use Rattle.sk_machine.specs.Performing.{execve}
 use Rattle.sk_kernel.proofs.Rows.{has_left}
 use Rattle.sk_kernel.proofs.authority.execve.Goals as goal
 

@@ -1,8 +1,5 @@
-use Rattle.std.proofs.Common.{◌≡◌, ◌∙◌, ℕ, ap, sym, refl, subst, false, ◌&&◌, IsTrue, Option, None, Some}
-use Rattle.std.specs.Option.{is_some}
-use Rattle.std.proofs.lemmas.Bool.{false≢true}
-use Rattle.sk_world.specs.World.{is_child_of}
-use Rattle.sk_world.specs.Waits.{is_match, status_of}
+use Rattle.std.proofs.Common.{◌≡◌, ◌∙◌, ℕ, ap, sym, refl, subst, false, ◌&&◌, IsTrue, Option, None, Some, is_some}
+use Rattle.sk_kernel.proofs.Common.{false≢true, is_child_of, is_match, status_of}
 use Rattle.sk_world.proofs.Polling.{unready_up_to}
 use Rattle.sk_kernel.proofs.blocked.is_still_asking.Goals as goal
 

@@ -1,6 +1,5 @@
 use Rattle.std.proofs.Common.{◌-◌, ◌≤◌, ℕ, IsTrue, IsFalse}
-use Rattle.sk_world.specs.World.{at}
-use Rattle.sk_world.specs.Waits.{is_match, is_ready}
+use Rattle.sk_kernel.proofs.Common.{at, is_match, is_ready}
 use Rattle.sk_kernel.proofs.blocked.is_still_asking.Given as goal
 
 abbrev pub invariant-loop-child : goal.invariant-loop-child

@@ -1,9 +1,7 @@
 use Rattle.std.proofs.Common.{◌∙◌, ap}
-use Rattle.std.proofs.lemmas.Result.{IfOk-at_ok}
-use Rattle.sk_world.specs.World.{at}
-use Rattle.sk_machine.specs.declared.answer.Answer.TheVariants as answer
-use Rattle.sk_machine.specs.Machine.{judged, called_with}
+use Rattle.sk_kernel.proofs.Common.{IfOk-at_ok, at, judged, called_with}
 use Rattle.sk_kernel.proofs.OfCaller.{under, of}
+use Rattle.sk_machine.specs.declared.answer.Answer.TheVariants as answer
 use Rattle.sk_kernel.proofs.calls.call.Goals as goal
 
 pub returns-clause-answer : goal.returns-clause-answer

@@ -1,8 +1,5 @@
 use Rattle.std.proofs.Common.{◌∙◌, ap}
-use Rattle.sk_world.specs.Generation.{forced as sigsys_forced}
-use Rattle.sk_world.specs.declared.process.Body.{Body}
-use Rattle.sk_world.specs.World.{with_body}
-use Rattle.sk_world.proofs.Bodies.{given_back, nobody_there}
+use Rattle.sk_kernel.proofs.Common.{sigsys_forced, Body, with_body, given_back, nobody_there}
 use Rattle.sk_kernel.proofs.calls.force.Goals as goal
 
 trapped : Body → Body

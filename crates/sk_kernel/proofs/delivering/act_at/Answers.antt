@@ -1,8 +1,5 @@
-use Rattle.std.proofs.Common.{◌≡◌, ◌∙◌, ap, sym, subst}
-use Rattle.std.specs.Option.{IfSome}
-use Rattle.sk_world.specs.World.{at, with_body}
-use Rattle.sk_machine.specs.Delivering.{delivered}
-use Rattle.sk_kernel.specs.Deeds.{acted, left}
+use Rattle.std.proofs.Common.{◌≡◌, ◌∙◌, ap, sym, subst, IfSome}
+use Rattle.sk_kernel.proofs.Common.{at, with_body, delivered, acted, left}
 use Rattle.sk_kernel.proofs.Deeds.{left_is}
 use Rattle.sk_kernel.proofs.Taking.{kept_alike, alive_alike}
 use Rattle.sk_kernel.proofs.delivering.act_at.Goals as goal

@@ -1,10 +1,8 @@
 use Rattle.std.proofs.Common.{◌∙◌, sym, subst}
+use Rattle.sk_kernel.proofs.Common.{IsWorld, given_back, nobody_there, stopping}
+use Rattle.sk_kernel.proofs.Taking.{kept_stopped}
 use Rattle.sk_world.specs.declared.process.Life.TheVariants as life
 use Rattle.sk_world.specs.declared.process.Note.TheVariants as note
-use Rattle.sk_world.specs.Rules.{IsWorld}
-use Rattle.sk_world.proofs.Bodies.{given_back, nobody_there}
-use Rattle.sk_machine.specs.Delivering.{stopping}
-use Rattle.sk_kernel.proofs.Taking.{kept_stopped}
 use Rattle.sk_kernel.proofs.delivering.set_stopped.Goals as goal
 
 pub returns-in-Some-clause-world : goal.returns-in-Some-clause-world

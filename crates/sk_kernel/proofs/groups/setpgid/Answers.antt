@@ -1,5 +1,4 @@
-use Rattle.sk_machine.specs.Sessions.{after_setpgid}
-use Rattle.sk_machine.specs.Arguments.{signed}
+use Rattle.sk_kernel.proofs.Common.{after_setpgid, signed}
 use Rattle.sk_kernel.proofs.Registers.{handed_on}
 use Rattle.sk_kernel.proofs.Rows.{has_changed}
 use Rattle.sk_kernel.proofs.groups.setpgid.Goals as goal

@@ -1,10 +1,6 @@
 use Rattle.std.proofs.Common.{◌∙◌, ap}
-use Rattle.std.specs.Int.{w32}
-use Rattle.std.specs.Result.{result_unwrap_or}
 use Rattle.std.proofs.lemmas.Int.{to_z-of_z}
-use Rattle.sk_world.specs.declared.request.Who.TheVariants.{Child}
-use Rattle.sk_machine.specs.Sessions.{answered}
-use Rattle.sk_machine.specs.Arguments.{who_meant}
+use Rattle.sk_kernel.proofs.Common.{w32, result_unwrap_or, Child, answered, who_meant}
 use Rattle.sk_kernel.proofs.Reaching.{one_is, as_meant}
 use Rattle.sk_kernel.proofs.killing.kill.Goals as goal
 

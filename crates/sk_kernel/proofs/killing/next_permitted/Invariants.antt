@@ -1,5 +1,5 @@
 use Rattle.std.proofs.Common.{◌≡◌, ◌-◌, ◌<◌, ◌≤◌, ℕ, false}
-use Rattle.sk_kernel.specs.Targets.{is_reached}
+use Rattle.sk_kernel.proofs.Common.{is_reached}
 use Rattle.sk_kernel.proofs.killing.next_permitted.Given as goal
 
 abbrev pub invariant-loop-pid : goal.invariant-loop-pid

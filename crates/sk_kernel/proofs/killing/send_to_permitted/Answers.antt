@@ -1,7 +1,5 @@
-use Rattle.std.proofs.Common.{◌∙◌, ap, sym, cond}
-use Rattle.std.proofs.lemmas.Bool.{ne_eqb}
-use Rattle.sk_world.specs.Sending.{sent_to_each}
-use Rattle.sk_kernel.specs.Targets.{reached}
+use Rattle.std.proofs.Common.{◌∙◌, ap, sym, cond, ne_eqb}
+use Rattle.sk_kernel.proofs.Common.{sent_to_each, reached}
 use Rattle.sk_kernel.proofs.Reaching.{sending_begins, sent_further, sending_ends}
 use Rattle.sk_kernel.proofs.killing.send_to_permitted.Goals as goal
 

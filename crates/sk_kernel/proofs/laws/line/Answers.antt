@@ -1,8 +1,5 @@
-use Rattle.std.proofs.Common.{◌≡◌, ◌∙◌, ◌-◌, ℕ, arith, reverse, [], ap, subst}
-use Rattle.std.specs.Prelude.{take}
-use Rattle.sk_machine.specs.declared.event.Event.{Event}
-use Rattle.sk_machine.specs.declared.event.Event.TheVariants.{Call}
-use Rattle.sk_machine.specs.Lineages.{Lineage, calls_added, lineage_before, with_calls, lineage_of, history_of}
+use Rattle.std.proofs.Common.{◌≡◌, ◌∙◌, ◌-◌, ℕ, arith, reverse, [], ap, subst, take}
+use Rattle.sk_kernel.proofs.Common.{Event, Call, Lineage, calls_added, lineage_before, with_calls, lineage_of, history_of}
 use Rattle.sk_kernel.proofs.Backwards.{lineage_back}
 use Rattle.sk_kernel.proofs.laws.line.Goals as goal
 use lib.ListN.{get_or}

@@ -1,6 +1,5 @@
-use Rattle.std.proofs.Common.{◌≡◌, ◌≤◌, length, reverse}
-use Rattle.std.specs.Prelude.{take}
-use Rattle.sk_machine.specs.Lineages.{lineage_of, with_calls, history_of}
+use Rattle.std.proofs.Common.{◌≡◌, ◌≤◌, length, reverse, take}
+use Rattle.sk_kernel.proofs.Common.{lineage_of, with_calls, history_of}
 use Rattle.sk_kernel.proofs.laws.line.Given as goal
 
 abbrev pub invariant-loop-left : goal.invariant-loop-left

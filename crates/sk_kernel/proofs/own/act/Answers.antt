@@ -1,8 +1,6 @@
 use Rattle.std.proofs.Common.{◌==◌, not}
-use Rattle.sk_world.specs.Creds.{after_setuid, after_setresuid}
-use Rattle.sk_machine.specs.Arguments.{register, unsigned}
-use Rattle.sk_machine.specs.Authority.{after_no_new_privs, after_set_seccomp, after_set_mode_filter}
-use Rattle.sk_machine.specs.SignalCalls.{after_sigaction, after_sigprocmask, after_sigreturn}
+use Rattle.sk_kernel.proofs.Common.{after_setuid, after_setresuid, register, unsigned, after_no_new_privs, after_set_seccomp, after_sigaction, after_sigprocmask, after_sigreturn}
+use Rattle.sk_machine.specs.Authority.{after_set_mode_filter}
 use Rattle.sk_kernel.proofs.Rows.{has_resignalled, has_authorised, has_other_ids, has_marked}
 use Rattle.sk_kernel.proofs.own.act.Goals as goal
 

@@ -1,9 +1,5 @@
 use Rattle.std.proofs.Common.{◌∙◌, ap, sym, subst}
-use Rattle.std.proofs.lemmas.Result.{IfOk-weaker, on_err_weaker}
-use Rattle.sk_world.specs.declared.process.Body.{Body}
-use Rattle.sk_world.specs.World.{World, with_body}
-use Rattle.sk_kernel.specs.Rows.{ComesTo}
-use Rattle.sk_kernel.specs.views.Own.{own_row}
+use Rattle.sk_kernel.proofs.Common.{IfOk-weaker, on_err_weaker, Body, World, with_body, ComesTo, own_row}
 use Rattle.sk_kernel.proofs.Taking.{kept_alike}
 use Rattle.sk_kernel.proofs.Rows.{put_back}
 use Rattle.sk_kernel.proofs.own.perform_own.Goals as goal

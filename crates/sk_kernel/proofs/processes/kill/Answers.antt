@@ -1,5 +1,4 @@
-use Rattle.sk_machine.specs.Arguments.{unsigned, signed}
-use Rattle.sk_machine.specs.Killing.{after_kill}
+use Rattle.sk_kernel.proofs.Common.{unsigned, signed, after_kill}
 use Rattle.sk_kernel.proofs.Registers.{handed_on}
 use Rattle.sk_kernel.proofs.Rows.{has_changed_by}
 use Rattle.sk_kernel.proofs.processes.kill.Goals as goal

@@ -1,6 +1,5 @@
-use Rattle.std.proofs.Common.{◌∙◌, ap, sym}
-use Rattle.std.specs.Option.{is_some}
-use Rattle.sk_world.specs.World.{at}
+use Rattle.std.proofs.Common.{◌∙◌, ap, sym, is_some}
+use Rattle.sk_kernel.proofs.Common.{at}
 use Rattle.sk_kernel.proofs.Why.{reason_there, halted_by_status}
 use Rattle.sk_kernel.proofs.reasons.reason.Goals as goal
 

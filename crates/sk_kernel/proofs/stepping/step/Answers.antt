@@ -1,5 +1,5 @@
 use Rattle.std.proofs.Common.{◌∙◌, ap, sym}
-use Rattle.sk_machine.specs.Machine.{stepped, step_of}
+use Rattle.sk_kernel.proofs.Common.{stepped, step_of}
 use Rattle.sk_kernel.proofs.stepping.step.Goals as goal
 
 pub returns-in-Some-clause-answer : goal.returns-in-Some-clause-answer

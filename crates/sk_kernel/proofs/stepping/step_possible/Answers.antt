@@ -1,5 +1,5 @@
 use Rattle.std.proofs.Common.{◌≡◌, sym, subst, IfOk, OnOk}
-use Rattle.sk_machine.specs.Machine.{stepped, step_of}
+use Rattle.sk_kernel.proofs.Common.{stepped, step_of}
 use Rattle.sk_kernel.proofs.stepping.step_possible.Goals as goal
 
 pub returns-clause-answer : goal.returns-clause-answer

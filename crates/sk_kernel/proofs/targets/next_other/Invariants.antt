@@ -1,6 +1,6 @@
 use Rattle.std.proofs.Common.{◌≡◌, ◌-◌, ◌<◌, ◌≤◌, ℕ, false}
+use Rattle.sk_kernel.proofs.Common.{is_target}
 use Rattle.sk_world.specs.declared.request.Who.TheVariants as who
-use Rattle.sk_kernel.specs.Targets.{is_target}
 use Rattle.sk_kernel.proofs.targets.next_other.Given as goal
 
 abbrev pub invariant-loop-pid : goal.invariant-loop-pid

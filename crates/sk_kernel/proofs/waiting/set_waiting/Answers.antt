@@ -1,7 +1,5 @@
 use Rattle.std.proofs.Common.{◌∙◌, sym, refl, subst}
-use Rattle.sk_world.specs.Rules.{IsWorld}
-use Rattle.sk_world.proofs.Bodies.{given_back, nobody_there}
-use Rattle.sk_machine.specs.Performed.{waiting_in}
+use Rattle.sk_kernel.proofs.Common.{IsWorld, given_back, nobody_there, waiting_in}
 use Rattle.sk_kernel.proofs.Taking.{kept_with_life}
 use Rattle.sk_kernel.proofs.waiting.set_waiting.Goals as goal
 

@@ -1,5 +1,5 @@
 use Rattle.std.proofs.Common.{sym, rules}
-use Rattle.sk_scenario.specs.Scenario.{call_of}
+use Rattle.sk_scenario.proofs.Common.{call_of}
 use Rattle.sk_scenario.proofs.calls.call_of.Goals as goal
 
 pub returns-in_err-d : goal.returns-in_err-d

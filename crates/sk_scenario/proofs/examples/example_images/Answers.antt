@@ -1,15 +1,6 @@
 use Rattle.std.proofs.Common.{refl}
-use Rattle.hex.specs.Hex.{decode_pairs}
-use Rattle.sk_text.specs.Hexadecimal.{bytes_in}
-use Rattle.sk_text.specs.Lines.{is_printable_byte}
-use Rattle.sk_text.specs.Numbers.{number_of}
-use Rattle.sk_text.specs.Words.{is_letter, is_name_byte, is_name}
-use Rattle.sk_asm.specs.Block.{is_end}
-use Rattle.sk_asm.specs.Grammar.{label_of, destination_of, action_with, action_value, returned_value, branching, shaped, raw, instruction_said, spoken, statement_of}
-use Rattle.sk_asm.specs.Passes.{checked as asm_checked, noted, labelled, distance, resolved as resolved_label, emitted, assembled_lines}
-use Rattle.sk_scenario.specs.Grammar.{headed, heading_of, bytes_of, decimal_of, argument_of, asked, asked_of}
-use Rattle.sk_scenario.specs.Scenario.{call_of}
-use Rattle.sk_scenario.specs.Reading.{checked, remarked, given, opened, started, coded, decided, resolved, called, inside, within, stepped, reading, scenario_of}
+use Rattle.sk_scenario.proofs.Common.{decode_pairs, bytes_in, is_printable_byte, number_of, is_letter, is_name_byte, is_name, is_end, label_of, destination_of, action_with, action_value, returned_value, branching, shaped, raw, instruction_said, spoken, statement_of, noted, labelled, distance, emitted, assembled_lines, headed, heading_of, bytes_of, decimal_of, argument_of, asked, asked_of, call_of, checked, remarked, given, opened, started, coded, decided, resolved, called, inside, within, stepped, reading, scenario_of}
+use Rattle.sk_asm.specs.Passes.{checked as asm_checked, resolved as resolved_label}
 use Rattle.sk_scenario.proofs.examples.example_images.Goals as goal
 
 pub returns : goal.returns

@@ -1,10 +1,5 @@
 use Rattle.std.proofs.Common.{◌≡◌, ◌+◌, ◌-◌, ◌∙◌, ap, arith, refl, subst, sym, Err, inr}
-use Rattle.std.proofs.lemmas.Result.{err_from_is_err_and}
-use Rattle.sk_text.specs.Lines.{lines_of}
-use Rattle.sk_asm.specs.Block.{until_end}
-use Rattle.sk_asm.specs.Passes.{assembled_lines}
-use Rattle.sk_scenario.specs.Reading.{held, coded}
-use Rattle.sk_scenario.specs.views.ScenarioCode.{known_seen}
+use Rattle.sk_scenario.proofs.Common.{err_from_is_err_and, lines_of, until_end, assembled_lines, held, coded, known_seen}
 use Rattle.sk_scenario.proofs.Coding.{coded_by}
 use Rattle.sk_scenario.proofs.filters.assemble.Goals as goal
 

@@ -1,6 +1,5 @@
 use Rattle.std.proofs.Common.{◌≡◌, Result, Ok}
-use Rattle.sk_scenario.specs.declared.text_fault.TextFault.{TextFault}
-use Rattle.sk_scenario.specs.Scenario.{Setting}
+use Rattle.sk_scenario.proofs.Common.{TextFault, Setting}
 use Rattle.sk_scenario.proofs.Relation.{scenario-stands, scenario-only}
 use Rattle.sk_scenario.proofs.laws.readings_find_what_a_text_stands_for.Goals as goal
 

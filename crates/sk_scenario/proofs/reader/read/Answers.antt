@@ -1,8 +1,5 @@
-use Rattle.std.proofs.Common.{length, refl, inl, inr}
-use Rattle.std.proofs.lemmas.Bool.{le-ltb}
-use Rattle.std.proofs.lemmas.Result.{err_from_is_err_and}
-use Rattle.sk_scenario.specs.Reading.{scenario}
-use Rattle.sk_scenario.specs.Answers.{Answers}
+use Rattle.std.proofs.Common.{length, refl, inl, inr, le-ltb}
+use Rattle.sk_scenario.proofs.Common.{err_from_is_err_and, scenario, Answers}
 use Rattle.sk_scenario.proofs.Found.{text-stands, text-only, text-first, text-told}
 use Rattle.sk_scenario.proofs.reader.read.Goals as goal
 

@@ -1,6 +1,5 @@
 use Rattle.std.proofs.Common.{ap, arith, refl, inr, length, rules}
-use Rattle.std.proofs.lemmas.Result.{err_from_is_err_and}
-use Rattle.sk_text.specs.Lines.{lines_of}
+use Rattle.sk_scenario.proofs.Common.{err_from_is_err_and, lines_of}
 use Rattle.sk_text.proofs.Cuts.{length_lines_of}
 use Rattle.sk_scenario.proofs.Turns.{goes, fails, ends, ends_open}
 use Rattle.sk_scenario.proofs.reading.read_lines.Goals as goal

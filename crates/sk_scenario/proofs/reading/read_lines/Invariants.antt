@@ -1,7 +1,5 @@
 use Rattle.std.proofs.Common.{◌≡◌, ◌≤◌, ◌+◌, length}
-use Rattle.sk_text.specs.Lines.{lines_of}
-use Rattle.sk_scenario.specs.Reading.{reading, nothing_yet, Nothing}
-use Rattle.sk_scenario.specs.views.ScenarioCode.{gained, known_seen, block_seen}
+use Rattle.sk_scenario.proofs.Common.{lines_of, reading, nothing_yet, Nothing, gained, known_seen, block_seen}
 use Rattle.sk_scenario.proofs.reading.read_lines.Given as goal
 
 -- the lines that are left give with what was gained what all lines give

@@ -1,8 +1,5 @@
-use Rattle.std.proofs.Common.{◌∙◌, sym, ap, rules}
-use Rattle.std.specs.Option.{is_some}
-use Rattle.std.proofs.lemmas.Bool.{lt-ltb}
-use Rattle.sk_scenario.specs.Reading.{given}
-use Rattle.sk_asm.proofs.Entries.{named_in_entries, entries_after}
+use Rattle.std.proofs.Common.{◌∙◌, sym, ap, rules, is_some, lt-ltb}
+use Rattle.sk_scenario.proofs.Common.{given, named_in_entries, entries_after}
 use Rattle.sk_scenario.proofs.top.give.Goals as goal
 
 pub returns : goal.returns

@@ -1,7 +1,5 @@
-use Rattle.std.proofs.Common.{◌∙◌, sym, refl}
-use Rattle.std.proofs.lemmas.Bool.{le-ltb}
-use Rattle.sk_scenario.specs.Reading.{given}
-use Rattle.sk_asm.proofs.Entries.{named_in_entries}
+use Rattle.std.proofs.Common.{◌∙◌, sym, refl, le-ltb}
+use Rattle.sk_scenario.proofs.Common.{given, named_in_entries}
 use Rattle.sk_scenario.proofs.top.judge_name.Goals as goal
 
 pub returns-then-contains_key : goal.returns-then-contains_key

@@ -1,5 +1,5 @@
 use Rattle.std.proofs.Common.{refl}
-use Rattle.sk_scenario.specs.Reading.{started, remarked}
+use Rattle.sk_scenario.proofs.Common.{started, remarked}
 use Rattle.sk_scenario.proofs.top.start.Goals as goal
 
 pub returns-in-Silent : goal.returns-in-Silent

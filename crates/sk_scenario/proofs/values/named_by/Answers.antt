@@ -1,5 +1,5 @@
 use Rattle.std.proofs.Common.{◌∙◌, sym}
-use Rattle.sk_asm.proofs.Entries.{named_in_entries}
+use Rattle.sk_scenario.proofs.Common.{named_in_entries}
 use Rattle.sk_scenario.proofs.values.named_by.Goals as goal
 
 pub returns : goal.returns

@@ -1,6 +1,5 @@
 use Rattle.std.proofs.Common.{◌≡◌, ◌∙◌, ◌-◌, ◌+◌, ℕ, Bool, suc, arith, ap, sym}
-use Rattle.sk_table.specs.declared.numbering.TheConstants.{NUMBERS}
-use Rattle.sk_table.specs.Free.{first_unused}
+use Rattle.sk_table.proofs.Common.{NUMBERS, first_unused}
 use Rattle.sk_table.proofs.Freely.{free_here, free_later, free_last}
 use Rattle.sk_table.proofs.numbering.first_free.Goals as goal
 

@@ -1,7 +1,5 @@
 use Rattle.std.proofs.Common.{◌≡◌, ◌-◌}
-use Rattle.sk_world.specs.Numbers.{next_number}
-use Rattle.sk_table.specs.declared.numbering.TheConstants.{NUMBERS}
-use Rattle.sk_table.specs.Free.{first_unused}
+use Rattle.sk_table.proofs.Common.{next_number, NUMBERS, first_unused}
 use Rattle.sk_table.proofs.numbering.first_free.Given as goal
 
 -- the search goes on from here

@@ -1,9 +1,8 @@
 use Rattle.std.proofs.Common.{◌∙◌, ◌+◌, arith, ap, sym, subst, Some, take}
-use Rattle.sk_world.specs.World.{IsNext}
-use Rattle.sk_table.specs.Rows.{is_sought_pid}
+use Rattle.sk_table.proofs.Common.{IsNext, is_sought_pid}
 use Rattle.sk_table.proofs.Seeking.{row_taken, row_passed}
-use Rattle.sk_table.proofs.scan.least_after.Goals as goal
 use Rattle.sk_table.proofs.scan.least_after.Goals.{then-row-after+then-accepts, else-row-after, else-row-after-via-then-row-after+else-accepts, else-row-after-via-else-row-after}
+use Rattle.sk_table.proofs.scan.least_after.Goals as goal
 
 pub loop-row-preserved : goal.loop-row-preserved
 loop-row-preserved c =

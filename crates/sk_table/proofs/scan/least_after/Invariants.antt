@@ -1,6 +1,5 @@
 use Rattle.std.proofs.Common.{take}
-use Rattle.sk_world.specs.World.{IsNext}
-use Rattle.sk_table.specs.Rows.{is_sought_pid}
+use Rattle.sk_table.proofs.Common.{IsNext, is_sought_pid}
 use Rattle.sk_table.proofs.scan.least_after.Given as goal
 
 abbrev pub invariant-loop-row : goal.invariant-loop-row

@@ -1,6 +1,5 @@
 use Rattle.std.proofs.Common.{◌≡◌, ℕ, ◌+◌, ◌-◌, ◌≤◌, vec_len, vec_capacity}
-use Rattle.sk_world.specs.declared.process.TheConstants.{LAST_PID}
-use Rattle.sk_table.specs.Slots.{slot}
+use Rattle.sk_table.proofs.Common.{LAST_PID, slot}
 use Rattle.sk_table.proofs.slot_store.fill.Given as goal
 
 abbrev pub invariant-loop-table : goal.invariant-loop-table

@@ -1,7 +1,5 @@
-use Rattle.std.proofs.Common.{◌≡◌, ◌∙◌, ap, sym, subst, None}
-use Rattle.std.specs.Option.{is_some}
-use Rattle.sk_world.specs.Rules.{IsWorld}
-use Rattle.sk_machine.specs.Turns.{next_of}
+use Rattle.std.proofs.Common.{◌≡◌, ◌∙◌, ap, sym, subst, None, is_some}
+use Rattle.sk_kernel.proofs.Common.{IsWorld, next_of}
 use Rattle.sk_kernel.proofs.Passing.{passed_over, none_is_next}
 use Rattle.sk_kernel.proofs.candidates.Candidates.next_runner.Goals as goal
 

@@ -1,6 +1,5 @@
 use Rattle.std.proofs.Common.{◌∙◌, ap, refl, sym, subst}
-use Rattle.sk_world.specs.World.{at, with_body}
-use Rattle.sk_kernel.specs.views.Noting.{IsNoted}
+use Rattle.sk_kernel.proofs.Common.{at, with_body, IsNoted}
 use Rattle.sk_kernel.proofs.Changing.{noted_lent}
 use Rattle.sk_kernel.proofs.candidates.CandidatesProcStore.body_mut.Goals as goal
 

@@ -1,6 +1,5 @@
 use Rattle.std.proofs.Common.{◌≡◌, ◌∙◌, ap, sym, subst, None}
-use Rattle.sk_world.specs.World.{at}
-use Rattle.sk_kernel.specs.views.Noting.{IsNoted, LooksAt}
+use Rattle.sk_kernel.proofs.Common.{at, IsNoted, LooksAt}
 use Rattle.sk_kernel.proofs.Changing.{nobody_inserted, noted_inserted}
 use Rattle.sk_kernel.proofs.candidates.CandidatesProcStore.insert.Goals as goal
 

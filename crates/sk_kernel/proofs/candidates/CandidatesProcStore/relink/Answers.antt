@@ -1,6 +1,5 @@
 use Rattle.std.proofs.Common.{◌≡◌, sym, subst, None}
-use Rattle.sk_world.specs.World.{at, with_links}
-use Rattle.sk_kernel.specs.views.Noting.{IsNoted, LooksAt}
+use Rattle.sk_kernel.proofs.Common.{at, with_links, IsNoted, LooksAt}
 use Rattle.sk_kernel.proofs.Changing.{nobody_relinked, noted_relinked}
 use Rattle.sk_kernel.proofs.candidates.CandidatesProcStore.relink.Goals as goal
 

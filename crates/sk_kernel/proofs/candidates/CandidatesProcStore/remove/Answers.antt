@@ -1,7 +1,5 @@
-use Rattle.std.proofs.Common.{sym, subst}
-use Rattle.sk_world.specs.World.{stored}
-use Rattle.std.specs.Prelude.{None}
-use Rattle.sk_kernel.specs.views.Noting.{OthersAreThere, IsNoted, Notes}
+use Rattle.std.proofs.Common.{sym, subst, None}
+use Rattle.sk_kernel.proofs.Common.{stored, OthersAreThere, IsNoted, Notes}
 use Rattle.sk_kernel.proofs.Changing.{noted_removed}
 use Rattle.sk_kernel.proofs.candidates.CandidatesProcStore.remove.Goals as goal
 

@@ -1,6 +1,5 @@
 use Rattle.std.proofs.Common.{subst, sym}
-use Rattle.sk_world.specs.Rules.{IsWorld}
-use Rattle.sk_laws.specs.FilterLaws.{HasAccepted}
+use Rattle.sk_kernel.proofs.Common.{IsWorld, HasAccepted}
 use Rattle.sk_kernel.proofs.Runs.{kept_by}
 use Rattle.sk_kernel.proofs.kernel.Kernel.happen.Goals as goal
 

@@ -1,6 +1,5 @@
-use Rattle.std.proofs.Common.{◌∙◌, [], subst}
-use Rattle.std.specs.Prelude.{take}
-use Rattle.sk_machine.specs.declared.event.Event.TheVariants.{Call}
+use Rattle.std.proofs.Common.{◌∙◌, [], subst, take}
+use Rattle.sk_kernel.proofs.Common.{Call}
 use Rattle.sk_laws.specs.RunLaws.{RunIsLawful}
 use Rattle.sk_laws.proofs.Runs.{runs_are_lawful}
 use Rattle.sk_kernel.proofs.Runs.{more}

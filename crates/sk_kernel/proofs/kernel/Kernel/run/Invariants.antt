@@ -1,6 +1,5 @@
-use Rattle.std.proofs.Common.{◌≡◌, ◌++◌}
-use Rattle.std.specs.Prelude.{take}
-use Rattle.sk_machine.specs.Machine.{answers_of, world_after}
+use Rattle.std.proofs.Common.{◌≡◌, ◌++◌, take}
+use Rattle.sk_kernel.proofs.Common.{answers_of, world_after}
 use Rattle.sk_kernel.proofs.kernel.Kernel.run.Given as goal
 
 abbrev pub invariant-loop-done : goal.invariant-loop-done

@@ -1,7 +1,5 @@
-use Rattle.std.proofs.Common.{◌≡◌, ◌∙◌, ap, sym, length}
-use Rattle.std.specs.Vec.{vec_len}
-use Rattle.sk_world.specs.Processes.{count}
-use Rattle.sk_world.specs.World.{World}
+use Rattle.std.proofs.Common.{◌≡◌, ◌∙◌, ap, sym, length, vec_len}
+use Rattle.sk_table.proofs.Common.{count, World}
 use Rattle.sk_table.proofs.Keeping.{count_rows}
 use Rattle.sk_table.proofs.list_store.ListStoreProcStore.count.Goals as goal
 

@@ -1,8 +1,5 @@
 use Rattle.std.proofs.Common.{◌≡◌, ◌∙◌, ◌≤◌, IsFalse, None, ap, subst, sym}
-use Rattle.sk_world.specs.declared.process.TheConstants.{LAST_PID}
-use Rattle.sk_world.specs.World.{World, at}
-use Rattle.sk_world.specs.Numbers.{is_used}
-use Rattle.sk_world.proofs.Fresh.{fresh_unused, fresh_absent, fresh_in_range}
+use Rattle.sk_table.proofs.Common.{LAST_PID, World, at, is_used, fresh_unused, fresh_absent, fresh_in_range}
 use Rattle.sk_table.proofs.Freeing.{used_rows}
 use Rattle.sk_table.proofs.Freely.{fresh_is}
 use Rattle.sk_table.proofs.list_store.ListStoreProcStore.fresh.Goals as goal

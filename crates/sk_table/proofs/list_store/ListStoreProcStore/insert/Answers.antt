@@ -1,8 +1,5 @@
-use Rattle.std.proofs.Common.{◌≡◌, ◌∙◌, ap, sym, subst, arith, length}
-use Rattle.std.specs.Vec.{vec_len}
-use Rattle.sk_world.specs.Processes.{count}
-use Rattle.sk_world.specs.World.{World}
-use Rattle.sk_table.specs.Rows.{Distinct}
+use Rattle.std.proofs.Common.{◌≡◌, ◌∙◌, ap, sym, subst, arith, length, vec_len}
+use Rattle.sk_table.proofs.Common.{count, World, Distinct}
 use Rattle.sk_table.proofs.Keeping.{world, with_row, count_rows}
 use Rattle.sk_table.proofs.list_store.ListStoreProcStore.insert.Goals as goal
 

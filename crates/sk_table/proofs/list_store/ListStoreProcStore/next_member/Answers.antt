@@ -1,6 +1,5 @@
 use Rattle.std.proofs.Common.{refl}
-use Rattle.sk_world.specs.World.{is_member_of}
-use Rattle.sk_table.specs.declared.scan.Sought.TheVariants.{MemberOf}
+use Rattle.sk_table.proofs.Common.{is_member_of, MemberOf}
 use Rattle.sk_table.proofs.Seeking.{next_of_rows}
 use Rattle.sk_table.proofs.list_store.ListStoreProcStore.next_member.Goals as goal
 

@@ -1,5 +1,5 @@
-use Rattle.std.specs.Option.{is_some}
-use Rattle.sk_table.specs.declared.scan.Sought.TheVariants.{Anyone}
+use Rattle.std.proofs.Common.{is_some}
+use Rattle.sk_table.proofs.Common.{Anyone}
 use Rattle.sk_table.proofs.Seeking.{anyone, next_of_rows}
 use Rattle.sk_table.proofs.list_store.ListStoreProcStore.next_pid.Goals as goal
 

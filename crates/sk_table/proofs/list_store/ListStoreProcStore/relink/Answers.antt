@@ -1,6 +1,5 @@
-use Rattle.std.proofs.Common.{ap, sym, ◌∙◌}
-use Rattle.std.specs.Option.{is_some, option_map}
-use Rattle.sk_world.specs.World.{stored, links_changed}
+use Rattle.std.proofs.Common.{ap, sym, ◌∙◌, is_some, option_map}
+use Rattle.sk_table.proofs.Common.{stored, links_changed}
 use Rattle.sk_table.proofs.Keeping.{placed, distinct_replaced, links_replaced, read, unread, nothing_stored}
 use Rattle.sk_table.proofs.list_store.ListStoreProcStore.relink.Goals as goal
 

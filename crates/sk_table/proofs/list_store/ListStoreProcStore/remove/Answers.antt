@@ -1,6 +1,5 @@
-use Rattle.std.proofs.Common.{ap, sym, subst, ◌∙◌, arith}
-use Rattle.std.specs.Option.{is_some}
-use Rattle.sk_table.specs.Rows.{Distinct}
+use Rattle.std.proofs.Common.{ap, sym, subst, ◌∙◌, arith, is_some}
+use Rattle.sk_table.proofs.Common.{Distinct}
 use Rattle.sk_table.proofs.Keeping.{world, placed, without_row, read, unread, nothing_stored}
 use Rattle.sk_table.proofs.list_store.ListStoreProcStore.remove.Goals as goal
 

@@ -1,6 +1,5 @@
 use Rattle.std.proofs.Common.{◌∙◌, ap}
-use Rattle.sk_world.specs.World.{World}
-use Rattle.sk_world.specs.Numbers.{is_used}
+use Rattle.sk_table.proofs.Common.{World, is_used}
 use Rattle.sk_table.proofs.Freeing.{used_rows}
 use Rattle.sk_table.proofs.list_store.ListStoreProcStore.used.Goals as goal
 

@@ -1,6 +1,5 @@
 use Rattle.std.proofs.Common.{◌∙◌, ap}
-use Rattle.sk_table.specs.Slots.{Slotted, children_of}
-use Rattle.sk_table.specs.SlotView.{procs_of}
+use Rattle.sk_table.proofs.Common.{Slotted, children_of, procs_of}
 use Rattle.sk_table.proofs.Listing.{row_lists}
 use Rattle.sk_table.proofs.slot_store.SlotStore.children.Goals as goal
 

@@ -1,9 +1,6 @@
 use Rattle.std.proofs.Common.{◌≡◌, ◌∙◌, ◌+◌, ap, sym, subst, refl, arith, None, Some}
-use Rattle.sk_world.specs.Processes.{get, count, store}
-use Rattle.sk_world.specs.World.{World, at, stored}
-use Rattle.sk_table.specs.Beside.{IsBeside}
-use Rattle.sk_table.specs.SlotView.{procs_of}
-use Rattle.sk_table.specs.Slots.{Slotted, processes_from}
+use Rattle.sk_world.specs.Common.{get}
+use Rattle.sk_table.proofs.Common.{count, store, World, at, stored, IsBeside, procs_of, Slotted, processes_from}
 use Rattle.sk_table.proofs.Indexing.{count_entered}
 use Rattle.sk_table.proofs.Slotting.{not_empty, processes_changed, live_changed, apart_changed, numbers_inserted, only_it}
 use Rattle.sk_table.proofs.slot_store.SlotStore.put.Goals as goal

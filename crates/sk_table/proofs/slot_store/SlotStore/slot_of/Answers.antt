@@ -1,7 +1,5 @@
-use Rattle.std.proofs.Common.{◌∙◌, ap, sym}
-use Rattle.std.specs.Option.{is_some}
-use Rattle.sk_world.specs.World.{at}
-use Rattle.sk_table.specs.Slots.{Slotted, slot}
+use Rattle.std.proofs.Common.{◌∙◌, ap, sym, is_some}
+use Rattle.sk_table.proofs.Common.{at, Slotted, slot}
 use Rattle.sk_table.proofs.Slotting.{read}
 use Rattle.sk_table.proofs.slot_store.SlotStore.slot_of.Goals as goal
 

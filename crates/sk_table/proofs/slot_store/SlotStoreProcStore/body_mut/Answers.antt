@@ -1,8 +1,5 @@
 use Rattle.std.proofs.Common.{◌≡◌, ◌∙◌, ap, sym, subst, refl, Some, arith}
-use Rattle.sk_world.specs.Processes.{count}
-use Rattle.sk_table.specs.Beside.{IsBeside}
-use Rattle.sk_table.specs.Slots.{Slotted, slot}
-use Rattle.sk_table.specs.SlotView.{procs_of}
+use Rattle.sk_table.proofs.Common.{count, IsBeside, Slotted, slot, procs_of}
 use Rattle.sk_table.proofs.Indexing.{count_kept, beside_kept}
 use Rattle.sk_table.proofs.Writing.{entry_is, absent, here, found, written, live_written, len_written, body_written}
 use Rattle.sk_table.proofs.slot_store.SlotStoreProcStore.body_mut.Goals as goal

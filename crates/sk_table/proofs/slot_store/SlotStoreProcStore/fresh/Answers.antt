@@ -1,10 +1,5 @@
 use Rattle.std.proofs.Common.{◌≡◌, ◌∙◌, ◌≤◌, IsFalse, None, ap, refl, subst, sym}
-use Rattle.sk_world.specs.declared.process.TheConstants.{LAST_PID}
-use Rattle.sk_world.specs.Numbers.{is_used, fresh_of}
-use Rattle.sk_world.specs.World.{at}
-use Rattle.sk_world.proofs.Fresh.{fresh_unused, fresh_absent, fresh_in_range}
-use Rattle.sk_table.specs.Slots.{Slotted}
-use Rattle.sk_table.specs.SlotView.{slotted_of}
+use Rattle.sk_table.proofs.Common.{LAST_PID, is_used, fresh_of, at, fresh_unused, fresh_absent, fresh_in_range, Slotted, slotted_of}
 use Rattle.sk_table.proofs.Freely.{fresh_is, used_is}
 use Rattle.sk_table.proofs.slot_store.SlotStoreProcStore.fresh.Goals as goal
 

@@ -1,5 +1,5 @@
 use Rattle.std.proofs.Common.{ap}
-use Rattle.sk_table.specs.Slots.{Slotted}
+use Rattle.sk_table.proofs.Common.{Slotted}
 use Rattle.sk_table.proofs.Writing.{entry_is, absent, found}
 use Rattle.sk_table.proofs.slot_store.SlotStoreProcStore.get.Goals as goal
 

@@ -1,14 +1,9 @@
-use Rattle.std.proofs.Common.{◌≡◌, ◌∙◌, ℕ, ap, sym, subst, refl, arith, false, [], length, None, Some, count_by}
-use Rattle.std.specs.Option.{is_some}
-use Rattle.std.proofs.lemmas.Option.{none-some}
-use Rattle.sk_world.specs.NumberSets.{contains}
-use Rattle.sk_world.specs.Processes.{none, get, store, count}
-use Rattle.sk_world.specs.World.{World}
-use Rattle.sk_table.specs.Beside.{IsBeside}
-use Rattle.sk_table.specs.Slots.{slot, in_slot, processes_from}
+use Rattle.std.proofs.Common.{◌≡◌, ◌∙◌, ℕ, ap, sym, subst, refl, arith, false, [], length, None, Some, count_by, is_some}
+use Rattle.sk_world.specs.Common.{get}
+use Rattle.sk_table.proofs.Common.{none-some, contains, none, store, count, World, IsBeside, slot, in_slot, processes_from}
 use Rattle.sk_table.proofs.Slotting.{nothing_there}
-use Rattle.sk_table.proofs.slot_store.SlotStoreProcStore.new.Goals as goal
 use Rattle.sk_table.proofs.slot_store.SlotStoreProcStore.new.Goals.{In_ok-table}
+use Rattle.sk_table.proofs.slot_store.SlotStoreProcStore.new.Goals as goal
 
 contains_none : (q : ℕ) → contains [] q ≡ false
 unfolding contains

@@ -1,7 +1,5 @@
 use Rattle.std.proofs.Common.{◌∙◌, ap, sym}
-use Rattle.sk_world.specs.World.{at, is_member_of}
-use Rattle.sk_table.specs.Slots.{Slotted}
-use Rattle.sk_world.specs.Pairs.{has_pair}
+use Rattle.sk_table.proofs.Common.{at, is_member_of, Slotted, has_pair}
 use Rattle.sk_table.proofs.Freely.{next_is}
 use Rattle.sk_table.proofs.slot_store.SlotStoreProcStore.next_member.Goals as goal
 

@@ -1,8 +1,5 @@
-use Rattle.std.proofs.Common.{◌∙◌, ap, sym}
-use Rattle.std.specs.Option.{is_some}
-use Rattle.sk_world.specs.NumberSets.{contains}
-use Rattle.sk_world.specs.World.{at}
-use Rattle.sk_table.specs.Slots.{Slotted}
+use Rattle.std.proofs.Common.{◌∙◌, ap, sym, is_some}
+use Rattle.sk_table.proofs.Common.{contains, at, Slotted}
 use Rattle.sk_table.proofs.Freely.{next_is}
 use Rattle.sk_table.proofs.Slotting.{read}
 use Rattle.sk_table.proofs.slot_store.SlotStoreProcStore.next_pid.Goals as goal

@@ -1,11 +1,5 @@
-use Rattle.std.proofs.Common.{◌≡◌, ◌∙◌, ap, sym, subst, refl, arith, None, Some}
-use Rattle.std.specs.Option.{is_some, option_map}
-use Rattle.sk_world.specs.Processes.{store, count}
-use Rattle.sk_world.specs.World.{stored, links_changed}
-use Rattle.sk_world.proofs.Maps.{store_twice}
-use Rattle.sk_table.specs.Beside.{IsBeside}
-use Rattle.sk_table.specs.Slots.{Slotted, slot}
-use Rattle.sk_table.specs.SlotView.{procs_of}
+use Rattle.std.proofs.Common.{◌≡◌, ◌∙◌, ap, sym, subst, refl, arith, None, Some, is_some, option_map}
+use Rattle.sk_table.proofs.Common.{store, count, stored, links_changed, store_twice, IsBeside, Slotted, slot, procs_of}
 use Rattle.sk_table.proofs.Indexing.{count_left, count_kept, gone_here}
 use Rattle.sk_table.proofs.Writing.{entry_is, absent, nothing_stored, here, found, written, live_written, len_written, links_written}
 use Rattle.sk_table.proofs.slot_store.SlotStoreProcStore.relink.Goals as goal

@@ -1,10 +1,6 @@
-use Rattle.std.proofs.Common.{◌≡◌, ◌∙◌, ap, sym, subst, refl, arith, None, Some, length-set, set}
-use Rattle.std.specs.Option.{is_some}
-use Rattle.sk_world.specs.Processes.{get, store, count}
-use Rattle.sk_world.specs.World.{World, stored}
-use Rattle.sk_table.specs.Beside.{IsBeside}
-use Rattle.sk_table.specs.Slots.{Slotted, slot, processes_from}
-use Rattle.sk_table.specs.SlotView.{procs_of}
+use Rattle.std.proofs.Common.{◌≡◌, ◌∙◌, ap, sym, subst, refl, arith, None, Some, length-set, set, is_some}
+use Rattle.sk_world.specs.Common.{get}
+use Rattle.sk_table.proofs.Common.{store, count, World, stored, IsBeside, Slotted, slot, processes_from, procs_of}
 use Rattle.sk_table.proofs.Indexing.{count_left}
 use Rattle.sk_table.proofs.Slotting.{slot_set, not_its, processes_changed, live_changed, apart_changed, numbers_removed, only_none}
 use Rattle.sk_table.proofs.Writing.{entry_is, entry_within, absent, nothing_stored, here, found}

@@ -1,7 +1,5 @@
 use Rattle.std.proofs.Common.{◌∙◌, ap}
-use Rattle.sk_world.specs.Numbers.{is_used}
-use Rattle.sk_table.specs.Slots.{Slotted}
-use Rattle.sk_table.specs.SlotView.{slotted_of}
+use Rattle.sk_table.proofs.Common.{is_used, Slotted, slotted_of}
 use Rattle.sk_table.proofs.Freely.{used_is}
 use Rattle.sk_table.proofs.slot_store.SlotStoreProcStore.used.Goals as goal
 
