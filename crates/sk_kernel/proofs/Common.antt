@@ -37,7 +37,6 @@ pub use Rattle.sk_world.specs.declared.request.WaitOptions.{WaitOptions}
 pub use Rattle.sk_world.specs.declared.request.Who.TheVariants.{Any, Child, Group}
 pub use Rattle.sk_world.specs.declared.request.Who.{Who}
 pub use Rattle.sk_world.specs.declared.signals.TheConstants.{SIGCHLD, SIGCONT, SIGKILL, SIGSEGV, SIGSYS}
-pub use Rattle.std.proofs.Common.{Bool, Err, IfOk, IfSome, IsFalse, IsTrue, List, None, Ok, OnErr, OnOk, Option, Result, Some, [], ap, append_assoc, arith, bit_and, cond, false, filter, if◌then◌else◌, length, map, not, refl, reverse, subst, suc, sym, true, zero, ℕ, ℤ, ⊎_elim, ◌&&◌, ◌++◌, ◌+◌, ◌-◌, ◌<◌, ◌==◌, ◌||◌, ◌∙◌, ◌∷◌, ◌≡◌, ◌≢◌, ◌≤◌}
 pub use Rattle.std.proofs.lemmas.Bool.{and_parts, cases_eq, cases_lt, cond_both, eqb-false, false_from_ne_true, false≢true, not-true}
 pub use Rattle.std.proofs.lemmas.List.{reverse-append, take_more}
 pub use Rattle.std.proofs.lemmas.Result.{IfOk-at_ok, IfOk-weaker, on_err_weaker}

@@ -31,7 +31,6 @@ pub use Rattle.sk_text.specs.Lines.{begins_comment, lines_of, words_of}
 unfoldable pub use Rattle.sk_text.specs.Lines.{is_printable_byte}
 unfoldable pub use Rattle.sk_text.specs.Numbers.{number_of}
 unfoldable pub use Rattle.sk_text.specs.Words.{is_letter, is_name, is_name_byte}
-pub use Rattle.std.proofs.Common.{Bool, Err, IfErr, IfOk, IsTrue, List, None, Ok, Option, Result, Some, [], ap, append-nil, append_assoc, arith, cond, false, inl, inr, is_some, length, length-append, nat_eq, nat_le, nat_lt, not, refl, rules, subst, suc, sym, true, true≢false, zero, ℕ, ◌&&◌, ◌++◌, ◌+◌, ◌-◌, ◌<◌, ◌==◌, ◌||◌, ◌∙◌, ◌∷◌, ◌≡◌, ◌≢◌, ◌≤◌}
 pub use Rattle.std.proofs.lemmas.Bool.{cases_Bool, cases_lt, false≢true, lt-leb}
 pub use Rattle.std.proofs.lemmas.Result.{err_from_is_err_and}
 pub use Rattle.std.specs.List.{concat, list_all, list_any}

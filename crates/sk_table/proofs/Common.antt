@@ -17,7 +17,6 @@ pub use Rattle.sk_world.specs.declared.process.Links.{Links}
 pub use Rattle.sk_world.specs.declared.process.Proc.{Proc}
 pub use Rattle.sk_world.specs.declared.process.TheConstants.{LAST_PID}
 pub use Rattle.slab.specs.Slab.{Slab, Updates, get, slab_len, with_value}
-pub use Rattle.std.proofs.Common.{Bool, IsFalse, List, None, Option, Some, [], ap, arith, cond, count_by, false, filter, get_or, get_or-set_other, get_or-set_same, inl, inr, length, length-set, map, not, refl, replicate, rules, set, subst, suc, sym, take, true, vec_capacity, vec_len, zero, ℕ, ◌&&◌, ◌*◌, ◌++◌, ◌+◌, ◌-◌, ◌<◌, ◌==◌, ◌||◌, ◌∙◌, ◌∷◌, ◌≡◌, ◌≢◌, ◌≤◌}
 pub use Rattle.std.proofs.lemmas.Bool.Decides.{nat_tests}
 pub use Rattle.std.proofs.lemmas.Bool.{and_from, cases_eq, cases_lt, cases_order, eqb-false}
 pub use Rattle.std.proofs.lemmas.List.{get_or_past, take_more}
