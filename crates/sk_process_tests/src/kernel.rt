@@ -1,10 +1,11 @@
-//! The kernel over both stores: each of its functions once, on runs of which `sk_laws` computes the answers.
+//! The kernel over both stores: its functions once, on runs of which `sk_laws` computes the answers. `happen` is what each turn
+//! of the reports in `skern/report_rows.rt` does.
 use sk_asm::assemble;
 use sk_insn::{Record, write_insns};
 use sk_kernel::laws::line;
-use sk_kernel::{Answer, Effect, Event, Images, Kernel, Need, Outcome};
+use sk_kernel::{Answer, Effect, Event, Images, Kernel, Mark, Need, Outcome};
 use sk_names::Syscall::{
-    ExitGroup, Fork, Getppid, Getuid, Kill, Pause, Prctl, RtSigaction, Seccomp, Setuid, Wait4,
+    ExitGroup, Fork, Getppid, Kill, Pause, Prctl, RtSigaction, Seccomp, Setuid, Wait4,
 };
 use sk_names::{Call, Syscall};
 use sk_table::{ListStore, ProcStore, SlotStore};
@@ -48,27 +49,40 @@ fn refused(errno: u16) -> Answer {
     }
 }
 
-// A filter that refuses getppid(2), and one that allows all.
-fn declared(alloc: Global) -> Result<Images, Fail> {
+/// The filters. What they refuse stands behind each.
+const FILTERS: &[&str] = &[
+    "ret allow\n",
+    "ret log\n",
+    "ldabs 0\njeq 110 +0 +1\nret errno/1\nret allow\n", // getppid
+    "ldabs 0\njeq 62 +0 +1\nret errno/1\nret allow\n", // kill
+    "ldabs 0\njeq 39 +0 +1\nret trap/7\nret allow\n", // getpid
+    "ldabs 0\njeq 124 +0 +1\nret kill_process\nret allow\n", // getsid
+    "ldabs 0\njeq 118 +0 +1\nret kill_thread\nret allow\n", // getresuid
+    "ret allow\ntax\n", // not valid
+];
+
+/// A kernel with the filters, and with two programs.
+pub(crate) fn kernel<S: ProcStore>(alloc: Global, subreapers: bool) -> Result<Kernel<S>, Fail> {
     let mut filters = Vec::new(alloc);
-    for text in [
-        "ldabs 0\njeq 110 +0 +1\nret errno/1\nret allow\n",
-        "ret allow\n",
-    ] {
+    for text in FILTERS {
         filters.push(write_insns(alloc, &assemble(alloc, text.as_bytes())?)?)?;
     }
-    Ok(Images {
-        filters,
-        programs: Vec::new(alloc),
-        subreapers: false,
-    })
+    let marks = [(0, false), (1000, true)].map(|(owner, setuid)| Mark { owner, setuid });
+    Ok(Kernel::new(
+        alloc,
+        Images {
+            filters,
+            programs: marks.to_vec(alloc)?,
+            subreapers,
+        },
+    )?)
 }
 
 // A child under its parent's filter is waited for, and is killed by a signal that its parent sends.
 fn sandbox() -> [Row; 8] {
     let told = Outcome::Told { pid: 2, status: 9 };
     [
-        (calls(1, Seccomp, [1, 0, 0]), gives(0)),
+        (calls(1, Seccomp, [1, 0, 2]), gives(0)),
         (calls(1, Fork, [0; 3]), gives(2)),
         (calls(2, Getppid, [0; 3]), refused(1)),
         (calls(2, Pause, [0; 3]), allowed(Outcome::Waits)),
@@ -90,7 +104,7 @@ fn sandbox() -> [Row; 8] {
 
 // Does these rows in one run, and compares each answer.
 fn played<S: ProcStore, R: Abort + AllocGlobal>(rt: &R, rows: &[Row]) -> Result<Kernel<S>, Fail> {
-    let mut kernel = Kernel::<S>::new(rt.alloc(), declared(rt.alloc())?)?;
+    let mut kernel = kernel::<S>(rt.alloc(), false)?;
     let mut events = Vec::new(rt.alloc());
     for row in rows {
         events.push(row.0)?;
@@ -134,26 +148,10 @@ fn a_run_has_its_answers_over_each_store(rt: HostRuntime) -> Result<(), Fail> {
 
 #[test]
 fn a_step_answers_as_a_run_does(rt: HostRuntime) -> Result<(), Fail> {
-    let mut kernel = Kernel::<SlotStore>::new(rt.alloc(), declared(rt.alloc())?)?;
+    let mut kernel = kernel::<SlotStore>(rt.alloc(), false)?;
     for (event, answer) in sandbox() {
         assert_eq!(rt; kernel.step(event), Ok(answer));
     }
-    Ok(())
-}
-
-// A call of process 1 is possible as the system starts.
-#[test]
-fn possible_call_happens(rt: HostRuntime) -> Result<(), Fail> {
-    let mut kernel = Kernel::<SlotStore>::new(rt.alloc(), declared(rt.alloc())?)?;
-    let answer = kernel.happen(&Event::Call {
-        pid: 1,
-        ip: 0,
-        call: Call {
-            nr: 102,
-            args: [0; 6],
-        },
-    })?;
-    assert_eq!(rt; (answer, Getuid.number()), (gives(0), 102));
     Ok(())
 }
 
@@ -190,7 +188,7 @@ fn long_chains_are_shared_and_given_back(rt: HostRuntime) -> Result<(), Fail> {
     let mut rows = Vec::new(rt.alloc());
     rows.push((calls(1, Fork, [0; 3]), gives(2)))?;
     for _ in 0..6554 {
-        rows.push((calls(2, Seccomp, [1, 0, 1]), gives(0)))?;
+        rows.push((calls(2, Seccomp, [1, 0, 0]), gives(0)))?;
     }
     add_ends(&mut rows)?;
     played::<ListStore, HostRuntime>(&rt, &rows)?;
@@ -200,7 +198,7 @@ fn long_chains_are_shared_and_given_back(rt: HostRuntime) -> Result<(), Fail> {
 
 fn add_ends(rows: &mut Vec<Row>) -> Result<(), AllocError> {
     rows.push((calls(2, Fork, [0; 3]), gives(3)))?;
-    rows.push((calls(3, Seccomp, [1, 0, 1]), gives(-12)))?;
+    rows.push((calls(3, Seccomp, [1, 0, 0]), gives(-12)))?;
     rows.push((calls(2, ExitGroup, [0; 3]), allowed(Outcome::Ended(0))))?;
     rows.push((
         calls(3, ExitGroup, [1, 0, 0]),

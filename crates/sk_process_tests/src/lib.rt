@@ -23,6 +23,8 @@ mod pairs;
 #[cfg(test)]
 mod processes;
 #[cfg(test)]
+mod random;
+#[cfg(test)]
 mod scenarios;
 #[cfg(test)]
 mod sessions;
