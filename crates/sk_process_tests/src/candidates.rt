@@ -1,4 +1,4 @@
-//! Worked examples of whose turn is next, over each store: who waits is passed over, and hears what ends its call.
+//! Whose turn is next, over each store: who waits is passed over, and hears what ends its call.
 ghost use Rattle.std.specs.Prelude.{◌≡◌};
 ghost use Rattle.sk_world.specs.Rules.{IsWorld};
 
@@ -10,66 +10,22 @@ use std::process::Abort;
 use std::test::Fail;
 
 #[test]
-fn rows_hold_over_a_list(rt: HostRuntime) -> Result<(), Fail> {
-    rows::<ListStore, HostRuntime>(&rt)
+fn who_waits_is_passed_over(rt: HostRuntime) -> Result<(), Fail> {
+    turns_go_round::<ListStore, HostRuntime>(&rt)?;
+    turns_go_round::<SlotStore, HostRuntime>(&rt)
 }
 
-#[test]
-fn rows_hold_over_slots(rt: HostRuntime) -> Result<(), Fail> {
-    rows::<SlotStore, HostRuntime>(&rt)
-}
-
-fn rows<S: ProcStore, R: Abort + AllocGlobal>(rt: &R) -> Result<(), Fail> {
-    who_waits_is_passed_over::<S, R>(rt)?;
-    candidates_keep_what_the_store_keeps::<S, R>(rt)?;
-    Ok(())
-}
-
-// Three children, of which two pause. The turn goes round past them, and comes to one that has a signal due.
-fn who_waits_is_passed_over<S: ProcStore, R: Abort + AllocGlobal>(rt: &R) -> Result<(), Fail> {
-    let mut store: Candidates<S> = after_forks(rt, &[INIT, INIT, INIT])?;
-    turns(rt, &store, &[(0, Some(1)), (1, Some(2)), (4, Some(1))]);
+// Two children pause, and the turn comes to one of them that has a signal due.
+fn turns_go_round<S: ProcStore, R: Abort + AllocGlobal>(rt: &R) -> Result<(), Fail> {
+    let mut store: Candidates<S> = after_forks(rt, &[INIT, INIT])?;
+    turns(rt, &store, &[(0, Some(1)), (1, Some(2)), (3, Some(1))]);
     waits(&mut store, 2, Waiting::Pause);
-    waits(&mut store, 4, Waiting::Pause);
-    turns(rt, &store, &[(0, Some(1)), (1, Some(3)), (3, Some(1))]);
-    waits(&mut store, INIT, Waiting::Pause);
-    turns(rt, &store, &[(0, Some(3)), (3, Some(3))]);
     waits(&mut store, 3, Waiting::Pause);
-    turns(rt, &store, &[(0, None), (3, None)]);
+    turns(rt, &store, &[(0, Some(1)), (1, Some(1))]);
     send(&mut store, 2, SIGUSR1);
-    turns(rt, &store, &[(0, Some(2)), (2, Some(2))]);
     waits(&mut store, 3, Waiting::Nothing);
-    turns(rt, &store, &[(0, Some(2)), (2, Some(3)), (3, Some(2))]);
+    turns(rt, &store, &[(1, Some(2)), (2, Some(3)), (3, Some(1))]);
     Ok(())
-}
-
-// What a store keeps is asked of the candidates as of the store.
-fn candidates_keep_what_the_store_keeps<S: ProcStore, R: Abort + AllocGlobal>(
-    rt: &R,
-) -> Result<(), Fail> {
-    let mut store: Candidates<S> = after_forks(rt, &[INIT])?;
-    keeps_processes_1_and_2(rt, &store);
-    assert!(rt; store.remove(2) && store.get(2).is_none());
-    Ok(())
-}
-
-fn keeps_processes_1_and_2<S: ProcStore>(rt: &impl Abort, store: &S) {
-    assert_eq!(rt; (store.count(), store.last(), store.fresh()), (2, 2, 3));
-    for (after, next, child, member) in [
-        (0, Some(1), Some(2), Some(1)),
-        (1, Some(2), Some(2), Some(2)),
-        (2, None, None, None),
-    ] {
-        let found = (
-            store.next_pid(after),
-            store.next_child(INIT, after),
-            store.next_member(INIT, after),
-        );
-        assert_eq!(rt; found, (next, child, member));
-    }
-    assert!(rt; store.next_member(2, 0).is_none());
-    assert!(rt; store.used(2) && !store.used(3));
-    assert!(rt; store.get(2).is_some() && store.get(3).is_none());
 }
 
 // Each is who comes next after a pid.

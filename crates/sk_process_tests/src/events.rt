@@ -1,61 +1,45 @@
-//! The processes of events, and the numbers of reasons, options and operations.
+//! Calls, the processes of events, and the numbers of reasons, options and operations: each function once.
 use sk_machine::{Event, PrctlOption, Reason, SeccompOperation};
-use sk_names::Call;
+use sk_names::{Call, Syscall};
+
+#[test]
+fn calls_have_the_numbers_and_names_of_the_manual(rt: HostRuntime) {
+    let fork = Syscall::Fork;
+    assert_eq!(rt; (fork.number(), fork.name()), (57, "fork"));
+    let found = (Syscall::of(57), Syscall::named(b"fork"));
+    assert_eq!(rt; found, (Some(fork), Some(fork)));
+    let none = (Syscall::of(56), Syscall::named(b"Fork"));
+    assert_eq!(rt; none, (None, None));
+}
 
 #[test]
 fn each_event_has_its_process(rt: HostRuntime) {
-    let call = Event::Call {
-        pid: 2,
-        ip: 0,
-        call: Call {
-            nr: 39,
-            args: [0; 6],
-        },
+    let call = Call {
+        nr: 39,
+        args: [0; 6],
     };
-    for (event, pid) in [
-        (call, 2),
-        (Event::Deliver { pid: 3 }, 3),
-        (Event::Resume { pid: 4 }, 4),
-        (Event::Fault { pid: 5 }, 5),
+    for event in [
+        Event::Call {
+            pid: 2,
+            ip: 0,
+            call,
+        },
+        Event::Deliver { pid: 2 },
+        Event::Resume { pid: 2 },
+        Event::Fault { pid: 2 },
     ] {
-        assert_eq!(rt; event.pid(), pid);
+        assert_eq!(rt; event.pid(), 2);
     }
 }
 
 #[test]
-fn reasons_are_numbered(rt: HostRuntime) {
-    for (reason, number) in [
-        (Reason::NoProcess, 1),
-        (Reason::SignalFirst, 5),
-        (Reason::Halted, 7),
-    ] {
-        assert_eq!(rt; reason.number(), number);
-    }
-}
-
-#[test]
-fn options_of_prctl_have_the_numbers_of_linux(rt: HostRuntime) {
-    for (number, option) in [
-        (21, Some(PrctlOption::GetSeccomp)),
-        (22, Some(PrctlOption::SetSeccomp)),
-        (36, Some(PrctlOption::SetChildSubreaper)),
-        (37, Some(PrctlOption::GetChildSubreaper)),
-        (38, Some(PrctlOption::SetNoNewPrivs)),
-        (39, Some(PrctlOption::GetNoNewPrivs)),
-        (1, None),
-    ] {
-        assert_eq!(rt; PrctlOption::of(number), option);
-    }
-}
-
-#[test]
-fn operations_of_seccomp_have_the_numbers_of_linux(rt: HostRuntime) {
-    for (number, operation) in [
-        (0, None),
-        (1, Some(SeccompOperation::SetModeFilter)),
-        (2, Some(SeccompOperation::GetActionAvail)),
-        (3, None),
-    ] {
-        assert_eq!(rt; SeccompOperation::of(number), operation);
-    }
+fn reasons_options_and_operations_are_numbered(rt: HostRuntime) {
+    assert_eq!(rt;
+        (Reason::NoProcess.number(), Reason::Halted.number()),
+        (1, 7)
+    );
+    let options = (PrctlOption::of(38), PrctlOption::of(1));
+    assert_eq!(rt; options, (Some(PrctlOption::SetNoNewPrivs), None));
+    let operations = (SeccompOperation::of(1), SeccompOperation::of(3));
+    assert_eq!(rt; operations, (Some(SeccompOperation::SetModeFilter), None));
 }

@@ -1,5 +1,6 @@
-//! User ids under setuid(2), setresuid(2), execve(2) and kill(2), and numbers of errors.
-use crate::deliveries::{ROOT, USER};
+//! User ids under setuid(2), setresuid(2), execve(2) and kill(2), and numbers of errors: each function once. `sk_world` has more
+//! of them as theorems.
+use crate::deliveries::ROOT;
 use sk_world::{Creds, Errno};
 
 fn ids(real: u32, effective: u32, saved: u32) -> Creds {
@@ -11,45 +12,22 @@ fn ids(real: u32, effective: u32, saved: u32) -> Creds {
     }
 }
 
-// The superuser takes an id for good, and another one that has three ids does not come back to 0.
+// The superuser takes three ids, and does not come back to 0 but by a set-user-ID program of 0.
 #[test]
 fn ids_are_given_up(rt: HostRuntime) {
     let mut creds = ROOT;
-    assert_eq!(rt; (creds.setuid(1000), creds), (Ok(()), USER));
-    let mut creds = ROOT;
     let told = creds.setresuid(1000, 1001, 1002);
     assert_eq!(rt; (told, creds), (Ok(()), ids(1000, 1001, 1002)));
-    let told = (creds.setuid(0), creds.setresuid(1002, 0, 1002));
-    assert_eq!(rt; told, (Err(Errno::Eperm), Err(Errno::Eperm)));
-}
-
-// The ids before, the program's owner and set-user-ID bit, and the ids that its execve leaves.
-#[test]
-fn execve_leaves_no_saved_id_behind(rt: HostRuntime) {
-    for (before, owner, setuid, after) in [
-        (ids(0, 5, 7), 9, false, ids(0, 5, 5)),
-        (USER, 0, true, ids(1000, 0, 0)),
-    ] {
-        let mut creds = before;
-        creds.after_exec(owner, setuid);
-        assert_eq!(rt; creds, after);
-    }
-}
-
-// A sender, a target, and whether the one may signal the other.
-#[test]
-fn signals_go_by_the_targets_real_and_saved_ids(rt: HostRuntime) {
-    for (sender, target, permitted) in [
-        (ROOT, USER, true),
-        (USER, ROOT, false),
-        (ids(1000, 5, 5), ids(7, 7, 1000), true),
-        (USER, ids(7, 1000, 7), false),
-    ] {
-        let told = (sender.may_signal(&target), sender.is_privileged());
-        assert_eq!(rt; told, (permitted, sender == ROOT));
-    }
+    assert_eq!(rt; creds.setuid(0), Err(Errno::Eperm));
+    creds.after_exec(9, false);
+    assert_eq!(rt; creds, ids(1000, 1001, 1001));
+    creds.after_exec(0, true);
+    assert_eq!(rt; (creds, creds.is_privileged()), (ids(1000, 0, 0), true));
+    let user = ids(1000, 1000, 1000);
+    assert_eq!(rt; (creds.setuid(1000), creds), (Ok(()), user));
     assert_eq!(rt;
-        (Errno::Eperm.number(), Errno::Eopnotsupp.number()),
-        (1, 95)
+        (ROOT.may_signal(&user), user.may_signal(&ROOT)),
+        (true, false)
     );
+    assert_eq!(rt; Errno::Eperm.number(), 1);
 }

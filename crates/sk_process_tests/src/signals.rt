@@ -1,8 +1,9 @@
-//! Sets of signals, default actions, and how signals pend, are blocked, ignored and handled.
-use sk_world::signals::{SIGCHLD, SIGHUP, SIGKILL, SIGSYS, SIGTERM, SIGUSR1};
+//! Sets of signals, default actions, and how signals pend, are blocked, ignored and handled: each function once. `sk_world` has
+//! more of them as theorems.
+use sk_world::signals::{SIGCHLD, SIGCONT, SIGHUP, SIGKILL, SIGSYS, SIGTERM, SIGTSTP, SIGUSR1};
 use sk_world::{DefaultAction, Disposition, SigSet, SigState, default_action, tty_stop};
 
-pub(crate) fn handler() -> Disposition {
+fn handler() -> Disposition {
     Disposition::Handler {
         program: 0,
         mask: SigSet::empty(),
@@ -22,56 +23,37 @@ fn due(state: &SigState) -> (u32, Option<u8>) {
 }
 
 #[test]
-fn sets_drop_the_bits_above_signal_31(rt: HostRuntime) {
-    for (bits, kept) in [
-        (0, 0),
-        (1, 1),
-        (0x4200, 0x4200),
-        (0xffff_ffff_8000_0200, 0x200),
-        (u64::MAX, 0x7fff_ffff),
-    ] {
-        assert_eq!(rt; SigSet::from_bits_truncate(bits).bits(), kept);
-    }
-}
-
-#[test]
 fn sets_hold_each_signal_once(rt: HostRuntime) {
     let set = SigSet::empty().with(SIGTERM).with(SIGUSR1).with(SIGTERM);
-    assert_eq!(rt; set.bits(), 0x4200);
-    assert!(rt; set.contains(SIGUSR1) && !set.contains(SIGHUP));
-    let lowest = (
-        set.lowest(),
-        set.without(SIGUSR1).lowest(),
-        SigSet::empty().lowest(),
-    );
-    assert_eq!(rt; lowest, (Some(SIGUSR1), Some(SIGTERM), None));
-}
-
-#[test]
-fn sets_are_joined_and_told_apart(rt: HostRuntime) {
-    let set = SigSet::empty().with(SIGTERM).with(SIGUSR1);
-    let more = SigSet::empty().with(SIGUSR1).with(SIGSYS).with(SIGKILL);
+    // SIGKILL, SIGUSR1, SIGSYS, and a number that no signal has.
+    let more = SigSet::from_bits_truncate(0x1_4000_0300);
+    assert_eq!(rt; (set.bits(), more.bits()), (0x4200, 0x4000_0300));
     let bits = (
+        set.without(SIGUSR1).bits(),
         set.union(more).bits(),
         set.difference(more).bits(),
         more.blockable().bits(),
     );
-    assert_eq!(rt; bits, (0x4000_4300, 0x4000, 0x4000_0200));
+    assert_eq!(rt; bits, (0x4000, 0x4000_4300, 0x4000, 0x4000_0200));
+    assert!(rt; set.contains(SIGUSR1) && !set.contains(SIGHUP));
+    let lowest = (set.lowest(), SigSet::empty().lowest());
+    assert_eq!(rt; lowest, (Some(SIGUSR1), None));
 }
 
 #[test]
-fn default_actions_are_those_of_the_manual(rt: HostRuntime) {
-    for (signal, action) in [
-        (1, DefaultAction::Terminate),
-        (17, DefaultAction::Ignore),
-        (18, DefaultAction::Continue),
-        (19, DefaultAction::Stop),
-    ] {
-        assert!(rt; default_action(signal) == action);
-    }
-    for signal in 0..=u8::MAX {
-        assert_eq!(rt; tty_stop(signal), (20..=22).contains(&signal));
-    }
+fn actions_say_what_they_do(rt: HostRuntime) {
+    let actions = [SIGHUP, SIGCHLD, SIGCONT, SIGTSTP].map(|signal| default_action(signal));
+    let expected = [
+        DefaultAction::Terminate,
+        DefaultAction::Ignore,
+        DefaultAction::Continue,
+        DefaultAction::Stop,
+    ];
+    assert!(rt; actions == expected);
+    assert!(rt; tty_stop(SIGTSTP) && !tty_stop(SIGHUP));
+    assert!(rt; handler().is_handler() && Disposition::Ignore.is_ignore());
+    assert!(rt; Disposition::Default.ignores(SIGCHLD, false));
+    assert!(rt; handler().after_exec() == Disposition::Default);
 }
 
 #[test]
@@ -79,27 +61,12 @@ fn kill_gets_through_a_full_mask(rt: HostRuntime) {
     let mut state = deaf();
     assert_eq!(rt; state.mask().bits(), 0x7ffb_feff);
     state.generate(SIGTERM, false);
-    state.generate(SIGUSR1, false);
-    state.generate(SIGTERM, false);
-    assert_eq!(rt; due(&state), (0x4200, None));
+    assert_eq!(rt; due(&state), (0x4000, None));
     state.generate(SIGKILL, false);
-    assert_eq!(rt; due(&state), (0x4300, Some(SIGKILL)));
+    assert_eq!(rt; due(&state), (0x4100, Some(SIGKILL)));
     state.take(SIGKILL);
     state.set_mask(SigSet::empty());
-    assert_eq!(rt; due(&state), (0x4200, Some(SIGUSR1)));
-    state.generate(SIGHUP, false);
-    state.generate(SIGKILL, false);
-    assert_eq!(rt; due(&state), (0x4301, Some(SIGKILL)));
-}
-
-#[test]
-fn a_return_restores_the_mask(rt: HostRuntime) {
-    let mut state = SigState::new();
-    state.set_mask(SigSet::empty().with(SIGHUP));
-    assert!(rt; state.push_frame(SIGUSR1, SigSet::from_bits_truncate(0x44100)));
-    assert_eq!(rt; state.mask().bits(), 0x4201);
-    assert!(rt; state.pop_frame());
-    assert_eq!(rt; state.mask().bits(), 1);
+    assert_eq!(rt; due(&state), (0x4000, Some(SIGTERM)));
 }
 
 #[test]
@@ -112,43 +79,21 @@ fn forced_sigsys_is_neither_blocked_nor_ignored(rt: HostRuntime) {
     assert!(rt; state.action(SIGSYS) == Disposition::Default);
 }
 
+// A handler runs, whose return restores the mask, in a child too, but not behind execve.
 #[test]
-fn execve_resets_handlers_and_keeps_the_rest(rt: HostRuntime) {
+fn frames_are_forked_and_dropped(rt: HostRuntime) {
     let mut state = SigState::new();
+    state.set_mask(SigSet::empty().with(SIGHUP));
     state.set_action(SIGUSR1, handler(), true);
-    state.set_action(SIGTERM, Disposition::Ignore, true);
-    state.set_mask(SigSet::empty().with(SIGUSR1));
+    assert!(rt; state.push_frame(SIGUSR1, SigSet::from_bits_truncate(0x44100)));
     state.generate(SIGUSR1, true);
-    assert!(rt; state.push_frame(SIGTERM, SigSet::empty()));
+    assert_eq!(rt; (state.mask().bits(), due(&state)), (0x4201, (0x200, None)));
+    let mut child = state.forked();
+    assert!(rt; child.pop_frame() && child.action(SIGUSR1) == handler());
+    assert_eq!(rt; (child.mask().bits(), due(&child)), (1, (0, None)));
     state.after_exec();
-    let sets = (state.pending().bits(), state.mask().bits());
-    assert_eq!(rt; sets, (0x200, 0x4200));
-    assert!(rt; state.action(SIGUSR1) == Disposition::Default);
-    assert!(rt; state.action(SIGTERM) == Disposition::Ignore);
-    assert!(rt; !state.pop_frame());
-    state.set_mask(SigSet::empty());
-    assert!(rt; state.deliverable() == Some(SIGUSR1));
-}
-
-#[test]
-fn children_start_with_nothing_pending(rt: HostRuntime) {
-    let mut parent = deaf();
-    parent.set_action(SIGUSR1, handler(), false);
-    parent.generate(SIGUSR1, false);
-    assert!(rt; parent.push_frame(SIGUSR1, SigSet::empty()));
-    let mut child = parent.forked();
-    let sets = (child.pending().bits(), child.mask().bits());
-    assert_eq!(rt; sets, (0, 0x7ffb_feff));
-    assert!(rt; child.action(SIGUSR1) == handler() && child.pop_frame());
-    parent.clear();
-    assert_eq!(rt; parent.pending().bits(), 0);
-    assert!(rt; !parent.pop_frame());
-    assert!(rt; parent.action(SIGUSR1).is_handler());
-}
-
-#[test]
-fn actions_say_what_they_do(rt: HostRuntime) {
-    assert!(rt; handler().is_handler() && !Disposition::Ignore.is_handler());
-    assert!(rt; Disposition::Default.ignores(SIGCHLD, false));
-    assert!(rt; handler().after_exec() == Disposition::Default);
+    assert!(rt; !state.pop_frame() && state.action(SIGUSR1) == Disposition::Default);
+    assert_eq!(rt; state.pending().bits(), 0x200);
+    state.clear();
+    assert_eq!(rt; state.pending().bits(), 0);
 }

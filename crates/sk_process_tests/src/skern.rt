@@ -5,7 +5,6 @@ mod commands;
 mod ends;
 mod eval_rows;
 mod failing_ends;
-mod failing_runs;
 mod report_rows;
 mod words;
 

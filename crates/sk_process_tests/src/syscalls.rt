@@ -2,13 +2,13 @@
 //! order, the runs of `sk_laws` compute.
 ghost use Rattle.sk_world.specs.Rules.{IsWorld};
 
-use crate::world::{assert_alive, opening, waiting};
+use crate::world::{assert_alive, opening};
 use sk_insn::Record;
 use sk_kernel::perform;
 use sk_machine::Outcome::{Ended, Executed, Ids, Returned, Signals, Told, Waits};
 use sk_machine::{Images, Mark, Outcome};
 use sk_names::Syscall;
-use sk_table::{INIT, ListStore, ProcStore, Waiting};
+use sk_table::{INIT, ListStore};
 use sk_world::SigSet;
 use sk_world::signals::SIGUSR1;
 use std::alloc::{AllocError, Global};
@@ -103,15 +103,6 @@ fn processes() -> [Row; 18] {
     ]
 }
 
-#[test]
-fn processes_come_and_go(rt: HostRuntime) -> Result<(), Fail> {
-    let mut store = opening::<ListStore>(rt.alloc())?;
-    let declared = declared(rt.alloc())?;
-    come_to(&rt, &mut store, &declared, &processes())?;
-    assert_eq!(rt; waiting(&store, INIT), Some(Waiting::Pause));
-    Ok(())
-}
-
 fn rights() -> [Row; 16] {
     [
         // SECCOMP_SET_MODE_FILTER, and PR_GET_SECCOMP behind it.
@@ -142,28 +133,20 @@ fn rights() -> [Row; 16] {
 }
 
 #[test]
-fn rights_are_given_up(rt: HostRuntime) -> Result<(), Fail> {
-    let mut store = opening::<ListStore>(rt.alloc())?;
-    let declared = declared(rt.alloc())?;
-    come_to(&rt, &mut store, &declared, &rights())?;
-    let filters = store.get(INIT).map(|process| process.body.chain.len());
-    assert_eq!(rt; filters, Some(2));
-    Ok(())
-}
-
-#[test]
-fn blocked_signals_pend(rt: HostRuntime) -> Result<(), Fail> {
-    let mut store = opening::<ListStore>(rt.alloc())?;
-    let declared = declared(rt.alloc())?;
-    let pending = SigSet::empty().with(SIGUSR1);
-    // SIG_IGN is 1, SIG_BLOCK 0.
-    let rows = [
+fn calls_come_to_these(rt: HostRuntime) -> Result<(), Fail> {
+    let pending = Signals(SigSet::empty().with(SIGUSR1));
+    // Blocked signals pend. SIG_IGN is 1, SIG_BLOCK 0.
+    let signals = [
         (INIT, Syscall::Fork, [0; 3], Returned(2)),
         (2, Syscall::RtSigaction, [12, 1, 0], Returned(0)),
         (2, Syscall::RtSigprocmask, [0, USERS, 0], Returned(0)),
         (2, Syscall::Kill, [2, 10, 0], Returned(0)),
-        (2, Syscall::RtSigpending, [0; 3], Signals(pending)),
+        (2, Syscall::RtSigpending, [0; 3], pending),
         (2, Syscall::RtSigreturn, [0; 3], Returned(-22)),
     ];
-    come_to(&rt, &mut store, &declared, &rows)
+    for rows in [&processes()[..], &rights(), &signals] {
+        let mut store = opening::<ListStore>(rt.alloc())?;
+        come_to(&rt, &mut store, &declared(rt.alloc())?, rows)?;
+    }
+    Ok(())
 }

@@ -108,10 +108,6 @@ pub(crate) fn life<S: ProcStore>(store: &S, pid: u32) -> Option<Life> {
     store.get(pid).map(|process| process.body.life)
 }
 
-pub(crate) fn note<S: ProcStore>(store: &S, pid: u32) -> Option<Note> {
-    store.get(pid).map(|process| process.body.note)
-}
-
 pub(crate) fn waiting<S: ProcStore>(store: &S, pid: u32) -> Option<Waiting> {
     store.get(pid).map(|process| process.body.waiting)
 }

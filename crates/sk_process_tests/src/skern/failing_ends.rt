@@ -1,9 +1,10 @@
-//! The commands over ends that move one byte a call, fail at each call in turn, or never end.
-use super::report_rows::{KEPT, KEPT_REPORT};
+//! The commands over ends that move one byte a call, fail at each call in turn, or never end, and a scenario that is cut.
+use super::report_rows::{KEPT, KEPT_REPORT, NO_REPORT};
 use super::{Command, Reader, Trouble, Writer};
 use sk_engines::CommandFault;
 use sk_text::{Counted, Sink, Source};
 use std::alloc::Global;
+use std::test::Fail;
 
 /// Each command with an input and its whole answer.
 const ANSWERS: &[(Command, &str, u8, &str)] = &[
@@ -122,30 +123,70 @@ fn run_into(alloc: Global, command: Command, input: &str, good: u64, trouble: Tr
     run(alloc, command, Reader::new(input.as_bytes()), writer)
 }
 
+// Each line of a report is one write, where the writer takes all of it.
+#[test]
+fn failing_writes_leave_whole_lines(rt: HostRuntime) -> Result<(), Fail> {
+    let mut front = Vec::new(rt.alloc());
+    for (good, line) in KEPT_REPORT.lines().enumerate() {
+        let writer = Writer {
+            good: good as u64,
+            ..Writer::new(rt.alloc())
+        };
+        let ran = run(
+            rt.alloc(),
+            Command::Run,
+            Reader::new(KEPT.as_bytes()),
+            writer,
+        );
+        let told = (ran.answer, ran.held.as_slice());
+        assert_eq!(rt;
+            told,
+            (Err(CommandFault::Write), front.as_slice()),
+            "after {good}"
+        );
+        front.extend_from_slice(line.as_bytes())?;
+        front.push(b'\n')?;
+    }
+    Ok(())
+}
+
+// Each beginning of a scenario has a report or a fault, and where it has a fault nothing is written. Which fault it is, is a
+// contract of the reader.
+#[test]
+fn cut_scenarios_have_a_report_or_one_fault(rt: HostRuntime) {
+    for length in 0..KEPT.len() {
+        let (answer, held) = Command::Run.on(rt.alloc(), &KEPT.as_bytes()[..length]);
+        let is_told = (answer, held.is_empty()) == (Ok(1), true)
+            || answer == Ok(0) && !held.is_empty();
+        assert!(rt; is_told, "cut behind {length} bytes");
+    }
+    assert!(rt; Command::Run.answers(rt.alloc(), b"", 0, NO_REPORT.as_bytes()));
+}
+
 // A reader that never ends: one byte more than the limit decides.
 #[test]
 fn endless_readers_are_refused(rt: HostRuntime) {
-    for command in [Command::Asm, Command::Check, Command::Eval, Command::List] {
+    let refusal = b"skern: line 0: over the limit\n".as_slice();
+    for (command, output) in [
+        (Command::Asm, refusal),
+        (Command::Check, refusal),
+        (Command::Eval, refusal),
+        (Command::List, refusal),
+        (Command::Run, b""),
+    ] {
         let mut reader = Counted::new(Endless { taken: 0 });
         let mut writer = Counted::new(Writer::new(rt.alloc()));
         let answer = command.run(rt.alloc(), &mut reader, &mut writer);
         let held = writer.into_inner().held;
-        assert_eq!(rt;
-            (answer, held.as_slice(), reader.into_inner().taken),
-            (
-                Ok(1),
-                b"skern: line 0: over the limit\n".as_slice(),
-                1_048_577
-            ),
-            "{command:?}"
-        );
+        let told = (answer, held.as_slice(), reader.into_inner().taken);
+        assert_eq!(rt; told, (Ok(1), output, 1_048_577), "{command:?}");
     }
 }
 
 /// Gives line feeds for ever, and counts them.
 #[derive(Drop)]
-pub struct Endless {
-    pub taken: u64,
+struct Endless {
+    taken: u64,
 }
 
 impl std::io::Read for Endless {

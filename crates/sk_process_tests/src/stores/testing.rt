@@ -8,8 +8,6 @@ use sk_table::{
     Body, INIT, LAST_PID, Life, Links, PROCESSES, Poll, ProcStore, Request, WaitOptions, Who,
     first_process, reap, reparent, wait_poll,
 };
-use sk_world::signals::SIGCHLD;
-use sk_world::{Disposition, SigSet};
 use std::alloc::Global;
 use std::process::Abort;
 
@@ -101,34 +99,6 @@ fn mark_body(body: &mut Body, subreaper: bool)
     ensures { body.new.life ≡ body.old.life }
 {
     body.subreaper = subreaper;
-}
-
-/// Says what a process does on SIGCHLD, and whether it blocks it.
-pub(crate) fn on_sigchld<S: ProcStore>(
-    store: &mut S,
-    pid: u32,
-    disposition: Disposition,
-    is_blocked: bool,
-)
-    requires { IsWorld (S.contents store.old) }
-    ensures { IsWorld (S.contents store.new) }
-{
-    if let Some(body) = store.body_mut(pid) {
-        set_sigchld(body, disposition, is_blocked, pid == INIT);
-    }
-}
-
-fn set_sigchld(body: &mut Body, disposition: Disposition, is_blocked: bool, init: bool)
-    ensures { body.new.life ≡ body.old.life }
-{
-    body.signals.set_action(SIGCHLD, disposition, init);
-    if is_blocked {
-        body.signals.set_mask(SigSet::empty().with(SIGCHLD));
-    }
-}
-
-pub(crate) fn is_subreaper<S: ProcStore>(store: &S, pid: u32) -> Option<bool> {
-    store.get(pid).map(|process| process.body.subreaper)
 }
 
 pub(crate) fn is_executed<S: ProcStore>(store: &S, pid: u32) -> Option<bool> {
