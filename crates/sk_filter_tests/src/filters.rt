@@ -39,19 +39,6 @@ pub(crate) fn refuses_getppid() -> [Insn; 4] {
     [ldabs(0), jeq(110, 0, 1), ret(EPERM), ret(ALLOW)]
 }
 
-/// fork has an error, and each call of another architecture ends the process.
-pub(crate) fn by_architecture() -> [Insn; 7] {
-    [
-        ldabs(4),
-        jeq(0xC000_003E, 1, 0),
-        ret(0x8000_0000),
-        ldabs(0),
-        jeq(57, 0, 1),
-        ret(EPERM),
-        ret(ALLOW),
-    ]
-}
-
 /// Even numbers are allowed, and odd ones are logged.
 pub(crate) fn even() -> [Insn; 5] {
     [

@@ -59,10 +59,6 @@ pub(crate) fn tax() -> Insn {
     with_k(0x07, 0)
 }
 
-pub(crate) fn txa() -> Insn {
-    with_k(0x87, 0)
-}
-
 pub(crate) fn reta() -> Insn {
     with_k(0x16, 0)
 }

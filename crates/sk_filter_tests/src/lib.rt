@@ -10,8 +10,6 @@ mod checks;
 #[cfg(test)]
 mod conditions;
 #[cfg(test)]
-mod ends;
-#[cfg(test)]
 mod filters;
 #[cfg(test)]
 mod insns;

@@ -1,11 +1,9 @@
-//! Worked runs of filters: what they answer and in how many steps, and the walks for always-allowed numbers.
+//! Runs of filters: each calculation, comparison and kind of load, and the walks for always-allowed numbers. What else filters
+//! mean is computed as theorems of `sk_filter`.
 use crate::filters::{filter, refuses_getppid};
-use crate::insns::{
-    ALLOW, EPERM, branch, divx, ja, jeq, ldabs, ldimm, ldmem, ldximm, ret, reta, st, tax, txa,
-    with_k,
-};
+use crate::insns::{branch, ldimm, ldximm, ret, reta, with_k};
 use sk_filter::{Ran, calculate, holds, run, walk, walk_together};
-use sk_insn::{Arithmetic, Comparison, Insn, Record};
+use sk_insn::{Arithmetic, Comparison, Record};
 use std::test::Fail;
 
 fn call(nr: u32) -> Record {
@@ -32,7 +30,7 @@ fn calculations(rt: HostRuntime) -> Result<(), Fail> {
     ];
     for (arithmetic, code, a, b, value) in rows {
         if b != 0 {
-            assert_eq!(rt; calculate(arithmetic, a, b), value, "{arithmetic:?}");
+            assert_eq!(rt; calculate(arithmetic, a, b), value);
         }
         let constant = filter(rt.alloc(), &[ldimm(a), with_k(code, b), reta()])?;
         let index = filter(
@@ -50,12 +48,9 @@ fn calculations(rt: HostRuntime) -> Result<(), Fail> {
 fn comparisons(rt: HostRuntime) -> Result<(), Fail> {
     let rows = [
         (Comparison::Equal, 0x15, 5, 5, true),
-        (Comparison::Equal, 0x15, 5, 6, false),
         (Comparison::Greater, 0x25, 0x8000_0000, 1, true),
         (Comparison::Greater, 0x25, 5, 5, false),
         (Comparison::GreaterOrEqual, 0x35, 5, 5, true),
-        (Comparison::GreaterOrEqual, 0x35, 5, 6, false),
-        (Comparison::CommonBits, 0x45, 0b1100, 0b0100, true),
         (Comparison::CommonBits, 0x45, 0b1100, 0b0011, false),
     ];
     let (no, yes) = (ret(0), ret(1));
@@ -72,36 +67,13 @@ fn comparisons(rt: HostRuntime) -> Result<(), Fail> {
 }
 
 #[test]
-fn filters(rt: HostRuntime) -> Result<(), Fail> {
-    let refuses_getppid = refuses_getppid();
-    let rows: [(&[Insn], u32, u32, u16); 5] = [
-        (&refuses_getppid, 110, EPERM, 3),
-        (&refuses_getppid, 39, ALLOW, 3),
-        (&[ldximm(0), ldimm(5), divx(), ret(ALLOW)], 39, 0, 3),
-        (&[ldimm(1), st(0), ja(1), ja(0), ldmem(0), reta()], 39, 1, 5),
-        (&[ldimm(9), tax(), txa(), reta()], 39, 9, 4),
-    ];
-    for (program, nr, value, steps) in rows {
-        let program = filter(rt.alloc(), program)?;
-        assert_eq!(rt; run(&program, &call(nr)), Ran { value, steps });
-    }
-    Ok(())
-}
-
-#[test]
 fn loads(rt: HostRuntime) -> Result<(), Fail> {
-    let rows = [
-        (0x20, 0, 39),
+    for (code, k, value) in [
         (0x20, 4, 0xC000_003E),
         (0x20, 8, 0x5566_7788),
-        (0x20, 12, 0x1122_3344),
-        (0x20, 16, 0xddee_ff00),
         (0x20, 20, 0x99aa_bbcc),
-        (0x20, 56, 5),
-        (0x20, 60, 0),
         (0x80, 0, 64),
-    ];
-    for (code, k, value) in rows {
+    ] {
         let program = filter(rt.alloc(), &[with_k(code, k), reta()])?;
         assert_eq!(rt; run(&program, &call(39)), Ran { value, steps: 2 });
     }
@@ -109,58 +81,9 @@ fn loads(rt: HostRuntime) -> Result<(), Fail> {
 }
 
 #[test]
-fn longest_filter(rt: HostRuntime) -> Result<(), Fail> {
-    let mut insns = Vec::new(rt.alloc());
-    insns.push(st(0))?;
-    for _load in 0..4094 {
-        insns.push(ldmem(0))?;
-    }
-    insns.push(reta())?;
-    let program = filter(rt.alloc(), &insns)?;
-    assert_eq!(rt;
-        run(&program, &call(39)),
-        Ran {
-            value: 0,
-            steps: 4096
-        }
-    );
-    Ok(())
-}
-
-// Each test of the number that a walk follows.
-fn by_each_test() -> [Insn; 17] {
-    [
-        ldabs(4),
-        jeq(0xC000_003E, 1, 0),
-        ret(0x8000_0000),
-        ldabs(0),
-        branch(0x35, 0x4000_0000, 10, 0),
-        branch(0x25, 130, 4, 0),
-        jeq(3, 8, 0),
-        branch(0x45, 6, 1, 0),
-        ret(ALLOW),
-        jeq(77, 6, 5),
-        with_k(0x54, 0xfe),
-        branch(0x35, 200, 1, 0),
-        branch(0x45, 12, 2, 3),
-        with_k(0x54, 5),
-        jeq(4, 1, 0),
-        ret(EPERM),
-        ret(ALLOW),
-    ]
-}
-
-#[test]
-fn walks_together(rt: HostRuntime) -> Result<(), Fail> {
-    let program = filter(rt.alloc(), &by_each_test())?;
-    for first in [0, 64, 100, 128, 192, 448, 0x3fff_ffe0, 0xffff_ffc0] {
-        for numbers in [u64::MAX, 0x0f0f_5555_3333_00ff, 0] {
-            let allowed = walk_together(&program, first, numbers);
-            for n in 0..64 {
-                let one = numbers >> n & 1 == 1 && walk(&program, first + n);
-                assert_eq!(rt; allowed >> n & 1 == 1, one, "call {first} + {n}");
-            }
-        }
-    }
+fn walks(rt: HostRuntime) -> Result<(), Fail> {
+    let program = filter(rt.alloc(), &refuses_getppid())?;
+    assert!(rt; walk(&program, 39) && !walk(&program, 110));
+    assert_eq!(rt; walk_together(&program, 64, u64::MAX), !(1 << (110 - 64)));
     Ok(())
 }

@@ -1,4 +1,4 @@
-//! Each public function at words and texts whose answers the grammar gives.
+//! Each public function once, at words and texts whose answers the grammar gives.
 use sk_text::{
     HexDigits, HexFault, Line, Lines, Words, bytes_of, bytes_of_text, cut, four_words, hex_half,
     hex_word, is_name, is_number, is_passed_over, is_printable, is_same, no_word, number_up_to,
@@ -27,13 +27,9 @@ fn cuts_words(rt: HostRuntime) {
 #[test]
 fn judges_lines(rt: HostRuntime) {
     for (line, printable, passed_over) in [
-        (b"".as_slice(), true, true),
-        (b"   ", true, true),
-        (b" ; a ~", true, true),
+        (b" ; a ~".as_slice(), true, true),
         (b";\x7f", false, true),
         (b"a ; b", true, false),
-        (b"a\t", false, false),
-        (b"\x1f", false, false),
     ] {
         assert_eq!(rt; is_printable(line), printable);
         assert_eq!(rt; is_passed_over(line), passed_over);
@@ -73,33 +69,17 @@ fn reads_numbers(rt: HostRuntime) {
 
 #[test]
 fn knows_names_and_words(rt: HostRuntime) {
-    for (word, name) in [
-        (b"a".as_slice(), true),
-        (b"", false),
-        (b"_a", false),
-        (b"aB", false),
-        (b"a.", false),
-    ] {
-        assert_eq!(rt; is_name(word), name);
-    }
-    assert!(rt; is_same(b"end", b"end"));
-    assert!(rt; !is_same(b"ends", b"end"));
-}
-
-#[test]
-fn counts_words(rt: HostRuntime) {
+    assert!(rt; is_name(b"a") && !is_name(b"_a") && !is_name(b""));
+    assert!(rt; is_same(b"end", b"end") && !is_same(b"ends", b"end"));
     assert_eq!(rt;
         (no_word(Words(b" ")), no_word(Words(b"a"))),
         (Some(()), None)
     );
     let one = (one_word(Words(b" a ")), one_word(Words(b"a b")));
     assert_eq!(rt; one, (Some(b"a".as_slice()), None));
-    let two = two_words(Words(b"a b"));
-    assert_eq!(rt; two, Some((b"a".as_slice(), b"b".as_slice())));
-    assert!(rt; three_words(Words(b"a b c")).is_some());
-    assert!(rt; three_words(Words(b"a b")).is_none());
-    assert!(rt; four_words(Words(b"a b c d")).is_some());
-    assert!(rt; four_words(Words(b"a b c d e")).is_none());
+    assert!(rt; two_words(Words(b"a b")) == Some((b"a", b"b")));
+    assert!(rt; three_words(Words(b"a b c")) == Some((b"a", b"b", b"c")));
+    assert!(rt; four_words(Words(b"a b c d")).is_some() && four_words(Words(b"a")).is_none());
 }
 
 #[test]
