@@ -3,10 +3,9 @@
 
 Each such run is to give the whole answer, or `skern: out of memory` with status 3, and nothing else, but for the lines of the turns
 that a scenario has made before; and whatever it gives, it is to have given back each block of memory that it took. There is a run of
-PROGRAM for every text that refuses an input, and for each scenario of `scenarios.txt`. BENCH reads scenarios, and tells a sum over all values of what it read.
-Its tasks of forks are run with every allocation refused from the first line of output on, and on a small stack, and are to give
-their whole answers, over the stores and in a kernel. The kernel is stopped by each allocation in turn, too, and is to go on with
-the same answers. Prints each run that gives something else, and at last 'N passed, M failed'."""
+PROGRAM for every text that refuses an input, and for each scenario of `scenarios.txt`. The tasks of forks of BENCH are run with
+every allocation refused from the first line of output on, and on a small stack, and are to give their whole answers, in a kernel
+over each store. The kernel is stopped by each allocation in turn, too, and is to go on with the same answers. Prints each run that gives something else, and at last 'N passed, M failed'."""
 import os
 import re
 import resource
@@ -81,79 +80,6 @@ RUNS += [("eval", RECORD + f"filter {image}\n", f"filter 0 {text}\n", 1) for ima
 RUNS += [("eval", text, NOT_UNDERSTOOD.format(line), 1) for text, line in BAD_LINES]
 RUNS += [("asm", text, f"skern: line {line}: {why}\n", 1) for text, line, why in BAD_TEXTS]
 RUNS += [(word, " " * 1048577, "skern: line 0: over the limit\n", 1) for word in ("eval", "check", "asm", "list")]
-U64 = 2**64
-# Scenarios, with the setting that each stands for: turns, the mark of subreapers, images, and programs, which are an
-# owner, whether they set the user id, and calls; a call is its number, its arguments, and the program of its child.
-SETTINGS = [
-    ("", (1000, 0, [], [])),
-    ("""\
-filter f
-ldabs 0
-jeq 110 +0 +1
-ret errno/1
-ret allow
-end
-program init
-setuid 1000
-seccomp 1 0 @f
-prctl 38 1 0 0 0
-seccomp 1 0 @f
-fork kid
-wait4 -1 0 0
-end
-program kid
-execve @su
-end
-program su owner 0 setuid
-geteuid
-getppid
-end
-""", (1000, 0, [REFUSES_GETPPID], [
-        (0, 0, [(105, [1000], None), (317, [1], None), (157, [38, 1], None), (317, [1], None), (57, [], 1), (61, [U64 - 1], None)]),
-        (0, 0, [(59, [2], None)]),
-        (0, 1, [(107, [], None), (110, [], None)]),
-    ])),
-    ("""\
-; names stand before what they name
-program init owner 4294967294
-kill &again -0 0x10 @g 18446744073709551615 -9223372036854775808
-fork again
-call 4294967295 1 2 3 4 5 6
-end
-filter e
-end
-subreapers
-filter g
- ; bytes
-bytes 0600 0000
-bytes
-bytes 0000fF 7f
-end
-program again setuid
-end
-turns 0007""", (7, 1, ["", "060000000000ff7f"], [
-        (4294967294, 0, [(62, [3, 0, 16, 1, U64 - 1, U64 - 2**63], None), (57, [], 1), (4294967295, [1, 2, 3, 4, 5, 6], None)]),
-        (0, 1, []),
-    ])),
-    ("""\
-filter f
-ldabs 0
-jeq 110 refused +0
-ret allow
-refused:
-ret errno/1
-end
-program init
-seccomp 1 0 @f
-prctl 22 2 @last
-end
-filter last
-bytes 06000000 0000ff7f
-end
-""", (1000, 0, ["2000000000000000" "150001006e000000" "060000000000ff7f" "0600000001000500", "060000000000ff7f"], [
-        (0, 0, [(317, [1], None), (157, [22, 2, 1], None)]),
-    ])),
-]
 # Texts that are no scenario.
 BAD_SCENARIOS = [
     ("program init\ngetpid\n", 3, "not understood"),
@@ -168,29 +94,6 @@ BAD_SCENARIOS = [
 ]
 
 
-def values_of(setting):
-    """All values of a setting, in the order in which BENCH takes them."""
-    turns, subreapers, images, programs = setting
-    yield from (turns, subreapers, len(images))
-    for image in map(bytes.fromhex, images):
-        yield len(image)
-        yield from image
-    yield len(programs)
-    for owner, setuid, calls in programs:
-        yield from (owner, setuid, len(calls))
-        for number, arguments, child in calls:
-            yield number
-            yield from arguments + [0] * (6 - len(arguments))
-            yield 0 if child is None else child + 1
-
-
-def told(setting):
-    total = 0
-    for value in values_of(setting):
-        total = (31 * total + value) % U64
-    return f"filters {len(setting[2])} programs {len(setting[3])} sum {total}\n"
-
-
 def worked_scenarios():
     """Each scenario of scenarios.txt with its report: a title is behind '# ', and a line '>' stands between the two."""
     with open(os.path.join(HERE, "scenarios.txt"), encoding="utf-8") as file:
@@ -202,27 +105,16 @@ SCENARIOS = [(text, report, 0) for text, report in worked_scenarios()]
 # The last one attaches its filter in turn 5, so one of its runs is refused memory behind four turns.
 FOUR_TURNS = SCENARIOS[-1][0]
 SCENARIOS += [(text, f"skern: line {line}: {why}\n", 1) for text, line, why in BAD_SCENARIOS]
-
-
-def reading(text):
-    """The task of BENCH that reads a scenario."""
-    return f"scenario {len(text)}\n{text}"
-
-
-READINGS = [(reading(text), told(setting), 0) for text, setting in SETTINGS]
-READINGS += [(reading(text), f"skern: line {line}: {why}\n", 1) for text, line, why in BAD_SCENARIOS]
 OUT_OF_MEMORY = b"skern: out of memory\n"
 MOST_ALLOCATIONS = 2000
 # Not enough for a call for each filter of the longest chain.
 STACK = 256 * 1024
 # What BENCH writes of forks, with memory and without.
 FORKED = "6554 filters\n"
-for store in ("list", "slots"):
-    # As many children as there is room for, and as many others once those are gone: 2 to 1024 and 1025 to 2047.
-    for pids in (range(2, 1025), range(1025, 2048)):
-        FORKED += f"{store}: 1023 forks, pids {sum(pids)} in sum, 1023 with the filters\n"
+# As many children as there is room for, and as many others once those are gone: 2 to 1024 and 1025 to 2047.
+for pids in (range(2, 1025), range(1025, 2048)):
+    FORKED += f"1023 forks, pids {sum(pids)} in sum, 1023 with the filters\n"
 FORKED += "memory is "
-FORKED_IN_KERNEL = f"6554 filters\n1023 forks, pids {sum(range(2, 1025))} in sum\n1023 children with the filters\nmemory is "
 # What it writes of a kernel that stops, and behind how many of its ten events a kernel wants memory: each that attaches a filter.
 ANSWERED = b"10 answers\n"
 ATTACHES = {0, 1, 3, 7, 8}
@@ -247,7 +139,6 @@ def main():
     program, bench = (os.path.abspath(name) for name in sys.argv[1:])
     runs = [([program, word], text, output, status, {b""}) for word, text, output, status in RUNS]
     runs += [([program, "run"], text, output, status, fronts_of(output)) for text, output, status in SCENARIOS]
-    runs += [([bench], text, output, status, {b""}) for text, output, status in READINGS]
     turns = set()
     passed = failed = 0
     with tempfile.TemporaryDirectory() as folder:
@@ -268,10 +159,10 @@ def main():
             resource.setrlimit(resource.RLIMIT_STACK, (STACK, STACK))
 
         # The last line says that the shim did refuse.
-        for task, forked in [("forks stores\n", FORKED), ("forks kernel\n", FORKED_IN_KERNEL)]:
+        for task in ("forks list\n", "forks slots\n"):
             for refused, memory in [(0, "there"), ("after-output", "refused")]:
                 answer, left = run([bench], task, refused, small_stack)
-                if answer == ((forked + memory + "\n").encode(), 0) and left == 0:
+                if answer == ((FORKED + memory + "\n").encode(), 0) and left == 0:
                     passed += 1
                 else:
                     failed += 1

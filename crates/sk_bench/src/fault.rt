@@ -1,9 +1,7 @@
 //! The faults that a task ends with: their texts, their statuses, and which fault of a library becomes which.
 use sk_insn::ImageFault;
 use sk_kernel::Stopped;
-use sk_profile::ProfileFault;
 use sk_run::EngineFault;
-use sk_scenario::ScenarioFault;
 use sk_text::{HexFault, ReadFault};
 use std::alloc::{AllocError, AllocFailed};
 use std::io;
@@ -25,24 +23,9 @@ pub enum Fault {
     /// A filter is refused.
     #[error("a filter is refused")]
     Refused,
-    /// The profile has no filter.
-    #[error("the profile has no filter")]
-    Profile,
-    /// There is no room for a process.
-    #[error("no room")]
-    NoRoom,
-    /// A process has no child that can be taken out.
-    #[error("no child")]
-    NoChild,
-    /// A kernel has answered otherwise than it is to.
+    /// A store or a kernel has answered otherwise than it is to.
     #[error("another answer")]
     Otherwise,
-    /// A kernel has stopped, and is not to go on.
-    #[error("stopped")]
-    Stopped,
-    /// What is to be read as a scenario is none.
-    #[error("{0}")]
-    Scenario(ScenarioFault),
     /// A run did not come to its end.
     #[error("{0}")]
     Engine(#[from] EngineFault),
@@ -55,9 +38,8 @@ impl Fault {
     /// The status that the program ends with, as `skern` has it: 3 where a read, a write or memory failed.
     pub fn status(self) -> u8 {
         match self {
-            Fault::NotUnderstood | Fault::Refused | Fault::Profile => 1,
-            Fault::NoRoom | Fault::NoChild | Fault::Otherwise | Fault::Stopped => 1,
-            Fault::Scenario(_) | Fault::Engine(EngineFault::Scenario(_)) => 1,
+            Fault::NotUnderstood | Fault::Refused | Fault::Otherwise => 1,
+            Fault::Engine(EngineFault::Scenario(_)) => 1,
             Fault::Read | Fault::Write | Fault::Memory | Fault::Engine(_) => 3,
         }
     }
@@ -96,7 +78,7 @@ impl From<ReadFault> for Fault {
 
 impl From<Stopped> for Fault {
     fn from(_stopped: Stopped) -> Fault {
-        Fault::Stopped
+        Fault::Memory
     }
 }
 
@@ -114,26 +96,6 @@ impl From<ImageFault> for Fault {
         match fault {
             ImageFault::Ragged | ImageFault::Empty | ImageFault::TooLong => Fault::Refused,
             ImageFault::Memory => Fault::Memory,
-        }
-    }
-}
-
-impl From<ProfileFault> for Fault {
-    fn from(fault: ProfileFault) -> Fault {
-        match fault {
-            ProfileFault::Rule(_) | ProfileFault::Clashes(_) | ProfileFault::TooLong => {
-                Fault::Profile
-            }
-            ProfileFault::Memory => Fault::Memory,
-        }
-    }
-}
-
-impl From<ScenarioFault> for Fault {
-    fn from(fault: ScenarioFault) -> Fault {
-        match fault {
-            ScenarioFault::Memory => Fault::Memory,
-            _ => Fault::Scenario(fault),
         }
     }
 }

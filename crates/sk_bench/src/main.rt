@@ -1,19 +1,16 @@
-//! What `bench/run` measures, and whether the filter of docker's default profile is as short as wanted: the tasks of
-//! standard input, one after the other. What most of them come to is a sum of all that came out, so that nothing of the
-//! work can be left out. `tools/refuse_memory.py` has scenarios read under refused memory, and processes forked.
+//! What `bench/run` measures: the tasks of standard input, one after the other. What most of them come to is a sum of all that
+//! came out, so that nothing of the work can be left out. `tools/refuse_memory.py` has processes forked under refused memory.
 //!
-//! A line begins each task: `filters 502` (`filters`), `profile 6698` (`profile`), `store slots fork 4 3` (`stores`),
-//! `forks kernel` (`forks`), `scenario 228` (`reads`) or `report twice 31` (`runs`), where the number at the end is that of
-//! the bytes behind the line which belong to the task; a task of a store and one of forks have none.
+//! A line begins each task: `filters 502` (`filters`), `store slots fork 4 3` (`stores`), `forks list` (`forks`) or
+//! `report twice 31` (`runs`), where the number at the end is that of the bytes behind the line which belong to the task; a
+//! task of a store and one of forks have none.
 #![tactic(auto)]
 
 mod fault;
 mod filters;
 mod forks;
 mod numbers;
-mod profile;
 mod programs;
-mod reads;
 mod runs;
 mod stores;
 
@@ -59,22 +56,12 @@ fn rest_after<'a>(rt: &HostRuntime, text: &'a [u8]) -> Result<&'a [u8], Fault> {
             filters::tell(rt, task)?;
             Ok(behind)
         }
-        Some(b"profile") => {
-            let (tree, behind) = parted(behind, words.next())?;
-            profile::tell(rt, tree)?;
-            Ok(behind)
-        }
         Some(b"store") => {
             stores::tell(rt, words)?;
             Ok(behind)
         }
         Some(b"forks") => {
             forks::tell(rt, words)?;
-            Ok(behind)
-        }
-        Some(b"scenario") => {
-            let (scenario, behind) = parted(behind, words.next())?;
-            reads::tell(rt, scenario)?;
             Ok(behind)
         }
         Some(b"report") => {

@@ -1,8 +1,6 @@
 //! Whole runs: a scenario over the store that a word names, or over slots with each line of the report made and
 //! written twice, so that the text alone can be told from the turns.
 
-mod way;
-
 use crate::fault::Fault;
 use sk_run::{EngineFault, Machine, ReportLine, engine_with, turn_line};
 use sk_scenario::read;
@@ -11,7 +9,6 @@ use sk_text::{Counted, Sink, send};
 use std::alloc::Global;
 use std::io;
 use std::io::{BufWriter, Write};
-use way::Way;
 
 // How many bytes are gathered before they are written.
 const BLOCK: usize = 65_536;
@@ -22,17 +19,17 @@ const MOST_TURNS: u32 = 100_000;
 /// Writes the report of a scenario in the way that the word names.
 pub fn report(rt: &HostRuntime, way: Option<&[u8]>, text: &[u8]) -> Result<(), Fault> {
     let alloc = rt.alloc();
-    let way = way.and_then(Way::named).ok_or(Fault::NotUnderstood)?;
     let mut reader = Counted::new(text);
     let mut writer = Counted::new(BufWriter::with_capacity(alloc, BLOCK, io::writer(rt))?);
     match way {
-        Way::List => {
+        Some(b"list") => {
             engine_with::<ListStore, _, _>(alloc, &mut reader, &mut writer)?;
         }
-        Way::Slots => {
+        Some(b"slots") => {
             engine_with::<SlotStore, _, _>(alloc, &mut reader, &mut writer)?;
         }
-        Way::Twice => written_twice(alloc, text, &mut writer)?,
+        Some(b"twice") => written_twice(alloc, text, &mut writer)?,
+        _ => return Err(Fault::NotUnderstood),
     }
     writer.into_inner().flush()?;
     Ok(())
