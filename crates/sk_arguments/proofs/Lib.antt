@@ -1,0 +1,3 @@
+mod Narrow
+mod Named
+pub mod ReadsBack

@@ -1,0 +1,5 @@
+pub mod Reading
+pub mod Constants
+pub mod Naming
+pub mod Laws
+pub mod Worked
