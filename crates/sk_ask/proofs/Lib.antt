@@ -1,4 +1,7 @@
 pub mod Refusing
+pub mod Shown
+pub mod Faults
+pub mod Said
 pub mod Architectures
 mod Troubles
 pub mod Given

@@ -15,6 +15,7 @@ question_of asked = record {
   machine = asked.machine;
   arch = asked.arch;
   awaits = asked.awaits;
+  numbers = asked.numbers;
   native = asked.native;
   runc = asked.runc;
   help = asked.help;

@@ -2,6 +2,8 @@
 use Rattle.std.specs.Prelude.{ℕ, ◌==◌, ◌&&◌, ◌++◌, nat_lt, is_some, not, Bool, true, false, if◌then◌else◌, List, [], ◌∷◌, length, slice_get, codes, slice_index, Option, Some, None, Result, Ok, Err}
 use Rattle.std.specs.Str.{bytes_eq}
 use Rattle.sk_names.specs.declared.architecture.Architecture.{Architecture}
+use Rattle.sk_arguments.specs.declared.naming.Naming.{Naming}
+use Rattle.sk_arguments.specs.declared.naming.Naming.TheVariants.{Numbers, Constants}
 use Rattle.sk_names.specs.Architectures.{architecture_named, is_big_endian_of}
 use Rattle.sk_profile_json.specs.declared.context.Kernel.{Kernel as Version}
 use Rattle.sk_profile_json.specs.declared.machine.Machine.{Machine as Host}
@@ -12,11 +14,11 @@ use Rattle.sk_ask.specs.Complaints.{of_word}
 use Rattle.sk_ask.specs.declared.word.Valued.{Valued}
 use Rattle.sk_ask.specs.declared.word.Valued.TheVariants.{Call, Cap, Kernel, Machine, Arch}
 use Rattle.sk_ask.specs.declared.word.Word.{Word}
-use Rattle.sk_ask.specs.declared.word.Word.TheVariants.{Calls, Filter, When, Diff, Replay, Why, Show, Arches}
+use Rattle.sk_ask.specs.declared.word.Word.TheVariants.{Calls, Filter, When, Diff, Lint, Replay, Why, Show, Arches}
 
 -- the word, with the options that it alone has; the word behind `--call`, the capabilities behind each `--cap`, the version behind
 -- `--kernel`, the machine behind `--machine`, and the architecture behind `--arch`; the option whose word is awaited; whether there
--- was `--native`, `--runc` or `--help`; and the names of the files
+-- was `--numbers`, `--native`, `--runc` or `--help`; and the names of the files
 pub record Question : Type 0 where
   pub word : Word
   pub call : Option (List ℕ)
@@ -25,6 +27,7 @@ pub record Question : Type 0 where
   pub machine : Option Host
   pub arch : Option Architecture
   pub awaits : Option Valued
+  pub numbers : Bool
   pub native : Bool
   pub runc : Bool
   pub help : Bool
@@ -40,6 +43,7 @@ nothing_asked word = record {
   machine = None;
   arch = None;
   awaits = None;
+  numbers = false;
   native = false;
   runc = false;
   help = false;
@@ -51,6 +55,7 @@ word_name (Calls examples) = codes "calls"
 word_name (Filter raw) = codes "filter"
 word_name (When dot) = codes "when"
 word_name (Diff stricter) = codes "diff"
+word_name (Lint all) = codes "lint"
 word_name Replay = codes "replay"
 word_name Why = codes "why"
 word_name Show = codes "show"
@@ -62,6 +67,7 @@ word_named name =
     else if bytes_eq name (codes "filter") then Some (Filter false)
     else if bytes_eq name (codes "when") then Some (When false)
     else if bytes_eq name (codes "diff") then Some (Diff false)
+    else if bytes_eq name (codes "lint") then Some (Lint false)
     else if bytes_eq name (codes "replay") then Some Replay
     else if bytes_eq name (codes "why") then Some Why
     else if bytes_eq name (codes "show") then Some Show
@@ -103,9 +109,11 @@ tells_calls (Calls examples) = true
 tells_calls (When dot) = true
 tells_calls word = false
 
--- the calls of one architecture are told of by all words but two: `filter` tells of none, and `arches` of all
+-- the calls of an architecture that is named are told of by all words but three: `filter` tells of none, `arches` of all, and `lint` of
+-- those of x86-64
 abbrev pub tells_of_one : Word → Bool
 tells_of_one (Filter raw) = false
+tells_of_one (Lint all) = false
 tells_of_one Arches = false
 tells_of_one word = true
 
@@ -183,17 +191,30 @@ with_own_flag (Calls examples) text = if bytes_eq text (codes "--examples") then
 with_own_flag (Filter raw) text = if bytes_eq text (codes "--raw") then Some (Filter true) else None
 with_own_flag (When dot) text = if bytes_eq text (codes "--dot") then Some (When true) else None
 with_own_flag (Diff stricter) text = if bytes_eq text (codes "--stricter") then Some (Diff true) else None
+with_own_flag (Lint all) text = if bytes_eq text (codes "--all") then Some (Lint true) else None
 with_own_flag word text = None
 
 abbrev pub with_name_or_flag : Question → List ℕ → Option Word → Result Question (List ℕ)
 with_name_or_flag asked text (Some word) = Ok (record asked { word = word })
 with_name_or_flag asked text None = with_name asked text
 
--- or one that all words have, where there may be a profile
+-- conditions and calls are written by these, with the constants of Linux's headers unless these are not wanted
+abbrev pub tells_conditions : Word → Bool
+tells_conditions (When dot) = true
+tells_conditions (Diff stricter) = true
+tells_conditions (Lint all) = true
+tells_conditions word = false
+
+abbrev pub naming_asked : Bool → Naming
+naming_asked true = Numbers
+naming_asked false = Constants
+
+-- or one that several words have: all do, where there may be a profile
 abbrev pub with_flag : Question → List ℕ → Result Question (List ℕ)
 with_flag asked text =
     if bytes_eq text (codes "--native") then Ok (record asked { native = true })
     else if bytes_eq text (codes "--runc") then Ok (record asked { runc = true })
+    else if tells_conditions asked.word && bytes_eq text (codes "--numbers") then Ok (record asked { numbers = true })
     else with_name_or_flag asked text (with_own_flag asked.word text)
 
 abbrev pub with_option : Question → List ℕ → Option Valued → Result Question (List ℕ)

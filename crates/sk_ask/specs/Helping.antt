@@ -1,8 +1,8 @@
 -- What `ask --help` and `ask WORD --help` say.
 use Rattle.std.specs.Prelude.{ℕ, List}
 use Rattle.sk_ask.specs.declared.word.Word.{Word}
-use Rattle.sk_ask.specs.declared.word.Word.TheVariants.{Calls, Filter, When, Diff, Replay, Why, Show, Arches}
-use Rattle.sk_ask.specs.declared.help.TheConstants.{HELP, CALLS_HELP, FILTER_HELP, WHEN_HELP, DIFF_HELP, REPLAY_HELP, WHY_HELP, SHOW_HELP, ARCHES_HELP}
+use Rattle.sk_ask.specs.declared.word.Word.TheVariants.{Calls, Filter, When, Diff, Lint, Replay, Why, Show, Arches}
+use Rattle.sk_ask.specs.declared.help.TheConstants.{HELP, CALLS_HELP, FILTER_HELP, WHEN_HELP, DIFF_HELP, LINT_HELP, REPLAY_HELP, WHY_HELP, SHOW_HELP, ARCHES_HELP}
 
 abbrev pub help_text : List ℕ
 help_text = HELP.now
@@ -12,6 +12,7 @@ word_help_text (Calls examples) = CALLS_HELP.now
 word_help_text (Filter raw) = FILTER_HELP.now
 word_help_text (When dot) = WHEN_HELP.now
 word_help_text (Diff stricter) = DIFF_HELP.now
+word_help_text (Lint all) = LINT_HELP.now
 word_help_text Replay = REPLAY_HELP.now
 word_help_text Why = WHY_HELP.now
 word_help_text Show = SHOW_HELP.now

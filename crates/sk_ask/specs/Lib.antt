@@ -6,7 +6,10 @@ pub mod Asking
 pub mod Calls
 pub mod CallsText
 pub mod Contexts
+pub mod Concluding
 pub mod Diffs
+pub mod Lints
+pub mod Said
 pub mod Endings
 pub mod FilterText
 pub mod Helping

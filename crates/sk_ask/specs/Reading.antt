@@ -1,5 +1,5 @@
 -- What is known of filters that were read from files by their names.
-use Rattle.std.specs.Prelude.{ℕ, ◌≡◌, ◌⊎◌, Bool, List, Some, Result, Ok, Err, slice_get, ⊤}
+use Rattle.std.specs.Prelude.{ℕ, ◌≡◌, ◌⊎◌, Bool, List, Some, Result, Ok, Err, map, slice_get, ⊤}
 use Rattle.sk_insn.specs.declared.insn.Insn.{Insn}
 use Rattle.sk_ask.specs.declared.fault.Refused.{Refused}
 use Rattle.sk_ask.specs.Filters.{Filters, filters_in, chain_of}
@@ -31,7 +31,24 @@ judged files = elim (filters_in files) [
   | Ok found ↦ with_chain found (chain_of found)
 ]
 
+-- ---- files that were read
+
+-- their bytes, the filters that they stand for, the chain of these, and the lines of what is told of them
+pub record Read : Type 0 where
+  pub files : List (List ℕ)
+  pub found : Filters
+  pub chain : List (List Insn)
+  pub notes : List ℕ
+
 -- ---- what the code's answers say
+
+abbrev pub read_of : Given → Read
+read_of given = record {
+  files = map (λ file. file.items) given.files.items;
+  found = filters_of given.found;
+  chain = given.chain;
+  notes = given.notes.items;
+}
 
 abbrev pub pair_of : Given → Filters × List (List Insn)
 pair_of given = (filters_of given.found, given.chain)
@@ -45,13 +62,12 @@ IsReadAs names (Err trouble.Memory) said = ⊤
 
 -- ---- files by their names
 
--- these are the filters in the files with these names, and their chain, where a profile stands for its filter, and bytes may be asked to have
--- the highest byte first; and these lines
--- are told of them
-abbrev pub ReadsFilters : Bool → (List ℕ → Held) → Context → List (List ℕ) → Filters → List (List Insn) → List ℕ → Type 0
-ReadsFilters big held context names found chain notes =
-    (files images : List (List ℕ)) × AreContents 1048576 held names files
-    × StandFor big context names files images notes × (judged images ≡ Ok (found, chain))
+-- this is what the files with these names hold, the filters in them and their chain, where a profile stands for its filter, and bytes may be
+-- asked to have the highest byte first; and these lines are told of them
+abbrev pub ReadsFilters : Bool → (List ℕ → Held) → Context → List (List ℕ) → Read → Type 0
+ReadsFilters big held context names read =
+    (images : List (List ℕ)) × AreContents 1048576 held names read.files
+    × StandFor big context names read.files images read.notes × (judged images ≡ Ok (read.found, read.chain))
 
 -- what the files stand for is refused, and the line names the file
 abbrev pub IsRefusedIn : Bool → Context → List (List ℕ) → List (List ℕ) → Trouble → Type 0

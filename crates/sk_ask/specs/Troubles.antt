@@ -1,9 +1,7 @@
 -- Endings without an answer, by their reasons.
 use Rattle.std.specs.Prelude.{ℕ, ◌≡◌, ◌⊎◌, Bool, List, [], ◌∷◌, Err}
-use Rattle.sk_insn.specs.declared.insn.Insn.{Insn}
 use Rattle.sk_profile_json.specs.declared.context.Context.{Context}
-use Rattle.sk_ask.specs.Filters.{Filters}
-use Rattle.sk_ask.specs.Reading.{ReadsFilters, IsRefusedOf}
+use Rattle.sk_ask.specs.Reading.{Read, ReadsFilters, IsRefusedOf}
 use Rattle.sk_ask.specs.Shelves.{Held}
 use Rattle.sk_ask.specs.declared.trouble.Trouble.{Trouble}
 use Rattle.sk_ask.specs.Endings.{Ending, ending_of, no_memory}
@@ -18,13 +16,13 @@ abbrev pub OfFirst : List (List ℕ) → Ending → (List ℕ → List (List ℕ
 OfFirst [] ending P = ending ≡ no_memory
 OfFirst (first ∷ others) ending P = P first others
 
--- what files with some names end as, where this is so of their filters, of the chain that they make and of what is told of profiles
+-- what files with some names end as, where this is so of them as they were read
 abbrev pub Over : Type 1
-Over = List (List ℕ) → Ending → (Filters → List (List Insn) → List ℕ → Type 0) → Type 0
+Over = List (List ℕ) → Ending → (Read → Type 0) → Type 0
 
 -- the files make a chain, and it is so; or one of them is refused or not read. Bytes may have the highest byte of a number first,
 -- where that is asked for
 abbrev pub OfFiles : Bool → (List ℕ → Held) → Context → Over
 OfFiles big held context names ending P =
-    ((found : Filters) × (chain : List (List Insn)) × (notes : List ℕ) × ReadsFilters big held context names found chain notes × P found chain notes)
+    ((read : Read) × ReadsFilters big held context names read × P read)
     ⊎ IsTrouble ending (IsRefusedOf big held context names)

@@ -1,12 +1,10 @@
 -- What `ask why` tells.
-use Rattle.std.specs.Prelude.{ℕ, ◌≡◌, ◌⊎◌, ◌++◌, false, List, [], codes, Ok, Err, ⊤}
+use Rattle.std.specs.Prelude.{ℕ, ◌≡◌, ◌⊎◌, ◌++◌, false, List, codes, Ok, Err, ⊤}
 use Rattle.sk_insn.specs.declared.insn.Insn.{Insn}
 use Rattle.sk_insn.specs.declared.record.Record.{Record}
 use Rattle.sk_names.specs.declared.architecture.Architecture.{Architecture}
-use Rattle.sk_replay.specs.declared.fault.CallFault.{CallFault}
-use Rattle.sk_replay.specs.declared.fault.CallFault.TheVariants.{NoCall}
-use Rattle.sk_replay.specs.CallWords.{call_of, name_part}
-use Rattle.sk_replay.specs.Faults.{fault_text}
+use Rattle.sk_replay.specs.CallWords.{call_meant, name_part}
+use Rattle.sk_replay.specs.Faults.{Fault, no_call, fault_text, shown_behind}
 use Rattle.sk_show.specs.PathText.{TellsWhy}
 use Rattle.sk_ask.specs.declared.trouble.Trouble.{Trouble}
 use Rattle.sk_ask.specs.declared.trouble.Trouble.TheVariants.{Refused, Reading, Memory}
@@ -14,14 +12,17 @@ use Rattle.sk_ask.specs.Complaints.{of_word}
 use Rattle.sk_ask.specs.Endings.{Ending, answered}
 use Rattle.sk_ask.specs.Troubles.{IsTrouble}
 
--- the line that refuses a word which stands for no call
-abbrev pub fault_line : List ℕ → CallFault → List ℕ
-fault_line word NoCall = of_word (codes "no call is named ") (name_part word)
-fault_line word fault = of_word (codes "why: " ++ fault_text fault) []
+-- the line that refuses a word which stands for no call, whose name may be known
+abbrev pub other_line : Fault → List ℕ
+other_line fault = of_word (codes "why: " ++ fault_text fault) (shown_behind fault)
+
+abbrev pub fault_line : List ℕ → Fault → List ℕ
+fault_line word no_call = of_word (codes "no call is named ") (name_part word)
+fault_line word fault = other_line fault
 
 -- a word stands for no call, and the line says so
 abbrev pub IsFaultOf : Architecture → List ℕ → Trouble → Type 0
-IsFaultOf by word (Refused line) = (fault : CallFault) × (call_of by word ≡ Err fault) × (line.items ≡ fault_line word fault)
+IsFaultOf by word (Refused line) = (fault : Fault) × (call_meant by word ≡ Err fault) × (line.items ≡ fault_line word fault)
 IsFaultOf by word (Reading line) = ⊥
 IsFaultOf by word Memory = ⊤
 
@@ -31,4 +32,4 @@ TellsWhyOf by call chain notes ending = (text : List ℕ) × TellsWhy by chain c
 
 -- what is so of the call that the word stands for; or it stands for none
 abbrev pub OfMeant : Architecture → List ℕ → Ending → (Record → Type 0) → Type 0
-OfMeant by word ending P = ((call : Record) × (call_of by word ≡ Ok call) × P call) ⊎ IsTrouble ending (IsFaultOf by word)
+OfMeant by word ending P = ((call : Record) × (call_meant by word ≡ Ok call) × P call) ⊎ IsTrouble ending (IsFaultOf by word)

@@ -1,24 +1,27 @@
-//! The analysis of filters that `ask` stands on: which conditions a verdict has, and whether two chains answer the same.
+//! The analysis of filters that `ask` stands on: which conditions a verdict has, whether two chains answer the same, and whether a
+//! chain answers the same to calls that are the same one to Linux.
 ghost use Rattle.std.specs.Prelude.{◌≡◌, ◌≤◌, ◌==◌, ◌+◌, ◌^◌, ℕ, Bool, false, IfOk, string_bytes};
 ghost use Rattle.std.specs.List.{All};
 ghost use Rattle.sk_conditions.specs.Followed.{AreFollowed};
 ghost use Rattle.sk_conditions.specs.Steps.{GoOneWay, NeverPart};
 ghost use Rattle.sk_when.specs.Verdicts.{ShowsEach};
-ghost use Rattle.sk_filter.specs.Chains.{cost_of};
+ghost use Rattle.sk_filter.specs.Chains.{IsWithinLimit, cost_of};
 ghost use Rattle.sk_show.specs.Lines.{AreLinesOf, end_told, first_told};
 ghost use Rattle.sk_ask.specs.Steps.{MayBeSpent};
 ghost use Rattle.sk_when.specs.Diffs.{IsComparison};
+ghost use Rattle.sk_when.specs.Lints.{IsLint};
 ghost use Rattle.sk_when.specs.Picture.{IsPicture};
 ghost use Rattle.sk_when.specs.Telling.{TellsWhen};
 
+use sk_arguments::Naming;
 use sk_filter::Chain;
 use sk_names::Architecture;
 use sk_show::{Line, Options};
-use sk_when::{Budget, Budgets, Comparison, Relation};
+use sk_when::{Budget, Budgets, Comparison, Linted, Relation, Remarks};
 use std::alloc::{AllocError, Global};
 
 /// Analyses chains, as far as the steps reach that it is given.
-/// Where all calls of each row go one way through each filter, `lines`, `when` and `diff` use the steps of no row up.
+/// Where all calls of each row go one way through each filter, `lines`, `when`, `diff` and `lint` use the steps of no row up.
 pub trait Analysis {
     // Whether it may use up so many steps.
     ghost may_spend: { Self → ℕ → Bool };
@@ -40,12 +43,13 @@ pub trait Analysis {
     fn when(
         &self,
         alloc: Global,
+        naming: Naming,
         architecture: Architecture,
         chain: &Chain,
         call: Option<u32>,
         budgets: &mut Budgets,
     ) -> Result<String, AllocError>
-        ensures text { IfOk result (λ text. TellsWhen architecture call chain.now budgets.new.is_spent (string_bytes text)) }
+        ensures text { IfOk result (λ text. TellsWhen naming architecture call chain.now budgets.new.is_spent (string_bytes text)) }
         ensures spent { budgets.old.is_spent ≡ false → MayBeSpent (may_spend self.now) budgets.old.steps budgets.new.is_spent }
         ensures one_way { NeverPart (first_told call) (end_told call) chain.now → budgets.old.is_spent ≡ false → budgets.new.is_spent ≡ false };
 
@@ -65,15 +69,31 @@ pub trait Analysis {
     fn diff(
         &self,
         alloc: Global,
+        naming: Naming,
         architecture: Architecture,
         relation: Relation,
         old: &Chain,
         new: &Chain,
         budgets: &mut Budgets,
     ) -> Result<Comparison, AllocError>
-        ensures compared { IfOk result (λ it. IsComparison architecture relation old.now new.now budgets.new.is_spent it.finding (string_bytes it.text)) }
+        ensures compared { IfOk result (λ it. IsComparison naming architecture relation old.now new.now budgets.new.is_spent it.finding (string_bytes it.text)) }
         ensures spent { budgets.old.is_spent ≡ false → MayBeSpent (may_spend self.now) budgets.old.steps budgets.new.is_spent }
         ensures one_way { NeverPart 0 (2 ^ 32) old.now → NeverPart 0 (2 ^ 32) new.now → budgets.old.is_spent ≡ false → budgets.new.is_spent ≡ false };
+
+    /// Looks for calls of a chain that are the same one to Linux and get other verdicts.
+    fn lint<R: Remarks>(
+        &self,
+        alloc: Global,
+        naming: Naming,
+        all: bool,
+        remarks: &R,
+        chain: &Chain,
+        budgets: &mut Budgets,
+    ) -> Result<Linted, AllocError>
+        requires limited { IsWithinLimit chain.now }
+        ensures linted { IfOk result (λ it. IsLint chain.now all naming (R.remark remarks.now) budgets.new.is_spent it.finding (string_bytes it.text) (string_bytes it.notes)) }
+        ensures spent { budgets.old.is_spent ≡ false → MayBeSpent (may_spend self.now) budgets.old.steps budgets.new.is_spent }
+        ensures one_way { NeverPart 0 (2 ^ 32) chain.now → budgets.old.is_spent ≡ false → budgets.new.is_spent ≡ false };
 }
 
 /// That by decision trees. How many steps it takes where calls part is not known.
@@ -98,12 +118,13 @@ impl Analysis for Trees {
     fn when(
         &self,
         alloc: Global,
+        naming: Naming,
         architecture: Architecture,
         chain: &Chain,
         call: Option<u32>,
         budgets: &mut Budgets,
     ) -> Result<String, AllocError> {
-        sk_when::when(alloc, architecture, chain, call, budgets)
+        sk_when::when(alloc, naming, architecture, chain, call, budgets)
     }
 
     fn dot(
@@ -119,12 +140,25 @@ impl Analysis for Trees {
     fn diff(
         &self,
         alloc: Global,
+        naming: Naming,
         architecture: Architecture,
         relation: Relation,
         old: &Chain,
         new: &Chain,
         budgets: &mut Budgets,
     ) -> Result<Comparison, AllocError> {
-        sk_when::diff(alloc, architecture, relation, old, new, budgets)
+        sk_when::diff(alloc, naming, architecture, relation, old, new, budgets)
+    }
+
+    fn lint<R: Remarks>(
+        &self,
+        alloc: Global,
+        naming: Naming,
+        all: bool,
+        remarks: &R,
+        chain: &Chain,
+        budgets: &mut Budgets,
+    ) -> Result<Linted, AllocError> {
+        sk_when::lint(alloc, naming, all, remarks, chain, budgets)
     }
 }

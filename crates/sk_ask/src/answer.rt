@@ -1,10 +1,8 @@
 //! What the program answers, and what its words tell of filters.
-ghost use Rattle.std.specs.Prelude.{ℕ, List};
-ghost use Rattle.sk_insn.specs.declared.insn.Insn.{Insn};
+ghost use Rattle.std.specs.Prelude.{ℕ};
 ghost use Rattle.sk_ask.specs.Counts.{CountsReads};
 ghost use Rattle.sk_ask.specs.Endings.{Ending, MayEnd, ending_of};
-ghost use Rattle.sk_ask.specs.Filters.{Filters as FoundFilters};
-ghost use Rattle.sk_ask.specs.Finding.{filters_of};
+ghost use Rattle.sk_ask.specs.Reading.{Read, read_of};
 
 use crate::{Filters, Trouble};
 use std::alloc::Global;
@@ -19,11 +17,11 @@ pub struct Answer {
 
 /// A word, with its options and what stands before its FILEs.
 pub trait Tells: Drop {
-    // How it ends over filters that were found, their chain, and the lines of what is told of profiles among them.
-    ghost tells: { Self → FoundFilters → List (List Insn) → List ℕ → Ending → Type 0 };
+    // How it ends over files as they were read.
+    ghost tells: { Self → Read → Ending → Type 0 };
 
     /// What it tells of the filters in its FILEs.
     fn told(self, alloc: Global, filters: Filters) -> Result<Answer, Trouble>
-        ensures told { MayEnd (tells self (filters_of filters.found) filters.chain filters.notes.items) (ending_of result) }
+        ensures told { MayEnd (tells self (read_of filters)) (ending_of result) }
         ensures unread { (reads : ℕ) → CountsReads result reads reads };
 }

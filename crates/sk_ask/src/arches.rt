@@ -14,7 +14,7 @@ pub struct Arches;
 impl Tells for Arches {
     ghost use Rattle.sk_ask.specs.Arches.{TellsArches};
 
-    ghost tells = { λ _ _ chain notes ending. TellsArches chain notes ending };
+    ghost tells = { λ _ read ending. TellsArches read.chain read.notes ending };
 
     fn told(self, alloc: Global, filters: Filters) -> Result<Answer, Trouble> {
         let told = sk_survey::arches(alloc, &filters.chain)?;

@@ -27,8 +27,8 @@ pub struct Calls<'a, A> {
 impl<A: Analysis> Tells for Calls<'_, A> {
     ghost use Rattle.sk_ask.specs.CallsText.{TellsSurvey};
 
-    ghost tells = { λ it _ chain notes ending. TellsSurvey (A.may_spend it.on.analysis.now)
-        (record { architecture = it.on.architecture; call = it.on.call; examples = it.examples }) chain notes ending };
+    ghost tells = { λ it read ending. TellsSurvey (A.may_spend it.on.analysis.now)
+        (record { architecture = it.on.architecture; call = it.on.call; examples = it.examples }) read.chain read.notes ending };
 
     fn told(self, alloc: Global, filters: Filters) -> Result<Answer, Trouble> {
         let options = Options {

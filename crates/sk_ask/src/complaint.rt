@@ -1,5 +1,5 @@
 //! Lines that say what is wrong.
-ghost use Rattle.std.specs.Prelude.{◌≡◌, IfOk};
+ghost use Rattle.std.specs.Prelude.{◌≡◌, IfOk, string_bytes};
 ghost use Rattle.sk_ask.specs.Complaints.{about, of_word, shown, shown_byte};
 
 use std::alloc::{AllocError, Global};
@@ -27,6 +27,13 @@ pub fn of_word(alloc: Global, what: &str, word: &[u8]) -> Result<Vec<u8>, AllocE
     line.extend_from_slice(&shown(alloc, word)?)?;
     line.extend_from_slice(b"\n")?;
     Ok(line)
+}
+
+/// A name as it is shown in an answer.
+pub fn shown_name(alloc: Global, name: &str) -> Result<String, AllocError>
+    ensures shown { IfOk result (λ text. string_bytes text ≡ shown name.now) }
+{
+    String::from_utf8_lossy(alloc, &shown(alloc, name.as_bytes())?)
 }
 
 // A word with a question mark for each byte that would end the line or change how it is shown.

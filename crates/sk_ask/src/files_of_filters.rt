@@ -5,7 +5,7 @@ ghost use Rattle.sk_ask.specs.Finding.{filters_of};
 ghost use Rattle.sk_ask.specs.Given.{ArePlaced};
 ghost use Rattle.sk_ask.specs.Counts.{CountsReads};
 ghost use Rattle.sk_ask.specs.Endings.{ending_of};
-ghost use Rattle.sk_ask.specs.Reading.{ReadsFilters, IsRefusal, IsRefusedOf, IsReadAs, judged, with_chain};
+ghost use Rattle.sk_ask.specs.Reading.{ReadsFilters, IsRefusal, IsRefusedOf, IsReadAs, judged, read_of, with_chain};
 ghost use Rattle.sk_ask.specs.Answers.{Judges};
 ghost use Rattle.sk_ask.specs.Troubles.{OfFiles};
 
@@ -23,9 +23,10 @@ use sk_filter::Chain;
 use sk_profile_json::Context;
 use std::alloc::{AllocError, Global};
 
-/// Filters as they were found, the oldest first, their chain, and the lines of what is told of the profiles among them.
+/// The bytes of files, the filters that were found in them, the oldest first, their chain, and the lines of what is told of them.
 #[derive(Drop)]
 pub struct Filters {
+    pub files: Vec<Vec<u8>>,
     pub found: Found,
     pub chain: Chain,
     pub notes: Vec<u8>,
@@ -49,13 +50,13 @@ impl<S: Shelf> Reader<'_, S> {
         names: &[String],
     ) -> Result<Filters, Trouble>
         ensures read { IfOk result (λ filters. ReadsFilters self.now.big_endian (S.held self.now.shelf.now) self.now.context.now
-            (map string_bytes names.now) (filters_of filters.found) filters.chain filters.notes.items) }
+            (map string_bytes names.now) (read_of filters)) }
         ensures refused { IfErr result (IsRefusedOf self.now.big_endian (S.held self.now.shelf.now) self.now.context.now (map string_bytes names.now)) }
         ensures counted { CountsReads result reads.old reads.new }
     {
         let files = contents(alloc, self.shelf, reads, names)?;
         let expansion = expanded(alloc, self.big_endian, self.context, names, &files)?;
-        read(alloc, names, expansion)
+        read(alloc, names, files, expansion)
     }
 
     /// The answer of a word to the files with these names.
@@ -67,7 +68,7 @@ impl<S: Shelf> Reader<'_, S> {
         word: T,
     ) -> Result<Answer, Trouble>
         ensures told { OfFiles self.now.big_endian (S.held self.now.shelf.now) self.now.context.now (map string_bytes names.now) (ending_of result)
-            (λ found chain notes. T.tells word found chain notes (ending_of result)) }
+            (λ read. T.tells word read (ending_of result)) }
         ensures counted { CountsReads result reads.old reads.new }
     {
         let filters = self.filters(alloc, reads, names)?;
@@ -75,13 +76,20 @@ impl<S: Shelf> Reader<'_, S> {
     }
 }
 
-fn read(alloc: Global, names: &[String], expansion: Expansion) -> Result<Filters, Trouble>
+fn read(
+    alloc: Global,
+    names: &[String],
+    files: Vec<Vec<u8>>,
+    expansion: Expansion,
+) -> Result<Filters, Trouble>
     requires each { length expansion.images.items ≡ length names.now }
     ensures exact { IsReadAs (map string_bytes names.now) result (judged (map (λ image. image.items) expansion.images.items)) }
     ensures noted { IfOk result (λ filters. filters.notes.items ≡ expansion.notes.items) }
+    ensures kept { IfOk result (λ filters. filters.files.items ≡ files.items) }
 {
     match judged(alloc, &expansion.images)? {
         Ok(filters) => Ok(Filters {
+            files,
             notes: expansion.notes,
             ..filters
         }),
@@ -108,6 +116,7 @@ fn attached(alloc: Global, found: Found) -> Result<Result<Filters, Refused>, All
 {
     match attach(alloc, &found)? {
         Ok(chain) => Ok(Ok(Filters {
+            files: Vec::new(alloc),
             found,
             chain,
             notes: Vec::new(alloc),

@@ -16,7 +16,7 @@ pub struct Filter {
 impl Tells for Filter {
     ghost use Rattle.sk_ask.specs.FilterText.{Gives};
 
-    ghost tells = { λ it found _ notes ending. Gives it.raw found.images notes ending };
+    ghost tells = { λ it read ending. Gives it.raw read.found.images read.notes ending };
 
     fn told(self, alloc: Global, filters: Filters) -> Result<Answer, Trouble> {
         let notes = filters.notes;

@@ -10,13 +10,15 @@ pub const HELP: &str = "usage: ask WORD ..
   ask filter [--raw] FILE..                     the filters in another form
   ask when [--call CALL [--dot]] FILE..         under which arguments each verdict comes, for Graphviz with --dot
   ask diff [--stricter] OLD NEW                 the calls that two chains of filters answer otherwise
+  ask lint [--all] FILE..                       the calls that get another verdict by bits that Linux does not read
   ask replay LOG FILE..                         the verdicts on the calls that strace -f -X raw -e raw=all wrote to LOG
   ask why 'CALL(ARG, ..)' FILE..                the path of one call through the filters, instruction by instruction
   ask show FILE                                 one filter for people, as a text that skern asm takes
   ask arches FILE..                             what the filters answer to calls of each architecture
   ask WORD --help                               more on a word
 All but filter and arches are about the calls of x86-64, or, with --arch ARCH, about those of another architecture: x32, i386,
-aarch64, arm, riscv64, ppc64le, s390x or loongarch64. Names and numbers are those that calls have there.
+aarch64, arm, riscv64, ppc64le, s390x or loongarch64; lint is about those of x86-64 and x32 alone. Names and numbers are those that
+calls have there. when, diff and lint write numbers by the constants of Linux's headers, and with --numbers as they are.
 FILE holds raw struct sock_filter, hexadecimal digits, lines filter HEX, or a seccomp profile of docker's or podman's kind in
 JSON, which stands for its filter; - is standard input. Several FILEs are one chain, the oldest filter first.
 Where a FILE is a profile, each WORD takes
@@ -46,21 +48,36 @@ A FILE may be a profile, and then --cap, --kernel, --machine, --native and --run
 ";
 
 /// What `ask when --help` says.
-pub const WHEN_HELP: &str = "usage: ask when [--call CALL [--dot]] [--arch ARCH] FILE..
+pub const WHEN_HELP: &str = "usage: ask when [--call CALL [--dot]] [--numbers] [--arch ARCH] FILE..
 For each call of x86-64, or of ARCH, by its number and its name, the verdicts of the filters in the FILEs, and where arguments
 decide the condition on each as an expression of C over args[0] to args[5], ip, and nr where a line has several numbers.
   --call CALL   only this call: a name or a number, decimal or 0x and hexadecimal
   --dot         a picture of the call's conditions and verdicts, as text for Graphviz
+  --numbers     numbers as they are, and no constants of Linux's headers
   --arch ARCH   the calls of this architecture: ask --help has their names; s390x is not followed
 A FILE may be a profile, and then --cap, --kernel, --machine, --native and --runc say where it is to hold: ask --help has them.
 ";
 
 /// What `ask diff --help` says.
-pub const DIFF_HELP: &str = "usage: ask diff [--stricter] [--arch ARCH] OLD NEW
+pub const DIFF_HELP: &str = "usage: ask diff [--stricter] [--numbers] [--arch ARCH] OLD NEW
 Whether the filters of two FILEs answer the same to every call of x86-64, or of ARCH, whatever its arguments are; and where not,
 the numbers with the old and the new verdict, and below them a call that shows it, those first where NEW is looser.
   --stricter    whether NEW is at least as strict, by what becomes of the process: an unknown action counts as kill_process
+  --numbers     numbers as they are, and no constants of Linux's headers
   --arch ARCH   the calls of this architecture: ask --help has their names; s390x is not followed
+A FILE may be a profile, and then --cap, --kernel, --machine, --native and --runc say where it is to hold: ask --help has them.
+";
+
+/// What `ask lint --help` says.
+pub const LINT_HELP: &str = "usage: ask lint [--all] [--numbers] FILE..
+Which calls of x86-64 and x32 get another verdict of the filters in the FILEs by bits that Linux does not read, as the upper 32 of an
+int: the numbers with the verdict on the calls that Linux takes them for and with their own, the condition on them, a call that shows
+it, what Linux takes that for, and the entries of a profile that compare such bits. Those with a less strict verdict come first.
+What Linux reads is that of 6.12; of calls that it does not have all bits count as read.
+  --all         those too whose verdict is as strict or stricter, which else are only counted
+  --numbers     numbers as they are, and no constants of Linux's headers
+Status 1 where a verdict is less strict, or the condition has an int with its sign, which programs in C do not pass. Notes on what is
+compared and says little go to standard error.
 A FILE may be a profile, and then --cap, --kernel, --machine, --native and --runc say where it is to hold: ask --help has them.
 ";
 
@@ -78,8 +95,9 @@ pub const WHY_HELP: &str = "usage: ask why [--arch ARCH] 'CALL(ARG, ..)' FILE..
 The instructions of each filter that one call of x86-64, or of ARCH, comes to, the newest filter first: the place, the
 instruction, what A and X hold behind it, what a jump compared and where it went; then the verdict, and the filter and the place
 that it comes from.
-CALL is a name or a number, decimal or 0x and hexadecimal; an ARG, of at most six, a number of 64 bits, or - and one of at most 2^63.
-Arguments that are not given are 0, and so is the instruction pointer.
+CALL is a name or a number, decimal or 0x and hexadecimal; an ARG, of at most six, a number of 64 bits, - and one of at most 2^63, or
+numbers and constants of Linux's headers with | between them, as SOCK_RAW|SOCK_CLOEXEC. A text in double quotes is an address that is
+not 0. Arguments that are not given are 0, and so is the instruction pointer.
   --arch ARCH   a call of this architecture: ask --help has their names; s390x is not followed
 A FILE may be a profile, and then --cap, --kernel, --machine, --native and --runc say where it is to hold: ask --help has them.
 ";
@@ -111,6 +129,7 @@ pub fn word_help(word: Word) -> &'static str
         Word::Filter { .. } => FILTER_HELP,
         Word::When { .. } => WHEN_HELP,
         Word::Diff { .. } => DIFF_HELP,
+        Word::Lint { .. } => LINT_HELP,
         Word::Replay => REPLAY_HELP,
         Word::Why => WHY_HELP,
         Word::Show => SHOW_HELP,

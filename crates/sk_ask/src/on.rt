@@ -2,9 +2,11 @@
 ghost use Rattle.std.specs.Prelude.{◌≡◌, IfOk, IfErr};
 ghost use Rattle.std.specs.Option.{option_map};
 ghost use Rattle.sk_ask.specs.Architectures.{architecture_of, chain_on};
+ghost use Rattle.sk_ask.specs.Asking.{naming_asked};
 ghost use Rattle.sk_ask.specs.Calls.{IsAskedCall, IsNoCall};
 
 use crate::{Filters, Trouble, of_word};
+use sk_arguments::Naming;
 use sk_filter::Chain;
 use sk_insn::ARCHITECTURE;
 use sk_names::Architecture;
@@ -12,12 +14,14 @@ use sk_replay::call_named;
 use sk_survey::chain_for;
 use std::alloc::{AllocError, Global};
 
-/// What is asked of chains: by which analysis, of which architecture's calls, and of which of these, if of one alone.
+/// What is asked of chains: by which analysis, of which architecture's calls, of which of these, if of one alone, and how numbers are
+/// written.
 #[derive(Drop)]
 pub struct On<'a, A> {
     pub analysis: &'a A,
     pub architecture: Architecture,
     pub call: Option<u32>,
+    pub naming: Naming,
 }
 
 /// The architecture that is asked of.
@@ -25,6 +29,17 @@ pub fn architecture_of(named: Option<Architecture>) -> Architecture
     ensures architecture { result ≡ architecture_of named }
 {
     named.unwrap_or(Architecture::X86_64)
+}
+
+/// How numbers are written.
+pub fn naming_asked(numbers: bool) -> Naming
+    ensures naming { result ≡ naming_asked numbers }
+{
+    if numbers {
+        Naming::Numbers
+    } else {
+        Naming::Constants
+    }
 }
 
 /// The number of the call that is asked for, if one is.

@@ -19,7 +19,7 @@ impl Tells for Replay<'_> {
     ghost use Rattle.sk_ask.specs.Endings.{ComesTo};
     ghost use Rattle.sk_ask.specs.Replays.{replayed};
 
-    ghost tells = { λ it _ chain notes ending. ComesTo (replayed it.architecture it.name.now it.log.items chain notes) ending };
+    ghost tells = { λ it read ending. ComesTo (replayed it.architecture it.name.now it.log.items read.chain read.notes) ending };
 
     fn told(self, alloc: Global, filters: Filters) -> Result<Answer, Trouble> {
         let replay = sk_replay::replay(alloc, self.architecture, &self.log, &filters.chain)?;

@@ -13,7 +13,7 @@ pub struct Show {
 impl Tells for Show {
     ghost use Rattle.sk_ask.specs.Shows.{Shows};
 
-    ghost tells = { λ it _ chain notes ending. Shows it.architecture chain notes ending };
+    ghost tells = { λ it read ending. Shows it.architecture read.chain read.notes ending };
 
     fn told(self, alloc: Global, filters: Filters) -> Result<Answer, Trouble> {
         let mut programs = filters.chain.programs();

@@ -15,7 +15,8 @@ use crate::complete::is_turned;
 use crate::context::context_of;
 use crate::diff::{Diff, sides};
 use crate::filter::Filter;
-use crate::on::{On, architecture_of, asked_call};
+use crate::lint::Lint;
+use crate::on::{On, architecture_of, asked_call, naming_asked};
 use crate::replay::Replay;
 use crate::show::Show;
 use crate::when::When;
@@ -49,6 +50,7 @@ pub fn asked_answer<S: Shelf, A: Analysis>(
         analysis,
         architecture,
         call,
+        naming: naming_asked(asked.numbers),
     };
     by_word(alloc, asked.word, &asked.names, &reader, on, reads)
 }
@@ -62,9 +64,9 @@ fn by_word<S: Shelf, A: Analysis>(
     reads: &mut u64,
 ) -> Result<Answer, Trouble>
     requires named { length (wanted word) ≤ length names.now }
-    ensures told { AnswersQuestion (S.held reader.now.shelf.now) (A.may_spend on.entry.analysis.now)
+    ensures told { AnswersQuestion (S.held reader.now.shelf.now) (A.may_spend on.entry.analysis.now) reader.now.context.now
         (OfFiles reader.now.big_endian (S.held reader.now.shelf.now) reader.now.context.now)
-        on.entry.architecture on.entry.call word (map string_bytes names.now) (ending_of result) }
+        on.entry.architecture on.entry.call on.entry.naming word (map string_bytes names.now) (ending_of result) }
     ensures counted { CountsReads result reads.old reads.new }
 {
     let architecture = on.architecture;
@@ -76,6 +78,16 @@ fn by_word<S: Shelf, A: Analysis>(
             let (old, new) = sides(names);
             let old = reader.filters(alloc, reads, old)?;
             reader.answer(alloc, reads, new, Diff { on, stricter, old })
+        }
+        Word::Lint { all } => {
+            let context = reader.context;
+            let lint = Lint {
+                on,
+                all,
+                context,
+                names,
+            };
+            reader.answer(alloc, reads, names, lint)
         }
         Word::Replay => {
             let (name, files) = first_name(names);

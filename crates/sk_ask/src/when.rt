@@ -23,8 +23,8 @@ pub struct When<'a, A> {
 impl<A: Analysis> Tells for When<'_, A> {
     ghost use Rattle.sk_ask.specs.Whens.{TellsWhenOf};
 
-    ghost tells = { λ it _ chain notes ending.
-        TellsWhenOf (A.may_spend it.on.analysis.now) it.on.architecture it.dot it.on.call chain notes ending };
+    ghost tells = { λ it read ending.
+        TellsWhenOf (A.may_spend it.on.analysis.now) it.on.naming it.on.architecture it.dot it.on.call read.chain read.notes ending };
 
     fn told(self, alloc: Global, filters: Filters) -> Result<Answer, Trouble> {
         let (chain, notes) = filters_on(alloc, self.on.architecture, filters)?;
@@ -50,12 +50,13 @@ fn text_of<A: Analysis>(
     picture: Option<u32>,
     chain: &Chain,
 ) -> Result<String, AllocError>
-    ensures text { IfOk result (λ text. IsWhenText (A.may_spend on.now.analysis.now) on.now.architecture picture on.now.call chain.now (string_bytes text)) }
+    ensures text { IfOk result (λ text. IsWhenText (A.may_spend on.now.analysis.now) on.now.naming on.now.architecture picture on.now.call chain.now
+        (string_bytes text)) }
 {
     let budgets = &mut Budgets::of_rows(MOST_ROWS);
     let analysis = on.analysis;
     match picture {
         Some(nr) => analysis.dot(alloc, chain, nr, &mut Budget::whole()),
-        None => analysis.when(alloc, on.architecture, chain, on.call, budgets),
+        None => analysis.when(alloc, on.naming, on.architecture, chain, on.call, budgets),
     }
 }

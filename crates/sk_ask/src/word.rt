@@ -1,6 +1,6 @@
 //! The words of `ask`, and the options that a word stands behind.
 ghost use Rattle.std.specs.Prelude.{◌≡◌};
-ghost use Rattle.sk_ask.specs.Asking.{valued_name, valued_named, value_kind, tells_calls, tells_of_one, with_own_flag, word_named, word_name};
+ghost use Rattle.sk_ask.specs.Asking.{valued_name, valued_named, value_kind, tells_calls, tells_conditions, tells_of_one, with_own_flag, word_named, word_name};
 
 use sk_text::is_same;
 
@@ -15,6 +15,8 @@ pub enum Word {
     When { dot: bool },
     /// Where two chains answer otherwise.
     Diff { stricter: bool },
+    /// Which calls get another verdict by bits that Linux does not read.
+    Lint { all: bool },
     /// The verdicts on the calls of a log.
     Replay,
     /// The path of a call through the filters.
@@ -38,6 +40,8 @@ impl Word {
             Some(Word::When { dot: false })
         } else if is_same(name, b"diff") {
             Some(Word::Diff { stricter: false })
+        } else if is_same(name, b"lint") {
+            Some(Word::Lint { all: false })
         } else if is_same(name, b"replay") {
             Some(Word::Replay)
         } else if is_same(name, b"why") {
@@ -60,6 +64,7 @@ impl Word {
             Word::Filter { .. } => "filter",
             Word::When { .. } => "when",
             Word::Diff { .. } => "diff",
+            Word::Lint { .. } => "lint",
             Word::Replay => "replay",
             Word::Why => "why",
             Word::Show => "show",
@@ -80,6 +85,7 @@ impl Word {
             Word::Diff { .. } if is_same(name, b"--stricter") => {
                 Some(Word::Diff { stricter: true })
             }
+            Word::Lint { .. } if is_same(name, b"--all") => Some(Word::Lint { all: true }),
             _ => None,
         }
     }
@@ -150,9 +156,19 @@ fn tells_calls(word: Word) -> bool
     matches!(word, Word::Calls { .. } | Word::When { .. })
 }
 
-// Whether what it tells is of one architecture.
+// Whether it writes conditions and calls, where constants may stand for numbers.
+pub(crate) fn tells_conditions(word: Word) -> bool
+    ensures tells { result ≡ tells_conditions word }
+{
+    matches!(
+        word,
+        Word::When { .. } | Word::Diff { .. } | Word::Lint { .. }
+    )
+}
+
+// Whether what it tells is of one architecture that may be named.
 fn tells_of_one(word: Word) -> bool
     ensures tells { result ≡ tells_of_one word }
 {
-    !matches!(word, Word::Filter { .. } | Word::Arches)
+    !matches!(word, Word::Filter { .. } | Word::Lint { .. } | Word::Arches)
 }

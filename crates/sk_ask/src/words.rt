@@ -7,7 +7,7 @@ ghost use Rattle.sk_ask.specs.Asking.{asked_of, nothing_asked, with_word, with_f
 ghost use Rattle.sk_ask.specs.Asked.{question_of, Asks, HasNames};
 
 use crate::complete::{ended, is_turned, turned_line};
-use crate::word::{Valued, Word};
+use crate::word::{Valued, Word, tells_conditions};
 use crate::{Trouble, of_word};
 use sk_names::Architecture;
 use sk_profile_json::{Kernel, Machine, capability, kernel_of};
@@ -30,6 +30,8 @@ pub struct Asked<'a> {
     pub arch: Option<Architecture>,
     /// The last word was this option.
     pub awaits: Option<Valued>,
+    /// Numbers are wanted, and no constants.
+    pub numbers: bool,
     /// The machine's own architecture stands alone.
     pub native: bool,
     /// runc attaches the filter.
@@ -60,6 +62,7 @@ pub fn asked_in<'a>(alloc: Global, word: Word, words: &'a [String]) -> Result<As
         machine: None,
         arch: None,
         awaits: None,
+        numbers: false,
         native: false,
         runc: false,
         help: false,
@@ -231,6 +234,12 @@ fn with_flag<'a>(alloc: Global, asked: Asked<'a>, text: &String) -> Result<Asked
     if is_same(text.as_bytes(), b"--runc") {
         return Ok(Asked {
             runc: true,
+            ..asked
+        });
+    }
+    if tells_conditions(asked.word) && is_same(text.as_bytes(), b"--numbers") {
+        return Ok(Asked {
+            numbers: true,
             ..asked
         });
     }

@@ -25,6 +25,14 @@ const ANSWERS: &[(&str, &str)] = &[
         "when flag --dot --call 0",
         "digraph {\n  n0 [label=\"(args[0] & 0x1) != 0\"];\n  n0 -> n1 [label=yes];\n  n1 [label=\"errno/38 ENOSYS\", style=filled, fillcolor=khaki];\n  n0 -> n2 [label=no];\n  n2 [label=\"allow\", style=filled, fillcolor=palegreen];\n}\n",
     ),
+    (
+        "when --call socket wide",
+        "41 socket\n  errno/22 EINVAL where args[0] == AF_NETLINK && args[2] == NETLINK_AUDIT\n  allow else\n",
+    ),
+    (
+        "when --numbers --call socket wide",
+        "41 socket\n  errno/22 EINVAL where args[0] == 0x10 && args[2] == 0x9\n  allow else\n",
+    ),
     ("diff getpid getpid", "the same on every call\n"),
     ("diff all --stricter getpid", "as strict on every call\n"),
     (
@@ -38,6 +46,11 @@ const ANSWERS: &[(&str, &str)] = &[
     (
         "why read(-2) flag",
         "filter 0\n   0 ldabs 16                 A=4294967294 X=0\n   1 jset 1 +0 +1             A=4294967294 X=0  4294967294 & 1 == 0: to 3\n   3 ret 0x7fff0000           A=4294967294 X=0\n  allow\nallow by filter 0 at 3\n",
+    ),
+    // AT_FDCWD is 0xffffff9c.
+    (
+        "why openat(AT_FDCWD,\"/etc/passwd\",O_RDONLY|O_CLOEXEC) flag",
+        "filter 0\n   0 ldabs 16                 A=4294967196 X=0\n   1 jset 1 +0 +1             A=4294967196 X=0  4294967196 & 1 == 0: to 3\n   3 ret 0x7fff0000           A=4294967196 X=0\n  allow\nallow by filter 0 at 3\n",
     ),
     (
         "show getpid",
@@ -333,12 +346,13 @@ fn all_calls(rt: HostRuntime) -> Result<(), Fail> {
 
 #[test]
 fn help_is_an_answer(rt: HostRuntime) -> Result<(), Fail> {
-    let rows: [(&str, &[u8]); 9] = [
+    let rows: [(&str, &[u8]); 10] = [
         ("--help", b"usage: ask WORD ..\n"),
         ("calls --help", b"usage: ask calls "),
         ("filter all --help", b"usage: ask filter "),
         ("when --help", b"usage: ask when "),
         ("diff --help all", b"usage: ask diff "),
+        ("lint --help", b"usage: ask lint "),
         ("replay --help", b"usage: ask replay "),
         ("why mseal2 --help", b"usage: ask why "),
         ("show --help two", b"usage: ask show "),

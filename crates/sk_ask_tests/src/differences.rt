@@ -1,5 +1,6 @@
 //! Small filters beside each other: each difference has a call of its own, and none is told that no call shows.
 use crate::whens::chain_of;
+use sk_arguments::Naming;
 use sk_filter::Chain;
 use sk_names::Architecture;
 use sk_when::{Budgets, Comparison, Finding, Relation, diff};
@@ -42,7 +43,15 @@ fn compared(
     new: &Chain,
 ) -> Result<Comparison, AllocError> {
     let budgets = &mut Budgets::of_rows(1);
-    diff(alloc, Architecture::X86_64, relation, old, new, budgets)
+    diff(
+        alloc,
+        Naming::Constants,
+        Architecture::X86_64,
+        relation,
+        old,
+        new,
+        budgets,
+    )
 }
 
 // 6 is the one number of which they say otherwise: of no other way through both filters there is a call.

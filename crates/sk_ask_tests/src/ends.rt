@@ -90,6 +90,28 @@ const FILES: &[(&str, &[u8])] = &[
         "noted",
         b"{\"defaultAction\": \"SCMP_ACT_ALLOW\", \"syscalls\": [{\"names\": [\"opennat\"], \"action\": \"SCMP_ACT_LOG\"}]}",
     ),
+    // socket(16, .., 9) has errno 22, by comparisons of all 64 bits.
+    (
+        "wide",
+        b"20000000000000001500000929000000200000001400000015000007000000002000000010000000150000051000000020000000240000001500000300000000200000002000000015000001090000000600000016000500060000000000ff7f",
+    ),
+    // The same by the lower 32 alone.
+    (
+        "narrow",
+        b"2000000000000000150000052900000020000000100000001500000310000000200000002000000015000001090000000600000016000500060000000000ff7f",
+    ),
+    // socket(2, ..) is allowed, and all else of socket(2) has errno 1, by a comparison of all 64 bits.
+    (
+        "allowed",
+        b"2000000000000000150000052900000020000000140000001500000200000000200000001000000015000100020000000600000001000500060000000000ff7f",
+    ),
+    (
+        "rule",
+        b"{\"defaultAction\": \"SCMP_ACT_ALLOW\", \"syscalls\": [
+            {\"names\": [\"getpid\"], \"action\": \"SCMP_ACT_LOG\"},
+            {\"names\": [\"socket\"], \"action\": \"SCMP_ACT_ERRNO\", \"errnoRet\": 22, \"args\": [
+                {\"index\": 0, \"value\": 16, \"op\": \"SCMP_CMP_EQ\"}, {\"index\": 2, \"value\": 9, \"op\": \"SCMP_CMP_EQ\"}]}]}",
+    ),
     ("object", b"{}"),
     ("open", b"\r\n\t{"),
     (

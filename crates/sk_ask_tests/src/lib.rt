@@ -1,10 +1,13 @@
 //! Worked examples of `ask`: its words and texts over files and writers in memory, which fail where they are told to, the
 //! forms of files, what profiles are made into or refused for, the text that `ask when` makes of small filters, how two of them
-//! differ, what the replay of a log says of its calls, the texts of verdicts, and names.
+//! differ, what `ask lint` tells of them, what the replay of a log says of its calls, the texts of verdicts, names, arguments
+//! and constants.
 #![tactic(auto)]
 
 #[cfg(test)]
 mod answers;
+#[cfg(test)]
+mod arguments;
 #[cfg(test)]
 mod differences;
 #[cfg(test)]
@@ -12,9 +15,13 @@ mod ends;
 #[cfg(test)]
 mod files;
 #[cfg(test)]
+mod lints;
+#[cfg(test)]
 mod made;
 #[cfg(test)]
 mod names;
+#[cfg(test)]
+mod partings;
 #[cfg(test)]
 mod refusals;
 #[cfg(test)]

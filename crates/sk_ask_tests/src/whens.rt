@@ -1,4 +1,5 @@
 //! The text of small filters for one call, worked out by hand from their instructions.
+use sk_arguments::Naming;
 use sk_asm::assemble;
 use sk_filter::{Chain, check};
 use sk_names::Architecture;
@@ -88,7 +89,50 @@ fn small_filters(rt: HostRuntime) -> Result<(), Fail> {
     for (program, nr, wanted) in ROWS {
         let chain = chain_of(alloc, program)?;
         let budgets = &mut Budgets::of_rows(1);
-        let text = when(alloc, Architecture::X86_64, &chain, Some(*nr), budgets)?;
+        let text = when(
+            alloc,
+            Naming::Numbers,
+            Architecture::X86_64,
+            &chain,
+            Some(*nr),
+            budgets,
+        )?;
+        assert_eq!(rt; text.as_str(), *wanted, "at {wanted:?}");
+    }
+    Ok(())
+}
+
+/// An architecture, a number, and the text for filters where constants stand for numbers.
+const CONSTANTS: &[(Architecture, &[u8], u32, &str)] = &[
+    (
+        Architecture::X86_64,
+        FLAGS,
+        56,
+        "56 clone\n  allow where (args[0] & (CLONE_NEWNS|CLONE_NEWCGROUP|CLONE_NEWUTS|CLONE_NEWIPC|CLONE_NEWUSER|CLONE_NEWPID|CLONE_NEWNET)) == 0\n  errno/1 EPERM else\n",
+    ),
+    // The same call of another architecture, where constants may be others.
+    (
+        Architecture::I386,
+        FLAGS,
+        120,
+        "120 clone\n  allow where (args[0] & 0x7e020000) == 0\n  errno/1 EPERM else\n",
+    ),
+];
+
+#[test]
+fn constants(rt: HostRuntime) -> Result<(), Fail> {
+    let alloc = rt.alloc();
+    for (architecture, program, nr, wanted) in CONSTANTS {
+        let chain = chain_of(alloc, program)?;
+        let budgets = &mut Budgets::of_rows(1);
+        let text = when(
+            alloc,
+            Naming::Constants,
+            *architecture,
+            &chain,
+            Some(*nr),
+            budgets,
+        )?;
         assert_eq!(rt; text.as_str(), *wanted, "at {wanted:?}");
     }
     Ok(())
@@ -110,7 +154,14 @@ fn names(rt: HostRuntime) -> Result<(), Fail> {
     let chain = chain_of(alloc, b"ret allow")?;
     for (architecture, nr, wanted) in NAMES {
         let budgets = &mut Budgets::of_rows(1);
-        let text = when(alloc, *architecture, &chain, Some(*nr), budgets)?;
+        let text = when(
+            alloc,
+            Naming::Constants,
+            *architecture,
+            &chain,
+            Some(*nr),
+            budgets,
+        )?;
         assert_eq!(rt; text.as_str(), *wanted, "at {wanted:?}");
     }
     Ok(())
@@ -137,7 +188,14 @@ fn numbers_of_a_row(rt: HostRuntime) -> Result<(), Fail> {
     for (program, wanted) in RANGES {
         let chain = chain_of(alloc, program)?;
         let budgets = &mut Budgets::of_rows(1000);
-        let text = when(alloc, Architecture::X86_64, &chain, None, budgets)?;
+        let text = when(
+            alloc,
+            Naming::Constants,
+            Architecture::X86_64,
+            &chain,
+            None,
+            budgets,
+        )?;
         assert!(rt; text.as_str().ends_with(wanted), "at {wanted:?}");
     }
     Ok(())

@@ -11,3 +11,6 @@ pub mod Noting
 pub mod Built
 pub mod Placed
 pub mod Worked
+pub mod Narrowing
+pub mod PartingRows
+pub mod Seeing

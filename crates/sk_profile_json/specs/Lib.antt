@@ -25,3 +25,6 @@ pub mod Notes
 pub mod Made
 pub mod Capabilities
 pub mod WorkedFiles
+pub mod Partings
+pub mod PartingTexts
+pub mod WorkedPartings

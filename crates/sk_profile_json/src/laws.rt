@@ -1,6 +1,8 @@
 //! Laws of profiles that are read. No program calls these functions: the contract of each is the law.
 ghost use Rattle.sk_profile_json.specs.WorkedProfiles.{WorkedProfiles};
 ghost use Rattle.sk_profile_json.specs.Wholes.{RulesAreGood};
+ghost use Rattle.sk_profile_json.specs.PartingTexts.{NarrowMasksCompareLow, OperatorsAreRead};
+ghost use Rattle.sk_profile_json.specs.WorkedPartings.{WorkedPartings};
 
 /// The definition gives the profiles and the faults that were worked out by hand.
 pub fn worked_profiles()
@@ -11,4 +13,21 @@ pub fn worked_profiles()
 #[tactic(auto, using(crate::proofs::Good::rules_good))]
 pub fn rules_are_good()
     ensures law { RulesAreGood }
+{}
+
+/// The entries that part calls, and what is said of them, are those that were worked out by hand.
+#[tactic(auto, using(crate::proofs::PartingRows::worked_partings))]
+pub fn worked_partings()
+    ensures law { WorkedPartings }
+{}
+
+/// The operator that is named of a comparison is read as that comparison.
+pub fn operators_are_read()
+    ensures law { OperatorsAreRead }
+{}
+
+/// By the mask that is told, numbers are compared as their lower halves were.
+#[tactic(auto, using(crate::proofs::Narrowing::masks_compare_low))]
+pub fn narrow_masks_compare_low()
+    ensures law { NarrowMasksCompareLow }
 {}

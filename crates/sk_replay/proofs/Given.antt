@@ -1,15 +1,13 @@
--- A text is cut at a byte, and arguments are read one by one.
-use Rattle.std.proofs.Common.{◌≡◌, ◌<◌, ◌≤◌, ◌+◌, ◌==◌, ◌∙◌, ap, arith, sym, refl, inl, inr, ℕ, List, [], ◌∷◌, length, count_by, set, Bool, Option, Some, None, Result, Ok, Err, replicate, length-take}
+-- A text is cut at a byte, arguments are read one by one, and their parts too.
+use Rattle.std.proofs.Common.{◌≡◌, ◌<◌, ◌≤◌, ◌+◌, ◌==◌, ◌++◌, ◌∙◌, ap, arith, sym, refl, inl, inr, ℕ, List, [], ◌∷◌, length, count_by, set, bit_or, Option, Some, None, Result, Ok, Err, replicate, subst, length-take, append_assoc}
 use Rattle.std.proofs.lemmas.Bool.{lt-ltb, le-ltb, cases_lt}
-use Rattle.std.proofs.lemmas.Iterator.Adapters.{position_from-zero}
 use Rattle.std.proofs.lemmas.List.Sums.{fails_before_first}
 use Rattle.std.proofs.lemmas.Option.{none-some, some_pair_parts}
 use Rattle.std.proofs.lemmas.List.Splits.{length-slice_split, slice_split_first, slice_split_none}
-use Rattle.std.specs.Prelude.{is_none}
-use Rattle.std.specs.List.{after_first, before_first, filter_map, position_from, position_or_len}
-use Rattle.sk_replay.specs.declared.fault.CallFault.{CallFault}
-use Rattle.sk_replay.specs.declared.fault.CallFault.TheVariants.{Argument}
-use Rattle.sk_replay.specs.CallWords.{argument_of, commas_cut, cut_at, first_wrong, right_or_fault, six_of}
+use Rattle.std.specs.Prelude.{⊤}
+use Rattle.std.specs.List.{after_first, before_first, position_or_len}
+use Rattle.sk_replay.specs.Faults.{Fault, wrong}
+use Rattle.sk_replay.specs.CallWords.{◌&>◌, ◌>>=◌, address_text, argument_of, cut_all, cut_at, in_place, left_of, numbers_from, part_of, plain_of, six_of, six_or_fault, with_addresses, with_bits}
 
 -- ---- cuts
 
@@ -28,61 +26,59 @@ cut_none byte text before front longer =
     let f = le-ltb n (length text) (omega (arith, len)) in
     rw f refl
 
--- ---- commas
+-- ---- pieces
 
-pub left_behind : (text given rest : List ℕ) → Some (given, rest) ≡ cut_at 44 text → commas_cut text ≡ given ∷ commas_cut rest
-left_behind text given rest h = elim (cases_lt (position_or_len (λ b. b == 44) text) (length text)) [
+pub left_behind : (byte : ℕ) (text piece rest : List ℕ) → Some (piece, rest) ≡ cut_at byte text → cut_all byte text ≡ piece ∷ cut_all byte rest
+left_behind byte text piece rest h = elim (cases_lt (position_or_len (λ b. b == byte) text) (length text)) [
   | inl lt ↦
-      let t = lt-ltb (position_or_len (λ b. b == 44) text) (length text) lt in
-      let e : Some (given, rest) ≡ Some (before_first (λ b. b == 44) text, after_first (λ b. b == 44) text) = rw t at h in
+      let t = lt-ltb (position_or_len (λ b. b == byte) text) (length text) lt in
+      let e : Some (piece, rest) ≡ Some (before_first (λ b. b == byte) text, after_first (λ b. b == byte) text) = rw t at h in
       let parts = some_pair_parts _ _ _ _ e in
-      slice_split_first (λ b. b == 44) text 0 lt ∙ sym (rw (parts.0, parts.1) refl)
+      slice_split_first (λ b. b == byte) text 0 lt ∙ sym (rw (parts.0, parts.1) refl)
   | inr ge ↦
-      let f = le-ltb (position_or_len (λ b. b == 44) text) (length text) ge in
-      let e : Some (given, rest) ≡ None = rw f at h in
-      absurd (none-some (given, rest) (sym e))
+      let f = le-ltb (position_or_len (λ b. b == byte) text) (length text) ge in
+      let e : Some (piece, rest) ≡ None = rw f at h in
+      absurd (none-some (piece, rest) (sym e))
 ]
 
-pub none_left : (text : List ℕ) → None ≡ cut_at 44 text → commas_cut text ≡ text ∷ []
-none_left text h = elim (cases_lt (position_or_len (λ b. b == 44) text) (length text)) [
+pub none_left : (byte : ℕ) (text : List ℕ) → None ≡ cut_at byte text → cut_all byte text ≡ text ∷ []
+none_left byte text h = elim (cases_lt (position_or_len (λ b. b == byte) text) (length text)) [
   | inl lt ↦
-      let t = lt-ltb (position_or_len (λ b. b == 44) text) (length text) lt in
-      let e : None ≡ Some (before_first (λ b. b == 44) text, after_first (λ b. b == 44) text) = rw t at h in
-      absurd (none-some (before_first (λ b. b == 44) text, after_first (λ b. b == 44) text) e)
-  | inr ge ↦ slice_split_none (λ b. b == 44) text (λ k d within. fails_before_first (λ b. b == 44) text k d (omega arith))
+      let t = lt-ltb (position_or_len (λ b. b == byte) text) (length text) lt in
+      let e : None ≡ Some (before_first (λ b. b == byte) text, after_first (λ b. b == byte) text) = rw t at h in
+      absurd (none-some (before_first (λ b. b == byte) text, after_first (λ b. b == byte) text) e)
+  | inr ge ↦ slice_split_none (λ b. b == byte) text (λ k d within. fails_before_first (λ b. b == byte) text k d (omega arith))
 ]
 
-pub length_cut : (text : List ℕ) → length (commas_cut text) ≡ count_by (λ b. b == 44) text + 1
+pub length_cut : (text : List ℕ) → length (cut_all 44 text) ≡ count_by (λ b. b == 44) text + 1
 length_cut text = length-slice_split (λ b. b == 44) text
 
 -- ---- arguments
-
-abbrev pub is_wrong : List ℕ → Bool
-is_wrong text = is_none (argument_of text)
 
 -- these numbers, in their places from one on
 abbrev pub filled : ℕ → List ℕ → List ℕ → List ℕ
 filled count args [] = args
 filled count args (number ∷ numbers) = filled (count + 1) (set args count number) numbers
 
--- the first fault, or the arguments
-abbrev pub ended : Option ℕ → List ℕ → Result (List ℕ) CallFault
-ended (Some place) args = Err (Argument (place + 1))
-ended None args = Ok args
-
 -- what the texts make that are left, where so many arguments are read
-abbrev pub placed : ℕ → List ℕ → List (List ℕ) → Result (List ℕ) CallFault
-placed count args texts = ended (position_from is_wrong count texts) (filled count args (filter_map argument_of texts))
+abbrev pub placed : ℕ → List ℕ → List (List ℕ) → Result (List ℕ) Fault
+placed count args texts = numbers_from (count + 1) texts &> λ numbers. Ok (filled count args numbers)
 
-pub placed-right : (count number : ℕ) (args text : List ℕ) (texts : List (List ℕ)) → Some number ≡ argument_of text
+one_more : (count number : ℕ) (args : List ℕ) (numbers : Result (List ℕ) Fault)
+    → ((numbers &> λ numbers. Ok (number ∷ numbers)) &> λ numbers. Ok (filled count args numbers))
+    ≡ (numbers &> λ numbers. Ok (filled (count + 1) (set args count number) numbers))
+one_more count number args (Ok numbers) = refl
+one_more count number args (Err fault) = refl
+
+pub placed-right : (count number : ℕ) (args text : List ℕ) (texts : List (List ℕ)) → Ok number ≡ argument_of text
     → placed count args (text ∷ texts) ≡ placed (count + 1) (set args count number) texts
-placed-right count number args text texts h = rw (← h) refl
+placed-right count number args text texts h = rw (← h) (one_more count number args (numbers_from (count + 1 + 1) texts))
 
-pub placed-wrong : (count : ℕ) (args text : List ℕ) (left texts : List (List ℕ)) (total : Result (List ℕ) CallFault) → left ≡ text ∷ texts
-    → None ≡ argument_of text → placed count args left ≡ total → Err (Argument (count + 1)) ≡ total
-placed-wrong count args text left texts total cut h so_far =
-    let wrong : placed count args (text ∷ texts) ≡ Err (Argument (count + 1)) = rw (← h) refl in
-    sym wrong ∙ sym (ap (placed count args) cut) ∙ so_far
+pub placed-wrong : (count : ℕ) (args text part : List ℕ) (left texts : List (List ℕ)) (total : Result (List ℕ) Fault) → left ≡ text ∷ texts
+    → Err part ≡ argument_of text → placed count args left ≡ total → Err (wrong (count + 1) part) ≡ total
+placed-wrong count args text part left texts total cut h so_far =
+    let stops : placed count args (text ∷ texts) ≡ Err (wrong (count + 1) part) = rw (← h) refl in
+    sym stops ∙ sym (ap (placed count args) cut) ∙ so_far
 
 -- none is read yet
 abbrev pub zeros : List ℕ
@@ -99,22 +95,74 @@ filled-six (a ∷ b ∷ c ∷ d ∷ e ∷ f ∷ []) h = refl
 filled-six (a ∷ b ∷ c ∷ d ∷ e ∷ f ∷ g ∷ numbers) h = absurd (omega arith)
 
 -- no more numbers than texts
-length-step : (text : List ℕ) (texts : List (List ℕ)) (number : Option ℕ) → argument_of text ≡ number
-    → length (filter_map argument_of texts) ≤ length texts → length (filter_map argument_of (text ∷ texts)) ≤ length (text ∷ texts)
-length-step text texts None e h = rw e (omega arith)
-length-step text texts (Some n) e h = rw e (omega arith)
+abbrev AreFew : ℕ → Result (List ℕ) Fault → Type 0
+AreFew most (Ok numbers) = length numbers ≤ most
+AreFew most (Err fault) = ⊤
 
-length-numbers : (texts : List (List ℕ)) → length (filter_map argument_of texts) ≤ length texts
-length-numbers [] = omega arith
-length-numbers (text ∷ texts) = length-step text texts (argument_of text) refl (length-numbers texts)
+few_then : (most number : ℕ) (numbers : Result (List ℕ) Fault) → AreFew most numbers → AreFew (most + 1) (numbers &> λ numbers. Ok (number ∷ numbers))
+few_then most number (Ok numbers) few = omega (arith, few)
+few_then most number (Err fault) few = tt
 
-ended-right : (wrong : Option ℕ) (texts : List (List ℕ)) → ended wrong (six_of (filter_map argument_of texts)) ≡ right_or_fault wrong texts
-ended-right None texts = refl
-ended-right (Some place) texts = refl
+few_next : (most place : ℕ) (first : Result ℕ (List ℕ)) (numbers : Result (List ℕ) Fault) → AreFew most numbers
+    → AreFew (most + 1) (in_place place first &> λ number. numbers &> λ numbers. Ok (number ∷ numbers))
+few_next most place (Ok number) numbers few = few_then most number numbers few
+few_next most place (Err part) numbers few = tt
 
-pub placed_all : (texts : List (List ℕ)) → length texts ≤ 6 → placed 0 zeros texts ≡ right_or_fault (first_wrong texts) texts
-placed_all texts few =
-    let numbers = length-numbers texts in
-    ap (ended (position_from is_wrong 0 texts)) (filled-six (filter_map argument_of texts) (omega arith))
-    ∙ ap (λ o. ended o (six_of (filter_map argument_of texts))) (sym (position_from-zero is_wrong texts))
-    ∙ ended-right (first_wrong texts) texts
+few_numbers : (place : ℕ) (texts : List (List ℕ)) → AreFew (length texts) (numbers_from place texts)
+few_numbers place [] = omega arith
+few_numbers place (text ∷ texts) =
+    subst (λ most. AreFew most (numbers_from place (text ∷ texts))) (omega arith)
+    (few_next (length texts) place (argument_of text) (numbers_from (place + 1) texts) (few_numbers (place + 1) texts))
+
+all_filled : (most : ℕ) (numbers : Result (List ℕ) Fault) → AreFew most numbers → most ≤ 6
+    → (numbers &> λ numbers. Ok (filled 0 zeros numbers)) ≡ (numbers &> λ numbers. Ok (six_of numbers))
+all_filled most (Ok numbers) few six = ap Ok (filled-six numbers (omega (arith, few, six)))
+all_filled most (Err fault) few six = refl
+
+pub placed_all : (texts : List (List ℕ)) → length texts ≤ 6 → placed 0 zeros texts ≡ six_or_fault texts
+placed_all texts few = all_filled (length texts) (numbers_from 1 texts) (few_numbers 1 texts) few
+
+-- ---- parts
+
+pub bits-right : (bits more : ℕ) (part : List ℕ) (left parts : List (List ℕ)) (total : Result ℕ (List ℕ)) → left ≡ part ∷ parts
+    → Ok more ≡ part_of part → with_bits bits left ≡ total → with_bits (bit_or bits more) parts ≡ total
+bits-right bits more part left parts total cut h so_far =
+    let goes_on : with_bits bits (part ∷ parts) ≡ with_bits (bit_or bits more) parts = rw (← h) refl in
+    sym goes_on ∙ sym (ap (with_bits bits) cut) ∙ so_far
+
+pub bits-wrong : (bits : ℕ) (part text : List ℕ) (left parts : List (List ℕ)) (total : Result ℕ (List ℕ)) → left ≡ part ∷ parts
+    → Err text ≡ part_of part → with_bits bits left ≡ total → Err text ≡ total
+bits-wrong bits part text left parts total cut h so_far =
+    let stops : with_bits bits (part ∷ parts) ≡ Err text = rw (← h) refl in
+    sym stops ∙ sym (ap (with_bits bits) cut) ∙ so_far
+
+-- ---- texts in double quotes
+
+-- a text behind those that are done
+abbrev pub behind : List ℕ → Option (List ℕ) → Option (List ℕ)
+behind done rest = rest >>= λ more. Some (done ++ more)
+
+behind_more : (done outside : List ℕ) (rest : Option (List ℕ))
+    → behind done (rest >>= λ more. Some (outside ++ (address_text ++ more))) ≡ behind ((done ++ outside) ++ address_text) rest
+behind_more done outside None = refl
+behind_more done outside (Some more) = ap Some (sym (append_assoc (done ++ outside) address_text more ∙ append_assoc done outside (address_text ++ more)))
+
+pub quoted-next : (done rest outside left inside after : List ℕ) → Some (outside, left) ≡ cut_at 34 rest → Some (inside, after) ≡ cut_at 34 left
+    → behind done (with_addresses (cut_all 34 rest)) ≡ behind ((done ++ outside) ++ address_text) (with_addresses (cut_all 34 after))
+quoted-next done rest outside left inside after first second =
+    rw (left_behind 34 rest outside left first, left_behind 34 left inside after second)
+    (behind_more done outside (with_addresses (cut_all 34 after)))
+
+pub quoted-open : (done rest outside left : List ℕ) → Some (outside, left) ≡ cut_at 34 rest → None ≡ cut_at 34 left
+    → behind done (with_addresses (cut_all 34 rest)) ≡ None
+quoted-open done rest outside left first second = rw (left_behind 34 rest outside left first, none_left 34 left second) refl
+
+pub quoted-end : (done rest : List ℕ) → None ≡ cut_at 34 rest → behind done (with_addresses (cut_all 34 rest)) ≡ Some (done ++ rest)
+quoted-end done rest none = rw (none_left 34 rest none) refl
+
+pub plain_from : (word : List ℕ) → behind [] (with_addresses (cut_all 34 word)) ≡ plain_of word
+unfolding plain_of
+plain_from word = from (with_addresses (cut_all 34 word)) where
+  from : (all : Option (List ℕ)) → behind [] all ≡ all
+  from None = refl
+  from (Some plain) = refl

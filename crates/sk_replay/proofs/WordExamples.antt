@@ -5,11 +5,12 @@ use Rattle.sk_text.specs.Numbers.{number_of}
 use Rattle.sk_names.specs.X86_64.{number_named}
 use Rattle.sk_names.specs.Names.{number_at, number_in, number_on, runs_of}
 use Rattle.sk_replay.specs.WordCalls.{plain_number}
-use Rattle.sk_replay.specs.CallWords.{argument_number, argument_of, arguments_of, call_of, given_in, inside_of, named_by}
+use Rattle.sk_arguments.specs.Constants.{all_names, all_numbers, number_of_constant}
+use Rattle.sk_replay.specs.CallWords.{argument_of, arguments_of, call_of, given_in, inside_of, named_by, negative_number, negative_of, number_or_constant, part_of, plain_of}
 use Rattle.sk_replay.specs.WorkedWords.{WorkedWords}
 
 pub worked_words : WorkedWords
-unfolding digits number_of number_named number_at number_in number_on runs_of plain_number argument_number argument_of arguments_of call_of given_in inside_of named_by
+unfolding digits number_of all_names all_numbers number_named number_at number_in number_on runs_of plain_number number_of_constant negative_number negative_of number_or_constant part_of plain_of argument_of arguments_of call_of given_in inside_of named_by
 worked_words = record {
   arguments = refl;
   name = refl;
@@ -63,5 +64,18 @@ worked_words = record {
   number_on_arm = refl;
   on_x32 = refl;
   number_on_x32 = refl;
+  constants = refl;
+  text = refl;
+  empty_text = refl;
+  left_quoted = refl;
+  quoted_name = refl;
+  text_and_number = refl;
+  no_constant = refl;
+  at_fdcwd = refl;
+  small_letters = refl;
+  nothing_behind = refl;
+  two_constants = refl;
+  both_bits = refl;
+  minus_and_bits = refl;
   told = refl;
 }

@@ -1,15 +1,15 @@
 -- The call that a word of a command line stands for: `CALL`, or `CALL(ARG, ..)` with at most six arguments, as strace(1)
--- writes a call. Spaces may stand around each of its parts.
-use Rattle.std.specs.Prelude.{ℕ, ◌+◌, ◌-◌, ◌%◌, ◌^◌, ◌==◌, ◌++◌, nat_eq, nat_lt, if◌then◌else◌, List, [], ◌∷◌, length, take, drop, replicate, codes, position, is_none, Option, Some, None, Result, Ok, Err}
-use Rattle.std.specs.Option.{option_map}
-use Rattle.std.specs.List.{before_first, filter_map, slice_split, starts_with}
+-- writes a call, with the constants of Linux's headers. Spaces may stand around each of its parts.
+use Rattle.std.specs.Prelude.{ℕ, ◌+◌, ◌-◌, ◌%◌, ◌^◌, ◌==◌, ◌++◌, nat_eq, nat_lt, if◌then◌else◌, List, [], ◌∷◌, length, take, drop, replicate, codes, bit_or, position, Option, Some, None, Result, Ok, Err}
+use Rattle.std.specs.Option.{ok_or, option_map, option_or}
+use Rattle.std.specs.List.{before_first, slice_split, starts_with}
 use Rattle.sk_text.specs.Lines.{words_of}
 use Rattle.sk_text.specs.Words.{none_of, one_of}
 use Rattle.sk_insn.specs.declared.record.Record.{Record}
 use Rattle.sk_names.specs.declared.architecture.Architecture.{Architecture}
 use Rattle.sk_names.specs.Architectures.{audit_of}
-use Rattle.sk_replay.specs.declared.fault.CallFault.{CallFault}
-use Rattle.sk_replay.specs.declared.fault.CallFault.TheVariants.{NoCall, Unclosed, Argument, TooMany}
+use Rattle.sk_arguments.specs.Constants.{number_of_constant}
+use Rattle.sk_replay.specs.Faults.{Fault, no_call, unclosed, unquoted, wrong, too_many}
 use Rattle.sk_replay.specs.WordCalls.{nr_of, plain_number}
 
 -- a step, and then another one, if the first gave a value
@@ -20,13 +20,29 @@ None >>= next = None
 
 -- the same, where a fault is told for the first that gave none
 infixl 10 ◌&>◌
-abbrev pub ◌&>◌ : {X Y : Type 0} → Result X CallFault → (X → Result Y CallFault) → Result Y CallFault
+abbrev pub ◌&>◌ : {X Y E : Type 0} → Result X E → (X → Result Y E) → Result Y E
 (Err fault) &> next = Err fault
 (Ok value) &> next = next value
 
-abbrev pub or_fault : {X : Type 0} → CallFault → Option X → Result X CallFault
+abbrev pub or_fault : {X : Type 0} → Fault → Option X → Result X Fault
 or_fault fault None = Err fault
 or_fault fault (Some value) = Ok value
+
+-- ---- texts in double quotes
+
+-- where such a text lies: always at this address of the stack, of which neither half is 0
+abbrev pub address_text : List ℕ
+address_text = codes " 0x7fffffffe000 "
+
+-- what stands between double quotes is by turns outside of a text and inside; each text is its address, if the last is closed
+abbrev pub with_addresses : List (List ℕ) → Option (List ℕ)
+with_addresses [] = None
+with_addresses (outside ∷ []) = Some outside
+with_addresses (outside ∷ inside ∷ rest) = with_addresses rest >>= λ more. Some (outside ++ (address_text ++ more))
+
+-- a word with an address for each text in double quotes (34)
+unfoldable pub plain_of : List ℕ → Option (List ℕ)
+plain_of word = with_addresses (slice_split (λ b. b == 34) word)
 
 -- ---- parts
 
@@ -53,19 +69,19 @@ closed_or_none (Some parts) = closed parts.1
 unfoldable pub inside_of : List ℕ → Option (List ℕ)
 inside_of word = closed_or_none (cut_at 40 word)
 
--- what stands between commas (44)
-abbrev pub commas_cut : List ℕ → List (List ℕ)
-commas_cut text = slice_split (λ b. b == 44) text
+-- what stands between such bytes
+abbrev pub cut_all : ℕ → List ℕ → List (List ℕ)
+cut_all byte text = slice_split (λ b. b == byte) text
 
--- what is left behind a comma; nothing where there was none
-abbrev pub left_of : Option (List ℕ) → List (List ℕ)
-left_of None = []
-left_of (Some text) = commas_cut text
+-- that of what is left behind one; nothing where there was none
+abbrev pub left_of : ℕ → Option (List ℕ) → List (List ℕ)
+left_of byte None = []
+left_of byte (Some text) = cut_all byte text
 
--- the arguments between parentheses; none where nothing stands there
+-- the arguments between parentheses, with commas (44) between them; none where nothing stands there
 abbrev pub commas_apart : List (List ℕ) → List ℕ → List (List ℕ)
 commas_apart [] text = []
-commas_apart (word ∷ words) text = commas_cut text
+commas_apart (word ∷ words) text = cut_all 44 text
 
 unfoldable pub given_in : List ℕ → List (List ℕ)
 given_in text = commas_apart (words_of text) text
@@ -76,30 +92,60 @@ given_in text = commas_apart (words_of text) text
 abbrev pub below_zero : ℕ → ℕ
 below_zero number = (2 ^ 64 - number) % 2 ^ 64
 
--- `-` before a number of at most 2^63, or a number of 64 bits
-unfoldable pub argument_number : List ℕ → Option ℕ
-argument_number word =
-    if starts_with nat_eq word (codes "-") then (plain_number (2 ^ 63) (drop 1 word) >>= λ number. Some (below_zero number))
-    else plain_number (2 ^ 64 - 1) word
+-- `-` before a number of at most 2^63
+unfoldable pub negative_number : List ℕ → Option ℕ
+negative_number word =
+    if starts_with nat_eq word (codes "-") then (plain_number (2 ^ 63) (drop 1 word) >>= λ number. Some (below_zero number)) else None
 
--- the only word of an argument is its number
-unfoldable pub argument_of : List ℕ → Option ℕ
-argument_of text = one_of (words_of text) >>= λ word. argument_number word
+-- that of the only word
+unfoldable pub negative_of : List ℕ → Option ℕ
+negative_of text = one_of (words_of text) >>= λ word. negative_number word
 
--- the place of the first that is no number
-abbrev pub first_wrong : List (List ℕ) → Option ℕ
-first_wrong given = position (λ text. is_none (argument_of text)) given
+-- a number of 64 bits, or the constant with this name
+unfoldable pub number_or_constant : List ℕ → Option ℕ
+number_or_constant word = option_or (plain_number (2 ^ 64 - 1) word) (number_of_constant word)
+
+-- that of the only word; or what stands there in its place
+abbrev pub only_number : List ℕ → Option (List ℕ) → Result ℕ (List ℕ)
+only_number text None = Err text
+only_number text (Some word) = ok_or (number_or_constant word) word
+
+unfoldable pub part_of : List ℕ → Result ℕ (List ℕ)
+part_of text = only_number text (one_of (words_of text))
+
+-- these bits and those of each part, or the first part that has none
+abbrev pub with_bits : ℕ → List (List ℕ) → Result ℕ (List ℕ)
+with_bits bits [] = Ok bits
+with_bits bits (part ∷ parts) = part_of part &> λ more. with_bits (bit_or bits more) parts
+
+-- a number below 0, or parts with `|` (124) between them
+abbrev pub negative_or : Option ℕ → List ℕ → Result ℕ (List ℕ)
+negative_or (Some number) text = Ok number
+negative_or None text = with_bits 0 (cut_all 124 text)
+
+unfoldable pub argument_of : List ℕ → Result ℕ (List ℕ)
+argument_of text = negative_or (negative_of text) text
+
+-- the fault of the argument with this number
+abbrev pub in_place : ℕ → Result ℕ (List ℕ) → Result ℕ Fault
+in_place place (Err part) = Err (wrong place part)
+in_place place (Ok number) = Ok number
+
+-- the numbers of arguments, which are counted from this place on, or the first fault
+abbrev pub numbers_from : ℕ → List (List ℕ) → Result (List ℕ) Fault
+numbers_from place [] = Ok []
+numbers_from place (text ∷ texts) =
+    in_place place (argument_of text) &> λ number. numbers_from (place + 1) texts &> λ numbers. Ok (number ∷ numbers)
 
 -- the six: those that are given, and 0 for the others
 abbrev pub six_of : List ℕ → List ℕ
 six_of numbers = take 6 (numbers ++ replicate 6 0)
 
-abbrev pub right_or_fault : Option ℕ → List (List ℕ) → Result (List ℕ) CallFault
-right_or_fault (Some place) given = Err (Argument (place + 1))
-right_or_fault None given = Ok (six_of (filter_map argument_of given))
+abbrev pub six_or_fault : List (List ℕ) → Result (List ℕ) Fault
+six_or_fault given = numbers_from 1 given &> λ numbers. Ok (six_of numbers)
 
-unfoldable pub arguments_of : List (List ℕ) → Result (List ℕ) CallFault
-arguments_of given = if nat_lt 6 (length given) then Err TooMany else right_or_fault (first_wrong given) given
+unfoldable pub arguments_of : List (List ℕ) → Result (List ℕ) Fault
+arguments_of given = if nat_lt 6 (length given) then Err too_many else six_or_fault given
 
 -- ---- the whole word
 
@@ -109,9 +155,13 @@ named_by by word = one_of (words_of (name_part word)) >>= λ name. nr_of by name
 
 -- the call of an architecture, with the instruction pointer 0; or the first of its faults: the name, the parentheses, too
 -- many arguments, a wrong one
-unfoldable pub call_of : Architecture → List ℕ → Result Record CallFault
+unfoldable pub call_of : Architecture → List ℕ → Result Record Fault
 call_of by word =
-    or_fault NoCall (named_by by word)
-    &> λ nr. or_fault Unclosed (inside_of word)
+    or_fault no_call (named_by by word)
+    &> λ nr. or_fault unclosed (inside_of word)
     &> λ inside. arguments_of (given_in inside)
     &> λ args. Ok (record { nr = nr; arch = audit_of by; ip = 0; args = args })
+
+-- that of a word that may have texts in double quotes; what is wrong with these is the first of its faults
+abbrev pub call_meant : Architecture → List ℕ → Result Record Fault
+call_meant by word = or_fault unquoted (plain_of word) &> λ plain. call_of by plain

@@ -1,5 +1,6 @@
 pub mod WordCalls
 pub mod CallWords
+pub mod Answers
 pub mod Faults
 pub mod WorkedWords
 pub mod Calls

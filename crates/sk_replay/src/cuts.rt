@@ -1,7 +1,7 @@
 //! Texts, cut at a byte.
 ghost use Rattle.std.specs.Prelude.{◌≡◌, ◌==◌, ◌∷◌, count_by};
 ghost use Rattle.std.specs.Option.{option_map};
-ghost use Rattle.sk_replay.specs.CallWords.{commas_cut, cut_at, left_of};
+ghost use Rattle.sk_replay.specs.CallWords.{cut_all, cut_at, left_of};
 
 use sk_text::cut;
 
@@ -17,12 +17,12 @@ pub(crate) fn cut_at(text: &[u8], byte: u8) -> Option<(&[u8], &[u8])>
     }
 }
 
-/// What stands before the first comma, and behind it what is left of the text.
-pub(crate) fn first_given(text: &[u8]) -> (&[u8], Option<&[u8]>)
-    ensures given { commas_cut text.now ≡ result.0.now ∷ left_of (option_map (λ rest. rest.now) result.1) }
+/// What stands before the first such byte, and behind it what is left of the text.
+pub(crate) fn first_piece(text: &[u8], byte: u8) -> (&[u8], Option<&[u8]>)
+    ensures piece { cut_all byte text.now ≡ result.0.now ∷ left_of byte (option_map (λ rest. rest.now) result.1) }
 {
-    match cut_at(text, b',') {
-        Some((given, rest)) => (given, Some(rest)),
+    match cut_at(text, byte) {
+        Some((piece, rest)) => (piece, Some(rest)),
         None => (text, None),
     }
 }

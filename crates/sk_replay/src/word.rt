@@ -2,6 +2,7 @@
 ghost use Rattle.std.specs.Prelude.{◌≡◌};
 ghost use Rattle.std.specs.Option.{option_map};
 ghost use Rattle.sk_replay.specs.CallWords.{call_of, closed, inside_of, name_part, named_by};
+ghost use Rattle.sk_replay.specs.Faults.{said};
 
 use crate::argument::arguments;
 use crate::cuts::cut_at;
@@ -11,11 +12,12 @@ use sk_insn::Record;
 use sk_names::Architecture;
 use sk_text::{Words, cut, no_word, one_word};
 
-/// The call of an architecture that a word stands for, as `openat(-100, 0x7f00, 0)`, or the first of its faults. The
-/// instruction pointer is 0. A number is taken as it is written: on x32 `read` has bit 30, and `0` has not.
+/// The call of an architecture that a word without double quotes stands for, as `openat(AT_FDCWD, 0x7f00, O_RDONLY)`, or the
+/// first of its faults. The instruction pointer is 0. A number is taken as it is written: on x32 `read` has bit 30, and `0`
+/// has not.
 #[tactic(auto, unfolding(crate::specs::CallWords::call_of))]
-pub fn call_in(architecture: Architecture, word: &[u8]) -> Result<Record, CallFault>
-    ensures exact { result ≡ call_of architecture word.now }
+pub fn call_in(architecture: Architecture, word: &[u8]) -> Result<Record, CallFault<'_>>
+    ensures exact { said result ≡ call_of architecture word.now }
 {
     let nr = named_by(architecture, word).ok_or(CallFault::NoCall)?;
     let inside = inside_of(word).ok_or(CallFault::Unclosed)?;

@@ -55,7 +55,7 @@ bytes_record call =
     (bytes_append (little_bytes 4 call.arch) behind (bytes_little 0 4 call.arch)
     (bytes_append (little_bytes 8 call.ip) (flat_map (little_bytes 8) call.args) (bytes_little 0 8 call.ip) (bytes_flat call.args)))
 
-word_fits : (call : Record) (k : ℕ) → unwrap_or (word_of call k) 0 < 2 ^ 32
+pub word_fits : (call : Record) (k : ℕ) → unwrap_or (word_of call k) 0 < 2 ^ 32
 word_fits call k = by_test (nat_le (k + 4) 64) where
   bytes : List ℕ
   bytes = drop k (record_bytes call)
@@ -66,7 +66,7 @@ word_fits call k = by_test (nat_le (k + 4) 64) where
 
 -- ---- the words of the call that is made
 
-argument_of : (word : ℕ → ℕ) (i : ℕ) → i < 6
+pub argument_of : (word : ℕ → ℕ) (i : ℕ) → i < 6
     → slice_index_or (map (λ at. word at + 2 ^ 32 * word (at + 4)) (16 ∷ 24 ∷ 32 ∷ 40 ∷ 48 ∷ 56 ∷ [])) i 0 ≡ word (16 + 8 * i) + 2 ^ 32 * word (16 + 8 * i + 4)
 argument_of word zero inside = refl
 argument_of word (suc zero) inside = refl
@@ -76,10 +76,10 @@ argument_of word (suc (suc (suc (suc zero)))) inside = refl
 argument_of word (suc (suc (suc (suc (suc zero))))) inside = refl
 argument_of word (suc (suc (suc (suc (suc (suc i)))))) inside = absurd (omega (arith, inside))
 
-lower : (n a b : ℕ) → n ≡ a + 2 ^ 32 * b → a < 2 ^ 32 → n % 2 ^ 32 ≡ a
+pub lower : (n a b : ℕ) → n ≡ a + 2 ^ 32 * b → a < 2 ^ 32 → n % 2 ^ 32 ≡ a
 lower n a b e fits = omega (arith, e, fits)
 
-higher : (n a b : ℕ) → n ≡ a + 2 ^ 32 * b → a < 2 ^ 32 → b < 2 ^ 32 → n / 2 ^ 32 % 2 ^ 32 ≡ b
+pub higher : (n a b : ℕ) → n ≡ a + 2 ^ 32 * b → a < 2 ^ 32 → b < 2 ^ 32 → n / 2 ^ 32 % 2 ^ 32 ≡ b
 higher n a b e fits more = omega (arith, e, fits, more)
 
 pointer_with : (nr : ℕ) (word : ℕ → ℕ) → ((at : ℕ) → word at < 2 ^ 32) → (k : ℕ) → k % 4 ≡ 0 → 8 ≤ k → k < 16 → word_of (with_words nr word) k ≡ Some (word k)
@@ -138,7 +138,7 @@ place_word place call fits aligned above below =
     word_with call.arch (word_there place call) (all_fit place call fits) place aligned above below
     ∙ ap (λ b. Some (if b then call.nr else unwrap_or (word_of call place) 0)) same
 
-is_there : (call : Record) (k : ℕ) → k % 4 ≡ 0 → k < 64 → Some (unwrap_or (word_of call k) 0) ≡ word_of call k
+pub is_there : (call : Record) (k : ℕ) → k % 4 ≡ 0 → k < 64 → Some (unwrap_or (word_of call k) 0) ≡ word_of call k
 is_there call k aligned below = let inside = le-leb (k + 4) 64 (omega (arith, aligned, below)) in rw inside refl
 
 behind_word : (place : ℕ) (call : Record) → call.nr < 2 ^ 32 → (k : ℕ) → k % 4 ≡ 0 → 8 ≤ k → k < 64 → (k == place) ≡ false

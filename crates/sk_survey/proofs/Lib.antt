@@ -23,6 +23,8 @@ pub mod ByArchitecture
 pub mod Chains
 mod Meanings
 pub mod Unseen
+pub mod Without
+pub mod TakenCalls
 mod Valid
 pub mod Words
 pub mod EachCall

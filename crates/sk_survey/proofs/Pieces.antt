@@ -1,5 +1,5 @@
 -- Rows that hold in pieces, with one more row, or with more numbers in the last one.
-use Rattle.std.proofs.Common.{◌≡◌, ℕ, zero, suc, ◌+◌, ◌^◌, ◌≤◌, ◌<◌, ◌⊎◌, inl, inr, List, length, Some, slice_get, get_or, set, sym, subst, arith}
+use Rattle.std.proofs.Common.{◌≡◌, ℕ, ◌+◌, ◌^◌, ◌≤◌, ◌<◌, ◌⊎◌, inl, inr, List, length, Some, slice_get, set, sym, subst, arith}
 use Rattle.std.specs.List.{All, Contains}
 use Rattle.std.proofs.lemmas.List.Elements.{All-contains, All-set}
 use Rattle.std.proofs.lemmas.Option.{get_or_from_slice_get, slice_get_within}
@@ -8,9 +8,9 @@ use Rattle.sk_survey.specs.declared.rows.Row.{Row}
 use Rattle.sk_survey.specs.declared.answers.Answers.{Answers}
 use Rattle.sk_survey.specs.Answers.{answers_of, ChainAnswersAmong, AreRising}
 use Rattle.sk_survey.specs.Ends.{OnlyVerdicts}
-use Rattle.sk_survey.specs.Settling.{AllSettle, TellsOne}
+use Rattle.sk_survey.specs.Settling.{TellsOne}
 use Rattle.sk_survey.specs.Surveys.{Holds, Tell}
-use Rattle.sk_survey.specs.Pieces.{HoldsInPieces, IsPiece}
+use Rattle.sk_survey.specs.Pieces.{HoldsInPieces}
 use Rattle.sk_survey.proofs.Standing.{last_tells}
 
 -- with the same answers

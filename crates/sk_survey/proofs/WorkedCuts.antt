@@ -1,14 +1,12 @@
 -- Each worked cut is what the definitions say.
-use Rattle.std.proofs.Common.{◌≡◌, ◌≢◌, ℕ, suc, ◌+◌, ◌-◌, ◌*◌, ◌^◌, ◌≤◌, ◌<◌, Bool, true, false, inl, inr, List, [], ◌∷◌, length, refl, ap, sym, subst, arith}
+use Rattle.std.proofs.Common.{◌≡◌, ◌≢◌, ℕ, suc, ◌*◌, ◌≤◌, ◌<◌, true, false, refl, subst, arith}
 use Rattle.sk_insn.specs.declared.operation.Comparison.TheVariants.{Equal, Greater, GreaterOrEqual, CommonBits}
 use Rattle.std.specs.Int.Count.{count_trailing_zeros}
 use Rattle.sk_insn.specs.Operations.{operation_of}
-use Rattle.sk_filter.specs.Chains.{cost_of}
 use Rattle.sk_filter.specs.Meaning.{holds}
 use Rattle.sk_filter.specs.WorkedMeanings.{call_of}
-use Rattle.sk_survey.specs.Turning.{Turns, TestsNumber}
-use Rattle.sk_survey.specs.WorkedEnds.{asks_an_argument}
-use Rattle.sk_survey.specs.WorkedCuts.{tests_a_masked_number, MayHave, WorkedCuts}
+use Rattle.sk_survey.specs.Turning.{Turns}
+use Rattle.sk_survey.specs.WorkedCuts.{MayHave, WorkedCuts}
 
 yes : true ≢ false
 yes e = cc

@@ -57,11 +57,13 @@ chain_by_architecture programs = option_map (λ place. chain_with_number_at plac
 
 -- ---- the call
 
--- the call of x86-64 with this number and with these words behind it: those of the instruction pointer and of the
--- arguments, of each the lower one first
+-- arguments of these words, of each the lower one first
+abbrev pub arguments_of : (ℕ → ℕ) → List ℕ
+arguments_of word = map (λ at. word at + 2 ^ 32 * word (at + 4)) (16 ∷ 24 ∷ 32 ∷ 40 ∷ 48 ∷ 56 ∷ [])
+
+-- the call of x86-64 with this number and with these words behind it: those of the instruction pointer and of the arguments
 abbrev pub with_words : ℕ → (ℕ → ℕ) → Record
-with_words nr word =
-    native nr (word 8 + 2 ^ 32 * word 12) (map (λ at. word at + 2 ^ 32 * word (at + 4)) (16 ∷ 24 ∷ 32 ∷ 40 ∷ 48 ∷ 56 ∷ []))
+with_words nr word = native nr (word 8 + 2 ^ 32 * word 12) (arguments_of word)
 
 -- the call whose number is the architecture of this one, with the number at a place, and else the words of this one
 abbrev pub by_architecture : ℕ → Record → Record

@@ -11,6 +11,8 @@ pub mod Turning
 pub mod Cutting
 pub mod ByArchitecture
 pub mod ChainsFor
+pub mod Without
+pub mod Taken
 pub mod Changes
 pub mod Looks
 pub mod AnswersByArchitecture

@@ -1,5 +1,5 @@
 -- Where the tests of filters turn, and how many cuts there may be, worked out by hand.
-use Rattle.std.specs.Prelude.{ℕ, suc, ◌≡◌, ◌-◌, ◌*◌, ◌^◌, List, [], ◌∷◌, length}
+use Rattle.std.specs.Prelude.{ℕ, suc, ◌≡◌, ◌-◌, ◌*◌, List, [], ◌∷◌, length}
 use Rattle.sk_insn.specs.declared.insn.Insn.{Insn}
 use Rattle.sk_insn.specs.declared.operation.Register.TheVariants.{Accumulator}
 use Rattle.sk_insn.specs.declared.operation.Operand.TheVariants.{Constant}

@@ -6,6 +6,8 @@ ghost use Rattle.sk_survey.specs.Looks.{UnseenArchitectures};
 ghost use Rattle.sk_survey.specs.AnswersByArchitecture.{OneVerdictIsOfEachCall};
 ghost use Rattle.sk_survey.specs.Other.{OtherVerdictIsOfEachCall};
 ghost use Rattle.sk_survey.specs.Settled.{OneVerdictIsTold};
+ghost use Rattle.sk_survey.specs.Taken.{ChainsTakeCalls, ChainsWithoutUnread, TakenIsTakenSo, WorkedTaken};
+ghost use Rattle.sk_survey.specs.Without.{ChainsWithout};
 ghost use Rattle.sk_survey.specs.Worked.{WarnsWhereItIsWritten, WorkedNamesakes, WorkedNumbers};
 
 /// What a chain for an architecture answers to a call of x86-64, the chain itself answers to the same call of that architecture.
@@ -22,6 +24,24 @@ pub fn unseen_architectures()
 /// chain itself answers to the call.
 pub fn chains_by_architecture()
     ensures law { ChainsByArchitecture }
+{}
+
+/// What a chain without some words answers to a call, the chain itself answers to the call with 0 in place of them.
+pub fn chains_without()
+    ensures law { ChainsWithout }
+{}
+
+/// What a chain without the words that Linux does not read answers to a call, the chain itself answers to the call that Linux takes
+/// it for; it is enough to leave out those that a filter loads. And what Linux takes a call for, it takes for itself.
+pub fn chains_take_calls()
+    ensures unread { ChainsWithoutUnread }
+    ensures loaded { ChainsTakeCalls }
+    ensures again { TakenIsTakenSo }
+{}
+
+/// Calls are taken for what was worked out by hand.
+pub fn worked_taken()
+    ensures law { WorkedTaken }
 {}
 
 /// The definitions give what was worked out by hand.

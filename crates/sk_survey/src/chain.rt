@@ -4,6 +4,7 @@ ghost use Rattle.sk_filter.specs.Chains.{IsWithinLimit};
 ghost use Rattle.sk_survey.specs.ByArchitecture.{chain_by_architecture};
 ghost use Rattle.sk_survey.specs.ChainsFor.{chain_for};
 ghost use Rattle.sk_survey.specs.Changes.{all_changed, IsMade};
+ghost use Rattle.sk_survey.specs.Without.{chain_without};
 
 use crate::change::Change;
 use crate::looks::free_place;
@@ -31,10 +32,18 @@ pub fn chain_by_architecture(alloc: Global, chain: &Chain) -> Result<Option<Chai
     }
 }
 
-fn changed_chain(alloc: Global, chain: &Chain, change: Change) -> Result<Chain, AllocError>
+/// The chain in which each filter loads 0 wherever it loads a word at one of these places.
+pub fn chain_without(alloc: Global, chain: &Chain, places: &[u32]) -> Result<Chain, AllocError>
+    requires limited { IsWithinLimit chain.now }
+    ensures chain { IfOk result (λ it. it ≡ chain_without places.now chain.now) }
+{
+    changed_chain(alloc, chain, Change::Without(places))
+}
+
+fn changed_chain(alloc: Global, chain: &Chain, change: Change<'_>) -> Result<Chain, AllocError>
     requires limited { IsWithinLimit chain.now }
     requires made { IsMade change }
-    ensures chain { IfOk result (λ it. it ≡ all_changed change chain.now) }
+    ensures chain { IfOk result (λ it. it ≡ all_changed change.entry chain.now) }
 {
     let programs = changed_programs(alloc, chain, change)?;
     attached(alloc, programs)
@@ -44,10 +53,10 @@ fn changed_chain(alloc: Global, chain: &Chain, change: Change) -> Result<Chain, 
 fn changed_programs(
     alloc: Global,
     chain: &Chain,
-    change: Change,
+    change: Change<'_>,
 ) -> Result<Vec<Checked>, AllocError>
     requires made { IsMade change }
-    ensures programs { IfOk result (λ programs. programs.items ≡ all_changed change chain.now) }
+    ensures programs { IfOk result (λ programs. programs.items ≡ all_changed change.entry chain.now) }
 {
     let mut programs = Vec::with_capacity(alloc, chain.len())?;
     for program in chain.programs() {

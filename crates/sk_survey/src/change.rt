@@ -4,6 +4,7 @@ ghost use Rattle.sk_insn.specs.Operations.{operation_of};
 ghost use Rattle.sk_filter.specs.Architectures.{loads_architecture, with_architecture};
 ghost use Rattle.sk_survey.specs.ByArchitecture.{loads_word, with_number_at};
 ghost use Rattle.sk_survey.specs.Changes.{changed};
+ghost use Rattle.sk_survey.specs.Without.{is_among, loads_among, without};
 
 use sk_insn::{Insn, Operation, Register, decode};
 
@@ -13,23 +14,26 @@ const NUMBER_PLACE: u32 = 0;
 /// Where the record of a call has its architecture.
 const ARCHITECTURE_PLACE: u32 = 4;
 
-/// What is loaded in place of the architecture.
+/// What is loaded in place of words of the record.
 #[derive(Clone, Copy)]
-pub(crate) enum Change {
-    /// A constant.
+pub(crate) enum Change<'a> {
+    /// A constant in place of the architecture.
     Constant(u32),
-    /// The number, and in place of the number the word at a place.
+    /// The number in place of the architecture, and in place of the number the word at a place.
     NumberAt(u32),
+    /// 0 in place of the words at these places.
+    Without(&'a [u32]),
 }
 
-impl Change {
+impl Change<'_> {
     /// The instruction with this change.
     pub(crate) fn changed(self, insn: Insn) -> Insn
-        ensures insn { result ≡ changed self insn }
+        ensures insn { result ≡ changed self.entry insn }
     {
         match self {
             Change::Constant(architecture) => with_architecture(insn, architecture),
             Change::NumberAt(place) => with_number_at(insn, place),
+            Change::Without(places) => without(insn, places),
         }
     }
 }
@@ -63,6 +67,20 @@ fn with_number_at(insn: Insn, place: u32) -> Insn
     }
 }
 
+fn without(insn: Insn, places: &[u32]) -> Insn
+    ensures insn { result ≡ without places.now insn }
+{
+    if loads_among(insn, places) {
+        Insn {
+            code: Operation::LoadConstant(Register::Accumulator).code(),
+            k: 0,
+            ..insn
+        }
+    } else {
+        insn
+    }
+}
+
 /// Whether it loads the architecture of the call.
 #[tactic(auto, using(crate::proofs::Words::architecture_there))]
 pub(crate) fn loads_architecture(insn: Insn) -> bool
@@ -79,4 +97,20 @@ pub(crate) fn loads_word(insn: Insn, place: u32) -> bool
         Some(Operation::LoadRecord) => insn.k == place,
         _ => false,
     }
+}
+
+// Whether it loads the word at one of these places.
+fn loads_among(insn: Insn, places: &[u32]) -> bool
+    ensures loads { result ≡ loads_among places.now (operation_of insn.code) insn }
+{
+    match decode(insn.code) {
+        Some(Operation::LoadRecord) => is_among(places, insn.k),
+        _ => false,
+    }
+}
+
+fn is_among(places: &[u32], place: u32) -> bool
+    ensures among { result ≡ is_among places.now place }
+{
+    places.iter().any(|one| *one == place)
 }

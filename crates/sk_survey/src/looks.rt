@@ -32,7 +32,8 @@ pub(crate) fn free_place(chain: &Chain) -> Option<u32>
         .find(|place| !chain_loads(chain, *place))
 }
 
-fn chain_loads(chain: &Chain, place: u32) -> bool
+/// Whether some filter of the chain loads the word at a place.
+pub(crate) fn chain_loads(chain: &Chain, place: u32) -> bool
     ensures loads { result ≡ chain_loads place chain.now }
 {
     chain

@@ -23,10 +23,10 @@ pub fn program_for(
 pub(crate) fn changed_program(
     alloc: Global,
     program: &Checked,
-    change: Change,
+    change: Change<'_>,
 ) -> Result<Checked, AllocError>
     requires made { IsMade change }
-    ensures program { IfOk result (λ it. it ≡ map (changed change) program.now) }
+    ensures program { IfOk result (λ it. it ≡ map (changed change.entry) program.now) }
 {
     match check(changed_insns(alloc, program.insns(), change)?) {
         Ok(checked) => Ok(checked),
@@ -34,8 +34,8 @@ pub(crate) fn changed_program(
     }
 }
 
-fn changed_insns(alloc: Global, insns: &[Insn], change: Change) -> Result<Vec<Insn>, AllocError>
-    ensures insns { IfOk result (λ it. it.items ≡ map (changed change) insns.now) }
+fn changed_insns(alloc: Global, insns: &[Insn], change: Change<'_>) -> Result<Vec<Insn>, AllocError>
+    ensures insns { IfOk result (λ it. it.items ≡ map (changed change.entry) insns.now) }
 {
     let mut others = Vec::with_capacity(alloc, insns.len())?;
     for insn in insns {

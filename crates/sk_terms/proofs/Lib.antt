@@ -1,4 +1,5 @@
 pub mod Masks
+pub mod Parts
 pub mod Halves
 pub mod Ends
 pub mod Meeting
@@ -10,3 +11,4 @@ pub mod Numbers
 pub mod Telling
 pub mod WorkedTerms
 pub mod WorkedLines
+pub mod WorkedConstants

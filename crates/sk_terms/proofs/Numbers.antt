@@ -1,5 +1,5 @@
 -- The calls that come to one end of a tree of terms, and what its lines say of their numbers.
-use Rattle.std.proofs.Common.{◌≡◌, ℕ, ◌<◌, ◌≤◌, ◌&&◌, ◌||◌, inl, Bool, true, false, not, List, [], ◌∷◌, filter, bit_and, ap, sym, ◌∙◌, refl, arith}
+use Rattle.std.proofs.Common.{◌≡◌, ℕ, ◌&&◌, ◌||◌, inl, Bool, true, false, not, List, [], ◌∷◌, filter, bit_and, ap, sym, ◌∙◌, refl, arith}
 use Rattle.std.specs.List.{All}
 use Rattle.std.proofs.lemmas.Bool.{true≢false}
 use Rattle.sk_insn.specs.declared.record.Record.{Record}

@@ -4,6 +4,9 @@ pub mod Lines
 pub mod Numbers
 pub mod Merging
 pub mod Expressions
+pub mod Constants
+pub mod Known
 pub mod Text
 pub mod WorkedTerms
 pub mod WorkedLines
+pub mod WorkedConstants

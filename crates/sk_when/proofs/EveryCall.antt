@@ -27,7 +27,7 @@ neither : (a b : Bool) → (a || b) ≡ false → (a ≡ false) × (b ≡ false)
 neither true b e = cc
 neither false b e = (refl, e)
 
-one : (a b : Bool) → (a || b) ≡ true → (a ≡ true) ⊎ (b ≡ true)
+pub one : (a b : Bool) → (a || b) ≡ true → (a ≡ true) ⊎ (b ≡ true)
 one true b e = inl refl
 one false b e = inr e
 
@@ -99,12 +99,12 @@ first_true false true e = cc
 first_true false false e = cc
 
 pub holds_on_every_call : HoldsOnEveryCall
-holds_on_every_call architecture relation old new is_spent text it call native below =
+holds_on_every_call naming architecture relation old new is_spent text it call native below =
     let none = both_false (list_any is_apart it.pieces) (list_any may_fail it.pieces) it.stands in
     covers relation old new it.pieces 0 4294967296 it.compared none.1 call native (omega arith) below
 
 pub fails_on_a_call : FailsOnACall
-fails_on_a_call architecture relation old new is_spent text it =
+fails_on_a_call naming architecture relation old new is_spent text it =
     finds relation old new it.pieces 0 4294967296 it.compared (first_true (list_any is_apart it.pieces) (list_any may_fail it.pieces) it.stands)
 
 -- pieces of which each part shows a call
@@ -130,7 +130,7 @@ false_true false true e = (refl, refl)
 false_true false false e = cc
 
 pub followed_is_decided : FollowedIsDecided
-followed_is_decided architecture relation old new finding text follows follows' it =
+followed_is_decided naming architecture relation old new finding text follows follows' it =
     let all = it.decided follows follows' refl in (
       λ undecided.
           let split = false_true (list_any is_apart it.pieces) (list_any may_fail it.pieces) (sym undecided ∙ it.stands) in
@@ -142,7 +142,7 @@ followed_is_decided architecture relation old new finding text follows follows' 
 at_most_itself : (a : ℤ) → int_le a a ≡ true
 at_most_itself a = grind (arith, ints)
 
-relates_itself : (relation : Relation) (value : ℕ) → relates relation value value ≡ true
+pub relates_itself : (relation : Relation) (value : ℕ) → relates relation value value ≡ true
 relates_itself Same value = eq-eqb value value refl
 relates_itself AsStrict value = at_most_itself (precedence_of (as_it_ends value))
 

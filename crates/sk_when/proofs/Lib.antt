@@ -14,3 +14,7 @@ pub mod Filled
 pub mod FilledLines
 pub mod OneCall
 pub mod EachVerdict
+pub mod Linting
+pub mod WorkedLints
+pub mod WithoutWords
+pub mod Counts

@@ -1,5 +1,5 @@
 -- The worked rows: what is told of each call, and the text.
-use Rattle.std.proofs.Common.{◌≡◌, ℕ, ◌%◌, ◌==◌, ◌&&◌, ◌||◌, ◌^◌, Bool, true, false, not, if◌then◌else◌, nat_le, bit_and, List, [], ◌∷◌, ◌++◌, length, map, codes, Option, Some, sym, ap, subst, ◌∙◌, refl, arith, eqb-true}
+use Rattle.std.proofs.Common.{◌≡◌, ℕ, ◌%◌, ◌==◌, ◌&&◌, ◌||◌, ◌^◌, Bool, true, false, not, if◌then◌else◌, nat_le, bit_and, List, [], ◌∷◌, ◌++◌, length, map, codes, Option, Some, None, sym, ap, subst, ◌∙◌, refl, arith, eqb-true}
 use Rattle.std.specs.Fmt.{digits}
 use Rattle.std.specs.List.{All}
 use Rattle.std.specs.Option.{option_map_or}
@@ -27,6 +27,8 @@ use Rattle.sk_terms.specs.declared.choices.Choice.{Choice}
 use Rattle.sk_terms.specs.declared.lines.Line.{Line}
 use Rattle.sk_terms.specs.declared.term.Register.TheVariants.{Argument}
 use Rattle.sk_terms.specs.declared.term.Term.{Term}
+use Rattle.sk_terms.specs.declared.known.Known.{Known}
+use Rattle.sk_terms.specs.Known.{known_by}
 use Rattle.sk_terms.specs.Lines.{meets_line, told_by}
 use Rattle.sk_terms.specs.Numbers.{numbered, TellsNoWhole}
 use Rattle.sk_terms.specs.Terms.{holds_term, register_of}
@@ -35,6 +37,9 @@ use Rattle.sk_terms.specs.WorkedLines.{terms_of}
 use Rattle.sk_terms.proofs.Halves.{argument_low}
 use Rattle.sk_terms.proofs.WorkedLines.{line_met, met_terms, told_first}
 use Rattle.sk_when.specs.declared.row.ConditionalRow.{ConditionalRow}
+use Rattle.sk_arguments.specs.declared.naming.Naming.TheVariants.{Numbers}
+use Rattle.sk_arguments.specs.Naming.{call_with_constants}
+use Rattle.sk_when.specs.Naming.{constants_of, names_of}
 use Rattle.sk_when.specs.Filling.{filled_behind}
 use Rattle.sk_when.specs.Lines.{IsMet, IsTold, IsVerdict, or_else, told_of}
 use Rattle.sk_when.specs.WhenText.{before_text, ends_text, line_text, row_text}
@@ -211,22 +216,24 @@ never_else told is wrong =
 
 -- ---- the text
 
-one_choice : (choices : List Choice) (terms : List Term) → map (λ choice. choice.terms.items) choices ≡ terms ∷ [] → choices_text choices ≡ terms_text terms
-one_choice [] terms e = cc
-one_choice (choice ∷ []) terms e = let same : choice.terms.items ≡ terms = cc in ap terms_text same
-one_choice (choice ∷ other ∷ choices) terms e = cc
+one_choice : (known : Known) (choices : List Choice) (terms : List Term) → map (λ choice. choice.terms.items) choices ≡ terms ∷ []
+    → choices_text known choices ≡ terms_text known terms
+one_choice known [] terms e = cc
+one_choice known (choice ∷ []) terms e = let same : choice.terms.items ≡ terms = cc in ap (terms_text known) same
+one_choice known (choice ∷ other ∷ choices) terms e = cc
 
 line_read : (line : Line) → read line ≡ where_seven 0x7fff0000 → (answers : Option (List ℕ))
-    → line_text answers line ≡ codes "  allow where (args[0] & 0xffffffff) == 0x7\n"
+    → line_text None answers line ≡ codes "  allow where (args[0] & 0xffffffff) == 0x7\n"
 unfolding digits action_of operation_of verdict_text error_named line_text before_text filled_behind
 line_read line e answers =
     let value : line.value ≡ Some 0x7fff0000 = ap (λ r. r.value) e in
-    let condition : condition_text line ≡ terms_text (is_seven ∷ []) = one_choice line.choices.items (is_seven ∷ []) (ap (λ r. r.terms) e) in
-    ap (λ v. before_text answers v ++ (filled_behind (length (before_text answers v)) (condition_text line) ++ codes "\n")) value
+    let condition : condition_text None line ≡ terms_text (known_by None line.choices.items) (is_seven ∷ []) =
+    one_choice (known_by None line.choices.items) line.choices.items (is_seven ∷ []) (ap (λ r. r.terms) e) in
+    ap (λ v. before_text answers v ++ (filled_behind (length (before_text answers v)) (condition_text None line) ++ codes "\n")) value
     ∙ ap (λ t. codes "  allow where " ++ (filled_behind 14 t ++ codes "\n")) condition
 
 lines_read : (lines : List Line) → map read lines ≡ where_seven 0x7fff0000 ∷ [] → (answers : Option (List ℕ))
-    → ends_text answers (Some 0x00050001) lines ≡ codes "\n  allow where (args[0] & 0xffffffff) == 0x7\n  errno/1 EPERM else\n"
+    → ends_text None answers (Some 0x00050001) lines ≡ codes "\n  allow where (args[0] & 0xffffffff) == 0x7\n  errno/1 EPERM else\n"
 unfolding digits action_of operation_of verdict_text error_named
 lines_read [] e answers = cc
 lines_read (line ∷ []) e answers =
@@ -236,24 +243,24 @@ lines_read (line ∷ other ∷ lines) e answers = cc
 
 abbrev head_of : Architecture → ℕ → ℕ → ConditionalRow → List ℕ
 head_of a first last told =
-    numbers_text first last ++ (codes " " ++ (name_text a first last ++ ends_text (answers_of told.row.answers) told.otherwise told.lines.items))
+    numbers_text first last ++ (codes " " ++ (name_text a first last ++ ends_text (constants_of (names_of Numbers a) first last) (answers_of told.row.answers) told.otherwise told.lines.items))
 
 text_on : (a : Architecture) (told : ConditionalRow) → IsRow (where_seven 0x7fff0000 ∷ []) told
-    → row_text a told ≡ codes "39 " ++ (name_text a 39 39 ++ codes "\n  allow where (args[0] & 0xffffffff) == 0x7\n  errno/1 EPERM else\n")
-unfolding digits row_text
+    → row_text (names_of Numbers a) told ≡ codes "39 " ++ (name_text a 39 39 ++ codes "\n  allow where (args[0] & 0xffffffff) == 0x7\n  errno/1 EPERM else\n")
+unfolding digits row_text call_with_constants
 text_on a told is =
     ap (λ first. head_of a first told.row.last told) is.first
     ∙ ap (λ last. head_of a 39 last told) is.last
-    ∙ ap (λ o. codes "39 " ++ (name_text a 39 39 ++ ends_text (answers_of told.row.answers) o told.lines.items)) is.otherwise
+    ∙ ap (λ o. codes "39 " ++ (name_text a 39 39 ++ ends_text None (answers_of told.row.answers) o told.lines.items)) is.otherwise
     ∙ ap (λ t. codes "39 " ++ (name_text a 39 39 ++ t)) (lines_read told.lines.items is.lines (answers_of told.row.answers))
 
 text : (told : ConditionalRow) → IsRow (where_seven 0x7fff0000 ∷ []) told
-    → row_text architecture.X86_64 told ≡ codes "39 getpid\n  allow where (args[0] & 0xffffffff) == 0x7\n  errno/1 EPERM else\n"
+    → row_text (names_of Numbers architecture.X86_64) told ≡ codes "39 getpid\n  allow where (args[0] & 0xffffffff) == 0x7\n  errno/1 EPERM else\n"
 unfolding name_of name_on
 text told is = text_on architecture.X86_64 told is
 
 elsewhere : (told : ConditionalRow) → IsRow (where_seven 0x7fff0000 ∷ []) told
-    → row_text architecture.I386 told ≡ codes "39 mkdir\n  allow where (args[0] & 0xffffffff) == 0x7\n  errno/1 EPERM else\n"
+    → row_text (names_of Numbers architecture.I386) told ≡ codes "39 mkdir\n  allow where (args[0] & 0xffffffff) == 0x7\n  errno/1 EPERM else\n"
 unfolding name_at name_in name_on runs_of
 elsewhere told is = text_on architecture.I386 told is
 

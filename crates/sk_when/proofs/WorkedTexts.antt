@@ -8,7 +8,11 @@ use Rattle.sk_insn.specs.Actions.{action_of}
 use Rattle.sk_insn.specs.Operations.{operation_of}
 use Rattle.sk_names.specs.X86_64.{name_of}
 use Rattle.sk_names.specs.Names.{name_on}
+use Rattle.sk_arguments.specs.declared.naming.Naming.TheVariants as naming
+use Rattle.sk_arguments.specs.Naming.{call_with_constants}
 use Rattle.sk_names.specs.declared.architecture.Architecture.TheVariants as architecture
+use Rattle.sk_terms.specs.Text.{argument_text}
+use Rattle.sk_when.specs.Naming.{names_of}
 use Rattle.sk_filter.specs.VerdictText.{verdict_text}
 use Rattle.sk_filter.specs.Errors.{error_named}
 use Rattle.sk_conditions.specs.declared.numbers.Numbers.{Numbers}
@@ -18,7 +22,7 @@ use Rattle.sk_when.specs.declared.diff_engine.Finding.{Finding}
 use Rattle.sk_when.specs.declared.diff_engine.Finding.TheVariants as finding
 use Rattle.sk_when.specs.declared.piece.Part.{Part}
 use Rattle.sk_when.specs.declared.piece.Piece.{Piece}
-use Rattle.sk_when.specs.DiffText.{argument_text, call_text, verdicts_text, head_text, kind_text, part_text, piece_text, differences_text, record_text}
+use Rattle.sk_when.specs.DiffText.{arguments_text, call_text, verdicts_text, head_text, kind_text, part_text, piece_text, differences_text, record_text}
 use Rattle.sk_when.specs.Pieces.{shows_call, has_parts, finding_of}
 use Rattle.sk_when.specs.WorkedDiffs.{clone}
 use Rattle.sk_when.specs.WorkedTexts.{ColoursWork, OrderWorks, FindingsWork, HasParts, undecided, stricter, looser}
@@ -31,12 +35,12 @@ clone_numbers = record { first = 56; last = 56 }
 
 -- the parts of one kind
 abbrev of_kind : Numbers → List Part → Kind → List ℕ
-of_kind numbers parts kind = flat_map (kind_text architecture.X86_64 kind numbers) parts
+of_kind numbers parts kind = flat_map (kind_text (names_of naming.Numbers architecture.X86_64) kind numbers) parts
 
 abbrev text_of_parts : Numbers → List Part → List ℕ
 text_of_parts numbers parts = (of_kind numbers parts Looser ++ []) ++ ((of_kind numbers parts Other ++ []) ++ (of_kind numbers parts Undecided ++ []))
 
-text_is : (piece : Piece) → differences_text architecture.X86_64 (piece ∷ []) ≡ text_of_parts piece.numbers piece.parts.items
+text_is : (piece : Piece) → differences_text (names_of naming.Numbers architecture.X86_64) (piece ∷ []) ≡ text_of_parts piece.numbers piece.parts.items
 unfolding piece_text
 text_is piece = refl
 
@@ -44,9 +48,9 @@ numbers_are : (parts : List Part) (piece : Piece) → HasParts parts piece → p
 numbers_are parts piece has = λ i. record { first = has.first i; last = has.last i }
 
 written : text_of_parts clone_numbers (undecided ∷ stricter ∷ looser ∷ [])
-    ≡ codes "56 clone: errno/1 EPERM -> allow\n" ++ (record_text architecture.X86_64 clone
-    ++ (codes "56 clone: allow -> errno/1 EPERM\n" ++ (record_text architecture.X86_64 clone ++ codes "56 clone: undecided\n")))
-unfolding digits encode_with action_of operation_of verdict_text error_named verdicts_text head_text part_text kind_text record_text call_text argument_text name_of name_on
+    ≡ codes "56 clone: errno/1 EPERM -> allow\n" ++ (record_text (names_of naming.Numbers architecture.X86_64) clone
+    ++ (codes "56 clone: allow -> errno/1 EPERM\n" ++ (record_text (names_of naming.Numbers architecture.X86_64) clone ++ codes "56 clone: undecided\n")))
+unfolding digits encode_with action_of operation_of verdict_text error_named verdicts_text head_text part_text kind_text record_text call_text arguments_text argument_text call_with_constants name_of name_on
 written = refl
 
 pub order_works : OrderWorks

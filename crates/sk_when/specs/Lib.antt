@@ -1,3 +1,4 @@
+pub mod Naming
 pub mod Lines
 pub mod Filling
 pub mod FillingLaws
@@ -11,3 +12,9 @@ pub mod Pieces
 pub mod WorkedDiffs
 pub mod WorkedTexts
 pub mod Verdicts
+pub mod Lint
+pub mod LintPieces
+pub mod LintText
+pub mod LintNotes
+pub mod Lints
+pub mod WorkedLints

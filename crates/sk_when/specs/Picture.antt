@@ -1,5 +1,5 @@
 -- The tree of one call as text for Graphviz, in its language DOT: https://graphviz.org/doc/info/lang.html.
-use Rattle.std.specs.Prelude.{ℕ, ◌≡◌, ◌+◌, ◌-◌, ◌^◌, ◌<◌, ◌++◌, List, codes, min}
+use Rattle.std.specs.Prelude.{ℕ, ◌≡◌, ◌+◌, ◌-◌, ◌^◌, ◌<◌, ◌++◌, List, codes, min, None}
 use Rattle.std.specs.List.{All}
 use Rattle.std.specs.Fmt.{decimal}
 use Rattle.sk_insn.specs.declared.action.Action.{Action}
@@ -53,7 +53,7 @@ abbrev pub nodes_text : ℕ → Decision → List ℕ
 nodes_text node (Is value) = leaf_text node (verdict_text value) (colour_of (action_of value))
 nodes_text node Untold = leaf_text node (codes "not followed") (codes "white")
 nodes_text node (Ask' term p held q failed) =
-    inner_text node (term_text term)
+    inner_text node (term_text None term)
     ++ (edge_text node (next_node node) (codes "yes")
     ++ (nodes_text (next_node node) held
     ++ (edge_text node (node_after (next_node node) held) (codes "no")

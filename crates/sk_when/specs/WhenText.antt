@@ -1,6 +1,7 @@
 -- The text of `ask when`: rows as those of `ask calls`, and under which condition of C each verdict comes.
 use Rattle.std.specs.Prelude.{ℕ, ◌++◌, List, [], ◌∷◌, length, codes, flat_map, Option, Some, None}
-use Rattle.sk_names.specs.declared.architecture.Architecture.{Architecture}
+use Rattle.sk_when.specs.Naming.{constants_of}
+use Rattle.sk_when.specs.declared.names.Names.{Names}
 use Rattle.sk_engines.specs.Output.{line}
 use Rattle.sk_survey.specs.Answers.{answers_of}
 use Rattle.sk_show.specs.Text.{numbers_text, name_text, answers_text}
@@ -19,21 +20,23 @@ value_text answers None = answers_text answers
 unfoldable pub before_text : Option (List ℕ) → Option ℕ → List ℕ
 before_text answers value = codes "  " ++ (value_text answers value ++ codes " where ")
 
--- a verdict and its condition
-unfoldable pub line_text : Option (List ℕ) → Line → List ℕ
-line_text answers it = before_text answers it.value ++ line (filled_behind (length (before_text answers it.value)) (condition_text it))
+-- a verdict and its condition, with the constants of a call where one is given
+unfoldable pub line_text : Option ℕ → Option (List ℕ) → Line → List ℕ
+line_text call answers it =
+    before_text answers it.value ++ line (filled_behind (length (before_text answers it.value)) (condition_text call it))
 
 -- one verdict behind the numbers and the name, or lines below them, the last one with `else`
-abbrev pub ends_text : Option (List ℕ) → Option ℕ → List Line → List ℕ
-ends_text answers otherwise [] = codes " " ++ line (value_text answers otherwise)
-ends_text answers otherwise (first ∷ lines) =
-    line [] ++ (flat_map (line_text answers) (first ∷ lines) ++ (codes "  " ++ (value_text answers otherwise ++ line (codes " else"))))
+abbrev pub ends_text : Option ℕ → Option (List ℕ) → Option ℕ → List Line → List ℕ
+ends_text call answers otherwise [] = codes " " ++ line (value_text answers otherwise)
+ends_text call answers otherwise (first ∷ lines) =
+    line [] ++ (flat_map (line_text call answers) (first ∷ lines) ++ (codes "  " ++ (value_text answers otherwise ++ line (codes " else"))))
 
 -- one row: its numbers, the name that a single one has on the architecture, and the verdicts
-unfoldable pub row_text : Architecture → ConditionalRow → List ℕ
-row_text architecture told =
+unfoldable pub row_text : Names → ConditionalRow → List ℕ
+row_text names told =
     numbers_text told.row.first told.row.last
-    ++ (codes " " ++ (name_text architecture told.row.first told.row.last ++ ends_text (answers_of told.row.answers) told.otherwise told.lines.items))
+    ++ (codes " " ++ (name_text names.architecture told.row.first told.row.last
+    ++ ends_text (constants_of names told.row.first told.row.last) (answers_of told.row.answers) told.otherwise told.lines.items))
 
-abbrev pub when_text : Architecture → List ConditionalRow → List ℕ
-when_text architecture rows = flat_map (row_text architecture) rows
+abbrev pub when_text : Names → List ConditionalRow → List ℕ
+when_text names rows = flat_map (row_text names) rows

@@ -4,8 +4,9 @@ use Rattle.sk_insn.specs.declared.insn.Insn.{Insn}
 use Rattle.sk_insn.specs.declared.record.Record.{Record}
 use Rattle.sk_insn.specs.Record.{native}
 use Rattle.sk_names.specs.declared.architecture.Architecture.TheVariants as architecture
+use Rattle.sk_arguments.specs.declared.naming.Naming.TheVariants.{Numbers, Constants}
 use Rattle.sk_conditions.specs.declared.differences.Verdicts.{Verdicts}
-use Rattle.sk_conditions.specs.declared.numbers.Numbers.{Numbers}
+use Rattle.sk_conditions.specs.declared.numbers.Numbers as range
 use Rattle.sk_conditions.specs.declared.standing.Relation.{Relation}
 use Rattle.sk_conditions.specs.declared.standing.Relation.TheVariants.{AsStrict}
 use Rattle.sk_when.specs.declared.piece.Calls.TheVariants.{Every}
@@ -13,6 +14,7 @@ use Rattle.sk_when.specs.declared.piece.Outcome.{Outcome}
 use Rattle.sk_when.specs.declared.piece.Outcome.TheVariants.{Undecided, Apart}
 use Rattle.sk_when.specs.declared.piece.Part.{Part}
 use Rattle.sk_when.specs.declared.diff_text.Kind.TheVariants.{Looser, Other}
+use Rattle.sk_when.specs.Naming.{names_of}
 use Rattle.sk_when.specs.DiffText.{call_text, record_text, outcome_text, head_text, kind_of, is_kind}
 use Rattle.sk_when.specs.Pieces.{HoldsOf, shows_call, has_parts, meets_calls}
 
@@ -22,11 +24,12 @@ clone = native 56 0 (0x10000011 ∷ 0 ∷ 0 ∷ 0xffffffffffffffff ∷ 0 ∷ 1 �
 abbrev pub unnamed : Record
 unnamed = native 4000 0x401000 (0 ∷ 0 ∷ 0 ∷ 0 ∷ 0 ∷ 0 ∷ [])
 
--- a call with a name, and one without, which stands at an address; 56 is openat(2) on aarch64, and its record says aarch64
+-- a call with a name, its first argument by constants, and a call without a name, which stands at an address; 56 is openat(2) on aarch64, and its record says aarch64
 pub record CallsWork : Type 0 where
-  pub named : call_text architecture.X86_64 clone ≡ codes "syscall(SYS_clone, 0x10000011, 0x0, 0x0, 0xffffffffffffffff, 0x0, 0x1)"
-  pub numbered : call_text architecture.X86_64 unnamed ≡ codes "syscall(4000, 0x0, 0x0, 0x0, 0x0, 0x0, 0x0) at 0x401000"
-  pub elsewhere : record_text architecture.Aarch64 clone ≡
+  pub named : call_text (names_of Numbers architecture.X86_64) clone ≡ codes "syscall(SYS_clone, 0x10000011, 0x0, 0x0, 0xffffffffffffffff, 0x0, 0x1)"
+  pub with_constants : call_text (names_of Constants architecture.X86_64) clone ≡ codes "syscall(SYS_clone, SIGCHLD|CLONE_NEWUSER, 0x0, 0x0, 0xffffffffffffffff, 0x0, 0x1)"
+  pub numbered : call_text (names_of Numbers architecture.X86_64) unnamed ≡ codes "syscall(4000, 0x0, 0x0, 0x0, 0x0, 0x0, 0x0) at 0x401000"
+  pub elsewhere : record_text (names_of Numbers architecture.Aarch64) clone ≡
       codes "  record 38000000b70000c00000000000000000110000100000000000000000000000000000000000000000ffffffffffffffff00000000000000000100000000000000\n"
       ++ codes "  syscall(SYS_openat, 0x10000011, 0x0, 0x0, 0xffffffffffffffff, 0x0, 0x1)\n"
 
@@ -58,7 +61,7 @@ abbrev pub apart : Part
 apart = record { calls = Every; outcome = shows refused }
 
 -- the numbers of clone(2)
-abbrev pub numbers : Numbers
+abbrev pub numbers : range.Numbers
 numbers = record { first = 56; last = 56 }
 
 -- a part that is decided has its call, which is no difference where the relation holds, and neither where it has another number

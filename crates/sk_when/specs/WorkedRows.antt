@@ -10,6 +10,8 @@ use Rattle.sk_terms.specs.declared.term.Term.{Term}
 use Rattle.sk_terms.specs.WorkedLines.{terms_of}
 use Rattle.sk_when.specs.declared.row.ConditionalRow.{ConditionalRow}
 use Rattle.sk_when.specs.Lines.{IsMet, IsTold, told_of}
+use Rattle.sk_arguments.specs.declared.naming.Naming.TheVariants.{Numbers}
+use Rattle.sk_when.specs.Naming.{names_of}
 use Rattle.sk_when.specs.WhenText.{row_text}
 
 -- a line as it is read: its value, and the terms of its choices
@@ -51,9 +53,9 @@ where_both value = record { value = Some value; terms = (is_seven ∷ []) ∷ (i
 pub record RowsWork : Type 0 where
   pub one_line : (told : ConditionalRow) → IsRow (where_seven 0x7fff0000 ∷ []) told → IsTold (compares_again ∷ []) told
   pub text : (told : ConditionalRow) → IsRow (where_seven 0x7fff0000 ∷ []) told
-      → row_text architecture.X86_64 told ≡ codes "39 getpid\n  allow where (args[0] & 0xffffffff) == 0x7\n  errno/1 EPERM else\n"
+      → row_text (names_of Numbers architecture.X86_64) told ≡ codes "39 getpid\n  allow where (args[0] & 0xffffffff) == 0x7\n  errno/1 EPERM else\n"
   pub elsewhere : (told : ConditionalRow) → IsRow (where_seven 0x7fff0000 ∷ []) told
-      → row_text architecture.I386 told ≡ codes "39 mkdir\n  allow where (args[0] & 0xffffffff) == 0x7\n  errno/1 EPERM else\n"
+      → row_text (names_of Numbers architecture.I386) told ≡ codes "39 mkdir\n  allow where (args[0] & 0xffffffff) == 0x7\n  errno/1 EPERM else\n"
   pub twice : (told : ConditionalRow) → IsRow (where_seven 0x7fff0000 ∷ where_seven 0x7fff0000 ∷ []) told → IsTold (compares_again ∷ []) told → ⊥
   pub no_line : (told : ConditionalRow) → IsRow [] told → IsTold (compares_again ∷ []) told → ⊥
   pub killed : (told : ConditionalRow) → IsRow (where_seven 0x00000000 ∷ []) told → IsTold (compares_again ∷ []) told → ⊥

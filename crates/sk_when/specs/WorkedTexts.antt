@@ -8,6 +8,8 @@ use Rattle.sk_when.specs.declared.piece.Calls.TheVariants.{Every}
 use Rattle.sk_when.specs.declared.piece.Outcome.TheVariants.{Undecided}
 use Rattle.sk_when.specs.declared.piece.Part.{Part}
 use Rattle.sk_when.specs.declared.piece.Piece.{Piece}
+use Rattle.sk_arguments.specs.declared.naming.Naming.TheVariants.{Numbers}
+use Rattle.sk_when.specs.Naming.{names_of}
 use Rattle.sk_when.specs.DiffText.{differences_text, record_text}
 use Rattle.sk_when.specs.Picture.{colour_of}
 use Rattle.sk_when.specs.Pieces.{finding_of}
@@ -37,9 +39,9 @@ pub record HasParts (parts : List Part) (piece : Piece) : Type 0 where
 
 -- calls that are let through now stand before all others, and what is undecided stands last; below verdicts their call is told
 pub record OrderWorks : Type 0 where
-  pub text : (piece : Piece) → HasParts (undecided ∷ stricter ∷ looser ∷ []) piece → differences_text architecture.X86_64 (piece ∷ [])
-      ≡ codes "56 clone: errno/1 EPERM -> allow\n" ++ (record_text architecture.X86_64 clone
-      ++ (codes "56 clone: allow -> errno/1 EPERM\n" ++ (record_text architecture.X86_64 clone ++ codes "56 clone: undecided\n")))
+  pub text : (piece : Piece) → HasParts (undecided ∷ stricter ∷ looser ∷ []) piece → differences_text (names_of Numbers architecture.X86_64) (piece ∷ [])
+      ≡ codes "56 clone: errno/1 EPERM -> allow\n" ++ (record_text (names_of Numbers architecture.X86_64) clone
+      ++ (codes "56 clone: allow -> errno/1 EPERM\n" ++ (record_text (names_of Numbers architecture.X86_64) clone ++ codes "56 clone: undecided\n")))
 
 -- one call that is shown is enough for a difference, whatever is undecided before or behind it
 pub record FindingsWork : Type 0 where

@@ -6,9 +6,11 @@ ghost use Rattle.sk_when.specs.Pieces.{is_apart, may_fail, has_parts, finding_of
 ghost use Rattle.sk_when.specs.Diffs.{IsComparison, text_of};
 
 use crate::diff_text::{differences_text, everywhere_text};
+use crate::names::Names;
 use crate::piece::{Part, Piece};
 use crate::pieces::pieces;
 use crate::showing::any_shown;
+use sk_arguments::Naming;
 use sk_conditions::{Budgets, Relation};
 use sk_filter::Chain;
 use sk_names::Architecture;
@@ -32,34 +34,40 @@ pub struct Comparison {
     pub text: String,
 }
 
-/// Compares a new chain with an old one on every call. Both are for the architecture, and calls are told as they are there.
+/// Compares a new chain with an old one on every call. Both are for the architecture, and calls are told as they are there, with
+/// numbers written so.
 /// Where the calls of each row go one way through each filter, no row uses its steps up. How many it takes where they part is not
 /// bounded from above.
 pub fn diff(
     alloc: Global,
+    naming: Naming,
     architecture: Architecture,
     relation: Relation,
     old: &Chain,
     new: &Chain,
     budgets: &mut Budgets,
 ) -> Result<Comparison, AllocError>
-    ensures compared { IfOk result (λ it. IsComparison architecture relation old.now new.now budgets.new.is_spent it.finding (string_bytes it.text)) }
+    ensures compared { IfOk result (λ it. IsComparison naming architecture relation old.now new.now budgets.new.is_spent it.finding (string_bytes it.text)) }
     ensures one_way { NeverPart 0 (2 ^ 32) old.now → NeverPart 0 (2 ^ 32) new.now → budgets.old.is_spent ≡ false → budgets.new.is_spent ≡ false }
 {
     let pieces = pieces(alloc, architecture, relation, old, new, budgets)?;
     let finding = finding_of(&pieces);
-    let text = text_of(alloc, architecture, relation, finding, &pieces)?;
+    let names = Names {
+        naming,
+        architecture,
+    };
+    let text = text_of(alloc, names, relation, finding, &pieces)?;
     Ok(Comparison { finding, text })
 }
 
 fn text_of(
     alloc: Global,
-    architecture: Architecture,
+    names: Names,
     relation: Relation,
     finding: Finding,
     pieces: &[Piece],
 ) -> Result<String, AllocError>
-    ensures text { IfOk result (λ text. string_bytes text ≡ text_of architecture relation finding pieces.now) }
+    ensures text { IfOk result (λ text. string_bytes text ≡ text_of names relation finding pieces.now) }
 {
     match finding {
         Finding::Holds => {
@@ -67,7 +75,7 @@ fn text_of(
             text.push_str(everywhere_text(relation))?;
             Ok(text)
         }
-        Finding::Fails | Finding::Undecided => differences_text(alloc, architecture, pieces),
+        Finding::Fails | Finding::Undecided => differences_text(alloc, names, pieces),
     }
 }
 

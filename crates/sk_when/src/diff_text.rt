@@ -1,14 +1,17 @@
 //! The text of a comparison.
 ghost use Rattle.std.specs.Prelude.{◌≡◌, ◌<◌, ◌++◌, ◌^◌, IfOk, OnOk, string_bytes, codes, flat_map};
-ghost use Rattle.sk_when.specs.DiffText.{call_name_text, argument_text, address_text, call_text, differences_text, piece_text, kind_text, kind_of, is_kind, part_text, verdicts_behind, outcome_text, calls_text, head_text, shown_text, record_text, everywhere_text};
+ghost use Rattle.sk_when.specs.DiffText.{call_name_text, arguments_text, address_text, call_text, differences_text, piece_text, kind_text, kind_of, is_kind, part_text, verdicts_behind, outcome_text, calls_text, head_text, shown_text, record_text, everywhere_text};
 
 use crate::filling::push_filled;
+use crate::names::{Names, constants_of};
 use crate::piece::{Calls, Outcome, Part, Piece};
+use sk_arguments::call_with_constants;
 use sk_conditions::{Numbers, Relation, stands};
 use sk_filter::push_verdict;
 use sk_insn::Record;
 use sk_names::{Architecture, name};
 use sk_show::{name_of_numbers, push_numbers};
+use sk_terms::push_argument;
 use sk_text::HexDigits;
 use std::alloc::{AllocError, Global};
 use std::fmt::Write;
@@ -36,57 +39,43 @@ pub enum Kind {
 
 /// The differences, those first where the new chain is looser, and behind the others what is undecided. Calls have the names
 /// and the records that they have on the architecture.
-pub fn differences_text(
-    alloc: Global,
-    architecture: Architecture,
-    pieces: &[Piece],
-) -> Result<String, AllocError>
-    ensures text { IfOk result (λ text. string_bytes text ≡ differences_text architecture pieces.now) }
+pub fn differences_text(alloc: Global, names: Names, pieces: &[Piece]) -> Result<String, AllocError>
+    ensures text { IfOk result (λ text. string_bytes text ≡ differences_text names pieces.now) }
 {
     let mut text = String::new(alloc);
-    push_all(&mut text, architecture, Kind::Looser, pieces)?;
-    push_all(&mut text, architecture, Kind::Other, pieces)?;
-    push_all(&mut text, architecture, Kind::Undecided, pieces)?;
+    push_all(&mut text, names, Kind::Looser, pieces)?;
+    push_all(&mut text, names, Kind::Other, pieces)?;
+    push_all(&mut text, names, Kind::Undecided, pieces)?;
     Ok(text)
 }
 
-fn push_all(
-    text: &mut String,
-    architecture: Architecture,
-    kind: Kind,
-    pieces: &[Piece],
-) -> Result<(), AllocError>
-    ensures text { OnOk result (string_bytes text.new ≡ string_bytes text.old ++ flat_map (piece_text architecture kind) pieces.now) }
+fn push_all(text: &mut String, names: Names, kind: Kind, pieces: &[Piece]) -> Result<(), AllocError>
+    ensures text { OnOk result (string_bytes text.new ≡ string_bytes text.old ++ flat_map (piece_text names kind) pieces.now) }
 {
     for piece in pieces {
-        push_piece(text, architecture, kind, piece)?;
+        push_piece(text, names, kind, piece)?;
     }
     Ok(())
 }
 
 #[tactic(auto, unfolding(crate::specs::DiffText::piece_text))]
-fn push_piece(
-    text: &mut String,
-    architecture: Architecture,
-    kind: Kind,
-    piece: &Piece,
-) -> Result<(), AllocError>
-    ensures text { OnOk result (string_bytes text.new ≡ string_bytes text.old ++ piece_text architecture kind piece.now) }
+fn push_piece(text: &mut String, names: Names, kind: Kind, piece: &Piece) -> Result<(), AllocError>
+    ensures text { OnOk result (string_bytes text.new ≡ string_bytes text.old ++ piece_text names kind piece.now) }
 {
-    push_parts(text, architecture, kind, piece.numbers, &piece.parts)
+    push_parts(text, names, kind, piece.numbers, &piece.parts)
 }
 
 fn push_parts(
     text: &mut String,
-    architecture: Architecture,
+    names: Names,
     kind: Kind,
     numbers: Numbers,
     parts: &[Part],
 ) -> Result<(), AllocError>
-    ensures text { OnOk result (string_bytes text.new ≡ string_bytes text.old ++ flat_map (kind_text architecture kind numbers) parts.now) }
+    ensures text { OnOk result (string_bytes text.new ≡ string_bytes text.old ++ flat_map (kind_text names kind numbers) parts.now) }
 {
     for part in parts {
-        push_part_of_kind(text, architecture, kind, numbers, part)?;
+        push_part_of_kind(text, names, kind, numbers, part)?;
     }
     Ok(())
 }
@@ -94,17 +83,17 @@ fn push_parts(
 #[tactic(auto, unfolding(crate::specs::DiffText::kind_text))]
 fn push_part_of_kind(
     text: &mut String,
-    architecture: Architecture,
+    names: Names,
     kind: Kind,
     numbers: Numbers,
     part: &Part,
 ) -> Result<(), AllocError>
-    ensures text { OnOk result (string_bytes text.new ≡ string_bytes text.old ++ kind_text architecture kind numbers part.now) }
+    ensures text { OnOk result (string_bytes text.new ≡ string_bytes text.old ++ kind_text names kind numbers part.now) }
 {
     if !is_kind(kind_of(part.outcome), kind) {
         return Ok(());
     }
-    push_part(text, architecture, numbers, part)
+    push_part(text, names, numbers, part)
 }
 
 fn kind_of(outcome: Outcome) -> Kind
@@ -132,21 +121,23 @@ fn is_kind(one: Kind, other: Kind) -> bool
     }
 }
 
+/// Adds one difference.
 #[tactic(auto, unfolding(crate::specs::DiffText::part_text))]
-fn push_part(
+pub fn push_part(
     text: &mut String,
-    architecture: Architecture,
+    names: Names,
     numbers: Numbers,
     part: &Part,
 ) -> Result<(), AllocError>
-    ensures text { OnOk result (string_bytes text.new ≡ string_bytes text.old ++ part_text architecture numbers part.now) }
+    ensures text { OnOk result (string_bytes text.new ≡ string_bytes text.old ++ part_text names numbers part.now) }
 {
     let start = text.len();
-    push_verdicts(text, architecture, numbers, part.outcome)?;
+    push_verdicts(text, names.architecture, numbers, part.outcome)?;
     let column = text.len() - start;
-    push_calls(text, column, &part.calls)?;
+    let call = constants_of(names, numbers.first, numbers.last);
+    push_calls(text, call, column, &part.calls)?;
     text.push_str("\n")?;
-    push_shown(text, architecture, part.outcome)
+    push_shown(text, names, part.outcome)
 }
 
 // The numbers and the verdicts.
@@ -177,52 +168,50 @@ fn push_outcome(text: &mut String, outcome: Outcome) -> Result<(), AllocError>
     }
 }
 
-fn push_calls(text: &mut String, column: usize, calls: &Calls) -> Result<(), AllocError>
+fn push_calls(
+    text: &mut String,
+    call: Option<u32>,
+    column: usize,
+    calls: &Calls,
+) -> Result<(), AllocError>
     requires fits { column < 2 ^ 63 }
-    ensures text { OnOk result (string_bytes text.new ≡ string_bytes text.old ++ calls_text column calls.now) }
+    ensures text { OnOk result (string_bytes text.new ≡ string_bytes text.old ++ calls_text call column calls.now) }
 {
     match calls {
         Calls::Every => Ok(()),
         Calls::Meeting(line) => {
             text.push_str(" where ")?;
-            push_filled(text, column + 7, line)
+            push_filled(text, column + 7, call, line)
         }
     }
 }
 
-fn push_shown(
-    text: &mut String,
-    architecture: Architecture,
-    outcome: Outcome,
-) -> Result<(), AllocError>
-    ensures text { OnOk result (string_bytes text.new ≡ string_bytes text.old ++ shown_text architecture outcome) }
+fn push_shown(text: &mut String, names: Names, outcome: Outcome) -> Result<(), AllocError>
+    ensures text { OnOk result (string_bytes text.new ≡ string_bytes text.old ++ shown_text names outcome) }
 {
     match outcome {
         Outcome::Undecided => Ok(()),
-        Outcome::Apart(_, call) => push_record(text, architecture, call),
+        Outcome::Apart(_, call) => push_record(text, names, call),
     }
 }
 
 #[tactic(auto, unfolding(crate::specs::DiffText::record_text))]
-fn push_record(
-    text: &mut String,
-    architecture: Architecture,
-    call: Record,
-) -> Result<(), AllocError>
-    ensures text { OnOk result (string_bytes text.new ≡ string_bytes text.old ++ record_text architecture call) }
+fn push_record(text: &mut String, names: Names, call: Record) -> Result<(), AllocError>
+    ensures text { OnOk result (string_bytes text.new ≡ string_bytes text.old ++ record_text names call) }
 {
     let there = Record {
-        arch: architecture.audit(),
+        arch: names.architecture.audit(),
         ..call
     };
     let record = HexDigits::<128>::of(&there.bytes());
     write!(text, "  record {record}\n  ")?;
-    push_call(text, architecture, call)?;
+    push_call(text, names, call)?;
     text.push_str("\n")
 }
 
+/// Adds numbers, with the name that a single one has on the architecture.
 #[tactic(auto, unfolding(crate::specs::DiffText::head_text))]
-fn push_head(
+pub fn push_head(
     text: &mut String,
     architecture: Architecture,
     numbers: Numbers,
@@ -234,13 +223,15 @@ fn push_head(
     text.push_str(name_of_numbers(architecture, numbers.first, numbers.last))
 }
 
+/// Adds a call, as syscall(2) makes it.
 #[tactic(auto, unfolding(crate::specs::DiffText::call_text))]
-fn push_call(text: &mut String, architecture: Architecture, call: Record) -> Result<(), AllocError>
-    ensures text { OnOk result (string_bytes text.new ≡ string_bytes text.old ++ call_text architecture call) }
+pub fn push_call(text: &mut String, names: Names, call: Record) -> Result<(), AllocError>
+    ensures text { OnOk result (string_bytes text.new ≡ string_bytes text.old ++ call_text names call) }
 {
     text.push_str("syscall(")?;
-    push_call_name(text, architecture, call.nr)?;
-    push_arguments(text, &call.args)?;
+    push_call_name(text, names.architecture, call.nr)?;
+    let constants = call_with_constants(names.naming, names.architecture, call.nr);
+    push_arguments(text, constants, &call.args)?;
     text.push_str(")")?;
     push_address(text, call.ip)
 }
@@ -258,20 +249,16 @@ fn push_call_name(
     }
 }
 
-fn push_arguments(text: &mut String, arguments: &[u64]) -> Result<(), AllocError>
-    ensures text { OnOk result (string_bytes text.new ≡ string_bytes text.old ++ flat_map argument_text arguments.now) }
+#[tactic(auto, unfolding(crate::specs::DiffText::arguments_text))]
+fn push_arguments(text: &mut String, call: Option<u32>, args: &[u64; 6]) -> Result<(), AllocError>
+    ensures text { OnOk result (string_bytes text.new ≡ string_bytes text.old ++ arguments_text call args.now) }
 {
-    for argument in arguments {
-        push_argument(text, *argument)?;
-    }
-    Ok(())
-}
-
-#[tactic(auto, unfolding(crate::specs::DiffText::argument_text))]
-fn push_argument(text: &mut String, argument: u64) -> Result<(), AllocError>
-    ensures text { OnOk result (string_bytes text.new ≡ string_bytes text.old ++ argument_text argument) }
-{
-    write!(text, ", 0x{argument:x}")
+    push_argument(text, call, args, 0)?;
+    push_argument(text, call, args, 1)?;
+    push_argument(text, call, args, 2)?;
+    push_argument(text, call, args, 3)?;
+    push_argument(text, call, args, 4)?;
+    push_argument(text, call, args, 5)
 }
 
 fn push_address(text: &mut String, address: u64) -> Result<(), AllocError>

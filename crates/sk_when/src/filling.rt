@@ -15,13 +15,18 @@ const BREAK: &str = "\n     ";
 /// The room for a part behind it.
 const ROOM_OF_LINE: usize = 105;
 
-/// Adds the condition of a line behind so many columns.
+/// Adds the condition of a line behind so many columns, with the constants of a call where one is given.
 #[tactic(auto, unfolding(crate::specs::Filling::filled_behind))]
-pub fn push_filled(text: &mut String, column: usize, line: &Line) -> Result<(), AllocError>
-    ensures text { OnOk result (string_bytes text.new ≡ string_bytes text.old ++ filled_behind column (condition_text line.now)) }
+pub fn push_filled(
+    text: &mut String,
+    column: usize,
+    call: Option<u32>,
+    line: &Line,
+) -> Result<(), AllocError>
+    ensures text { OnOk result (string_bytes text.new ≡ string_bytes text.old ++ filled_behind column (condition_text call line.now)) }
 {
     let mut condition = String::new(*text.allocator());
-    push_condition(&mut condition, line)?;
+    push_condition(&mut condition, call, line)?;
     push_parts(text, MOST_COLUMNS.saturating_sub(column), &condition)
 }
 

@@ -3,6 +3,8 @@ ghost use Rattle.sk_when.specs.WorkedRows.{RowsWork};
 ghost use Rattle.sk_when.specs.Diffs.{HoldsOnEveryCall, FailsOnACall, FollowedIsDecided};
 ghost use Rattle.sk_when.specs.WorkedDiffs.{CallsWork, DifferencesWork, PartsWork};
 ghost use Rattle.sk_when.specs.FillingLaws.{JoiningGivesBack, LinesAreWithin, FillingWorks};
+ghost use Rattle.sk_when.specs.Lints.{CleanIsTrue, FollowedLintIsDecided, NowhereLooserIsTrue, SignsAreTold};
+ghost use Rattle.sk_when.specs.WorkedLints.{ConcernsWork, SocketsWork, WordsWork};
 ghost use Rattle.sk_when.specs.WorkedTexts.{ColoursWork, OrderWorks, FindingsWork};
 
 /// What is told of a filter that compares a word again, and that has a path which no call takes.
@@ -44,4 +46,25 @@ pub fn filled_conditions()
     ensures joining { JoiningGivesBack }
     ensures within { LinesAreWithin }
     ensures rows { FillingWorks }
+{}
+
+/// Where `ask lint` tells nothing, no call gets a less strict verdict than the call that Linux takes it for; where nothing stricter is
+/// counted either, calls that are the same one to Linux get the same verdict.
+pub fn lint_tells_of_every_call()
+    ensures looser { NowhereLooserIsTrue }
+    ensures clean { CleanIsTrue }
+{}
+
+/// Filters that are followed are decided by it, unless steps were used up; and what is said of calls with the sign of an int alone is
+/// not left out.
+pub fn lint_leaves_nothing_out()
+    ensures decided { FollowedLintIsDecided }
+    ensures signs { SignsAreTold }
+{}
+
+/// A hole in a filter, what is told of parts, and how it is written, worked out by hand.
+pub fn worked_lints()
+    ensures sockets { SocketsWork }
+    ensures concerns { ConcernsWork }
+    ensures words { WordsWork }
 {}

@@ -1,7 +1,9 @@
 //! When a verdict comes, in expressions of C; and two chains of filters compared on every call: what `ask when` and `ask diff`
-//! write. And calls that show the verdicts of a survey's rows, taken from the trees of the filters: on each of them the chain was run.
+//! write. Calls that are the same one to Linux and get other verdicts,
+//! which `ask lint` tells. And calls that show the verdicts of a survey's rows, taken from the trees of the filters: on each of them the chain was run.
 #![tactic(auto)]
 
+mod concern;
 mod diff_engine;
 mod diff_text;
 mod example;
@@ -9,10 +11,16 @@ mod filling;
 mod judged;
 pub mod laws;
 mod lines;
+mod lint_engine;
+mod lint_notes;
+mod lint_pieces;
+mod lint_text;
+mod names;
 mod parts;
 mod picture;
 mod piece;
 mod pieces;
+mod remarks;
 mod row;
 mod same_filters;
 mod showing;
@@ -21,6 +29,8 @@ mod when_text;
 
 pub use diff_engine::{Comparison, Finding, diff};
 pub use lines::lines_of;
+pub use lint_engine::{Linted, lint};
 pub use picture::dot;
+pub use remarks::Remarks;
 pub use sk_conditions::{Budget, Budgets, Relation};
 pub use when_engine::when;

@@ -1,5 +1,5 @@
 //! The tree of one call as a picture: text for Graphviz.
-ghost use Rattle.std.specs.Prelude.{◌≡◌, ◌+◌, ◌≤◌, ◌++◌, IfOk, OnOk, string_bytes, codes};
+ghost use Rattle.std.specs.Prelude.{◌≡◌, ◌+◌, ◌≤◌, ◌++◌, IfOk, None, OnOk, string_bytes, codes};
 ghost use Rattle.std.specs.List.{All};
 ghost use Rattle.sk_insn.specs.Actions.{action_of};
 ghost use Rattle.sk_filter.specs.Chains.{cost_of};
@@ -106,10 +106,10 @@ fn push_three(text: &mut String, first: &str, second: &str, third: &str) -> Resu
 
 #[tactic(auto, unfolding(crate::specs::Picture::inner_text))]
 fn push_inner(text: &mut String, node: u64, term: Term) -> Result<(), AllocError>
-    ensures text { OnOk result (string_bytes text.new ≡ string_bytes text.old ++ inner_text node (term_text term)) }
+    ensures text { OnOk result (string_bytes text.new ≡ string_bytes text.old ++ inner_text node (term_text None term)) }
 {
     write!(text, "  n{node} [label=\"")?;
-    push_term(text, term)?;
+    push_term(text, None, term)?;
     text.push_str("\"];\n")
 }
 

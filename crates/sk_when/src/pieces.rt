@@ -129,8 +129,8 @@ fn push_piece(
     push(pieces, architecture, piece)
 }
 
-// The piece of some numbers. Of a chain beside itself nothing has to be followed.
-fn next_piece(
+/// The piece of some numbers. Of a chain beside itself nothing has to be followed.
+pub fn next_piece(
     alloc: Global,
     chains: Comparing<'_>,
     are_same: bool,

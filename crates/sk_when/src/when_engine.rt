@@ -7,8 +7,10 @@ ghost use Rattle.sk_conditions.specs.Steps.{GoOneWay, NeverPart};
 ghost use Rattle.sk_show.specs.Lines.{end_told, first_told};
 ghost use Rattle.sk_when.specs.Lines.{IsExact, IsMet, IsTold};
 
+use crate::names::Names;
 use crate::row::{ConditionalRow, conditions_of_row};
 use crate::when_text::when_text;
+use sk_arguments::Naming;
 use sk_conditions::Budgets;
 use sk_filter::Chain;
 use sk_names::Architecture;
@@ -17,20 +19,25 @@ use sk_survey::Row;
 use std::alloc::{AllocError, Global};
 
 /// Tells under which conditions on a call each verdict of the chain comes, for every call or for the one with a number. Calls
-/// have the names that they have on the architecture. Where the calls of each row go one way through each filter, no row uses
-/// its steps up. How many it takes where they part is not bounded from above.
+/// have the names that they have on the architecture, and numbers are written so. Where the calls of each row go one way through
+/// each filter, no row uses its steps up. How many it takes where they part is not bounded from above.
 pub fn when(
     alloc: Global,
+    naming: Naming,
     architecture: Architecture,
     chain: &Chain,
     call: Option<u32>,
     budgets: &mut Budgets,
 ) -> Result<String, AllocError>
-    ensures text { IfOk result (λ text. TellsWhen architecture call chain.now budgets.new.is_spent (string_bytes text)) }
+    ensures text { IfOk result (λ text. TellsWhen naming architecture call chain.now budgets.new.is_spent (string_bytes text)) }
     ensures one_way { NeverPart (first_told call) (end_told call) chain.now → budgets.old.is_spent ≡ false → budgets.new.is_spent ≡ false }
 {
     let rows = told_rows(alloc, architecture, chain, call, budgets)?;
-    when_text(alloc, architecture, &rows)
+    let names = Names {
+        naming,
+        architecture,
+    };
+    when_text(alloc, names, &rows)
 }
 
 // The rows of the chain's survey with their lines.

@@ -1,8 +1,7 @@
 use Rattle.std.proofs.Common.{ℕ, List, ◌++◌, inl, inr, subst}
 use Rattle.sk_ask.specs.Diffs.{IsDiff}
 use Rattle.sk_ask.specs.Endings.{ending_of}
-use Rattle.sk_ask.specs.Finding.{filters_of}
-use Rattle.sk_ask.specs.Reading.{ReadsFilters, IsRefusedOf}
+use Rattle.sk_ask.specs.Reading.{ReadsFilters, IsRefusedOf, read_of}
 use Rattle.sk_ask.specs.Troubles.{OfFiles}
 use Rattle.sk_ask.proofs.Troubles.{handed_on}
 use Rattle.sk_ask.proofs.table.by_word.Goals as goal
@@ -25,10 +24,10 @@ returns-in_ok-old-in-Diff-clause-told g c =
     let end = ending_of c.answer-in-Diff.result in
     let old = c.in_ok-old-in-Diff.old in
     let read =
-    subst (λ (names : List (List ℕ)). ReadsFilters reader.big_endian held reader.context.now names (filters_of old.found) old.chain old.notes.items)
+    subst (λ (names : List (List ℕ)). ReadsFilters reader.big_endian held reader.context.now names (read_of old))
     c.sides.ensures.old c.in_ok-old-in-Diff.ensures.read in
     let told =
     subst (λ (names : List (List ℕ)). OfFiles reader.big_endian held reader.context.now names end
-    (λ other new more. IsDiff may_spend c.args.on.architecture c.in-Diff.stricter old.chain new (old.notes.items ++ more) end))
+    (λ new. IsDiff may_spend c.args.on.naming c.args.on.architecture c.in-Diff.stricter old.chain new.chain (old.notes.items ++ new.notes) end))
     c.sides.ensures.new c.answer-in-Diff.ensures.told in
-    rw c.in-Diff.is (inl (filters_of old.found, old.chain, old.notes.items, read, told))
+    rw c.in-Diff.is (inl (read_of old, read, told))

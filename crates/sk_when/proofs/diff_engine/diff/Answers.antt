@@ -1,6 +1,7 @@
 use Rattle.std.proofs.Common.{List, ap, sym, subst, ◌∙◌}
 use Rattle.sk_insn.specs.declared.insn.Insn.{Insn}
 use Rattle.sk_when.specs.Diffs.{text_of}
+use Rattle.sk_when.specs.Naming.{names_of}
 use Rattle.sk_when.specs.Pieces.{AreCompared, finding_of}
 use Rattle.sk_when.proofs.EveryCall.{same_holds}
 use Rattle.sk_when.proofs.diff_engine.diff.Goals as goal
@@ -22,7 +23,7 @@ returns c =
             stands
             ∙ same_holds c.args.relation old pieces
             (subst (λ (new : List (List Insn)). AreCompared c.args.relation old new 0 4294967296 pieces) (sym same) told.compared) (told.same same);
-        says = c.in_ok-text.ensures.text ∙ ap (text_of c.args.architecture c.args.relation c.finding_of-finding.result) c.deref-2.ensures.value;
+        says = c.in_ok-text.ensures.text ∙ ap (text_of (names_of c.args.naming c.args.architecture) c.args.relation c.finding_of-finding.result) c.deref-2.ensures.value;
       };
       one_way = c.pieces.ensures.one_way;
     }

@@ -3,4 +3,4 @@ use Rattle.sk_when.specs.WhenText.{row_text}
 use Rattle.sk_when.proofs.when_text.when_text.Given as goal
 
 abbrev pub invariant-loop-row : goal.invariant-loop-row
-invariant-loop-row l = string_bytes l.text ≡ flat_map (row_text l.architecture) (take l.row-index l.rows)
+invariant-loop-row l = string_bytes l.text ≡ flat_map (row_text l.names) (take l.row-index l.rows)
