@@ -429,23 +429,26 @@ _ask() {
     local word=${COMP_WORDS[COMP_CWORD]} before=${COMP_WORDS[COMP_CWORD - 1]} asked=${COMP_WORDS[1]}
     COMPREPLY=()
     if [ "$COMP_CWORD" -eq 1 ]; then
-        mapfile -t COMPREPLY < <(compgen -W 'calls when diff replay why show arches filter --help' -- "$word")
+        mapfile -t COMPREPLY < <(compgen -W 'calls when diff lint replay why show arches filter --help' -- "$word")
     elif [ "$before" = --call ] || { [ "$asked" = why ] && [ "$COMP_CWORD" -eq 2 ] && [[ $word != -* ]]; }; then
         mapfile -t COMPREPLY < <(compgen -W "$_ask_calls" -- "$word")
     elif [ "$before" = --cap ]; then
         mapfile -t COMPREPLY < <(compgen -W "$_ask_capabilities" -- "$word")
     elif [ "$before" = --arch ]; then
         mapfile -t COMPREPLY < <(compgen -W 'x86-64 x32 i386 aarch64 arm riscv64 ppc64le s390x loongarch64' -- "$word")
+    elif [ "$before" = --machine ]; then
+        mapfile -t COMPREPLY < <(compgen -W 'x86-64 aarch64 riscv64 ppc64le loongarch64' -- "$word")
     elif [ "$before" = --kernel ]; then
         mapfile -t COMPREPLY < <(compgen -W '5.4 5.10 5.15 6.1 6.6 6.12' -- "$word")
     elif [[ $word == -* ]]; then
         case $asked in
-        calls) mapfile -t COMPREPLY < <(compgen -W '--call --examples --arch --cap --kernel --runc --help' -- "$word") ;;
-        when) mapfile -t COMPREPLY < <(compgen -W '--call --dot --arch --cap --kernel --runc --help' -- "$word") ;;
-        diff) mapfile -t COMPREPLY < <(compgen -W '--stricter --arch --cap --kernel --runc --help' -- "$word") ;;
-        filter) mapfile -t COMPREPLY < <(compgen -W '--raw --cap --kernel --runc --help' -- "$word") ;;
-        replay | why | show) mapfile -t COMPREPLY < <(compgen -W '--arch --cap --kernel --runc --help' -- "$word") ;;
-        *) mapfile -t COMPREPLY < <(compgen -W '--cap --kernel --runc --help' -- "$word") ;;
+        calls) mapfile -t COMPREPLY < <(compgen -W '--call --examples --arch --cap --kernel --machine --native --runc --help' -- "$word") ;;
+        when) mapfile -t COMPREPLY < <(compgen -W '--call --dot --numbers --arch --cap --kernel --machine --native --runc --help' -- "$word") ;;
+        diff) mapfile -t COMPREPLY < <(compgen -W '--stricter --numbers --arch --cap --kernel --machine --native --runc --help' -- "$word") ;;
+        lint) mapfile -t COMPREPLY < <(compgen -W '--all --numbers --cap --kernel --machine --native --runc --help' -- "$word") ;;
+        filter) mapfile -t COMPREPLY < <(compgen -W '--raw --cap --kernel --machine --native --runc --help' -- "$word") ;;
+        replay | why | show) mapfile -t COMPREPLY < <(compgen -W '--arch --cap --kernel --machine --native --runc --help' -- "$word") ;;
+        *) mapfile -t COMPREPLY < <(compgen -W '--cap --kernel --machine --native --runc --help' -- "$word") ;;
         esac
     else
         compopt -o filenames 2>/dev/null

@@ -29,6 +29,10 @@ LOAD_NUMBER, RETURN_ALLOW = insn(0x20), insn(0x06, k=0x7FFF0000)
 ALLOW = RETURN_ALLOW
 # getpid is call 39, and gets errno 1.
 GETPID = LOAD_NUMBER + insn(0x15, 0, 1, 39) + insn(0x06, k=0x00050001) + ALLOW
+# socket(2) with domain 16 gets errno 22: by all 64 bits, and by the lower 32; and all but that domain does, by all 64 bits.
+WIDE = LOAD_NUMBER + insn(0x15, 0, 5, 41) + insn(0x20, k=16) + insn(0x15, 0, 3, 16) + insn(0x20, k=20) + insn(0x15, 0, 1, 0) + insn(0x06, k=0x00050016) + ALLOW
+NARROW = LOAD_NUMBER + insn(0x15, 0, 3, 41) + insn(0x20, k=16) + insn(0x15, 0, 1, 16) + insn(0x06, k=0x00050016) + ALLOW
+ONLY = LOAD_NUMBER + insn(0x15, 0, 5, 41) + insn(0x20, k=16) + insn(0x15, 0, 2, 16) + insn(0x20, k=20) + insn(0x15, 1, 0, 0) + insn(0x06, k=0x00050016) + ALLOW
 # The calls of aarch64 come to 5, those of x86-64 to 7, and both to 8.
 OF_TWO = insn(0x20, k=4) + insn(0x15, 2, 0, 0xC00000B7) + insn(0x15, 3, 0, 0xC000003E) + insn(0x06, k=0x80000000) + LOAD_NUMBER \
     + insn(0x15, 2, 2, 221) + LOAD_NUMBER + insn(0x15, 0, 0, 59) + insn(0x15, 0, 0, 63) + ALLOW
@@ -87,6 +91,9 @@ FILES = {
     "big_endian": insn(0x20, order=">") + insn(0x06, k=0x7FFF0000, order=">"),
     "turned": insn(0x20, order=">") + insn(0x15, 0, 1, 20, order=">") + insn(0x06, k=0x00050001, order=">") + insn(0x06, k=0x7FFF0000, order=">"),
     "of_two": OF_TWO,
+    "wide": WIDE,
+    "narrow": NARROW,
+    "only": ONLY,
     "ragged": GETPID + b"\0",
     "mib": b" " * MIB,
     "mib_and_one": b" " * (MIB + 1),
@@ -243,13 +250,19 @@ NOT_FOLLOWED = "not followed: each word of a call is loaded"
 MASKED = LOAD_NUMBER + insn(0x54, k=0xBFFFFFFF) + GETPID[8:]
 # getpid(2) is number 39 of x32 too, and execve(2), which is 59, has number 520 there.
 MASKED_EXECVE = LOAD_NUMBER + insn(0x54, k=0xBFFFFFFF) + insn(0x15, 0, 1, 59) + insn(0x06, k=0x00050001) + insn(0x06, k=0x7FFF0000)
+LET_THROUGH = """41 socket: errno/22 EINVAL -> allow where args[0] >= 0x100000000 && (args[0] & 0xffffffff) == AF_NETLINK
+  syscall(SYS_socket, 0x100000010, 0x0, NETLINK_ROUTE, 0x0, 0x0, 0x0)
+  which Linux takes for syscall(SYS_socket, AF_NETLINK, 0x0, NETLINK_ROUTE, 0x0, 0x0, 0x0)
+"""
+CLEAN = "no call gets another verdict by bits that Linux does not read\n"
+AS_STRICT = "no call gets a less strict verdict by bits that Linux does not read\n"
 UNCLOSED = "why: CALL(ARG, ..) does not end with its parenthesis"
 TOO_MANY = "why: CALL(ARG, ..) has more than six arguments"
 
 
-def wrong(number):
-    """What is said of the argument with this number, from 1 on."""
-    return f"why: argument {number} of CALL(ARG, ..) is no number of 64 bits"
+def wrong(number, part):
+    """What is said of a part of the argument with this number, from 1 on."""
+    return f"why: argument {number} of CALL(ARG, ..) is no number of 64 bits and no constant: {part}"
 
 
 ARCHITECTURES = [
@@ -424,8 +437,17 @@ GOOD = [
     good("ask show --help | head -n 1", "usage: ask show [--arch ARCH] FILE\n"), good("ask show two --help | head -n 1", "usage: ask show [--arch ARCH] FILE\n"),
     good("ask why --help | head -n 1", "usage: ask why [--arch ARCH] 'CALL(ARG, ..)' FILE..\n"),
     good("ask replay --help | head -n 1", "usage: ask replay [--arch ARCH] LOG FILE..\n"),
-    good("ask when --help | head -n 1", "usage: ask when [--call CALL [--dot]] [--arch ARCH] FILE..\n"),
-    good("ask diff --help | head -n 1", "usage: ask diff [--stricter] [--arch ARCH] OLD NEW\n"),
+    good("ask when --help | head -n 1", "usage: ask when [--call CALL [--dot]] [--numbers] [--arch ARCH] FILE..\n"),
+    warned("ask lint wide | grep -v record", LET_THROUGH), warned("ask lint --numbers wide | grep -v record", LET_THROUGH.replace("AF_NETLINK", "0x10").replace("NETLINK_ROUTE", "0x0")),
+    good("ask lint narrow", CLEAN), good("ask lint wide narrow", CLEAN), good("ask lint raw", CLEAN),
+    good("ask lint only", AS_STRICT + "as strict or stricter by such bits: 1 condition (--all shows it)\n"),
+    good("ask lint --all only | head -n 2 | cut -d' ' -f 1-7", AS_STRICT.replace(" by bits that Linux does not read", "") + "41 socket: allow -> errno/22 EINVAL where\n"),
+    good("ask why 'socket(AF_NETLINK, SOCK_RAW|SOCK_CLOEXEC, 0)' wide | tail -n 1", "errno/22 EINVAL by filter 0 at 6\n"),
+    good("ask why 'open(\"a, b)|\", O_RDONLY)' wide | tail -n 1", "allow by filter 0 at 7\n"),
+    good("ask when --call socket narrow", "41 socket\n  errno/22 EINVAL where (args[0] & 0xffffffff) == AF_NETLINK\n  allow else\n"),
+    good("ask when --numbers --call socket narrow", "41 socket\n  errno/22 EINVAL where (args[0] & 0xffffffff) == 0x10\n  allow else\n"),
+    good("ask lint --help | head -n 1", "usage: ask lint [--all] [--numbers] FILE..\n"),
+    good("ask diff --help | head -n 1", "usage: ask diff [--stricter] [--numbers] [--arch ARCH] OLD NEW\n"),
     good("ask --help | head -n 1", "usage: ask WORD ..\n"), good("ask calls --help | head -n 1", "usage: ask calls [--call CALL] [--examples] [--arch ARCH] FILE..\n"),
     good("ask filter nofile --help | head -n 1", "usage: ask filter [--raw] FILE..\n"),
 ]
@@ -437,7 +459,10 @@ WORDS = [
     *[trouble(f"ask when {words}", "when: expected --call CALL beside --dot") for words in ("--dot raw", "raw --dot", "--dot nofile")],
     trouble("ask when --dot", "when: no FILE is given"), trouble("ask when --dot raw --call", "when: expected a name or a number behind --call"),
     trouble("ask when --call mseal2 --dot raw", "no call is named mseal2"), trouble("ask when --call --dot raw", "no call is named --dot"),
-    *[trouble(f"ask {word} --dot raw", f"{word}: no option is named --dot") for word in ("calls", "filter", "diff", "show", "arches")],
+    *[trouble(f"ask {word} --dot raw", f"{word}: no option is named --dot") for word in ("calls", "filter", "diff", "lint", "show", "arches")],
+    *[trouble(f"ask {word} --numbers raw", f"{word}: no option is named --numbers") for word in ("calls", "filter", "show", "arches")],
+    *[trouble(f"ask lint {it} raw", f"lint: no option is named {it}") for it in ("--arch", "--call", "--stricter", "--examples", "--raw")],
+    trouble("ask lint", "lint: no FILE is given"), trouble("ask diff --all raw all", "diff: no option is named --all"),
     *[trouble(f"ask diff {files}", "diff: expected two FILEs, OLD and NEW") for files in ("", "raw", "raw raw raw", "--stricter all")],
     trouble("ask diff --call read raw all", "diff: no option is named --call"), trouble("ask diff - - < raw", f"-: {NO_FILTER}"),
     trouble("ask replay", "replay: no LOG is given"), trouble("ask replay log", "replay: no FILE is given"),
@@ -455,10 +480,15 @@ WORDS = [
     trouble("ask replay \"$(printf 'a\\xff')\" raw", "a word is not UTF-8"),
     *[trouble(f"ask why '{call}' nofile", UNCLOSED) for call in ("read(", "read(1", "read(1) = 3", "read(1))", "read(1,2,3,4,5,6,7")],
     *[trouble(f"ask why '{call}' nofile", TOO_MANY) for call in ("read(1,2,3,4,5,6,7)", "read(,,,,,,)", "read(x,2,3,4,5,6,7)")],
-    *[trouble(f"ask why '{call}' nofile", wrong(number)) for call, number in (
-        ("read(010)", 1), ("read(1, 010)", 2), ("read(18446744073709551616)", 1), ("read(0x10000000000000000)", 1), ("read(-9223372036854775809)", 1),
-        ("read(1,)", 2), ("read(,1)", 1), ("read(1,2,3,4,5,)", 6), ("read(\"a\")", 1), ("read(1 2)", 1), ("read(+1)", 1), ("read(1e3)", 1), ("read((1)", 1))],
-    trouble("ask why \"$(printf 'read(1\\t)')\" nofile", wrong(1)),
+    *[trouble(f"ask why '{call}' nofile", wrong(number, part)) for call, number, part in (
+        ("read(010)", 1, "010"), ("read(1, 010)", 2, "010"), ("read(18446744073709551616)", 1, "18446744073709551616"),
+        ("read(0x10000000000000000)", 1, "0x10000000000000000"), ("read(-9223372036854775809)", 1, "-9223372036854775809"),
+        ("read(1,)", 2, ""), ("read(,1)", 1, ""), ("read(1,2,3,4,5,)", 6, ""), ("read(1 2)", 1, "1 2"), ("read(+1)", 1, "+1"), ("read(1e3)", 1, "1e3"),
+        ("read((1)", 1, "(1"), ("socket(AF_NETLINC, 1)", 1, "AF_NETLINC"), ("socket(1, SOCK_RAW|SOCK_CLOXEC)", 2, "SOCK_CLOXEC"), ("read(1|)", 1, ""),
+        ("read(1|-1)", 1, "-1"), ("read(af_unix)", 1, "af_unix"))],
+    *[trouble(f"ask why '{call}' nofile", "why: CALL(ARG, ..) has a text that does not end with its double quote") for call in (
+        "open(\"a)", "open(\"a\", \"b)")],
+    trouble("ask why \"$(printf 'read(1\\t)')\" nofile", wrong(1, "1?")),
     trouble("ask calls", "calls: no FILE is given"), trouble("ask filter --raw", "filter: no FILE is given"),
     trouble("ask calls --exmples raw", "calls: no option is named --exmples"), trouble("ask calls --raw raw", "calls: no option is named --raw"),
     trouble("ask filter --examples raw", "filter: no option is named --examples"), trouble("ask calls -x raw", "calls: no option is named -x"),
