@@ -1,7 +1,8 @@
-//! The names of errors, by their numbers.
-ghost use Rattle.std.specs.Prelude.{◌≡◌, map, slice_get};
+//! The names of errors, by their numbers, and their numbers by their names.
+ghost use Rattle.std.specs.Prelude.{◌≡◌, ◌<◌, ◌≤◌, length, map, position, slice_get, IfSome};
 ghost use Rattle.std.specs.Option.{option_map};
-ghost use Rattle.sk_filter.specs.Errors.{error_named};
+ghost use Rattle.std.specs.Str.{bytes_eq};
+ghost use Rattle.sk_filter.specs.Errors.{error_named, error_number, second_number};
 
 /// The name of an error's number on x86-64, by errno(3), if it is one.
 #[tactic(auto, unfolding(crate::specs::Errors::error_named))]
@@ -16,6 +17,43 @@ fn name_at(names: &[&'static str], place: usize) -> Option<&'static str>
     ensures name { option_map (λ name. name.now) result ≡ slice_get (map (λ name. name.now) names.now) place }
 {
     names.get(place).copied()
+}
+
+/// The number of the error with this name on x86-64, by errno(3), if there is one. Some errors have a second name.
+#[tactic(auto, unfolding(crate::specs::Errors::error_number))]
+pub fn error_number(name: &[u8]) -> Option<u32>
+    ensures number { result ≡ error_number name.now }
+    ensures bound { IfSome result (λ number. number ≤ 133) }
+{
+    if name.is_empty() {
+        return None;
+    }
+    match place_of(&ERRORS, name) {
+        Some(place) => Some(place as u32),
+        None => second_number(name),
+    }
+}
+
+fn place_of(names: &[&'static str], wanted: &[u8]) -> Option<usize>
+    ensures first { result ≡ position (λ name. bytes_eq name.now wanted.now) names.now }
+    ensures within { IfSome result (λ place. place < length names.now) }
+{
+    names.iter().position(|name| name.as_bytes() == wanted)
+}
+
+fn second_number(name: &[u8]) -> Option<u32>
+    ensures number { result ≡ second_number name.now }
+    ensures bound { IfSome result (λ number. number ≤ 133) }
+{
+    if name == "EWOULDBLOCK".as_bytes() {
+        Some(11)
+    } else if name == "EDEADLOCK".as_bytes() {
+        Some(35)
+    } else if name == "ENOTSUP".as_bytes() {
+        Some(95)
+    } else {
+        None
+    }
 }
 
 /// The names of errors 0 to 133 on x86-64, as asm-generic/errno-base.h and asm-generic/errno.h of Linux have them. An

@@ -22,7 +22,7 @@ mod walker;
 
 pub use chain::Chain;
 pub use checked::{Checked, check};
-pub use errors::error_name;
+pub use errors::{error_name, error_number};
 pub use fault::CheckFault;
 pub use filters::{ChainFault, Filters};
 pub use interpreter::{Ran, run};

@@ -4,11 +4,11 @@ use Rattle.json.proofs.OnLiterals.{json_on_literals}
 use Rattle.sk_text.specs.Numbers.{number_of}
 use Rattle.sk_names.specs.Names.{number_at, number_in, runs_of, number_on}
 use Rattle.sk_names.specs.X86_64.{name_of, number_named}
-use Rattle.sk_filter.specs.Errors.{error_named}
+use Rattle.sk_filter.specs.Errors.{error_number}
 use Rattle.sk_profile_json.specs.WorkedProfiles.{WorkedProfiles}
 
 pub worked_profiles : WorkedProfiles
-unfolding json_on_literals number_of name_of number_named number_at number_in runs_of number_on error_named
+unfolding json_on_literals number_of name_of number_named number_at number_in runs_of number_on error_number
 worked_profiles = record {
   personality = refl;
   clone_by_mask = refl;

@@ -5,12 +5,12 @@ use Rattle.sk_text.specs.Numbers.{number_of}
 use Rattle.sk_names.specs.Names.{name_at, number_at, name_in, number_in, runs_of, name_on, number_on}
 use Rattle.sk_names.specs.X86_64.{name_of, number_named}
 use Rattle.sk_names.specs.Elsewhere.{is_elsewhere}
-use Rattle.sk_filter.specs.Errors.{error_named}
+use Rattle.sk_filter.specs.Errors.{error_number}
 use Rattle.sk_profile_json.specs.Capabilities.{capability}
 use Rattle.sk_profile_json.specs.WorkedFiles.{WorkedFiles}
 
 pub worked_files : WorkedFiles
-unfolding json_on_literals number_of name_of number_named number_at number_in runs_of number_on name_at name_in name_on is_elsewhere error_named capability
+unfolding json_on_literals number_of name_of number_named number_at number_in runs_of number_on name_at name_in name_on is_elsewhere error_number capability
 worked_files = record {
   all_by_name = refl;
   docker_by_name = refl;

@@ -5,8 +5,8 @@ use Rattle.std.specs.Str.{bytes_eq}
 use Rattle.json.specs.Json.{Json}
 use Rattle.sk_insn.specs.declared.action.Action.{Action}
 use Rattle.sk_insn.specs.declared.action.Action.TheVariants.{KillProcess, KillThread, Trap, Errno, UserNotif, Trace, Log, Allow}
-use Rattle.sk_insn.specs.Actions.{value_of}
-use Rattle.sk_filter.specs.Errors.{error_named}
+use Rattle.sk_insn.specs.Actions.{has_value, value_of}
+use Rattle.sk_filter.specs.Errors.{error_number}
 use Rattle.sk_profile_json.specs.declared.fault.Field.{Field}
 use Rattle.sk_profile_json.specs.declared.fault.Wrong.{Wrong}
 use Rattle.sk_profile_json.specs.declared.fault.Wrong.TheVariants.{Contradicts}
@@ -47,23 +47,11 @@ value_with action given = unwrap_or (value_of action) 0 + (if takes_number actio
 abbrev pub action_in : Field → Json → Result Action Wrong
 action_in field j = result_then (λ name. taken field (action_named name)) (result_then (required field) (text_in field j))
 
--- errors that have two names, by that which goes with the number here: errno(3)
-abbrev pub first_name : List ℕ → List ℕ
-first_name name =
-    if bytes_eq name (codes "EWOULDBLOCK") then codes "EAGAIN"
-    else if bytes_eq name (codes "EDEADLOCK") then codes "EDEADLK"
-    else if bytes_eq name (codes "ENOTSUP") then codes "EOPNOTSUPP"
-    else name
-
--- an error's name, if it stands, is that of the number, which stands too: podman goes by the name, and docker by the number
-abbrev pub is_name_of : List ℕ → Option (List ℕ) → Bool
-is_name_of name None = false
-is_name_of name (Some known) = bytes_eq known (first_name name)
-
+-- an error's name, if it stands, is one of the number, which stands too: podman goes by the name, and docker by the number
 abbrev pub agree : Option ℕ → Option (List ℕ) → Bool
 agree given None = true
 agree None (Some name) = false
-agree (Some given) (Some name) = is_name_of name (error_named given)
+agree (Some given) (Some name) = has_value given (error_number name)
 
 -- an action that gives no number on has none
 abbrev pub value_if : Field → Field → Action → Option ℕ → Option (List ℕ) → Result ℕ Wrong

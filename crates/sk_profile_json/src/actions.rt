@@ -2,13 +2,14 @@
 ghost use Rattle.std.specs.Prelude.{◌≡◌, ◌≤◌, IfSome};
 ghost use Rattle.std.specs.Option.{option_map};
 ghost use Rattle.json.specs.Value.{value_view};
-ghost use Rattle.sk_profile_json.specs.Actions.{action_named, takes_number, value_with, greatest_number, action_in, value_in, agree, first_name, is_name_of};
-ghost use Rattle.sk_filter.specs.Errors.{error_named};
+ghost use Rattle.sk_profile_json.specs.Actions.{action_named, takes_number, value_with, greatest_number, action_in, value_in, agree};
+ghost use Rattle.sk_insn.specs.Actions.{has_value};
+ghost use Rattle.sk_filter.specs.Errors.{error_number};
 
 use crate::fault::{Field, Wrong};
 use crate::fields::{number, text};
 use json::Value;
-use sk_filter::error_name;
+use sk_filter::error_number;
 use sk_insn::Action;
 
 /// The error that stands where a profile gives none: EPERM.
@@ -98,27 +99,15 @@ fn agree(given: Option<u64>, name: Option<&str>) -> bool
     match (given, name) {
         (_, None) => true,
         (None, Some(_)) => false,
-        (Some(number), Some(name)) => is_name_of(name, number as u32),
+        (Some(number), Some(name)) => has_number(name, number as u32),
     }
 }
 
-fn is_name_of(name: &str, number: u32) -> bool
-    ensures named { result ≡ is_name_of name.now (error_named number) }
+fn has_number(name: &str, number: u32) -> bool
+    ensures number { result ≡ has_value number (error_number name.now) }
 {
-    match error_name(number) {
+    match error_number(name.as_bytes()) {
+        Some(known) => known == number,
         None => false,
-        Some(known) => known == first_name(name),
-    }
-}
-
-// Of an error with two names that which goes with its number.
-fn first_name(name: &str) -> &str
-    ensures first { result.now ≡ first_name name.now }
-{
-    match name {
-        "EWOULDBLOCK" => "EAGAIN",
-        "EDEADLOCK" => "EDEADLK",
-        "ENOTSUP" => "EOPNOTSUPP",
-        _ => name,
     }
 }
