@@ -227,11 +227,6 @@ def where(place, number):
     return f"Is({place}, {number})"
 
 
-def known(place):
-    """Where the argument at a place is known."""
-    return f"Known({place})"
-
-
 def options(call):
     """The options of each level: SOL_SOCKET, IPPROTO_IP, IPPROTO_IPV6, IPPROTO_TCP and IPPROTO_UDP."""
     return [(call, 2, where(1, level), one(name)) for level, name in ((1, "SO"), (0, "IP"), (41, "IPV6"), (6, "TCP"), (17, "UDP"))]
@@ -317,13 +312,15 @@ FORMS = [
     ("shmget", 0, ALWAYS, one("IPCKEY")),
     ("socket", 0, ALWAYS, one("AF")),
     ("socket", 1, ALWAYS, SOCKET),
-    # AF_NETLINK
+    # AF_NETLINK, AF_INET, AF_INET6
     ("socket", 2, where(0, 16), one("NETLINK")),
-    ("socket", 2, known(0), one("IPPROTO")),
+    ("socket", 2, where(0, 2), one("IPPROTO")),
+    ("socket", 2, where(0, 10), one("IPPROTO")),
     ("socketpair", 0, ALWAYS, one("AF")),
     ("socketpair", 1, ALWAYS, SOCKET),
     ("socketpair", 2, where(0, 16), one("NETLINK")),
-    ("socketpair", 2, known(0), one("IPPROTO")),
+    ("socketpair", 2, where(0, 2), one("IPPROTO")),
+    ("socketpair", 2, where(0, 10), one("IPPROTO")),
     ("statx", 3, ALWAYS, bits("STATX")),
     ("tgkill", 2, ALWAYS, one("SIG")),
     ("tkill", 1, ALWAYS, one("SIG")),

@@ -1,5 +1,5 @@
 -- Constants: the names that headers of Linux and of the C library have for numbers, by the argument that takes them.
-use Rattle.std.specs.Prelude.{ℕ, ◌+◌, ◌^◌, ◌==◌, ◌&&◌, ◌%◌, nat_le, if◌then◌else◌, Bool, true, false, List, [], length, Option, find, position, slice_get, is_some}
+use Rattle.std.specs.Prelude.{ℕ, ◌+◌, ◌^◌, ◌==◌, ◌&&◌, ◌%◌, nat_le, if◌then◌else◌, Bool, true, false, List, [], length, Option, find, position, slice_get}
 use Rattle.std.specs.List.{slice_range}
 use Rattle.std.specs.Option.{option_and_then, option_map_or}
 use Rattle.std.specs.Str.{bytes_eq}
@@ -45,7 +45,6 @@ number_at known place = option_and_then (λ number. number) (slice_get known pla
 unfoldable pub holds : When → List (Option ℕ) → Bool
 holds when.Always known = true
 holds (when.Is place wanted) known = option_map_or (λ number. number % 2 ^ 32 == wanted) (number_at known place) false
-holds (when.Known place) known = is_some (number_at known place)
 
 -- a call, the place of an argument, where it has a form, and the form
 abbrev pub Row : Type 0

@@ -30,8 +30,6 @@ pub enum When {
     Always,
     /// Where the argument at this place is known to be this number, as far as Linux reads it.
     Is(usize, u32),
-    /// Where the argument at this place is known.
-    Known(usize),
 }
 
 /// A row of the table: the number of a call of x86-64, the place of an argument, where it has the form, and the form.
@@ -68,7 +66,6 @@ fn holds(when: When, known: &[Option<u64>; 6]) -> bool
             Some(number) => number & 0xFFFF_FFFF == wanted as u64,
             None => false,
         },
-        When::Known(place) => number_at(known, place).is_some(),
     }
 }
 
