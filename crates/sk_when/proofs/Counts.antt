@@ -13,16 +13,29 @@ pub counted_more : (it : Concern) (pieces : List Piece) (piece : Piece)
 counted_more it [] piece = omega arith
 counted_more it (first ∷ pieces) piece = let rest = counted_more it pieces piece in omega (arith, rest)
 
-pub more_notes : (programs : List (List Insn)) (numbers : List ℕ) (nr : ℕ) (text first : List ℕ) → AreNotes programs numbers text → AreNotesOf programs nr first
-    → AreNotes programs (numbers ++ nr ∷ []) (text ++ first)
-more_notes programs [] nr text first notes of = (first, [], of, refl, ap (λ (its : List ℕ). its ++ first) notes ∙ sym (append-nil first))
-more_notes programs (number ∷ numbers) nr text first notes of = (
+pub more_notes : (programs : List (List Insn)) (is_spent : Bool) (numbers : List ℕ) (nr : ℕ) (text first : List ℕ)
+    → AreNotes programs is_spent numbers text → AreNotesOf programs is_spent nr first → AreNotes programs is_spent (numbers ++ nr ∷ []) (text ++ first)
+more_notes programs is_spent [] nr text first notes of = (first, [], of, refl, ap (λ (its : List ℕ). its ++ first) notes ∙ sym (append-nil first))
+more_notes programs is_spent (number ∷ numbers) nr text first notes of = (
   notes.0,
   notes.1 ++ first,
   notes.2,
-  more_notes programs numbers nr notes.1 first notes.3 of,
+  more_notes programs is_spent numbers nr notes.1 first notes.3 of,
   ap (λ (its : List ℕ). its ++ first) notes.4 ∙ append_assoc notes.0 notes.1 first,
 )
+
+-- notes that are there though steps may have been spent since
+pub notes_spent : (programs : List (List Insn)) (before after : Bool) (numbers : List ℕ) (text : List ℕ) → (after ≡ false → before ≡ false)
+    → AreNotes programs before numbers text → AreNotes programs after numbers text
+notes_spent programs before after [] text since notes = notes
+notes_spent programs before after (number ∷ numbers) text since notes =
+    let tree = notes.2.1 in (
+      notes.0,
+      notes.1,
+      (notes.2.0, record { tells = tree.tells; all = λ all none. tree.all all (since none) }, notes.2.2),
+      notes_spent programs before after numbers notes.1 since notes.3,
+      notes.4,
+    )
 
 pub filter_more : (test : ℕ → Bool) (xs : List ℕ) (x : ℕ) → filter test (xs ++ x ∷ []) ≡ (if test x then filter test xs ++ x ∷ [] else filter test xs)
 filter_more test [] x = by_test (test x) where

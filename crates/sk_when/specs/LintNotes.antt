@@ -1,7 +1,7 @@
 -- What `ask lint` notes of a chain's tests: those of registers that are no argument, of arguments that another one decides, and of
 -- addresses, whose memory a filter cannot look at. These are no faults.
 use Rattle.std.specs.Prelude.{ℕ, ◌≡◌, ◌+◌, ◌*◌, ◌==◌, ◌&&◌, ◌||◌, ◌++◌, not, Bool, true, false, if◌then◌else◌, List, [], ◌∷◌, codes, flat_map, Option, Some, None}
-use Rattle.std.specs.List.{range_with_len}
+use Rattle.std.specs.List.{All, range_with_len}
 use Rattle.std.specs.Option.{option_map, option_map_or}
 use Rattle.std.specs.Fmt.{decimal}
 use Rattle.sk_arguments.specs.declared.kinds.Kind.{Kind}
@@ -12,6 +12,7 @@ use Rattle.sk_conditions.specs.declared.test.Test.{Test}
 use Rattle.sk_conditions.specs.declared.tree.Tree.{Tree}
 use Rattle.sk_conditions.specs.declared.tree.Tree.TheVariants.{Is, Untold, Ask'}
 use Rattle.sk_conditions.specs.Conditions.{TellsVerdict}
+use Rattle.sk_conditions.specs.Followed.{AreFollowed, TellsAll}
 use Rattle.sk_when.specs.declared.lint_notes.Note.{Note}
 use Rattle.sk_when.specs.declared.lint_notes.Note.TheVariants.{Absent, Decided, Pointer}
 use Rattle.sk_when.specs.DiffText.{head_text}
@@ -81,12 +82,17 @@ argument_notes nr tree i = option_map_or (noted_text nr tree i) (note_of nr i) [
 unfoldable pub notes_of : ℕ → Tree → List ℕ
 notes_of nr tree = flat_map (argument_notes nr tree) (range_with_len 0 6)
 
--- they are those of a tree that tells the chain's verdicts on the calls with the number
-abbrev pub AreNotesOf : List (List Insn) → ℕ → List ℕ → Type 0
-AreNotesOf programs nr text = (tree : Tree) × TellsVerdict programs nr nr tree × (text ≡ notes_of nr tree)
+-- they are those of a tree that tells the chain's verdicts on the calls with the number, and all of them where the filters are followed
+-- and the steps of no number were spent
+pub record IsNotedTree (programs : List (List Insn)) (is_spent : Bool) (nr : ℕ) (tree : Tree) : Type 0 where
+  pub tells : TellsVerdict programs nr nr tree
+  pub all : All AreFollowed programs → is_spent ≡ false → TellsAll tree
+
+abbrev pub AreNotesOf : List (List Insn) → Bool → ℕ → List ℕ → Type 0
+AreNotesOf programs is_spent nr text = (tree : Tree) × IsNotedTree programs is_spent nr tree × (text ≡ notes_of nr tree)
 
 -- so are those of some numbers, one behind another
-abbrev pub AreNotes : List (List Insn) → List ℕ → List ℕ → Type 0
-AreNotes programs [] text = text ≡ []
-AreNotes programs (nr ∷ numbers) text =
-    (first rest : List ℕ) × AreNotesOf programs nr first × AreNotes programs numbers rest × (text ≡ first ++ rest)
+abbrev pub AreNotes : List (List Insn) → Bool → List ℕ → List ℕ → Type 0
+AreNotes programs is_spent [] text = text ≡ []
+AreNotes programs is_spent (nr ∷ numbers) text =
+    (first rest : List ℕ) × AreNotesOf programs is_spent nr first × AreNotes programs is_spent numbers rest × (text ≡ first ++ rest)

@@ -23,7 +23,7 @@ use Rattle.sk_when.specs.LintNotes.{AreNotes}
 use Rattle.sk_when.specs.LintText.{lint_text}
 
 -- the pieces of all numbers that are asked about, and this is what is found and written of them; where the filters are followed, and
--- the steps of no number were spent, each part is decided
+-- the steps of no number were spent, each part is decided, and each note is there
 pub record IsLint (programs : List (List Insn)) (all : Bool) (naming : Naming) (remark : Record → List ℕ) (is_spent : Bool) (finding : Finding) (text notes : List ℕ) :
     Type 0 where
   pub pieces : List Piece
@@ -31,7 +31,7 @@ pub record IsLint (programs : List (List Insn)) (all : Bool) (naming : Naming) (
   pub decided : All AreFollowed programs → is_spent ≡ false → All AreDecided pieces
   pub stands : finding ≡ lint_finding pieces
   pub says : text ≡ lint_text all naming remark finding pieces
-  pub noted : AreNotes programs narrow_numbers notes
+  pub noted : AreNotes programs is_spent narrow_numbers notes
 
 -- where nothing is told, no call gets a verdict that is less strict than that on the call that Linux takes it for
 abbrev pub NowhereLooserIsTrue : Type 0

@@ -1,8 +1,7 @@
 //! Notes on tests of arguments that say little.
 ghost use Rattle.std.specs.Prelude.{◌≡◌, ◌++◌, ◌^◌, List, ℕ, false, IfOk, OnOk, string_bytes, flat_map};
-ghost use Rattle.sk_conditions.specs.Conditions.{TellsVerdict};
 ghost use Rattle.sk_conditions.specs.Steps.{NeverPart};
-ghost use Rattle.sk_when.specs.LintNotes.{AreNotes, AreNotesOf, address_or, argument_name_text, argument_notes, calls_for, decided_text, is_of_zero, is_pointer, looks_at, note_by, note_of, note_text, noted_text, notes_of, said_text, tree_calls_for};
+ghost use Rattle.sk_when.specs.LintNotes.{AreNotes, AreNotesOf, IsNotedTree, address_or, argument_name_text, argument_notes, calls_for, decided_text, is_of_zero, is_pointer, looks_at, note_by, note_of, note_text, noted_text, notes_of, said_text, tree_calls_for};
 
 use crate::concern::{ARGUMENTS, named_by};
 use crate::diff_text::push_head;
@@ -30,7 +29,7 @@ pub fn lint_notes(
     chain: &Chain,
     budgets: &mut Budgets,
 ) -> Result<String, AllocError>
-    ensures notes { IfOk result (λ text. AreNotes chain.now numbers.now (string_bytes text)) }
+    ensures notes { IfOk result (λ text. AreNotes chain.now budgets.new.is_spent numbers.now (string_bytes text)) }
     ensures spent { budgets.new.is_spent ≡ false → budgets.old.is_spent ≡ false }
     ensures one_way { NeverPart 0 (2 ^ 32) chain.now → budgets.old.is_spent ≡ false → budgets.new.is_spent ≡ false }
 {
@@ -48,7 +47,7 @@ fn push_number_notes(
     nr: u32,
     budgets: &mut Budgets,
 ) -> Result<(), AllocError>
-    ensures notes { OnOk result ((first : List ℕ) × AreNotesOf chain.now nr first × (string_bytes text.new ≡ string_bytes text.old ++ first)) }
+    ensures notes { OnOk result ((first : List ℕ) × AreNotesOf chain.now budgets.new.is_spent nr first × (string_bytes text.new ≡ string_bytes text.old ++ first)) }
     ensures spent { budgets.new.is_spent ≡ false → budgets.old.is_spent ≡ false }
     ensures one_way { NeverPart 0 (2 ^ 32) chain.now → budgets.old.is_spent ≡ false → budgets.new.is_spent ≡ false }
 {
@@ -64,7 +63,7 @@ fn number_tree(
     nr: u32,
     budgets: &mut Budgets,
 ) -> Result<Tree, AllocError>
-    ensures tells { IfOk result (TellsVerdict chain.now nr nr) }
+    ensures tells { IfOk result (IsNotedTree chain.now budgets.new.is_spent nr) }
     ensures spent { budgets.new.is_spent ≡ false → budgets.old.is_spent ≡ false }
     ensures one_way { NeverPart 0 (2 ^ 32) chain.now → budgets.old.is_spent ≡ false → budgets.new.is_spent ≡ false }
 {

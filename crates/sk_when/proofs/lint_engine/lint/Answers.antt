@@ -26,5 +26,5 @@ returns-clause-linted g c =
       stands = c.lint_finding-finding.ensures.finding ∙ ap lint_finding c.deref-2.ensures.value;
       says = c.in_ok-text.ensures.text
           ∙ ap (lint_text c.args.all c.args.naming (g.R.Remarks.remark c.args.remarks.now) c.lint_finding-finding.result) c.deref-3.ensures.value;
-      noted = subst (λ (its : List ℕ). AreNotes programs its (string_bytes c.in_ok-notes.notes)) (c.deref-4.ensures.value ∙ table) c.in_ok-notes.ensures.notes;
+      noted = subst (λ (its : List ℕ). AreNotes programs c.lint_notes.new.budgets.is_spent its (string_bytes c.in_ok-notes.notes)) (c.deref-4.ensures.value ∙ table) c.in_ok-notes.ensures.notes;
     }

@@ -1,6 +1,12 @@
 use Rattle.std.proofs.Common.{◌∙◌, arith}
-use Rattle.sk_conditions.proofs.Spending.{spares}
+use Rattle.sk_conditions.proofs.Spending.{not_spent, spares}
 use Rattle.sk_when.proofs.lint_notes.number_tree.Goals as goal
+
+pub returns-clause-tells : goal.returns-clause-tells
+returns-clause-tells c = record {
+  tells = c.in_ok-tree.ensures.tells;
+  all = λ all none. c.in_ok-tree.ensures.all all (not_spent _ _ _ c.put_back.ensures.spent none).1;
+}
 
 pub returns-clause-one_way : goal.returns-clause-one_way
 returns-clause-one_way c = λ never fresh.
