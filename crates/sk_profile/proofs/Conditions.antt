@@ -29,7 +29,7 @@ abbrev pub Follows : Bool → List Insn → ℕ → Record → ℕ → Type 0
 Follows answer rest away call value = Goes answer 0 away rest call value
 
 -- the other answer, the other way
-turned : (b c : Bool) (held failed : ℕ) (rest : List Insn) (call : Record) (value : ℕ) → c ≡ not b → Goes b held failed rest call value → Goes c failed held rest call value
+pub turned : (b c : Bool) (held failed : ℕ) (rest : List Insn) (call : Record) (value : ℕ) → c ≡ not b → Goes b held failed rest call value → Goes c failed held rest call value
 turned true c held failed rest call value e goes s = subst (λ c. Comes rest (if c then failed else held) call s value) (sym e) (goes s)
 turned false c held failed rest call value e goes s = subst (λ c. Comes rest (if c then failed else held) call s value) (sym e) (goes s)
 
@@ -37,19 +37,19 @@ halves_same : (a b : ℕ) → high a ≡ high b → low a ≡ low b → a ≡ b
 halves_same a b h l = omega (arith, h, l)
 
 -- an order goes by the upper halves, and where they are the same by the lower ones
-record Splits (comparison : Comparison) (a n : ℕ) : Type 0 where
-  greater : nat_lt (high n) (high a) ≡ true → holds comparison a n ≡ true
-  less : nat_lt (high n) (high a) ≡ false → (high a == high n) ≡ false → holds comparison a n ≡ false
-  same : (high a == high n) ≡ true → holds comparison (low a) (low n) ≡ holds comparison a n
+pub record Splits (comparison : Comparison) (a n : ℕ) : Type 0 where
+  pub greater : nat_lt (high n) (high a) ≡ true → holds comparison a n ≡ true
+  pub less : nat_lt (high n) (high a) ≡ false → (high a == high n) ≡ false → holds comparison a n ≡ false
+  pub same : (high a == high n) ≡ true → holds comparison (low a) (low n) ≡ holds comparison a n
 
-greater_splits : (a n : ℕ) → Splits Greater a n
+pub greater_splits : (a n : ℕ) → Splits Greater a n
 greater_splits a n = record {
   greater = λ g. grind (arith, nat_tests, g);
   less = λ g h. grind (arith, nat_tests, g, h);
   same = λ h. grind (arith, nat_tests, h);
 }
 
-at_least_splits : (a n : ℕ) → Splits GreaterOrEqual a n
+pub at_least_splits : (a n : ℕ) → Splits GreaterOrEqual a n
 at_least_splits a n = record {
   greater = λ g. grind (arith, nat_tests, g);
   less = λ g h. grind (arith, nat_tests, g, h);

@@ -30,7 +30,7 @@ use Rattle.sk_profile.proofs.Joining.{as_many}
 use Rattle.sk_profile.proofs.Trees.{others_have}
 
 -- an instruction of the code, with so many behind it
-abbrev FitsBefore : ℕ → Option Operation → Insn → Type 0
+abbrev pub FitsBefore : ℕ → Option Operation → Insn → Type 0
 FitsBefore behind (Some LoadRecord) insn = (insn.k % 4 ≡ 0) × (insn.k < 64)
 FitsBefore behind (Some (LoadConstant Accumulator)) insn = Unit {0}
 FitsBefore behind (Some (Compute And Constant)) insn = Unit {0}
@@ -40,30 +40,30 @@ FitsBefore behind (Some ReturnConstant) insn = Unit {0}
 FitsBefore behind operation insn = ⊥
 
 -- instructions, with so many behind them
-abbrev Fit : ℕ → List Insn → Type 0
+abbrev pub Fit : ℕ → List Insn → Type 0
 Fit behind [] = Unit {0}
 Fit behind (insn ∷ insns) = FitsBefore (length insns + behind) (operation_of insn.code) insn × Fit behind insns
 
-load_fits : (k behind : ℕ) → k % 4 ≡ 0 → k < 64 → FitsBefore behind (operation_of (load k).code) (load k)
+pub load_fits : (k behind : ℕ) → k % 4 ≡ 0 → k < 64 → FitsBefore behind (operation_of (load k).code) (load k)
 load_fits k behind whole inside = subst (λ o. FitsBefore behind o (load k)) (sym (operation_of-code_of LoadRecord)) (whole, inside)
 
 constant_fits : (k behind : ℕ) → FitsBefore behind (operation_of (constant k).code) (constant k)
 constant_fits k behind = subst (λ o. FitsBefore behind o (constant k)) (sym (operation_of-code_of (LoadConstant Accumulator))) tt
 
-with_fits : (k behind : ℕ) → FitsBefore behind (operation_of (with k).code) (with k)
+pub with_fits : (k behind : ℕ) → FitsBefore behind (operation_of (with k).code) (with k)
 with_fits k behind = subst (λ o. FitsBefore behind o (with k)) (sym (operation_of-code_of (Compute And Constant))) tt
 
-branch_fits : (comparison : Comparison) (k jt jf behind : ℕ) → jt < behind → jf < behind → FitsBefore behind (operation_of (branch comparison k jt jf).code) (branch comparison k jt jf)
+pub branch_fits : (comparison : Comparison) (k jt jf behind : ℕ) → jt < behind → jf < behind → FitsBefore behind (operation_of (branch comparison k jt jf).code) (branch comparison k jt jf)
 branch_fits comparison k jt jf behind held failed =
     subst (λ o. FitsBefore behind o (branch comparison k jt jf)) (sym (operation_of-code_of (Branch comparison Constant))) (held, failed)
 
-jump_fits : (k behind : ℕ) → k < behind → FitsBefore behind (operation_of (jump k).code) (jump k)
+pub jump_fits : (k behind : ℕ) → k < behind → FitsBefore behind (operation_of (jump k).code) (jump k)
 jump_fits k behind inside = subst (λ o. FitsBefore behind o (jump k)) (sym (operation_of-code_of Jump)) inside
 
-answer_fits : (k behind : ℕ) → FitsBefore behind (operation_of (answer k).code) (answer k)
+pub answer_fits : (k behind : ℕ) → FitsBefore behind (operation_of (answer k).code) (answer k)
 answer_fits k behind = subst (λ o. FitsBefore behind o (answer k)) (sym (operation_of-code_of ReturnConstant)) tt
 
-both_fit : (front back : List Insn) (behind : ℕ) → Fit (length back + behind) front → Fit behind back → Fit behind (front ++ back)
+pub both_fit : (front back : List Insn) (behind : ℕ) → Fit (length back + behind) front → Fit behind back → Fit behind (front ++ back)
 both_fit [] back behind one other = other
 both_fit (insn ∷ front) back behind one other =
     let e : length front + (length back + behind) ≡ length (front ++ back) + behind = omega (arith, length-append front back) in
@@ -185,19 +185,19 @@ pieces_fit narrow (piece ∷ pieces) behind some fits =
     (pieces_fit narrow pieces behind some (All-tail (IsPiece narrow) piece pieces fits))
 
 -- it ends with a return
-record EndsWithAnswer (insns : List Insn) : Type 0 where
-  front : List Insn
-  value : ℕ
-  is : insns ≡ front ++ answer value ∷ []
+pub record EndsWithAnswer (insns : List Insn) : Type 0 where
+  pub front : List Insn
+  pub value : ℕ
+  pub is : insns ≡ front ++ answer value ∷ []
 
-behind_others : (front back : List Insn) → EndsWithAnswer back → EndsWithAnswer (front ++ back)
+pub behind_others : (front back : List Insn) → EndsWithAnswer back → EndsWithAnswer (front ++ back)
 behind_others front back ends = record {
   front = front ++ ends.front;
   value = ends.value;
   is = ap (λ insns. front ++ insns) ends.is ∙ sym (append_assoc front ends.front (answer ends.value ∷ []));
 }
 
-some_there : (insns : List Insn) → EndsWithAnswer insns → 0 < length insns
+pub some_there : (insns : List Insn) → EndsWithAnswer insns → 0 < length insns
 some_there insns ends = omega (arith, ap length ends.is, length-append ends.front (answer ends.value ∷ []))
 
 place_inside : (value : ℕ) (values : List ℕ) → Contains values value → place_of value values < length values
@@ -327,7 +327,7 @@ returns_at_end insns ends (insn, here, has) =
     let yes : true ≡ false = subst (λ o. returns o last ≡ false) (operation_of-code_of ReturnConstant) not in
     cc
 
-no_fault_in : (insns : List Insn) → Fit 0 insns → EndsWithAnswer insns → length insns ≤ 4096 → IsValid insns
+pub no_fault_in : (insns : List Insn) → Fit 0 insns → EndsWithAnswer insns → length insns ≤ 4096 → IsValid insns
 no_fault_in insns fit ends few fault.Empty has = omega (arith, has, some_there insns ends)
 no_fault_in insns fit ends few fault.TooLong has = omega (arith, has, few)
 no_fault_in insns fit ends few fault.NoReturn has = returns_at_end insns ends has

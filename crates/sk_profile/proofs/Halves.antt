@@ -29,7 +29,7 @@ lower_seen true call i = omega (arith, low_at call.args i)
 pub upper_seen : (call : Record) (i : ℕ) → high (argument true call i) ≡ 0
 upper_seen call i = omega (arith, low_at call.args i)
 
-register_fits : (call : Record) (i : ℕ) → IsCall call → i < 6 → register call i < 2 ^ 64
+pub register_fits : (call : Record) (i : ℕ) → IsCall call → i < 6 → register call i < 2 ^ 64
 register_fits call i ok inside = All-get_or (λ a. a < 2 ^ 64) call.args i 0 (omega (arith, inside, ok.six)) ok.fit
 
 no_more : (a : ℕ) → a < 2 ^ 64 → Some (a / 2 ^ 32 % 2 ^ 32) ≡ Some (high a)

@@ -10,7 +10,7 @@ mod emit;
 mod fault;
 mod filter;
 mod from_rules;
-mod instructions;
+pub mod instructions;
 mod judge;
 pub mod laws;
 mod marks;
