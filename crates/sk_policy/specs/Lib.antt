@@ -1,0 +1,4 @@
+pub mod Policies
+pub mod Sizes
+pub mod Code
+pub mod Emitting
