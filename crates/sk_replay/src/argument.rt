@@ -112,8 +112,9 @@ fn part_number(text: &[u8]) -> Result<u64, &[u8]>
     }
 }
 
+/// The number of 64 bits that a word is, or that a constant of Linux's headers with this name has.
 #[tactic(auto, unfolding(crate::specs::CallWords::number_or_constant))]
-fn number_or_constant(word: &[u8]) -> Option<u64>
+pub fn number_or_constant(word: &[u8]) -> Option<u64>
     ensures number { result ≡ number_or_constant word.now }
 {
     match plain_number(word, u64::MAX) {

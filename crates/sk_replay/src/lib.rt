@@ -18,8 +18,9 @@ mod text;
 mod word;
 
 pub use answer::Replay;
+pub use argument::number_or_constant;
 pub use fault::CallFault;
-pub use named::call_named;
+pub use named::{call_named, plain_number};
 pub use quoted::plain_word;
 pub use replaying::replay;
 pub use word::{call_in, name_part};

@@ -28,7 +28,7 @@ fn call_number(word: &[u8]) -> Option<u32>
 
 /// The number that a word is, where it is one and at most `most`, and no 0 stands before it.
 #[tactic(auto, unfolding(crate::specs::WordCalls::plain_number))]
-pub(crate) fn plain_number(word: &[u8], most: u64) -> Option<u64>
+pub fn plain_number(word: &[u8], most: u64) -> Option<u64>
     ensures number { result ≡ plain_number most word.now }
     ensures bound { IfSome result (λ number. number ≤ most) }
 {
