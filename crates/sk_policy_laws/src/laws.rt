@@ -1,0 +1,54 @@
+//! Laws on the rows of `ask when` and policies, and on their texts. No program calls these functions: the contract of each is the law.
+ghost use Rattle.sk_policy_laws.specs.Again.{RowsComeBack, FiltersComeBack, ArchitecturesComeBack, RowsAreRules};
+ghost use Rattle.sk_policy_laws.specs.Texts.{TextsComeBack, TextsMakeFilters, TextsNameEachNumber, TextsSayVerdicts};
+ghost use Rattle.sk_policy_laws.specs.Written.{ConditionsComeBack, FilledConditionsComeBack};
+
+/// A policy of the rows that `ask when` tells says of each call the verdict of the filters.
+pub fn rows_come_back()
+    ensures law { RowsComeBack }
+{}
+
+/// So a filter that means the policy answers each call as they do.
+pub fn filters_come_back()
+    ensures law { FiltersComeBack }
+{}
+
+/// And so it is with the calls of another architecture, where the rows are told for these.
+pub fn architectures_come_back()
+    ensures law { ArchitecturesComeBack }
+{}
+
+/// Its rules are apart, so that there is such a filter, if it is not too long.
+pub fn rows_are_rules()
+    ensures law { RowsAreRules }
+{}
+
+/// The text of a line's condition is a condition of a policy, which holds where that of the line does.
+pub fn conditions_come_back()
+    ensures law { ConditionsComeBack }
+{}
+
+/// So is the text where it stands in several lines, as the words of these are one after the other.
+pub fn filled_conditions_come_back()
+    ensures law { FilledConditionsComeBack }
+{}
+
+/// The text of rows that each have one verdict of a named action for each of their calls is read as sentences that are these rows.
+pub fn texts_come_back()
+    ensures law { TextsComeBack }
+{}
+
+/// Whoever reads the text of rows that are told of filters finds in it the verdict of these on each call.
+pub fn texts_say_verdicts()
+    ensures law { TextsSayVerdicts }
+{}
+
+/// So a filter that is made of the text answers each call of x86-64 as they do.
+pub fn texts_make_filters()
+    ensures law { TextsMakeFilters }
+{}
+
+/// And no number stands twice in the text, nor is left out, so that it is a policy.
+pub fn texts_name_each_number()
+    ensures law { TextsNameEachNumber }
+{}
