@@ -1,6 +1,8 @@
 -- Which form a file has is decided by its bytes alone.
-use Rattle.std.specs.Prelude.{ℕ, ◌==◌, ◌&&◌, ◌||◌, nat_le, not, Bool, if◌then◌else◌, List, filter}
-use Rattle.std.specs.List.{list_all, list_any}
+use Rattle.std.specs.Prelude.{ℕ, ◌==◌, ◌&&◌, ◌||◌, nat_eq, nat_le, not, Bool, true, false, if◌then◌else◌, List, [], ◌∷◌, filter, codes, slice_index}
+use Rattle.std.specs.List.{list_all, list_any, starts_with}
+use Rattle.sk_profile_json.specs.Forms.{is_profile}
+use Rattle.sk_text.specs.Lines.{lines_of, words_of}
 use Rattle.sk_ask.specs.declared.form.Form.{Form}
 use Rattle.sk_ask.specs.declared.form.Form.TheVariants as form
 
@@ -20,3 +22,27 @@ form_of bytes =
 -- a carriage return says nothing, wherever it stands
 abbrev pub without_returns : List ℕ → List ℕ
 without_returns bytes = filter (λ byte. not (byte == 13)) bytes
+
+-- ---- policies
+
+abbrev pub is_lines : Form → Bool
+is_lines form.Raw = false
+is_lines form.Digits = false
+is_lines form.Lines = true
+
+-- the words of a line that is meant to be `filter HEX`, with whatever behind `filter`
+abbrev pub begins_filter : List (List ℕ) → Bool
+begins_filter [] = false
+begins_filter (word ∷ words) = starts_with nat_eq word (codes "filter")
+
+-- the words of a line that is no remark: these begin with `;` (59) or `#` (35), and a carriage return (13) says nothing
+abbrev pub says_something : List (List ℕ) → Bool
+says_something [] = false
+says_something (word ∷ words) = let first = slice_index word 0 in not (first == 59 || first == 35 || first == 13)
+
+-- a text that says something, and has no such line, is a policy
+unfoldable pub is_policy : List ℕ → Bool
+is_policy bytes =
+    is_lines (form_of bytes) && not (is_profile bytes)
+    && list_any (λ line. says_something (words_of line)) (lines_of bytes)
+    && not (list_any (λ line. begins_filter (words_of line)) (lines_of bytes))

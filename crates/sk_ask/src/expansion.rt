@@ -1,13 +1,17 @@
-//! What files stand for: a profile for its filter, and any other file for its bytes.
+//! What files stand for: a profile and a policy for its filter, and any other file for its bytes.
 ghost use Rattle.std.specs.Prelude.{◌≡◌, ℕ, true, IfOk, IfErr, length, map, string_bytes};
 ghost use Rattle.sk_profile_json.specs.Forms.{is_profile};
+ghost use Rattle.sk_policy_text.specs.PolicyTexts.{refusal_text as policy_refusal_text};
+ghost use Rattle.sk_policy_text.specs.Words.{words_of_text};
 ghost use Rattle.sk_profile_json.specs.Texts.{refusal_text};
 ghost use Rattle.sk_ask.specs.Complaints.{about};
 ghost use Rattle.sk_ask.specs.Counts.{CountsReads};
 ghost use Rattle.sk_ask.specs.Orders.{taken_turned, StandsAs};
-ghost use Rattle.sk_ask.specs.Expanding.{note_lines, StandsFor, StandsForFilter, StandFor, HasNoFilter, IsFirstWithout};
+ghost use Rattle.sk_ask.specs.Forms.{is_policy};
+ghost use Rattle.sk_ask.specs.Expanding.{note_lines, StandsFor, StandsForFilter, StandsForPolicy, StandFor, HasNoFilter, IsFirstWithout};
 
 use crate::complaint::about;
+use crate::form::is_policy;
 use crate::order::taken_turned;
 use crate::trouble::Trouble;
 use sk_profile_json::{Context, Refusal, is_profile, made, refusal_text};
@@ -73,7 +77,27 @@ fn stood_for(
     if is_profile(file) {
         return filter_of(alloc, context, name, file);
     }
+    if is_policy(file) {
+        return policy_filter_of(alloc, name, file);
+    }
     Ok(of_bytes(alloc, big_endian, name, file)?)
+}
+
+// What the policy in the file with this name stands for.
+fn policy_filter_of(alloc: Global, name: &str, file: &[u8]) -> Result<Standing, Trouble>
+    requires policy { is_policy file.now ≡ true }
+    ensures stands { IfOk result (λ it. StandsForPolicy file.now it.image.items it.notes.items) }
+    ensures without { (context : Context) → IfErr result (HasNoFilter context name.now file.now) }
+    ensures unread { (reads : ℕ) → CountsReads result reads reads }
+{
+    match sk_policy_text::made(alloc, file) {
+        Ok(image) => Ok(Standing {
+            image,
+            notes: Vec::new(alloc),
+        }),
+        Err(sk_policy_text::Refusal::Memory) => Err(Trouble::Memory),
+        Err(refusal) => Err(Trouble::Refused(policy_line(alloc, name, file, refusal)?)),
+    }
 }
 
 // What the bytes of the file with this name stand for.
@@ -116,6 +140,18 @@ fn filter_of(
         }),
         Err(refusal) => Err(Trouble::Refused(refusal_line(alloc, name, refusal)?)),
     }
+}
+
+fn policy_line(
+    alloc: Global,
+    name: &str,
+    file: &[u8],
+    refusal: sk_policy_text::Refusal,
+) -> Result<Vec<u8>, AllocError>
+    ensures line { IfOk result (λ line. line.items ≡ about name.now (policy_refusal_text (words_of_text file.now) refusal)) }
+{
+    let what = sk_policy_text::refusal_text(alloc, file, refusal)?;
+    about(alloc, name, &what)
 }
 
 fn note_lines(alloc: Global, name: &str, notes: &[String]) -> Result<Vec<u8>, AllocError>

@@ -1,8 +1,9 @@
 //! Which form a file has, and the filters in it.
 ghost use Rattle.std.specs.Prelude.{◌≡◌, ◌==◌, IfOk, filter, length, not};
-ghost use Rattle.std.specs.List.{list_all};
+ghost use Rattle.std.specs.List.{list_all, list_any};
+ghost use Rattle.sk_text.specs.Lines.{lines_of, words_of};
 ghost use Rattle.sk_text.specs.Hexadecimal.{hex_text_bytes};
-ghost use Rattle.sk_ask.specs.Forms.{form_of, is_digit_or_blank, without_returns};
+ghost use Rattle.sk_ask.specs.Forms.{begins_filter, form_of, is_digit_or_blank, is_lines, is_policy, says_something, without_returns};
 ghost use Rattle.sk_ask.specs.Filters.{with_file, with_digits, some_more};
 ghost use Rattle.sk_ask.specs.Finding.{filters_of};
 ghost use Rattle.sk_ask.specs.Answers.{found_in, Finds};
@@ -10,7 +11,8 @@ ghost use Rattle.sk_ask.specs.Answers.{found_in, Finds};
 use crate::fault::{FileFault, Refused};
 use crate::found::{Found, Place, with_filter};
 use crate::lines::with_lines;
-use sk_text::{HexFault, bytes_of_text};
+use sk_profile_json::is_profile;
+use sk_text::{HexFault, Lines, Words, bytes_of_text};
 use std::alloc::{AllocError, Global};
 
 /// The form that the filters of a file are written in.
@@ -45,6 +47,64 @@ fn are_digits(bytes: &[u8]) -> bool
     bytes.iter().all(
         |byte| matches!(*byte, b'0'..=b'9' | b'a'..=b'f' | b'A'..=b'F' | b' ' | b'\n' | b'\r'),
     )
+}
+
+/// Whether a file with these bytes is a policy's text.
+#[tactic(auto, unfolding(crate::specs::Forms::is_policy))]
+pub fn is_policy(bytes: &[u8]) -> bool
+    ensures exact { result ≡ is_policy bytes.now }
+{
+    is_lines(form_of(bytes)) && !is_profile(bytes) && says(bytes) && !has_filter(bytes)
+}
+
+fn is_lines(form: Form) -> bool
+    ensures lines { result ≡ is_lines form }
+{
+    match form {
+        Form::Raw => false,
+        Form::Digits => false,
+        Form::Lines => true,
+    }
+}
+
+fn says(bytes: &[u8]) -> bool
+    ensures says { result ≡ list_any (λ line. says_something (words_of line)) (lines_of bytes.now) }
+{
+    for line in Lines(bytes) {
+        if says_something(line) {
+            return true;
+        }
+    }
+    false
+}
+
+fn has_filter(bytes: &[u8]) -> bool
+    ensures filter { result ≡ list_any (λ line. begins_filter (words_of line)) (lines_of bytes.now) }
+{
+    for line in Lines(bytes) {
+        if begins_filter(line) {
+            return true;
+        }
+    }
+    false
+}
+
+fn says_something(line: &[u8]) -> bool
+    ensures says { result ≡ says_something (words_of line.now) }
+{
+    match Words(line).next() {
+        Some(word) => !matches!(word.first(), Some(b';' | b'#' | b'\r')),
+        None => false,
+    }
+}
+
+fn begins_filter(line: &[u8]) -> bool
+    ensures begins { result ≡ begins_filter (words_of line.now) }
+{
+    match Words(line).next() {
+        Some(word) => word.starts_with(b"filter"),
+        None => false,
+    }
 }
 
 /// The filters that a file with these bytes adds to those that were found before.

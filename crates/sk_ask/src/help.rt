@@ -19,8 +19,8 @@ pub const HELP: &str = "usage: ask WORD ..
 All but filter and arches are about the calls of x86-64, or, with --arch ARCH, about those of another architecture: x32, i386,
 aarch64, arm, riscv64, ppc64le, s390x or loongarch64; lint is about those of x86-64 and x32 alone. Names and numbers are those that
 calls have there. when, diff and lint write numbers by the constants of Linux's headers, and with --numbers as they are.
-FILE holds raw struct sock_filter, hexadecimal digits, lines filter HEX, or a seccomp profile of docker's or podman's kind in
-JSON, which stands for its filter; - is standard input. Several FILEs are one chain, the oldest filter first.
+FILE holds raw struct sock_filter, hexadecimal digits, lines filter HEX, a policy as when writes one, or a seccomp profile of docker's
+or podman's kind in JSON; the last two stand for their filters. - is standard input. Several FILEs are one chain, the oldest first.
 Where a FILE is a profile, each WORD takes
   --cap NAME        a capability that is held there, as CAP_SYS_ADMIN, or docker, or all; as often as there are; else none is
   --kernel VERSION  the kernel there, as 6.1; else it is 6.12
@@ -42,7 +42,8 @@ A FILE may be a profile, and then --cap, --kernel, --machine, --native and --run
 
 /// What `ask filter --help` says.
 pub const FILTER_HELP: &str = "usage: ask filter [--raw] FILE..
-The filters in the FILEs as lines filter HEX, the oldest first.
+The filters in the FILEs as lines filter HEX, the oldest first. A FILE may be a policy, a text as ask when writes one: then it is the
+filter that answers to every call what the policy says.
   --raw         one filter as the bytes of struct sock_filter
 A FILE may be a profile, and then --cap, --kernel, --machine, --native and --runc say where it is to hold: ask --help has them.
 ";

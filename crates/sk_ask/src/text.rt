@@ -17,7 +17,7 @@ pub fn fault_text(alloc: Global, fault: FileFault) -> Result<String, AllocError>
     let mut text = String::new(alloc);
     match fault {
         FileFault::NoFilter => text.push_str(
-            "holds no filter: expected bytes of struct sock_filter, hexadecimal digits, lines filter HEX, or a profile in JSON",
+            "holds no filter: expected bytes of struct sock_filter, hexadecimal digits, lines filter HEX, a policy, or a profile in JSON",
         )?,
         FileFault::OddDigits => text.push_str(
             "has an odd number of hexadecimal digits: expected two for each byte",
