@@ -170,7 +170,7 @@ class Row(NamedTuple):
 GOT = "39 getpid errno/1 EPERM\n"
 LINE = line(GETPID).decode()
 NO_CALL = "holds no call: expected lines as strace -f -X raw -e raw=all writes them"
-NO_FILTER = "holds no filter: expected bytes of struct sock_filter, hexadecimal digits, lines filter HEX, or a profile in JSON"
+NO_FILTER = "holds no filter: expected bytes of struct sock_filter, hexadecimal digits, lines filter HEX, a policy, or a profile in JSON"
 
 
 def record(number, first=0, architecture=0xC000003E):
@@ -513,6 +513,7 @@ WORDS = [
     trouble("ask --runc", "no word is named --runc"), trouble("ask filter --runc", "filter: no FILE is given"),
 ]
 # What is said of one FILE, whatever is asked of it.
+NO_CALL, NO_NAME = "expected the name of a call on x86-64, or its number", "read: expected the name of the call with the number before it"
 NO_LINE, ODD = "expected filter HEX", "has an odd number of hexadecimal digits: expected two for each byte"
 NO_DIGITS = "expected hexadecimal digits behind filter, two for each byte"
 NO_JSON, TOO_LONG = "is no JSON: expected the JSON of a profile, no more than 128 deep", "its filter would have more than 4096 instructions"
@@ -523,10 +524,11 @@ ONE = [
     ("mib_and_one", "mib_and_one: has more than 1048576 bytes"), ("/dev/zero", "/dev/zero: has more than 1048576 bytes"),
     ("- <&-", "-: reading failed"), ("- < folder", "-: reading failed"), ("- < odd", f"-: {ODD}"),
     *[(name, f"{name}: {NO_FILTER}") for name in ("empty", "blank", "comments", "mib", "/dev/null")],
-    *[(name, f"{name}: line 1: {NO_LINE}") for name in ("marked", "tab", "glued", "record", "log")],
-    ("word", f"word: line 2: {NO_LINE}"), ("odd", f"odd: {ODD}"), ("bad_digits", f"bad_digits: line 2: {NO_DIGITS}"),
+    *[(name, f"{name}: line 1: {NO_LINE}") for name in ("tab", "glued", "record")],
+    ("marked", f"marked: line 1: ?: {NO_CALL}"), ("log", f"log: line 1: {NO_NAME}"),
+    ("word", f"word: line 1: ;: {NO_CALL}"), ("odd", f"odd: {ODD}"), ("bad_digits", f"bad_digits: line 2: {NO_DIGITS}"),
     ("odd_line", f"odd_line: line 1: {NO_DIGITS}"), ("no_digits", "no_digits: line 1: there is no instruction"),
-    ("<(cat empty)", f"/dev/fd/63: {NO_FILTER}"), ("/dev/stdin < word", f"/dev/stdin: line 2: {NO_LINE}"),
+    ("<(cat empty)", f"/dev/fd/63: {NO_FILTER}"), ("/dev/stdin < word", f"/dev/stdin: line 1: ;: {NO_CALL}"),
     ("thirty_three", "thirty_three: line 34: one filter too many: expected at most 32 in all files"),
     ("big_endian", f"big_endian: instruction 0: {NO_CODE}"), ("code", f"code: line 2: instruction 2: {NO_CODE}"),
     ("ragged", "ragged: the length is no multiple of 8 bytes: expected instructions as struct sock_filter has them"),
@@ -537,7 +539,7 @@ ONE = [
     ("jump", "jump: instruction 0: a jump past the last instruction"),
     ("unstored", "unstored: instruction 0: loads scratch word 3, which some path there does not store"),
     ("long", "long: there are more than 4096 instructions"),
-    ("profile_marked", f"profile_marked: line 1: {NO_LINE}"), ("profile_list", f"profile_list: line 1: {NO_LINE}"),
+    ("profile_marked", f"profile_marked: line 1: ?: {NO_CALL}"), ("profile_list", f"profile_list: line 1: [: {NO_CALL}"),
     ("profile_nul", "profile_nul: the length is no multiple of 8 bytes: expected instructions as struct sock_filter has them"),
     *[(f"profile_{name}", f"profile_{name}: {says}") for name, says in (
         ("object", "defaultAction: missing: expected an action as SCMP_ACT_ERRNO, and not SCMP_ACT_NOTIFY"),
@@ -556,7 +558,7 @@ ONE = [
 SEVERAL = [
     ("nofile folder", "nofile: no such file"), ("folder nofile", "folder: is a folder"), ("raw folder nofile", "folder: is a folder"),
     ("raw nofile", "nofile: no such file"), ("nofile word", "nofile: no such file"), ("word nofile", "nofile: no such file"),
-    ("all empty", f"empty: {NO_FILTER}"), ("- - < raw", f"-: {NO_FILTER}"), ("raw digits odd", f"odd: {ODD}"), ("code word", f"word: line 2: {NO_LINE}"),
+    ("all empty", f"empty: {NO_FILTER}"), ("- - < raw", f"-: {NO_FILTER}"), ("raw digits odd", f"odd: {ODD}"), ("code word", f"word: line 1: ;: {NO_CALL}"),
     ("thirty_two raw", "raw: one filter too many: expected at most 32 in all files"),
     ("sixteen sixteen two", "two: line 1: one filter too many: expected at most 32 in all files"),
     ("word profile_keys profile_open", "profile_keys: a key comes twice in one object"), ("profile_keys nofile", "nofile: no such file"),
@@ -565,8 +567,8 @@ SEVERAL = [
 ]
 # And of one that is made for it.
 MADE = [
-    ("chmod 000 raw; $as_owner {ask} raw", "raw: may not be read"), ("cat word | {ask} /dev/stdin", f"/dev/stdin: line 2: {NO_LINE}"),
-    ("cat odd | {ask} -", f"-: {ODD}"), ("mkfifo fifo; cat word > fifo & timeout 20 {ask} fifo", f"fifo: line 2: {NO_LINE}"),
+    ("chmod 000 raw; $as_owner {ask} raw", "raw: may not be read"), ("cat word | {ask} /dev/stdin", f"/dev/stdin: line 1: ;: {NO_CALL}"),
+    ("cat odd | {ask} -", f"-: {ODD}"), ("mkfifo fifo; cat word > fifo & timeout 20 {ask} fifo", f"fifo: line 1: ;: {NO_CALL}"),
     ("mkdir -p deep/er; {ask} deep/er", "deep/er: is a folder"), ("ln -s nowhere link; {ask} link", "link: no such file"),
 ]
 # All that asks something of a chain of FILEs, and of each of two.
@@ -582,7 +584,7 @@ UNREAD = [
     *[trouble(f"ask {asking} {files}", of_machine(asking, says)) for asking in ASKING for files, says in ONE + SEVERAL],
     *[trouble(command.format(ask=f"ask {asking}"), says) for asking in (*ASKING, "diff all") for command, says in MADE],
     *[trouble(f"ask diff {files}", says) for file, says in ONE for files in (f"all {file}", f"{file} all")],
-    trouble("ask diff word nofile", f"word: line 2: {NO_LINE}"), trouble("ask diff nofile folder", "nofile: no such file"),
+    trouble("ask diff word nofile", f"word: line 1: ;: {NO_CALL}"), trouble("ask diff nofile folder", "nofile: no such file"),
     trouble("ask diff folder nofile", "folder: is a folder"), trouble("ask diff code word", f"code: line 2: instruction 2: {NO_CODE}"),
 ]
 # What is said of a LOG.
@@ -590,7 +592,7 @@ LOGS = [
     ("nolog nofile", "nolog: no such file"), ("folder nofile", "folder: is a folder"), ("'' all", ": no such file"), ("folder all", "folder: is a folder"), ("log/x all", "log/x: can't be opened"),
     ("\"$(printf 'a\\nb')\" all", "a?b: no such file"), ("- all <&-", "-: reading failed"), ("- all < folder", "-: reading failed"),
     ("- - < log", f"-: {NO_FILTER}"), ("- all < empty", f"-: {NO_CALL}"), ("<(cat empty) all", f"/dev/fd/63: {NO_CALL}"),
-    ("/dev/zero all", "/dev/zero: has more than 268435456 bytes"), ("all log", f"log: line 1: {NO_LINE}"), ("empty empty", f"empty: {NO_FILTER}"),
+    ("/dev/zero all", "/dev/zero: has more than 268435456 bytes"), ("all log", f"log: line 1: {NO_NAME}"), ("empty empty", f"empty: {NO_FILTER}"),
     *[(f"{name} all", f"{name}: {NO_CALL}") for name in ("profile", "empty", "/dev/null", "log_ends", "log_decoded", "raw", "lines", "mib_and_one", "chain")],
 ]
 REFUSED = [

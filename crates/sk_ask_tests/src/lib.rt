@@ -1,5 +1,5 @@
 //! Worked examples of `ask`: its words and texts over files and writers in memory, which fail where they are told to, the
-//! forms of files, what profiles are made into or refused for, the text that `ask when` makes of small filters, how two of them
+//! forms of files, what profiles and policies are made into or refused for, the text that `ask when` makes of small filters, how two of them
 //! differ, what `ask lint` tells of them, what the replay of a log says of its calls, the texts of verdicts, names, arguments
 //! and constants.
 #![tactic(auto)]
@@ -22,6 +22,8 @@ mod made;
 mod names;
 #[cfg(test)]
 mod partings;
+#[cfg(test)]
+mod policies;
 #[cfg(test)]
 mod refusals;
 #[cfg(test)]
