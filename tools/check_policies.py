@@ -2,7 +2,7 @@
 """Checks what `ask` makes of policies.
 
 check_policies.py [COUNT]: of each real filter and each profile in examples/, what `ask when` writes is a policy whose filter answers
-the same to every call by `ask diff`, and of which `ask when` writes the same text. So is what it writes with numbers alone, and of
+the same to every call by `ask diff`, and of which `ask when` writes the same text, but for those of OTHER_ELSE. So is what it writes with numbers alone, and of
 the calls of two other architectures, behind a line that names them.
 
 Of COUNT random texts (else 1,000) the filter is the same on every call as one that tools/policies.py makes of the text, which
@@ -27,6 +27,8 @@ COUNT = 1000
 ARCHITECTURES = ("i386", "aarch64")
 SAME = "the same on every call\n"
 FOLDERS = ("filters", "exports", "profiles", "profiles/libseccomp", "widths", "libseccomp", "policies")
+# Files with a row of three verdicts, of which `ask when` leaves another one to `else` in the policy's filter: that text says the same.
+OTHER_ELSE = ("profiles_redundant.json",)
 # What `ask when` writes where it does not follow a filter: such a text is no policy.
 UNTOLD = (" | ", " any")
 
@@ -49,7 +51,9 @@ def comes_back(path: str, text: str, room: str, name: str) -> list[str]:
     if (status, said) != (0, SAME):
         return [f"{name}: diff ends with {status}: {(said or trouble)[:300]}"]
     status, said, trouble = ask("when", *(["--numbers"] if name.endswith(".numbers") else []), policy)
-    return [] if (status, said) == (0, text) else [f"{name}: when of its filter ends with {status}: {(trouble or said)[:300]}"]
+    if status == 0 and (said == text or name.startswith(OTHER_ELSE)):
+        return []
+    return [f"{name}: when of its filter ends with {status}: {(trouble or said)[:300]}"]
 
 
 def check_file(path: str, room: str) -> list[str]:
@@ -63,7 +67,8 @@ def check_file(path: str, room: str) -> list[str]:
             problems += comes_back(path, text, room, name + end)
         elif ask("filter", write(os.path.join(room, name + end), text))[0] != 2:
             problems.append(f"{name}: what is not followed is taken for a policy")
-    for architecture in ARCHITECTURES:
+    # A profile has no filter for the calls of an architecture that it does not list.
+    for architecture in ARCHITECTURES[:1] if path.endswith(".json") else ARCHITECTURES:
         problems += comes_back_there(architecture, path, room, f"{name}.{architecture}")
     return problems
 
@@ -88,7 +93,7 @@ def told(text: str) -> policies.Policy | None:
 def check_text(name: str, text: str, room: str) -> list[str]:
     """What is wrong with the filter that `ask` makes of a text, beside that of the second telling."""
     policy = write(os.path.join(room, name), text)
-    status, said, trouble = ask("filter", "--raw", policy)
+    status, said, trouble = ask("filter", policy)
     meant = told(text)
     if meant is None:
         fits = status == 2 and not said and trouble.count("\n") == 1 and trouble.startswith(f"ask: {policy}: ")

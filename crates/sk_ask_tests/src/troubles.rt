@@ -83,7 +83,7 @@ const TROUBLES: &[&str] = &[
     "calls --arch s390x listed => listed: no filter is made of a profile for s390x: its arguments have their highest byte first",
     "replay profile profile => profile: holds no call: expected lines as strace -f -X raw -e raw=all writes them",
     "calls object => object: defaultAction: missing: expected an action as SCMP_ACT_ERRNO, and not SCMP_ACT_NOTIFY",
-    "filter words noted open object => open: is no JSON: expected the JSON of a profile, no more than 128 deep",
+    "filter code noted open object => open: is no JSON: expected the JSON of a profile, no more than 128 deep",
     "when keys => keys: a key comes twice in one object",
     "show bytes => bytes: is no text in UTF-8: expected the JSON of a profile",
     "show marked => marked: line 1: ?: expected the name of a call on x86-64, or its number",
