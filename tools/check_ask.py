@@ -513,7 +513,7 @@ WORDS = [
     trouble("ask --runc", "no word is named --runc"), trouble("ask filter --runc", "filter: no FILE is given"),
 ]
 # What is said of one FILE, whatever is asked of it.
-NO_CALL, NO_NAME = "expected the name of a call on x86-64, or its number", "read: expected the name of the call with the number before it"
+NO_SUCH, NO_NAME = "expected the name of a call on x86-64, or its number", "read: expected the name of the call with the number before it"
 NO_LINE, ODD = "expected filter HEX", "has an odd number of hexadecimal digits: expected two for each byte"
 NO_DIGITS = "expected hexadecimal digits behind filter, two for each byte"
 NO_JSON, TOO_LONG = "is no JSON: expected the JSON of a profile, no more than 128 deep", "its filter would have more than 4096 instructions"
@@ -525,10 +525,10 @@ ONE = [
     ("- <&-", "-: reading failed"), ("- < folder", "-: reading failed"), ("- < odd", f"-: {ODD}"),
     *[(name, f"{name}: {NO_FILTER}") for name in ("empty", "blank", "comments", "mib", "/dev/null")],
     *[(name, f"{name}: line 1: {NO_LINE}") for name in ("tab", "glued", "record")],
-    ("marked", f"marked: line 1: ?: {NO_CALL}"), ("log", f"log: line 1: {NO_NAME}"),
-    ("word", f"word: line 1: ;: {NO_CALL}"), ("odd", f"odd: {ODD}"), ("bad_digits", f"bad_digits: line 2: {NO_DIGITS}"),
+    ("marked", f"marked: line 1: ?: {NO_SUCH}"), ("log", f"log: line 1: {NO_NAME}"),
+    ("word", f"word: line 1: ;: {NO_SUCH}"), ("odd", f"odd: {ODD}"), ("bad_digits", f"bad_digits: line 2: {NO_DIGITS}"),
     ("odd_line", f"odd_line: line 1: {NO_DIGITS}"), ("no_digits", "no_digits: line 1: there is no instruction"),
-    ("<(cat empty)", f"/dev/fd/63: {NO_FILTER}"), ("/dev/stdin < word", f"/dev/stdin: line 1: ;: {NO_CALL}"),
+    ("<(cat empty)", f"/dev/fd/63: {NO_FILTER}"), ("/dev/stdin < word", f"/dev/stdin: line 1: ;: {NO_SUCH}"),
     ("thirty_three", "thirty_three: line 34: one filter too many: expected at most 32 in all files"),
     ("big_endian", f"big_endian: instruction 0: {NO_CODE}"), ("code", f"code: line 2: instruction 2: {NO_CODE}"),
     ("ragged", "ragged: the length is no multiple of 8 bytes: expected instructions as struct sock_filter has them"),
@@ -539,7 +539,7 @@ ONE = [
     ("jump", "jump: instruction 0: a jump past the last instruction"),
     ("unstored", "unstored: instruction 0: loads scratch word 3, which some path there does not store"),
     ("long", "long: there are more than 4096 instructions"),
-    ("profile_marked", f"profile_marked: line 1: ?: {NO_CALL}"), ("profile_list", f"profile_list: line 1: [: {NO_CALL}"),
+    ("profile_marked", f"profile_marked: line 1: ?: {NO_SUCH}"), ("profile_list", f"profile_list: line 1: [: {NO_SUCH}"),
     ("profile_nul", "profile_nul: the length is no multiple of 8 bytes: expected instructions as struct sock_filter has them"),
     *[(f"profile_{name}", f"profile_{name}: {says}") for name, says in (
         ("object", "defaultAction: missing: expected an action as SCMP_ACT_ERRNO, and not SCMP_ACT_NOTIFY"),
@@ -558,17 +558,17 @@ ONE = [
 SEVERAL = [
     ("nofile folder", "nofile: no such file"), ("folder nofile", "folder: is a folder"), ("raw folder nofile", "folder: is a folder"),
     ("raw nofile", "nofile: no such file"), ("nofile word", "nofile: no such file"), ("word nofile", "nofile: no such file"),
-    ("all empty", f"empty: {NO_FILTER}"), ("- - < raw", f"-: {NO_FILTER}"), ("raw digits odd", f"odd: {ODD}"), ("code word", f"word: line 1: ;: {NO_CALL}"),
+    ("all empty", f"empty: {NO_FILTER}"), ("- - < raw", f"-: {NO_FILTER}"), ("raw digits odd", f"odd: {ODD}"), ("code word", f"word: line 1: ;: {NO_SUCH}"),
     ("thirty_two raw", "raw: one filter too many: expected at most 32 in all files"),
     ("sixteen sixteen two", "two: line 1: one filter too many: expected at most 32 in all files"),
-    ("word profile_keys profile_open", "profile_keys: a key comes twice in one object"), ("profile_keys nofile", "nofile: no such file"),
+    ("code profile_keys profile_open", "profile_keys: a key comes twice in one object"), ("profile_keys nofile", "nofile: no such file"),
     ("profile profile odd", f"odd: {ODD}"), ("thirty_two profile", "profile: one filter too many: expected at most 32 in all files"),
     ("all code", f"code: line 2: instruction 2: {NO_CODE}"), ("big_endian no_return", f"big_endian: instruction 0: {NO_CODE}"),
 ]
 # And of one that is made for it.
 MADE = [
-    ("chmod 000 raw; $as_owner {ask} raw", "raw: may not be read"), ("cat word | {ask} /dev/stdin", f"/dev/stdin: line 1: ;: {NO_CALL}"),
-    ("cat odd | {ask} -", f"-: {ODD}"), ("mkfifo fifo; cat word > fifo & timeout 20 {ask} fifo", f"fifo: line 1: ;: {NO_CALL}"),
+    ("chmod 000 raw; $as_owner {ask} raw", "raw: may not be read"), ("cat word | {ask} /dev/stdin", f"/dev/stdin: line 1: ;: {NO_SUCH}"),
+    ("cat odd | {ask} -", f"-: {ODD}"), ("mkfifo fifo; cat word > fifo & timeout 20 {ask} fifo", f"fifo: line 1: ;: {NO_SUCH}"),
     ("mkdir -p deep/er; {ask} deep/er", "deep/er: is a folder"), ("ln -s nowhere link; {ask} link", "link: no such file"),
 ]
 # All that asks something of a chain of FILEs, and of each of two.
@@ -584,7 +584,7 @@ UNREAD = [
     *[trouble(f"ask {asking} {files}", of_machine(asking, says)) for asking in ASKING for files, says in ONE + SEVERAL],
     *[trouble(command.format(ask=f"ask {asking}"), says) for asking in (*ASKING, "diff all") for command, says in MADE],
     *[trouble(f"ask diff {files}", says) for file, says in ONE for files in (f"all {file}", f"{file} all")],
-    trouble("ask diff word nofile", f"word: line 1: ;: {NO_CALL}"), trouble("ask diff nofile folder", "nofile: no such file"),
+    trouble("ask diff word nofile", f"word: line 1: ;: {NO_SUCH}"), trouble("ask diff nofile folder", "nofile: no such file"),
     trouble("ask diff folder nofile", "folder: is a folder"), trouble("ask diff code word", f"code: line 2: instruction 2: {NO_CODE}"),
 ]
 # What is said of a LOG.
