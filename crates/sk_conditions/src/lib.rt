@@ -4,6 +4,7 @@
 mod budget;
 mod chains;
 mod differences;
+mod expectation;
 mod explore;
 mod follow;
 mod join;
@@ -22,8 +23,9 @@ mod witness;
 pub use budget::{Budget, Budgets};
 pub use chains::chain_tree;
 pub use differences::{Differences, Verdicts, differ};
+pub use expectation::Expectation;
 pub use explore::program_tree;
 pub use numbers::Numbers;
-pub use standing::{Comparing, Relation, stands};
+pub use standing::{Comparing, Relation, is_reflexive, stands};
 pub use test::Test;
 pub use tree::Tree;

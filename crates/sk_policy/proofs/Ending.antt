@@ -1,12 +1,14 @@
 -- Code that is written from its last part to its first.
-use Rattle.std.proofs.Common.{◌≡◌, ℕ, zero, suc, ◌+◌, ◌-◌, ◌<◌, ◌≤◌, List, [], ◌∷◌, ◌++◌, length, take, drop, refl, ap, sym, ◌∙◌, arith, append_assoc, length-append}
+use Rattle.std.proofs.Common.{◌≡◌, ℕ, zero, suc, ◌+◌, ◌<◌, ◌≤◌, List, [], ◌∷◌, ◌++◌, length, take, drop, refl, ap, sym, ◌∙◌, arith, append_assoc, length-append}
 use Rattle.std.proofs.lemmas.List.{take-append-drop}
 use Rattle.sk_insn.specs.declared.insn.Insn.{Insn}
-use Rattle.sk_profile.specs.Code.{answer}
+use Rattle.sk_insn.specs.declared.operation.Comparison.TheVariants.{Equal}
+use Rattle.sk_profile.specs.Code.{branch, answer}
+use Rattle.sk_profile.specs.Sayings.{low}
 use Rattle.sk_terms.specs.declared.choices.Choice.{Choice}
 use Rattle.sk_terms.specs.declared.term.Term.{Term}
 use Rattle.sk_policy.specs.declared.cases.Case.{Case}
-use Rattle.sk_policy.specs.Code.{placed_code, choice_code, line_code, cases_code}
+use Rattle.sk_policy.specs.Code.{placed_code, terms_code, equals_code, choice_code, line_code, cases_code}
 
 -- each part stands before those behind it, and knows how many instructions these have
 abbrev pub chain : {X : Type 0} → (X → ℕ → List Insn) → List Insn → List X → List Insn
@@ -125,10 +127,13 @@ over_first part end whole is xs before last old split over =
     let all = over_at_end part (end last) before old over in
     omega (arith, all, ap (λ insns. length (insns ++ old)) (sym (is before last) ∙ ap whole (sym split)))
 
--- ---- a choice, a condition and cases are written so
+-- ---- terms, numbers, a condition and cases are written so
 
 abbrev pub term_part : ℕ → Term → ℕ → List Insn
 term_part held term behind = placed_code term (behind + held) 0
+
+abbrev pub equal_part : ℕ → Term → ℕ → List Insn
+equal_part held term behind = branch Equal (low term.first) (behind + held) 0 ∷ []
 
 abbrev pub choice_part : ℕ → Choice → ℕ → List Insn
 choice_part failed choice behind = choice_code choice.terms.items 0 (behind + failed)
@@ -139,14 +144,25 @@ case_part it behind = line_code it.choices.items 0 1 ++ answer it.value ∷ []
 abbrev pub term_end : ℕ → ℕ → Term → List Insn
 term_end held failed term = placed_code term held failed
 
+abbrev pub equal_end : ℕ → ℕ → Term → List Insn
+equal_end held failed term = branch Equal (low term.first) held failed ∷ []
+
 abbrev pub choice_end : ℕ → ℕ → Choice → List Insn
 choice_end held failed choice = choice_code choice.terms.items held failed
 
-pub choice_is : (held failed : ℕ) → IsWritten (term_part held) (term_end held failed) (λ terms. choice_code terms held failed)
-choice_is held failed [] last = refl
-choice_is held failed (term ∷ before) last = first before ∙ ap (λ (rest : List Insn). term_part held term (length rest) ++ rest) (choice_is held failed before last) where
-  first : (before : List Term) → choice_code (term ∷ (before ++ last ∷ [])) held failed
-      ≡ term_part held term (length (choice_code (before ++ last ∷ []) held failed)) ++ choice_code (before ++ last ∷ []) held failed
+pub terms_are : (held failed : ℕ) → IsWritten (term_part held) (term_end held failed) (λ terms. terms_code terms held failed)
+terms_are held failed [] last = refl
+terms_are held failed (term ∷ before) last = first before ∙ ap (λ (rest : List Insn). term_part held term (length rest) ++ rest) (terms_are held failed before last) where
+  first : (before : List Term) → terms_code (term ∷ (before ++ last ∷ [])) held failed
+      ≡ term_part held term (length (terms_code (before ++ last ∷ []) held failed)) ++ terms_code (before ++ last ∷ []) held failed
+  first [] = refl
+  first (other ∷ before) = refl
+
+pub equals_are : (held failed : ℕ) → IsWritten (equal_part held) (equal_end held failed) (λ terms. equals_code terms held failed)
+equals_are held failed [] last = refl
+equals_are held failed (term ∷ before) last = first before ∙ ap (λ (rest : List Insn). equal_part held term (length rest) ++ rest) (equals_are held failed before last) where
+  first : (before : List Term) → equals_code (term ∷ (before ++ last ∷ [])) held failed
+      ≡ equal_part held term (length (equals_code (before ++ last ∷ []) held failed)) ++ equals_code (before ++ last ∷ []) held failed
   first [] = refl
   first (other ∷ before) = refl
 

@@ -16,7 +16,7 @@ use Rattle.sk_terms.specs.declared.term.Term.{Term}
 use Rattle.sk_policy.specs.declared.cases.Case.{Case}
 use Rattle.sk_policy.specs.declared.test.Test.{Test}
 use Rattle.sk_policy.specs.declared.test.Test.TheVariants.{Is, Above, AtLeast}
-use Rattle.sk_policy.specs.Code.{comparison_of, low_place, high_place, kept_code, word_code, low_code, high_code, wide_code, is_narrow, test_code, bounds_code, range_code, term_code, placed_code, choice_from, choice_code, line_from, line_code, cases_code, head_code}
+use Rattle.sk_policy.specs.Code.{comparison_of, low_place, high_place, kept_code, word_code, low_code, high_code, wide_code, is_narrow, test_code, bounds_code, range_code, term_code, placed_code, choice_from, are_joined, equals_from, lower_code, joined_code, choice_code, line_from, line_code, cases_code, head_code}
 use Rattle.sk_policy.specs.Policies.{IsThere, AsksThere, AllThere, CaseThere}
 
 low_load : (r : Register) (behind : ℕ) → IsThere r → FitsBefore behind (operation_of (load (low_place r)).code) (load (low_place r))
@@ -103,9 +103,40 @@ choice_from_fits term (other ∷ terms) held failed behind there near near' =
     (placed_fits term (length rest + held) 0 (length rest + behind) (All-head AsksThere term (other ∷ terms) there) (omega (arith, near)) (omega (arith, near)))
     (choice_from_fits other terms held failed behind (All-tail AsksThere term (other ∷ terms) there) near near')
 
+equals_fit : (term : Term) (terms : List Term) (held failed behind : ℕ) → held < behind → failed < behind → Fit behind (equals_from term terms held failed)
+equals_fit term [] held failed behind near near' = (branch_fits Equal _ _ _ _ (omega (arith, near)) (omega (arith, near')), tt)
+equals_fit term (other ∷ terms) held failed behind near near' =
+    (branch_fits Equal _ _ _ _ (omega (arith, near)) (omega (arith, near)), equals_fit other terms held failed behind near near')
+
+lower_fits : (first term : Term) (terms : List Term) (held failed behind : ℕ) → AsksThere first → held < behind → failed < behind → Fit behind (lower_code first (term ∷ terms) held failed)
+lower_fits first term terms held failed behind there near near' =
+    both_fit (word_code (low_place first.register) (low first.mask)) (equals_from term terms held failed) behind
+    (low_load first.register _ there, kept_fits (low first.mask) (length (equals_from term terms held failed) + behind)) (equals_fit term terms held failed behind near near')
+
+joined_fits : (first term : Term) (terms : List Term) (held failed behind : ℕ) → AsksThere first → held < behind → failed < behind → Fit behind (joined_code first (term ∷ terms) held failed)
+unfolding joined_code
+joined_fits first term terms held failed behind there near near' = by (is_narrow first.register first.mask) where
+  lower : List Insn
+  lower = lower_code first (term ∷ terms) held failed
+
+  asked : List Insn
+  asked = branch Equal (high first.first) 0 (length lower + failed) ∷ lower
+
+  by : (b : Bool) → Fit behind (if b then lower_code first (term ∷ terms) held failed
+      else word_code (high_place first.register) (high first.mask)
+      ++ (branch Equal (high first.first) 0 (length (lower_code first (term ∷ terms) held failed) + failed) ∷ lower_code first (term ∷ terms) held failed))
+  by true = lower_fits first term terms held failed behind there near near'
+  by false =
+      both_fit (word_code (high_place first.register) (high first.mask)) asked behind
+      (high_load first.register _ there, kept_fits (high first.mask) (length asked + behind))
+      (branch_fits Equal _ _ _ _ (omega (arith, near)) (omega (arith, near')), lower_fits first term terms held failed behind there near near')
+
 choice_fits : (terms : List Term) (held failed behind : ℕ) → All AsksThere terms → held < behind → failed < behind → Fit behind (choice_code terms held failed)
 choice_fits [] held failed behind there near near' = (jump_fits failed _ (omega (arith, near')), tt)
-choice_fits (term ∷ terms) held failed behind there near near' = choice_from_fits term terms held failed behind there near near'
+choice_fits (term ∷ terms) held failed behind there near near' = by (are_joined term (term ∷ terms) held failed) where
+  by : (b : Bool) → Fit behind (if b then joined_code term (term ∷ terms) held failed else choice_from term terms held failed)
+  by true = joined_fits term term terms held failed behind (All-head AsksThere term terms there) near near'
+  by false = choice_from_fits term terms held failed behind there near near'
 
 abbrev ChoiceThere : Choice → Type 0
 ChoiceThere choice = All AsksThere choice.terms.items

@@ -1,5 +1,5 @@
 -- The code of a condition goes on at one place where a call meets it, and else at the other.
-use Rattle.std.proofs.Common.{◌≡◌, ℕ, ◌+◌, ◌&&◌, ◌||◌, Bool, true, false, List, [], ◌∷◌, ◌++◌, length, refl, sym, subst, append_assoc}
+use Rattle.std.proofs.Common.{◌≡◌, ℕ, ◌+◌, ◌&&◌, ◌||◌, Bool, true, false, if◌then◌else◌, List, [], ◌∷◌, ◌++◌, length, refl, sym, subst, append_assoc}
 use Rattle.std.specs.Prelude.{All}
 use Rattle.std.proofs.lemmas.List.Elements.{All-head, All-tail}
 use Rattle.sk_insn.specs.declared.insn.Insn.{Insn}
@@ -11,10 +11,11 @@ use Rattle.sk_terms.specs.declared.choices.Choice.{Choice}
 use Rattle.sk_terms.specs.declared.term.Term.{Term}
 use Rattle.sk_terms.specs.Terms.{holds_term}
 use Rattle.sk_terms.specs.Lines.{holds_one, holds_choice, meets_choices}
-use Rattle.sk_policy.specs.Code.{placed_code, choice_from, choice_code, line_from, line_code}
+use Rattle.sk_policy.specs.Code.{placed_code, choice_from, are_joined, joined_code, choice_code, line_from, line_code}
 use Rattle.sk_policy.specs.Policies.{IsWhole, AsksThere, AllThere}
 use Rattle.sk_policy.proofs.Tests.{same_way}
 use Rattle.sk_policy.proofs.Terms.{placed_on}
+use Rattle.sk_policy.proofs.Among.{joined_on}
 
 or_false : (b : Bool) → (b || false) ≡ b
 or_false true = refl
@@ -52,7 +53,11 @@ choice_from_on term (other ∷ terms) held failed rest call s value ok there goe
 choice_on : (terms : List Term) (held failed : ℕ) (rest : List Insn) (call : Record) (s : State) (value : ℕ) → IsWhole call → All AsksThere terms
     → Goes (holds_one terms call) held failed rest call value → Comes (choice_code terms held failed ++ rest) 0 call s value
 choice_on [] held failed rest call s value ok there goes = jump_on failed rest call s value (goes s)
-choice_on (term ∷ terms) held failed rest call s value ok there goes = choice_from_on term terms held failed rest call s value ok there goes
+choice_on (term ∷ terms) held failed rest call s value ok there goes = by (are_joined term (term ∷ terms) held failed) refl where
+  by : (b : Bool) → are_joined term (term ∷ terms) held failed ≡ b
+      → Comes ((if b then joined_code term (term ∷ terms) held failed else choice_from term terms held failed) ++ rest) 0 call s value
+  by true e = joined_on term term terms held failed rest call value ok (All-head AsksThere term terms there) s e goes
+  by false e = choice_from_on term terms held failed rest call s value ok there goes
 
 abbrev ChoiceThere : Choice → Type 0
 ChoiceThere choice = All AsksThere choice.terms.items

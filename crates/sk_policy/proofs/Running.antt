@@ -10,15 +10,8 @@ use Rattle.sk_policy.specs.declared.policy.Rule.{Rule}
 use Rattle.sk_policy.specs.Code.{head_code}
 use Rattle.sk_policy.specs.Emitting.{joins, joins_all, end_of, Emits}
 use Rattle.sk_policy.specs.Policies.{said, is_for, says, AreApart}
+use Rattle.sk_policy.proofs.Among.{and_left, and_right}
 use Rattle.sk_policy.proofs.Ruling.{joined, one_answer}
-
-and_left : (b c : Bool) → (b && c) ≡ true → b ≡ true
-and_left true c e = refl
-and_left false c e = cc
-
-and_right : (b c : Bool) → (b && c) ≡ true → c ≡ true
-and_right true c e = e
-and_right false c e = cc
 
 plain_said : (cases : List Case) (otherwise : ℕ) (call : Record) → length cases ≡ 0 → said cases otherwise call ≡ otherwise
 plain_said [] otherwise call none = refl

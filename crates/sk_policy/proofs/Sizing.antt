@@ -2,6 +2,7 @@
 use Rattle.std.proofs.Common.{◌≡◌, ℕ, zero, suc, ◌+◌, ◌*◌, ◌<◌, ◌≤◌, ◌==◌, ◌&&◌, Bool, true, false, if◌then◌else◌, nat_le, List, [], ◌∷◌, ◌++◌, length, get_or, take, drop, refl, ap, arith, length-append}
 use Rattle.std.proofs.lemmas.Bool.{le-ltb}
 use Rattle.sk_insn.specs.declared.insn.Insn.{Insn}
+use Rattle.sk_insn.specs.declared.operation.Comparison.TheVariants.{Equal}
 use Rattle.sk_profile.specs.Code.{with, branch, jump, answer, high}
 use Rattle.sk_profile.specs.Sayings.{low}
 use Rattle.sk_terms.specs.declared.choices.Choice.{Choice}
@@ -11,7 +12,7 @@ use Rattle.sk_policy.specs.declared.cases.Case.{Case}
 use Rattle.sk_policy.specs.declared.policy.Rule.{Rule}
 use Rattle.sk_policy.specs.declared.test.Test.{Test}
 use Rattle.sk_policy.specs.declared.test.Test.TheVariants.{Is, Above, AtLeast}
-use Rattle.sk_policy.specs.Code.{comparison_of, low_place, high_place, kept_code, word_code, low_code, high_code, wide_code, is_narrow, test_code, bounds_code, range_code, term_code, placed_code, choice_from, choice_code, line_from, line_code, cases_code}
+use Rattle.sk_policy.specs.Code.{comparison_of, low_place, high_place, kept_code, word_code, low_code, high_code, wide_code, is_narrow, test_code, bounds_code, range_code, term_code, placed_code, choice_from, are_joined, equals_from, lower_code, joined_code, choice_code, line_from, line_code, cases_code}
 use Rattle.sk_policy.specs.Sizes.{line_most, cases_most, rules_most, gap_most}
 
 kept_few : (mask : ℕ) → length (kept_code mask) ≤ 1
@@ -78,9 +79,34 @@ choice_from_few term (other ∷ terms) held failed =
     let few = placed_few term (length rest + held) 0 in
     omega (arith, few, choice_from_few other terms held failed, length-append (placed_code term (length rest + held) 0) rest)
 
+equals_few : (term : Term) (terms : List Term) (held failed : ℕ) → length (equals_from term terms held failed) ≤ length (term ∷ terms)
+equals_few term [] held failed = omega arith
+equals_few term (other ∷ terms) held failed = omega (arith, equals_few other terms held failed)
+
+lower_few : (first term : Term) (terms : List Term) (held failed : ℕ) → length (lower_code first (term ∷ terms) held failed) ≤ 2 + length (term ∷ terms)
+lower_few first term terms held failed =
+    omega (arith, kept_few (low first.mask), equals_few term terms held failed, length-append (word_code (low_place first.register) (low first.mask)) (equals_from term terms held failed))
+
+joined_few : (first term : Term) (terms : List Term) (held failed : ℕ) → length (joined_code first (term ∷ terms) held failed) ≤ 5 + length (term ∷ terms)
+unfolding joined_code
+joined_few first term terms held failed = by (is_narrow first.register first.mask) where
+  lower : List Insn
+  lower = lower_code first (term ∷ terms) held failed
+
+  by : (b : Bool) → length (if b then lower_code first (term ∷ terms) held failed
+      else word_code (high_place first.register) (high first.mask)
+      ++ (branch Equal (high first.first) 0 (length (lower_code first (term ∷ terms) held failed) + failed) ∷ lower_code first (term ∷ terms) held failed)) ≤ 5 + length (term ∷ terms)
+  by true = let few = lower_few first term terms held failed in omega (arith, few)
+  by false =
+      let few = lower_few first term terms held failed in
+      omega (arith, few, kept_few (high first.mask), length-append (word_code (high_place first.register) (high first.mask)) (branch Equal (high first.first) 0 (length lower + failed) ∷ lower))
+
 choice_few : (terms : List Term) (held failed : ℕ) → length (choice_code terms held failed) ≤ 1 + 16 * length terms
 choice_few [] held failed = omega arith
-choice_few (term ∷ terms) held failed = let few = choice_from_few term terms held failed in omega (arith, few)
+choice_few (term ∷ terms) held failed = by (are_joined term (term ∷ terms) held failed) where
+  by : (b : Bool) → length (if b then joined_code term (term ∷ terms) held failed else choice_from term terms held failed) ≤ 1 + 16 * length (term ∷ terms)
+  by true = let few = joined_few term term terms held failed in omega (arith, few)
+  by false = let few = choice_from_few term terms held failed in omega (arith, few)
 
 line_from_few : (choice : Choice) (choices : List Choice) (held failed : ℕ) → length (line_from choice choices held failed) ≤ line_most (choice ∷ choices)
 line_from_few choice [] held failed = let few = choice_few choice.terms.items held failed in omega (arith, few)

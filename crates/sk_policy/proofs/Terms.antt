@@ -20,7 +20,7 @@ use Rattle.sk_policy.proofs.Tests.{same_way, test_on}
 abbrev lies : Term → ℕ → Bool
 lies term n = nat_le term.first n && nat_le n term.last
 
-one_number : (first last v : ℕ) → first ≡ last → (v == first) ≡ (nat_le first v && nat_le v last)
+pub one_number : (first last v : ℕ) → first ≡ last → (v == first) ≡ (nat_le first v && nat_le v last)
 one_number first last v same = grind (arith, nat_tests, same)
 
 to_all : (first last mask v : ℕ) → v ≤ mask → mask ≤ last → nat_le first v ≡ (nat_le first v && nat_le v last)

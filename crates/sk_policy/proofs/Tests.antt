@@ -1,5 +1,5 @@
 -- The code of a test goes on at one place where it holds, and else at the other.
-use Rattle.std.proofs.Common.{◌≡◌, ℕ, ◌+◌, ◌^◌, ◌==◌, ◌<◌, Bool, true, false, if◌then◌else◌, nat_lt, not, bit_and, List, [], ◌∷◌, ◌++◌, length, Some, refl, ap, sym, ◌∙◌, subst, arith, append_assoc}
+use Rattle.std.proofs.Common.{◌≡◌, ℕ, ◌+◌, ◌^◌, ◌==◌, ◌<◌, Bool, true, false, if◌then◌else◌, nat_lt, bit_and, List, [], ◌∷◌, ◌++◌, length, Some, refl, ap, sym, ◌∙◌, subst, arith, append_assoc}
 use Rattle.std.proofs.lemmas.Bool.{eqb-true, eqb-false, ne_eqb, le-ltb, lt-leb}
 use Rattle.std.proofs.lemmas.Bool.Decides.{nat_tests}
 use Rattle.std.proofs.lemmas.Nat.{and_le_l, and_le_r}
@@ -42,7 +42,7 @@ less_than Above v n small more = let some = eqb-false (high n) 0 more in le-ltb 
 less_than AtLeast v n small more = let some = eqb-false (high n) 0 more in lt-leb n v (omega (arith, small, some))
 
 -- equal numbers of one upper half have equal lower ones
-equal_low : (v n : ℕ) → high v ≡ high n → (v == n) ≡ (low v == low n)
+pub equal_low : (v n : ℕ) → high v ≡ high n → (v == n) ≡ (low v == low n)
 equal_low v n same = grind (arith, nat_tests, same)
 
 low_alone : (v : ℕ) → high v ≡ 0 → v ≡ low v
@@ -55,7 +55,7 @@ of_nothing : (a : ℕ) → bit_and 0 a ≡ 0
 of_nothing a = omega (arith, and_le_l 0 a)
 
 -- bits without an upper half
-narrow : (r : Register) (mask : ℕ) (call : Record) → IsWhole call → is_narrow r mask ≡ true → high (bit_and (register_of r call) mask) ≡ 0
+pub narrow : (r : Register) (mask : ℕ) (call : Record) → IsWhole call → is_narrow r mask ≡ true → high (bit_and (register_of r call) mask) ≡ 0
 narrow Number mask call ok e =
     let none : high call.nr ≡ 0 = omega (arith, ok.is_call.number) in
     high_bits call.nr mask ∙ ap (λ a. bit_and a (high mask)) none ∙ of_nothing (high mask)
@@ -65,7 +65,7 @@ narrow (Argument i) mask call ok e =
     let a = register_of (Argument i) call in
     high_bits a mask ∙ ap (bit_and (high a)) (eqb-true (high mask) 0 e) ∙ nothing_left (high a)
 
-upper_there : (r : Register) (mask : ℕ) (call : Record) → IsWhole call → IsThere r → is_narrow r mask ≡ false → word_of call (high_place r) ≡ Some (high (register_of r call))
+pub upper_there : (r : Register) (mask : ℕ) (call : Record) → IsWhole call → IsThere r → is_narrow r mask ≡ false → word_of call (high_place r) ≡ Some (high (register_of r call))
 upper_there Number mask call ok there e = cc
 upper_there Pointer mask call ok there e = pointer_upper call ok
 upper_there (Argument i) mask call ok there e = high_word call i ok.is_call there

@@ -1,6 +1,7 @@
 -- The instructions of a policy. Those of a condition end by going on so many instructions behind them where it holds, and so
 -- many behind them where it does not.
-use Rattle.std.specs.Prelude.{ℕ, ◌+◌, ◌*◌, ◌==◌, ◌&&◌, nat_le, Bool, true, if◌then◌else◌, List, [], ◌∷◌, ◌++◌, length}
+use Rattle.std.specs.Prelude.{ℕ, ◌+◌, ◌*◌, ◌==◌, ◌&&◌, ◌||◌, not, nat_le, Bool, true, if◌then◌else◌, List, [], ◌∷◌, ◌++◌, length}
+use Rattle.std.specs.List.{list_all}
 use Rattle.sk_insn.specs.declared.insn.Insn.{Insn}
 use Rattle.sk_insn.specs.declared.operation.Comparison.{Comparison}
 use Rattle.sk_insn.specs.declared.operation.Comparison.TheVariants.{Equal, Greater, GreaterOrEqual}
@@ -10,6 +11,7 @@ use Rattle.sk_terms.specs.declared.choices.Choice.{Choice}
 use Rattle.sk_terms.specs.declared.term.Register.{Register}
 use Rattle.sk_terms.specs.declared.term.Register.TheVariants.{Number, Pointer, Argument}
 use Rattle.sk_terms.specs.declared.term.Term.{Term}
+use Rattle.sk_terms.specs.Terms.{is_equality}
 use Rattle.sk_policy.specs.declared.cases.Case.{Case}
 use Rattle.sk_policy.specs.declared.test.Test.{Test}
 use Rattle.sk_policy.specs.declared.test.Test.TheVariants.{Is, Above, AtLeast}
@@ -87,15 +89,54 @@ placed_code term held failed =
     if nat_le held 200 && nat_le failed 200 then term_code term held failed
     else term_code term 0 1 ++ jump (1 + held) ∷ jump failed ∷ []
 
--- one of the terms holds; of none at all none does
+-- one of the terms holds, each of which is asked by itself; of none at all none does
 abbrev pub choice_from : Term → List Term → ℕ → ℕ → List Insn
 choice_from term [] held failed = placed_code term held failed
 choice_from term (other ∷ terms) held failed =
     placed_code term (length (choice_from other terms held failed) + held) 0 ++ choice_from other terms held failed
 
+abbrev pub terms_code : List Term → ℕ → ℕ → List Insn
+terms_code [] held failed = jump failed ∷ []
+terms_code (term ∷ terms) held failed = choice_from term terms held failed
+
+-- ---- terms that ask for numbers of the same bits: each word is loaded once for all of them
+
+-- the term asks, as the first one does, whether the bits are a number, and the numbers have one upper half
+abbrev pub is_alike : Term → Term → Bool
+is_alike first term =
+    is_equality term && ((low_place term.register == low_place first.register) && ((term.mask == first.mask) && (high term.first == high first.first)))
+
+-- some terms are so, the bits can be their numbers, and conditional jumps reach the places
+abbrev pub are_joined : Term → List Term → ℕ → ℕ → Bool
+are_joined first terms held failed =
+    (not (is_narrow first.register first.mask) || (high first.first == 0))
+    && (nat_le 2 (length terms) && (nat_le (held + length terms) 200 && (nat_le (failed + length terms) 200 && list_all (is_alike first) terms)))
+
+-- A is the lower half of one of the numbers
+abbrev pub equals_from : Term → List Term → ℕ → ℕ → List Insn
+equals_from term [] held failed = branch Equal (low term.first) held failed ∷ []
+equals_from term (other ∷ terms) held failed =
+    branch Equal (low term.first) (length (equals_from other terms held failed) + held) 0 ∷ equals_from other terms held failed
+
+abbrev pub equals_code : List Term → ℕ → ℕ → List Insn
+equals_code [] held failed = []
+equals_code (term ∷ terms) held failed = equals_from term terms held failed
+
+abbrev pub lower_code : Term → List Term → ℕ → ℕ → List Insn
+lower_code first terms held failed = word_code (low_place first.register) (low first.mask) ++ equals_code terms held failed
+
+-- the bits are one of the numbers
+unfoldable pub joined_code : Term → List Term → ℕ → ℕ → List Insn
+joined_code first terms held failed =
+    if is_narrow first.register first.mask then lower_code first terms held failed
+    else word_code (high_place first.register) (high first.mask)
+    ++ (branch Equal (high first.first) 0 (length (lower_code first terms held failed) + failed) ∷ lower_code first terms held failed)
+
+-- one of the terms holds
 abbrev pub choice_code : List Term → ℕ → ℕ → List Insn
 choice_code [] held failed = jump failed ∷ []
-choice_code (term ∷ terms) held failed = choice_from term terms held failed
+choice_code (term ∷ terms) held failed =
+    if are_joined term (term ∷ terms) held failed then joined_code term (term ∷ terms) held failed else choice_from term terms held failed
 
 -- of each choice one of the terms holds; where there is no choice, always
 abbrev pub line_from : Choice → List Choice → ℕ → ℕ → List Insn

@@ -4,6 +4,7 @@
 mod backward;
 mod cases;
 mod fault;
+mod joined;
 mod line;
 mod policy;
 mod rules;

@@ -11,6 +11,7 @@ use crate::fault::CodeFault;
 use crate::rules::put_rules;
 use sk_insn::{Comparison, Insn};
 use sk_profile::instructions::{answer, branch, load};
+use sk_profile::numbers_of;
 use std::alloc::Global;
 
 /// What is said of the calls whose numbers lie in a range: the value of the first case that a call meets, and else another one.
@@ -47,7 +48,8 @@ pub fn policy_filter(alloc: Global, policy: &Policy) -> Result<Vec<Insn>, CodeFa
     ensures long { IfErr result (λ fault. fault ≡ TooLong → 4096 < rules_most policy.now.rules.items + 5) }
 {
     let mut code = Backward::new(alloc);
-    put_rules(&mut code, &policy.rules, policy.default, 0, u32::MAX)?;
+    let often = numbers_of(policy.audit).often;
+    put_rules(&mut code, &policy.rules, policy.default, often, 0, u32::MAX)?;
     put_one(&mut code, load(0))?;
     put_one(&mut code, answer(policy.others))?;
     put_one(&mut code, branch(Comparison::Equal, policy.audit, 1, 0))?;

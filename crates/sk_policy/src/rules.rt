@@ -14,6 +14,7 @@ use crate::fault::CodeFault;
 use crate::policy::Rule;
 use sk_insn::Comparison;
 use sk_profile::instructions::{answer, branch, jump};
+use sk_profile::{Numbers, weight};
 
 // Passes over so many instructions where A is not below the number.
 fn put_head(code: &mut Backward, number: u32, below: usize) -> Result<(), CodeFault>
@@ -77,21 +78,31 @@ fn end_of_run(rule: &Rule, rules: &[Rule]) -> Option<u32>
     }
 }
 
-// At which rule to cut: between two that do not join, and as near to the middle as can be. Any but the first is right.
-// Where rules that join span the middle, one cut leaves them at an end of their part, and the next one by themselves. So two
-// cuts leave parts of two thirds at most, and their depth is bounded by the logarithm of how many rules there are.
-fn cut(rules: &[Rule]) -> usize
+// By how much the sides of a cut at a number differ. Each rule of a side weighs 1 besides its numbers.
+fn difference(numbers: Numbers, number: u32, below: usize, above: usize) -> usize {
+    let (low, high) = numbers.cut_at(number);
+    let before = weight(low).saturating_add(below);
+    let behind = weight(high).saturating_add(above);
+    before.abs_diff(behind)
+}
+
+// At which rule to cut: between two that do not join, and so that both sides weigh as near to the same as can be. Any but the
+// first is right.
+// Where rules that join, and the numbers up to the next one, span the middle of the weight, one cut leaves them at an end of
+// their part, and the next one by themselves. So two cuts leave parts of two thirds of the weight at most, and their depth is
+// bounded by the logarithm of what the numbers and the rules weigh.
+fn cut(rules: &[Rule], numbers: Numbers) -> usize
     requires some { 1 < length rules.now }
     ensures behind { 0 < result }
     ensures inside { result < length rules.now }
 {
-    let half = rules.len() / 2;
-    let mut best = half;
+    let mut best = 1;
     let mut least = usize::MAX;
     for at in 1..rules.len() {
-        if at.abs_diff(half) < least && !joins(&rules[at - 1], &rules[at]) {
+        let apart = difference(numbers, rules[at].first, at, rules.len() - at);
+        if apart < least && !joins(&rules[at - 1], &rules[at]) {
             best = at;
-            least = at.abs_diff(half);
+            least = apart;
         }
     }
     best
@@ -139,11 +150,12 @@ fn put_alone(code: &mut Backward, rule: &Rule, default: u32, to: u32) -> Result<
     put_head(code, rule.last + 1, below)
 }
 
-/// Answers what the rules say of these numbers, where A holds the call's number.
+/// Answers what the rules say of these numbers, where A holds the call's number. Those that are called often are reached soon.
 pub fn put_rules(
     code: &mut Backward,
     rules: &[Rule],
     default: u32,
+    often: &'static [(u32, usize)],
     from: u32,
     to: u32,
 ) -> Result<(), CodeFault>
@@ -161,7 +173,7 @@ pub fn put_rules(
     }
     let first = &rules[0];
     if from < first.first {
-        put_rules(code, rules, default, first.first, to)?;
+        put_rules(code, rules, default, often, first.first, to)?;
         let above = code.len();
         put_one(code, answer(default))?;
         let below = code.len() - above;
@@ -173,11 +185,16 @@ pub fn put_rules(
     if rules.len() == 1 {
         return put_alone(code, first, default, to);
     }
-    let at = cut(rules);
+    let numbers = Numbers {
+        from,
+        to: to.saturating_add(1),
+        often,
+    };
+    let at = cut(rules, numbers);
     let middle = &rules[at];
-    put_rules(code, &rules[at..], default, middle.first, to)?;
+    put_rules(code, &rules[at..], default, often, middle.first, to)?;
     let above = code.len();
-    put_rules(code, &rules[..at], default, from, middle.first - 1)?;
+    put_rules(code, &rules[..at], default, often, from, middle.first - 1)?;
     let below = code.len() - above;
     put_head(code, middle.first, below)
 }

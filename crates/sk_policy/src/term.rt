@@ -14,7 +14,8 @@ use std::alloc::AllocError;
 /// How far a term goes on by conditional jumps: these reach 255 instructions, some of which may be its own.
 const NEAR: usize = 200;
 
-fn bits_of(term: &Term) -> Bits
+/// The bits that a term asks for.
+pub fn bits_of(term: &Term) -> Bits
     ensures register { result.register ≡ term.now.register }
     ensures mask { result.mask ≡ term.now.mask }
 {

@@ -27,7 +27,7 @@ pub struct Bits {
 }
 
 /// How many numbers a word has.
-const WORD: u64 = 0x1_0000_0000;
+pub const WORD: u64 = 0x1_0000_0000;
 
 fn comparison_of(test: Test) -> Comparison
     ensures comparison { result ≡ comparison_of test }
@@ -39,8 +39,8 @@ fn comparison_of(test: Test) -> Comparison
     }
 }
 
-// Where the lower half of a register stands in the record.
-fn low_place(register: Register) -> u32
+/// Where the lower half of a register stands in the record.
+pub fn low_place(register: Register) -> u32
     ensures place { result ≡ low_place register }
 {
     match register {
@@ -50,8 +50,8 @@ fn low_place(register: Register) -> u32
     }
 }
 
-// Where its upper half stands, if it has one.
-fn high_place(register: Register) -> u32
+/// Where its upper half stands, if it has one.
+pub fn high_place(register: Register) -> u32
     ensures place { result ≡ high_place register }
 {
     match register {
@@ -61,8 +61,8 @@ fn high_place(register: Register) -> u32
     }
 }
 
-// Whether the upper half of the bits is always 0.
-fn is_narrow(bits: Bits) -> bool
+/// Whether the upper half of the bits is always 0.
+pub fn is_narrow(bits: Bits) -> bool
     ensures narrow { result ≡ is_narrow bits.register bits.mask }
 {
     match bits.register {
@@ -71,8 +71,8 @@ fn is_narrow(bits: Bits) -> bool
     }
 }
 
-// Loads a word, and keeps some of its bits.
-fn put_word(code: &mut Backward, place: u32, mask: u32) -> Result<(), AllocError>
+/// Loads a word, and keeps some of its bits.
+pub fn put_word(code: &mut Backward, place: u32, mask: u32) -> Result<(), AllocError>
     ensures code { OnOk result (code.new ≡ word_code place mask ++ code.old) }
     ensures few { OnOk result (length code.new ≤ length code.old + 2) }
 {

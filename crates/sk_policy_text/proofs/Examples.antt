@@ -8,7 +8,7 @@ use Rattle.sk_names.specs.X86_64.{name_of, number_named}
 use Rattle.sk_names.specs.Names.{name_at, name_in, name_on, number_at, number_in, number_on, runs_of}
 use Rattle.sk_filter.specs.Errors.{error_number}
 use Rattle.sk_policy_text.specs.Words.{is_blank, is_letter_or_digit, is_word_byte, is_pair, goes_on, begun, place_of}
-use Rattle.sk_policy_text.specs.Verdicts.{data_in, verdict_of_word, error_in}
+use Rattle.sk_policy_text.specs.Verdicts.{data_in, action_value, verdict_of_word, error_in}
 use Rattle.sk_policy_text.specs.Sentences.{behind_error, verdict, only_verdict, range_in, ends_items, ends_item, item_ends, behind_dash, behind_name, range_item, number_item, name_item, item, behind_colon, verdict_or_none, row, arch, line, where_or_else, case, said_by}
 use Rattle.sk_policy_text.specs.WorkedWords.{WorkedWords}
 use Rattle.sk_policy_text.specs.WorkedSentences.{WorkedSentences, WrongSentences}
@@ -33,7 +33,7 @@ worked_words = record {
 }
 
 pub worked_sentences : WorkedSentences
-unfolding plain_number number_of digits number_named number_at number_in number_on name_of name_at name_in name_on runs_of error_number is_letter is_blank is_letter_or_digit is_word_byte is_pair goes_on begun place_of data_in verdict_of_word error_in behind_error verdict only_verdict range_in ends_items ends_item item_ends behind_dash behind_name range_item number_item name_item item behind_colon verdict_or_none row arch line where_or_else case said_by
+unfolding plain_number number_of digits number_named number_at number_in number_on name_of name_at name_in name_on runs_of error_number is_letter is_blank is_letter_or_digit is_word_byte is_pair goes_on begun place_of data_in action_value verdict_of_word error_in behind_error verdict only_verdict range_in ends_items ends_item item_ends behind_dash behind_name range_item number_item name_item item behind_colon verdict_or_none row arch line where_or_else case said_by
 worked_sentences = record {
   names = refl;
   no_colon = refl;
@@ -61,10 +61,15 @@ worked_sentences = record {
   case = refl;
   case_with_error = refl;
   else = refl;
+  refused = refl;
+  performed = refl;
+  default_refused = refl;
+  case_performed = refl;
+  else_refused = refl;
 }
 
 pub wrong_sentences : WrongSentences
-unfolding plain_number number_of digits number_named number_at number_in number_on name_of name_at name_in name_on runs_of error_number is_letter is_blank is_letter_or_digit is_word_byte is_pair goes_on begun place_of data_in verdict_of_word error_in behind_error verdict only_verdict range_in ends_items ends_item item_ends behind_dash behind_name range_item number_item name_item item behind_colon verdict_or_none row arch line where_or_else case said_by
+unfolding plain_number number_of digits number_named number_at number_in number_on name_of name_at name_in name_on runs_of error_number is_letter is_blank is_letter_or_digit is_word_byte is_pair goes_on begun place_of data_in action_value verdict_of_word error_in behind_error verdict only_verdict range_in ends_items ends_item item_ends behind_dash behind_name range_item number_item name_item item behind_colon verdict_or_none row arch line where_or_else case said_by
 wrong_sentences = record {
   nothing = refl;
   other_name = refl;
@@ -98,4 +103,8 @@ wrong_sentences = record {
   no_condition = refl;
   behind_else = refl;
   no_verdict = refl;
+  data_of_refused = refl;
+  error_of_refused = refl;
+  two_expectations = refl;
+  anything = refl;
 }

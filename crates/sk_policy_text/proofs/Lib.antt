@@ -29,3 +29,5 @@ pub mod Singling
 pub mod WorkedText
 pub mod WorkedBounds
 pub mod Plain
+pub mod Completing
+pub mod WorkedExpecting

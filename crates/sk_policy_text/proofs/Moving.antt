@@ -19,8 +19,9 @@ use Rattle.sk_policy_text.specs.PolicyRows.{Part, parts_at, parts_of, once, time
 use Rattle.sk_policy_text.specs.PolicySays.{Says, unnamed}
 use Rattle.sk_policy_text.specs.PolicyFaults.{above_of, misplaced_at, AreRight, IsRight, IsWrong, IsFirstFault}
 use Rattle.sk_policy_text.specs.PolicyRanges.{PartsApart, IsTwice, IsUnnamed}
-use Rattle.sk_policy_text.specs.PolicyRules.{fallback, PartsSay, HasElse, HasUnreadAmong, IsUnreadWrong, IsUnreadAmong}
+use Rattle.sk_policy_text.specs.PolicyRules.{fallback, PartsSay, HasElse, HasUnreadAmong, IsUnreadWrong, AreUnruled}
 use Rattle.sk_policy_text.specs.PolicyOf.{AreOnce, AreNamed, IsFaultOf}
+use Rattle.sk_policy_text.proofs.Bounding.{bound_moved}
 use Rattle.sk_policy_text.proofs.Ranging.{once_apart}
 use Rattle.sk_policy_text.proofs.Standing.{parts_have}
 
@@ -153,9 +154,11 @@ unread_there text moved line why same right among =
     subst (λ text. IsFirstFault [] text line why) (sym is)
     (fault_there [] (in_text.0 ++ unread.before) unread.it unread.behind line why (subst (AreRight []) is right) unread.there unread.unread)
 
-pub unread_fault : (text : List Stated) (moved : List Part) (it : PolicyFault) → IsPermutation (parts_of text) moved → AreRight [] text → IsUnreadAmong moved it → IsFaultOf text it
-unread_fault text moved (fault.Wrong line why) same right among = unread_there text moved line why same right among
-unread_fault text moved (fault.Twice it) same right among = absurd among
-unread_fault text moved (fault.Missing nr) same right among = absurd among
-unread_fault text moved fault.TooLong same right among = absurd among
-unread_fault text moved fault.Memory same right among = tt
+pub unruled_fault : (text : List Stated) (moved : List Part) (it : PolicyFault) → IsPermutation (parts_of text) moved → AreRight [] text → AreOnce text → AreNamed text
+    → AreUnruled moved it → IsFaultOf text it
+unruled_fault text moved (fault.Wrong line why) same right once named unruled = unread_there text moved line why same right unruled
+unruled_fault text moved (fault.Twice it) same right once named unruled = absurd unruled
+unruled_fault text moved (fault.Missing nr) same right once named unruled = absurd unruled
+unruled_fault text moved fault.TooLong same right once named long =
+    (right, once, named, omega (arith, long, bound_moved (parts_of text) moved same))
+unruled_fault text moved fault.Memory same right once named unruled = tt

@@ -1,5 +1,5 @@
--- The names of calls are words, begin as names do, and are no actions'.
-use Rattle.std.proofs.Common.{◌≡◌, ◌-◌, ◌^◌, ◌&&◌, ◌∙◌, refl, subst, inl, inr, ℕ, zero, suc, List, [], ◌∷◌, map, Bool, true, not, Option, Some, None, is_some}
+-- The names of calls are words, begin as names do, and are no verdicts'.
+use Rattle.std.proofs.Common.{◌≡◌, ◌-◌, ◌^◌, ◌&&◌, ◌∙◌, refl, subst, inl, inr, ℕ, zero, suc, List, [], ◌∷◌, map, Bool, true, not, Option, Some, None}
 use Rattle.std.proofs.lemmas.Bool.{and_parts, cases_Bool}
 use Rattle.std.specs.Prelude.{nat_lt, slice_get}
 use Rattle.std.specs.List.{list_all}
@@ -11,12 +11,12 @@ use Rattle.sk_names.specs.Names.{Run, name_at, name_in, name_on, runs_of}
 use Rattle.sk_names.specs.X86_64.{name_of}
 use Rattle.sk_names.specs.declared.x86_64.names.TheConstants.{EARLY, LATE}
 use Rattle.sk_policy_text.specs.Words.{is_letter_or_digit, is_word_byte}
-use Rattle.sk_policy_text.specs.Verdicts.{action_in}
+use Rattle.sk_policy_text.specs.Verdicts.{names_verdict}
 use Rattle.sk_policy_text.specs.Sentences.{begins_name}
 use Rattle.sk_policy_text.proofs.Spelling.{is_word}
 
 unfoldable pub is_call : List ℕ → Bool
-is_call name = is_word name && (begins_name name && not (is_some (action_in name)))
+is_call name = is_word name && (begins_name name && not (names_verdict name))
 
 among : (texts : List (List ℕ)) (place : ℕ) (text : List ℕ) → list_all is_call texts ≡ true → slice_get texts place ≡ Some text → is_call text ≡ true
 among [] place text all h = cc

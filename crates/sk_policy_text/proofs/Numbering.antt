@@ -1,5 +1,5 @@
 -- The text of numbers is read as these numbers.
-use Rattle.std.proofs.Common.{◌≡◌, ◌<◌, ◌≤◌, ◌^◌, ◌==◌, ◌&&◌, ◌∙◌, ap, arith, refl, subst, inl, inr, ℕ, List, [], ◌∷◌, ◌++◌, codes, true, false, not, Option, Some, None, is_some, Ok, bytes_eq}
+use Rattle.std.proofs.Common.{◌≡◌, ◌<◌, ◌≤◌, ◌^◌, ◌==◌, ◌&&◌, ◌∙◌, ap, arith, refl, subst, inl, inr, ℕ, List, [], ◌∷◌, ◌++◌, codes, true, false, not, Option, Some, None, Ok, bytes_eq}
 use Rattle.std.proofs.lemmas.Bool.{and_parts, cases_Bool, eq-eqb, eqb-true, false≢true, le-leb}
 use Rattle.std.proofs.lemmas.Fmt.{decimal_is_IsNumeral}
 use Rattle.std.specs.Prelude.{nat_eq, unwrap_or}
@@ -16,7 +16,7 @@ use Rattle.sk_show.specs.Text.{name_text, numbers_text}
 use Rattle.sk_policy_text.specs.declared.word.Place.{Place}
 use Rattle.sk_policy_text.specs.declared.word.Place.TheVariants.{Behind}
 use Rattle.sk_policy_text.specs.Words.{Word, is_letter_or_digit, is_word_byte, placed}
-use Rattle.sk_policy_text.specs.Verdicts.{action_in}
+use Rattle.sk_policy_text.specs.Verdicts.{names_verdict}
 use Rattle.sk_policy_text.specs.Sentences.{begins_name, behind_dash, behind_name, has_dash, item, item_ends, number_item, range_in, range_item, single, u32_of}
 use Rattle.sk_policy_text.specs.RoundTrip.{NumbersComeBack}
 use Rattle.sk_policy_text.proofs.Naming.{call_named, is_call}
@@ -81,7 +81,7 @@ pub name_behind : (by : Architecture) (nr line : ℕ) (place : Place) (name : Op
 unfolding behind_name behind_dash is_letter is_call
 name_behind by nr line place None rest h = refl
 name_behind by nr line place (Some name) rest h =
-    let parts = and_parts (is_word name) (begins_name name && not (is_some (action_in name))) (call_named by nr name h) in
+    let parts = and_parts (is_word name) (begins_name name && not (names_verdict name)) (call_named by nr name h) in
     let begins = parts.1 in
     let same = same_bytes name in
     rw (begins, h, same) refl
@@ -89,7 +89,7 @@ name_behind by nr line place (Some name) rest h =
 name_word : (by : Architecture) (nr : ℕ) (name : Option (List ℕ)) → name_on by nr ≡ name → is_word (unwrap_or name (codes "-")) ≡ true
 unfolding is_call is_word is_word_byte is_letter_or_digit
 name_word by nr None h = refl
-name_word by nr (Some name) h = (and_parts (is_word name) (begins_name name && not (is_some (action_in name))) (call_named by nr name h)).0
+name_word by nr (Some name) h = (and_parts (is_word name) (begins_name name && not (names_verdict name)) (call_named by nr name h)).0
 
 pub number_read : (by : Architecture) (nr : ℕ) (word name : Word) (rest : List Word) → nr < 2 ^ 32 → word.text ≡ decimal nr
     → behind_name by nr (name ∷ rest) ≡ Ok rest → item_ends rest ≡ Ok tt → item by (word ∷ name ∷ rest) ≡ Ok (single nr)

@@ -1,6 +1,6 @@
 -- The text of a verdict is read as the verdict.
 use Rattle.std.proofs.Common.{◌≡◌, ◌≢◌, ◌<◌, ◌≤◌, ◌+◌, ◌%◌, ◌==◌, ◌&&◌, ◌∙◌, ap, arith, sym, refl, subst, inl, inr, ℕ, zero, suc, List, [], ◌∷◌, ◌++◌, length, map, append_assoc, codes, Bool, true, false, cond, get_or, Option, Some, None, Ok}
-use Rattle.std.proofs.lemmas.Bool.{and_parts, cases_Bool, cases_lt, eqb-true, false≢true, le-leb}
+use Rattle.std.proofs.lemmas.Bool.{and_parts, cases_Bool, cases_lt, eqb-true, false≢true}
 use Rattle.std.proofs.lemmas.List.{append-nil}
 use Rattle.std.proofs.lemmas.List.Folds.{list_all_at}
 use Rattle.std.proofs.lemmas.List.FromFn.{get_or-range_with_len}
@@ -17,7 +17,7 @@ use Rattle.sk_filter.specs.Errors.{error_named, error_number, if_any}
 use Rattle.sk_filter.specs.VerdictText.{data_text, error_text, verdict_text}
 use Rattle.sk_policy_text.specs.declared.word.Place.{Place}
 use Rattle.sk_policy_text.specs.Words.{Word, is_letter_or_digit, is_word_byte, placed, words_of_line}
-use Rattle.sk_policy_text.specs.Verdicts.{action_in, behind_slash, data_in, data_left_out, data_of, error_in, has_slash, verdict_of_word}
+use Rattle.sk_policy_text.specs.Verdicts.{action_in, action_value, behind_slash, data_in, data_left_out, data_of, error_in, has_slash, verdict_of_word}
 use Rattle.sk_policy_text.specs.Sentences.{begins_error, behind_error, only_verdict, verdict}
 use Rattle.sk_policy_text.specs.RoundTrip.{VerdictsComeBack}
 use Rattle.sk_policy_text.proofs.Plain.{plain-decimal}
@@ -106,7 +106,7 @@ two_says word name value number h k is given begins named = record {
 
 value_spoken : (action : Action) (value given : ℕ) (word : List ℕ) → action_in word ≡ Some action → value_of action ≡ Some value
     → data_in action word ≡ Some given → verdict_of_word word ≡ Some (value + given)
-unfolding verdict_of_word
+unfolding verdict_of_word action_value
 value_spoken action value given word a v d = rw (a, v, d) refl
 
 -- ---- texts

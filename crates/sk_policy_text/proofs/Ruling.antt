@@ -12,7 +12,7 @@ use Rattle.sk_policy_text.specs.PolicyRows.{Part, times}
 use Rattle.sk_policy_text.specs.PolicyRanges.{PartsApart}
 use Rattle.sk_policy_text.specs.declared.policy_fault.PolicyFault.{PolicyFault}
 use Rattle.sk_policy_text.specs.declared.policy_fault.PolicyFault.TheVariants as fault
-use Rattle.sk_policy_text.specs.PolicyRules.{PartsSay, HasElse, AddsGap, IsRuleOf, AreRulesOf, IsUnreadBelow, IsUnreadAmong}
+use Rattle.sk_policy_text.specs.PolicyRules.{PartsSay, HasElse, AddsGap, IsRuleOf, AreRulesOf, IsUnreadBelow, AreUnruled}
 use Rattle.sk_policy_text.proofs.Ranging.{has_inside, once_above, times_cons, none_before}
 
 -- ---- rules behind others
@@ -159,11 +159,11 @@ pub later_parts : (part : Part) (rest : List Part) → PartsApart (part ∷ rest
 later_parts part rest apart = All-cons (λ (other : Part). part.first ≤ other.first) part rest (omega arith)
     (All-weaker (λ (other : Part). part.last < other.first) (λ (other : Part). part.first ≤ other.first) (λ other less. omega (arith, less, apart.0)) rest apart.1)
 
-pub unread_among : (parts : List Part) (part : Part) (rest : List Part) (it : PolicyFault) → All (Contains parts) (part ∷ rest) → IsUnreadBelow part.behind it → IsUnreadAmong parts it
+pub unread_among : (parts : List Part) (part : Part) (rest : List Part) (it : PolicyFault) → All (Contains parts) (part ∷ rest) → IsUnreadBelow part.behind it → AreUnruled parts it
 unread_among parts part rest (fault.Wrong line why) inside unread = record { part = part; there = All-head (Contains parts) part rest inside; unread = unread }
-unread_among parts part rest (fault.Twice it) inside unread = unread
-unread_among parts part rest (fault.Missing nr) inside unread = unread
-unread_among parts part rest fault.TooLong inside unread = unread
+unread_among parts part rest (fault.Twice it) inside unread = absurd unread
+unread_among parts part rest (fault.Missing nr) inside unread = absurd unread
+unread_among parts part rest fault.TooLong inside unread = absurd unread
 unread_among parts part rest fault.Memory inside unread = tt
 
 pub none_left : {X : Type 0} (xs : List X) → length xs ≡ 0 → xs ≡ []

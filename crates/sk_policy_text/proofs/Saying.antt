@@ -1,5 +1,5 @@
 -- Sentences of words, one by one.
-use Rattle.std.proofs.Common.{ℕ, List, [], ◌∷◌, ◌++◌, sym, ap, ◌∙◌, subst, append_assoc}
+use Rattle.std.proofs.Common.{ℕ, List, [], ◌∷◌, ◌++◌, sym, ap, ◌∙◌, subst, arith, append_assoc}
 use Rattle.std.proofs.lemmas.List.{append-nil}
 use Rattle.sk_policy_text.specs.declared.stated.Stated.{Stated}
 use Rattle.sk_policy_text.specs.Words.{Word}
@@ -41,7 +41,8 @@ filter_of text policy image is made = record {
 }
 
 pub refused_of : (text : List Stated) (policy : Policy) (why : Refusal) → IsPolicyOf text policy → IsTooLong policy why → IsRefused text why
-refused_of text policy refusal.TooLong is long = (policy, is, long)
+refused_of text policy refusal.TooLong is long = (is.right, is.once, is.named, omega (arith, long, is.size))
 refused_of text policy refusal.Memory is long = tt
 refused_of text policy (refusal.Policy why) is long = absurd long
+refused_of text policy (refusal.Expectation line value) is long = absurd long
 refused_of text policy (refusal.Sentence by line why) is long = absurd long

@@ -1,6 +1,6 @@
 -- The line of a row is read as that row.
 use Rattle.std.proofs.Common.{◌≡◌, ◌<◌, ◌≤◌, ◌+◌, ◌^◌, ◌==◌, ◌&&◌, ◌∙◌, ap, arith, suc, sym, refl, subst, inl, inr, ℕ, List, [], ◌∷◌, ◌++◌, length, codes, Bool, true, false, not, Option, Some, None, is_some, Result, Ok, Err, bytes_eq}
-use Rattle.std.proofs.lemmas.Bool.{and_parts, ne_eqb, cases_Bool, cases_lt, false≢true, lt-ltb}
+use Rattle.std.proofs.lemmas.Bool.{and_parts, or_parts, ne_eqb, cases_Bool, cases_lt, false≢true, lt-ltb}
 use Rattle.std.proofs.lemmas.List.{append-nil}
 use Rattle.std.proofs.lemmas.Fmt.{decimal_is_IsNumeral}
 use Rattle.std.specs.Prelude.{unwrap_or}
@@ -8,7 +8,6 @@ use Rattle.std.specs.Char.{digit_value}
 use Rattle.std.specs.Fmt.{decimal}
 use Rattle.std.specs.Str.Parse.{AllDigits}
 use Rattle.sk_text.proofs.Cuts.{before_first-no}
-use Rattle.sk_insn.specs.declared.action.Action.{Action}
 use Rattle.sk_insn.specs.Actions.{action_named}
 use Rattle.sk_names.specs.declared.architecture.Architecture.{Architecture}
 use Rattle.sk_names.specs.Names.{name_on}
@@ -18,7 +17,7 @@ use Rattle.sk_policy_text.specs.declared.sentence.Range.{Range}
 use Rattle.sk_policy_text.specs.declared.stop.Stop.{Stop}
 use Rattle.sk_policy_text.specs.declared.word.Place.TheVariants.{Behind, Row as Beginning}
 use Rattle.sk_policy_text.specs.Words.{Word, is_letter_or_digit, is_word_byte, placed, words_of_line}
-use Rattle.sk_policy_text.specs.Verdicts.{action_in, verdict_of_word}
+use Rattle.sk_policy_text.specs.Verdicts.{action_in, action_value, expectation_named, names_verdict, verdict_of_word}
 use Rattle.sk_policy_text.specs.Sentences.{Row, begins_name, behind_colon, behind_commas, behind_items, ends_item, ends_items, is_case, is_the, item, item_ends, line, only_verdict, row, said_by, sentence_in, stopped_at, verdict, verdict_or_none}
 use Rattle.sk_policy_text.specs.RoundTrip.{HeadsComeBack, RowsComeBack}
 use Rattle.sk_policy_text.proofs.Naming.{call_named, is_call}
@@ -39,7 +38,7 @@ pub record IsItem (word : Word) : Type 0 where
   pub comma : is_the (codes ",") word ≡ false
   pub ends : ends_items word ≡ false
 
-item_word : (word : Word) → is_word word.text ≡ true → action_in word.text ≡ None → IsItem word
+item_word : (word : Word) → is_word word.text ≡ true → names_verdict word.text ≡ false → IsItem word
 unfolding is_word is_word_byte is_letter_or_digit ends_items
 item_word word h none =
     let colon = no_sign word.text (codes ":") h refl in
@@ -123,9 +122,9 @@ other_word letter (byte ∷ bytes) word high h =
     let other = ne_eqb byte letter (λ same. let below = h.1 in omega (arith, same, below, high)) in
     rw other refl
 
-no_action : (text : List ℕ) → BeginsLow text → action_in text ≡ None
-no_action [] h = absurd h
-no_action (byte ∷ bytes) h =
+no_verdict : (text : List ℕ) → BeginsLow text → names_verdict text ≡ false
+no_verdict [] h = absurd h
+no_verdict (byte ∷ bytes) h =
     let from = h.0 in
     let below = h.1 in
     let slash : (byte == 47) ≡ false = ne_eqb byte 47 (λ same. omega (arith, same, from)) in
@@ -135,24 +134,28 @@ no_action (byte ∷ bytes) h =
     let u = ne_eqb 117 byte (λ same. omega (arith, same, below)) in
     let l = ne_eqb 108 byte (λ same. omega (arith, same, below)) in
     let a = ne_eqb 97 byte (λ same. omega (arith, same, below)) in
-    ap action_named (before_first-no (λ b. b == 47) byte bytes slash) ∙ rw (k, t, e, u, l, a) refl
+    let p = ne_eqb byte 112 (λ same. omega (arith, same, below)) in
+    let r = ne_eqb byte 114 (λ same. omega (arith, same, below)) in
+    let action : action_in (byte ∷ bytes) ≡ None = ap action_named (before_first-no (λ b. b == 47) byte bytes slash) ∙ rw (k, t, e, u, l, a) refl in
+    let expectation : expectation_named (byte ∷ bytes) ≡ None = rw (p, r) refl in
+    rw (action, expectation) refl
 
 -- ---- a name
 
-none_from : (action : Option Action) → not (is_some action) ≡ true → action ≡ None
-none_from None h = refl
-none_from (Some action) h = absurd (false≢true h)
+no_from : (b : Bool) → not b ≡ true → b ≡ false
+no_from false h = refl
+no_from true h = absurd (false≢true h)
 
-name_no_action : (by : Architecture) (nr : ℕ) (name : Option (List ℕ)) → name_on by nr ≡ name → action_in (unwrap_or name (codes "-")) ≡ None
+name_no_verdict : (by : Architecture) (nr : ℕ) (name : Option (List ℕ)) → name_on by nr ≡ name → names_verdict (unwrap_or name (codes "-")) ≡ false
 unfolding is_call
-name_no_action by nr None h = refl
-name_no_action by nr (Some name) h =
-    let parts = and_parts (is_word name) (begins_name name && not (is_some (action_in name))) (call_named by nr name h) in
-    none_from (action_in name) (and_parts (begins_name name) (not (is_some (action_in name))) parts.1).1
+name_no_verdict by nr None h = refl
+name_no_verdict by nr (Some name) h =
+    let parts = and_parts (is_word name) (begins_name name && not (names_verdict name)) (call_named by nr name h) in
+    no_from (names_verdict name) (and_parts (begins_name name) (not (names_verdict name)) parts.1).1
 
-names_no_action : (by : Architecture) (first last : ℕ) → action_in (name_text by first last) ≡ None
-names_no_action by first last = elim (cases_Bool (first == last)) [
-  | inl t ↦ rw t (name_no_action by first (name_on by first) refl)
+names_no_verdict : (by : Architecture) (first last : ℕ) → names_verdict (name_text by first last) ≡ false
+names_no_verdict by first last = elim (cases_Bool (first == last)) [
+  | inl t ↦ rw t (name_no_verdict by first (name_on by first) refl)
   | inr f ↦ rw f refl
 ]
 
@@ -162,13 +165,21 @@ abbrev is_stopped : Result ℕ Stop → Bool
 is_stopped (Ok value) = false
 is_stopped (Err stop) = true
 
-verdict_begins : (word : Word) (rest : List Word) (value : ℕ) (action : Option Action) → action_in word.text ≡ action
-    → only_verdict (word ∷ rest) ≡ Ok value → is_some action ≡ true
-unfolding only_verdict verdict verdict_of_word
-verdict_begins word rest value None none h =
-    let stopped : is_stopped (only_verdict (word ∷ rest)) ≡ true = rw none refl in
-    absurd (false≢true (sym (ap is_stopped h) ∙ stopped))
-verdict_begins word rest value (Some action) is h = refl
+none_from : {X : Type 0} (found : Option X) → is_some found ≡ false → found ≡ None
+none_from None h = refl
+none_from (Some value) h = absurd (false≢true (sym h))
+
+verdict_begins : (word : Word) (rest : List Word) (value : ℕ) → only_verdict (word ∷ rest) ≡ Ok value → names_verdict word.text ≡ true
+unfolding only_verdict verdict verdict_of_word action_value
+verdict_begins word rest value h = elim (cases_Bool (names_verdict word.text)) [
+  | inl t ↦ t
+  | inr f ↦
+      let neither = or_parts (is_some (action_in word.text)) (is_some (expectation_named word.text)) f in
+      let action = none_from (action_in word.text) neither.0 in
+      let expectation = none_from (expectation_named word.text) neither.1 in
+      let stopped : is_stopped (only_verdict (word ∷ rest)) ≡ true = rw (action, expectation) refl in
+      absurd (false≢true (sym (ap is_stopped h) ∙ stopped))
+]
 
 record IsVerdict (words : List Word) (value : ℕ) : Type 0 where
   commas : behind_commas words ≡ []
@@ -176,13 +187,13 @@ record IsVerdict (words : List Word) (value : ℕ) : Type 0 where
   read : verdict_or_none (behind_colon words) ≡ Ok (Some value)
   ends : item_ends words ≡ Ok tt
 
-no_colon : (word : Word) → is_some (action_in word.text) ≡ true → is_the (codes ":") word ≡ false
+no_colon : (word : Word) → names_verdict word.text ≡ true → is_the (codes ":") word ≡ false
 no_colon word begins = elim (cases_Bool (is_the (codes ":") word)) [
-  | inl t ↦ absurd (false≢true (sym (ap (λ text. is_some (action_in text)) (same_text word.text (codes ":") t)) ∙ begins))
+  | inl t ↦ absurd (false≢true (sym (ap names_verdict (same_text word.text (codes ":") t)) ∙ begins))
   | inr f ↦ f
 ]
 
-verdict_first : (word : Word) (rest : List Word) (value : ℕ) → only_verdict (word ∷ rest) ≡ Ok value → is_some (action_in word.text) ≡ true
+verdict_first : (word : Word) (rest : List Word) (value : ℕ) → only_verdict (word ∷ rest) ≡ Ok value → names_verdict word.text ≡ true
     → IsVerdict (word ∷ rest) value
 unfolding ends_items ends_item item_ends behind_colon verdict_or_none
 verdict_first word rest value h begins =
@@ -197,7 +208,7 @@ verdict_first word rest value h begins =
 verdict_rest : (words : List Word) (value : ℕ) → only_verdict words ≡ Ok value → IsVerdict words value
 unfolding only_verdict verdict
 verdict_rest [] value h = absurd (false≢true (sym (ap is_stopped h)))
-verdict_rest (word ∷ rest) value h = verdict_first word rest value h (verdict_begins word rest value (action_in word.text) refl h)
+verdict_rest (word ∷ rest) value h = verdict_first word rest value h (verdict_begins word rest value h)
 
 -- ---- whole lines
 
@@ -216,8 +227,8 @@ whole by first last line rest value le small ends commas items read =
     (other_word 97 (numbers_text first last) (codes "rch") (omega arith) digit)
     (other_word 100 (numbers_text first last) (codes "efault") (omega arith) digit)
     (other_word 111 (numbers_text first last) (codes "thers") (omega arith) digit)
-    (item_word (numbers_at line first last) (numbers_word first last le small) (no_action (numbers_text first last) digit))
-    (item_word (name_at by line first last) (names_word by first last) (names_no_action by first last))
+    (item_word (numbers_at line first last) (numbers_word first last le small) (no_verdict (numbers_text first last) digit))
+    (item_word (name_at by line first last) (names_word by first last) (names_no_verdict by first last))
     (both_read by first last line Beginning Behind rest le small ends) commas items read
 
 pub heads_come_back : HeadsComeBack

@@ -8,13 +8,13 @@ use Rattle.sk_names.specs.X86_64.{name_of, number_named}
 use Rattle.sk_names.specs.Names.{name_at, name_in, name_on, number_at, number_in, number_on, runs_of}
 use Rattle.sk_filter.specs.Errors.{error_number}
 use Rattle.sk_policy_text.specs.Words.{is_blank, is_letter_or_digit, is_word_byte, is_pair, goes_on, begun, place_of}
-use Rattle.sk_policy_text.specs.Verdicts.{data_in, verdict_of_word, error_in}
+use Rattle.sk_policy_text.specs.Verdicts.{data_in, action_value, verdict_of_word, error_in}
 use Rattle.sk_policy_text.specs.Sentences.{behind_error, verdict, only_verdict, range_in, ends_items, ends_item, item_ends, behind_dash, behind_name, range_item, number_item, name_item, item, behind_colon, verdict_or_none, row, arch, line, where_or_else, case, said_by}
 use Rattle.sk_policy_text.specs.Conditions.{Always, Never}
 use Rattle.sk_policy_text.specs.PolicyRows.{Part, parts_in, has_number, times}
 use Rattle.sk_policy_text.specs.PolicySays.{RowSays, unnamed}
 use Rattle.sk_policy_text.specs.PolicyTexts.{wanted_text, on_text, more_text}
-use Rattle.sk_policy_text.specs.WorkedPolicies.{stated, plain, WorkedPolicies, WorkedPlaces, WorkedRefusals}
+use Rattle.sk_policy_text.specs.WorkedPolicies.{stated, plain, WorkedPolicies, WorkedExpectations, WorkedPlaces, WorkedRefusals}
 use Rattle.sk_policy_text.specs.declared.sentence.Sentence.TheVariants as sentence
 
 abbrev plain_part : Part
@@ -75,8 +75,18 @@ worked_places = record {
   no_else = λ ranges. refl;
 }
 
+pub worked_expectations : WorkedExpectations
+worked_expectations = record {
+  none = λ ranges. refl;
+  row = λ ranges. refl;
+  case = λ ranges words. refl;
+  others = refl;
+  default = refl;
+  anything = refl;
+}
+
 pub worked_refusals : WorkedRefusals
-unfolding plain_number number_of digits number_named number_at number_in number_on name_of name_at name_in name_on runs_of error_number is_letter is_blank is_letter_or_digit is_word_byte is_pair goes_on begun place_of data_in verdict_of_word error_in behind_error verdict only_verdict range_in ends_items ends_item item_ends behind_dash behind_name range_item number_item name_item item behind_colon verdict_or_none row arch line where_or_else case said_by wanted_text on_text more_text
+unfolding plain_number number_of digits number_named number_at number_in number_on name_of name_at name_in name_on runs_of error_number is_letter is_blank is_letter_or_digit is_word_byte is_pair goes_on begun place_of data_in action_value verdict_of_word error_in behind_error verdict only_verdict range_in ends_items ends_item item_ends behind_dash behind_name range_item number_item name_item item behind_colon verdict_or_none row arch line where_or_else case said_by wanted_text on_text more_text
 worked_refusals = record {
   no_call = record { stops = refl; text = refl };
   several = record { stops = refl; text = refl };
@@ -84,5 +94,7 @@ worked_refusals = record {
   nothing = record { stops = refl; text = refl };
   twice = refl;
   missing = refl;
+  refused = refl;
+  performed = refl;
   no_else = refl;
 }

@@ -17,6 +17,8 @@ pub mod PolicyRanges
 pub mod PolicyRules
 pub mod PolicyOf
 pub mod PolicyMade
+pub mod Expecting
+pub mod WorkedExpecting
 pub mod PolicySizes
 pub mod PolicyTexts
 pub mod WorkedPolicies

@@ -1,10 +1,13 @@
 -- What a policy's text is made into.
-use Rattle.std.specs.Prelude.{ℕ, ◌≡◌, ◌≢◌, ◌+◌, ◌<◌, ◌^◌, ◌++◌, List, [], ◌∷◌, length, take, drop, Ok, Err}
+use Rattle.std.specs.Prelude.{ℕ, ◌≡◌, ◌≢◌, ◌+◌, ◌<◌, ◌^◌, ◌++◌, ◌==◌, ◌||◌, Bool, if◌then◌else◌, List, [], ◌∷◌, length, take, drop, Option, Some, None, Ok, Err}
+use Rattle.std.specs.Option.{option_map, option_or}
 use Rattle.sk_insn.specs.declared.insn.Insn.{Insn}
 use Rattle.sk_insn.specs.declared.record.Record.{Record}
 use Rattle.sk_insn.specs.Instructions.{image_of}
 use Rattle.sk_filter.specs.Meaning.{meaning_of}
 use Rattle.sk_filter.specs.Valid.{IsValid}
+use Rattle.sk_conditions.specs.declared.expectation.Expectation.TheVariants.{Refused, Performed}
+use Rattle.sk_conditions.specs.Comparing.{value_of}
 use Rattle.sk_names.specs.declared.architecture.Architecture.{Architecture}
 use Rattle.sk_names.specs.Architectures.{audit_of}
 use Rattle.sk_profile.specs.Means.{Gives}
@@ -12,7 +15,10 @@ use Rattle.sk_policy.specs.declared.policy.Policy.{Policy}
 use Rattle.sk_policy.specs.Policies.{IsWhole, MeansPolicy, AnswersOthers}
 use Rattle.sk_policy.specs.Sizes.{rules_most}
 use Rattle.sk_policy_text.specs.declared.refusal.Refusal.{Refusal}
+use Rattle.sk_policy_text.specs.declared.policy_fault.PolicyFault.TheVariants as fault
 use Rattle.sk_policy_text.specs.declared.refusal.Refusal.TheVariants as refusal
+use Rattle.sk_policy_text.specs.declared.sentence.Sentence.{Sentence}
+use Rattle.sk_policy_text.specs.declared.sentence.Sentence.TheVariants as sentence
 use Rattle.sk_policy_text.specs.declared.sentence.SentenceFault.{SentenceFault}
 use Rattle.sk_policy_text.specs.declared.stated.Stated.{Stated}
 use Rattle.sk_policy_text.specs.Words.{Word, words_of_text}
@@ -21,7 +27,7 @@ use Rattle.sk_policy_text.specs.Views.{said}
 use Rattle.sk_policy_text.specs.PolicyRows.{sentences_of, architecture_of, others_of}
 use Rattle.sk_policy_text.specs.PolicySays.{Says}
 use Rattle.sk_policy_text.specs.PolicyFaults.{AreRight}
-use Rattle.sk_policy_text.specs.PolicyOf.{AreOnce, AreNamed, IsPolicyOf, IsFaultOf}
+use Rattle.sk_policy_text.specs.PolicyOf.{AreOnce, AreNamed, IsFaultOf}
 use Rattle.sk_policy_text.specs.PolicySizes.{rules_bound}
 
 -- ---- sentences of words
@@ -71,6 +77,33 @@ IsUnsaid words (refusal.Sentence by line why) = EndsUnread words by line why
 IsUnsaid words refusal.Memory = Unit {0}
 IsUnsaid words other = ⊥
 
+-- ---- sentences that say what is expected of a verdict, as no filter answers it
+
+-- the verdict that a sentence has, or the value in its place
+abbrev pub verdict_in : Sentence → Option ℕ
+verdict_in (sentence.Arch architecture) = None
+verdict_in (sentence.Default verdict) = Some verdict
+verdict_in (sentence.Others verdict) = Some verdict
+verdict_in (sentence.Row ranges verdict) = verdict
+verdict_in (sentence.Case verdict words) = Some verdict
+verdict_in (sentence.Else verdict) = Some verdict
+
+abbrev pub is_expectation : ℕ → Bool
+is_expectation value = value == value_of Refused || value == value_of Performed
+
+abbrev pub if_expectation : Option ℕ → Option ℕ
+if_expectation None = None
+if_expectation (Some value) = if is_expectation value then Some value else None
+
+abbrev pub expectation_in : Sentence → Option ℕ
+expectation_in it = if_expectation (verdict_in it)
+
+-- the line of the first sentence that has one, and the value that stands for it
+abbrev pub first_expectation : List Stated → Option (ℕ × ℕ)
+first_expectation [] = None
+first_expectation (first ∷ behind) =
+    option_or (option_map (λ (value : ℕ). (first.line, value)) (expectation_in first.sentence)) (first_expectation behind)
+
 -- ---- filters
 
 -- the image of a valid program that means a policy
@@ -104,12 +137,19 @@ pub record IsFilterOf (text : List Stated) (image : List ℕ) : Type 0 where
   pub others : (call : Record) → call.arch < 2 ^ 32 → call.arch ≢ audit_of (reads_on text)
       → Gives (others_of (sentences_of text)) (meaning_of insns call)
 
+-- nothing is wrong with the sentences, but their rules may take more than the 4096 instructions that a filter has
+-- (BPF_MAXINSNS of linux/bpf_common.h), with 5 more for the architecture, the number and the default
+abbrev pub AreTooLong : List Stated → Type 0
+AreTooLong text = AreRight [] text × AreOnce text × AreNamed text × (4096 < rules_bound text + 5)
+
 -- sentences that have no filter
 abbrev pub IsRefused : List Stated → Refusal → Type 0
+IsRefused text (refusal.Policy fault.Memory) = ⊥
+IsRefused text (refusal.Policy fault.TooLong) = ⊥
 IsRefused text (refusal.Policy why) = IsFaultOf text why
-IsRefused text refusal.TooLong = (policy : Policy) × IsPolicyOf text policy × (4096 < rules_most policy.rules.items + 5)
+IsRefused text refusal.TooLong = AreTooLong text
 IsRefused text refusal.Memory = Unit {0}
-IsRefused text (refusal.Sentence by line why) = ⊥
+IsRefused text other = ⊥
 
 -- ---- texts
 
@@ -117,16 +157,11 @@ abbrev pub IsText : List ℕ → List Stated → Type 0
 IsText bytes text = AreSaid [] (words_of_text bytes) text []
 
 abbrev pub IsMade : List ℕ → List ℕ → Type 0
-IsMade bytes image = (text : List Stated) × IsText bytes text × IsFilterOf text image
+IsMade bytes image = (text : List Stated) × IsText bytes text × (first_expectation text ≡ None) × IsFilterOf text image
 
--- nothing is wrong with the sentences, but their rules may take more than the 4096 instructions that a filter has
--- (BPF_MAXINSNS of linux/bpf_common.h), with 5 more for the architecture, the number and the default
-abbrev pub AreTooLong : List Stated → Type 0
-AreTooLong text = AreRight [] text × AreOnce text × AreNamed text × (4096 < rules_bound text + 5)
-
--- the first sentence that is none, or else what is wrong with all of them
+-- the first sentence that is none, or else the first that says an expectation, or else what is wrong with all of them
 abbrev pub IsUnmade : List ℕ → Refusal → Type 0
 IsUnmade bytes (refusal.Sentence by line why) = EndsUnread (words_of_text bytes) by line why
+IsUnmade bytes (refusal.Expectation line value) = (text : List Stated) × IsText bytes text × (first_expectation text ≡ Some (line, value))
 IsUnmade bytes refusal.Memory = Unit {0}
-IsUnmade bytes refusal.TooLong = (text : List Stated) × IsText bytes text × AreTooLong text
-IsUnmade bytes other = (text : List Stated) × IsText bytes text × IsRefused text other
+IsUnmade bytes other = (text : List Stated) × IsText bytes text × (first_expectation text ≡ None) × IsRefused text other

@@ -1,5 +1,5 @@
 -- The policy of a text, and the faults of a whole text.
-use Rattle.std.specs.Prelude.{ℕ, ◌≡◌, ◌≢◌, ◌<◌, ◌≤◌, ◌^◌, List, [], All, None}
+use Rattle.std.specs.Prelude.{ℕ, ◌≡◌, ◌≢◌, ◌+◌, ◌<◌, ◌≤◌, ◌^◌, List, [], All, None}
 use Rattle.sk_insn.specs.declared.record.Record.{Record}
 use Rattle.sk_names.specs.Architectures.{audit_of}
 use Rattle.sk_policy.specs.declared.policy.Policy.{Policy}
@@ -53,5 +53,5 @@ abbrev pub IsFaultOf : List Stated → PolicyFault → Type 0
 IsFaultOf text (fault.Wrong line why) = IsFirstFault [] text line why
 IsFaultOf text (fault.Twice it) = AreRight [] text × IsTwice (parts_of text) it
 IsFaultOf text (fault.Missing nr) = AreRight [] text × AreOnce text × IsMissing text nr
-IsFaultOf text fault.TooLong = AreRight [] text × AreOnce text × AreNamed text × (4096 < cases_in (parts_of text))
+IsFaultOf text fault.TooLong = AreRight [] text × AreOnce text × AreNamed text × (4096 < rules_bound text + 5)
 IsFaultOf text fault.Memory = Unit {0}

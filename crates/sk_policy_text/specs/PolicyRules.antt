@@ -1,5 +1,5 @@
 -- The rules of a text's rows.
-use Rattle.std.specs.Prelude.{ℕ, ◌≡◌, ◌≢◌, ◌⊎◌, ◌<◌, ◌≤◌, ◌++◌, ◌&&◌, nat_le, if◌then◌else◌, List, ◌∷◌, All, Contains, None}
+use Rattle.std.specs.Prelude.{ℕ, ◌≡◌, ◌≢◌, ◌⊎◌, ◌<◌, ◌≤◌, ◌+◌, ◌++◌, ◌&&◌, nat_le, if◌then◌else◌, List, ◌∷◌, All, Contains, None}
 use Rattle.sk_insn.specs.declared.record.Record.{Record}
 use Rattle.sk_names.specs.declared.architecture.Architecture.{Architecture}
 use Rattle.sk_policy.specs.declared.policy.Rule.{Rule}
@@ -14,6 +14,7 @@ use Rattle.sk_policy_text.specs.declared.stated.Stated.{Stated}
 use Rattle.sk_policy_text.specs.PolicyRows.{Part, times, is_of_x32, sentences_of, else_below}
 use Rattle.sk_policy_text.specs.PolicySays.{RowSays, SaysRow}
 use Rattle.sk_policy_text.specs.PolicyFaults.{IsUnreadIn}
+use Rattle.sk_policy_text.specs.PolicySizes.{parts_bound}
 
 -- the verdict of a number that no row has, where there is a default
 abbrev pub fallback : Architecture → ℕ → ℕ → ℕ → ℕ
@@ -90,3 +91,8 @@ abbrev pub IsUnreadAmong : List Part → PolicyFault → Type 0
 IsUnreadAmong parts (fault.Wrong line why) = HasUnreadAmong parts line why
 IsUnreadAmong parts fault.Memory = Unit {0}
 IsUnreadAmong parts other = ⊥
+
+-- ranges that are given no rules: a condition is not read, or the rules may take more than the 4096 instructions that a filter has
+abbrev pub AreUnruled : List Part → PolicyFault → Type 0
+AreUnruled parts fault.TooLong = 4096 < parts_bound parts + 6
+AreUnruled parts other = IsUnreadAmong parts other

@@ -5,13 +5,23 @@ use Rattle.sk_policy_text.specs.declared.sentence.Sentence.TheVariants as senten
 use Rattle.sk_policy_text.specs.declared.stated.Stated.{Stated}
 use Rattle.sk_policy_text.specs.PolicyRows.{Part, sentences_of, parts_of}
 
+-- the words of the conditions of the cases that a text begins with
+abbrev pub words_below : List Sentence → ℕ
+words_below [] = 0
+words_below (sentence.Case verdict words ∷ behind) = length words.now + words_below behind
+words_below (other ∷ behind) = 0
+
+-- a row with a verdict has no cases
+abbrev pub words_of_row : Option ℕ → List Sentence → ℕ
+words_of_row None behind = words_below behind
+words_of_row (Some verdict) behind = 0
+
 -- 6 for each word of a case's condition, and one for its verdict
 abbrev pub cases_bound : List Sentence → ℕ
 cases_bound [] = 0
 cases_bound (sentence.Case verdict words ∷ behind) = (6 * length words.now + 1) + cases_bound behind
 cases_bound (other ∷ behind) = 0
 
--- a row with a verdict has no cases
 abbrev pub row_bound : Option ℕ → List Sentence → ℕ
 row_bound None behind = cases_bound behind
 row_bound (Some verdict) behind = 0

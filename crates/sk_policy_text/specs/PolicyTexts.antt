@@ -2,6 +2,8 @@
 use Rattle.std.specs.Prelude.{ℕ, ◌-◌, ◌++◌, ◌==◌, ◌&&◌, nat_le, Bool, false, if◌then◌else◌, List, [], ◌∷◌, codes, length, map, take, slice_get, Option, Some, None}
 use Rattle.std.specs.Fmt.{decimal}
 use Rattle.std.specs.Str.{bytes_eq}
+use Rattle.sk_conditions.specs.declared.expectation.Expectation.{Expectation}
+use Rattle.sk_conditions.specs.Comparing.{expectation_name, expectation_of}
 use Rattle.sk_names.specs.declared.architecture.Architecture.{Architecture}
 use Rattle.sk_names.specs.Architectures.{text_of}
 use Rattle.sk_policy_text.specs.declared.condition.ConditionFault.{ConditionFault}
@@ -137,9 +139,18 @@ policy_text words (fault.Missing nr) = decimal nr ++ codes ": no row has this nu
 policy_text words fault.TooLong = codes "its filter would have more than 4096 instructions"
 policy_text words fault.Memory = codes "memory was refused"
 
+-- the word of an expectation, before what was expected in its place
+abbrev pub before_verdict : Option (List ℕ) → List ℕ
+before_verdict None = []
+before_verdict (Some name) = name ++ codes ": "
+
+abbrev pub expectation_text : ℕ → Expectation → List ℕ
+expectation_text line it = line_text line ++ (before_verdict (expectation_name it) ++ codes "expected a verdict of a filter, as allow or errno/EPERM")
+
 -- of the words of a text
 abbrev pub refusal_text : List Word → Refusal → List ℕ
 refusal_text words (refusal.Sentence by line why) = sentence_text by (first_words (from_line line words)) why
+refusal_text words (refusal.Expectation line value) = expectation_text line (expectation_of value)
 refusal_text words (refusal.Policy why) = policy_text words why
 refusal_text words refusal.TooLong = codes "its filter would have more than 4096 instructions"
 refusal_text words refusal.Memory = codes "memory was refused"

@@ -1,5 +1,5 @@
 -- What one sentence of a policy's text says.
-use Rattle.std.specs.Prelude.{ℕ, ◌+◌, ◌-◌, ◌==◌, ◌&&◌, ◌||◌, not, nat_le, Bool, true, false, if◌then◌else◌, List, [], ◌∷◌, length, drop, codes, Option, Some, None, is_some, Result, Ok, Err}
+use Rattle.std.specs.Prelude.{ℕ, ◌+◌, ◌-◌, ◌==◌, ◌&&◌, ◌||◌, not, nat_le, Bool, true, false, if◌then◌else◌, List, [], ◌∷◌, length, drop, codes, Option, Some, None, Result, Ok, Err}
 use Rattle.std.specs.List.{list_any, before_first, after_first, position_or_len}
 use Rattle.std.specs.Str.{bytes_eq}
 use Rattle.sk_replay.specs.WordCalls.{plain_number}
@@ -18,7 +18,7 @@ use Rattle.sk_policy_text.specs.declared.stop.Stop.{Stop}
 use Rattle.sk_policy_text.specs.declared.word.Place.{Place}
 use Rattle.sk_policy_text.specs.declared.word.Place.TheVariants as place
 use Rattle.sk_policy_text.specs.Words.{Word}
-use Rattle.sk_policy_text.specs.Verdicts.{action_in, error_in, verdict_of_word}
+use Rattle.sk_policy_text.specs.Verdicts.{error_in, names_verdict, verdict_of_word}
 
 -- what a sentence says: of whose calls; the verdict of numbers that no row has; that of other architectures; a row of numbers, with a
 -- verdict of all or none; a case of the row above, with the words of its condition; the verdict of all other calls of that row
@@ -118,7 +118,7 @@ unfoldable pub range_in : List ℕ → Option Range
 range_in text = range_between (u32_of (before_first (λ byte. byte == 45) text)) (u32_of (after_first (λ byte. byte == 45) text))
 
 abbrev pub begins_verdict : Word → Bool
-begins_verdict word = is_some (action_in word.text)
+begins_verdict word = names_verdict word.text
 
 -- the items of a row end before a colon or its verdict
 unfoldable pub ends_items : Word → Bool

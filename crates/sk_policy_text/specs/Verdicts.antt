@@ -1,12 +1,16 @@
--- Words that are verdicts: `ACTION` or `ACTION/DATA`, as seccomp(2) names the actions.
-use Rattle.std.specs.Prelude.{ℕ, ◌+◌, ◌==◌, Bool, if◌then◌else◌, List, Option, Some, None}
+-- Words that are verdicts: `ACTION` or `ACTION/DATA`, as seccomp(2) names the actions; and those that say what is expected of one.
+use Rattle.std.specs.Prelude.{ℕ, ◌+◌, ◌==◌, ◌||◌, Bool, false, if◌then◌else◌, List, Option, Some, None, is_some}
 use Rattle.std.specs.List.{list_any, before_first, after_first}
-use Rattle.std.specs.Option.{option_or}
+use Rattle.std.specs.Option.{option_map, option_or}
+use Rattle.std.specs.Str.{bytes_eq}
 use Rattle.sk_replay.specs.WordCalls.{plain_number}
 use Rattle.sk_insn.specs.declared.action.Action.{Action}
 use Rattle.sk_insn.specs.declared.action.Action.TheVariants.{Errno}
 use Rattle.sk_insn.specs.Actions.{action_named, value_of}
 use Rattle.sk_filter.specs.Errors.{error_number}
+use Rattle.sk_conditions.specs.declared.expectation.Expectation.{Expectation}
+use Rattle.sk_conditions.specs.declared.expectation.Expectation.TheVariants.{Refused, Performed}
+use Rattle.sk_conditions.specs.Comparing.{expectation_name, value_of as value_expecting}
 
 -- a step, and then another one, if the first gave a value
 infixl 10 ◌>>=◌
@@ -49,12 +53,29 @@ unfoldable pub data_in : Action → List ℕ → Option ℕ
 data_in action word = if has_slash word then data_of action (behind_slash word) else data_left_out action
 
 -- the value of a filter that a word is
-unfoldable pub verdict_of_word : List ℕ → Option ℕ
-verdict_of_word word = do
+unfoldable pub action_value : List ℕ → Option ℕ
+action_value word = do
   action ← action_in word
   value ← value_of action
   given ← data_in action word
   Some (value + given)
+
+abbrev pub is_name : List ℕ → Option (List ℕ) → Bool
+is_name word None = false
+is_name word (Some name) = bytes_eq word name
+
+-- what a word expects of a verdict: that the call is refused, or that it is performed
+abbrev pub expectation_named : List ℕ → Option Expectation
+expectation_named word =
+    if is_name word (expectation_name Refused) then Some Refused else if is_name word (expectation_name Performed) then Some Performed else None
+
+-- the value that a word is, or that stands for what it expects
+unfoldable pub verdict_of_word : List ℕ → Option ℕ
+verdict_of_word word = option_or (action_value word) (option_map value_expecting (expectation_named word))
+
+-- whether a word is one where a verdict is expected, by its name
+abbrev pub names_verdict : List ℕ → Bool
+names_verdict word = is_some (action_in word) || is_some (expectation_named word)
 
 -- the number of an error, where one stands behind `errno`, and not its name
 abbrev pub error_given : Action → List ℕ → Option ℕ

@@ -23,6 +23,7 @@ use Rattle.sk_policy_text.specs.Words.{words_of_text}
 use Rattle.sk_policy_text.specs.Sentences.{sentence_in}
 use Rattle.sk_policy_text.specs.PolicySays.{Says}
 use Rattle.sk_policy_text.specs.PolicyFaults.{above_of, misplaced_at}
+use Rattle.sk_policy_text.specs.PolicyMade.{first_expectation}
 use Rattle.sk_policy_text.specs.PolicyTexts.{refusal_text}
 
 -- ---- what is said of calls
@@ -72,6 +73,19 @@ pub record WorkedPlaces : Type 0 where
   pub has_else : (ranges : Vec Range Global) → stands [] (sentence.Row ranges None) (sentence.Else 0 ∷ []) None
   pub no_else : (ranges : Vec Range Global) → stands [] (sentence.Row ranges None) (sentence.Default 0 ∷ sentence.Else 0 ∷ []) (Some misplaced.NoElse)
 
+-- ---- verdicts that no filter has
+
+pub record WorkedExpectations : Type 0 where
+  pub none : (ranges : Vec Range Global) → first_expectation (plain ranges) ≡ None
+  pub row : (ranges : Vec Range Global)
+      → first_expectation (stated 1 (sentence.Default 0) ∷ stated 4 (sentence.Row ranges (Some 0x00010001)) ∷ stated 5 (sentence.Else 0x00010002) ∷ [])
+      ≡ Some (4, 0x00010001)
+  pub case : (ranges : Vec Range Global) (words : Bor (List CodeWord))
+      → first_expectation (stated 2 (sentence.Row ranges None) ∷ stated 3 (sentence.Case 0x00010002 words) ∷ []) ≡ Some (3, 0x00010002)
+  pub others : first_expectation (stated 1 (sentence.Arch architecture.I386) ∷ stated 2 (sentence.Others 0x00010001) ∷ []) ≡ Some (2, 0x00010001)
+  pub default : first_expectation (stated 1 (sentence.Default 0x00010002) ∷ []) ≡ Some (1, 0x00010002)
+  pub anything : first_expectation (stated 1 (sentence.Default 0x00010003) ∷ []) ≡ None
+
 -- ---- texts of refusals
 
 -- a sentence stops at one of its words, and this is said of it
@@ -89,4 +103,6 @@ pub record WorkedRefusals : Type 0 where
   pub nothing : Refuses (codes "default") 1 expected.Verdict (codes "line 1: expected a verdict, as allow or errno/EPERM behind default")
   pub twice : tells (fault.Twice (record { number = 0; line = 9; earlier = 3 })) (codes "line 9: 0 stands in line 3 already")
   pub missing : tells (fault.Missing 1) (codes "1: no row has this number: expected one, or a line default VERDICT")
+  pub refused : refusal_text [] (refusal.Expectation 3 0x00010001) ≡ codes "line 3: refused: expected a verdict of a filter, as allow or errno/EPERM"
+  pub performed : refusal_text [] (refusal.Expectation 12 0x00010002) ≡ codes "line 12: performed: expected a verdict of a filter, as allow or errno/EPERM"
   pub no_else : tells (fault.Wrong 4 (wrong.Misplaced misplaced.NoElse)) (codes "line 4: expected a line VERDICT else below the row")

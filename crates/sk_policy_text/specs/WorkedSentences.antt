@@ -52,6 +52,11 @@ pub record WorkedSentences : Type 0 where
       (Case 0x80000000 (word (codes "ip") 1 Behind ∷ word (codes "!=") 1 Behind ∷ word (codes "0") 1 Behind ∷ []))
   pub case_with_error : says (codes "  errno/1 EPERM where 1") (Case 0x00050001 (word (codes "1") 1 Behind ∷ []))
   pub else : says (codes "  errno/1 else") (Else 0x00050001)
+  pub refused : says (codes "read, write refused") (Row (single 0 ∷ single 1 ∷ []) (Some 0x00010001))
+  pub performed : says (codes "56 clone: performed") (one 56 0x00010002)
+  pub default_refused : says (codes "default refused") (Default 0x00010001)
+  pub case_performed : says (codes "  performed where 1") (Case 0x00010002 (word (codes "1") 1 Behind ∷ []))
+  pub else_refused : says (codes "  refused else") (Else 0x00010001)
 
 pub record WrongSentences : Type 0 where
   pub nothing : fails [] 0 expected.Call
@@ -86,3 +91,7 @@ pub record WrongSentences : Type 0 where
   pub no_condition : fails (codes " allow where") 2 expected.Condition
   pub behind_else : fails (codes " allow else 1") 2 expected.End
   pub no_verdict : fails (codes " read where 1") 0 expected.Verdict
+  pub data_of_refused : fails (codes "read: refused/1") 2 expected.Verdict
+  pub error_of_refused : fails (codes "read refused EPERM") 2 expected.End
+  pub two_expectations : fails (codes "read refused performed") 2 expected.End
+  pub anything : fails (codes "default anything") 1 expected.Verdict

@@ -1,6 +1,8 @@
 //! From a policy's text to the image of its filter.
-ghost use Rattle.std.specs.Prelude.{◌≡◌, [], All, IfOk, IfErr};
+ghost use Rattle.std.specs.Prelude.{◌≡◌, List, [], All, IfOk, IfErr};
 ghost use Rattle.sk_policy.specs.Policies.{AreApart, AreWithin, RuleThere};
+ghost use Rattle.sk_policy_text.specs.declared.stated.Stated.{Stated};
+ghost use Rattle.sk_policy_text.specs.PolicyOf.{IsFaultOf};
 ghost use Rattle.sk_policy_text.specs.Views.{all_seen};
 ghost use Rattle.sk_policy_text.specs.PolicyMade.{AreSaid, IsReadAs, IsUnreadAs, IsUnsaid, IsImageOf, IsTooLong, IsFilterOf, IsRefused, IsMade, IsUnmade};
 
@@ -10,7 +12,7 @@ use crate::reading::words_in;
 use crate::refusal::Refusal;
 use crate::sentence::ReadFault;
 use crate::sentences::{sentence_at, sentence_of};
-use crate::stated::{Stated, architecture_of};
+use crate::stated::{Stated, architecture_of, first_expectation};
 use crate::word::Word;
 use sk_insn::write_insns;
 use sk_names::Architecture;
@@ -34,8 +36,8 @@ fn read<'a>(
     }
 }
 
-// All sentences, each read on the architecture that those before it say.
-fn sentences_in<'a>(alloc: Global, words: &'a [Word<'a>]) -> Result<Vec<Stated<'a>>, Refusal>
+/// All sentences, each read on the architecture that those before it say.
+pub fn sentences_in<'a>(alloc: Global, words: &'a [Word<'a>]) -> Result<Vec<Stated<'a>>, Refusal>
     ensures said { IfOk result (λ text. AreSaid [] (all_seen words.now) text.items []) }
     ensures fault { IfErr result (IsUnsaid (all_seen words.now)) }
 {
@@ -69,8 +71,20 @@ fn image_of(alloc: Global, policy: &Policy) -> Result<Vec<u8>, Refusal>
     }
 }
 
-// The image of the filter of a text's sentences.
-fn built<'a>(alloc: Global, text: &'a [Stated<'a>]) -> Result<Vec<u8>, Refusal>
+fn refusal_of(fault: PolicyFault) -> Refusal
+    ensures refused { (text : List Stated) → IsFaultOf text fault → IsRefused text result }
+{
+    match fault {
+        PolicyFault::Wrong(line, wrong) => Refusal::Policy(PolicyFault::Wrong(line, wrong)),
+        PolicyFault::Twice(twice) => Refusal::Policy(PolicyFault::Twice(twice)),
+        PolicyFault::Missing(number) => Refusal::Policy(PolicyFault::Missing(number)),
+        PolicyFault::TooLong => Refusal::TooLong,
+        PolicyFault::Memory => Refusal::Memory,
+    }
+}
+
+/// The image of the filter of a text's sentences.
+pub fn built<'a>(alloc: Global, text: &'a [Stated<'a>]) -> Result<Vec<u8>, Refusal>
     ensures image { IfOk result (λ image. IsFilterOf text.now image.items) }
     ensures fault { IfErr result (IsRefused text.now) }
 {
@@ -79,8 +93,7 @@ fn built<'a>(alloc: Global, text: &'a [Stated<'a>]) -> Result<Vec<u8>, Refusal>
             let image = image_of(alloc, &policy)?;
             Ok(image)
         }
-        Err(PolicyFault::Memory) => Err(Refusal::Memory),
-        Err(fault) => Err(Refusal::Policy(fault)),
+        Err(fault) => Err(refusal_of(fault)),
     }
 }
 
@@ -92,5 +105,8 @@ pub fn made(alloc: Global, text: &[u8]) -> Result<Vec<u8>, Refusal>
 {
     let words = words_in(alloc, text)?;
     let stated = sentences_in(alloc, &words)?;
+    if let Some((line, value)) = first_expectation(&stated) {
+        return Err(Refusal::Expectation(line, value));
+    }
     built(alloc, &stated)
 }

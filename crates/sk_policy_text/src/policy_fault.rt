@@ -41,7 +41,7 @@ pub enum PolicyFault {
     Twice(Twice),
     /// No row has this number, and no sentence says what is said of such numbers.
     Missing(u32),
-    /// There are more than 4096 cases, those of a row once for each of its ranges.
+    /// Its rules would have more than 4096 instructions: as many cases, those of a row once for each of its ranges, or terms.
     TooLong,
     /// Memory was refused.
     Memory,

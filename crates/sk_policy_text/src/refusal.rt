@@ -9,6 +9,8 @@ use std::alloc::{AllocError, AllocFailed};
 pub enum Refusal {
     /// The words of the sentence that begins in this line are none on calls of an architecture.
     Sentence(Architecture, usize, SentenceFault),
+    /// The sentence of this line says what is expected of a verdict, for which this value stands, and a filter has no such verdict.
+    Expectation(usize, u32),
     /// Its sentences are no policy.
     Policy(PolicyFault),
     /// The filter would have more than 4096 instructions. A range of a row takes at most 12 of them, and 7 for each word of its

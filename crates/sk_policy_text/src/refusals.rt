@@ -1,9 +1,10 @@
 //! What is said of a policy's text that is refused.
 ghost use Rattle.std.specs.Prelude.{◌≡◌, ◌++◌, slice_get, IfOk, OnOk, string_bytes};
 ghost use Rattle.std.specs.Option.{option_map};
+ghost use Rattle.sk_conditions.specs.Comparing.{expectation_name, expectation_of};
 ghost use Rattle.sk_policy_text.specs.Words.{seen, words_of_text};
 ghost use Rattle.sk_policy_text.specs.Views.{all_seen};
-ghost use Rattle.sk_policy_text.specs.PolicyTexts.{last_of, before_text, behind_text, place_text, is_several, is_several_at, several_text, sentence_text, wanted_text, on_text, more_text, expected_text, misplaced_text, condition_text, wrong_text, twice_text, policy_text, refusal_text};
+ghost use Rattle.sk_policy_text.specs.PolicyTexts.{last_of, before_text, behind_text, before_verdict, expectation_text, place_text, is_several, is_several_at, several_text, sentence_text, wanted_text, on_text, more_text, expected_text, misplaced_text, condition_text, wrong_text, twice_text, policy_text, refusal_text};
 
 use crate::condition::ConditionFault;
 use crate::policy_fault::{Misplaced, PolicyFault, Twice, Wrong};
@@ -12,6 +13,7 @@ use crate::refusal::Refusal;
 use crate::sentence::{Expected, SentenceFault};
 use crate::shown::{behind_where, last_word, push_line, push_shown, sentence_from, word_at};
 use crate::word::Word;
+use sk_conditions::Expectation;
 use sk_names::Architecture;
 use sk_text::is_same;
 use std::alloc::{AllocError, Global};
@@ -37,10 +39,35 @@ fn push_refusal(text: &mut String, words: &[Word<'_>], refusal: Refusal) -> Resu
             sentence_from(words, line),
             why,
         ),
+        Refusal::Expectation(line, value) => push_expectation(text, line, Expectation::of(value)),
         Refusal::Policy(fault) => push_policy(text, words, fault),
         Refusal::TooLong => text.push_str("its filter would have more than 4096 instructions"),
         Refusal::Memory => text.push_str("memory was refused"),
     }
+}
+
+fn push_before_verdict(text: &mut String, expectation: Expectation) -> Result<(), AllocError>
+    ensures text { OnOk result (string_bytes text.new ≡ string_bytes text.old ++ before_verdict (expectation_name expectation)) }
+{
+    match expectation.name() {
+        Some(name) => {
+            text.push_str(name)?;
+            text.push_str(": ")
+        }
+        None => Ok(()),
+    }
+}
+
+fn push_expectation(
+    text: &mut String,
+    line: usize,
+    expectation: Expectation,
+) -> Result<(), AllocError>
+    ensures text { OnOk result (string_bytes text.new ≡ string_bytes text.old ++ expectation_text line expectation) }
+{
+    push_line(text, line)?;
+    push_before_verdict(text, expectation)?;
+    text.push_str("expected a verdict of a filter, as allow or errno/EPERM")
 }
 
 fn push_before(

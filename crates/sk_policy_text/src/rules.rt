@@ -1,14 +1,15 @@
 //! The rules of rows.
-ghost use Rattle.std.specs.Prelude.{◌≡◌, ◌≤◌, ◌+◌, ℕ, map, All, Some, IfOk, IfErr};
+ghost use Rattle.std.specs.Prelude.{◌≡◌, ◌<◌, ◌≤◌, ◌+◌, ℕ, map, All, Some, IfOk, IfErr, IfNone, IfSome};
 ghost use Rattle.sk_insn.specs.declared.record.Record.{Record};
 ghost use Rattle.sk_policy.specs.Policies.{IsWhole, CaseThere, said};
 ghost use Rattle.sk_policy.specs.Sizes.{cases_most, rules_most};
 ghost use Rattle.sk_policy_text.specs.PolicyRows.{sentences_of, else_below};
 ghost use Rattle.sk_policy_text.specs.PolicySays.{SaysCases};
 ghost use Rattle.sk_policy_text.specs.PolicyRanges.{part_of, PartsApart};
-ghost use Rattle.sk_policy_text.specs.PolicyRules.{IsRuleOf, AreRulesOf, HasElse, IsUnreadBelow, IsUnreadAmong};
-ghost use Rattle.sk_policy_text.specs.PolicySizes.{cases_bound, row_bound, parts_bound};
+ghost use Rattle.sk_policy_text.specs.PolicyRules.{IsRuleOf, AreRulesOf, AreUnruled, HasElse, IsUnreadBelow};
+ghost use Rattle.sk_policy_text.specs.PolicySizes.{words_of_row, cases_bound, row_bound, parts_bound};
 
+use crate::counting::behind_words;
 use crate::draft::Span;
 use crate::gaps::push_gap;
 use crate::policy_fault::{Misplaced, PolicyFault, Wrong};
@@ -17,6 +18,9 @@ use crate::stated::{Stated, else_below};
 use sk_names::Architecture;
 use sk_policy::{Case, Rule};
 use std::alloc::Global;
+
+/// The most words of conditions that are read for ranges: a row's conditions are read again for each of its ranges.
+const MOST_WORDS: usize = 1 << 20;
 
 // The cases that a text begins with.
 fn cases_of(alloc: Global, text: &[Stated<'_>]) -> Result<Vec<Case>, PolicyFault>
@@ -63,7 +67,19 @@ fn rule_of(alloc: Global, span: &Span<'_>) -> Result<Rule, PolicyFault>
     })
 }
 
-/// The rules of ranges and of x32's numbers between them.
+// What is left of so many words behind those that are read for a range, if they are enough.
+fn behind_span(most: usize, span: &Span<'_>) -> Option<usize>
+    ensures left { IfSome result (λ left. left + words_of_row span.now.verdict (sentences_of span.now.behind.now) ≡ most) }
+    ensures none { IfNone result (most < words_of_row span.now.verdict (sentences_of span.now.behind.now)) }
+{
+    match span.verdict {
+        Some(_) => Some(most),
+        None => behind_words(most, span.behind),
+    }
+}
+
+/// The rules of ranges and of x32's numbers between them. Conditions of more words than 1,048,576, those of a row once for each of its
+/// ranges, are too long.
 pub fn rules_of(
     alloc: Global,
     architecture: Architecture,
@@ -74,10 +90,11 @@ pub fn rules_of(
     requires closed { All HasElse (map part_of spans.now) }
     ensures rules { IfOk result (λ rules. AreRulesOf architecture others (map part_of spans.now) rules.items) }
     ensures size { IfOk result (λ rules. rules_most rules.items ≤ parts_bound (map part_of spans.now) + 6) }
-    ensures fault { IfErr result (IsUnreadAmong (map part_of spans.now)) }
+    ensures fault { IfErr result (AreUnruled (map part_of spans.now)) }
 {
     let mut rules = Vec::new(alloc);
     let mut next: u64 = 0;
+    let mut room = MOST_WORDS;
     let (_, mut left) = spans.split_at(0);
     while let Some((span, rest)) = left.split_first() {
         push_gap(
@@ -88,6 +105,10 @@ pub fn rules_of(
             next,
             u64::from(span.first),
         )?;
+        let Some(behind) = behind_span(room, span) else {
+            return Err(PolicyFault::TooLong);
+        };
+        room = behind;
         let rule = rule_of(alloc, span)?;
         rules.push(rule)?;
         next = u64::from(span.last) + 1;

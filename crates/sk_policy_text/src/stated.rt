@@ -2,9 +2,11 @@
 ghost use Rattle.std.specs.Prelude.{◌≡◌, []};
 ghost use Rattle.sk_policy_text.specs.PolicyRows.{sentences_of, is_case, arch_in, default_in, others_in, else_in, architecture_of, default_of, stated_others, others_of, else_below, cases_below};
 ghost use Rattle.sk_policy_text.specs.PolicyFaults.{above_of, above_with, inside_with, misplaced_case, misplaced_at};
+ghost use Rattle.sk_policy_text.specs.PolicyMade.{verdict_in, is_expectation, if_expectation, expectation_in, first_expectation};
 
 use crate::policy_fault::Misplaced;
 use crate::sentence::Sentence;
+use sk_conditions::Expectation;
 use sk_names::Architecture;
 
 /// A sentence, and its line.
@@ -100,7 +102,8 @@ pub fn default_of(text: &[Stated<'_>]) -> Option<u32>
     None
 }
 
-fn stated_others(text: &[Stated<'_>]) -> Option<u32>
+/// The verdict of calls of other architectures, if a sentence says one.
+pub fn stated_others(text: &[Stated<'_>]) -> Option<u32>
     ensures of { result ≡ stated_others (sentences_of text.now) }
 {
     let (_, mut left) = text.split_at(0);
@@ -148,6 +151,50 @@ pub fn cases_below(text: &[Stated<'_>]) -> usize
         left = rest;
     }
     count
+}
+
+fn verdict_in(sentence: &Sentence<'_>) -> Option<u32>
+    ensures verdict { result ≡ verdict_in sentence.now }
+{
+    match sentence {
+        Sentence::Arch(_) => None,
+        Sentence::Default(verdict) => Some(*verdict),
+        Sentence::Others(verdict) => Some(*verdict),
+        Sentence::Row(_, verdict) => *verdict,
+        Sentence::Case(verdict, _) => Some(*verdict),
+        Sentence::Else(verdict) => Some(*verdict),
+    }
+}
+
+fn is_expectation(value: u32) -> bool
+    ensures expectation { result ≡ is_expectation value }
+{
+    value == Expectation::Refused.value() || value == Expectation::Performed.value()
+}
+
+fn expectation_in(sentence: &Sentence<'_>) -> Option<u32>
+    ensures value { result ≡ expectation_in sentence.now }
+{
+    let value = verdict_in(sentence)?;
+    if is_expectation(value) {
+        Some(value)
+    } else {
+        None
+    }
+}
+
+/// The line of the first sentence that says an expectation in place of a verdict, and the value that stands for it.
+pub fn first_expectation(text: &[Stated<'_>]) -> Option<(usize, u32)>
+    ensures first { result ≡ first_expectation text.now }
+{
+    let (_, mut left) = text.split_at(0);
+    while let Some((first, rest)) = left.split_first() {
+        if let Some(value) = expectation_in(&first.sentence) {
+            return Some((first.line, value));
+        }
+        left = rest;
+    }
+    None
 }
 
 fn inside_with(inside: Inside, sentence: &Sentence<'_>) -> Inside

@@ -1,21 +1,23 @@
-//! Verdicts, by the words of seccomp(2) and the names of errors.
+//! Verdicts, by the words of seccomp(2) and the names of errors, and words that say what is expected of one.
 ghost use Rattle.std.specs.Prelude.{◌≡◌, ◌≤◌, ◌∷◌, map, is_some, IfSome};
-ghost use Rattle.std.specs.Option.{option_or};
+ghost use Rattle.std.specs.Option.{option_map, option_or};
 ghost use Rattle.sk_replay.specs.WordCalls.{plain_number};
 ghost use Rattle.sk_insn.specs.Actions.{has_value};
 ghost use Rattle.sk_filter.specs.Errors.{error_number};
+ghost use Rattle.sk_conditions.specs.Comparing.{expectation_name, value_of};
 ghost use Rattle.sk_policy_text.specs.Words.{seen};
-ghost use Rattle.sk_policy_text.specs.Verdicts.{has_slash, before_slash, behind_slash, action_in, errno_of, data_of, data_left_out, data_in, verdict_of_word, error_given, error_in};
+ghost use Rattle.sk_policy_text.specs.Verdicts.{has_slash, before_slash, behind_slash, action_in, action_value, errno_of, data_of, data_left_out, data_in, expectation_named, is_name, verdict_of_word, error_given, error_in};
 ghost use Rattle.sk_policy_text.specs.Sentences.{begins_error, begins_verdict, behind_error, ended, only_verdict, verdict};
 ghost use Rattle.sk_policy_text.specs.Views.{all_seen, left, with_left};
 
 use crate::sentence::Expected;
 use crate::stop::{Stop, ended};
 use crate::word::Word;
+use sk_conditions::Expectation;
 use sk_filter::error_number;
 use sk_insn::Action;
 use sk_replay::plain_number;
-use sk_text::cut;
+use sk_text::{cut, is_same};
 
 /// The greatest number of an error: MAX_ERRNO of linux/err.h.
 const MOST_ERRNO: u64 = 4095;
@@ -82,17 +84,55 @@ fn has_number(wanted: u32, number: Option<u32>) -> bool
     }
 }
 
-/// Whether a word begins a verdict: an action's name is what it has before a slash.
+/// Whether a word begins a verdict: an action's name is what it has before a slash, or it says by itself what is expected of one.
 pub fn begins_verdict(word: &Word<'_>) -> bool
     ensures action { result ≡ begins_verdict (seen word.now) }
 {
-    action_in(word.text).is_some()
+    action_in(word.text).is_some() || expectation_named(word.text).is_some()
 }
 
-// The value that a word asks for.
+// The value that a word asks for, or that stands for what it expects.
 #[tactic(auto, unfolding(crate::specs::Verdicts::verdict_of_word))]
 fn verdict_of_word(word: &[u8]) -> Option<u32>
     ensures value { result ≡ verdict_of_word word.now }
+{
+    match action_value(word) {
+        Some(value) => Some(value),
+        None => expected_value(word),
+    }
+}
+
+fn expected_value(word: &[u8]) -> Option<u32>
+    ensures value { result ≡ option_map value_of (expectation_named word.now) }
+{
+    let expectation = expectation_named(word)?;
+    Some(expectation.value())
+}
+
+fn expectation_named(word: &[u8]) -> Option<Expectation>
+    ensures expectation { result ≡ expectation_named word.now }
+{
+    if is_name_of(word, Expectation::Refused) {
+        Some(Expectation::Refused)
+    } else if is_name_of(word, Expectation::Performed) {
+        Some(Expectation::Performed)
+    } else {
+        None
+    }
+}
+
+fn is_name_of(word: &[u8], expectation: Expectation) -> bool
+    ensures name { result ≡ is_name word.now (expectation_name expectation) }
+{
+    match expectation.name() {
+        Some(name) => is_same(word, name.as_bytes()),
+        None => false,
+    }
+}
+
+#[tactic(auto, unfolding(crate::specs::Verdicts::action_value))]
+fn action_value(word: &[u8]) -> Option<u32>
+    ensures value { result ≡ action_value word.now }
 {
     let action = action_in(word)?;
     let value = action.value()?;

@@ -27,4 +27,4 @@ pub use fault::{Clash, ProfileFault, RulePlace};
 pub use filter::profile_filter;
 pub use judge::are_apart;
 pub use profile::{Part, Profile, Rule};
-pub use weights::OFTEN;
+pub use weights::{Numbers, OFTEN, numbers_of, weight};

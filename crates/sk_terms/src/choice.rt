@@ -9,6 +9,9 @@ use crate::term::Term;
 use sk_filter::preceding;
 use std::alloc::{AllocError, Global};
 
+/// The bits of the action in a value: SECCOMP_RET_ACTION_FULL of linux/seccomp.h.
+const ACTION: u32 = 0xffff_0000;
+
 /// How long the lines of one verdict are to read.
 #[derive(Clone, Copy, Debug)]
 struct Weight {
@@ -98,8 +101,11 @@ fn heavier(one: Weight, other: Weight) -> Weight
     }
 }
 
+// Whether a value stands before another one whose lines are as long, whichever comes first: that whose action takes precedence,
+// and of one action that with the greater data.
 fn precedes(one: Weight, other: Weight) -> bool {
     match (one.value, other.value) {
+        (Some(value), Some(another)) if value & ACTION == another & ACTION => value > another,
         (Some(value), Some(another)) => preceding(Some(another), value) == Some(value),
         _ => false,
     }

@@ -1,12 +1,10 @@
 use Rattle.std.proofs.Common.{refl}
-use Rattle.sk_conditions.proofs.Differing.{same_relates}
 use Rattle.sk_conditions.proofs.Ways.{on_way, pushed_on}
 use Rattle.sk_conditions.proofs.differences.at_all.Goals as goal
 
 pub returns-clause-tells : goal.returns-clause-tells
 returns-clause-tells c =
-    λ call on old new of_old of_new.
-    same_relates c.args.relation c.args.pair.one.now c.args.pair.other.now call old new (c.if-not-tell_the_same.ensures.same refl call) of_old of_new
+    λ call on old new of_old of_new. c.if-not-holds_alike.ensures.holds refl call old new of_old of_new
 
 pub returns-clause-met : goal.returns-clause-met
 returns-clause-met c =

@@ -1,13 +1,13 @@
-use Rattle.std.proofs.Common.{◌≡◌, arith, map, sym, subst, ◌∙◌, ◌<◌, ◌≤◌, rules}
+use Rattle.std.proofs.Common.{◌≡◌, arith, map, sym, subst, ◌∙◌, ◌≤◌, rules}
 use Rattle.std.specs.Prelude.{unwrap_or}
 use Rattle.std.proofs.lemmas.Bool.{leb-true, leb-false}
 use Rattle.std.proofs.lemmas.List.Sorted.{All-permutation}
 use Rattle.sk_policy_text.specs.PolicyRows.{parts_of, sentences_of, default_of, others_of}
 use Rattle.sk_policy_text.specs.PolicyRanges.{part_of}
-use Rattle.sk_policy_text.specs.PolicyRules.{HasElse, IsUnreadAmong, PartsSay}
+use Rattle.sk_policy_text.specs.PolicyRules.{AreUnruled, HasElse, PartsSay}
 use Rattle.sk_policy.specs.Policies.{says}
-use Rattle.sk_policy_text.proofs.Bounding.{bound_moved}
-use Rattle.sk_policy_text.proofs.Moving.{twice_moved, once_moved, cases_moved, all_closed, unread_fault, says_moved}
+use Rattle.sk_policy_text.proofs.Bounding.{bound_moved, cases_few}
+use Rattle.sk_policy_text.proofs.Moving.{twice_moved, once_moved, cases_moved, all_closed, unruled_fault, says_moved}
 use Rattle.sk_policy_text.proofs.drafting.drafted.Goals as goal
 
 pub returns-in-Some-clause-fault : goal.returns-in-Some-clause-fault
@@ -25,7 +25,12 @@ returns-then-not-are_few-clause-fault c = (
   c.requires.right,
   once_moved c.args.text.now _ c.requires.same c.in_default.ensures.none,
   c.in_default-missing.ensures.none,
-  subst (λ n. 4096 < n) (cases_moved _ _ c.requires.same) (leb-false _ 4096 (sym c.are_few.ensures.few ∙ c.if-not-are_few.true)),
+  omega (
+    arith,
+    leb-false _ 4096 (sym c.are_few.ensures.few ∙ c.if-not-are_few.true),
+    cases_few (map part_of c.args.spans.now),
+    bound_moved (parts_of c.args.text.now) (map part_of c.args.spans.now) c.requires.same,
+  ),
 )
 
 pub rules_of-requires-clause-closed : goal.rules_of-requires-clause-closed
@@ -34,8 +39,9 @@ rules_of-requires-clause-closed c = All-permutation HasElse _ _ c.requires.same 
 pub returns-in_err-rules-clause-fault : goal.returns-in_err-rules-clause-fault
 returns-in_err-rules-clause-fault c =
     let moved = map part_of c.args.spans.now in
-    let among : IsUnreadAmong moved c.in_err-rules.field-0.0 = c.in_err-rules.ensures.fault in
-    let it = unread_fault c.args.text.now moved c.in_err-rules.field-0.0 c.requires.same c.requires.right among in
+    let unruled : AreUnruled moved c.in_err-rules.field-0.0 = c.in_err-rules.ensures.fault in
+    let it = unruled_fault c.args.text.now moved c.in_err-rules.field-0.0 c.requires.same c.requires.right
+    (once_moved c.args.text.now moved c.requires.same c.in_default.ensures.none) c.in_default-missing.ensures.none unruled in
     search rules
 
 pub returns-clause-policy : goal.returns-clause-policy

@@ -9,3 +9,6 @@ pub returns-in_err-image-in-Ok-clause-fault : goal.returns-in_err-image-in-Ok-cl
 returns-in_err-image-in-Ok-clause-fault c =
     let it = refused_of c.args.text.now c.in-Ok.policy c.in_err-image-in-Ok.field-0.0 c.in-Ok.ensures.policy c.in_err-image-in-Ok.ensures.long in
     search rules
+
+pub returns-in-Err-clause-fault : goal.returns-in-Err-clause-fault
+returns-in-Err-clause-fault c = c.refusal_of.ensures.refused c.args.text.now c.in-Err.ensures.fault

@@ -1,9 +1,8 @@
-use Rattle.std.proofs.Common.{◌≡◌, [], ◌∷◌, ◌++◌, refl, sym, ap, ◌∙◌, subst, append_assoc, arith}
+use Rattle.std.proofs.Common.{◌≡◌, [], ◌∷◌, ◌++◌, sym, ap, ◌∙◌, subst, append_assoc, arith}
 use Rattle.std.specs.Prelude.{All, IfSome}
 use Rattle.std.proofs.lemmas.List.Elements.{All-nil, All-push}
 use Rattle.sk_policy.specs.Policies.{said, CaseThere}
 use Rattle.sk_policy.specs.Sizes.{cases_most}
-use Rattle.sk_policy_text.specs.declared.stated.Stated.{Stated}
 use Rattle.sk_policy_text.specs.PolicyRows.{sentences_of, else_below}
 use Rattle.sk_policy_text.specs.PolicySays.{SaysCases}
 use Rattle.sk_policy_text.specs.PolicyFaults.{IsCaseOf}

@@ -1,4 +1,4 @@
-use Rattle.std.proofs.Common.{◌≡◌, ◌≤◌, ◌+◌, ℕ, List, [], ◌++◌, length}
+use Rattle.std.proofs.Common.{◌≡◌, ◌≤◌, ◌+◌, ℕ, List, ◌++◌, length}
 use Rattle.std.specs.Prelude.{All}
 use Rattle.sk_insn.specs.declared.record.Record.{Record}
 use Rattle.sk_policy.specs.Policies.{IsWhole, CaseThere, said}

@@ -2,11 +2,11 @@ use Rattle.std.proofs.Common.{◌≡◌, ◌+◌, ◌≤◌, ◌^◌, [], ◌∷
 use Rattle.std.specs.Prelude.{All, Contains}
 use Rattle.std.proofs.lemmas.List.Elements.{All-head, All-nil}
 use Rattle.sk_policy.specs.Sizes.{rules_most}
-use Rattle.sk_policy_text.specs.PolicyRows.{Part}
+use Rattle.sk_policy_text.specs.PolicyRows.{Part, sentences_of}
 use Rattle.sk_policy_text.specs.PolicyRanges.{part_of}
 use Rattle.sk_policy_text.specs.PolicyRules.{HasElse, AddsGap}
 use Rattle.sk_policy_text.specs.PolicySizes.{gap_bound, parts_bound}
-use Rattle.sk_policy_text.proofs.Bounding.{rules_behind, gap_few, parts_cons}
+use Rattle.sk_policy_text.proofs.Bounding.{words_few, rules_behind, gap_few, parts_cons}
 use Rattle.sk_policy_text.proofs.Ruling.{Ruled, none_ruled, later_parts, unread_among, none_left, with_gap, with_rule, all_ruled}
 use Rattle.sk_policy_text.proofs.rules.rules_of.Goals as goal
 
@@ -18,6 +18,7 @@ loop-span-init c =
           (subst (λ left. Ruled c.args.architecture c.args.others all [] 0 (map part_of left)) (sym start)
           (none_ruled c.args.architecture c.args.others all c.requires.apart c.requires.closed));
       inside = omega arith;
+      room = omega (arith, ap (λ left. parts_bound (map part_of left)) start);
       size = omega (arith, ap rules_most c.new-rules.ensures.items, ap (λ left. parts_bound (map part_of left)) start);
     }
 
@@ -35,6 +36,19 @@ returns-in_err-rule-clause-fault c =
     (subst (All (Contains all)) steps c.loop-span.invariant.ruled.inside) c.in_err-rule.ensures.fault in
     search rules
 
+pub returns-in_default-behind_span-clause-fault : goal.returns-in_default-behind_span-clause-fault
+returns-in_default-behind_span-clause-fault c =
+    let steps = ap (map part_of) c.in-Some.ensures.cases.0 in
+    let part = part_of c.in-Some.span.now in
+    omega (
+      arith,
+      c.loop-span.invariant.room,
+      c.in_default-behind_span.ensures.none,
+      words_few part.verdict (sentences_of part.behind),
+      ap parts_bound steps,
+      parts_cons part (map part_of c.in-Some.rest.now),
+    )
+
 pub loop-span-preserved : goal.loop-span-preserved
 loop-span-preserved c =
     let steps = ap (map part_of) c.in-Some.ensures.cases.0 in
@@ -51,6 +65,14 @@ loop-span-preserved c =
       ruled = subst (λ last. Ruled c.args.architecture c.args.others all c.push.new.self.items (last + 1) rest) (sym c.from-next.ensures)
           (with_rule c.args.architecture c.args.others all c.push_gap.new.rules.items c.push.new.self.items part rest c.in_ok-rule.rule with c.in_ok-push.ensures.items c.in_ok-rule.ensures.rule);
       inside = omega arith;
+      room = omega (
+        arith,
+        c.loop-span.invariant.room,
+        c.in-Some-behind_span.ensures.left,
+        words_few part.verdict (sentences_of part.behind),
+        ap parts_bound steps,
+        parts_cons part rest,
+      );
       size = omega (
         arith,
         c.loop-span.invariant.size,

@@ -9,6 +9,7 @@ abbrev pub invariant-loop-span : goal.invariant-loop-span
 invariant-loop-span l = record {
   ruled : Ruled l.architecture l.others (map part_of l.spans) l.rules.items l.next (map part_of l.left);
   inside : l.next ≤ 2 ^ 32;
+  room : 2 ^ 20 + parts_bound (map part_of l.left) ≤ l.room + parts_bound (map part_of l.spans);
   size : rules_most l.rules.items + parts_bound (map part_of l.left) ≤ parts_bound (map part_of l.spans);
 }
 

@@ -1,5 +1,0 @@
-use Rattle.sk_policy_laws.proofs.Filling.{filled_conditions_come_back}
-use Rattle.sk_policy_laws.proofs.laws.filled_conditions_come_back.Goals as goal
-
-pub returns : goal.returns
-returns c = record { law = filled_conditions_come_back }

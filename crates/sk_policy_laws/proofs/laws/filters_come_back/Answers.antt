@@ -1,5 +1,0 @@
-use Rattle.sk_policy_laws.proofs.Again as again
-use Rattle.sk_policy_laws.proofs.laws.filters_come_back.Goals as goal
-
-pub returns : goal.returns
-returns c = record { law = again.filters_come_back }

@@ -1,5 +1,0 @@
-use Rattle.sk_policy_laws.proofs.Texting.{texts_come_back}
-use Rattle.sk_policy_laws.proofs.laws.texts_come_back.Goals as goal
-
-pub returns : goal.returns
-returns c = record { law = texts_come_back }

@@ -1,5 +1,0 @@
-use Rattle.sk_policy_laws.proofs.Making.{texts_make_filters}
-use Rattle.sk_policy_laws.proofs.laws.texts_make_filters.Goals as goal
-
-pub returns : goal.returns
-returns c = record { law = texts_make_filters }

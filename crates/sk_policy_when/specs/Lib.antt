@@ -1,0 +1,6 @@
+pub mod Again
+pub mod Written
+pub mod Texts
+pub mod Smaller
+pub mod OneFilterFaults
+pub mod WorkedSmaller

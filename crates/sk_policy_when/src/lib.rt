@@ -1,0 +1,10 @@
+//! What `ask when` tells of filters, made a filter again: one that answers each call as a chain of them does.
+#![tactic(auto)]
+
+pub mod laws;
+mod others;
+mod rules;
+mod smaller;
+
+pub use others::others_verdict;
+pub use smaller::{OneFilterFault, one_filter};
