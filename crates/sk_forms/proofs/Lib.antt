@@ -1,0 +1,16 @@
+pub mod Cuts
+pub mod Putting
+pub mod Joining
+pub mod Tabling
+pub mod Spelling
+pub mod Escaping
+pub mod Pieces
+pub mod Numerals
+pub mod ArraysBack
+pub mod DecimalsBack
+pub mod Symbols
+pub mod Unread
+pub mod Unlisted
+pub mod Base64Back
+pub mod FiltersBack
+pub mod Examples
