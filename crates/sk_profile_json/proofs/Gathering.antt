@@ -78,5 +78,6 @@ pub fault_here : {A : Type 0} → (context : Context) (xs : List (Value A)) (i :
     → IsFault (entry_named context i (value_view x)) fault → IsFault (named_from context 0 (map value_view xs)) fault
 fault_here context xs i x done (read.Profile fault) h e same w = sym same ∙ wrong_entry context xs i x done fault h e w
 fault_here context xs i x done read.Memory h e same w = tt
-fault_here context xs i x done read.NotJson h e same w = w
+fault_here context xs i x done (read.NotJson slip) h e same w = w
 fault_here context xs i x done read.KeyTwice h e same w = w
+fault_here context xs i x done (read.NoProfile why) h e same w = w

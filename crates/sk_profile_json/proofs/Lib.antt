@@ -14,3 +14,6 @@ pub mod Worked
 pub mod Narrowing
 pub mod PartingRows
 pub mod Seeing
+pub mod WorkedSlipRows
+pub mod Behind
+pub mod WorkedInspectedRows

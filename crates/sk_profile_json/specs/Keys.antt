@@ -1,5 +1,5 @@
 -- The keys of a profile's fields: config-linux.md of the OCI runtime specification, section "Seccomp", and what docker's
--- and podman's profiles have beside them.
+-- and podman's profiles have beside them; and those of documents with a profile in them.
 use Rattle.std.specs.Prelude.{ℕ, List, codes}
 use Rattle.sk_profile_json.specs.declared.fault.Field.{Field}
 use Rattle.sk_profile_json.specs.declared.fault.Field.TheVariants as field
@@ -32,3 +32,8 @@ key_of field.Index = codes "index"
 key_of field.Value = codes "value"
 key_of field.ValueTwo = codes "valueTwo"
 key_of field.Op = codes "op"
+key_of field.Linux = codes "linux"
+key_of field.Seccomp = codes "seccomp"
+key_of field.Spec = codes "spec"
+key_of field.HostConfig = codes "HostConfig"
+key_of field.SecurityOpt = codes "SecurityOpt"

@@ -7,6 +7,8 @@ use Rattle.sk_names.specs.declared.architecture.Architecture.{Architecture}
 use Rattle.sk_names.specs.declared.architecture.Architecture.TheVariants as architecture
 use Rattle.sk_names.specs.Architectures.{architectures, audit_of, text_of}
 use Rattle.sk_names.specs.Names.{name_on}
+use Rattle.sk_profile_json.specs.declared.fault.Absence.{Absence}
+use Rattle.sk_profile_json.specs.declared.fault.Absence.TheVariants as absence
 use Rattle.sk_profile_json.specs.declared.fault.Fault.{Fault}
 use Rattle.sk_profile_json.specs.declared.fault.Field.{Field}
 use Rattle.sk_profile_json.specs.declared.fault.Field.TheVariants as field
@@ -14,10 +16,13 @@ use Rattle.sk_profile_json.specs.declared.fault.Place.{Place}
 use Rattle.sk_profile_json.specs.declared.fault.Place.TheVariants as place
 use Rattle.sk_profile_json.specs.declared.fault.Wrong.{Wrong}
 use Rattle.sk_profile_json.specs.declared.fault.Wrong.TheVariants as wrong
+use Rattle.sk_profile_json.specs.declared.slip.Extra.{Extra}
+use Rattle.sk_profile_json.specs.declared.slip.Extra.TheVariants.{Comment, Comma}
+use Rattle.sk_profile_json.specs.declared.slip.Slip.{Slip}
 use Rattle.sk_profile_json.specs.Keys.{key_of}
 use Rattle.sk_profile.specs.declared.fault.Clash.{Clash}
 use Rattle.sk_profile_json.specs.declared.answer.Refusal.{Refusal}
-use Rattle.sk_profile_json.specs.declared.answer.Refusal.TheVariants.{NoMachine, NotText, NotJson, KeyTwice, Wrong as IsWrong, Clashes, TooLong}
+use Rattle.sk_profile_json.specs.declared.answer.Refusal.TheVariants.{NoMachine, NotText, NotJson, KeyTwice, NoProfile, Wrong as IsWrong, Clashes, TooLong}
 
 -- ---- where
 
@@ -131,10 +136,34 @@ clash_text it =
     both_text it.first it.second ++ codes " clash: both fit " ++ (shown_text (architecture_at it.arch it.number) it.number it.args
     ++ codes ", and they say different things")
 
+-- what no JSON has
+abbrev pub extra_text : Extra → List ℕ
+extra_text Comment = codes "a comment begins: JSON has none"
+extra_text Comma = codes "a comma stands before the bracket that closes: JSON has none there"
+
+abbrev pub slip_text : Slip → List ℕ
+slip_text slip =
+    codes "line " ++ (decimal slip.line ++ (codes ", column " ++ (decimal slip.column ++ (codes ": " ++ extra_text slip.extra))))
+
+abbrev pub not_json_text : Option Slip → List ℕ
+not_json_text None = codes "is no JSON: expected the JSON of a profile, no more than 128 deep"
+not_json_text (Some slip) = slip_text slip
+
+-- why docker was given no profile
+abbrev pub reason_text : Absence → List ℕ
+reason_text absence.Unsaid = codes "SecurityOpt names none, so docker's own holds, unless its daemon has another or the container is privileged"
+reason_text absence.Builtin = codes "SecurityOpt has seccomp=builtin, which is docker's own"
+reason_text absence.Unconfined = codes "SecurityOpt has seccomp=unconfined, so docker attaches no filter"
+reason_text absence.NotJson = codes "what SecurityOpt has behind seccomp= is no JSON"
+
+abbrev pub absence_text : Absence → List ℕ
+absence_text why = codes "no seccomp profile: " ++ reason_text why
+
 abbrev pub refusal_text : Refusal → List ℕ
 refusal_text NoMachine = codes "no filter is made of a profile for s390x: its arguments have their highest byte first"
 refusal_text NotText = codes "is no text in UTF-8: expected the JSON of a profile"
-refusal_text NotJson = codes "is no JSON: expected the JSON of a profile, no more than 128 deep"
+refusal_text (NotJson slip) = not_json_text slip
+refusal_text (NoProfile why) = absence_text why
 refusal_text KeyTwice = codes "a key comes twice in one object"
 refusal_text (IsWrong fault) = fault_text fault
 refusal_text (Clashes it) = clash_text it

@@ -1,8 +1,8 @@
 -- A whole profile: the object `seccomp` of config-linux.md of the OCI runtime specification, with what docker's and podman's
 -- profiles have beside it. `flags`, `listenerPath` and `listenerMetadata` say how a filter is attached, and nothing of what
 -- it answers.
-use Rattle.std.specs.Prelude.{ℕ, ◌≡◌, ◌+◌, Bool, true, false, if◌then◌else◌, List, [], ◌∷◌, ◌++◌, Option, Some, None, Result, Ok, Err, ⊤, All}
-use Rattle.std.specs.Option.{IsSomeAnd}
+use Rattle.std.specs.Prelude.{ℕ, ◌≡◌, ◌⊎◌, ◌+◌, Bool, true, false, if◌then◌else◌, List, [], ◌∷◌, ◌++◌, Option, Some, None, Result, Ok, Err, ⊤, All}
+use Rattle.std.specs.Option.{IsSomeAnd, option_and_then, option_or, unwrap_or}
 use Rattle.json.specs.Json.{Json, document}
 use Rattle.json.specs.Strict.{HasUniqueKeys}
 use Rattle.sk_insn.specs.declared.action.Action.{Action}
@@ -11,6 +11,8 @@ use Rattle.sk_profile.specs.Faults.{is_good}
 use Rattle.sk_profile.specs.Profiles.{Part, Profile}
 use Rattle.sk_profile_json.specs.declared.conditions.WrongArgument.{WrongArgument}
 use Rattle.sk_profile_json.specs.declared.context.Context.{Context}
+use Rattle.sk_profile_json.specs.declared.fault.Absence.{Absence}
+use Rattle.sk_profile_json.specs.declared.fault.Absence.TheVariants.{NotJson}
 use Rattle.sk_profile_json.specs.declared.fault.Fault.{Fault}
 use Rattle.sk_profile_json.specs.declared.fault.Field.{Field}
 use Rattle.sk_profile_json.specs.declared.fault.Field.TheVariants as field
@@ -26,8 +28,10 @@ use Rattle.sk_profile.specs.Sayings.{are_apart}
 use Rattle.sk_profile_json.specs.Conditions.{wrong_argument, conditions_of}
 use Rattle.sk_profile_json.specs.Contexts.{counts}
 use Rattle.sk_profile_json.specs.Entries.{Entry, Named, entry_of, all_named, is_told}
-use Rattle.sk_profile_json.specs.Fields.{result_then, list_in, wrong_keys}
+use Rattle.sk_profile_json.specs.Fields.{given, result_then, list_in, wrong_keys}
+use Rattle.sk_profile_json.specs.Inspected.{text_inside}
 use Rattle.sk_profile_json.specs.Parts.{parts_of}
+use Rattle.sk_profile_json.specs.Slips.{slip_of}
 
 -- ---- its entries
 
@@ -132,22 +136,63 @@ RulesAreGood = (context : Context) (j : Json) (profile : Profile) → profile_in
 abbrev pub IsFault : {A : Type 0} → Result A Fault → ReadFault → Type 0
 IsFault told (read.Profile fault) = told ≡ Err fault
 IsFault told read.Memory = ⊤
-IsFault told read.NotJson = ⊥
+IsFault told (read.NotJson slip) = ⊥
 IsFault told read.KeyTwice = ⊥
+IsFault told (read.NoProfile why) = ⊥
 
--- the text is a value without a key that comes twice in one object
-abbrev pub IsText : List ℕ → Json → Type 0
-IsText text j = (document text ≡ Some j) × HasUniqueKeys j
+-- the text is a document without a key that comes twice in one object
+abbrev pub IsDocument : List ℕ → Json → Type 0
+IsDocument text j = (document text ≡ Some j) × HasUniqueKeys j
 
+-- the configuration of a container has its profile as `seccomp` of `linux`: config-linux.md of the OCI runtime specification
+abbrev pub configured : Json → Option Json
+configured j = option_and_then (given field.Seccomp) (given field.Linux j)
+
+-- and a SeccompProfile of Kubernetes has it as `spec`: the Security Profiles Operator
+abbrev pub inside : Json → Option Json
+inside j = option_or (configured j) (given field.Spec j)
+
+-- a document that has none is one
+abbrev pub profile_of_document : Json → Json
+profile_of_document j = unwrap_or (inside j) j
+
+-- what docker's text of a profile says
+abbrev pub SaysInside : Context → List ℕ → Profile → Type 0
+SaysInside context inner profile = (j : Json) × IsDocument inner j × (profile_in context j ≡ Ok profile)
+
+abbrev pub SaysWithin : Context → Option (Result (List ℕ) Absence) → Json → Profile → Type 0
+SaysWithin context None whole profile = profile_in context (profile_of_document whole) ≡ Ok profile
+SaysWithin context (Some (Ok inner)) whole profile = SaysInside context inner profile
+SaysWithin context (Some (Err why)) whole profile = ⊥
+
+-- the profile that the text has is this one
 abbrev pub Says : Context → List ℕ → Profile → Type 0
-Says context text profile = (j : Json) × IsText text j × (profile_in context j ≡ Ok profile)
+Says context text profile = (whole : Json) × IsDocument text whole × SaysWithin context (text_inside whole) whole profile
+
+abbrev pub HasKeyTwice : List ℕ → Type 0
+HasKeyTwice text = IsSomeAnd (document text) (λ j. ¬ HasUniqueKeys j)
 
 abbrev pub IsTextFault : List ℕ → ReadFault → Type 0
 IsTextFault text (read.Profile fault) = ⊥
 IsTextFault text read.Memory = ⊤
-IsTextFault text read.NotJson = document text ≡ None
-IsTextFault text read.KeyTwice = IsSomeAnd (document text) (λ j. ¬ HasUniqueKeys j)
+IsTextFault text (read.NotJson slip) = (document text ≡ None) × (slip ≡ slip_of text)
+IsTextFault text read.KeyTwice = HasKeyTwice text
+IsTextFault text (read.NoProfile why) = ⊥
 
+-- of the text of a profile that is docker's
+abbrev pub IsFaultInside : Context → List ℕ → ReadFault → Type 0
+IsFaultInside context inner (read.Profile fault) = (j : Json) × IsDocument inner j × (profile_in context j ≡ Err fault)
+IsFaultInside context inner read.Memory = ⊤
+IsFaultInside context inner (read.NotJson slip) = ⊥
+IsFaultInside context inner read.KeyTwice = HasKeyTwice inner
+IsFaultInside context inner (read.NoProfile why) = (why ≡ NotJson) × (document inner ≡ None)
+
+abbrev pub IsFaultWithin : Context → Option (Result (List ℕ) Absence) → Json → ReadFault → Type 0
+IsFaultWithin context None whole fault = IsFault (profile_in context (profile_of_document whole)) fault
+IsFaultWithin context (Some (Ok inner)) whole fault = IsFaultInside context inner fault
+IsFaultWithin context (Some (Err why)) whole fault = fault ≡ read.NoProfile why
+
+-- the text is no document, or no profile is within, or a wrong one
 abbrev pub IsReadFault : Context → List ℕ → ReadFault → Type 0
-IsReadFault context text (read.Profile fault) = (j : Json) × IsText text j × (profile_in context j ≡ Err fault)
-IsReadFault context text fault = IsTextFault text fault
+IsReadFault context text fault =
+    IsTextFault text fault ⊎ ((whole : Json) × IsDocument text whole × IsFaultWithin context (text_inside whole) whole fault)

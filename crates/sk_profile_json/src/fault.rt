@@ -2,6 +2,7 @@
 ghost use Rattle.std.specs.Prelude.{◌≡◌};
 ghost use Rattle.sk_profile_json.specs.Keys.{key_of};
 
+use crate::slip::Slip;
 use std::alloc::{AllocError, AllocFailed};
 
 /// A field of a profile, of one of its entries, or of what these have in them.
@@ -34,6 +35,11 @@ pub enum Field {
     Value,
     ValueTwo,
     Op,
+    Linux,
+    Seccomp,
+    Spec,
+    HostConfig,
+    SecurityOpt,
 }
 
 /// What is wrong with an object of a profile.
@@ -84,6 +90,11 @@ impl Field {
             Field::Value => "value",
             Field::ValueTwo => "valueTwo",
             Field::Op => "op",
+            Field::Linux => "linux",
+            Field::Seccomp => "seccomp",
+            Field::Spec => "spec",
+            Field::HostConfig => "HostConfig",
+            Field::SecurityOpt => "SecurityOpt",
         }
     }
 }
@@ -106,13 +117,28 @@ pub struct Fault {
     pub wrong: Wrong,
 }
 
+/// Why what `docker inspect` prints of a container has no profile in it.
+#[derive(Clone, Copy, Debug, Drop, PartialEq, Eq)]
+pub enum Absence {
+    /// No option says anything of seccomp.
+    Unsaid,
+    /// The option is `seccomp=builtin`.
+    Builtin,
+    /// The option is `seccomp=unconfined`.
+    Unconfined,
+    /// What the option says is no JSON.
+    NotJson,
+}
+
 /// Why no profile was read.
 #[derive(Clone, Copy, Debug, Drop, PartialEq, Eq)]
 pub enum ReadFault {
-    /// The text is no JSON, or nests deeper than is read.
-    NotJson,
+    /// The text is no JSON, or nests deeper than is read: this stands in it that no JSON has.
+    NotJson(Option<Slip>),
     /// A key comes twice in one object.
     KeyTwice,
+    /// The text is what `docker inspect` prints of a container without a profile.
+    NoProfile(Absence),
     /// This is wrong with the profile.
     Profile(Fault),
     /// Memory was refused.

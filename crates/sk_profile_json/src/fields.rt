@@ -80,8 +80,9 @@ pub(crate) fn items_or_none<'v, 'a>(items: Result<&'v [Value<'a>], Wrong>) -> &'
     }
 }
 
+/// The items of a value that is a list.
 #[tactic(auto, using(crate::proofs::Reading::items_of_array))]
-fn items_of<'v, 'a>(value: &'v Value<'a>) -> Option<&'v [Value<'a>]>
+pub(crate) fn items_of<'v, 'a>(value: &'v Value<'a>) -> Option<&'v [Value<'a>]>
     ensures items { option_map (λ items. map value_view items.now) result ≡ option_map list_of (as_array (value_view value.now)) }
 {
     if let Value::Array(items) = value {

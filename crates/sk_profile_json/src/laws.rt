@@ -1,5 +1,7 @@
 //! Laws of profiles that are read. No program calls these functions: the contract of each is the law.
+ghost use Rattle.sk_profile_json.specs.WorkedInspected.{WorkedInspected};
 ghost use Rattle.sk_profile_json.specs.WorkedProfiles.{WorkedProfiles};
+ghost use Rattle.sk_profile_json.specs.WorkedSlips.{WorkedSlips};
 ghost use Rattle.sk_profile_json.specs.Wholes.{RulesAreGood};
 ghost use Rattle.sk_profile_json.specs.PartingTexts.{NarrowMasksCompareLow, OperatorsAreRead};
 ghost use Rattle.sk_profile_json.specs.WorkedPartings.{WorkedPartings};
@@ -7,6 +9,18 @@ ghost use Rattle.sk_profile_json.specs.WorkedPartings.{WorkedPartings};
 /// The definition gives the profiles and the faults that were worked out by hand.
 pub fn worked_profiles()
     ensures law { WorkedProfiles }
+{}
+
+/// The slips of texts that are no JSON are those that were worked out by hand.
+#[tactic(auto, using(crate::proofs::WorkedSlipRows::worked_slips))]
+pub fn worked_slips()
+    ensures law { WorkedSlips }
+{}
+
+/// The profiles in what docker prints of containers are those that were worked out by hand.
+#[tactic(auto, using(crate::proofs::WorkedInspectedRows::worked_inspected))]
+pub fn worked_inspected()
+    ensures law { WorkedInspected }
 {}
 
 /// The rules of a profile that is read have conditions on six arguments, each on another one.

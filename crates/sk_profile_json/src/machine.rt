@@ -87,7 +87,7 @@ impl Machine {
 }
 
 /// What the other fields of a profile call an architecture.
-pub(crate) fn scmp_name(architecture: Architecture) -> &'static str
+pub fn scmp_name(architecture: Architecture) -> &'static str
     ensures name { result.now ≡ scmp_name architecture }
 {
     match architecture {

@@ -3,10 +3,14 @@ ghost use Rattle.std.specs.Prelude.{◌≡◌, Ok, IfOk};
 ghost use Rattle.json.specs.Value.{value_view};
 ghost use Rattle.sk_profile.specs.Views.{profile_of};
 ghost use Rattle.sk_profile_json.specs.Wholes.{AreGood, profile_in};
-ghost use Rattle.sk_profile_json.specs.Made.{IsMade, IsMadeOfBytes, IsMadeOfText, IsMadeOf, Builds};
+ghost use Rattle.sk_profile_json.specs.Inspected.{text_inside};
+ghost use Rattle.sk_profile_json.specs.Made.{IsMade, IsMadeOfBytes, IsMadeOfText, IsMadeOf, IsMadeWithin, Builds};
 
 use crate::answer::{Made, Refusal};
+use crate::document::profile_of_document;
 use crate::image::image_of;
+use crate::inside::made_inside;
+use crate::inspected::text_inside;
 use crate::note::notes_of;
 use crate::{Context, ReadFault, profile_in, value_of};
 use json::{Scratch, Value};
@@ -49,15 +53,30 @@ fn made_of_text(
 {
     let mut scratch = Scratch::new(alloc);
     match value_of(alloc, text, &mut scratch) {
-        Ok(value) => made_of_value(alloc, context, &value),
-        Err(ReadFault::NotJson) => Ok(Err(Refusal::NotJson)),
+        Ok(document) => made_of_document(alloc, context, &document),
+        Err(ReadFault::NotJson(slip)) => Ok(Err(Refusal::NotJson(slip))),
         Err(ReadFault::KeyTwice) => Ok(Err(Refusal::KeyTwice)),
-        Err(ReadFault::Profile(_)) => unreachable!(),
+        Err(ReadFault::Profile(_)) | Err(ReadFault::NoProfile(_)) => unreachable!(),
         Err(ReadFault::Memory) => Err(AllocError),
     }
 }
 
-fn made_of_value(
+fn made_of_document(
+    alloc: Global,
+    context: &Context<'_>,
+    document: &Value<'_>,
+) -> Result<Result<Made, Refusal>, AllocError>
+    ensures made { IfOk result (IsMadeWithin context.now (text_inside (value_view document.now)) (value_view document.now)) }
+{
+    match text_inside(document) {
+        None => made_of_value(alloc, context, profile_of_document(document)),
+        Some(Ok(text)) => made_inside(alloc, context, text),
+        Some(Err(why)) => Ok(Err(Refusal::NoProfile(why))),
+    }
+}
+
+/// What a value is made into.
+pub(crate) fn made_of_value(
     alloc: Global,
     context: &Context<'_>,
     value: &Value<'_>,
@@ -68,7 +87,9 @@ fn made_of_value(
         Ok(profile) => made_of_profile(alloc, context, value, &profile),
         Err(ReadFault::Profile(fault)) => Ok(Err(Refusal::Wrong(fault))),
         Err(ReadFault::Memory) => Err(AllocError),
-        Err(ReadFault::NotJson) | Err(ReadFault::KeyTwice) => unreachable!(),
+        Err(ReadFault::NotJson(_)) | Err(ReadFault::KeyTwice) | Err(ReadFault::NoProfile(_)) => {
+            unreachable!()
+        }
     }
 }
 

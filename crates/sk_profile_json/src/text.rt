@@ -2,10 +2,10 @@
 ghost use Rattle.std.specs.Prelude.{◌≡◌, ◌+◌, ◌++◌, IfOk, OnOk, codes, flat_map, string_bytes};
 ghost use Rattle.std.specs.Fmt.{decimal};
 ghost use Rattle.std.specs.Option.{option_map};
-ghost use Rattle.sk_profile_json.specs.Texts.{refusal_text, clash_text, architecture_at, by_audit, is_of_x32, is_x86_64, name_at, of_text, shown_text, argument_text, arguments_text, both_text, call_text, fault_text, place_text, wrong_text, entry_text, keys_text, expected_text, contradiction_text};
+ghost use Rattle.sk_profile_json.specs.Texts.{refusal_text, not_json_text, slip_text, extra_text, absence_text, reason_text, clash_text, architecture_at, by_audit, is_of_x32, is_x86_64, name_at, of_text, shown_text, argument_text, arguments_text, both_text, call_text, fault_text, place_text, wrong_text, entry_text, keys_text, expected_text, contradiction_text};
 
 use crate::answer::Refusal;
-use crate::{Fault, Field, Place, Wrong};
+use crate::{Absence, Extra, Fault, Field, Place, Slip, Wrong};
 use sk_names::{Architecture, name};
 use sk_profile::Clash;
 use std::alloc::{AllocError, Global};
@@ -25,10 +25,9 @@ pub fn refusal_text(alloc: Global, refusal: Refusal) -> Result<String, AllocErro
         Refusal::NotText => {
             text.push_str("is no text in UTF-8: expected the JSON of a profile")?;
         }
-        Refusal::NotJson => {
-            text.push_str("is no JSON: expected the JSON of a profile, no more than 128 deep")?;
-        }
+        Refusal::NotJson(slip) => push_not_json(&mut text, slip)?,
         Refusal::KeyTwice => text.push_str("a key comes twice in one object")?,
+        Refusal::NoProfile(why) => push_absence(&mut text, why)?,
         Refusal::Wrong(fault) => push_fault(&mut text, fault)?,
         Refusal::Clashes(it) => push_clash(&mut text, it)?,
         Refusal::TooLong => {
@@ -36,6 +35,58 @@ pub fn refusal_text(alloc: Global, refusal: Refusal) -> Result<String, AllocErro
         }
     }
     Ok(text)
+}
+
+fn push_not_json(text: &mut String, slip: Option<Slip>) -> Result<(), AllocError>
+    ensures text { OnOk result (string_bytes text.new ≡ string_bytes text.old ++ not_json_text slip) }
+{
+    match slip {
+        None => text.push_str("is no JSON: expected the JSON of a profile, no more than 128 deep"),
+        Some(slip) => push_slip(text, slip),
+    }
+}
+
+fn push_slip(text: &mut String, slip: Slip) -> Result<(), AllocError>
+    ensures text { OnOk result (string_bytes text.new ≡ string_bytes text.old ++ slip_text slip) }
+{
+    let Slip {
+        line,
+        column,
+        extra,
+    } = slip;
+    write!(text, "line {line}, column {column}: ")?;
+    push_extra(text, extra)
+}
+
+fn push_extra(text: &mut String, extra: Extra) -> Result<(), AllocError>
+    ensures text { OnOk result (string_bytes text.new ≡ string_bytes text.old ++ extra_text extra) }
+{
+    match extra {
+        Extra::Comment => text.push_str("a comment begins: JSON has none"),
+        Extra::Comma => {
+            text.push_str("a comma stands before the bracket that closes: JSON has none there")
+        }
+    }
+}
+
+fn push_absence(text: &mut String, why: Absence) -> Result<(), AllocError>
+    ensures text { OnOk result (string_bytes text.new ≡ string_bytes text.old ++ absence_text why) }
+{
+    text.push_str("no seccomp profile: ")?;
+    text.push_str(reason_text(why))
+}
+
+fn reason_text(why: Absence) -> &'static str
+    ensures text { result.now ≡ reason_text why }
+{
+    match why {
+        Absence::Unsaid => {
+            "SecurityOpt names none, so docker's own holds, unless its daemon has another or the container is privileged"
+        }
+        Absence::Builtin => "SecurityOpt has seccomp=builtin, which is docker's own",
+        Absence::Unconfined => "SecurityOpt has seccomp=unconfined, so docker attaches no filter",
+        Absence::NotJson => "what SecurityOpt has behind seccomp= is no JSON",
+    }
 }
 
 fn push_clash(text: &mut String, it: Clash) -> Result<(), AllocError>
