@@ -11,7 +11,7 @@ use Rattle.sk_insn.specs.Record.{IsNative}
 use Rattle.sk_survey.specs.Answers.{IsCallOf}
 use Rattle.sk_conditions.specs.declared.numbers.Numbers.{Numbers}
 use Rattle.sk_conditions.specs.declared.standing.Relation.{Relation}
-use Rattle.sk_conditions.specs.declared.standing.Relation.TheVariants.{Same, AsStrict}
+use Rattle.sk_conditions.specs.declared.standing.Relation.TheVariants.{Same, AsStrict, Expected}
 use Rattle.sk_filter.specs.Verdict.{precedence_of, verdict_of}
 use Rattle.sk_when.specs.declared.diff_engine.Finding.TheVariants as finding
 use Rattle.sk_when.specs.declared.piece.Calls.{Calls}
@@ -20,7 +20,7 @@ use Rattle.sk_when.specs.declared.piece.Outcome.TheVariants.{Undecided, Apart}
 use Rattle.sk_when.specs.declared.piece.Part.{Part}
 use Rattle.sk_when.specs.declared.piece.Piece.{Piece}
 use Rattle.sk_when.specs.Diffs.{HoldsOnEveryCall, FailsOnACall, FollowedIsDecided}
-use Rattle.sk_conditions.specs.Comparing.{as_it_ends, relates}
+use Rattle.sk_conditions.specs.Comparing.{as_it_ends, is_reflexive, relates}
 use Rattle.sk_when.specs.Pieces.{AreCompared, AreDecided, Cover, Holds, HoldsOf, IsShown, IsSo, finding_of, is_apart, is_decided, may_fail, shows_call, stands_on, has_parts}
 
 neither : (a b : Bool) → (a || b) ≡ false → (a ≡ false) × (b ≡ false)
@@ -142,18 +142,21 @@ followed_is_decided naming architecture relation old new finding text follows fo
 at_most_itself : (a : ℤ) → int_le a a ≡ true
 at_most_itself a = grind (arith, ints)
 
-pub relates_itself : (relation : Relation) (value : ℕ) → relates relation value value ≡ true
-relates_itself Same value = eq-eqb value value refl
-relates_itself AsStrict value = at_most_itself (precedence_of (as_it_ends value))
+pub relates_itself : (relation : Relation) (value : ℕ) → is_reflexive relation ≡ true → relates relation value value ≡ true
+relates_itself Same value reflexive = eq-eqb value value refl
+relates_itself AsStrict value reflexive = at_most_itself (precedence_of (as_it_ends value))
+relates_itself Expected value reflexive = absurd (true≢false (sym reflexive))
 
-stands_beside_itself : (relation : Relation) (programs : List (List Insn)) (call : Record) → stands_on relation programs programs call ≡ true
-stands_beside_itself relation programs call = relates_itself relation (verdict_of programs call)
+stands_beside_itself : (relation : Relation) → is_reflexive relation ≡ true → (programs : List (List Insn)) (call : Record)
+    → stands_on relation programs programs call ≡ true
+stands_beside_itself relation reflexive programs call = relates_itself relation (verdict_of programs call) reflexive
 
-pub nothing_apart : (relation : Relation) (programs : List (List Insn)) (piece : Piece) → piece.parts.items ≡ [] → Holds relation programs programs piece
-nothing_apart relation programs piece none =
+pub nothing_apart : (relation : Relation) → is_reflexive relation ≡ true → (programs : List (List Insn)) (piece : Piece) → piece.parts.items ≡ []
+    → Holds relation programs programs piece
+nothing_apart relation reflexive programs piece none =
     subst (λ (parts : List Part). All (HoldsOf relation programs programs piece.numbers) parts × Cover relation programs programs piece.numbers parts) (sym none) (
       All-nil (HoldsOf relation programs programs piece.numbers),
-      λ call within differs. absurd (true≢false (sym (stands_beside_itself relation programs call) ∙ differs)),
+      λ call within differs. absurd (true≢false (sym (stands_beside_itself relation reflexive programs call) ∙ differs)),
     )
 
 -- of the same filters no call is shown, and so there is nothing open
@@ -162,13 +165,13 @@ finding_of_none true b none still = absurd (true≢false none)
 finding_of_none false true none still = absurd (true≢false still)
 finding_of_none false false none still = refl
 
-pub same_holds : (relation : Relation) (programs : List (List Insn)) (pieces : List Piece) → AreCompared relation programs programs 0 4294967296 pieces
-    → All AreDecided pieces → finding_of pieces ≡ finding.Holds
-same_holds relation programs pieces compared shows = finding_of_none (list_any is_apart pieces) (list_any may_fail pieces) (none (list_any is_apart pieces) refl) (never (list_any may_fail pieces) refl) where
+pub same_holds : (relation : Relation) → is_reflexive relation ≡ true → (programs : List (List Insn)) (pieces : List Piece)
+    → AreCompared relation programs programs 0 4294967296 pieces → All AreDecided pieces → finding_of pieces ≡ finding.Holds
+same_holds relation reflexive programs pieces compared shows = finding_of_none (list_any is_apart pieces) (list_any may_fail pieces) (none (list_any is_apart pieces) refl) (never (list_any may_fail pieces) refl) where
   none : (b : Bool) → list_any is_apart pieces ≡ b → list_any is_apart pieces ≡ false
   none false is = is
   none true is = let call = finds relation programs programs pieces 0 4294967296 compared is in
-      absurd (true≢false (sym (stands_beside_itself relation programs call.0) ∙ call.3))
+      absurd (true≢false (sym (stands_beside_itself relation reflexive programs call.0) ∙ call.3))
 
   never : (b : Bool) → list_any may_fail pieces ≡ b → list_any may_fail pieces ≡ false
   never false is = is

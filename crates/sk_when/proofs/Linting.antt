@@ -210,7 +210,7 @@ strict_here old new piece holds quiet call within = by_test (stands_on Same old 
   by_test : (b : Bool) → stands_on Same old new call ≡ b → relates AsStrict (verdict_of old call) (verdict_of new call) ≡ true
   by_test true e =
       let same = eqb-true (verdict_of old call) (verdict_of new call) e in
-      ap (λ n. relates AsStrict n (verdict_of new call)) same ∙ relates_itself AsStrict (verdict_of new call)
+      ap (λ n. relates AsStrict n (verdict_of new call)) same ∙ relates_itself AsStrict (verdict_of new call) refl
   by_test false e =
       strict_among Same old new piece.numbers piece.parts.items holds.0 quiet.0 quiet.2 call within (holds.1 call within e)
 
@@ -266,7 +266,7 @@ nowhere_looser programs valid all naming remark is_spent text notes it call nati
 
   by_test : (b : Bool) → is_asked programs call.nr ≡ b → relates AsStrict (verdict_of programs (taken_as call)) (verdict_of programs call) ≡ true
   by_test false e =
-      ap (λ n. relates AsStrict n (verdict_of programs call)) (unasked programs valid call e) ∙ relates_itself AsStrict (verdict_of programs call)
+      ap (λ n. relates AsStrict n (verdict_of programs call)) (unasked programs valid call e) ∙ relates_itself AsStrict (verdict_of programs call) refl
   by_test true e =
       let found = piece_at (IsLinted programs) IsQuiet AreQuiet (λ piece pieces quiet. (quiet_head piece pieces quiet, quiet_tail piece pieces quiet))
       it.pieces it.linted.holds quiet call.nr (it.linted.each call.nr e) in

@@ -1,5 +1,5 @@
 -- Each line of a row is met by a call, and some call meets none.
-use Rattle.std.proofs.Common.{◌≡◌, ℕ, ◌<◌, ◌≤◌, ◌||◌, ◌⊎◌, inl, inr, Bool, true, false, if◌then◌else◌, List, [], ◌∷◌, length, get_or, map, filter, Option, Some, None, sym, ap, subst, ◌∙◌, refl, arith}
+use Rattle.std.proofs.Common.{◌≡◌, ◌≢◌, ℕ, ◌<◌, ◌≤◌, ◌||◌, ◌⊎◌, inl, inr, Bool, true, false, if◌then◌else◌, List, [], ◌∷◌, length, get_or, map, filter, Option, Some, None, sym, ap, subst, ◌∙◌, refl, arith}
 use Rattle.std.specs.List.{All, list_any}
 use Rattle.std.proofs.lemmas.Bool.{eq-eqb, true≢false}
 use Rattle.std.proofs.lemmas.List.Elements.{All-cons, All-head, All-nil, All-tail}
@@ -15,7 +15,8 @@ use Rattle.sk_terms.specs.declared.lines.Line.{Line}
 use Rattle.sk_terms.specs.Lines.{IsMetBy, IsValueOf, meets_line, same_end, shown, told_by}
 use Rattle.sk_terms.specs.Numbers.{TellsNoWhole}
 use Rattle.sk_when.specs.declared.row.ConditionalRow.{ConditionalRow}
-use Rattle.sk_when.specs.Lines.{IsMet}
+use Rattle.sk_when.specs.Lines.{IsExact, IsMet, or_else}
+use Rattle.sk_when.specs.Telling.{FollowedRowsHaveVerdicts, HasVerdicts}
 
 -- of all lines that a call meets the values are the one that is told, if it is told
 abbrev AtMost : List (Option ℕ) → Option ℕ → Type 0
@@ -120,6 +121,39 @@ row_met programs told calls all d within agrees every left met met' heaviest num
           (heaviest (some_lines all some (d some) (every some)));
       numbers = numbers;
     }
+
+-- of one call each line that it meets tells what is told of it
+of_one_call : (lines : List Line) (call : Record) (d : Option ℕ) → AtMost (told_by lines call) d → All (λ line. meets_line line call ≡ true → d ≡ line.value) lines
+of_one_call [] call d most = All-nil (λ line. meets_line line call ≡ true → d ≡ line.value)
+of_one_call (line ∷ lines) call d most =
+    let first = head_of line lines call d (meets_line line call) refl (subst (λ xs. AtMost xs d) (one_line line lines call) most) in
+    All-cons (λ line. meets_line line call ≡ true → d ≡ line.value) line lines first.0 (of_one_call lines call d first.1)
+
+told_once : (values : List (Option ℕ)) (otherwise d : Option ℕ) → or_else values otherwise ≡ d ∷ [] → AtMost values d
+told_once [] otherwise d e = inl refl
+told_once (value ∷ values) otherwise d e = inr e
+
+some_verdict : (told : Option ℕ) (verdict : ℕ) → Some verdict ≡ told → told ≢ None
+some_verdict None verdict e = cc
+some_verdict (Some value) verdict e = λ none. cc
+
+-- each line, and `else`, tells the verdict on a call, and so a verdict
+have_verdicts : (programs : List (List Insn)) (told : ConditionalRow) → IsExact programs told → IsMet programs told → HasVerdicts told
+have_verdicts programs told exact met = (
+  λ k other less.
+      let it = met.lines k other less in
+      let verdict = verdict_of programs it.0 in
+      some_verdict (get_or told.lines.items k other).value verdict
+      (of_one_call told.lines.items it.0 (Some verdict) (told_once (told_by told.lines.items it.0) told.otherwise (Some verdict) (exact it.0 it.1)) k other less it.2),
+  let it = met.otherwise in
+      let verdict = verdict_of programs it.0 in
+      let same : told.otherwise ∷ [] ≡ Some verdict ∷ [] = sym (ap (λ values. or_else values told.otherwise) it.2) ∙ exact it.0 it.1 in
+      some_verdict told.otherwise verdict cc,
+)
+
+pub followed_rows_have_verdicts : FollowedRowsHaveVerdicts
+followed_rows_have_verdicts architecture programs rows follows told k other less =
+    have_verdicts programs (get_or rows k other) (told.exact follows refl k other less) (told.met k other less)
 
 -- a row with one verdict
 only_one : (verdict value : ℕ) (answers : Option (List ℕ)) → answers ≡ Some (value ∷ []) → IsAmong verdict answers → value ≡ verdict

@@ -15,7 +15,7 @@ use Rattle.sk_terms.specs.Text.{argument_text}
 use Rattle.sk_filter.specs.VerdictText.{verdict_text}
 use Rattle.sk_filter.specs.Errors.{error_named}
 use Rattle.sk_when.specs.DiffText.{arguments_text, call_text, record_text, verdicts_text, head_text}
-use Rattle.sk_when.specs.WorkedDiffs.{CallsWork, DifferencesWork, PartsWork}
+use Rattle.sk_when.specs.WorkedDiffs.{CallsWork, DifferencesWork, ExpectationsWork, PartsWork}
 
 pub calls_work : CallsWork
 unfolding digits encode_with call_text record_text arguments_text argument_text call_with_constants all_names all_numbers form_of holds name_in ones_in name_of name_at names.name_in name_on runs_of
@@ -25,13 +25,34 @@ pub differences_work : DifferencesWork
 unfolding digits action_of operation_of verdict_text error_named verdicts_text head_text name_of name_on
 differences_work = record {
   verdicts = refl;
+  as_strict = refl;
   unknown = refl;
   stricter = refl;
+  logged = refl;
   looser = refl;
+  looser_too = refl;
   neither = refl;
+  ended = refl;
+  left_open = refl;
   told_apart = refl;
+  told_apart_too = refl;
   single = refl;
   several = refl;
+}
+
+pub expectations_work : ExpectationsWork
+unfolding digits action_of operation_of verdict_text error_named verdicts_text
+expectations_work = record {
+  refused = refl;
+  performed = refl;
+  anything = refl;
+  verdict = refl;
+  unknown = refl;
+  looser = refl;
+  stricter = refl;
+  other_verdict = refl;
+  left_open = refl;
+  everywhere = refl;
 }
 
 pub parts_work : PartsWork

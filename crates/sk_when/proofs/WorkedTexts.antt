@@ -8,24 +8,20 @@ use Rattle.sk_insn.specs.Actions.{action_of}
 use Rattle.sk_insn.specs.Operations.{operation_of}
 use Rattle.sk_names.specs.X86_64.{name_of}
 use Rattle.sk_names.specs.Names.{name_on}
-use Rattle.sk_arguments.specs.declared.naming.Naming.TheVariants as naming
 use Rattle.sk_arguments.specs.Naming.{call_with_constants}
-use Rattle.sk_names.specs.declared.architecture.Architecture.TheVariants as architecture
 use Rattle.sk_terms.specs.Text.{argument_text}
-use Rattle.sk_when.specs.Naming.{names_of}
 use Rattle.sk_filter.specs.VerdictText.{verdict_text}
 use Rattle.sk_filter.specs.Errors.{error_named}
 use Rattle.sk_conditions.specs.declared.numbers.Numbers.{Numbers}
-use Rattle.sk_when.specs.declared.diff_text.Kind.{Kind}
-use Rattle.sk_when.specs.declared.diff_text.Kind.TheVariants.{Looser, Other, Undecided}
+use Rattle.sk_conditions.specs.declared.standing.Relation.{Relation}
+use Rattle.sk_conditions.specs.declared.standing.Relation.TheVariants.{Same, AsStrict, Expected}
 use Rattle.sk_when.specs.declared.diff_engine.Finding.{Finding}
 use Rattle.sk_when.specs.declared.diff_engine.Finding.TheVariants as finding
 use Rattle.sk_when.specs.declared.piece.Part.{Part}
 use Rattle.sk_when.specs.declared.piece.Piece.{Piece}
-use Rattle.sk_when.specs.DiffText.{arguments_text, call_text, verdicts_text, head_text, kind_text, part_text, piece_text, differences_text, record_text}
+use Rattle.sk_when.specs.DiffText.{arguments_text, call_text, verdicts_text, head_text, has_kind, heading, kind_text, kinds, part_text, piece_text, section_text, differences_text, record_text}
 use Rattle.sk_when.specs.Pieces.{shows_call, has_parts, finding_of}
-use Rattle.sk_when.specs.WorkedDiffs.{clone}
-use Rattle.sk_when.specs.WorkedTexts.{ColoursWork, OrderWorks, FindingsWork, HasParts, undecided, stricter, looser}
+use Rattle.sk_when.specs.WorkedTexts.{ColoursWork, OrderWorks, FindingsWork, HasParts, names, told, undecided, otherwise, stricter, looser, unexpected}
 
 pub colours_work : ColoursWork
 colours_work = record { runs = refl; kills = refl; others = refl }
@@ -33,33 +29,73 @@ colours_work = record { runs = refl; kills = refl; others = refl }
 abbrev clone_numbers : Numbers
 clone_numbers = record { first = 56; last = 56 }
 
--- the parts of one kind
-abbrev of_kind : Numbers → List Part → Kind → List ℕ
-of_kind numbers parts kind = flat_map (kind_text (names_of naming.Numbers architecture.X86_64) kind numbers) parts
-
-abbrev text_of_parts : Numbers → List Part → List ℕ
-text_of_parts numbers parts = (of_kind numbers parts Looser ++ []) ++ ((of_kind numbers parts Other ++ []) ++ (of_kind numbers parts Undecided ++ []))
-
-text_is : (piece : Piece) → differences_text (names_of naming.Numbers architecture.X86_64) (piece ∷ []) ≡ text_of_parts piece.numbers piece.parts.items
-unfolding piece_text
-text_is piece = refl
-
 numbers_are : (parts : List Part) (piece : Piece) → HasParts parts piece → piece.numbers ≡ clone_numbers
 numbers_are parts piece has = λ i. record { first = has.first i; last = has.last i }
 
-written : text_of_parts clone_numbers (undecided ∷ stricter ∷ looser ∷ [])
-    ≡ codes "56 clone: errno/1 EPERM -> allow\n" ++ (record_text (names_of naming.Numbers architecture.X86_64) clone
-    ++ (codes "56 clone: allow -> errno/1 EPERM\n" ++ (record_text (names_of naming.Numbers architecture.X86_64) clone ++ codes "56 clone: undecided\n")))
+-- the text of one piece with these parts, and of two
+abbrev text_of_one : Relation → Numbers → List Part → List ℕ
+text_of_one relation numbers parts =
+    flat_map (λ kind.
+    if list_any (has_kind relation kind) parts || false
+    then heading relation kind ++ (flat_map (kind_text relation names kind numbers) parts ++ [])
+    else []) kinds
+
+abbrev text_of_two : Relation → Numbers → List Part → Numbers → List Part → List ℕ
+text_of_two relation numbers parts others other_parts =
+    flat_map (λ kind.
+    if list_any (has_kind relation kind) parts || (list_any (has_kind relation kind) other_parts || false)
+    then heading relation kind
+    ++ (flat_map (kind_text relation names kind numbers) parts ++ (flat_map (kind_text relation names kind others) other_parts ++ []))
+    else []) kinds
+
+one_is : (relation : Relation) (piece : Piece)
+    → differences_text relation names (piece ∷ []) ≡ text_of_one relation piece.numbers piece.parts.items
+unfolding piece_text section_text
+one_is relation piece = refl
+
+two_are : (relation : Relation) (one other : Piece)
+    → differences_text relation names (one ∷ other ∷ []) ≡ text_of_two relation one.numbers one.parts.items other.numbers other.parts.items
+unfolding piece_text section_text
+two_are relation one other = refl
+
+one_has : (relation : Relation) (parts : List Part) (piece : Piece) → HasParts parts piece
+    → differences_text relation names (piece ∷ []) ≡ text_of_one relation clone_numbers parts
+one_has relation parts piece has =
+    one_is relation piece
+    ∙ ap (λ numbers. text_of_one relation numbers piece.parts.items) (numbers_are parts piece has)
+    ∙ ap (text_of_one relation clone_numbers) has.items
+
+two_have : (relation : Relation) (parts others : List Part) (one other : Piece) → HasParts parts one → HasParts others other
+    → differences_text relation names (one ∷ other ∷ []) ≡ text_of_two relation clone_numbers parts clone_numbers others
+two_have relation parts others one other has has' =
+    two_are relation one other
+    ∙ ap (λ numbers. text_of_two relation numbers one.parts.items other.numbers other.parts.items) (numbers_are parts one has)
+    ∙ ap (λ numbers. text_of_two relation clone_numbers one.parts.items numbers other.parts.items) (numbers_are others other has')
+    ∙ ap (λ ps. text_of_two relation clone_numbers ps clone_numbers other.parts.items) has.items
+    ∙ ap (text_of_two relation clone_numbers parts clone_numbers) has'.items
+
+all_written : text_of_two Same clone_numbers (undecided ∷ otherwise ∷ stricter ∷ []) clone_numbers (stricter ∷ looser ∷ [])
+    ≡ told (codes "looser:\n56 clone: errno/1 EPERM -> allow\n")
+    ++ (told (codes "stricter:\n56 clone: allow -> errno/1 EPERM\n") ++ (told (codes "56 clone: allow -> errno/1 EPERM\n")
+    ++ (told (codes "other:\n56 clone: errno/38 ENOSYS -> errno/1 EPERM\n") ++ codes "undecided:\n56 clone: undecided\n")))
 unfolding digits encode_with action_of operation_of verdict_text error_named verdicts_text head_text part_text kind_text record_text call_text arguments_text argument_text call_with_constants name_of name_on
-written = refl
+all_written = refl
+
+looser_written : text_of_one AsStrict clone_numbers (looser ∷ []) ≡ told (codes "looser:\n56 clone: errno/1 EPERM -> allow\n")
+unfolding digits encode_with action_of operation_of verdict_text error_named verdicts_text head_text part_text kind_text record_text call_text arguments_text argument_text call_with_constants name_of name_on
+looser_written = refl
+
+expected_written : text_of_one Expected clone_numbers (undecided ∷ unexpected ∷ [])
+    ≡ told (codes "56 clone: expected refused -> allow\n") ++ codes "56 clone: undecided\n"
+unfolding digits encode_with action_of operation_of verdict_text error_named verdicts_text head_text part_text kind_text record_text call_text arguments_text argument_text call_with_constants name_of name_on
+expected_written = refl
 
 pub order_works : OrderWorks
 order_works = record {
-  text = λ piece has.
-      text_is piece
-      ∙ ap (λ numbers. text_of_parts numbers piece.parts.items) (numbers_are (undecided ∷ stricter ∷ looser ∷ []) piece has)
-      ∙ ap (text_of_parts clone_numbers) has.items
-      ∙ written;
+  all = λ one other has has'.
+      two_have Same (undecided ∷ otherwise ∷ stricter ∷ []) (stricter ∷ looser ∷ []) one other has has' ∙ all_written;
+  as_strict = λ piece has. one_has AsStrict (looser ∷ []) piece has ∙ looser_written;
+  expected = λ piece has. one_has Expected (undecided ∷ unexpected ∷ []) piece has ∙ expected_written;
 }
 
 -- what is found of one piece with these parts, and of two

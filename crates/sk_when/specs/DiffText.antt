@@ -1,7 +1,8 @@
--- The text of a comparison: each difference with a call that shows it.
-use Rattle.std.specs.Prelude.{ℕ, ◌==◌, ◌+◌, ◌++◌, Bool, true, false, if◌then◌else◌, List, [], length, codes, flat_map, Option}
+-- The text of a comparison: each difference with a call that shows it, below the heading of its kind.
+use Rattle.std.specs.Prelude.{ℕ, ◌==◌, ◌+◌, ◌++◌, not, Bool, true, false, if◌then◌else◌, List, [], ◌∷◌, length, codes, flat_map, Option}
 use Rattle.std.specs.Fmt.{decimal}
-use Rattle.std.specs.Option.{option_map_or}
+use Rattle.std.specs.List.{list_any}
+use Rattle.std.specs.Option.{option_map_or, unwrap_or}
 use Rattle.hex.specs.Hex.{encode_lower}
 use Rattle.sk_arguments.specs.Naming.{call_with_constants}
 use Rattle.sk_insn.specs.declared.record.Record.{Record}
@@ -14,8 +15,8 @@ use Rattle.sk_filter.specs.VerdictText.{verdict_text}
 use Rattle.sk_conditions.specs.declared.differences.Verdicts.{Verdicts}
 use Rattle.sk_conditions.specs.declared.numbers.Numbers.{Numbers}
 use Rattle.sk_conditions.specs.declared.standing.Relation.{Relation}
-use Rattle.sk_conditions.specs.declared.standing.Relation.TheVariants.{Same, AsStrict}
-use Rattle.sk_conditions.specs.Comparing.{relates}
+use Rattle.sk_conditions.specs.declared.standing.Relation.TheVariants.{Same, AsStrict, Expected}
+use Rattle.sk_conditions.specs.Comparing.{expectation_name, expectation_of, relates}
 use Rattle.sk_terms.specs.Text.{argument_text, condition_text, hexadecimal}
 use Rattle.sk_when.specs.Filling.{filled_behind}
 use Rattle.sk_when.specs.Naming.{constants_of}
@@ -27,7 +28,7 @@ use Rattle.sk_when.specs.declared.piece.Outcome.TheVariants as outcome
 use Rattle.sk_when.specs.declared.piece.Part.{Part}
 use Rattle.sk_when.specs.declared.piece.Piece.{Piece}
 use Rattle.sk_when.specs.declared.diff_text.Kind.{Kind}
-use Rattle.sk_when.specs.declared.diff_text.Kind.TheVariants.{Looser, Other, Undecided}
+use Rattle.sk_when.specs.declared.diff_text.Kind.TheVariants.{Looser, Stricter, Other, Undecided}
 
 -- the number of a call as sys/syscall.h of the architecture names it, where it has a name
 abbrev pub call_name_text : Architecture → ℕ → List ℕ
@@ -50,13 +51,23 @@ call_text names call =
     ++ (call_name_text names.architecture call.nr
     ++ (arguments_text (call_with_constants names.naming names.architecture call.nr) call.args ++ (codes ")" ++ address_text call.ip)))
 
--- the verdict of the old chain, and that of the new one
-unfoldable pub verdicts_text : Verdicts → List ℕ
-verdicts_text it = verdict_text it.old ++ (codes " -> " ++ verdict_text it.new)
+-- what is expected, by its word, or by the verdict
+abbrev pub expected_text : ℕ → List ℕ
+expected_text value = codes "expected " ++ unwrap_or (expectation_name (expectation_of value)) (verdict_text value)
 
-abbrev pub outcome_text : Outcome → List ℕ
-outcome_text outcome.Undecided = codes "undecided"
-outcome_text (outcome.Apart it call) = verdicts_text it
+-- the verdict of the old chain, or what it expects
+abbrev pub old_text : Relation → ℕ → List ℕ
+old_text Same value = verdict_text value
+old_text AsStrict value = verdict_text value
+old_text Expected value = expected_text value
+
+-- that, and the verdict of the new one
+unfoldable pub verdicts_text : Relation → Verdicts → List ℕ
+verdicts_text relation it = old_text relation it.old ++ (codes " -> " ++ verdict_text it.new)
+
+abbrev pub outcome_text : Relation → Outcome → List ℕ
+outcome_text relation outcome.Undecided = codes "undecided"
+outcome_text relation (outcome.Apart it call) = verdicts_text relation it
 
 -- under which condition of C, where it is not every call, behind so many columns
 abbrev pub calls_text : Option ℕ → ℕ → Calls → List ℕ
@@ -82,41 +93,79 @@ head_text architecture numbers =
     numbers_text numbers.first numbers.last ++ (codes " " ++ name_text architecture numbers.first numbers.last)
 
 -- the numbers and the verdicts
-abbrev pub verdicts_behind : Architecture → Numbers → Outcome → List ℕ
-verdicts_behind architecture numbers outcome = head_text architecture numbers ++ (codes ": " ++ outcome_text outcome)
+abbrev pub verdicts_behind : Relation → Architecture → Numbers → Outcome → List ℕ
+verdicts_behind relation architecture numbers outcome = head_text architecture numbers ++ (codes ": " ++ outcome_text relation outcome)
 
 -- one difference: the numbers, the verdicts and their condition, and below them a call
-unfoldable pub part_text : Names → Numbers → Part → List ℕ
-part_text names numbers part =
-    verdicts_behind names.architecture numbers part.outcome
-    ++ (calls_text (constants_of names numbers.first numbers.last) (length (verdicts_behind names.architecture numbers part.outcome)) part.calls
+unfoldable pub part_text : Relation → Names → Numbers → Part → List ℕ
+part_text relation names numbers part =
+    verdicts_behind relation names.architecture numbers part.outcome
+    ++ (calls_text (constants_of names numbers.first numbers.last) (length (verdicts_behind relation names.architecture numbers part.outcome)) part.calls
     ++ (codes "\n" ++ shown_text names part.outcome))
 
--- the new chain does not answer as strictly as the old one, or it does, or it is undecided
-abbrev pub kind_of : Outcome → Kind
-kind_of outcome.Undecided = Undecided
-kind_of (outcome.Apart it call) = if relates AsStrict it.old it.new then Other else Looser
+-- the new verdict is not as strict as the old one; or it is, and the old one is not as strict as it; or each is as strict as the other
+abbrev pub change_of : Verdicts → Kind
+change_of it =
+    if not (relates AsStrict it.old it.new) then Looser
+    else if not (relates AsStrict it.new it.old) then Stricter
+    else Other
+
+-- the kind of a difference; an expectation is no verdict, and has no strictness
+abbrev pub kind_of : Relation → Outcome → Kind
+kind_of relation outcome.Undecided = Undecided
+kind_of Same (outcome.Apart it call) = change_of it
+kind_of AsStrict (outcome.Apart it call) = change_of it
+kind_of Expected (outcome.Apart it call) = Other
 
 abbrev pub is_kind : Kind → Kind → Bool
 is_kind Looser Looser = true
+is_kind Stricter Stricter = true
 is_kind Other Other = true
 is_kind Undecided Undecided = true
 is_kind one it = false
 
-unfoldable pub kind_text : Names → Kind → Numbers → Part → List ℕ
-kind_text names kind numbers part =
-    if is_kind (kind_of part.outcome) kind then part_text names numbers part else []
+abbrev pub has_kind : Relation → Kind → Part → Bool
+has_kind relation kind part = is_kind (kind_of relation part.outcome) kind
 
-unfoldable pub piece_text : Names → Kind → Piece → List ℕ
-piece_text names kind piece = flat_map (kind_text names kind piece.numbers) piece.parts.items
+unfoldable pub kind_text : Relation → Names → Kind → Numbers → Part → List ℕ
+kind_text relation names kind numbers part = if has_kind relation kind part then part_text relation names numbers part else []
 
--- the differences where the new chain is looser, the others, and what is undecided
-abbrev pub differences_text : Names → List Piece → List ℕ
-differences_text names pieces =
-    flat_map (piece_text names Looser) pieces
-    ++ (flat_map (piece_text names Other) pieces ++ flat_map (piece_text names Undecided) pieces)
+unfoldable pub piece_text : Relation → Names → Kind → Piece → List ℕ
+piece_text relation names kind piece = flat_map (kind_text relation names kind piece.numbers) piece.parts.items
+
+-- some difference of a piece is of the kind
+abbrev pub piece_has : Relation → Kind → Piece → Bool
+piece_has relation kind piece = list_any (has_kind relation kind) piece.parts.items
+
+abbrev pub some_has : Relation → Kind → List Piece → Bool
+some_has relation kind pieces = list_any (piece_has relation kind) pieces
+
+abbrev pub kind_heading : Kind → List ℕ
+kind_heading Looser = codes "looser:\n"
+kind_heading Stricter = codes "stricter:\n"
+kind_heading Other = codes "other:\n"
+kind_heading Undecided = codes "undecided:\n"
+
+-- the line above the differences of a kind; there is none above what is not as expected
+abbrev pub heading : Relation → Kind → List ℕ
+heading Same kind = kind_heading kind
+heading AsStrict kind = kind_heading kind
+heading Expected kind = []
+
+-- the differences of a kind below their heading, where there are some
+unfoldable pub section_text : Relation → Names → List Piece → Kind → List ℕ
+section_text relation names pieces kind =
+    if some_has relation kind pieces then heading relation kind ++ flat_map (piece_text relation names kind) pieces else []
+
+-- the kinds, in the order in which they are told
+abbrev pub kinds : List Kind
+kinds = Looser ∷ Stricter ∷ Other ∷ Undecided ∷ []
+
+abbrev pub differences_text : Relation → Names → List Piece → List ℕ
+differences_text relation names pieces = flat_map (section_text relation names pieces) kinds
 
 -- what is said where the relation holds on every call
 abbrev pub everywhere_text : Relation → List ℕ
 everywhere_text Same = codes "the same on every call\n"
 everywhere_text AsStrict = codes "as strict on every call\n"
+everywhere_text Expected = codes "as expected on every call\n"

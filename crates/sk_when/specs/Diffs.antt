@@ -8,6 +8,7 @@ use Rattle.sk_insn.specs.declared.insn.Insn.{Insn}
 use Rattle.sk_insn.specs.declared.record.Record.{Record}
 use Rattle.sk_insn.specs.Record.{IsNative}
 use Rattle.sk_conditions.specs.declared.standing.Relation.{Relation}
+use Rattle.sk_conditions.specs.Comparing.{is_reflexive}
 use Rattle.sk_when.specs.declared.diff_engine.Finding.{Finding}
 use Rattle.sk_when.specs.declared.diff_engine.Finding.TheVariants.{Holds, Fails, Undecided}
 use Rattle.sk_when.specs.declared.piece.Piece.{Piece}
@@ -19,12 +20,12 @@ use Rattle.sk_when.specs.Pieces.{AreCompared, AreDecided, NamedAreAloneIn, findi
 
 abbrev pub text_of : Names → Relation → Finding → List Piece → List ℕ
 text_of names relation Holds pieces = everywhere_text relation
-text_of names relation Fails pieces = differences_text names pieces
-text_of names relation Undecided pieces = differences_text names pieces
+text_of names relation Fails pieces = differences_text relation names pieces
+text_of names relation Undecided pieces = differences_text relation names pieces
 
 -- pieces of all numbers were compared, those with a name on the architecture each alone, and this is what is said of them;
--- where the filters are followed, and the steps of no piece were spent, each part is decided; and of the same filters it is said
--- that the relation holds, whatever they do
+-- where the filters are followed, and the steps of no piece were spent, each part is decided; and where each verdict stands so to itself,
+-- it is said of the same filters that the relation holds, whatever they do
 pub record IsComparison (naming : Naming) (architecture : Architecture) (relation : Relation) (old new : List (List Insn)) (is_spent : Bool) (finding : Finding)
     (text : List ℕ) : Type 0 where
   pub pieces : List Piece
@@ -32,7 +33,7 @@ pub record IsComparison (naming : Naming) (architecture : Architecture) (relatio
   pub alone : All (NamedAreAloneIn architecture) pieces
   pub decided : All AreFollowed old → All AreFollowed new → is_spent ≡ false → All AreDecided pieces
   pub stands : finding ≡ finding_of pieces
-  pub same : old ≡ new → finding ≡ Holds
+  pub same : is_reflexive relation ≡ true → old ≡ new → finding ≡ Holds
   pub says : text ≡ text_of (names_of naming architecture) relation finding pieces
 
 -- where it is said that the relation holds, it does on every call of x86-64

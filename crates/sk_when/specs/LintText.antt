@@ -5,6 +5,7 @@ use Rattle.std.specs.Fmt.{decimal}
 use Rattle.sk_insn.specs.declared.record.Record.{Record}
 use Rattle.sk_arguments.specs.declared.naming.Naming.{Naming}
 use Rattle.sk_conditions.specs.declared.numbers.Numbers.{Numbers}
+use Rattle.sk_conditions.specs.declared.standing.Relation.TheVariants.{Same}
 use Rattle.sk_survey.specs.Taken.{taken_as}
 use Rattle.sk_when.specs.declared.concern.Concern.{Concern}
 use Rattle.sk_when.specs.declared.concern.Concern.TheVariants as concern
@@ -32,9 +33,9 @@ abbrev pub shown_taken_text : Naming → (Record → List ℕ) → Outcome → L
 shown_taken_text naming remark Undecided = []
 shown_taken_text naming remark (Apart it call) = taken_text naming remark call
 
--- one part: that of a comparison in which the old verdict is that on the call that Linux takes a call for
+-- one part: that of a comparison for the same verdicts in which the old verdict is that on the call that Linux takes a call for
 unfoldable pub lint_part_text : Naming → (Record → List ℕ) → Numbers → Part → List ℕ
-lint_part_text naming remark numbers part = part_text (lint_names naming numbers.first) numbers part ++ shown_taken_text naming remark part.outcome
+lint_part_text naming remark numbers part = part_text Same (lint_names naming numbers.first) numbers part ++ shown_taken_text naming remark part.outcome
 
 -- those of one concern
 unfoldable pub concern_text : Naming → (Record → List ℕ) → Concern → Numbers → Part → List ℕ

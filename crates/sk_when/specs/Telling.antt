@@ -1,5 +1,5 @@
 -- What the text of `ask when` says of a chain.
-use Rattle.std.specs.Prelude.{ℕ, ◌≡◌, ◌≤◌, Bool, false, List, map, Option}
+use Rattle.std.specs.Prelude.{ℕ, ◌≡◌, ◌≢◌, ◌≤◌, Bool, false, List, map, Option, None}
 use Rattle.std.specs.List.{All}
 use Rattle.sk_arguments.specs.declared.naming.Naming.{Naming}
 use Rattle.sk_names.specs.declared.architecture.Architecture.{Architecture}
@@ -35,3 +35,13 @@ TellsWhen naming architecture call programs is_spent text =
 -- a row of a survey has a number, and its verdicts are among those that it tells
 abbrev pub IsSurveyed : List (List Insn) → Row → Type 0
 IsSurveyed programs row = (row.first ≤ row.last) × ChainAnswersAmong programs row.first row.last (answers_of row.answers)
+
+-- each line tells a verdict, and so does `else`
+abbrev pub HasVerdicts : ConditionalRow → Type 0
+HasVerdicts told = All (λ line. line.value ≢ None) told.lines.items × (told.otherwise ≢ None)
+
+-- all rows of filters that are followed do, unless the steps of a row were spent
+abbrev pub FollowedRowsHaveVerdicts : Type 0
+FollowedRowsHaveVerdicts =
+    (architecture : Architecture) (programs : List (List Insn)) (rows : List ConditionalRow) → All AreFollowed programs
+    → AreTold architecture None programs false rows → All HasVerdicts rows

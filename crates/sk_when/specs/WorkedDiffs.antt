@@ -1,5 +1,5 @@
 -- Worked examples of comparisons: calls as C writes them, and differences with verdicts by seccomp(2).
-use Rattle.std.specs.Prelude.{◌≡◌, ◌++◌, List, [], ◌∷◌, codes, true, false}
+use Rattle.std.specs.Prelude.{ℕ, ◌≡◌, ◌++◌, List, [], ◌∷◌, codes, true, false}
 use Rattle.sk_insn.specs.declared.insn.Insn.{Insn}
 use Rattle.sk_insn.specs.declared.record.Record.{Record}
 use Rattle.sk_insn.specs.Record.{native}
@@ -8,14 +8,15 @@ use Rattle.sk_arguments.specs.declared.naming.Naming.TheVariants.{Numbers, Const
 use Rattle.sk_conditions.specs.declared.differences.Verdicts.{Verdicts}
 use Rattle.sk_conditions.specs.declared.numbers.Numbers as range
 use Rattle.sk_conditions.specs.declared.standing.Relation.{Relation}
-use Rattle.sk_conditions.specs.declared.standing.Relation.TheVariants.{AsStrict}
+use Rattle.sk_conditions.specs.declared.standing.Relation.TheVariants.{Same, AsStrict, Expected}
 use Rattle.sk_when.specs.declared.piece.Calls.TheVariants.{Every}
 use Rattle.sk_when.specs.declared.piece.Outcome.{Outcome}
 use Rattle.sk_when.specs.declared.piece.Outcome.TheVariants.{Undecided, Apart}
 use Rattle.sk_when.specs.declared.piece.Part.{Part}
-use Rattle.sk_when.specs.declared.diff_text.Kind.TheVariants.{Looser, Other}
+use Rattle.sk_when.specs.declared.diff_text.Kind.TheVariants.{Looser, Stricter, Other}
+use Rattle.sk_when.specs.declared.diff_text.Kind.TheVariants as kind
 use Rattle.sk_when.specs.Naming.{names_of}
-use Rattle.sk_when.specs.DiffText.{call_text, record_text, outcome_text, head_text, kind_of, is_kind}
+use Rattle.sk_when.specs.DiffText.{call_text, record_text, old_text, outcome_text, head_text, kind_of, is_kind, everywhere_text}
 use Rattle.sk_when.specs.Pieces.{HoldsOf, shows_call, has_parts, meets_calls}
 
 abbrev pub clone : Record
@@ -42,17 +43,40 @@ allowed = record { old = 0x00050001; new = 0x7fff0000 }
 abbrev pub shows : Verdicts → Outcome
 shows it = Apart it clone
 
--- what the old chain answers stands first; an error for a call that was allowed is not looser, and the other way round it is;
--- one error for another is neither
+-- what the old chain answers stands first; an error for a call that was allowed is stricter, and the other way round it is looser;
+-- one error for another is neither, nor is the end of the process by an action that Linux does not know for its end by a kill
 pub record DifferencesWork : Type 0 where
-  pub verdicts : outcome_text (shows refused) ≡ codes "allow -> errno/1 EPERM"
-  pub unknown : outcome_text Undecided ≡ codes "undecided"
-  pub stricter : kind_of (shows refused) ≡ Other
-  pub looser : kind_of (shows allowed) ≡ Looser
-  pub neither : kind_of (shows (record refused { old = 0x00050026 })) ≡ Other
-  pub told_apart : is_kind Looser Other ≡ false
+  pub verdicts : outcome_text Same (shows refused) ≡ codes "allow -> errno/1 EPERM"
+  pub as_strict : outcome_text AsStrict (shows allowed) ≡ codes "errno/1 EPERM -> allow"
+  pub unknown : outcome_text Same Undecided ≡ codes "undecided"
+  pub stricter : kind_of Same (shows refused) ≡ Stricter
+  pub logged : kind_of Same (shows (record refused { new = 0x7ffc0000 })) ≡ Stricter
+  pub looser : kind_of Same (shows allowed) ≡ Looser
+  pub looser_too : kind_of AsStrict (shows allowed) ≡ Looser
+  pub neither : kind_of Same (shows (record refused { old = 0x00050026 })) ≡ Other
+  pub ended : kind_of Same (shows (record { old = 0x80000000; new = 0x00010002 })) ≡ Other
+  pub left_open : kind_of Same Undecided ≡ kind.Undecided
+  pub told_apart : is_kind Looser Stricter ≡ false
+  pub told_apart_too : is_kind Stricter Other ≡ false
   pub single : head_text architecture.X86_64 (record { first = 56; last = 56 }) ≡ codes "56 clone"
   pub several : head_text architecture.X86_64 (record { first = 462; last = 4294967295 }) ≡ codes "462-4294967295 -"
+
+-- what is expected, and what comes of the call in its place
+abbrev pub expects : ℕ → ℕ → Outcome
+expects value verdict = shows (record { old = value; new = verdict })
+
+-- by their words, and a verdict as it is written elsewhere; whatever was expected, a difference is of the one kind
+pub record ExpectationsWork : Type 0 where
+  pub refused : outcome_text Expected (expects 0x00010001 0x7fff0000) ≡ codes "expected refused -> allow"
+  pub performed : outcome_text Expected (expects 0x00010002 0x00050001) ≡ codes "expected performed -> errno/1 EPERM"
+  pub anything : old_text Expected 0x00010003 ≡ codes "expected anything"
+  pub verdict : outcome_text Expected (expects 0x00050026 0x00050001) ≡ codes "expected errno/38 ENOSYS -> errno/1 EPERM"
+  pub unknown : outcome_text Expected Undecided ≡ codes "undecided"
+  pub looser : kind_of Expected (expects 0x00010001 0x7fff0000) ≡ Other
+  pub stricter : kind_of Expected (expects 0x00010002 0x00050001) ≡ Other
+  pub other_verdict : kind_of Expected (shows allowed) ≡ Other
+  pub left_open : kind_of Expected Undecided ≡ kind.Undecided
+  pub everywhere : everywhere_text Expected ≡ codes "as expected on every call\n"
 
 abbrev pub untold : Part
 untold = record { calls = Every; outcome = Undecided }

@@ -75,7 +75,7 @@ fn text_of(
             text.push_str(everywhere_text(relation))?;
             Ok(text)
         }
-        Finding::Fails | Finding::Undecided => differences_text(alloc, names, pieces),
+        Finding::Fails | Finding::Undecided => differences_text(alloc, relation, names, pieces),
     }
 }
 

@@ -1,12 +1,13 @@
 //! The text of a comparison.
 ghost use Rattle.std.specs.Prelude.{◌≡◌, ◌<◌, ◌++◌, ◌^◌, IfOk, OnOk, string_bytes, codes, flat_map};
-ghost use Rattle.sk_when.specs.DiffText.{call_name_text, arguments_text, address_text, call_text, differences_text, piece_text, kind_text, kind_of, is_kind, part_text, verdicts_behind, outcome_text, calls_text, head_text, shown_text, record_text, everywhere_text};
+ghost use Rattle.std.specs.List.{list_any};
+ghost use Rattle.sk_when.specs.DiffText.{call_name_text, arguments_text, address_text, call_text, differences_text, section_text, heading, kind_heading, some_has, has_kind, piece_text, kind_text, kind_of, change_of, is_kind, part_text, verdicts_behind, old_text, expected_text, outcome_text, calls_text, head_text, shown_text, record_text, everywhere_text};
 
 use crate::filling::push_filled;
 use crate::names::{Names, constants_of};
 use crate::piece::{Calls, Outcome, Part, Piece};
 use sk_arguments::call_with_constants;
-use sk_conditions::{Numbers, Relation, stands};
+use sk_conditions::{Expectation, Numbers, Relation, Verdicts, stands};
 use sk_filter::push_verdict;
 use sk_insn::Record;
 use sk_names::{Architecture, name};
@@ -23,59 +24,133 @@ pub fn everywhere_text(relation: Relation) -> &'static str
     match relation {
         Relation::Same => "the same on every call\n",
         Relation::AsStrict => "as strict on every call\n",
+        Relation::Expected => "as expected on every call\n",
     }
 }
 
 /// The kinds of differences, in the order in which they are told.
 #[derive(Clone, Copy, Debug, PartialEq, Eq)]
 pub enum Kind {
-    /// The old chain's action takes precedence over the new one's.
+    /// The new verdict is not as strict as the old one.
     Looser,
-    /// The new chain's action takes precedence, or is as strict.
+    /// The old verdict is not as strict as the new one.
+    Stricter,
+    /// Each verdict is as strict as the other, or the old one is an expectation.
     Other,
     /// Which verdicts come is not known.
     Undecided,
 }
 
-/// The differences, those first where the new chain is looser, and behind the others what is undecided. Calls have the names
-/// and the records that they have on the architecture.
-pub fn differences_text(alloc: Global, names: Names, pieces: &[Piece]) -> Result<String, AllocError>
-    ensures text { IfOk result (λ text. string_bytes text ≡ differences_text names pieces.now) }
+/// The differences of each kind below its heading. Those from expectations have none, and stand in the order of numbers. Calls have
+/// the names and the records that they have on the architecture.
+pub fn differences_text(
+    alloc: Global,
+    relation: Relation,
+    names: Names,
+    pieces: &[Piece],
+) -> Result<String, AllocError>
+    ensures text { IfOk result (λ text. string_bytes text ≡ differences_text relation names pieces.now) }
 {
     let mut text = String::new(alloc);
-    push_all(&mut text, names, Kind::Looser, pieces)?;
-    push_all(&mut text, names, Kind::Other, pieces)?;
-    push_all(&mut text, names, Kind::Undecided, pieces)?;
+    push_section(&mut text, relation, names, Kind::Looser, pieces)?;
+    push_section(&mut text, relation, names, Kind::Stricter, pieces)?;
+    push_section(&mut text, relation, names, Kind::Other, pieces)?;
+    push_section(&mut text, relation, names, Kind::Undecided, pieces)?;
     Ok(text)
 }
 
-fn push_all(text: &mut String, names: Names, kind: Kind, pieces: &[Piece]) -> Result<(), AllocError>
-    ensures text { OnOk result (string_bytes text.new ≡ string_bytes text.old ++ flat_map (piece_text names kind) pieces.now) }
+#[tactic(auto, unfolding(crate::specs::DiffText::section_text))]
+fn push_section(
+    text: &mut String,
+    relation: Relation,
+    names: Names,
+    kind: Kind,
+    pieces: &[Piece],
+) -> Result<(), AllocError>
+    ensures text { OnOk result (string_bytes text.new ≡ string_bytes text.old ++ section_text relation names pieces.now kind) }
+{
+    if !some_has(relation, kind, pieces) {
+        return Ok(());
+    }
+    text.push_str(heading(relation, kind))?;
+    push_all(text, relation, names, kind, pieces)
+}
+
+// The line above the differences of a kind.
+fn heading(relation: Relation, kind: Kind) -> &'static str
+    ensures heading { result.now ≡ heading relation kind }
+{
+    match relation {
+        Relation::Same | Relation::AsStrict => kind_heading(kind),
+        Relation::Expected => "",
+    }
+}
+
+fn kind_heading(kind: Kind) -> &'static str
+    ensures heading { result.now ≡ kind_heading kind }
+{
+    match kind {
+        Kind::Looser => "looser:\n",
+        Kind::Stricter => "stricter:\n",
+        Kind::Other => "other:\n",
+        Kind::Undecided => "undecided:\n",
+    }
+}
+
+fn some_has(relation: Relation, kind: Kind, pieces: &[Piece]) -> bool
+    ensures some { result ≡ some_has relation kind pieces.now }
+{
+    pieces
+        .iter()
+        .any(|piece| piece_has(relation, kind, &piece.parts))
+}
+
+fn piece_has(relation: Relation, kind: Kind, parts: &[Part]) -> bool
+    ensures some { result ≡ list_any (has_kind relation kind) parts.now }
+{
+    parts.iter().any(|part| has_kind(relation, kind, part))
+}
+
+fn push_all(
+    text: &mut String,
+    relation: Relation,
+    names: Names,
+    kind: Kind,
+    pieces: &[Piece],
+) -> Result<(), AllocError>
+    ensures text { OnOk result (string_bytes text.new ≡ string_bytes text.old ++ flat_map (piece_text relation names kind) pieces.now) }
 {
     for piece in pieces {
-        push_piece(text, names, kind, piece)?;
+        push_piece(text, relation, names, kind, piece)?;
     }
     Ok(())
 }
 
 #[tactic(auto, unfolding(crate::specs::DiffText::piece_text))]
-fn push_piece(text: &mut String, names: Names, kind: Kind, piece: &Piece) -> Result<(), AllocError>
-    ensures text { OnOk result (string_bytes text.new ≡ string_bytes text.old ++ piece_text names kind piece.now) }
+fn push_piece(
+    text: &mut String,
+    relation: Relation,
+    names: Names,
+    kind: Kind,
+    piece: &Piece,
+) -> Result<(), AllocError>
+    ensures text { OnOk result (string_bytes text.new ≡ string_bytes text.old ++ piece_text relation names kind piece.now) }
 {
-    push_parts(text, names, kind, piece.numbers, &piece.parts)
+    push_parts(text, relation, names, kind, piece.numbers, &piece.parts)
 }
 
 fn push_parts(
     text: &mut String,
+    relation: Relation,
     names: Names,
     kind: Kind,
     numbers: Numbers,
     parts: &[Part],
 ) -> Result<(), AllocError>
-    ensures text { OnOk result (string_bytes text.new ≡ string_bytes text.old ++ flat_map (kind_text names kind numbers) parts.now) }
+    ensures text { OnOk result (string_bytes text.new ≡ string_bytes text.old ++ flat_map (kind_text relation names kind numbers) parts.now) }
 {
     for part in parts {
-        push_part_of_kind(text, names, kind, numbers, part)?;
+        push_part_of_kind(text, relation, names, kind, numbers, part)?;
     }
     Ok(())
 }
@@ -83,31 +158,45 @@ fn push_parts(
 #[tactic(auto, unfolding(crate::specs::DiffText::kind_text))]
 fn push_part_of_kind(
     text: &mut String,
+    relation: Relation,
     names: Names,
     kind: Kind,
     numbers: Numbers,
     part: &Part,
 ) -> Result<(), AllocError>
-    ensures text { OnOk result (string_bytes text.new ≡ string_bytes text.old ++ kind_text names kind numbers part.now) }
+    ensures text { OnOk result (string_bytes text.new ≡ string_bytes text.old ++ kind_text relation names kind numbers part.now) }
 {
-    if !is_kind(kind_of(part.outcome), kind) {
+    if !has_kind(relation, kind, part) {
         return Ok(());
     }
-    push_part(text, names, numbers, part)
+    push_part(text, relation, names, numbers, part)
 }
 
-fn kind_of(outcome: Outcome) -> Kind
-    ensures kind { result ≡ kind_of outcome }
+fn has_kind(relation: Relation, kind: Kind, part: &Part) -> bool
+    ensures has { result ≡ has_kind relation kind part.now }
 {
-    match outcome {
-        Outcome::Undecided => Kind::Undecided,
-        Outcome::Apart(pair, _) => {
-            if stands(Relation::AsStrict, pair.old, pair.new) {
-                Kind::Other
-            } else {
-                Kind::Looser
-            }
-        }
+    is_kind(kind_of(relation, part.outcome), kind)
+}
+
+fn kind_of(relation: Relation, outcome: Outcome) -> Kind
+    ensures kind { result ≡ kind_of relation outcome }
+{
+    match (outcome, relation) {
+        (Outcome::Undecided, _) => Kind::Undecided,
+        (Outcome::Apart(pair, _), Relation::Same | Relation::AsStrict) => change_of(pair),
+        (Outcome::Apart(_, _), Relation::Expected) => Kind::Other,
+    }
+}
+
+fn change_of(it: Verdicts) -> Kind
+    ensures change { result ≡ change_of it }
+{
+    if !stands(Relation::AsStrict, it.old, it.new) {
+        Kind::Looser
+    } else if !stands(Relation::AsStrict, it.new, it.old) {
+        Kind::Stricter
+    } else {
+        Kind::Other
     }
 }
 
@@ -116,6 +205,7 @@ fn is_kind(one: Kind, other: Kind) -> bool
 {
     match one {
         Kind::Looser => matches!(other, Kind::Looser),
+        Kind::Stricter => matches!(other, Kind::Stricter),
         Kind::Other => matches!(other, Kind::Other),
         Kind::Undecided => matches!(other, Kind::Undecided),
     }
@@ -125,14 +215,15 @@ fn is_kind(one: Kind, other: Kind) -> bool
 #[tactic(auto, unfolding(crate::specs::DiffText::part_text))]
 pub fn push_part(
     text: &mut String,
+    relation: Relation,
     names: Names,
     numbers: Numbers,
     part: &Part,
 ) -> Result<(), AllocError>
-    ensures text { OnOk result (string_bytes text.new ≡ string_bytes text.old ++ part_text names numbers part.now) }
+    ensures text { OnOk result (string_bytes text.new ≡ string_bytes text.old ++ part_text relation names numbers part.now) }
 {
     let start = text.len();
-    push_verdicts(text, names.architecture, numbers, part.outcome)?;
+    push_verdicts(text, relation, names.architecture, numbers, part.outcome)?;
     let column = text.len() - start;
     let call = constants_of(names, numbers.first, numbers.last);
     push_calls(text, call, column, &part.calls)?;
@@ -143,28 +234,49 @@ pub fn push_part(
 // The numbers and the verdicts.
 fn push_verdicts(
     text: &mut String,
+    relation: Relation,
     architecture: Architecture,
     numbers: Numbers,
     outcome: Outcome,
 ) -> Result<(), AllocError>
-    ensures text { OnOk result (string_bytes text.new ≡ string_bytes text.old ++ verdicts_behind architecture numbers outcome) }
+    ensures text { OnOk result (string_bytes text.new ≡ string_bytes text.old ++ verdicts_behind relation architecture numbers outcome) }
 {
     push_head(text, architecture, numbers)?;
     text.push_str(": ")?;
-    push_outcome(text, outcome)
+    push_outcome(text, relation, outcome)
 }
 
 #[tactic(auto, unfolding(crate::specs::DiffText::verdicts_text))]
-fn push_outcome(text: &mut String, outcome: Outcome) -> Result<(), AllocError>
-    ensures text { OnOk result (string_bytes text.new ≡ string_bytes text.old ++ outcome_text outcome) }
+fn push_outcome(text: &mut String, relation: Relation, outcome: Outcome) -> Result<(), AllocError>
+    ensures text { OnOk result (string_bytes text.new ≡ string_bytes text.old ++ outcome_text relation outcome) }
 {
     match outcome {
         Outcome::Undecided => text.push_str("undecided"),
         Outcome::Apart(pair, _) => {
-            push_verdict(text, pair.old)?;
+            push_old(text, relation, pair.old)?;
             text.push_str(" -> ")?;
             push_verdict(text, pair.new)
         }
+    }
+}
+
+// The verdict of the old chain, or what it expects.
+fn push_old(text: &mut String, relation: Relation, value: u32) -> Result<(), AllocError>
+    ensures text { OnOk result (string_bytes text.new ≡ string_bytes text.old ++ old_text relation value) }
+{
+    match relation {
+        Relation::Same | Relation::AsStrict => push_verdict(text, value),
+        Relation::Expected => push_expected(text, value),
+    }
+}
+
+fn push_expected(text: &mut String, value: u32) -> Result<(), AllocError>
+    ensures text { OnOk result (string_bytes text.new ≡ string_bytes text.old ++ expected_text value) }
+{
+    text.push_str("expected ")?;
+    match Expectation::of(value).name() {
+        Some(name) => text.push_str(name),
+        None => push_verdict(text, value),
     }
 }
 

@@ -1,7 +1,8 @@
 //! Worked rows and comparisons, and what is said of all calls. No program calls these functions: the contract of each is the law.
 ghost use Rattle.sk_when.specs.WorkedRows.{RowsWork};
+ghost use Rattle.sk_when.specs.Telling.{FollowedRowsHaveVerdicts};
 ghost use Rattle.sk_when.specs.Diffs.{HoldsOnEveryCall, FailsOnACall, FollowedIsDecided};
-ghost use Rattle.sk_when.specs.WorkedDiffs.{CallsWork, DifferencesWork, PartsWork};
+ghost use Rattle.sk_when.specs.WorkedDiffs.{CallsWork, DifferencesWork, ExpectationsWork, PartsWork};
 ghost use Rattle.sk_when.specs.FillingLaws.{JoiningGivesBack, LinesAreWithin, FillingWorks};
 ghost use Rattle.sk_when.specs.Lints.{CleanIsTrue, FollowedLintIsDecided, NowhereLooserIsTrue, SignsAreTold};
 ghost use Rattle.sk_when.specs.WorkedLints.{ConcernsWork, SocketsWork, WordsWork};
@@ -10,6 +11,11 @@ ghost use Rattle.sk_when.specs.WorkedTexts.{ColoursWork, OrderWorks, FindingsWor
 /// What is told of a filter that compares a word again, and that has a path which no call takes.
 pub fn worked_rows()
     ensures rows { RowsWork }
+{}
+
+/// Each line that is told of filters which are followed has a verdict, unless the steps of a row were used up.
+pub fn followed_rows_have_verdicts()
+    ensures law { FollowedRowsHaveVerdicts }
 {}
 
 /// Where it is said that the relation between two chains holds, it does on every call.
@@ -31,6 +37,7 @@ pub fn followed_is_decided()
 pub fn worked_differences()
     ensures calls { CallsWork }
     ensures differences { DifferencesWork }
+    ensures expectations { ExpectationsWork }
     ensures parts { PartsWork }
 {}
 

@@ -32,5 +32,6 @@ pub use lines::lines_of;
 pub use lint_engine::{Linted, lint};
 pub use picture::dot;
 pub use remarks::Remarks;
+pub use row::ConditionalRow;
 pub use sk_conditions::{Budget, Budgets, Relation};
-pub use when_engine::when;
+pub use when_engine::{told_rows, when};

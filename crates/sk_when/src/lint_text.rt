@@ -11,7 +11,7 @@ use crate::names::Names;
 use crate::piece::{Outcome, Part, Piece};
 use crate::remarks::Remarks;
 use sk_arguments::Naming;
-use sk_conditions::Numbers;
+use sk_conditions::{Numbers, Relation};
 use sk_insn::Record;
 use sk_survey::taken_as;
 use std::alloc::{AllocError, Global};
@@ -208,7 +208,8 @@ fn push_lint_part<R: Remarks>(
     ensures text { OnOk result (string_bytes text.new ≡
         string_bytes text.old ++ lint_part_text naming (R.remark remarks.now) numbers part.now) }
 {
-    push_part(text, lint_names(naming, numbers.first), numbers, part)?;
+    let names = lint_names(naming, numbers.first);
+    push_part(text, Relation::Same, names, numbers, part)?;
     push_shown_taken(text, naming, remarks, part.outcome)
 }
 

@@ -1,11 +1,12 @@
 //! All numbers of calls, in pieces that are compared one by one.
-ghost use Rattle.std.specs.Prelude.{ℕ, List, [], ◌∷◌, ◌++◌, ◌≡◌, ◌+◌, ◌^◌, ◌≤◌, true, false, is_some, IfOk, OnOk, IsTrue};
+ghost use Rattle.std.specs.Prelude.{ℕ, List, [], ◌∷◌, ◌++◌, ◌≡◌, ◌+◌, ◌^◌, ◌≤◌, ◌↔◌, true, false, is_some, IfOk, OnOk, IsTrue};
 ghost use Rattle.std.specs.List.{All};
 ghost use Rattle.std.specs.List.Sorted.{IsNonDecreasing};
 ghost use Rattle.sk_insn.specs.declared.insn.Insn.{Insn};
 ghost use Rattle.sk_names.specs.Names.{name_on};
 ghost use Rattle.sk_survey.specs.Cutting.{IsCutRound};
 ghost use Rattle.sk_conditions.specs.declared.standing.Relation.{Relation};
+ghost use Rattle.sk_conditions.specs.Comparing.{is_reflexive};
 ghost use Rattle.sk_conditions.specs.Followed.{AreFollowed};
 ghost use Rattle.sk_conditions.specs.Steps.{BothGoOneWay, NeverPart};
 ghost use Rattle.sk_when.specs.Pieces.{AreCompared, Holds, ArePartsOfOne, AreAlike, AreDecided, IsNamed, NamedAreAlone, NamedAreAloneIn};
@@ -14,7 +15,7 @@ use crate::parts::piece_of;
 use crate::piece::{Calls, Outcome, Part, Piece};
 use crate::same_filters::have_same_filters;
 use crate::showing::STEPS_A_LOOK;
-use sk_conditions::{Budgets, Comparing, Numbers, Relation};
+use sk_conditions::{Budgets, Comparing, Numbers, Relation, is_reflexive};
 use sk_filter::Chain;
 use sk_names::{Architecture, name, numbers};
 use sk_survey::cuts::cuts;
@@ -33,10 +34,10 @@ pub fn pieces(
     ensures alone { IfOk result (λ pieces. All (NamedAreAloneIn architecture) pieces.items) }
     ensures decided { IfOk result (λ pieces. All AreFollowed old.now → All AreFollowed new.now → budgets.new.is_spent ≡ false
         → All AreDecided pieces.items) }
-    ensures same { IfOk result (λ pieces. old.now ≡ new.now → All AreDecided pieces.items) }
+    ensures same { IfOk result (λ pieces. is_reflexive relation ≡ true → old.now ≡ new.now → All AreDecided pieces.items) }
     ensures one_way { NeverPart 0 (2 ^ 32) old.now → NeverPart 0 (2 ^ 32) new.now → budgets.old.is_spent ≡ false → budgets.new.is_spent ≡ false }
 {
-    let are_same = have_same_filters(old, new);
+    let are_same = hold_alike(relation, old, new);
     let beginnings = beginnings(alloc, architecture, old, new)?;
     let last = u32::MAX;
     let all = Comparing {
@@ -63,6 +64,13 @@ pub fn pieces(
     Ok(pieces)
 }
 
+// Whether the relation holds on every call since both chains have the same filters.
+fn hold_alike(relation: Relation, old: &Chain, new: &Chain) -> bool
+    ensures same { IsTrue result ↔ ((is_reflexive relation ≡ true) × (old.now ≡ new.now)) }
+{
+    is_reflexive(relation) && have_same_filters(old, new)
+}
+
 // Compares the chains on the calls of the numbers below the last beginning, and tells the first number behind them.
 fn push_pieces(
     alloc: Global,
@@ -73,7 +81,7 @@ fn push_pieces(
     beginnings: &[u32],
     budgets: &mut Budgets,
 ) -> Result<u32, AllocError>
-    requires same { IsTrue are_same → chains.old.now ≡ chains.new.now }
+    requires same { IsTrue are_same → (is_reflexive chains.relation ≡ true) × (chains.old.now ≡ chains.new.now) }
     requires none { pieces.old.items ≡ [] }
     requires rising { IsNonDecreasing beginnings.now }
     requires round { (nr : ℕ) → IsTrue (is_some (name_on architecture nr)) → IsCutRound beginnings.now nr }
@@ -111,7 +119,7 @@ fn push_piece(
     budgets: &mut Budgets,
 ) -> Result<(), AllocError>
     requires range { chains.numbers.first ≤ chains.numbers.last }
-    requires same { IsTrue are_same → chains.old.now ≡ chains.new.now }
+    requires same { IsTrue are_same → (is_reflexive chains.relation ≡ true) × (chains.old.now ≡ chains.new.now) }
     ensures compared { OnOk result ((from : ℕ)
         → AreCompared chains.entry.relation chains.entry.old.now chains.entry.new.now from chains.entry.numbers.first pieces.old.items
         → AreCompared chains.entry.relation chains.entry.old.now chains.entry.new.now from (chains.entry.numbers.last + 1) pieces.new.items) }
@@ -129,7 +137,7 @@ fn push_piece(
     push(pieces, architecture, piece)
 }
 
-/// The piece of some numbers. Of a chain beside itself nothing has to be followed.
+/// The piece of some numbers. Of a chain beside itself nothing has to be followed, where each verdict stands so to itself.
 pub fn next_piece(
     alloc: Global,
     chains: Comparing<'_>,
@@ -137,7 +145,7 @@ pub fn next_piece(
     budgets: &mut Budgets,
 ) -> Result<Piece, AllocError>
     requires range { chains.numbers.first ≤ chains.numbers.last }
-    requires same { IsTrue are_same → chains.old.now ≡ chains.new.now }
+    requires same { IsTrue are_same → (is_reflexive chains.relation ≡ true) × (chains.old.now ≡ chains.new.now) }
     ensures numbers { IfOk result (λ piece. piece.numbers ≡ chains.entry.numbers) }
     ensures holds { IfOk result (Holds chains.entry.relation chains.entry.old.now chains.entry.new.now) }
     ensures decided { IfOk result (λ piece. All AreFollowed chains.entry.old.now → All AreFollowed chains.entry.new.now
@@ -157,10 +165,10 @@ pub fn next_piece(
     Ok(piece)
 }
 
-// What is said of some numbers where both chains have the same filters.
+// What is said of some numbers where both chains have the same filters, and each verdict stands so to itself.
 fn without_parts(alloc: Global, numbers: Numbers) -> Piece
     ensures numbers { result.numbers ≡ numbers }
-    ensures holds { (relation : Relation) (programs : List (List Insn)) → Holds relation programs programs result }
+    ensures holds { (relation : Relation) (programs : List (List Insn)) → is_reflexive relation ≡ true → Holds relation programs programs result }
     ensures decided { AreDecided result }
 {
     Piece {

@@ -40,8 +40,9 @@ pub fn when(
     when_text(alloc, names, &rows)
 }
 
-// The rows of the chain's survey with their lines.
-fn told_rows(
+/// The rows of the chain's survey with their lines. Where a filter is not followed, or steps are used up, a line may have no verdict,
+/// and then stands for what the survey's row answers.
+pub fn told_rows(
     alloc: Global,
     architecture: Architecture,
     chain: &Chain,

@@ -19,10 +19,10 @@ returns c =
         alone = told.alone;
         decided = told.decided;
         stands = stands;
-        same = λ same.
+        same = λ reflexive same.
             stands
-            ∙ same_holds c.args.relation old pieces
-            (subst (λ (new : List (List Insn)). AreCompared c.args.relation old new 0 4294967296 pieces) (sym same) told.compared) (told.same same);
+            ∙ same_holds c.args.relation reflexive old pieces
+            (subst (λ (new : List (List Insn)). AreCompared c.args.relation old new 0 4294967296 pieces) (sym same) told.compared) (told.same reflexive same);
         says = c.in_ok-text.ensures.text ∙ ap (text_of (names_of c.args.naming c.args.architecture) c.args.relation c.finding_of-finding.result) c.deref-2.ensures.value;
       };
       one_way = c.pieces.ensures.one_way;

@@ -7,8 +7,9 @@ use Rattle.sk_when.proofs.pieces.next_piece.Goals as goal
 pub returns-then-are_same-clause-holds : goal.returns-then-are_same-clause-holds
 returns-then-are_same-clause-holds c =
     let chains = c.args.chains in
-    subst (λ (new : List (List Insn)). Holds chains.relation chains.old.now new c.without_parts.result) (c.requires.same c.if-are_same.true)
-    (c.without_parts.ensures.holds chains.relation chains.old.now)
+    let same = c.requires.same c.if-are_same.true in
+    subst (λ (new : List (List Insn)). Holds chains.relation chains.old.now new c.without_parts.result) same.1
+    (c.without_parts.ensures.holds chains.relation chains.old.now same.0)
 
 pub returns-clause-one_way : goal.returns-clause-one_way
 returns-clause-one_way c = λ both fresh.

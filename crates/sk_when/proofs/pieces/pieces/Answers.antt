@@ -12,8 +12,8 @@ returns-clause-alone c =
     c.in_ok-beginnings.ensures.round passed (omega arith))
 
 pub returns-clause-same : goal.returns-clause-same
-returns-clause-same c = λ same.
-    let is = c.have_same_filters-are_same.ensures.same.1 same in
+returns-clause-same c = λ reflexive same.
+    let is = c.hold_alike-are_same.ensures.same.1 (reflexive, same) in
     c.in_ok-push_piece.ensures.same is (c.in_ok-first.ensures.same is)
 
 pub returns-clause-one_way : goal.returns-clause-one_way
