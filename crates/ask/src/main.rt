@@ -8,9 +8,10 @@ ghost use Rattle.sk_ask.specs.Taking.{CountsWhy};
 use sk_ask::{Shelf, Trees, Unopened, Unread, command, misused};
 use sk_text::{Counted, Source, take_up_to};
 use std::alloc::Global;
+use std::cell::Cell;
 use std::env::Env;
 use std::fs::{Files, OpenFile};
-use std::io::{ErrorKind, Input, Read};
+use std::io::{ErrorKind, Input, Read, Write};
 use std::process::ExitCode;
 use std::{env, fs, io};
 
@@ -58,6 +59,49 @@ impl<R: Files + Input> Shelf for Host<'_, R> {
     }
 }
 
+/// Standard output, of which is noted that nobody reads it any more.
+#[derive(Drop)]
+struct Output<'a, W> {
+    writer: W,
+    is_unread: &'a Cell<bool>,
+}
+
+impl<W: Write> Write for Output<'_, W> {
+    fn write(&mut self, bytes: &[u8]) -> io::Result<usize> {
+        let written = self.writer.write(bytes);
+        if let Err(error) = &written {
+            if error.kind() == ErrorKind::BrokenPipe {
+                self.is_unread.set(true);
+            }
+        }
+        written
+    }
+
+    fn flush(&mut self) -> io::Result<()> {
+        self.writer.flush()
+    }
+}
+
+/// Standard error. It keeps silent where nobody reads the answer, as programs do that such a signal ends.
+#[derive(Drop)]
+struct Complaints<'a, W> {
+    writer: W,
+    is_unread: &'a Cell<bool>,
+}
+
+impl<W: Write> Write for Complaints<'_, W> {
+    fn write(&mut self, bytes: &[u8]) -> io::Result<usize> {
+        if self.is_unread.get() {
+            return Ok(bytes.len());
+        }
+        self.writer.write(bytes)
+    }
+
+    fn flush(&mut self) -> io::Result<()> {
+        self.writer.flush()
+    }
+}
+
 // A folder is opened like a file, and its first read fails; so it is asked what it is.
 fn opened<R: Files + Input>(rt: &R, name: &str) -> io::Result<End<R::File, R::Reader>> {
     if name == "-" {
@@ -93,8 +137,15 @@ fn words_of<R: Env + AllocGlobal>(rt: &R) -> io::Result<Vec<String>> {
 
 fn main(rt: HostRuntime) -> ExitCode {
     let alloc = rt.alloc();
-    let mut out = Counted::new(rt.stdout());
-    let mut complaints = Counted::new(rt.stderr());
+    let is_unread = Cell::new(false);
+    let mut out = Counted::new(Output {
+        writer: rt.stdout(),
+        is_unread: &is_unread,
+    });
+    let mut complaints = Counted::new(Complaints {
+        writer: rt.stderr(),
+        is_unread: &is_unread,
+    });
     let shelf = Host { rt: &rt };
     let mut reads = 0;
     let status = match words_of(&rt) {

@@ -1,6 +1,10 @@
 pub mod Refusing
 pub mod Shown
 pub mod Faults
+pub mod Sizes
+pub mod InPlace
+pub mod Expecting
+pub mod WorkedEndings
 pub mod Said
 pub mod Architectures
 mod Troubles
@@ -10,3 +14,6 @@ pub mod Among
 pub mod Standing
 pub mod Images
 pub mod Orders
+pub mod Commas
+pub mod Told
+pub mod Unchecked

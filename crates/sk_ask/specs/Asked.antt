@@ -1,6 +1,5 @@
 -- What the code's answers to words say.
 use Rattle.std.specs.Prelude.{ℕ, ◌≡◌, ◌≤◌, false, List, length, map, string_bytes, Result, Ok, Err, ⊤}
-use Rattle.std.specs.Option.{option_map}
 use Rattle.sk_ask.specs.declared.trouble.Trouble.{Trouble}
 use Rattle.sk_ask.specs.declared.trouble.Trouble.TheVariants.{Refused, Reading, Memory}
 use Rattle.sk_ask.specs.declared.words.Asked.{Asked}
@@ -9,7 +8,7 @@ use Rattle.sk_ask.specs.Asking.{Question, wanted}
 abbrev pub question_of : Asked → Question
 question_of asked = record {
   word = asked.word;
-  call = option_map (λ call. call.now) asked.call;
+  calls = map string_bytes asked.calls.items;
   caps = map (λ name. name.now) asked.caps.items;
   kernel = asked.kernel;
   machine = asked.machine;
@@ -18,6 +17,7 @@ question_of asked = record {
   numbers = asked.numbers;
   native = asked.native;
   runc = asked.runc;
+  strict = asked.strict;
   help = asked.help;
   names = map string_bytes asked.names.items;
 }

@@ -1,5 +1,6 @@
 -- What words ask.
-use Rattle.std.specs.Prelude.{ℕ, ◌==◌, ◌&&◌, ◌++◌, nat_lt, is_some, not, Bool, true, false, if◌then◌else◌, List, [], ◌∷◌, length, slice_get, codes, slice_index, Option, Some, None, Result, Ok, Err}
+use Rattle.std.specs.Prelude.{ℕ, ◌==◌, ◌&&◌, ◌||◌, ◌++◌, nat_lt, is_some, not, Bool, true, false, if◌then◌else◌, List, [], ◌∷◌, length, slice_get, filter, map, codes, slice_index, Option, Some, None, Result, Ok, Err}
+use Rattle.std.specs.List.{before_first, after_first, list_any, slice_split}
 use Rattle.std.specs.Str.{bytes_eq}
 use Rattle.sk_names.specs.declared.architecture.Architecture.{Architecture}
 use Rattle.sk_arguments.specs.declared.naming.Naming.{Naming}
@@ -7,21 +8,27 @@ use Rattle.sk_arguments.specs.declared.naming.Naming.TheVariants.{Numbers, Const
 use Rattle.sk_names.specs.Architectures.{architecture_named, is_big_endian_of}
 use Rattle.sk_profile_json.specs.declared.context.Kernel.{Kernel as Version}
 use Rattle.sk_profile_json.specs.declared.machine.Machine.{Machine as Host}
-use Rattle.sk_profile_json.specs.Contexts.{kernel_of}
 use Rattle.sk_profile_json.specs.Capabilities.{capability}
 use Rattle.sk_profile_json.specs.Machines.{machine_named}
 use Rattle.sk_ask.specs.Complaints.{of_word}
+use Rattle.sk_ask.specs.Nearest.{of_unknown}
+use Rattle.sk_ask.specs.OtherNames.{architecture_meant, kernel_meant}
+use Rattle.sk_ask.specs.Targets.{target_named}
 use Rattle.sk_ask.specs.declared.word.Valued.{Valued}
-use Rattle.sk_ask.specs.declared.word.Valued.TheVariants.{Call, Cap, Kernel, Machine, Arch}
+use Rattle.sk_ask.specs.declared.manner.Manner.{Manner}
+use Rattle.sk_ask.specs.declared.target.Target.{Target}
+use Rattle.sk_ask.specs.declared.target.Target.TheVariants.{Lines, Raw}
+use Rattle.sk_ask.specs.declared.word.Valued.TheVariants.{Call, Cap, Kernel, Machine, Arch, To}
+use Rattle.sk_ask.specs.declared.word.TheConstants.{OPTIONS}
 use Rattle.sk_ask.specs.declared.word.Word.{Word}
-use Rattle.sk_ask.specs.declared.word.Word.TheVariants.{Calls, Filter, When, Diff, Lint, Replay, Why, Show, Arches}
+use Rattle.sk_ask.specs.declared.word.Word.TheVariants.{Calls, Filter, When, Diff, Expect, Lint, Replay, Why, Show, Arches, Check}
 
--- the word, with the options that it alone has; the word behind `--call`, the capabilities behind each `--cap`, the version behind
+-- the word, with the options that it alone has; the words behind each `--call`, the capabilities behind each `--cap`, the version behind
 -- `--kernel`, the machine behind `--machine`, and the architecture behind `--arch`; the option whose word is awaited; whether there
--- was `--numbers`, `--native`, `--runc` or `--help`; and the names of the files
+-- was `--numbers`, `--native`, `--runc`, `--strict` or `--help`; and the names of the files
 pub record Question : Type 0 where
   pub word : Word
-  pub call : Option (List ℕ)
+  pub calls : List (List ℕ)
   pub caps : List (List ℕ)
   pub kernel : Option Version
   pub machine : Option Host
@@ -30,6 +37,7 @@ pub record Question : Type 0 where
   pub numbers : Bool
   pub native : Bool
   pub runc : Bool
+  pub strict : Bool
   pub help : Bool
   pub names : List (List ℕ)
 
@@ -37,7 +45,7 @@ pub record Question : Type 0 where
 abbrev pub nothing_asked : Word → Question
 nothing_asked word = record {
   word = word;
-  call = None;
+  calls = [];
   caps = [];
   kernel = None;
   machine = None;
@@ -46,47 +54,54 @@ nothing_asked word = record {
   numbers = false;
   native = false;
   runc = false;
+  strict = false;
   help = false;
   names = [];
 }
 
 abbrev pub word_name : Word → List ℕ
 word_name (Calls examples) = codes "calls"
-word_name (Filter raw) = codes "filter"
+word_name (Filter target smaller) = codes "filter"
 word_name (When dot) = codes "when"
 word_name (Diff stricter) = codes "diff"
+word_name Expect = codes "expect"
 word_name (Lint all) = codes "lint"
 word_name Replay = codes "replay"
 word_name Why = codes "why"
 word_name Show = codes "show"
 word_name Arches = codes "arches"
+word_name Check = codes "check"
 
 abbrev pub word_named : List ℕ → Option Word
 word_named name =
     if bytes_eq name (codes "calls") then Some (Calls false)
-    else if bytes_eq name (codes "filter") then Some (Filter false)
+    else if bytes_eq name (codes "filter") then Some (Filter Lines false)
     else if bytes_eq name (codes "when") then Some (When false)
     else if bytes_eq name (codes "diff") then Some (Diff false)
+    else if bytes_eq name (codes "expect") then Some Expect
     else if bytes_eq name (codes "lint") then Some (Lint false)
     else if bytes_eq name (codes "replay") then Some Replay
     else if bytes_eq name (codes "why") then Some Why
     else if bytes_eq name (codes "show") then Some Show
     else if bytes_eq name (codes "arches") then Some Arches
+    else if bytes_eq name (codes "check") then Some Check
     else None
 
--- ---- names
+-- what asks how words are used: `--help` by the GNU coding standards, "Command-Line Interfaces", and `-h`
+abbrev pub asks_help : List ℕ → Bool
+asks_help text = bytes_eq text (codes "-h") || bytes_eq text (codes "--help")
+
+-- what asks which program this is: `--version` by the same
+abbrev pub asks_version : List ℕ → Bool
+asks_version text = bytes_eq text (codes "--version")
+
+-- ---- options
 
 -- a word that begins with `-` (45) is an option; that alone is the name of standard input
 abbrev pub is_option : List ℕ → Bool
 is_option text = slice_index text 0 == 45 && nat_lt 1 (length text)
 
--- a word that is no option of these is the name of a file
-abbrev pub with_name : Question → List ℕ → Result Question (List ℕ)
-with_name asked text =
-    if is_option text then Err (of_word (word_name asked.word ++ codes ": no option is named ") text)
-    else Ok (record asked { names = asked.names ++ text ∷ [] })
-
--- ---- options with a word behind them
+-- those with a word behind them
 
 abbrev pub valued_name : Valued → List ℕ
 valued_name Call = codes "--call"
@@ -94,6 +109,7 @@ valued_name Cap = codes "--cap"
 valued_name Kernel = codes "--kernel"
 valued_name Machine = codes "--machine"
 valued_name Arch = codes "--arch"
+valued_name To = codes "--to"
 
 -- what is expected behind one
 abbrev pub value_kind : Valued → List ℕ
@@ -102,6 +118,7 @@ value_kind Cap = codes "a name"
 value_kind Kernel = codes "a version as 6.1"
 value_kind Machine = codes "a name"
 value_kind Arch = codes "a name"
+value_kind To = codes "raw, hex, lines, c, base64, bpf_asm or json"
 
 -- each call is told of by these
 abbrev pub tells_calls : Word → Bool
@@ -112,10 +129,15 @@ tells_calls word = false
 -- the calls of an architecture that is named are told of by all words but three: `filter` tells of none, `arches` of all, and `lint` of
 -- those of x86-64
 abbrev pub tells_of_one : Word → Bool
-tells_of_one (Filter raw) = false
+tells_of_one (Filter target smaller) = false
 tells_of_one (Lint all) = false
 tells_of_one Arches = false
 tells_of_one word = true
+
+-- filters are written by this
+abbrev pub writes_filters : Word → Bool
+writes_filters (Filter target smaller) = true
+writes_filters word = false
 
 -- the one that is named, of a word: where there may be a profile, it may be said where that is to hold
 abbrev pub valued_named : Word → List ℕ → Option Valued
@@ -125,15 +147,17 @@ valued_named word text =
     else if bytes_eq text (codes "--kernel") then Some Kernel
     else if bytes_eq text (codes "--machine") then Some Machine
     else if tells_of_one word && bytes_eq text (codes "--arch") then Some Arch
+    else if writes_filters word && bytes_eq text (codes "--to") then Some To
     else None
 
--- there may be several capabilities
+-- there may be several calls and capabilities, and the last form is the one that is wanted
 abbrev pub is_given : Valued → Question → Bool
-is_given Call asked = is_some asked.call
+is_given Call asked = false
 is_given Cap asked = false
 is_given Kernel asked = is_some asked.kernel
 is_given Machine asked = is_some asked.machine
 is_given Arch asked = is_some asked.arch
+is_given To asked = false
 
 abbrev pub with_valued : Valued → Question → Result Question (List ℕ)
 with_valued option asked =
@@ -149,6 +173,17 @@ abbrev pub with_caps : Question → List ℕ → Option (List (List ℕ)) → Re
 with_caps asked text None = Err (of_word (word_name asked.word ++ codes ": no capability is named ") text)
 with_caps asked text (Some names) = Ok (record asked { caps = asked.caps ++ names; awaits = None })
 
+-- several names stand between commas (44), each as it may stand alone: setpriv(1), which has lists of capabilities so
+abbrev pub is_comma : ℕ → Bool
+is_comma byte = byte == 44
+
+abbrev pub with_each_cap : Question → List (List ℕ) → Result Question (List ℕ)
+with_each_cap asked [] = Ok asked
+with_each_cap asked (name ∷ names) = elim (with_caps asked name (capability name)) [
+  | Err line ↦ Err line
+  | Ok more ↦ with_each_cap more names
+]
+
 abbrev pub with_kernel : Question → Option Version → Result Question (List ℕ)
 with_kernel asked None = Err (expected_line asked.word Kernel)
 with_kernel asked (Some version) = Ok (record asked { kernel = Some version; awaits = None })
@@ -157,6 +192,10 @@ with_kernel asked (Some version) = Ok (record asked { kernel = Some version; awa
 abbrev pub is_turned : Option Architecture → Bool
 is_turned None = false
 is_turned (Some by) = is_big_endian_of by
+
+-- how files are taken for filters
+abbrev pub manner_of : Question → Manner
+manner_of asked = record { big_endian = is_turned asked.arch; strict = asked.strict }
 
 abbrev pub turned_line : Word → List ℕ → List ℕ
 turned_line word what = of_word (word_name word ++ codes ": arguments with their highest byte first are not followed: ") what
@@ -175,35 +214,71 @@ abbrev pub with_architecture : Question → List ℕ → Option Architecture →
 with_architecture asked text None = Err (of_word (word_name asked.word ++ codes ": no architecture is named ") text)
 with_architecture asked text (Some by) = Ok (record asked { arch = Some by; awaits = None })
 
+abbrev pub with_target : Target → Word → Word
+with_target target (Filter other smaller) = Filter target smaller
+with_target target word = word
+
+abbrev pub with_form : Question → Option Target → Result Question (List ℕ)
+with_form asked None = Err (expected_line asked.word To)
+with_form asked (Some target) = Ok (record asked { word = with_target target asked.word; awaits = None })
+
 -- the word behind it
 abbrev pub with_value : Valued → Question → List ℕ → Result Question (List ℕ)
-with_value Call asked text = Ok (record asked { call = Some text; awaits = None })
-with_value Cap asked text = with_caps asked text (capability text)
-with_value Kernel asked text = with_kernel asked (kernel_of text)
+with_value Call asked text = Ok (record asked { calls = asked.calls ++ text ∷ []; awaits = None })
+with_value Cap asked text = with_each_cap asked (slice_split is_comma text)
+with_value Kernel asked text = with_kernel asked (kernel_meant text)
 with_value Machine asked text = with_machine asked text (machine_named text)
-with_value Arch asked text = with_architecture asked text (architecture_named text)
+with_value Arch asked text = with_architecture asked text (architecture_meant text)
+with_value To asked text = with_form asked (target_named text)
 
 -- ---- one word more
 
 -- the word with the option of its own that is named so, which stands alone
 abbrev pub with_own_flag : Word → List ℕ → Option Word
 with_own_flag (Calls examples) text = if bytes_eq text (codes "--examples") then Some (Calls true) else None
-with_own_flag (Filter raw) text = if bytes_eq text (codes "--raw") then Some (Filter true) else None
+with_own_flag (Filter target smaller) text =
+    if bytes_eq text (codes "--raw") then Some (Filter Raw smaller)
+    else if bytes_eq text (codes "--smaller") then Some (Filter target true)
+    else None
 with_own_flag (When dot) text = if bytes_eq text (codes "--dot") then Some (When true) else None
 with_own_flag (Diff stricter) text = if bytes_eq text (codes "--stricter") then Some (Diff true) else None
 with_own_flag (Lint all) text = if bytes_eq text (codes "--all") then Some (Lint true) else None
 with_own_flag word text = None
 
-abbrev pub with_name_or_flag : Question → List ℕ → Option Word → Result Question (List ℕ)
-with_name_or_flag asked text (Some word) = Ok (record asked { word = word })
-with_name_or_flag asked text None = with_name asked text
+-- the first `=` (61) parts an option from the word that is joined to it
+abbrev pub is_equals : ℕ → Bool
+is_equals byte = byte == 61
+
+-- the options without a word behind them that all have
+abbrev pub shared_flags : List (List ℕ)
+shared_flags = codes "--help" ∷ codes "--native" ∷ codes "--runc" ∷ codes "--strict" ∷ []
 
 -- conditions and calls are written by these, with the constants of Linux's headers unless these are not wanted
 abbrev pub tells_conditions : Word → Bool
 tells_conditions (When dot) = true
 tells_conditions (Diff stricter) = true
+tells_conditions Expect = true
 tells_conditions (Lint all) = true
 tells_conditions word = false
+
+-- an option that a word has
+abbrev pub has_option : Word → List ℕ → Bool
+has_option word text =
+    is_some (valued_named word text) || (is_some (with_own_flag word text) || (list_any (bytes_eq text) shared_flags
+    || (tells_conditions word && bytes_eq text (codes "--numbers"))))
+
+unfoldable pub options_of : Word → List (List ℕ)
+options_of word = filter (has_option word) (map (λ name. name.now) OPTIONS)
+
+-- a word that is no option of these is the name of a file
+abbrev pub with_name : Question → List ℕ → Result Question (List ℕ)
+with_name asked text =
+    if is_option text then Err (of_unknown (word_name asked.word ++ codes ": no option is named ") text (before_first is_equals text) (options_of asked.word))
+    else Ok (record asked { names = asked.names ++ text ∷ [] })
+
+abbrev pub with_name_or_flag : Question → List ℕ → Option Word → Result Question (List ℕ)
+with_name_or_flag asked text (Some word) = Ok (record asked { word = word })
+with_name_or_flag asked text None = with_name asked text
 
 abbrev pub naming_asked : Bool → Naming
 naming_asked true = Numbers
@@ -214,16 +289,28 @@ abbrev pub with_flag : Question → List ℕ → Result Question (List ℕ)
 with_flag asked text =
     if bytes_eq text (codes "--native") then Ok (record asked { native = true })
     else if bytes_eq text (codes "--runc") then Ok (record asked { runc = true })
+    else if bytes_eq text (codes "--strict") then Ok (record asked { strict = true })
     else if tells_conditions asked.word && bytes_eq text (codes "--numbers") then Ok (record asked { numbers = true })
     else with_name_or_flag asked text (with_own_flag asked.word text)
 
+-- `--OPTION=WORD` means `--OPTION WORD`: getopt_long(3), which has it as `--arg=param`
+abbrev pub with_joined : Valued → Question → List ℕ → Result Question (List ℕ)
+with_joined option asked value = elim (with_valued option asked) [
+  | Err line ↦ Err line
+  | Ok more ↦ with_value option more value
+]
+
+abbrev pub with_joined_or_flag : Question → List ℕ → Option Valued → Result Question (List ℕ)
+with_joined_or_flag asked text (Some option) = with_joined option asked (after_first is_equals text)
+with_joined_or_flag asked text None = with_flag asked text
+
 abbrev pub with_option : Question → List ℕ → Option Valued → Result Question (List ℕ)
 with_option asked text (Some option) = with_valued option asked
-with_option asked text None = with_flag asked text
+with_option asked text None = with_joined_or_flag asked text (valued_named asked.word (before_first is_equals text))
 
 abbrev pub with_free : Question → List ℕ → Result Question (List ℕ)
 with_free asked text =
-    if bytes_eq text (codes "--help") then Ok (record asked { help = true })
+    if asks_help text then Ok (record asked { help = true })
     else with_option asked text (valued_named asked.word text)
 
 abbrev pub with_awaited : Question → List ℕ → Option Valued → Result Question (List ℕ)
@@ -238,6 +325,7 @@ with_word asked text = with_awaited asked text asked.awaits
 -- what the names behind a word stand for. There may be more of the last
 abbrev pub wanted : Word → List (List ℕ)
 wanted (Diff stricter) = codes "OLD" ∷ codes "NEW" ∷ []
+wanted Expect = codes "POLICY" ∷ codes "FILE" ∷ []
 wanted Replay = codes "LOG" ∷ codes "FILE" ∷ []
 wanted Why = codes "CALL" ∷ codes "FILE" ∷ []
 wanted word = codes "FILE" ∷ []
@@ -264,6 +352,7 @@ named word asked = none_missing asked (missing asked)
 abbrev pub tells_arguments : Word → Bool
 tells_arguments (Calls examples) = examples
 tells_arguments Show = false
+tells_arguments Check = false
 tells_arguments word = true
 
 abbrev pub understood : Question → Result Question (List ℕ)
@@ -276,10 +365,10 @@ abbrev pub draws : Word → Bool
 draws (When dot) = dot
 draws word = false
 
--- a picture is that of one call
+-- a picture is that of a call
 abbrev pub drawn : Question → Result Question (List ℕ)
 drawn asked =
-    if draws asked.word && not (is_some asked.call)
+    if draws asked.word && length asked.calls == 0
     then Err (of_word (word_name asked.word ++ codes ": expected --call CALL beside ") (codes "--dot"))
     else understood asked
 
@@ -299,10 +388,19 @@ ended_at asked None = complete asked
 abbrev pub ended : Question → Result Question (List ℕ)
 ended asked = ended_at asked asked.awaits
 
+-- `--` says that all words behind it are names: getopt(3). Behind an option whose word is awaited, it is that word
+abbrev pub ends_options : Question → List ℕ → Bool
+ends_options asked text = not (is_some asked.awaits) && bytes_eq text (codes "--")
+
+abbrev pub with_names : Question → List (List ℕ) → Question
+with_names asked words = record asked { names = asked.names ++ words }
+
 -- what is asked with the words that are left
 abbrev pub asked_of : Question → List (List ℕ) → Result Question (List ℕ)
 asked_of asked [] = ended asked
-asked_of asked (text ∷ words) = elim (with_word asked text) [
-  | Err line ↦ Err line
-  | Ok more ↦ asked_of more words
-]
+asked_of asked (text ∷ words) =
+    if ends_options asked text then ended (with_names asked words)
+    else elim (with_word asked text) [
+      | Err line ↦ Err line
+      | Ok more ↦ asked_of more words
+    ]

@@ -1,27 +1,49 @@
--- The call that is asked for.
-use Rattle.std.specs.Prelude.{ℕ, ◌≡◌, ◌⊎◌, List, codes, Option, Some, None, ⊤}
+-- The calls that are asked for.
+use Rattle.std.specs.Prelude.{ℕ, ◌≡◌, ◌⊎◌, ◌++◌, List, [], ◌∷◌, Option, Some, None, ⊤}
 use Rattle.sk_names.specs.declared.architecture.Architecture.{Architecture}
 use Rattle.sk_replay.specs.WordCalls.{IsCall, NoCall}
 use Rattle.sk_ask.specs.declared.trouble.Trouble.{Trouble}
 use Rattle.sk_ask.specs.declared.trouble.Trouble.TheVariants.{Refused, Reading, Memory}
-use Rattle.sk_ask.specs.Complaints.{of_word}
 use Rattle.sk_ask.specs.Endings.{Ending}
+use Rattle.sk_ask.specs.Nearest.{no_call_named}
+use Rattle.sk_ask.specs.OtherNames.{bare_name}
 use Rattle.sk_ask.specs.Troubles.{IsTrouble}
 
--- the call of an architecture that is asked for, if one is
-abbrev pub IsAskedCall : Architecture → Option (List ℕ) → Option ℕ → Type 0
-IsAskedCall by (Some word) (Some nr) = IsCall by word nr
-IsAskedCall by (Some word) None = ⊥
-IsAskedCall by None call = call ≡ None
+-- the calls of an architecture that words ask for, one for one
+abbrev pub AreAskedCalls : Architecture → List (List ℕ) → List ℕ → Type 0
+AreAskedCalls by [] [] = ⊤
+AreAskedCalls by (word ∷ words) (nr ∷ calls) = IsCall by (bare_name word) nr × AreAskedCalls by words calls
+AreAskedCalls by words calls = ⊥
 
--- a word that is asked for is no call
-abbrev pub IsNoCall : Architecture → Trouble → Option (List ℕ) → Type 0
-IsNoCall by (Refused line) (Some word) = NoCall by word × (line.items ≡ of_word (codes "no call is named ") word)
-IsNoCall by (Refused line) None = ⊥
-IsNoCall by (Reading line) asked = ⊥
-IsNoCall by Memory asked = ⊤
+-- a word is no call, and the line says so
+abbrev pub IsNoCall : Architecture → List ℕ → List ℕ → Type 0
+IsNoCall by word line = NoCall by (bare_name word) × (line ≡ no_call_named by word)
 
--- what is so of the call that is asked for, if one is; or the word is no call
-abbrev pub OfCall : Architecture → Option (List ℕ) → Ending → (Option ℕ → Type 0) → Type 0
-OfCall by asked ending P =
-    ((call : Option ℕ) × IsAskedCall by asked call × P call) ⊎ IsTrouble ending (λ why. IsNoCall by why asked)
+-- the first of these words that is no call
+abbrev pub IsFirstNoCall : Architecture → List ℕ → List (List ℕ) → Type 0
+IsFirstNoCall by line [] = ⊥
+IsFirstNoCall by line (word ∷ words) =
+    IsNoCall by word line ⊎ ((nr : ℕ) × IsCall by (bare_name word) nr × IsFirstNoCall by line words)
+
+-- one of the words is no call; or memory was refused
+abbrev pub AreNoCalls : Architecture → Trouble → List (List ℕ) → Type 0
+AreNoCalls by (Refused line) asked = IsFirstNoCall by line.items asked
+AreNoCalls by (Reading line) asked = ⊥
+AreNoCalls by Memory asked = ⊤
+
+-- what is so of the calls that are asked for; or one of the words is no call
+abbrev pub OfCalls : Architecture → List (List ℕ) → Ending → (List ℕ → Type 0) → Type 0
+OfCalls by asked ending P =
+    ((calls : List ℕ) × AreAskedCalls by asked calls × P calls) ⊎ IsTrouble ending (λ why. AreNoCalls by why asked)
+
+-- ---- what is told of calls
+
+-- a text has what is told of each of these calls, one behind the other
+abbrev pub OfAll : (Option ℕ → List ℕ → Type 0) → List ℕ → List ℕ → Type 0
+OfAll P [] text = text ≡ []
+OfAll P (nr ∷ calls) text = (first others : List ℕ) × P (Some nr) first × OfAll P calls others × (text ≡ first ++ others)
+
+-- where no call is asked for, it tells of all
+abbrev pub OfEach : (Option ℕ → List ℕ → Type 0) → List ℕ → List ℕ → Type 0
+OfEach P [] text = P None text
+OfEach P (nr ∷ calls) text = OfAll P (nr ∷ calls) text

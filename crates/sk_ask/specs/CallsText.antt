@@ -21,6 +21,7 @@ use Rattle.sk_show.specs.Text.{numbers_text, name_text, answers_text}
 use Rattle.sk_filter.specs.VerdictText.{verdict_text}
 use Rattle.sk_names.specs.declared.architecture.Architecture.{Architecture}
 use Rattle.sk_ask.specs.Architectures.{call_on, chain_on}
+use Rattle.sk_ask.specs.Calls.{OfEach}
 use Rattle.sk_ask.specs.Endings.{Ending, answered}
 use Rattle.sk_ask.specs.Steps.{MayBeSpent, when_steps}
 
@@ -52,10 +53,6 @@ unseen_text false = []
 abbrev pub calls_text : Architecture → List Line → Bool → List ℕ
 calls_text by lines unseen = flat_map (line_text by) lines ++ unseen_text unseen
 
--- the calls of all numbers are told, and no filter looks at the architecture
-abbrev pub is_unseen : Options → List (List Insn) → Bool
-is_unseen options chain = is_none options.call && not (looks_at_architecture chain)
-
 -- the lines of a survey: as far as the steps reach that ask gives, a call is shown for each verdict that a call of a row gets, where
 -- the filters are followed. Where all calls of each row go one way through each filter, the steps of no row were used up
 pub record AreLinesTold (may_spend : ℕ → Bool) (options : Options) (programs : List (List Insn)) (lines : List Line) : Type 0 where
@@ -65,8 +62,16 @@ pub record AreLinesTold (may_spend : ℕ → Bool) (options : Options) (programs
   pub each : All AreFollowed programs → is_spent ≡ false → All (ShowsEach programs) lines
   pub one_way : NeverPart (first_told options.call) (end_told options.call) programs → is_spent ≡ false
 
--- a text tells the lines of a survey of the chain, as it is for the architecture
-abbrev pub TellsSurvey : (ℕ → Bool) → Options → List (List Insn) → List ℕ → Ending → Type 0
-TellsSurvey may_spend options chain notes ending =
-    (lines : List Line) × AreLinesTold may_spend options (chain_on options.architecture chain) lines
-    × (ending ≡ answered notes (calls_text options.architecture lines (is_unseen options chain)) false)
+-- a text tells the lines of a survey of a chain as it is for the architecture, which no filter sees where it is unseen
+abbrev pub IsSurveyText : (ℕ → Bool) → List (List Insn) → Bool → Options → List ℕ → Type 0
+IsSurveyText may_spend chain unseen options text =
+    (lines : List Line) × AreLinesTold may_spend options chain lines
+    × (text ≡ calls_text options.architecture lines (is_none options.call && unseen))
+
+-- of all calls, or of those that are asked for
+abbrev pub TellsSurvey : (ℕ → Bool) → Architecture → Bool → List ℕ → List (List Insn) → List ℕ → Ending → Type 0
+TellsSurvey may_spend by examples calls chain notes ending =
+    (text : List ℕ)
+    × OfEach (λ call. IsSurveyText may_spend (chain_on by chain) (not (looks_at_architecture chain))
+    (record { architecture = by; call = call; examples = examples })) calls text
+    × (ending ≡ answered notes text false)

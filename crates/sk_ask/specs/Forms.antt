@@ -1,8 +1,9 @@
 -- Which form a file has is decided by its bytes alone.
-use Rattle.std.specs.Prelude.{ℕ, ◌==◌, ◌&&◌, ◌||◌, nat_eq, nat_le, not, Bool, true, false, if◌then◌else◌, List, [], ◌∷◌, filter, codes, slice_index}
+use Rattle.std.specs.Prelude.{ℕ, ◌==◌, ◌&&◌, ◌||◌, nat_eq, nat_le, not, Bool, true, false, if◌then◌else◌, List, [], ◌∷◌, filter, codes, slice_index, Option, Some, None}
 use Rattle.std.specs.List.{list_all, list_any, starts_with}
 use Rattle.sk_profile_json.specs.Forms.{is_profile}
 use Rattle.sk_text.specs.Lines.{lines_of, words_of}
+use Rattle.sk_ask.specs.OtherNames.{behind}
 use Rattle.sk_ask.specs.declared.form.Form.{Form}
 use Rattle.sk_ask.specs.declared.form.Form.TheVariants as form
 
@@ -18,6 +19,14 @@ form_of bytes =
     if list_any (λ byte. byte == 0) bytes then form.Raw
     else if list_all is_digit_or_blank bytes then form.Digits
     else form.Lines
+
+-- a byte order mark (U+FEFF, in UTF-8 239, 187 and 191) may stand before a text and says nothing: section 23.8 of the Unicode standard
+abbrev pub text_behind : List ℕ → Option (List ℕ) → List ℕ
+text_behind bytes None = bytes
+text_behind bytes (Some text) = if list_any (λ byte. byte == 0) text then bytes else text
+
+unfoldable pub unmarked : List ℕ → List ℕ
+unmarked bytes = text_behind bytes (behind (239 ∷ 187 ∷ 191 ∷ []) bytes)
 
 -- a carriage return says nothing, wherever it stands
 abbrev pub without_returns : List ℕ → List ℕ

@@ -17,6 +17,7 @@ use Rattle.sk_when.specs.Lints.{IsLint}
 use Rattle.sk_ask.specs.Complaints.{of_word, shown}
 use Rattle.sk_ask.specs.Concluding.{EndsAs}
 use Rattle.sk_ask.specs.Endings.{Ending}
+use Rattle.sk_ask.specs.Forms.{unmarked}
 use Rattle.sk_ask.specs.Reading.{Read}
 use Rattle.sk_ask.specs.Steps.{MayBeSpent, lint_steps}
 
@@ -25,7 +26,7 @@ use Rattle.sk_ask.specs.Steps.{MayBeSpent, lint_steps}
 -- the name of each file, and the profile that its bytes say, if they say one
 abbrev pub AreSaid : Context → List (List ℕ × List ℕ) → List (List ℕ × Option Profile) → Type 0
 AreSaid context [] [] = ⊤
-AreSaid context (file ∷ files) (said ∷ others) = (said.0 ≡ file.0) × IsSaidBy context file.1 said.1 × AreSaid context files others
+AreSaid context (file ∷ files) (said ∷ others) = (said.0 ≡ file.0) × IsSaidBy context (unmarked file.1) said.1 × AreSaid context files others
 AreSaid context files said = ⊥
 
 -- an entry of a file with this name that parts a call from the one that Linux takes it for, in a line below the call

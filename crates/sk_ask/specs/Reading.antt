@@ -1,7 +1,8 @@
 -- What is known of filters that were read from files by their names.
-use Rattle.std.specs.Prelude.{ℕ, ◌≡◌, ◌⊎◌, Bool, List, Some, Result, Ok, Err, map, slice_get, ⊤}
+use Rattle.std.specs.Prelude.{ℕ, ◌≡◌, ◌⊎◌, List, Some, Result, Ok, Err, map, slice_get, ⊤}
 use Rattle.sk_insn.specs.declared.insn.Insn.{Insn}
 use Rattle.sk_ask.specs.declared.fault.Refused.{Refused}
+use Rattle.sk_ask.specs.declared.manner.Manner.{Manner}
 use Rattle.sk_ask.specs.Filters.{Filters, filters_in, chain_of}
 use Rattle.sk_ask.specs.Finding.{filters_of}
 use Rattle.sk_ask.specs.Texts.{fault_text}
@@ -64,20 +65,20 @@ IsReadAs names (Err trouble.Memory) said = ⊤
 
 -- this is what the files with these names hold, the filters in them and their chain, where a profile stands for its filter, and bytes may be
 -- asked to have the highest byte first; and these lines are told of them
-abbrev pub ReadsFilters : Bool → (List ℕ → Held) → Context → List (List ℕ) → Read → Type 0
-ReadsFilters big held context names read =
+abbrev pub ReadsFilters : Manner → (List ℕ → Held) → Context → List (List ℕ) → Read → Type 0
+ReadsFilters manner held context names read =
     (images : List (List ℕ)) × AreContents 1048576 held names read.files
-    × StandFor big context names read.files images read.notes × (judged images ≡ Ok (read.found, read.chain))
+    × StandFor manner context names read.files images read.notes × (judged images ≡ Ok (read.found, read.chain))
 
 -- what the files stand for is refused, and the line names the file
-abbrev pub IsRefusedIn : Bool → Context → List (List ℕ) → List (List ℕ) → Trouble → Type 0
-IsRefusedIn big context names files why =
-    (images : List (List ℕ)) × (notes : List ℕ) × StandFor big context names files images notes × IsReadAs names (Err why) (judged images)
+abbrev pub IsRefusedIn : Manner → Context → List (List ℕ) → List (List ℕ) → Trouble → Type 0
+IsRefusedIn manner context names files why =
+    (images : List (List ℕ)) × (notes : List ℕ) × StandFor manner context names files images notes × IsReadAs names (Err why) (judged images)
 
 -- one of the files, of at most 1048576 bytes each, is not read, or stands for nothing, or what they stand for is refused, or
 -- memory
-abbrev pub IsRefusedOf : Bool → (List ℕ → Held) → Context → List (List ℕ) → Trouble → Type 0
-IsRefusedOf big held context names why =
+abbrev pub IsRefusedOf : Manner → (List ℕ → Held) → Context → List (List ℕ) → Trouble → Type 0
+IsRefusedOf manner held context names why =
     IsUnreadOf 1048576 held names why
-    ⊎ (((files : List (List ℕ)) × AreContents 1048576 held names files × (IsFirstWithout big context names files why ⊎ IsRefusedIn big context names files why))
+    ⊎ (((files : List (List ℕ)) × AreContents 1048576 held names files × (IsFirstWithout manner context names files why ⊎ IsRefusedIn manner context names files why))
     ⊎ (why ≡ trouble.Memory))

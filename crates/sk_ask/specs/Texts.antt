@@ -52,7 +52,7 @@ refusal_text PathLimit =
 
 abbrev pub fault_text : FileFault → List ℕ
 fault_text NoFilter =
-    codes "holds no filter: expected bytes of struct sock_filter, hexadecimal digits, lines filter HEX, a policy, or a profile in JSON"
+    codes "holds no filter: expected bytes of struct sock_filter, hexadecimal digits, lines filter HEX, another form of a filter, a policy, or a profile in JSON"
 fault_text OddDigits = codes "has an odd number of hexadecimal digits: expected two for each byte"
 fault_text (Line line fault) = at_line (Some line) ++ line_fault_text fault
 fault_text (TooMany line) = at_line line ++ codes "one filter too many: expected at most 32 in all files"

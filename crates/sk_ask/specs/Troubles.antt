@@ -1,8 +1,9 @@
 -- Endings without an answer, by their reasons.
-use Rattle.std.specs.Prelude.{ℕ, ◌≡◌, ◌⊎◌, Bool, List, [], ◌∷◌, Err}
+use Rattle.std.specs.Prelude.{ℕ, ◌≡◌, ◌⊎◌, List, [], ◌∷◌, Err}
 use Rattle.sk_profile_json.specs.declared.context.Context.{Context}
 use Rattle.sk_ask.specs.Reading.{Read, ReadsFilters, IsRefusedOf}
 use Rattle.sk_ask.specs.Shelves.{Held}
+use Rattle.sk_ask.specs.declared.manner.Manner.{Manner}
 use Rattle.sk_ask.specs.declared.trouble.Trouble.{Trouble}
 use Rattle.sk_ask.specs.Endings.{Ending, ending_of, no_memory}
 
@@ -22,7 +23,7 @@ Over = List (List ℕ) → Ending → (Read → Type 0) → Type 0
 
 -- the files make a chain, and it is so; or one of them is refused or not read. Bytes may have the highest byte of a number first,
 -- where that is asked for
-abbrev pub OfFiles : Bool → (List ℕ → Held) → Context → Over
-OfFiles big held context names ending P =
-    ((read : Read) × ReadsFilters big held context names read × P read)
-    ⊎ IsTrouble ending (IsRefusedOf big held context names)
+abbrev pub OfFiles : Manner → (List ℕ → Held) → Context → Over
+OfFiles manner held context names ending P =
+    ((read : Read) × ReadsFilters manner held context names read × P read)
+    ⊎ IsTrouble ending (IsRefusedOf manner held context names)

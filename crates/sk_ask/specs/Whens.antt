@@ -10,6 +10,7 @@ use Rattle.sk_show.specs.Lines.{end_told, first_told}
 use Rattle.sk_when.specs.Picture.{IsPicture}
 use Rattle.sk_when.specs.Telling.{TellsWhen}
 use Rattle.sk_ask.specs.Architectures.{chain_on}
+use Rattle.sk_ask.specs.Calls.{OfEach}
 use Rattle.sk_ask.specs.Endings.{Ending, answered}
 use Rattle.sk_ask.specs.Steps.{MayBeSpent, when_steps, picture_steps}
 
@@ -29,7 +30,8 @@ IsWhenText may_spend naming by None call chain text =
     (is_spent : Bool) × TellsWhen naming by call chain is_spent text × MayBeSpent may_spend when_steps is_spent
     × (NeverPart (first_told call) (end_told call) chain → is_spent ≡ false)
 
--- that of the chain as it is for the architecture
-abbrev pub TellsWhenOf : (ℕ → Bool) → Naming → Architecture → Bool → Option ℕ → List (List Insn) → List ℕ → Ending → Type 0
-TellsWhenOf may_spend naming by dot call chain notes ending =
-    (text : List ℕ) × IsWhenText may_spend naming by (pictured dot call) call (chain_on by chain) text × (ending ≡ answered notes text false)
+-- that of the chain as it is for the architecture, of all calls, or of those that are asked for
+abbrev pub TellsWhenOf : (ℕ → Bool) → Naming → Architecture → Bool → List ℕ → List (List Insn) → List ℕ → Ending → Type 0
+TellsWhenOf may_spend naming by dot calls chain notes ending =
+    (text : List ℕ) × OfEach (λ call. IsWhenText may_spend naming by (pictured dot call) call (chain_on by chain)) calls text
+    × (ending ≡ answered notes text false)

@@ -1,5 +1,6 @@
 -- What `ask why` tells.
-use Rattle.std.specs.Prelude.{ℕ, ◌≡◌, ◌⊎◌, ◌++◌, false, List, codes, Ok, Err, ⊤}
+use Rattle.std.specs.Prelude.{ℕ, ◌≡◌, ◌⊎◌, ◌++◌, false, if◌then◌else◌, List, [], ◌∷◌, codes, Ok, Err, ⊤}
+use Rattle.std.specs.Result.{is_ok}
 use Rattle.sk_insn.specs.declared.insn.Insn.{Insn}
 use Rattle.sk_insn.specs.declared.record.Record.{Record}
 use Rattle.sk_names.specs.declared.architecture.Architecture.{Architecture}
@@ -10,26 +11,37 @@ use Rattle.sk_ask.specs.declared.trouble.Trouble.{Trouble}
 use Rattle.sk_ask.specs.declared.trouble.Trouble.TheVariants.{Refused, Reading, Memory}
 use Rattle.sk_ask.specs.Complaints.{of_word}
 use Rattle.sk_ask.specs.Endings.{Ending, answered}
+use Rattle.sk_ask.specs.Nearest.{no_call_named}
+use Rattle.sk_ask.specs.OtherNames.{bare_name}
 use Rattle.sk_ask.specs.Troubles.{IsTrouble}
 
 -- the line that refuses a word which stands for no call, whose name may be known
 abbrev pub other_line : Fault → List ℕ
 other_line fault = of_word (codes "why: " ++ fault_text fault) (shown_behind fault)
 
-abbrev pub fault_line : List ℕ → Fault → List ℕ
-fault_line word no_call = of_word (codes "no call is named ") (name_part word)
-fault_line word fault = other_line fault
+-- a word names no call. Where the one behind it does, they stand the wrong way round
+abbrev pub no_call_line : Architecture → List ℕ → List (List ℕ) → List ℕ
+no_call_line by word [] = no_call_named by (name_part word)
+no_call_line by word (other ∷ others) =
+    if is_ok (call_meant by (bare_name other)) then of_word (codes "why: the call stands before the files: ") other
+    else no_call_named by (name_part word)
+
+abbrev pub fault_line : Architecture → List ℕ → List (List ℕ) → Fault → List ℕ
+fault_line by word others no_call = no_call_line by word others
+fault_line by word others fault = other_line fault
 
 -- a word stands for no call, and the line says so
-abbrev pub IsFaultOf : Architecture → List ℕ → Trouble → Type 0
-IsFaultOf by word (Refused line) = (fault : Fault) × (call_meant by word ≡ Err fault) × (line.items ≡ fault_line word fault)
-IsFaultOf by word (Reading line) = ⊥
-IsFaultOf by word Memory = ⊤
+abbrev pub IsFaultOf : Architecture → List ℕ → List (List ℕ) → Trouble → Type 0
+IsFaultOf by word others (Refused line) =
+    (fault : Fault) × (call_meant by (bare_name word) ≡ Err fault) × (line.items ≡ fault_line by word others fault)
+IsFaultOf by word others (Reading line) = ⊥
+IsFaultOf by word others Memory = ⊤
 
 -- a text tells the path of the call through the chain
 abbrev pub TellsWhyOf : Architecture → Record → List (List Insn) → List ℕ → Ending → Type 0
 TellsWhyOf by call chain notes ending = (text : List ℕ) × TellsWhy by chain call text × (ending ≡ answered notes text false)
 
--- what is so of the call that the word stands for; or it stands for none
-abbrev pub OfMeant : Architecture → List ℕ → Ending → (Record → Type 0) → Type 0
-OfMeant by word ending P = ((call : Record) × (call_meant by word ≡ Ok call) × P call) ⊎ IsTrouble ending (IsFaultOf by word)
+-- what is so of the call that the word before others stands for; or it stands for none
+abbrev pub OfMeant : Architecture → List ℕ → List (List ℕ) → Ending → (Record → Type 0) → Type 0
+OfMeant by word others ending P =
+    ((call : Record) × (call_meant by (bare_name word) ≡ Ok call) × P call) ⊎ IsTrouble ending (IsFaultOf by word others)

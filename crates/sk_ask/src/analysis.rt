@@ -1,11 +1,13 @@
-//! The analysis of filters that `ask` stands on: which conditions a verdict has, whether two chains answer the same, and whether a
-//! chain answers the same to calls that are the same one to Linux.
-ghost use Rattle.std.specs.Prelude.{◌≡◌, ◌≤◌, ◌==◌, ◌+◌, ◌^◌, ℕ, Bool, false, IfOk, string_bytes};
+//! The analysis of filters that `ask` stands on: which conditions a verdict has, whether two chains answer the same, whether a
+//! chain answers the same to calls that are the same one to Linux, and which filter answers as a chain does.
+ghost use Rattle.std.specs.Prelude.{◌≡◌, ◌≤◌, ◌==◌, ◌+◌, ◌^◌, ℕ, Bool, false, IfOk, IfErr, string_bytes};
 ghost use Rattle.std.specs.List.{All};
 ghost use Rattle.sk_conditions.specs.Followed.{AreFollowed};
 ghost use Rattle.sk_conditions.specs.Steps.{GoOneWay, NeverPart};
 ghost use Rattle.sk_when.specs.Verdicts.{ShowsEach};
 ghost use Rattle.sk_filter.specs.Chains.{IsWithinLimit, cost_of};
+ghost use Rattle.sk_filter.specs.Valid.{IsValid};
+ghost use Rattle.sk_policy_when.specs.Smaller.{AnswersAs, IsNoFilter};
 ghost use Rattle.sk_show.specs.Lines.{AreLinesOf, end_told, first_told};
 ghost use Rattle.sk_ask.specs.Steps.{MayBeSpent};
 ghost use Rattle.sk_when.specs.Diffs.{IsComparison};
@@ -15,13 +17,16 @@ ghost use Rattle.sk_when.specs.Telling.{TellsWhen};
 
 use sk_arguments::Naming;
 use sk_filter::Chain;
+use sk_insn::Insn;
 use sk_names::Architecture;
+use sk_policy_when::OneFilterFault;
 use sk_show::{Line, Options};
 use sk_when::{Budget, Budgets, Comparison, Linted, Relation, Remarks};
 use std::alloc::{AllocError, Global};
 
 /// Analyses chains, as far as the steps reach that it is given.
-/// Where all calls of each row go one way through each filter, `lines`, `when`, `diff` and `lint` use the steps of no row up.
+/// Where all calls of each row go one way through each filter, `lines`, `when`, `diff`, `lint` and `one_filter`
+/// use the steps of no row up.
 pub trait Analysis {
     // Whether it may use up so many steps.
     ghost may_spend: { Self → ℕ → Bool };
@@ -94,6 +99,20 @@ pub trait Analysis {
         ensures linted { IfOk result (λ it. IsLint chain.now all naming (R.remark remarks.now) budgets.new.is_spent it.finding (string_bytes it.text) (string_bytes it.notes)) }
         ensures spent { budgets.old.is_spent ≡ false → MayBeSpent (may_spend self.now) budgets.old.steps budgets.new.is_spent }
         ensures one_way { NeverPart 0 (2 ^ 32) chain.now → budgets.old.is_spent ≡ false → budgets.new.is_spent ≡ false };
+
+    /// Makes one filter that answers each call as the chain does.
+    fn one_filter(
+        &self,
+        alloc: Global,
+        chain: &Chain,
+        budgets: &mut Budgets,
+    ) -> Result<Vec<Insn>, OneFilterFault>
+        requires limited { IsWithinLimit chain.now }
+        ensures same { IfOk result (λ insns. AnswersAs chain.now insns.items) }
+        ensures valid { IfOk result (λ insns. IsValid insns.items) }
+        ensures fault { IfErr result (IsNoFilter chain.now budgets.new.is_spent) }
+        ensures spent { budgets.old.is_spent ≡ false → MayBeSpent (may_spend self.now) budgets.old.steps budgets.new.is_spent }
+        ensures one_way { NeverPart 0 (2 ^ 32) chain.now → budgets.old.is_spent ≡ false → budgets.new.is_spent ≡ false };
 }
 
 /// That by decision trees. How many steps it takes where calls part is not known.
@@ -160,5 +179,14 @@ impl Analysis for Trees {
         budgets: &mut Budgets,
     ) -> Result<Linted, AllocError> {
         sk_when::lint(alloc, naming, all, remarks, chain, budgets)
+    }
+
+    fn one_filter(
+        &self,
+        alloc: Global,
+        chain: &Chain,
+        budgets: &mut Budgets,
+    ) -> Result<Vec<Insn>, OneFilterFault> {
+        sk_policy_when::one_filter(alloc, chain, budgets)
     }
 }

@@ -5,7 +5,8 @@ ghost use Rattle.sk_ask.specs.CallsText.{AreLinesTold, calls_text};
 use crate::analysis::Analysis;
 use crate::answer::{Answer, Tells};
 use crate::calls_text::calls_text;
-use crate::on::{On, filters_on};
+use crate::each::{OfCall, text_of_each};
+use crate::on::{On, chain_on};
 use crate::{Filters, Trouble};
 use sk_filter::Chain;
 use sk_names::Architecture;
@@ -17,33 +18,68 @@ use std::alloc::{AllocError, Global};
 /// How many rows may take all the steps of a row, where calls are looked for.
 const MOST_ROWS: u32 = 2;
 
-/// `ask calls`, of a call if one is asked for, with calls for the verdicts where they are wanted.
+/// `ask calls`, of some calls or of all, with calls for the verdicts where they are wanted.
 #[derive(Drop)]
 pub struct Calls<'a, A> {
     pub on: On<'a, A>,
+    pub calls: &'a [u32],
     pub examples: bool,
 }
 
 impl<A: Analysis> Tells for Calls<'_, A> {
     ghost use Rattle.sk_ask.specs.CallsText.{TellsSurvey};
 
-    ghost tells = { λ it read ending. TellsSurvey (A.may_spend it.on.analysis.now)
-        (record { architecture = it.on.architecture; call = it.on.call; examples = it.examples }) read.chain read.notes ending };
+    ghost tells = { λ it read ending.
+        TellsSurvey (A.may_spend it.on.analysis.now) it.on.architecture it.examples it.calls.now read.chain read.notes ending };
 
     fn told(self, alloc: Global, filters: Filters) -> Result<Answer, Trouble> {
-        let options = Options {
+        let Filters { chain, notes, .. } = filters;
+        let unseen = !looks_at_architecture(&chain);
+        let chain = chain_on(alloc, self.on.architecture, chain)?;
+        let survey = Survey {
+            analysis: self.on.analysis,
             architecture: self.on.architecture,
-            call: self.on.call,
             examples: self.examples,
+            chain: &chain,
+            unseen,
         };
-        let unseen = options.call.is_none() && !looks_at_architecture(&filters.chain);
-        let (chain, notes) = filters_on(alloc, options.architecture, filters)?;
-        let lines = lines_of(alloc, self.on.analysis, options, &chain)?;
         Ok(Answer {
-            text: text_of(alloc, options.architecture, &lines, unseen)?,
+            text: text_of_each(alloc, &survey, self.calls)?,
             notes,
             denies: false,
         })
+    }
+}
+
+// A survey of a chain as it is for an architecture, at which no filter looks where it is unseen.
+#[derive(Drop)]
+struct Survey<'a, A> {
+    analysis: &'a A,
+    architecture: Architecture,
+    examples: bool,
+    chain: &'a Chain,
+    unseen: bool,
+}
+
+impl<A: Analysis> OfCall for Survey<'_, A> {
+    ghost use Rattle.sk_ask.specs.CallsText.{IsSurveyText};
+
+    ghost tells = { λ it call text. IsSurveyText (A.may_spend it.analysis.now) it.chain.now it.unseen
+        (record { architecture = it.architecture; call = call; examples = it.examples }) text };
+
+    fn text(&self, alloc: Global, call: Option<u32>) -> Result<Vec<u8>, AllocError> {
+        let options = Options {
+            architecture: self.architecture,
+            call,
+            examples: self.examples,
+        };
+        let lines = lines_of(alloc, self.analysis, options, self.chain)?;
+        text_of(
+            alloc,
+            self.architecture,
+            &lines,
+            call.is_none() && self.unseen,
+        )
     }
 }
 

@@ -8,13 +8,14 @@ ghost use Rattle.sk_ask.specs.Telling.{Told};
 
 use crate::analysis::Analysis;
 use crate::answer::Answer;
-use crate::help::{HELP, word_help};
+use crate::help::{HELP, VERSION, word_help};
+use crate::nearest::of_unknown;
 use crate::output::{complain, put};
 use crate::table::asked_answer;
-use crate::word::Word;
+use crate::word::{NAMES, Word, asks_help, asks_version};
 use crate::words::asked_in;
-use crate::{Shelf, Trouble, of_word};
-use sk_text::{Sink, is_same};
+use crate::{Shelf, Trouble};
+use sk_text::Sink;
 use std::alloc::{AllocError, Global};
 
 /// Does what the words ask, which leave out the program's name, and gives the exit status: 0 where they are answered, 1
@@ -62,12 +63,24 @@ fn answer<S: Shelf, A: Analysis>(
     let Some((first, rest)) = words.split_first() else {
         return Err(Trouble::Refused(bytes_of(alloc, "ask: no word is given; see ask --help\n")?));
     };
-    if is_same(first.as_bytes(), b"--help") {
+    if asks_help(first.as_bytes()) {
         return Ok(said(alloc, HELP)?);
+    }
+    if asks_version(first.as_bytes()) {
+        return Ok(said(alloc, VERSION)?);
     }
     match Word::named(first.as_bytes()) {
         Some(word) => word_answer(alloc, word, rest, shelf, analysis, reads),
-        None => Err(Trouble::Refused(of_word(alloc, "no word is named ", first.as_bytes())?)),
+        None => {
+            let line = of_unknown(
+                alloc,
+                "no word is named ",
+                first.as_bytes(),
+                first.as_bytes(),
+                &NAMES,
+            )?;
+            Err(Trouble::Refused(line))
+        }
     }
 }
 

@@ -36,8 +36,8 @@ pub fn shown_name(alloc: Global, name: &str) -> Result<String, AllocError>
     String::from_utf8_lossy(alloc, &shown(alloc, name.as_bytes())?)
 }
 
-// A word with a question mark for each byte that would end the line or change how it is shown.
-fn shown(alloc: Global, word: &[u8]) -> Result<Vec<u8>, AllocError>
+/// A word with a question mark for each byte that would end the line or change how it is shown.
+pub(crate) fn shown(alloc: Global, word: &[u8]) -> Result<Vec<u8>, AllocError>
     ensures bytes { IfOk result (λ bytes. bytes.items ≡ shown word.now) }
 {
     word.iter().map(|byte| shown_byte(*byte)).collect(alloc)

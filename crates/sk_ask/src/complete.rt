@@ -11,8 +11,8 @@ use sk_names::Architecture;
 use std::alloc::{AllocError, Global};
 
 // What was asked, where it is whole.
-pub(crate) fn ended<'a>(alloc: Global, asked: Asked<'a>) -> Result<Asked<'a>, Trouble>
-    ensures exact { Asks result (ended (question_of asked.entry)) }
+pub(crate) fn ended(alloc: Global, asked: Asked) -> Result<Asked, Trouble>
+    ensures exact { Asks result (ended (question_of asked)) }
     ensures named { IfOk result HasNames }
 {
     match asked.awaits {
@@ -22,15 +22,15 @@ pub(crate) fn ended<'a>(alloc: Global, asked: Asked<'a>) -> Result<Asked<'a>, Tr
 }
 
 // Whether all is there that is wanted.
-fn complete<'a>(alloc: Global, asked: Asked<'a>) -> Result<Asked<'a>, Trouble>
-    ensures exact { Asks result (complete (question_of asked.entry)) }
+fn complete(alloc: Global, asked: Asked) -> Result<Asked, Trouble>
+    ensures exact { Asks result (complete (question_of asked)) }
     ensures named { IfOk result HasNames }
 {
     if asked.help {
         return Ok(asked);
     }
     let asked = named(alloc, asked)?;
-    if draws(asked.word) && asked.call.is_none() {
+    if draws(asked.word) && asked.calls.is_empty() {
         let what = format!(in alloc; "{}: expected --call CALL beside ", asked.word.name())?;
         return Err(Trouble::Refused(of_word(alloc, &what, b"--dot")?));
     }
@@ -44,9 +44,9 @@ fn draws(word: Word) -> bool
 }
 
 // Whether what is told of arguments can be told of the architecture.
-fn understood<'a>(alloc: Global, asked: Asked<'a>) -> Result<Asked<'a>, Trouble>
+fn understood(alloc: Global, asked: Asked) -> Result<Asked, Trouble>
     requires named { HasNames asked }
-    ensures exact { Asks result (understood (question_of asked.entry)) }
+    ensures exact { Asks result (understood (question_of asked)) }
     ensures named { IfOk result HasNames }
 {
     if is_turned(asked.arch) && tells_arguments(asked.word) {
@@ -81,14 +81,14 @@ fn tells_arguments(word: Word) -> bool
 {
     match word {
         Word::Calls { examples } => examples,
-        Word::Show => false,
+        Word::Show | Word::Check => false,
         _ => true,
     }
 }
 
 // Whether there are as many names as the word wants.
-fn named<'a>(alloc: Global, asked: Asked<'a>) -> Result<Asked<'a>, Trouble>
-    ensures exact { Asks result (named asked.entry.word (question_of asked.entry)) }
+fn named(alloc: Global, asked: Asked) -> Result<Asked, Trouble>
+    ensures exact { Asks result (named asked.word (question_of asked)) }
     ensures named { IfOk result HasNames }
 {
     match asked.word {
@@ -97,9 +97,9 @@ fn named<'a>(alloc: Global, asked: Asked<'a>) -> Result<Asked<'a>, Trouble>
     }
 }
 
-fn two_named<'a>(alloc: Global, asked: Asked<'a>) -> Result<Asked<'a>, Trouble>
+fn two_named(alloc: Global, asked: Asked) -> Result<Asked, Trouble>
     requires two { length (wanted asked.word) ≤ 2 }
-    ensures exact { Asks result (two_named (question_of asked.entry)) }
+    ensures exact { Asks result (two_named (question_of asked)) }
     ensures named { IfOk result HasNames }
 {
     if asked.names.len() == 2 {
@@ -109,8 +109,8 @@ fn two_named<'a>(alloc: Global, asked: Asked<'a>) -> Result<Asked<'a>, Trouble>
     Err(Trouble::Refused(of_word(alloc, what, b"")?))
 }
 
-fn none_missing<'a>(alloc: Global, asked: Asked<'a>) -> Result<Asked<'a>, Trouble>
-    ensures exact { Asks result (none_missing (question_of asked.entry) (missing (question_of asked.entry))) }
+fn none_missing(alloc: Global, asked: Asked) -> Result<Asked, Trouble>
+    ensures exact { Asks result (none_missing (question_of asked) (missing (question_of asked))) }
     ensures named { IfOk result HasNames }
 {
     let Some(kind) = missing(asked.word, asked.names.len()) else {
@@ -127,9 +127,10 @@ fn missing(word: Word, count: usize) -> Option<&'static str>
     match (word, count) {
         (Word::Diff { .. }, 0) => Some("OLD"),
         (Word::Diff { .. }, 1) => Some("NEW"),
+        (Word::Expect, 0) => Some("POLICY"),
         (Word::Replay, 0) => Some("LOG"),
         (Word::Why, 0) => Some("CALL"),
-        (Word::Replay | Word::Why, 1) | (_, 0) => Some("FILE"),
+        (Word::Expect | Word::Replay | Word::Why, 1) | (_, 0) => Some("FILE"),
         _ => None,
     }
 }

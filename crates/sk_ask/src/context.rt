@@ -15,14 +15,21 @@ const NEWEST: Kernel = Kernel {
 };
 
 /// Where profiles are to hold.
-pub fn context_of<'a>(asked: &'a Asked<'_>) -> Context<'a>
+pub fn context_of<'a>(asked: &'a Asked) -> Context<'a>
     ensures context { IsContextOf (question_of asked.now) result }
+{
+    context_on(asked, asked.arch)
+}
+
+/// Where they are to hold, if this architecture is named in place of the one that is.
+pub fn context_on<'a>(asked: &'a Asked, arch: Option<Architecture>) -> Context<'a>
+    ensures context { IsContextOf (record (question_of asked.now) { arch = arch }) result }
 {
     Context {
         capabilities: &asked.caps,
         kernel: asked.kernel.unwrap_or(NEWEST),
         runc: asked.runc,
-        machine: machine_there(asked.machine, asked.arch),
+        machine: machine_there(asked.machine, arch),
         native: asked.native,
     }
 }

@@ -1,19 +1,17 @@
 //! `ask diff`: where the filters of two files answer otherwise.
-ghost use Rattle.std.specs.Prelude.{◌≡◌, ◌++◌, take, drop, map, string_bytes, IfOk};
+ghost use Rattle.std.specs.Prelude.{◌≡◌, ◌++◌, take, drop, map, string_bytes};
+ghost use Rattle.sk_ask.specs.Counts.{CountsReads};
+ghost use Rattle.sk_ask.specs.Diffs.{IsDiff, relation_asked};
 ghost use Rattle.sk_ask.specs.Endings.{ending_of};
-ghost use Rattle.sk_ask.specs.Diffs.{IsAnalysed, IsDiff, relation_asked};
+ghost use Rattle.sk_ask.specs.Troubles.{OfFiles};
 
 use crate::analysis::Analysis;
 use crate::answer::{Answer, Tells};
-use crate::conclusion::concluded;
-use crate::on::{On, filters_on};
-use crate::{Filters, Trouble};
-use sk_filter::Chain;
-use sk_when::{Budgets, Comparison, Relation};
-use std::alloc::{AllocError, Global};
-
-/// How many rows a comparison may take that need all the steps of a row.
-const MOST_ROWS: u32 = 4;
+use crate::comparison::compared;
+use crate::on::On;
+use crate::{Filters, Reader, Shelf, Trouble};
+use sk_when::Relation;
+use std::alloc::Global;
 
 /// What could not be done where some calls are undecided.
 const NOT_COMPARED: &str = "diff: the filters could not be compared";
@@ -35,64 +33,46 @@ impl<A: Analysis> Tells for Diff<'_, A> {
 
     fn told(self, alloc: Global, filters: Filters) -> Result<Answer, Trouble> {
         let Diff { on, stricter, old } = self;
-        compared(alloc, &on, stricter, old, filters)
+        let mut notes = old.notes;
+        notes.extend_from_slice(&filters.notes)?;
+        let relation = relation_asked(stricter);
+        compared(
+            alloc,
+            &on,
+            relation,
+            NOT_COMPARED,
+            old.chain,
+            filters.chain,
+            notes,
+        )
     }
 }
 
-/// The first name, and those behind it.
-pub fn sides(names: &[String]) -> (&[String], &[String])
+/// The answer to the filters of the file with the first of these names, and to those of the files behind it.
+pub fn diff_answer<S: Shelf, A: Analysis>(
+    alloc: Global,
+    names: &[String],
+    reader: &Reader<'_, S>,
+    on: On<'_, A>,
+    stricter: bool,
+    reads: &mut u64,
+) -> Result<Answer, Trouble>
+    ensures told { OfFiles reader.now.manner (S.held reader.now.shelf.now) reader.now.context.now (take 1 (map string_bytes names.now)) (ending_of result) (λ old.
+        OfFiles reader.now.manner (S.held reader.now.shelf.now) reader.now.context.now (drop 1 (map string_bytes names.now)) (ending_of result) (λ new.
+        IsDiff (A.may_spend on.entry.analysis.now) on.entry.naming on.entry.architecture stricter old.chain new.chain (old.notes ++ new.notes) (ending_of result))) }
+    ensures counted { CountsReads result reads.old reads.new }
+{
+    let (old, new) = sides(names);
+    let old = reader.filters(alloc, reads, old)?;
+    reader.answer(alloc, reads, new, Diff { on, stricter, old })
+}
+
+// The first name, and those behind it.
+fn sides(names: &[String]) -> (&[String], &[String])
     ensures old { map string_bytes result.0.now ≡ take 1 (map string_bytes names.now) }
     ensures new { map string_bytes result.1.now ≡ drop 1 (map string_bytes names.now) }
 {
     names.split_at(names.len().min(1))
-}
-
-fn compared<A: Analysis>(
-    alloc: Global,
-    on: &On<'_, A>,
-    stricter: bool,
-    old: Filters,
-    new: Filters,
-) -> Result<Answer, Trouble>
-    ensures told { IsDiff (A.may_spend on.now.analysis.now) on.now.naming on.now.architecture stricter old.chain new.chain
-        (old.notes.items ++ new.notes.items) (ending_of result) }
-{
-    let (old, mut notes) = filters_on(alloc, on.architecture, old)?;
-    let (new, more) = filters_on(alloc, on.architecture, new)?;
-    notes.extend_from_slice(&more)?;
-    let relation = relation_asked(stricter);
-    let comparison = analysed(alloc, on, relation, &old, &new)?;
-    concluded(
-        alloc,
-        NOT_COMPARED,
-        comparison.finding,
-        comparison.text,
-        notes,
-    )
-}
-
-// The comparison of two chains with the steps that a comparison gets.
-fn analysed<A: Analysis>(
-    alloc: Global,
-    on: &On<'_, A>,
-    relation: Relation,
-    old: &Chain,
-    new: &Chain,
-) -> Result<Comparison, AllocError>
-    ensures compared { IfOk result (λ it. IsAnalysed (A.may_spend on.now.analysis.now) on.now.naming on.now.architecture relation old.now new.now
-        it.finding (string_bytes it.text)) }
-{
-    let mut budgets = Budgets::of_rows(MOST_ROWS);
-    let analysis = on.analysis;
-    analysis.diff(
-        alloc,
-        on.naming,
-        on.architecture,
-        relation,
-        old,
-        new,
-        &mut budgets,
-    )
 }
 
 fn relation_asked(stricter: bool) -> Relation

@@ -16,6 +16,7 @@ use crate::expansion::{Expansion, expanded};
 use crate::fault::Refused;
 use crate::files::find;
 use crate::found::Found;
+use crate::manner::Manner;
 use crate::shelf::{Shelf, contents};
 use crate::text::fault_text;
 use crate::trouble::Trouble;
@@ -32,12 +33,12 @@ pub struct Filters {
     pub notes: Vec<u8>,
 }
 
-/// How files are read: from where, where the profiles among them are to hold, and whether bytes may have the highest first.
+/// How files are read: from where, where the profiles among them are to hold, and how they are taken for filters.
 #[derive(Drop)]
 pub struct Reader<'a, S> {
     pub shelf: &'a S,
     pub context: &'a Context<'a>,
-    pub big_endian: bool,
+    pub manner: Manner,
 }
 
 impl<S: Shelf> Reader<'_, S> {
@@ -49,13 +50,13 @@ impl<S: Shelf> Reader<'_, S> {
         reads: &mut u64,
         names: &[String],
     ) -> Result<Filters, Trouble>
-        ensures read { IfOk result (λ filters. ReadsFilters self.now.big_endian (S.held self.now.shelf.now) self.now.context.now
+        ensures read { IfOk result (λ filters. ReadsFilters self.now.manner (S.held self.now.shelf.now) self.now.context.now
             (map string_bytes names.now) (read_of filters)) }
-        ensures refused { IfErr result (IsRefusedOf self.now.big_endian (S.held self.now.shelf.now) self.now.context.now (map string_bytes names.now)) }
+        ensures refused { IfErr result (IsRefusedOf self.now.manner (S.held self.now.shelf.now) self.now.context.now (map string_bytes names.now)) }
         ensures counted { CountsReads result reads.old reads.new }
     {
         let files = contents(alloc, self.shelf, reads, names)?;
-        let expansion = expanded(alloc, self.big_endian, self.context, names, &files)?;
+        let expansion = expanded(alloc, self.manner, self.context, names, &files)?;
         read(alloc, names, files, expansion)
     }
 
@@ -67,7 +68,7 @@ impl<S: Shelf> Reader<'_, S> {
         names: &[String],
         word: T,
     ) -> Result<Answer, Trouble>
-        ensures told { OfFiles self.now.big_endian (S.held self.now.shelf.now) self.now.context.now (map string_bytes names.now) (ending_of result)
+        ensures told { OfFiles self.now.manner (S.held self.now.shelf.now) self.now.context.now (map string_bytes names.now) (ending_of result)
             (λ read. T.tells word read (ending_of result)) }
         ensures counted { CountsReads result reads.old reads.new }
     {
@@ -97,8 +98,11 @@ fn read(
     }
 }
 
-// The filters that the images are, of which nothing is told yet.
-fn judged(alloc: Global, images: &[Vec<u8>]) -> Result<Result<Filters, Refused>, AllocError>
+/// The filters that the images are, of which nothing is told yet.
+pub(crate) fn judged(
+    alloc: Global,
+    images: &[Vec<u8>],
+) -> Result<Result<Filters, Refused>, AllocError>
     ensures exact { IfOk result (λ said. Judges said (judged (map (λ image. image.items) images.now))) }
     ensures given { IfOk result (λ said. IfErr said (λ refused. refused.file < length images.now)) }
 {

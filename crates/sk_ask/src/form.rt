@@ -3,7 +3,7 @@ ghost use Rattle.std.specs.Prelude.{◌≡◌, ◌==◌, IfOk, filter, length, n
 ghost use Rattle.std.specs.List.{list_all, list_any};
 ghost use Rattle.sk_text.specs.Lines.{lines_of, words_of};
 ghost use Rattle.sk_text.specs.Hexadecimal.{hex_text_bytes};
-ghost use Rattle.sk_ask.specs.Forms.{begins_filter, form_of, is_digit_or_blank, is_lines, is_policy, says_something, without_returns};
+ghost use Rattle.sk_ask.specs.Forms.{begins_filter, form_of, is_digit_or_blank, is_lines, is_policy, says_something, unmarked, without_returns};
 ghost use Rattle.sk_ask.specs.Filters.{with_file, with_digits, some_more};
 ghost use Rattle.sk_ask.specs.Finding.{filters_of};
 ghost use Rattle.sk_ask.specs.Answers.{found_in, Finds};
@@ -11,6 +11,7 @@ ghost use Rattle.sk_ask.specs.Answers.{found_in, Finds};
 use crate::fault::{FileFault, Refused};
 use crate::found::{Found, Place, with_filter};
 use crate::lines::with_lines;
+use crate::other_names::behind;
 use sk_profile_json::is_profile;
 use sk_text::{HexFault, Lines, Words, bytes_of_text};
 use std::alloc::{AllocError, Global};
@@ -24,6 +25,17 @@ pub enum Form {
     Digits,
     /// Lines `filter HEX`.
     Lines,
+}
+
+/// The text of a file with these bytes, where it is one with a byte order mark, and else the bytes.
+#[tactic(auto, unfolding(crate::specs::Forms::unmarked))]
+pub(crate) fn unmarked(bytes: &[u8]) -> &[u8]
+    ensures text { result.now ≡ unmarked bytes.now }
+{
+    match behind(&[0xef, 0xbb, 0xbf], bytes) {
+        Some(text) if !text.contains(&0) => text,
+        _ => bytes,
+    }
 }
 
 /// The form of a file with these bytes.

@@ -1,18 +1,19 @@
 //! `ask lint`: the calls that get another verdict by bits that Linux does not read.
-ghost use Rattle.std.specs.Prelude.{◌≡◌, ◌++◌, ℕ, IfOk, string_bytes};
+ghost use Rattle.std.specs.Prelude.{◌≡◌, ◌++◌, ℕ, IfOk, map, string_bytes};
 ghost use Rattle.sk_filter.specs.Chains.{IsWithinLimit};
 ghost use Rattle.sk_ask.specs.Concluding.{EndsAs};
 ghost use Rattle.sk_ask.specs.Counts.{CountsReads};
 ghost use Rattle.sk_ask.specs.Endings.{MayEnd, ending_of};
-ghost use Rattle.sk_ask.specs.Lints.{IsLinted, not_followed, note_text, remarks_on};
+ghost use Rattle.sk_ask.specs.Lints.{IsLinted, TellsLint, not_followed, note_text, remarks_on};
 ghost use Rattle.sk_ask.specs.Said.{all_said};
+ghost use Rattle.sk_ask.specs.Troubles.{OfFiles};
 
 use crate::analysis::Analysis;
 use crate::answer::{Answer, Tells};
 use crate::conclusion::concluded;
 use crate::on::On;
 use crate::remark::{Entries, entries_of};
-use crate::{Filters, Trouble, of_word};
+use crate::{Filters, Reader, Shelf, Trouble, of_word};
 use sk_filter::Chain;
 use sk_profile_json::Context;
 use sk_text::Lines;
@@ -36,9 +37,6 @@ pub struct Lint<'a, A> {
 }
 
 impl<A: Analysis> Tells for Lint<'_, A> {
-    ghost use Rattle.std.specs.Prelude.{map, string_bytes};
-    ghost use Rattle.sk_ask.specs.Lints.{TellsLint};
-
     ghost tells = { λ it read ending.
         TellsLint (A.may_spend it.on.analysis.now) it.on.naming it.all it.context.now (map string_bytes it.names.now) read ending };
 
@@ -47,6 +45,29 @@ impl<A: Analysis> Tells for Lint<'_, A> {
         let it = linted(alloc, &self.on, self.all, &entries, &filters.chain)?;
         answered(alloc, it, filters.notes)
     }
+}
+
+/// The answer to the filters of the files with these names.
+pub fn lint_answer<S: Shelf, A: Analysis>(
+    alloc: Global,
+    names: &[String],
+    reader: &Reader<'_, S>,
+    on: On<'_, A>,
+    all: bool,
+    reads: &mut u64,
+) -> Result<Answer, Trouble>
+    ensures told { OfFiles reader.now.manner (S.held reader.now.shelf.now) reader.now.context.now (map string_bytes names.now) (ending_of result) (λ read.
+        TellsLint (A.may_spend on.entry.analysis.now) on.entry.naming all reader.now.context.now (map string_bytes names.now) read (ending_of result)) }
+    ensures counted { CountsReads result reads.old reads.new }
+{
+    let context = reader.context;
+    let lint = Lint {
+        on,
+        all,
+        context,
+        names,
+    };
+    reader.answer(alloc, reads, names, lint)
 }
 
 // What is found of a chain with the steps that this gets.

@@ -1,11 +1,12 @@
 //! The architecture whose calls are asked of, the call of it, and chains as they are for it.
-ghost use Rattle.std.specs.Prelude.{◌≡◌, IfOk, IfErr};
-ghost use Rattle.std.specs.Option.{option_map};
+ghost use Rattle.std.specs.Prelude.{◌≡◌, IfOk, IfErr, map, string_bytes};
 ghost use Rattle.sk_ask.specs.Architectures.{architecture_of, chain_on};
 ghost use Rattle.sk_ask.specs.Asking.{naming_asked};
-ghost use Rattle.sk_ask.specs.Calls.{IsAskedCall, IsNoCall};
+ghost use Rattle.sk_ask.specs.Calls.{AreAskedCalls, AreNoCalls};
 
-use crate::{Filters, Trouble, of_word};
+use crate::nearest::no_call_named;
+use crate::other_names::bare_name;
+use crate::{Filters, Trouble};
 use sk_arguments::Naming;
 use sk_filter::Chain;
 use sk_insn::ARCHITECTURE;
@@ -14,13 +15,11 @@ use sk_replay::call_named;
 use sk_survey::chain_for;
 use std::alloc::{AllocError, Global};
 
-/// What is asked of chains: by which analysis, of which architecture's calls, of which of these, if of one alone, and how numbers are
-/// written.
+/// What is asked of chains: by which analysis, of which architecture's calls, and how numbers are written.
 #[derive(Drop)]
 pub struct On<'a, A> {
     pub analysis: &'a A,
     pub architecture: Architecture,
-    pub call: Option<u32>,
     pub naming: Naming,
 }
 
@@ -42,22 +41,26 @@ pub fn naming_asked(numbers: bool) -> Naming
     }
 }
 
-/// The number of the call that is asked for, if one is.
-pub fn asked_call(
+/// The numbers of the calls that are asked for.
+pub fn asked_calls(
     alloc: Global,
     architecture: Architecture,
-    asked: Option<&str>,
-) -> Result<Option<u32>, Trouble>
-    ensures call { IfOk result (IsAskedCall architecture (option_map (λ word. word.now) asked.entry)) }
-    ensures no_call { IfErr result (λ why. IsNoCall architecture why (option_map (λ word. word.now) asked.entry)) }
+    asked: &[String],
+) -> Result<Vec<u32>, Trouble>
+    ensures calls { IfOk result (λ calls. AreAskedCalls architecture (map string_bytes asked.now) calls.items) }
+    ensures no_call { IfErr result (λ why. AreNoCalls architecture why (map string_bytes asked.now)) }
 {
-    let Some(word) = asked else {
-        return Ok(None);
-    };
-    match call_named(architecture, word.as_bytes()) {
-        Some(nr) => Ok(Some(nr)),
-        None => Err(Trouble::Refused(of_word(alloc, "no call is named ", word.as_bytes())?)),
+    let mut calls = Vec::new(alloc);
+    let mut rest = asked;
+    while let Some((word, left)) = rest.split_first() {
+        let Some(nr) = call_named(architecture, bare_name(word.as_bytes())) else {
+            let line = no_call_named(alloc, architecture, word.as_bytes())?;
+            return Err(Trouble::Refused(line));
+        };
+        calls.push(nr)?;
+        rest = left;
     }
+    Ok(calls)
 }
 
 /// The chain of filters as it is for the calls of an architecture, and the notes on the profiles among them.
@@ -73,7 +76,12 @@ pub fn filters_on(
     Ok((chain_on(alloc, architecture, chain)?, notes))
 }
 
-fn chain_on(alloc: Global, architecture: Architecture, chain: Chain) -> Result<Chain, AllocError>
+/// A chain as it is for the calls of an architecture.
+pub fn chain_on(
+    alloc: Global,
+    architecture: Architecture,
+    chain: Chain,
+) -> Result<Chain, AllocError>
     ensures chain { IfOk result (λ it. it ≡ chain_on architecture chain) }
 {
     let number = architecture.audit();

@@ -1,10 +1,15 @@
 //! What is said of a call below its line: the entries of profiles that part it from the one that Linux takes it for.
 ghost use Rattle.std.specs.Prelude.{◌≡◌, ◌++◌, IfOk, OnOk, flat_map, map, string_bytes};
 ghost use Rattle.std.specs.List.{zip};
+ghost use Rattle.std.specs.Option.{option_map};
+ghost use Rattle.sk_profile.specs.Views.{profile_of};
+ghost use Rattle.sk_profile_json.specs.Partings.{IsSaidBy};
+ghost use Rattle.sk_ask.specs.Forms.{unmarked};
 ghost use Rattle.sk_ask.specs.Lints.{AreSaid, entry_line, file_remark};
 ghost use Rattle.sk_ask.specs.Said.{all_said, said_of};
 
 use crate::complaint::shown_name;
+use crate::form::unmarked;
 use sk_insn::Record;
 use sk_profile::Profile;
 use sk_profile_json::{Context, Parting, partings, profile_of_bytes, push_parting};
@@ -55,12 +60,23 @@ pub fn entries_of<'a>(
         };
         said.push(Said {
             name: name.as_str(),
-            profile: profile_of_bytes(alloc, context, file)?,
+            profile: profile_in(alloc, context, file)?,
         })?;
         rest = other_names;
         left = other_files;
     }
     Ok(Entries { alloc, files: said })
+}
+
+// The profile that a file says, if it says one.
+fn profile_in(
+    alloc: Global,
+    context: &Context<'_>,
+    file: &[u8],
+) -> Result<Option<Profile>, AllocError>
+    ensures said { IfOk result (λ profile. IsSaidBy context.now (unmarked file.now) (option_map profile_of profile)) }
+{
+    profile_of_bytes(alloc, context, unmarked(file))
 }
 
 fn push_files(

@@ -1,6 +1,13 @@
 //! `ask replay`: the verdicts on the calls of a log.
+ghost use Rattle.std.specs.Prelude.{◌≤◌, length, map, string_bytes};
+ghost use Rattle.sk_ask.specs.Counts.{CountsReads};
+ghost use Rattle.sk_ask.specs.Endings.{ComesTo, ending_of};
+ghost use Rattle.sk_ask.specs.Replays.{OfLog, replayed};
+ghost use Rattle.sk_ask.specs.Troubles.{OfFiles, OfFirst};
+
 use crate::answer::{Answer, Tells};
-use crate::{Filters, Trouble, about};
+use crate::words::first_name;
+use crate::{Filters, MOST_LOG_BYTES, Reader, Shelf, Trouble, about, content};
 use sk_names::Architecture;
 use std::alloc::Global;
 
@@ -32,4 +39,28 @@ impl Tells for Replay<'_> {
             denies: replay.denies,
         })
     }
+}
+
+/// The answer to the log in the file with the first of these names, and to the filters of the files behind it.
+pub fn replay_answer<S: Shelf>(
+    alloc: Global,
+    names: &[String],
+    reader: &Reader<'_, S>,
+    architecture: Architecture,
+    reads: &mut u64,
+) -> Result<Answer, Trouble>
+    requires named { 1 ≤ length names.now }
+    ensures told { OfFirst (map string_bytes names.now) (ending_of result) (λ name others. OfLog (S.held reader.now.shelf.now) name (ending_of result) (λ log.
+        OfFiles reader.now.manner (S.held reader.now.shelf.now) reader.now.context.now others (ending_of result) (λ read.
+        ComesTo (replayed architecture name log read.chain read.notes) (ending_of result)))) }
+    ensures counted { CountsReads result reads.old reads.new }
+{
+    let (name, files) = first_name(names);
+    let log = content(alloc, reader.shelf, reads, name, MOST_LOG_BYTES)?;
+    let replay = Replay {
+        architecture,
+        name,
+        log,
+    };
+    reader.answer(alloc, reads, files, replay)
 }

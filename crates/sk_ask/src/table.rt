@@ -1,8 +1,8 @@
 //! The table of words: of each its line, with its options and what stands before its FILEs.
-ghost use Rattle.std.specs.Prelude.{◌≤◌, length, map, string_bytes};
+ghost use Rattle.std.specs.Prelude.{◌≡◌, ◌≤◌, length, map, string_bytes};
 ghost use Rattle.sk_ask.specs.Counts.{CountsReads};
 ghost use Rattle.sk_ask.specs.Answering.{AnswersThere, AnswersQuestion};
-ghost use Rattle.sk_ask.specs.Asking.{wanted};
+ghost use Rattle.sk_ask.specs.Asking.{manner_of, wanted};
 ghost use Rattle.sk_ask.specs.Asked.{question_of};
 ghost use Rattle.sk_ask.specs.Endings.{ending_of};
 ghost use Rattle.sk_ask.specs.Troubles.{OfFiles};
@@ -11,25 +11,27 @@ use crate::analysis::Analysis;
 use crate::answer::Answer;
 use crate::arches::Arches;
 use crate::calls::Calls;
-use crate::complete::is_turned;
+use crate::check::check_answer;
 use crate::context::context_of;
-use crate::diff::{Diff, sides};
+use crate::diff::diff_answer;
+use crate::expect::expect_answer;
 use crate::filter::Filter;
-use crate::lint::Lint;
-use crate::on::{On, architecture_of, asked_call, naming_asked};
-use crate::replay::Replay;
+use crate::lint::lint_answer;
+use crate::manner::manner_of;
+use crate::on::{On, architecture_of, asked_calls, naming_asked};
+use crate::replay::replay_answer;
 use crate::show::Show;
 use crate::when::When;
-use crate::why::{Why, meant};
+use crate::why::why_answer;
 use crate::word::Word;
-use crate::words::{Asked, first_name};
-use crate::{MOST_LOG_BYTES, Reader, Shelf, Trouble, content};
+use crate::words::Asked;
+use crate::{Reader, Shelf, Trouble};
 use std::alloc::Global;
 
 /// Answers what the words ask.
 pub fn asked_answer<S: Shelf, A: Analysis>(
     alloc: Global,
-    asked: &Asked<'_>,
+    asked: &Asked,
     shelf: &S,
     analysis: &A,
     reads: &mut u64,
@@ -40,71 +42,73 @@ pub fn asked_answer<S: Shelf, A: Analysis>(
 {
     let context = context_of(asked);
     let architecture = architecture_of(asked.arch);
-    let call = asked_call(alloc, architecture, asked.call)?;
+    let calls = asked_calls(alloc, architecture, &asked.calls)?;
     let reader = Reader {
         shelf,
         context: &context,
-        big_endian: is_turned(asked.arch),
+        manner: manner_of(asked),
     };
     let on = On {
         analysis,
         architecture,
-        call,
         naming: naming_asked(asked.numbers),
     };
-    by_word(alloc, asked.word, &asked.names, &reader, on, reads)
+    by_word(
+        alloc,
+        asked,
+        asked.word,
+        &asked.names,
+        &calls,
+        &reader,
+        on,
+        reads,
+    )
 }
 
 fn by_word<S: Shelf, A: Analysis>(
     alloc: Global,
+    asked: &Asked,
     word: Word,
     names: &[String],
+    calls: &[u32],
     reader: &Reader<'_, S>,
     on: On<'_, A>,
     reads: &mut u64,
 ) -> Result<Answer, Trouble>
     requires named { length (wanted word) ≤ length names.now }
-    ensures told { AnswersQuestion (S.held reader.now.shelf.now) (A.may_spend on.entry.analysis.now) reader.now.context.now
-        (OfFiles reader.now.big_endian (S.held reader.now.shelf.now) reader.now.context.now)
-        on.entry.architecture on.entry.call on.entry.naming word (map string_bytes names.now) (ending_of result) }
+    requires manner { reader.now.manner ≡ manner_of (question_of asked.now) }
+    ensures told { AnswersQuestion (S.held reader.now.shelf.now) (A.may_spend on.entry.analysis.now) (question_of asked.now) reader.now.context.now
+        (OfFiles reader.now.manner (S.held reader.now.shelf.now) reader.now.context.now)
+        on.entry.architecture calls.now on.entry.naming word (map string_bytes names.now) (ending_of result) }
     ensures counted { CountsReads result reads.old reads.new }
 {
     let architecture = on.architecture;
     match word {
-        Word::Calls { examples } => reader.answer(alloc, reads, names, Calls { on, examples }),
-        Word::Filter { raw } => reader.answer(alloc, reads, names, Filter { raw }),
-        Word::When { dot } => reader.answer(alloc, reads, names, When { on, dot }),
-        Word::Diff { stricter } => {
-            let (old, new) = sides(names);
-            let old = reader.filters(alloc, reads, old)?;
-            reader.answer(alloc, reads, new, Diff { on, stricter, old })
-        }
-        Word::Lint { all } => {
-            let context = reader.context;
-            let lint = Lint {
+        Word::Calls { examples } => {
+            let calls = Calls {
                 on,
-                all,
-                context,
-                names,
+                calls,
+                examples,
             };
-            reader.answer(alloc, reads, names, lint)
+            reader.answer(alloc, reads, names, calls)
         }
-        Word::Replay => {
-            let (name, files) = first_name(names);
-            let log = content(alloc, reader.shelf, reads, name, MOST_LOG_BYTES)?;
-            let replay = Replay {
-                architecture,
-                name,
-                log,
+        Word::Filter { target, smaller } => {
+            let analysis = on.analysis;
+            let filter = Filter {
+                analysis,
+                target,
+                smaller,
             };
-            reader.answer(alloc, reads, files, replay)
+            reader.answer(alloc, reads, names, filter)
         }
-        Word::Why => {
-            let (word, files) = first_name(names);
-            let call = meant(alloc, architecture, word)?;
-            reader.answer(alloc, reads, files, Why { architecture, call })
-        }
+        Word::When { dot } => reader.answer(alloc, reads, names, When { on, calls, dot }),
+        Word::Diff { stricter } => diff_answer(alloc, names, reader, on, stricter, reads),
+        Word::Expect => expect_answer(alloc, asked, names, reader.shelf, on.analysis, reads),
+        Word::Lint { all } => lint_answer(alloc, names, reader, on, all, reads),
+        Word::Replay => replay_answer(alloc, names, reader, architecture, reads),
+        Word::Why => why_answer(alloc, names, reader, architecture, reads),
         Word::Show => reader.answer(alloc, reads, names, Show { architecture }),
         Word::Arches => reader.answer(alloc, reads, names, Arches),
+        Word::Check => check_answer(alloc, names, reader, reads),
     }
 }

@@ -17,7 +17,7 @@ pub fn fault_text(alloc: Global, fault: FileFault) -> Result<String, AllocError>
     let mut text = String::new(alloc);
     match fault {
         FileFault::NoFilter => text.push_str(
-            "holds no filter: expected bytes of struct sock_filter, hexadecimal digits, lines filter HEX, a policy, or a profile in JSON",
+            "holds no filter: expected bytes of struct sock_filter, hexadecimal digits, lines filter HEX, another form of a filter, a policy, or a profile in JSON",
         )?,
         FileFault::OddDigits => text.push_str(
             "has an odd number of hexadecimal digits: expected two for each byte",
@@ -38,7 +38,8 @@ pub fn fault_text(alloc: Global, fault: FileFault) -> Result<String, AllocError>
     Ok(text)
 }
 
-fn push_line(text: &mut String, line: Option<usize>) -> Result<(), AllocError>
+/// Puts behind a text in which line of a file something stands, if it is one of several.
+pub(crate) fn push_line(text: &mut String, line: Option<usize>) -> Result<(), AllocError>
     ensures text { OnOk result (string_bytes text.new ≡ string_bytes text.old ++ at_line line) }
 {
     match line {

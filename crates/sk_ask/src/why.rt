@@ -1,11 +1,19 @@
 //! `ask why`: the path of a call through the filters.
-ghost use Rattle.std.specs.Prelude.{◌≡◌, IfOk, IfErr, Ok};
+ghost use Rattle.std.specs.Prelude.{◌≡◌, ◌≤◌, IfOk, IfErr, Ok, length, map, string_bytes};
+ghost use Rattle.std.specs.Result.{is_ok};
 ghost use Rattle.sk_replay.specs.CallWords.{call_meant};
 ghost use Rattle.sk_replay.specs.Faults.{fault_of};
-ghost use Rattle.sk_ask.specs.Whys.{IsFaultOf, fault_line, other_line};
+ghost use Rattle.sk_ask.specs.OtherNames.{bare_name};
+ghost use Rattle.sk_ask.specs.Counts.{CountsReads};
+ghost use Rattle.sk_ask.specs.Endings.{ending_of};
+ghost use Rattle.sk_ask.specs.Troubles.{OfFiles, OfFirst};
+ghost use Rattle.sk_ask.specs.Whys.{IsFaultOf, OfMeant, TellsWhyOf, fault_line, no_call_line, other_line};
 
 use crate::answer::{Answer, Tells};
-use crate::{Filters, Trouble, of_word};
+use crate::nearest::no_call_named;
+use crate::other_names::bare_name;
+use crate::words::first_name;
+use crate::{Filters, Reader, Shelf, Trouble, of_word};
 use sk_insn::Record;
 use sk_names::Architecture;
 use sk_replay::{CallFault, call_in, name_part, plain_word};
@@ -19,8 +27,6 @@ pub struct Why {
 }
 
 impl Tells for Why {
-    ghost use Rattle.sk_ask.specs.Whys.{TellsWhyOf};
-
     ghost tells = { λ it read ending. TellsWhyOf it.architecture it.call read.chain read.notes ending };
 
     fn told(self, alloc: Global, filters: Filters) -> Result<Answer, Trouble> {
@@ -33,27 +39,85 @@ impl Tells for Why {
     }
 }
 
-/// The call that a word stands for.
-pub fn meant(alloc: Global, architecture: Architecture, word: &str) -> Result<Record, Trouble>
-    ensures call { IfOk result (λ call. call_meant architecture word.now ≡ Ok call) }
-    ensures fault { IfErr result (IsFaultOf architecture word.now) }
+/// The answer to the call that the first of these names stands for, and to the filters of the files behind it.
+pub fn why_answer<S: Shelf>(
+    alloc: Global,
+    names: &[String],
+    reader: &Reader<'_, S>,
+    architecture: Architecture,
+    reads: &mut u64,
+) -> Result<Answer, Trouble>
+    requires named { 1 ≤ length names.now }
+    ensures told { OfFirst (map string_bytes names.now) (ending_of result) (λ word others. OfMeant architecture word others (ending_of result) (λ call.
+        OfFiles reader.now.manner (S.held reader.now.shelf.now) reader.now.context.now others (ending_of result) (λ read.
+        TellsWhyOf architecture call read.chain read.notes (ending_of result)))) }
+    ensures counted { CountsReads result reads.old reads.new }
 {
-    let Some(plain) = plain_word(alloc, word.as_bytes())? else {
-        return Err(Trouble::Refused(fault_line(alloc, word, CallFault::Unquoted)?));
+    let (word, files) = first_name(names);
+    let call = meant(alloc, architecture, word, files)?;
+    reader.answer(alloc, reads, files, Why { architecture, call })
+}
+
+// The call that a word before others stands for.
+fn meant(
+    alloc: Global,
+    architecture: Architecture,
+    word: &str,
+    others: &[String],
+) -> Result<Record, Trouble>
+    ensures call { IfOk result (λ call. call_meant architecture (bare_name word.now) ≡ Ok call) }
+    ensures fault { IfErr result (IsFaultOf architecture word.now (map string_bytes others.now)) }
+{
+    let Some(plain) = plain_word(alloc, bare_name(word.as_bytes()))? else {
+        return Err(Trouble::Refused(other_line(alloc, CallFault::Unquoted)?));
     };
     match call_in(architecture, &plain) {
         Ok(call) => Ok(call),
-        Err(fault) => Err(Trouble::Refused(fault_line(alloc, word, fault)?)),
+        Err(fault) => Err(Trouble::Refused(fault_line(alloc, architecture, word, others, fault)?)),
     }
 }
 
 #[tactic(auto, using(crate::proofs::Faults::other_faults))]
-fn fault_line(alloc: Global, word: &str, fault: CallFault<'_>) -> Result<Vec<u8>, AllocError>
-    ensures line { IfOk result (λ line. line.items ≡ fault_line word.now (fault_of fault.entry)) }
+fn fault_line(
+    alloc: Global,
+    architecture: Architecture,
+    word: &str,
+    others: &[String],
+    fault: CallFault<'_>,
+) -> Result<Vec<u8>, AllocError>
+    ensures line { IfOk result (λ line. line.items ≡ fault_line architecture word.now (map string_bytes others.now) (fault_of fault.entry)) }
 {
     match fault {
-        CallFault::NoCall => of_word(alloc, "no call is named ", name_part(word.as_bytes())),
+        CallFault::NoCall => no_call_line(alloc, architecture, word, others),
         _ => other_line(alloc, fault),
+    }
+}
+
+// The line that says of a word that it names no call.
+fn no_call_line(
+    alloc: Global,
+    architecture: Architecture,
+    word: &str,
+    others: &[String],
+) -> Result<Vec<u8>, AllocError>
+    ensures line { IfOk result (λ line. line.items ≡ no_call_line architecture word.now (map string_bytes others.now)) }
+{
+    if let Some((other, _)) = others.split_first() {
+        if is_call(alloc, architecture, other.as_str())? {
+            let what = "why: the call stands before the files: ";
+            return of_word(alloc, what, other.as_bytes());
+        }
+    }
+    no_call_named(alloc, architecture, name_part(word.as_bytes()))
+}
+
+// Whether a word stands for a call.
+fn is_call(alloc: Global, architecture: Architecture, word: &str) -> Result<bool, AllocError>
+    ensures call { IfOk result (λ it. it ≡ is_ok (call_meant architecture (bare_name word.now))) }
+{
+    match plain_word(alloc, bare_name(word.as_bytes()))? {
+        Some(plain) => Ok(call_in(architecture, &plain).is_ok()),
+        None => Ok(false),
     }
 }
 

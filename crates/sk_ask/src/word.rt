@@ -1,20 +1,26 @@
 //! The words of `ask`, and the options that a word stands behind.
-ghost use Rattle.std.specs.Prelude.{◌≡◌};
-ghost use Rattle.sk_ask.specs.Asking.{valued_name, valued_named, value_kind, tells_calls, tells_conditions, tells_of_one, with_own_flag, word_named, word_name};
+ghost use Rattle.std.specs.Prelude.{◌≡◌, IfOk, filter, map};
+ghost use Rattle.std.specs.List.{list_any};
+ghost use Rattle.std.specs.Str.{bytes_eq};
+ghost use Rattle.sk_ask.specs.Asking.{asks_help, asks_version, has_option, options_of, shared_flags, valued_name, valued_named, value_kind, tells_calls, tells_conditions, tells_of_one, with_own_flag, with_target, word_named, writes_filters, word_name};
 
+use crate::target::Target;
 use sk_text::is_same;
+use std::alloc::{AllocError, Global};
 
 /// What is asked for, with the options that stand alone, each of one word.
 #[derive(Clone, Copy, Debug, PartialEq, Eq)]
 pub enum Word {
     /// What filters can answer to each call.
     Calls { examples: bool },
-    /// The filters in another form.
-    Filter { raw: bool },
+    /// The filters in a form, or one in their place.
+    Filter { target: Target, smaller: bool },
     /// Under which conditions each verdict comes.
     When { dot: bool },
     /// Where two chains answer otherwise.
     Diff { stricter: bool },
+    /// Where the verdicts are not as a policy expects.
+    Expect,
     /// Which calls get another verdict by bits that Linux does not read.
     Lint { all: bool },
     /// The verdicts on the calls of a log.
@@ -25,7 +31,35 @@ pub enum Word {
     Show,
     /// What the filters answer to each architecture.
     Arches,
+    /// Whether Linux takes the filters.
+    Check,
 }
+
+/// The names of all words.
+pub const NAMES: [&str; 11] = [
+    "calls", "filter", "when", "diff", "expect", "lint", "replay", "why", "show", "arches", "check",
+];
+
+/// The names of all options, those of several words first.
+pub const OPTIONS: [&str; 17] = [
+    "--help",
+    "--arch",
+    "--cap",
+    "--kernel",
+    "--machine",
+    "--native",
+    "--runc",
+    "--strict",
+    "--numbers",
+    "--call",
+    "--examples",
+    "--to",
+    "--raw",
+    "--smaller",
+    "--dot",
+    "--stricter",
+    "--all",
+];
 
 impl Word {
     /// The one with this name.
@@ -35,11 +69,16 @@ impl Word {
         if is_same(name, b"calls") {
             Some(Word::Calls { examples: false })
         } else if is_same(name, b"filter") {
-            Some(Word::Filter { raw: false })
+            Some(Word::Filter {
+                target: Target::Lines,
+                smaller: false,
+            })
         } else if is_same(name, b"when") {
             Some(Word::When { dot: false })
         } else if is_same(name, b"diff") {
             Some(Word::Diff { stricter: false })
+        } else if is_same(name, b"expect") {
+            Some(Word::Expect)
         } else if is_same(name, b"lint") {
             Some(Word::Lint { all: false })
         } else if is_same(name, b"replay") {
@@ -50,6 +89,8 @@ impl Word {
             Some(Word::Show)
         } else if is_same(name, b"arches") {
             Some(Word::Arches)
+        } else if is_same(name, b"check") {
+            Some(Word::Check)
         } else {
             None
         }
@@ -64,11 +105,23 @@ impl Word {
             Word::Filter { .. } => "filter",
             Word::When { .. } => "when",
             Word::Diff { .. } => "diff",
+            Word::Expect => "expect",
             Word::Lint { .. } => "lint",
             Word::Replay => "replay",
             Word::Why => "why",
             Word::Show => "show",
             Word::Arches => "arches",
+            Word::Check => "check",
+        }
+    }
+
+    // The same, where filters are written in this form.
+    pub(crate) fn with_target(self, target: Target) -> Word
+        ensures word { result ≡ with_target target self }
+    {
+        match self {
+            Word::Filter { smaller, .. } => Word::Filter { target, smaller },
+            _ => self,
         }
     }
 
@@ -80,7 +133,14 @@ impl Word {
             Word::Calls { .. } if is_same(name, b"--examples") => {
                 Some(Word::Calls { examples: true })
             }
-            Word::Filter { .. } if is_same(name, b"--raw") => Some(Word::Filter { raw: true }),
+            Word::Filter { smaller, .. } if is_same(name, b"--raw") => Some(Word::Filter {
+                target: Target::Raw,
+                smaller,
+            }),
+            Word::Filter { target, .. } if is_same(name, b"--smaller") => Some(Word::Filter {
+                target,
+                smaller: true,
+            }),
             Word::When { .. } if is_same(name, b"--dot") => Some(Word::When { dot: true }),
             Word::Diff { .. } if is_same(name, b"--stricter") => {
                 Some(Word::Diff { stricter: true })
@@ -104,6 +164,8 @@ pub enum Valued {
     Machine,
     /// The architecture whose calls are asked of.
     Arch,
+    /// The form that filters are written in.
+    To,
 }
 
 impl Valued {
@@ -116,6 +178,7 @@ impl Valued {
             Valued::Kernel => "--kernel",
             Valued::Machine => "--machine",
             Valued::Arch => "--arch",
+            Valued::To => "--to",
         }
     }
 
@@ -127,6 +190,7 @@ impl Valued {
             Valued::Call => "a name or a number",
             Valued::Cap | Valued::Machine | Valued::Arch => "a name",
             Valued::Kernel => "a version as 6.1",
+            Valued::To => "raw, hex, lines, c, base64, bpf_asm or json",
         }
     }
 
@@ -144,10 +208,69 @@ impl Valued {
             Some(Valued::Machine)
         } else if tells_of_one(word) && is_same(name, b"--arch") {
             Some(Valued::Arch)
+        } else if writes_filters(word) && is_same(name, b"--to") {
+            Some(Valued::To)
         } else {
             None
         }
     }
+}
+
+// Whether it asks how words are used.
+pub(crate) fn asks_help(text: &[u8]) -> bool
+    ensures asks { result ≡ asks_help text.now }
+{
+    is_same(text, b"-h") || is_same(text, b"--help")
+}
+
+// Whether it asks which program this is.
+pub(crate) fn asks_version(text: &[u8]) -> bool
+    ensures asks { result ≡ asks_version text.now }
+{
+    is_same(text, b"--version")
+}
+
+// The options that a word has.
+#[tactic(auto, unfolding(crate::specs::Asking::options_of))]
+pub(crate) fn options_of(alloc: Global, word: Word) -> Result<Vec<&'static str>, AllocError>
+    ensures options { IfOk result (λ options. map (λ name. name.now) options.items ≡ options_of word) }
+{
+    options_among(alloc, word, &OPTIONS)
+}
+
+fn options_among(
+    alloc: Global,
+    word: Word,
+    names: &[&'static str],
+) -> Result<Vec<&'static str>, AllocError>
+    ensures options { IfOk result (λ options. map (λ name. name.now) options.items ≡ filter (has_option word) (map (λ name. name.now) names.now)) }
+{
+    let mut options = Vec::new(alloc);
+    for name in names {
+        if has_option(word, name.as_bytes()) {
+            options.push(*name)?;
+        }
+    }
+    Ok(options)
+}
+
+fn has_option(word: Word, text: &[u8]) -> bool
+    ensures has { result ≡ has_option word text.now }
+{
+    Valued::named(word, text).is_some()
+        || word.with_own_flag(text).is_some()
+        || is_shared(text)
+        || tells_conditions(word) && is_same(text, b"--numbers")
+}
+
+// Whether it is an option without a word behind it that all have.
+fn is_shared(text: &[u8]) -> bool
+    ensures shared { result ≡ list_any (bytes_eq text.now) shared_flags }
+{
+    is_same(text, b"--help")
+        || is_same(text, b"--native")
+        || is_same(text, b"--runc")
+        || is_same(text, b"--strict")
 }
 
 fn tells_calls(word: Word) -> bool
@@ -162,8 +285,14 @@ pub(crate) fn tells_conditions(word: Word) -> bool
 {
     matches!(
         word,
-        Word::When { .. } | Word::Diff { .. } | Word::Lint { .. }
+        Word::When { .. } | Word::Diff { .. } | Word::Expect | Word::Lint { .. }
     )
+}
+
+fn writes_filters(word: Word) -> bool
+    ensures writes { result ≡ writes_filters word }
+{
+    matches!(word, Word::Filter { .. })
 }
 
 // Whether what it tells is of one architecture that may be named.

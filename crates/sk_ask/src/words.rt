@@ -1,25 +1,31 @@
 //! What is asked by the words behind `ask WORD`.
-ghost use Rattle.std.specs.Prelude.{◌≡◌, ◌≤◌, ◌∷◌, IfOk, length, string_bytes, map};
-ghost use Rattle.sk_names.specs.Architectures.{architecture_named};
+ghost use Rattle.std.specs.Prelude.{◌≡◌, ◌≤◌, ◌++◌, ◌∷◌, IfOk, Ok, codes, length, string_bytes, map};
+ghost use Rattle.std.specs.List.{before_first, after_first, slice_split};
 ghost use Rattle.sk_profile_json.specs.Capabilities.{capability};
 ghost use Rattle.sk_profile_json.specs.Machines.{machine_named};
-ghost use Rattle.sk_ask.specs.Asking.{asked_of, nothing_asked, with_word, with_free, with_valued, with_value, with_caps, with_kernel, with_machine, with_architecture, with_flag, with_name, is_given, expected_line, is_option, no_machine_line};
+ghost use Rattle.sk_ask.specs.Asking.{asked_of, nothing_asked, ends_options, with_names, with_word, with_free, with_joined_or_flag, with_joined, is_equals, with_valued, with_value, with_caps, with_each_cap, is_comma, with_form, with_kernel, with_machine, with_architecture, with_flag, with_name, is_given, valued_named, expected_line, is_option, no_machine_line, options_of, word_name};
+ghost use Rattle.sk_ask.specs.Nearest.{of_unknown};
+ghost use Rattle.sk_ask.specs.OtherNames.{architecture_meant};
 ghost use Rattle.sk_ask.specs.Asked.{question_of, Asks, HasNames};
+ghost use Rattle.sk_ask.specs.declared.word.Valued.TheVariants.{Call};
 
 use crate::complete::{ended, is_turned, turned_line};
-use crate::word::{Valued, Word, tells_conditions};
+use crate::nearest::of_unknown;
+use crate::other_names::{architecture_meant, kernel_meant};
+use crate::target::Target;
+use crate::word::{Valued, Word, asks_help, options_of, tells_conditions};
 use crate::{Trouble, of_word};
 use sk_names::Architecture;
-use sk_profile_json::{Kernel, Machine, capability, kernel_of};
+use sk_profile_json::{Kernel, Machine, capability};
 use sk_text::is_same;
 use std::alloc::{AllocError, Global};
 
 /// What a word and those behind it ask.
 #[derive(Drop)]
-pub struct Asked<'a> {
+pub struct Asked {
     pub word: Word,
-    /// The word behind `--call`.
-    pub call: Option<&'a str>,
+    /// The words behind each `--call`.
+    pub calls: Vec<String>,
     /// The names of the capabilities behind each `--cap`.
     pub caps: Vec<&'static str>,
     /// The version behind `--kernel`.
@@ -36,6 +42,8 @@ pub struct Asked<'a> {
     pub native: bool,
     /// runc attaches the filter.
     pub runc: bool,
+    /// What is passed over in a profile is trouble.
+    pub strict: bool,
     pub help: bool,
     /// The names of the files, or what else its names stand for.
     pub names: Vec<String>,
@@ -50,13 +58,13 @@ pub fn first_name(names: &[String]) -> (&str, &[String])
 }
 
 /// What the words behind this one ask, or the line that refuses them.
-pub fn asked_in<'a>(alloc: Global, word: Word, words: &'a [String]) -> Result<Asked<'a>, Trouble>
+pub fn asked_in(alloc: Global, word: Word, words: &[String]) -> Result<Asked, Trouble>
     ensures exact { Asks result (asked_of (nothing_asked word) (map string_bytes words.now)) }
     ensures named { IfOk result HasNames }
 {
     let mut asked = Asked {
         word,
-        call: None,
+        calls: Vec::new(alloc),
         caps: Vec::new(alloc),
         kernel: None,
         machine: None,
@@ -65,50 +73,98 @@ pub fn asked_in<'a>(alloc: Global, word: Word, words: &'a [String]) -> Result<As
         numbers: false,
         native: false,
         runc: false,
+        strict: false,
         help: false,
         names: Vec::new(alloc),
     };
     let mut rest = words;
     while let Some((text, left)) = rest.split_first() {
+        if ends_options(&asked, text.as_bytes()) {
+            return ended(alloc, with_names(asked, left)?);
+        }
         asked = with_word(alloc, asked, text)?;
         rest = left;
     }
     ended(alloc, asked)
 }
 
-fn with_word<'a>(alloc: Global, asked: Asked<'a>, text: &'a String) -> Result<Asked<'a>, Trouble>
-    ensures exact { Asks result (with_word (question_of asked.entry) (string_bytes text.now)) }
+// Whether all words behind this one are names.
+fn ends_options(asked: &Asked, text: &[u8]) -> bool
+    ensures ends { result ≡ ends_options (question_of asked.now) text.now }
+{
+    asked.awaits.is_none() && is_same(text, b"--")
+}
+
+fn with_names(asked: Asked, words: &[String]) -> Result<Asked, AllocError>
+    ensures exact { IfOk result (λ more. question_of more ≡ with_names (question_of asked) (map string_bytes words.now)) }
+{
+    let names = with_all(asked.names, words)?;
+    Ok(Asked { names, ..asked })
+}
+
+fn with_all(names: Vec<String>, words: &[String]) -> Result<Vec<String>, AllocError>
+    ensures all { IfOk result (λ all. map string_bytes all.items ≡ map string_bytes names.items ++ map string_bytes words.now) }
+{
+    let mut all = names;
+    let mut rest = words;
+    while let Some((word, left)) = rest.split_first() {
+        all.push(word.clone()?)?;
+        rest = left;
+    }
+    Ok(all)
+}
+
+fn with_word(alloc: Global, asked: Asked, text: &String) -> Result<Asked, Trouble>
+    ensures exact { Asks result (with_word (question_of asked) (string_bytes text.now)) }
 {
     match asked.awaits {
-        Some(option) => with_value(alloc, option, asked, text),
+        Some(option) => with_value(alloc, option, asked, text.as_str()),
         None => with_free(alloc, asked, text),
     }
 }
 
 // The word behind an option.
-fn with_value<'a>(
-    alloc: Global,
-    option: Valued,
-    asked: Asked<'a>,
-    text: &'a String,
-) -> Result<Asked<'a>, Trouble>
-    ensures exact { Asks result (with_value option (question_of asked.entry) (string_bytes text.now)) }
+fn with_value(alloc: Global, option: Valued, asked: Asked, text: &str) -> Result<Asked, Trouble>
+    ensures exact { Asks result (with_value option (question_of asked) text.now) }
 {
     match option {
-        Valued::Call => Ok(Asked {
-            call: Some(text.as_str()),
-            awaits: None,
-            ..asked
-        }),
-        Valued::Cap => with_caps(alloc, asked, text.as_bytes()),
-        Valued::Kernel => with_kernel(alloc, asked, kernel_of(text.as_bytes())),
+        Valued::Call => Ok(with_call(alloc, asked, text)?),
+        Valued::Cap => with_each_cap(alloc, asked, text),
+        Valued::Kernel => with_kernel(alloc, asked, kernel_meant(text.as_bytes())),
         Valued::Machine => with_machine(alloc, asked, text.as_bytes()),
         Valued::Arch => with_architecture(alloc, asked, text.as_bytes()),
+        Valued::To => with_form(alloc, asked, Target::named(text.as_bytes())),
     }
 }
 
-fn with_caps<'a>(alloc: Global, asked: Asked<'a>, text: &[u8]) -> Result<Asked<'a>, Trouble>
-    ensures exact { Asks result (with_caps (question_of asked.entry) text.now (capability text.now)) }
+fn with_call(alloc: Global, asked: Asked, text: &str) -> Result<Asked, AllocError>
+    ensures exact { IfOk result (λ more. Ok (question_of more) ≡ with_value Call (question_of asked) text.now) }
+{
+    let mut asked = Asked {
+        awaits: None,
+        ..asked
+    };
+    let call = String::from_str(alloc, text)?;
+    asked.calls.push(call)?;
+    Ok(asked)
+}
+
+// The capabilities between commas.
+#[tactic(auto, using(crate::proofs::Commas::first_part, crate::proofs::Commas::only_part, crate::proofs::Commas::is_shorter, crate::proofs::Commas::last_one))]
+fn with_each_cap(alloc: Global, asked: Asked, text: &str) -> Result<Asked, Trouble>
+    ensures exact { Asks result (with_each_cap (question_of asked) (slice_split is_comma text.now)) }
+{
+    let mut held = asked;
+    let mut rest = text;
+    while let Some((name, left)) = rest.split_once(',') {
+        held = with_caps(alloc, held, name.as_bytes())?;
+        rest = left;
+    }
+    with_caps(alloc, held, rest.as_bytes())
+}
+
+fn with_caps(alloc: Global, asked: Asked, text: &[u8]) -> Result<Asked, Trouble>
+    ensures exact { Asks result (with_caps (question_of asked) text.now (capability text.now)) }
 {
     let Some(names) = capability(text) else {
         let what = format!(in alloc; "{}: no capability is named ", asked.word.name())?;
@@ -122,12 +178,8 @@ fn with_caps<'a>(alloc: Global, asked: Asked<'a>, text: &[u8]) -> Result<Asked<'
     Ok(asked)
 }
 
-fn with_kernel<'a>(
-    alloc: Global,
-    asked: Asked<'a>,
-    kernel: Option<Kernel>,
-) -> Result<Asked<'a>, Trouble>
-    ensures exact { Asks result (with_kernel (question_of asked.entry) kernel) }
+fn with_kernel(alloc: Global, asked: Asked, kernel: Option<Kernel>) -> Result<Asked, Trouble>
+    ensures exact { Asks result (with_kernel (question_of asked) kernel) }
 {
     if kernel.is_none() {
         return Err(Trouble::Refused(expected_line(alloc, asked.word, Valued::Kernel)?));
@@ -139,8 +191,8 @@ fn with_kernel<'a>(
     })
 }
 
-fn with_machine<'a>(alloc: Global, asked: Asked<'a>, text: &[u8]) -> Result<Asked<'a>, Trouble>
-    ensures exact { Asks result (with_machine (question_of asked.entry) text.now (machine_named text.now)) }
+fn with_machine(alloc: Global, asked: Asked, text: &[u8]) -> Result<Asked, Trouble>
+    ensures exact { Asks result (with_machine (question_of asked) text.now (machine_named text.now)) }
 {
     let machine = Machine::named(text);
     if machine.is_none() {
@@ -164,10 +216,10 @@ fn no_machine_line(alloc: Global, word: Word, text: &[u8]) -> Result<Vec<u8>, Al
     of_word(alloc, &what, text)
 }
 
-fn with_architecture<'a>(alloc: Global, asked: Asked<'a>, text: &[u8]) -> Result<Asked<'a>, Trouble>
-    ensures exact { Asks result (with_architecture (question_of asked.entry) text.now (architecture_named text.now)) }
+fn with_architecture(alloc: Global, asked: Asked, text: &[u8]) -> Result<Asked, Trouble>
+    ensures exact { Asks result (with_architecture (question_of asked) text.now (architecture_meant text.now)) }
 {
-    let arch = Architecture::named(text);
+    let arch = architecture_meant(text);
     if arch.is_none() {
         let what = format!(in alloc; "{}: no architecture is named ", asked.word.name())?;
         return Err(Trouble::Refused(of_word(alloc, &what, text)?));
@@ -179,12 +231,25 @@ fn with_architecture<'a>(alloc: Global, asked: Asked<'a>, text: &[u8]) -> Result
     })
 }
 
+fn with_form(alloc: Global, asked: Asked, target: Option<Target>) -> Result<Asked, Trouble>
+    ensures exact { Asks result (with_form (question_of asked) target) }
+{
+    let Some(target) = target else {
+        return Err(Trouble::Refused(expected_line(alloc, asked.word, Valued::To)?));
+    };
+    Ok(Asked {
+        word: asked.word.with_target(target),
+        awaits: None,
+        ..asked
+    })
+}
+
 // A word that no option awaits.
-fn with_free<'a>(alloc: Global, asked: Asked<'a>, text: &String) -> Result<Asked<'a>, Trouble>
-    ensures exact { Asks result (with_free (question_of asked.entry) (string_bytes text.now)) }
+fn with_free(alloc: Global, asked: Asked, text: &String) -> Result<Asked, Trouble>
+    ensures exact { Asks result (with_free (question_of asked) (string_bytes text.now)) }
 {
     let bytes = text.as_bytes();
-    if is_same(bytes, b"--help") {
+    if asks_help(bytes) {
         return Ok(Asked {
             help: true,
             ..asked
@@ -192,12 +257,50 @@ fn with_free<'a>(alloc: Global, asked: Asked<'a>, text: &String) -> Result<Asked
     }
     match Valued::named(asked.word, bytes) {
         Some(option) => with_valued(alloc, option, asked),
+        None => with_joined_or_flag(alloc, asked, text),
+    }
+}
+
+fn with_joined_or_flag(alloc: Global, asked: Asked, text: &String) -> Result<Asked, Trouble>
+    ensures exact { Asks result (with_joined_or_flag (question_of asked) (string_bytes text.now)
+        (valued_named asked.word (before_first is_equals (string_bytes text.now)))) }
+{
+    match Valued::named(asked.word, before_equals(text).as_bytes()) {
+        Some(option) => with_joined(alloc, option, asked, behind_equals(text)),
         None => with_flag(alloc, asked, text),
     }
 }
 
-fn with_valued<'a>(alloc: Global, option: Valued, asked: Asked<'a>) -> Result<Asked<'a>, Trouble>
-    ensures exact { Asks result (with_valued option (question_of asked.entry)) }
+// An option and the word that is joined to it.
+fn with_joined(alloc: Global, option: Valued, asked: Asked, value: &str) -> Result<Asked, Trouble>
+    ensures exact { Asks result (with_joined option (question_of asked) value.now) }
+{
+    let more = with_valued(alloc, option, asked)?;
+    with_value(alloc, option, more, value)
+}
+
+// What stands before the first `=`.
+fn before_equals(text: &str) -> &str
+    ensures before { result.now ≡ before_first is_equals text.now }
+{
+    match text.split_once('=') {
+        Some((before, _)) => before,
+        None => text,
+    }
+}
+
+// What stands behind the first `=`.
+fn behind_equals(text: &str) -> &str
+    ensures behind { result.now ≡ after_first is_equals text.now }
+{
+    match text.split_once('=') {
+        Some((_, behind)) => behind,
+        None => "",
+    }
+}
+
+fn with_valued(alloc: Global, option: Valued, asked: Asked) -> Result<Asked, Trouble>
+    ensures exact { Asks result (with_valued option (question_of asked)) }
 {
     if is_given(option, &asked) {
         let what = format!(in alloc; "{}: given twice: ", asked.word.name())?;
@@ -210,20 +313,20 @@ fn with_valued<'a>(alloc: Global, option: Valued, asked: Asked<'a>) -> Result<As
 }
 
 // Whether it is there, and may not come again.
-fn is_given(option: Valued, asked: &Asked<'_>) -> bool
+fn is_given(option: Valued, asked: &Asked) -> bool
     ensures given { result ≡ is_given option (question_of asked.now) }
 {
     match option {
-        Valued::Call => asked.call.is_some(),
-        Valued::Cap => false,
+        Valued::Call | Valued::Cap => false,
         Valued::Kernel => asked.kernel.is_some(),
         Valued::Machine => asked.machine.is_some(),
         Valued::Arch => asked.arch.is_some(),
+        Valued::To => false,
     }
 }
 
-fn with_flag<'a>(alloc: Global, asked: Asked<'a>, text: &String) -> Result<Asked<'a>, Trouble>
-    ensures exact { Asks result (with_flag (question_of asked.entry) (string_bytes text.now)) }
+fn with_flag(alloc: Global, asked: Asked, text: &String) -> Result<Asked, Trouble>
+    ensures exact { Asks result (with_flag (question_of asked) (string_bytes text.now)) }
 {
     if is_same(text.as_bytes(), b"--native") {
         return Ok(Asked {
@@ -234,6 +337,12 @@ fn with_flag<'a>(alloc: Global, asked: Asked<'a>, text: &String) -> Result<Asked
     if is_same(text.as_bytes(), b"--runc") {
         return Ok(Asked {
             runc: true,
+            ..asked
+        });
+    }
+    if is_same(text.as_bytes(), b"--strict") {
+        return Ok(Asked {
+            strict: true,
             ..asked
         });
     }
@@ -249,16 +358,31 @@ fn with_flag<'a>(alloc: Global, asked: Asked<'a>, text: &String) -> Result<Asked
     }
 }
 
-fn with_name<'a>(alloc: Global, asked: Asked<'a>, text: &String) -> Result<Asked<'a>, Trouble>
-    ensures exact { Asks result (with_name (question_of asked.entry) (string_bytes text.now)) }
+fn with_name(alloc: Global, asked: Asked, text: &String) -> Result<Asked, Trouble>
+    ensures exact { Asks result (with_name (question_of asked) (string_bytes text.now)) }
 {
     if is_option(text.as_bytes()) {
-        let what = format!(in alloc; "{}: no option is named ", asked.word.name())?;
-        return Err(Trouble::Refused(of_word(alloc, &what, text.as_bytes())?));
+        return Err(Trouble::Refused(no_option_line(alloc, asked.word, text.as_str())?));
     }
     let mut asked = asked;
     asked.names.push(text.clone()?)?;
     Ok(asked)
+}
+
+// The line that says that this is no option of a word.
+fn no_option_line(alloc: Global, word: Word, text: &str) -> Result<Vec<u8>, AllocError>
+    ensures line { IfOk result (λ line. line.items ≡ of_unknown (word_name word ++ codes ": no option is named ") text.now (before_first is_equals text.now)
+        (options_of word)) }
+{
+    let what = format!(in alloc; "{}: no option is named ", word.name())?;
+    let sought = before_equals(text).as_bytes();
+    of_unknown(
+        alloc,
+        &what,
+        text.as_bytes(),
+        sought,
+        &options_of(alloc, word)?,
+    )
 }
 
 // A word that begins with `-` and is more than that.

@@ -66,11 +66,11 @@ fn the_one_call_is_shown(rt: HostRuntime) -> Result<(), Fail> {
     assert_eq!(rt;
         (
             looser.finding,
-            text.starts_with("39 getpid: errno/1 EPERM -> allow where "),
+            text.starts_with("looser:\n39 getpid: errno/1 EPERM -> allow where "),
             text.contains("\n  syscall(SYS_getpid, 0x6, "),
             lines_that_begin(text, ""),
         ),
-        (Finding::Fails, true, true, 4)
+        (Finding::Fails, true, true, 5)
     );
     assert_eq!(rt;
         (stricter.finding, stricter.text.as_str()),
@@ -89,8 +89,8 @@ fn many_numbers_are_decided(rt: HostRuntime) -> Result<(), Fail> {
     assert_eq!(rt;
         (
             told.finding,
-            text.starts_with("39 getpid: errno/1 EPERM -> allow where "),
-            text.contains("\n39 getpid: allow -> errno/1 EPERM where "),
+            text.starts_with("looser:\n39 getpid: errno/1 EPERM -> allow where "),
+            text.contains("\nstricter:\n39 getpid: allow -> errno/1 EPERM where "),
             text.contains("undecided"),
             lines_that_begin(text, "39 getpid: ") == lines_that_begin(text, "  record ")
         ),

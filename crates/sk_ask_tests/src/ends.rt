@@ -112,6 +112,21 @@ const FILES: &[(&str, &[u8])] = &[
             {\"names\": [\"socket\"], \"action\": \"SCMP_ACT_ERRNO\", \"errnoRet\": 22, \"args\": [
                 {\"index\": 0, \"value\": 16, \"op\": \"SCMP_CMP_EQ\"}, {\"index\": 2, \"value\": 9, \"op\": \"SCMP_CMP_EQ\"}]}]}",
     ),
+    // getpid as tcpdump -dd and -ddd write filters.
+    (
+        "array",
+        b"{ 0x20, 0, 0, 0x00000000 },\n{ 0x15, 0, 1, 0x00000027 },\n{ 0x6, 0, 0, 0x00050001 },\n{ 0x6, 0, 0, 0x7fff0000 },\n",
+    ),
+    (
+        "decimals",
+        b"4\n32 0 0 0\n21 0 1 39\n6 0 0 327681\n6 0 0 2147418112\n",
+    ),
+    // The profile `listed` in a container's configuration.
+    (
+        "configuration",
+        b"{\"ociVersion\": \"1.0.2\", \"linux\": {\"namespaces\": [], \"seccomp\": {\"defaultAction\": \"SCMP_ACT_ERRNO\", \"architectures\": [\"SCMP_ARCH_X86_64\"], \"syscalls\": [{\"names\": [\"getpid\"], \"action\": \"SCMP_ACT_ALLOW\"}]}}}",
+    ),
+    ("program", b"\x7fELF\x02\x01\x01\x00"),
     ("object", b"{}"),
     ("open", b"\r\n\t{"),
     (

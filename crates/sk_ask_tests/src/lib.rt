@@ -13,6 +13,8 @@ mod differences;
 #[cfg(test)]
 mod ends;
 #[cfg(test)]
+mod expectations;
+#[cfg(test)]
 mod files;
 #[cfg(test)]
 mod lints;

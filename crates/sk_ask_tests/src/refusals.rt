@@ -32,7 +32,7 @@ const FILES: &[(&[u8], &str)] = &[
     ),
     (
         b"// a comment\n{}",
-        "is no JSON: expected the JSON of a profile, no more than 128 deep",
+        "line 1, column 1: a comment begins: JSON has none",
     ),
 ];
 
@@ -42,10 +42,11 @@ const WHOLE: &str = "= is no JSON: expected the JSON of a profile, no more than 
 {}}
 {\"defaultAction\": SCMP_ACT_ALLOW}
 {'defaultAction': 1}
-{\"defaultAction\": \"SCMP_ACT_ALLOW\",}
 {\"a\": 01}
 [
 [[[[[[[[[[[[[[[[[[[[[[[[[[[[[[[[[[[[[[[[[[[[[[[[[[[[[[[[[[[[[[[[[[[[[[[[[[[[[[[[[[[[[[[[[[[[[[[[[[[[[[[[[[[[[[[[[[[[[[[[[[[[[[[[[]]]]]]]]]]]]]]]]]]]]]]]]]]]]]]]]]]]]]]]]]]]]]]]]]]]]]]]]]]]]]]]]]]]]]]]]]]]]]]]]]]]]]]]]]]]]]]]]]]]]]]]]]]]]]]]]]]]]]]]]]]]]]]]]]
+= line 1, column 35: a comma stands before the bracket that closes: JSON has none there
+{\"defaultAction\": \"SCMP_ACT_ALLOW\",}
 = a key comes twice in one object
 {\"defaultAction\": \"SCMP_ACT_ALLOW\", \"defaultAction\": \"SCMP_ACT_ERRNO\"}
 {\"a\": {\"b\": 1, \"\\u0062\": 2}}

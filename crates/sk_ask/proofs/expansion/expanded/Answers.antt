@@ -13,8 +13,8 @@ loop-name-preserved c =
     let told = rw c.deref-in-Some.ensures.value at c.in_ok-extend_from_slice.ensures.items in
     let so_far = c.loop-name.invariant.so_far in
     record {
-      so_far = goes_on _ _ _ c.args.big_endian context _ _ _ _ _ _ _ _ _ _ _ _ _ _ names.0 files.0 pushed told stands so_far;
-      first = λ why it. later _ _ c.args.big_endian context _ _ _ _ _ _ _ _ _ _ why names.0 files.0 stands c.loop-name.invariant.first it;
+      so_far = goes_on _ _ _ c.args.manner context _ _ _ _ _ _ _ _ _ _ _ _ _ _ names.0 files.0 pushed told stands so_far;
+      first = λ why it. later _ _ c.args.manner context _ _ _ _ _ _ _ _ _ _ why names.0 files.0 stands c.loop-name.invariant.first it;
       even = omega arith;
       each = grind arith;
     }
@@ -27,4 +27,4 @@ returns-clause-stand c =
     ] in
     let rest = c.loop-name.rest.now in
     let left = c.loop-name.left.now in
-    all_stand _ _ c.args.big_endian c.args.context.now rest left _ _ _ _ ends c.loop-name.invariant.even c.loop-name.invariant.so_far
+    all_stand _ _ c.args.manner c.args.context.now rest left _ _ _ _ ends c.loop-name.invariant.even c.loop-name.invariant.so_far

@@ -1,0 +1,6 @@
+use Rattle.std.proofs.Common.{inl}
+use Rattle.sk_ask.proofs.diff.DiffTells.told.Goals as goal
+
+pub returns-clause-told : goal.returns-clause-told
+returns-clause-told g c =
+    inl (rw (c.in_ok-extend_from_slice.ensures.items, c.deref.ensures.value, c.relation_asked-relation.ensures.relation) at c.compared.ensures.told)
