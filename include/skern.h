@@ -14,7 +14,7 @@
  * A pointer to an array is not NULL, even where its count is 0. What a pointer leads to stays as it is while the
  * function runs, and what is written overlaps nothing else that is passed.
  *
- * `tools/library FOLDER` makes libskern.a and libskern.so.
+ * `tools/library FOLDER` makes libskern.a, libskern.so and skern.pc.
  */
 #ifndef SKERN_H
 #define SKERN_H
@@ -51,9 +51,11 @@ enum skern_reason {
     SKERN_NOT_TEXT = 17,   /* a profile is no text in UTF-8 */
     SKERN_NOT_JSON = 18,   /* it is no JSON, or nests deeper than is read */
     SKERN_KEY_TWICE = 19,  /* a key comes twice in one of its objects */
-    SKERN_PROFILE = 20,    /* something else is wrong with it, or is not taken; `ask filter` says what and where */
-    SKERN_CLASH = 21,      /* two of its entries say different things of one call; `ask filter` says which */
-    SKERN_NO_ROOM = 22,    /* its filter takes more bytes than there is room for */
+    SKERN_PROFILE = 20,    /* something else is wrong with it, or is not taken */
+    SKERN_CLASH = 21,      /* two of its entries say different things of one call */
+    SKERN_NO_ROOM = 22,    /* what is to be written takes more than there is room for */
+    SKERN_POLICY = 23,     /* a policy's text is wrong */
+    SKERN_WIDE = 24,       /* bits of arguments that Linux does not read change verdicts as they should not */
 };
 
 /* What is wrong, and where. All but `reason` is 0 where it says nothing. */
@@ -61,7 +63,7 @@ struct skern_fault {
     uint32_t reason; /* one of enum skern_reason */
     uint32_t chain;  /* 0: the only or the old chain; 1: the new one */
     size_t filter;   /* which filter of the chain, from 0 on */
-    size_t place;    /* which instruction of the filter, from 0 on */
+    size_t place;    /* which instruction of the filter, from 0 on; or which line of a policy, from 1 on */
 };
 
 /* One filter: its instructions, and how many bytes they take, which is 8 for each. */
@@ -74,11 +76,13 @@ struct skern_filter {
 struct skern_fault skern_check(const void *insns, size_t bytes);
 
 /*
- * What filters answer to a call, the oldest filter first. With SKERN_OK `*verdict` is the value whose action has
- * precedence by seccomp(2), with its data; without a filter it is SECCOMP_RET_ALLOW. Else it stays as it was.
+ * What filters answer to calls, the oldest filter first. With SKERN_OK `verdicts[i]` is what they answer to `calls[i]`: the
+ * value whose action has precedence by seccomp(2), with its data; without a filter it is SECCOMP_RET_ALLOW. Else nothing is
+ * written. SKERN_NO_ROOM says that `room` is less than `call_count`. The filters are checked once for all calls, which takes as
+ * long as some hundred verdicts: ask about many calls at once.
  */
-struct skern_fault skern_verdict(const struct skern_filter *filters, size_t count, const struct seccomp_data *call,
-                                 uint32_t *verdict);
+struct skern_fault skern_verdict(const struct skern_filter *filters, size_t count, const struct seccomp_data *calls,
+                                 size_t call_count, uint32_t *verdicts, size_t room);
 
 /* A call to which two chains do not answer as is asked, and the verdict of each. */
 struct skern_difference {
@@ -111,12 +115,30 @@ struct skern_setting {
 /*
  * The filter of a container's profile, the JSON of docker, podman and their like: it answers to every call of x86-64 what
  * the profile says, and to every call of x32 and of i386 where the profile lists these. With SKERN_OK `*size` is how many
- * bytes the filter takes, and `insns` has them. With SKERN_NO_ROOM `*size` says the same, and nothing else is written. Else
- * nothing is. SKERN_MOST_BYTES is room for each filter.
+ * bytes the filter takes, and `out` has them. With SKERN_NO_ROOM `*size` says the same, and nothing is written. SKERN_MOST_BYTES
+ * is room for each filter. With SKERN_NO_MEMORY nothing is written. With any other reason the profile is refused, and `*size` is
+ * how many bytes it takes to say what is wrong and where, in UTF-8 with no zero byte at the end. `out` has them where there is
+ * room for all, and else stays as it was.
  */
 #define SKERN_MOST_BYTES 32768
-struct skern_fault skern_profile(const char *json, size_t length, const struct skern_setting *setting, void *insns,
+struct skern_fault skern_profile(const char *json, size_t length, const struct skern_setting *setting, void *out,
                                  size_t room, size_t *size);
+
+/*
+ * The filter of a policy's text (docs/POLICIES.md): it answers to every call what the text says. What is written is as of
+ * skern_profile. A refusal is SKERN_POLICY, and `place` is the line in which the sentence begins that is wrong, or 0 where none
+ * is; the text names the line of the word. Or it is SKERN_TOO_LONG.
+ */
+struct skern_fault skern_policy(const char *text, size_t length, void *out, size_t room, size_t *size);
+
+/*
+ * Whether filters, the oldest first, tell calls of x86-64 and x32 apart by bits of arguments that Linux does not read. With
+ * SKERN_OK no call gets a less strict verdict than the call that Linux takes it for. With SKERN_WIDE some may, or the sign of an
+ * int is asked for, and the lines of `ask lint` say of which. With SKERN_UNFOLLOWED and SKERN_SPENT it is not known. With these
+ * four `*size` is how many bytes the lines take, in UTF-8 with no zero byte at the end, and `text` has them where there is room
+ * for all, and else stays as it was. With any other reason nothing is written.
+ */
+struct skern_fault skern_lint(const struct skern_filter *filters, size_t count, char *text, size_t room, size_t *size);
 
 /*
  * The text of a reason, in ASCII. Gives how many bytes it takes with the zero byte at its end, and writes them where

@@ -1,20 +1,24 @@
 /*
- * filters: asks the library of include/skern.h about filters in files, which are the bytes of their struct sock_filters.
+ * filters: asks the library of skern.h about filters in files, which are the bytes of their struct sock_filters.
  *
  *   filters check FILE..                      whether each filter is valid, or its first fault
- *   filters verdict CALL FILE..               what the filters, the oldest first, answer to the struct seccomp_data in CALL
+ *   filters verdict CALLS FILE..              what the filters, the oldest first, answer to each struct seccomp_data in CALLS
  *   filters compare [--stricter] OLD NEW      whether NEW answers every call of x86-64 as OLD does, or as strictly
  *   filters profile FILE                      the filter of a profile's JSON, on Linux 6.12 and without a capability
+ *   filters policy FILE                       the filter of a policy's text
+ *   filters lint FILE..                       whether bits that Linux does not read change a verdict, as `ask lint` tells it
  *
- * The status is 0 where the answer is yes or a verdict, 1 where a filter is refused or the answer is no, 2 for trouble.
+ * The status is 0 where the answer is yes, a verdict or a filter, and 1 where it is no. It is 2 where there is no answer: why is
+ * one line on standard error, with the lines of `lint` below it where it is not known.
  */
 #include "skern.h"
 
+#include <errno.h>
 #include <stdio.h>
 #include <stdlib.h>
 #include <string.h>
 
-/* More than any filter here has, and any profile. */
+/* More than a filter, a profile or a policy may have. */
 enum { MOST_BYTES = 1 << 20, MOST_FILTERS = 32, YES = 0, NO = 1, TROUBLE = 2 };
 
 static int trouble(const char *what) {
@@ -22,26 +26,41 @@ static int trouble(const char *what) {
     return TROUBLE;
 }
 
-/* The bytes of a file, or nothing where it cannot be read. */
+static int not_read(const char *path, int why) {
+    fprintf(stderr, "filters: %s: %s\n", path, strerror(why));
+    return TROUBLE;
+}
+
+/* The bytes of a file, or nothing where it cannot be read: why is in errno. */
 static void *contents(const char *path, size_t *bytes) {
     FILE *file = fopen(path, "rb");
     char *all = file ? malloc(MOST_BYTES) : NULL;
     *bytes = all ? fread(all, 1, MOST_BYTES, file) : 0;
-    if (all && (ferror(file) || !feof(file))) {
-        free(all);
-        all = NULL;
-    }
+    int why = all && *bytes == MOST_BYTES ? EFBIG : all && !ferror(file) ? 0 : errno;
     if (file) fclose(file);
-    return all;
+    if (!why) return all;
+    free(all);
+    errno = why;
+    return NULL;
 }
 
-/* Says what is wrong with a filter, or that it is not known. */
-static int refused(const char *path, struct skern_fault fault) {
+/* Says what is wrong with a filter. */
+static void tell(FILE *to, const char *path, struct skern_fault fault) {
     char text[SKERN_TEXT];
     skern_reason(fault.reason, text, sizeof text);
-    if (fault.reason == SKERN_NO_MEMORY) return trouble(text);
-    printf("%s: refused %u %s at %zu\n", path, fault.reason, text, fault.place);
-    return NO;
+    fprintf(to, "%s: refused %u %s at %zu\n", path, fault.reason, text, fault.place);
+}
+
+/* Says why there is no answer about filters in files. Only what is wrong with a filter names its file. */
+static int no_answer(char **paths, struct skern_fault fault) {
+    char text[SKERN_TEXT];
+    if (fault.reason <= SKERN_PATH_LIMIT) {
+        fputs("filters: ", stderr);
+        tell(stderr, paths[fault.filter], fault);
+        return TROUBLE;
+    }
+    skern_reason(fault.reason, text, sizeof text);
+    return trouble(text);
 }
 
 static int check(int count, char **paths) {
@@ -49,49 +68,74 @@ static int check(int count, char **paths) {
     for (int i = 0; i < count; i++) {
         size_t bytes;
         void *insns = contents(paths[i], &bytes);
-        if (!insns) return trouble("a file cannot be read");
+        if (!insns) return not_read(paths[i], errno);
         struct skern_fault fault = skern_check(insns, bytes);
         free(insns);
-        int is = fault.reason == SKERN_OK ? YES : refused(paths[i], fault);
-        if (is == YES) printf("%s: ok %zu\n", paths[i], bytes / sizeof(struct sock_filter));
-        if (is > status) status = is;
+        if (fault.reason == SKERN_NO_MEMORY) return no_answer(paths, fault);
+        if (fault.reason == SKERN_OK) {
+            printf("%s: ok %zu\n", paths[i], bytes / sizeof(struct sock_filter));
+        } else {
+            tell(stdout, paths[i], fault);
+            status = NO;
+        }
     }
     return status;
 }
 
-/* Reads the filters of these files; what it gives is how many it has read. */
-static int read_filters(int count, char **paths, struct skern_filter *filters) {
-    for (int i = 0; i < count; i++) {
-        filters[i].insns = contents(paths[i], &filters[i].bytes);
-        if (!filters[i].insns) return i;
-    }
-    return count;
-}
-
-static void free_filters(int count, struct skern_filter *filters) {
-    for (int i = 0; i < count; i++) free((void *)filters[i].insns);
-}
-
-static int verdict(const char *call_path, int count, char **paths) {
+/* The filters of files, the oldest first. */
+struct chain {
     struct skern_filter filters[MOST_FILTERS];
-    if (count > MOST_FILTERS) return trouble("too many filters");
+    size_t count;
+};
+
+static void free_chain(struct chain *chain) {
+    for (size_t i = 0; i < chain->count; i++) free((void *)chain->filters[i].insns);
+}
+
+/* Reads the filters of files; where it does not, it says why, and there are none. */
+static bool read_chain(int count, char **paths, struct chain *chain) {
+    chain->count = 0;
+    if (count > MOST_FILTERS) {
+        trouble("there are more than 32 files");
+        return false;
+    }
+    for (int i = 0; i < count; i++) {
+        struct skern_filter *it = &chain->filters[i];
+        it->insns = contents(paths[i], &it->bytes);
+        if (!it->insns) {
+            not_read(paths[i], errno);
+            free_chain(chain);
+            return false;
+        }
+        chain->count++;
+    }
+    return true;
+}
+
+/* What a chain answers to calls, a line for each. */
+static int verdicts(char **paths, const struct chain *chain, const struct seccomp_data *calls, size_t count) {
+    uint32_t *values = malloc(count * sizeof *values);
+    if (!values) return trouble(strerror(errno));
+    struct skern_fault fault = skern_verdict(chain->filters, chain->count, calls, count, values, count);
+    int status = fault.reason == SKERN_OK ? YES : no_answer(paths, fault);
+    for (size_t i = 0; status == YES && i < count; i++) printf("0x%08x\n", values[i]);
+    free(values);
+    return status;
+}
+
+static int verdict(char *calls_path, int count, char **paths) {
+    struct chain chain;
     size_t bytes;
-    struct seccomp_data *call = contents(call_path, &bytes);
-    if (!call || bytes != sizeof *call) {
-        free(call);
-        return trouble("the call cannot be read");
+    int status = TROUBLE;
+    struct seccomp_data *calls = contents(calls_path, &bytes);
+    if (!calls) return not_read(calls_path, errno);
+    if (bytes == 0 || bytes % sizeof *calls != 0) {
+        trouble("there are no calls");
+    } else if (read_chain(count, paths, &chain)) {
+        status = verdicts(paths, &chain, calls, bytes / sizeof *calls);
+        free_chain(&chain);
     }
-    int status, read = read_filters(count, paths, filters);
-    if (read < count) {
-        status = trouble("a file cannot be read");
-    } else {
-        uint32_t value;
-        struct skern_fault fault = skern_verdict(filters, (size_t)count, call, &value);
-        status = fault.reason == SKERN_OK ? YES : refused(paths[fault.filter], fault);
-        if (status == YES) printf("0x%08x\n", value);
-    }
-    free_filters(read, filters);
-    free(call);
+    free(calls);
     return status;
 }
 
@@ -103,71 +147,97 @@ static void show(const struct skern_difference *it) {
 }
 
 static int compare(bool stricter, char **paths) {
-    struct skern_filter filters[2];
-    int status, read = read_filters(2, paths, filters);
-    if (read < 2) {
-        status = trouble("a file cannot be read");
+    struct chain chain;
+    struct skern_difference it;
+    if (!read_chain(2, paths, &chain)) return TROUBLE;
+    struct skern_fault fault = skern_compare(&chain.filters[0], 1, &chain.filters[1], 1, stricter, &it);
+    free_chain(&chain);
+    switch (fault.reason) {
+    case SKERN_OK:
+        printf("%s on every call\n", stricter ? "as strict" : "the same");
+        return YES;
+    case SKERN_DIFFER:
+        show(&it);
+        return NO;
+    default:
+        return no_answer(paths + fault.chain, fault);
+    }
+}
+
+/* Makes the filter of a text. What is written is the filter, or what is wrong with the text. */
+typedef struct skern_fault make(const char *text, size_t length, void *out, size_t room, size_t *size);
+
+static struct skern_fault make_of_profile(const char *json, size_t length, void *out, size_t room, size_t *size) {
+    struct skern_setting setting = {.kernel_major = 6, .kernel_minor = 12};
+    return skern_profile(json, length, &setting, out, room, size);
+}
+
+static int made(make *making, char *path) {
+    size_t length, size = 0;
+    char *text = contents(path, &length);
+    if (!text) return not_read(path, errno);
+    char *out = malloc(MOST_BYTES);
+    int status = TROUBLE;
+    if (!out) {
+        trouble(strerror(errno));
     } else {
-        struct skern_difference it;
-        struct skern_fault fault = skern_compare(&filters[0], 1, &filters[1], 1, stricter, &it);
-        char text[SKERN_TEXT];
-        switch (fault.reason) {
-        case SKERN_OK:
-            printf("%s on every call\n", stricter ? "as strict" : "the same");
-            status = YES;
-            break;
-        case SKERN_DIFFER:
-            show(&it);
-            status = NO;
-            break;
-        case SKERN_NO_MEMORY:
-        case SKERN_UNFOLLOWED:
-        case SKERN_SPENT:
-            skern_reason(fault.reason, text, sizeof text);
-            status = trouble(text);
-            break;
-        default:
-            status = refused(paths[fault.chain], fault);
+        struct skern_fault fault = making(text, length, out, MOST_BYTES, &size);
+        if (fault.reason == SKERN_OK) {
+            status = fwrite(out, 1, size, stdout) == size ? YES : trouble(strerror(errno));
+        } else if (fault.reason == SKERN_NO_MEMORY || size > MOST_BYTES) {
+            no_answer(&path, fault);
+        } else {
+            fprintf(stderr, "filters: %s: refused %u ", path, fault.reason);
+            fwrite(out, 1, size, stderr);
+            fputc('\n', stderr);
         }
     }
-    free_filters(read, filters);
+    free(out);
+    free(text);
     return status;
 }
 
-static int profile(const char *path) {
-    size_t length, size;
-    char *json = contents(path, &length), *insns = malloc(SKERN_MOST_BYTES);
-    struct skern_setting setting = {.kernel_major = 6, .kernel_minor = 12};
-    int status = TROUBLE;
-    if (!json || !insns) {
-        trouble("a file cannot be read");
-    } else {
-        struct skern_fault fault = skern_profile(json, length, &setting, insns, SKERN_MOST_BYTES, &size);
-        if (fault.reason != SKERN_OK) {
-            status = refused(path, fault);
-        } else if (fwrite(insns, 1, size, stdout) == size) {
-            status = YES;
-        }
-    }
-    free(insns);
-    free(json);
+/* Tells the lines of `lint`, where there are such. */
+static int told(char **paths, struct skern_fault fault, const char *lines, size_t size) {
+    bool is_known = fault.reason == SKERN_OK || fault.reason == SKERN_WIDE;
+    bool has_lines = is_known || fault.reason == SKERN_UNFOLLOWED || fault.reason == SKERN_SPENT;
+    int status = fault.reason == SKERN_OK ? YES : fault.reason == SKERN_WIDE ? NO : no_answer(paths, fault);
+    if (has_lines && fwrite(lines, 1, size, is_known ? stdout : stderr) != size) return trouble(strerror(errno));
     return status;
+}
+
+static int lint(int count, char **paths) {
+    struct chain chain;
+    if (!read_chain(count, paths, &chain)) return TROUBLE;
+    size_t size = 0, room = MOST_BYTES;
+    char *lines = malloc(room);
+    struct skern_fault fault = {.reason = SKERN_NO_MEMORY};
+    if (lines) fault = skern_lint(chain.filters, chain.count, lines, room, &size);
+    if (size > room) {
+        free(lines);
+        room = size;
+        lines = malloc(room);
+        fault.reason = SKERN_NO_MEMORY;
+        if (lines) fault = skern_lint(chain.filters, chain.count, lines, room, &size);
+    }
+    int status = told(paths, fault, lines, size);
+    free(lines);
+    free_chain(&chain);
+    return status;
+}
+
+static int asked(const char *word, int count, char **words) {
+    bool stricter = count == 3 && strcmp(words[0], "--stricter") == 0;
+    if (count > 0 && strcmp(word, "check") == 0) return check(count, words);
+    if (count > 0 && strcmp(word, "verdict") == 0) return verdict(words[0], count - 1, words + 1);
+    if (strcmp(word, "compare") == 0 && (count == 2 || stricter)) return compare(stricter, words + stricter);
+    if (count == 1 && strcmp(word, "profile") == 0) return made(make_of_profile, words[0]);
+    if (count == 1 && strcmp(word, "policy") == 0) return made(skern_policy, words[0]);
+    if (count > 0 && strcmp(word, "lint") == 0) return lint(count, words);
+    return trouble("usage: filters check FILE.. | verdict CALLS FILE.. | compare [--stricter] OLD NEW | profile FILE | policy FILE | lint FILE..");
 }
 
 int main(int count, char **words) {
-    int status = TROUBLE;
-    if (count > 2 && strcmp(words[1], "check") == 0) {
-        status = check(count - 2, words + 2);
-    } else if (count > 2 && strcmp(words[1], "verdict") == 0) {
-        status = verdict(words[2], count - 3, words + 3);
-    } else if (count == 3 && strcmp(words[1], "profile") == 0) {
-        status = profile(words[2]);
-    } else if (count == 4 && strcmp(words[1], "compare") == 0) {
-        status = compare(false, words + 2);
-    } else if (count == 5 && strcmp(words[1], "compare") == 0 && strcmp(words[2], "--stricter") == 0) {
-        status = compare(true, words + 3);
-    } else {
-        trouble("usage: filters check FILE.. | verdict CALL FILE.. | compare [--stricter] OLD NEW | profile FILE");
-    }
-    return fflush(stdout) == 0 ? status : TROUBLE;
+    int status = asked(count > 1 ? words[1] : "", count - 2, words + 2);
+    return fflush(stdout) == 0 ? status : trouble(strerror(errno));
 }

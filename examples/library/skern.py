@@ -1,22 +1,26 @@
-"""Proved answers about seccomp filters, by the library of include/skern.h.
+"""Proved answers about seccomp filters, by the library of skern.h.
 
     library = Library("libskern.so")
     library.check(image)                          # raises Refused where the filter is not valid
     library.verdict([image], Call(39))            # 0x7fff0000: SECCOMP_RET_ALLOW
+    library.verdicts([image], calls)              # the same of many calls, for which the filters are checked once
     library.compare([old], [new])                 # None where they answer the same on every call, or a Difference
     library.profile(json, Setting(DOCKER))        # the image of the filter that a container's profile means
+    library.policy(text)                          # the image of the filter that a policy's text means
+    library.lint([image])                         # whether bits that Linux does not read get a less strict verdict
 
 An image is the bytes of struct sock_filters, as seccomp_export_bpf(3) writes them. A chain is a list of images, the oldest
 filter first. Threads may use one Library side by side."""
 import ctypes
-from collections.abc import Sequence
+from collections.abc import Callable, Sequence
 from typing import NamedTuple
 
 X86_64 = 0xC000003E  # AUDIT_ARCH_X86_64 of linux/audit.h
 DOCKER = 0xA80425FB  # the capabilities that docker leaves to a container
 MOST_BYTES = 32768  # of a filter
-# Of enum skern_reason. All but OK and DIFFER refuse, those up to PATH_LIMIT one filter.
-OK, PATH_LIMIT, NO_MEMORY, DIFFER = 0, 12, 13, 14
+LINES = 65536  # room for what lint says of most filters
+# Of enum skern_reason. Those up to PATH_LIMIT refuse one filter.
+OK, PATH_LIMIT, NO_MEMORY, DIFFER, UNFOLLOWED, SPENT, WIDE = 0, 12, 13, 14, 15, 16, 24
 
 
 class Call(NamedTuple):
@@ -45,11 +49,21 @@ class Difference(NamedTuple):
     new_verdict: int
 
 
-class Refused(Exception):
-    """No answer: `reason` is a number of enum skern_reason; where it is of a filter, `chain` is 0 for the only or old chain and
-    1 for the new one, `filter` its number there, and `place` that of its instruction. All count from 0."""
+class Lint(NamedTuple):
+    """What bits that Linux does not read do to verdicts. `is_strict` says that no call gets a less strict verdict by them; the
+    lines tell of the calls that may, and of those that are counted."""
 
-    def __init__(self, reason: int, text: str, chain: int, filter: int, place: int):
+    is_strict: bool
+    lines: str
+
+
+class Refused(Exception):
+    """No answer. `reason` is a number of enum skern_reason, and `text` says what is wrong. Where it is of a filter, `chain` is 0
+    for the only or old chain and 1 for the new one, `filter` its number there, and `place` that of its instruction. All count
+    from 0. Where it is of a policy, `place` is the line in which the sentence begins that is wrong, from 1
+    on, or 0 where none is."""
+
+    def __init__(self, reason: int, text: str, chain: int = 0, filter: int = 0, place: int = 0):
         where = f": {'new filter' if chain else 'filter'} {filter} at {place}" if reason <= PATH_LIMIT else ""
         super().__init__(f"{reason} {text}{where}")
         self.reason, self.text, self.chain, self.filter, self.place = reason, text, chain, filter, place
@@ -75,6 +89,19 @@ class _Difference(ctypes.Structure):
     _fields_ = [("call", _Call), ("old_verdict", ctypes.c_uint32), ("new_verdict", ctypes.c_uint32)]
 
 
+_Writing = Callable[[ctypes.Array[ctypes.c_char], int, object], _Fault]
+
+
+def _written(room: int, ask: _Writing) -> tuple[_Fault, bytes]:
+    """What a function says, and what it writes, with as much room as it asks for."""
+    while True:
+        out, size = ctypes.create_string_buffer(room), ctypes.c_size_t()
+        fault = ask(out, room, ctypes.byref(size))
+        if size.value <= room:
+            return fault, out.raw[:size.value]
+        room = size.value
+
+
 def _filters(chain: Sequence[bytes]) -> ctypes.Array[_Filter]:
     return (_Filter * len(chain))(*(_Filter(it, len(it)) for it in chain))
 
@@ -88,7 +115,7 @@ class Library:
         self._check = library.skern_check
         self._check.argtypes, self._check.restype = [ctypes.c_char_p, size], _Fault
         self._verdict = library.skern_verdict
-        self._verdict.argtypes = [filters, size, ctypes.POINTER(_Call), ctypes.POINTER(ctypes.c_uint32)]
+        self._verdict.argtypes = [filters, size, ctypes.POINTER(_Call), size, ctypes.POINTER(ctypes.c_uint32), size]
         self._verdict.restype = _Fault
         self._compare = library.skern_compare
         self._compare.argtypes = [filters, size, filters, size, ctypes.c_bool, ctypes.POINTER(_Difference)]
@@ -96,6 +123,10 @@ class Library:
         self._profile = library.skern_profile
         self._profile.argtypes = [ctypes.c_char_p, size, ctypes.POINTER(_Setting), ctypes.c_char_p, size, ctypes.POINTER(size)]
         self._profile.restype = _Fault
+        self._policy = library.skern_policy
+        self._policy.argtypes, self._policy.restype = [ctypes.c_char_p, size, ctypes.c_char_p, size, ctypes.POINTER(size)], _Fault
+        self._lint = library.skern_lint
+        self._lint.argtypes, self._lint.restype = [filters, size, ctypes.c_char_p, size, ctypes.POINTER(size)], _Fault
         self._reason = library.skern_reason
         self._reason.argtypes, self._reason.restype = [ctypes.c_uint32, ctypes.c_char_p, size], size
 
@@ -111,10 +142,14 @@ class Library:
 
     def verdict(self, chain: Sequence[bytes], call: Call) -> int:
         """What the filters answer to a call: a value of seccomp(2), with its action and its data."""
-        value = ctypes.c_uint32()
-        seen = _Call(call.nr, call.arch, call.instruction_pointer, (ctypes.c_uint64 * 6)(*call.args))
-        self._refuse(self._verdict(_filters(chain), len(chain), ctypes.byref(seen), ctypes.byref(value)))
-        return value.value
+        return self.verdicts(chain, [call])[0]
+
+    def verdicts(self, chain: Sequence[bytes], calls: Sequence[Call]) -> list[int]:
+        """What the filters answer to each of the calls."""
+        seen = (_Call * len(calls))(*(_Call(it.nr, it.arch, it.instruction_pointer, (ctypes.c_uint64 * 6)(*it.args)) for it in calls))
+        values = (ctypes.c_uint32 * len(calls))()
+        self._refuse(self._verdict(_filters(chain), len(chain), seen, len(seen), values, len(values)))
+        return list(values)
 
     def compare(self, old: Sequence[bytes], new: Sequence[bytes], stricter: bool = False) -> Difference | None:
         """None where the new chain answers every call of x86-64 as the old one does, or with `stricter` as strictly; else a
@@ -129,13 +164,32 @@ class Library:
 
     def profile(self, json: bytes, setting: Setting = Setting()) -> bytes:
         """The image of the filter that answers to every call of x86-64 what the profile says there."""
-        image, size = ctypes.create_string_buffer(MOST_BYTES), ctypes.c_size_t()
         there = _Setting(setting.capabilities, *setting.kernel, setting.runc)
-        self._refuse(self._profile(json, len(json), ctypes.byref(there), image, len(image), ctypes.byref(size)))
-        return image.raw[:size.value]
+        return self._made(lambda out, room, size: self._profile(json, len(json), ctypes.byref(there), out, room, size))
 
-    def _refuse(self, fault: _Fault) -> None:
+    def policy(self, text: bytes) -> bytes:
+        """The image of the filter that answers to every call what the text says."""
+        return self._made(lambda out, room, size: self._policy(text, len(text), out, room, size))
+
+    def lint(self, chain: Sequence[bytes]) -> Lint:
+        """Whether the filters tell calls apart by bits of arguments that Linux does not read. Refused where it is not known; its
+        text has the lines then."""
+        filters = _filters(chain)
+        fault, lines = _written(LINES, lambda out, room, size: self._lint(filters, len(chain), out, room, size))
+        if fault.reason in (UNFOLLOWED, SPENT):
+            self._refuse(fault, lines)
+        if fault.reason != WIDE:
+            self._refuse(fault)
+        return Lint(fault.reason == OK, lines.decode())
+
+    def _made(self, ask: _Writing) -> bytes:
+        """The image that is written, or what is wrong with a text."""
+        fault, image = _written(MOST_BYTES, ask)
+        self._refuse(fault, image)
+        return image
+
+    def _refuse(self, fault: _Fault, text: bytes = b"") -> None:
         if fault.reason == NO_MEMORY:
             raise MemoryError(self.reason(fault.reason))
         if fault.reason != OK:
-            raise Refused(fault.reason, self.reason(fault.reason), fault.chain, fault.filter, fault.place)
+            raise Refused(fault.reason, text.decode() or self.reason(fault.reason), fault.chain, fault.filter, fault.place)

@@ -1,5 +1,5 @@
 -- What a caller of the library is told of its filters: a number of include/skern.h, and where.
-use Rattle.std.specs.Prelude.{ℕ, ◌≡◌, ◌⊎◌, List, Option, Some, None, Result, Ok, Err}
+use Rattle.std.specs.Prelude.{ℕ, ◌≡◌, ◌⊎◌, nat_lt, if◌then◌else◌, List, Option, Some, None, Result, Ok, Err}
 use Rattle.sk_insn.specs.declared.insn.Insn.{Insn}
 use Rattle.sk_insn.specs.declared.image.NoImage.{NoImage}
 use Rattle.sk_insn.specs.declared.image.NoImage.TheVariants.{Ragged, Empty as EmptyImage, TooLong as LongImage}
@@ -22,6 +22,10 @@ no_memory = 13
 -- the new filters do not answer the call that is shown as they are to
 abbrev pub differ : ℕ
 differ = 14
+
+-- there is less room than what is to be written takes
+abbrev pub no_room : ℕ
+no_room = 22
 
 -- it is not known: a filter does what is not followed, or the steps were used up
 abbrev pub unfollowed : ℕ
@@ -74,6 +78,10 @@ told_of_image (Err why) = refusal_at 0 0 (Image why)
 abbrev pub told_of : {X : Type 0} → Result X Fault → Fault
 told_of (Ok answer) = plain fine
 told_of (Err fault) = fault
+
+-- of a chain that is asked about so many calls, with room for so many verdicts
+abbrev pub told_of_calls : {X : Type 0} → ℕ → ℕ → Result X Fault → Fault
+told_of_calls calls room chain = if nat_lt room calls then plain no_room else told_of chain
 
 -- of two chains one of these is told, and of filters that are refused the fault
 abbrev pub IsTold : {X : Type 0} → Result X Fault → Fault → Type 0

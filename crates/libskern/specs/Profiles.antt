@@ -1,16 +1,19 @@
--- The filter of a profile, as its bytes go out to C: the JSON of a container runtime, and where it is to hold.
-use Rattle.std.specs.Prelude.{ℕ, ◌≡◌, ◌/◌, ◌%◌, ◌==◌, false, if◌then◌else◌, List, [], ◌∷◌, Vec, Some, Result, Ok, Err}
+-- The filter of a profile, as its bytes go out to C: the JSON of a container runtime, and where it is to hold; and what is said where
+-- it has none.
+use Rattle.std.specs.Prelude.{ℕ, ◌≡◌, ◌⊎◌, ◌/◌, ◌%◌, ◌==◌, false, if◌then◌else◌, List, [], ◌∷◌, Vec, Some, Result, Ok, Err}
 use Rattle.std.specs.Global.{Global}
 use Rattle.sk_profile_json.specs.declared.answer.Made.{Made}
 use Rattle.sk_profile_json.specs.declared.answer.Refusal.{Refusal}
-use Rattle.sk_profile_json.specs.declared.answer.Refusal.TheVariants.{NoMachine, NotText, NotJson, KeyTwice, Wrong, Clashes, TooLong}
+use Rattle.sk_profile_json.specs.declared.answer.Refusal.TheVariants.{NoMachine, NotText, NotJson, KeyTwice, NoProfile, Wrong, Clashes, TooLong}
 use Rattle.sk_profile_json.specs.declared.context.Context.{Context}
 use Rattle.sk_profile_json.specs.declared.machine.Machine.TheVariants.{X86_64}
 use Rattle.sk_profile_json.specs.Capabilities.{all_names, names_of}
 use Rattle.sk_profile_json.specs.Made.{IsMade}
+use Rattle.sk_profile_json.specs.Texts.{refusal_text}
 use Rattle.libskern.specs.declared.fault.Fault.{Fault}
 use Rattle.libskern.specs.declared.profile.Setting.{Setting}
 use Rattle.libskern.specs.Faults.{plain}
+use Rattle.libskern.specs.Writing.{IsGiven, IsSaid}
 
 -- those of some names whose bits are set, from the lowest on: linux/capability.h numbers the capabilities in this order
 abbrev pub held_names : ℕ → List (List ℕ) → List (List ℕ)
@@ -43,15 +46,16 @@ IsMadeThere setting profile (Err refusal) = HasNone setting profile refusal
 abbrev pub refusal_number : Refusal → ℕ
 refusal_number TooLong = 2
 refusal_number NotText = 17
-refusal_number NotJson = 18
+refusal_number (NotJson slip) = 18
 refusal_number KeyTwice = 19
+refusal_number (NoProfile why) = 20
 refusal_number (Wrong fault) = 20
 refusal_number (Clashes it) = 21
 refusal_number NoMachine = 20
 
--- there is less room than the image takes
-abbrev pub no_room : ℕ
-no_room = 22
-
-abbrev pub IsRefused : Setting → List ℕ → Fault → Type 0
-IsRefused setting profile fault = (refusal : Refusal) × (fault ≡ plain (refusal_number refusal)) × HasNone setting profile refusal
+-- what a caller gets: the filter, where there is room for it, or why there is none
+abbrev pub AnswersProfile : Setting → List ℕ → List ℕ → Fault → ℕ → List ℕ → Type 0
+AnswersProfile setting profile room fault size out =
+    ((image : List ℕ) × IsImageOf setting profile image × IsGiven image room fault size out)
+    ⊎ ((refusal : Refusal) × HasNone setting profile refusal
+    × IsSaid (plain (refusal_number refusal)) (refusal_text refusal) room fault size out)

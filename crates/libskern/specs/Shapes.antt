@@ -3,6 +3,7 @@ use Rattle.std.specs.Prelude.{ℕ, List, [], map, Result, Ok, Err}
 use Rattle.sk_insn.specs.declared.insn.Insn.{Insn}
 use Rattle.sk_insn.specs.declared.record.Record.{Record}
 use Rattle.sk_engines.specs.Filters.{chained}
+use Rattle.sk_filter.specs.Verdict.{verdict_of}
 use Rattle.libskern.specs.declared.call.Call.{Call}
 use Rattle.libskern.specs.declared.fault.Fault.{Fault}
 use Rattle.libskern.specs.declared.filters.Image.{Image}
@@ -15,6 +16,10 @@ record_of call = record { nr = call.nr; arch = call.arch; ip = call.instruction_
 -- and back
 abbrev pub call_of : Record → Call
 call_of it = record { nr = it.nr; arch = it.arch; instruction_pointer = it.ip; args = it.args }
+
+-- what a chain answers to each of some calls
+abbrev pub verdicts_of : List (List Insn) → List Call → List ℕ
+verdicts_of chain calls = map (λ call. verdict_of chain (record_of call)) calls
 
 -- the bytes of each filter, in their order
 abbrev pub images_of : List Image → List (List ℕ)

@@ -216,17 +216,29 @@ fn first_difference(
         if !budget.take(most_steps(chains)) {
             return None;
         }
-        let old_verdict = chains.old.verdict(call);
-        let new_verdict = chains.new.verdict(call);
-        if !stands(chains.relation, old_verdict, new_verdict) {
-            return Some(Difference {
-                call: Call::of(call),
-                old_verdict,
-                new_verdict,
-            });
+        if let Some(difference) = shown_by(chains, call) {
+            return Some(difference);
         }
     }
     None
+}
+
+// The difference that a call shows, if it shows one.
+fn shown_by(chains: Comparing<'_>, call: &Record) -> Option<Difference>
+    requires within { IsCallOf chains.numbers.first chains.numbers.last call.now }
+    ensures shown { IfSome result (IsDifference chains.entry.relation chains.entry.old.now chains.entry.new.now) }
+    ensures none { IfNone result (stands_on chains.entry.relation chains.entry.old.now chains.entry.new.now call.now ≡ true) }
+{
+    let old_verdict = chains.old.verdict(call);
+    let new_verdict = chains.new.verdict(call);
+    if stands(chains.relation, old_verdict, new_verdict) {
+        return None;
+    }
+    Some(Difference {
+        call: Call::of(call),
+        old_verdict,
+        new_verdict,
+    })
 }
 
 // Whether each end of a tree of differences says that the relation holds.

@@ -2,14 +2,18 @@
 //! between calls, and hands out no memory.
 #![tactic(auto)]
 
-ghost use Rattle.std.specs.Prelude.{ℕ, List, ◌≡◌, ◌≢◌, ◌≤◌, ◌<◌, ◌+◌, ◌++◌, ◌∷◌, [], drop, take, length, IfOk, IsOk};
+ghost use Rattle.std.specs.Prelude.{◌≡◌, ◌≢◌, ◌≤◌, ◌<◌, ◌+◌, ◌^◌, ◌++◌, ◌∷◌, [], drop, length, IfOk, IsOk};
+ghost use Rattle.std.specs.List.{All};
 ghost use Rattle.sk_insn.specs.Instructions.{image_instructions};
 ghost use Rattle.sk_filter.specs.Valid.{IsValid};
-ghost use Rattle.sk_filter.specs.Verdict.{verdict_of};
+ghost use Rattle.sk_conditions.specs.Followed.{AreFollowed};
+ghost use Rattle.sk_conditions.specs.Steps.{NeverPart};
 ghost use Rattle.libskern.specs.Comparing.{BothFollowed, Differ, NeitherParts, Stand};
-ghost use Rattle.libskern.specs.Faults.{IsTold, differ, fine, no_memory, plain, spent, told_of, told_of_image, unfollowed};
-ghost use Rattle.libskern.specs.Profiles.{IsImageOf, IsRefused, no_room};
-ghost use Rattle.libskern.specs.Shapes.{chain_in, chains_in, images_of, record_of};
+ghost use Rattle.libskern.specs.Faults.{IsTold, differ, fine, no_memory, spent, told_of_calls, told_of_image, unfollowed};
+ghost use Rattle.libskern.specs.Lints.{AnswersLint};
+ghost use Rattle.libskern.specs.Policies.{AnswersPolicy};
+ghost use Rattle.libskern.specs.Profiles.{AnswersProfile};
+ghost use Rattle.libskern.specs.Shapes.{chain_in, chains_in, images_of, verdicts_of};
 ghost use Rattle.libskern.specs.Texts.{text_of};
 
 mod call;
@@ -18,13 +22,15 @@ mod compare;
 mod comparison;
 mod fault;
 mod filters;
+mod lint;
+mod policy;
 mod profile;
 mod reason;
 mod verdict;
+mod writing;
 
 use crate::check::told_of_image;
 use crate::comparison::told_of_chains;
-use crate::verdict::verdict_on;
 pub use call::Call;
 pub use compare::Difference;
 pub use fault::Fault;
@@ -45,26 +51,23 @@ pub extern "C" fn skern_check(alloc: Global, image: &[u8]) -> Fault
     }
 }
 
-/// What filters answer to a call by seccomp(2), the oldest filter first: `verdict` gets the value whose action has
-/// precedence, with its data. Without a filter the call is allowed.
+/// What filters answer to calls by seccomp(2), the oldest filter first: `verdicts` gets for each call the value whose action has
+/// precedence, with its data. Without a filter each call is allowed.
 #[unsafe(no_mangle)]
 pub extern "C" fn skern_verdict(
     alloc: Global,
     filters: &[Image<'_>],
-    call: &Call,
-    verdict: &mut u32,
+    calls: &[Call],
+    verdicts: &mut [u32],
 ) -> Fault
-    ensures told { result.reason ≢ no_memory → result ≡ told_of (chain_in 0 filters.now) }
-    ensures verdict { result.reason ≡ fine
-        → IfOk (chain_in 0 filters.now) (λ chain. verdict.new ≡ verdict_of chain (record_of call.now)) }
-    ensures kept { result.reason ≢ fine → verdict.new ≡ verdict.old }
+    ensures told { result.reason ≢ no_memory
+        → result ≡ told_of_calls (length calls.now) (length verdicts.old) (chain_in 0 filters.now) }
+    ensures verdicts { result.reason ≡ fine → IfOk (chain_in 0 filters.now) (λ chain.
+        verdicts.new ≡ verdicts_of chain calls.now ++ drop (length calls.now) verdicts.old) }
+    ensures kept { result.reason ≢ fine → verdicts.new ≡ verdicts.old }
 {
-    match verdict_on(alloc, filters, call) {
-        Ok(Ok(value)) => {
-            *verdict = value;
-            Fault::plain(reason::FINE)
-        }
-        Ok(Err(fault)) => fault,
+    match verdict::written(alloc, filters, calls, verdicts) {
+        Ok(fault) => fault,
         Err(AllocError) => Fault::plain(reason::NO_MEMORY),
     }
 }
@@ -97,44 +100,63 @@ pub extern "C" fn skern_compare(
 
 /// The filter of a container's profile, the JSON of docker, podman and their like, where it is to hold: it answers to every
 /// call what the profile says, on all architectures that the profile lists for x86-64, which has x32 and i386 beside its own.
-/// `size` gets how many bytes it takes, and `image` gets them where there is room.
+/// `size` gets how many bytes it takes, and `room` gets them where there is room. So it does with the text of what is wrong,
+/// where there is no filter.
 #[unsafe(no_mangle)]
 pub extern "C" fn skern_profile(
     alloc: Global,
     profile: &[u8],
     setting: &Setting,
-    image: &mut [u8],
+    room: &mut [u8],
     size: &mut usize,
 ) -> Fault
-    ensures made { result.reason ≡ fine → (size.new ≤ length image.old) × IsImageOf setting.now profile.now (take size.new image.new)
-        × (drop size.new image.new ≡ drop size.new image.old) }
-    ensures room { result.reason ≡ no_room → (made : List ℕ) × IsImageOf setting.now profile.now made
-        × (size.new ≡ length made) × (length image.old < size.new) }
-    ensures refused { result.reason ≢ fine → result.reason ≢ no_room → result.reason ≢ no_memory
-        → IsRefused setting.now profile.now result × (size.new ≡ size.old) }
-    ensures kept { result.reason ≢ fine → image.new ≡ image.old }
+    ensures answered { result.reason ≢ no_memory → AnswersProfile setting.now profile.now room.old result size.new room.new }
+    ensures memory { result.reason ≡ no_memory → (size.new ≡ size.old) × (room.new ≡ room.old) }
 {
-    match profile::image_of(alloc, profile, setting) {
-        Ok(Ok(made)) => {
-            *size = made.len();
-            write_image(&made, image)
-        }
-        Ok(Err(refusal)) => Fault::plain(profile::number_of(refusal)),
+    match profile::written(alloc, profile, setting, room, size) {
+        Ok(fault) => fault,
         Err(AllocError) => Fault::plain(reason::NO_MEMORY),
     }
 }
 
-// Writes an image where there is room for it.
-fn write_image(made: &[u8], image: &mut [u8]) -> Fault
-    ensures written { length made.now ≤ length image.old
-        → (result ≡ plain fine) × (image.new ≡ made.now ++ drop (length made.now) image.old) }
-    ensures kept { length image.old < length made.now → (result ≡ plain no_room) × (image.new ≡ image.old) }
+/// The filter of a policy's text: it answers to every call what the text says. It is given as that of a profile is. What is
+/// wrong is told with its line, from 1 on.
+#[unsafe(no_mangle)]
+pub extern "C" fn skern_policy(
+    alloc: Global,
+    text: &[u8],
+    room: &mut [u8],
+    size: &mut usize,
+) -> Fault
+    ensures answered { result.reason ≢ no_memory → AnswersPolicy text.now room.old result size.new room.new }
+    ensures memory { result.reason ≡ no_memory → (size.new ≡ size.old) × (room.new ≡ room.old) }
 {
-    if image.len() < made.len() {
-        return Fault::plain(reason::NO_ROOM);
+    match policy::written(alloc, text, room, size) {
+        Ok(fault) => fault,
+        Err(AllocError) => Fault::plain(reason::NO_MEMORY),
     }
-    image[..made.len()].copy_from_slice(made);
-    Fault::plain(reason::FINE)
+}
+
+/// Whether filters, the oldest first, tell calls of x86-64 and x32 apart by bits of arguments that Linux does not read: a call
+/// that gets a less strict verdict than the call that Linux takes it for. `size` gets how many bytes the lines of `ask lint`
+/// take, and `room` gets them where there is room.
+#[unsafe(no_mangle)]
+pub extern "C" fn skern_lint(
+    alloc: Global,
+    filters: &[Image<'_>],
+    room: &mut [u8],
+    size: &mut usize,
+) -> Fault
+    ensures answered { result.reason ≢ no_memory
+        → AnswersLint (chain_in 0 filters.now) room.old size.old result size.new room.new }
+    ensures followed { IfOk (chain_in 0 filters.now) (λ chain. All AreFollowed chain → result.reason ≢ unfollowed) }
+    ensures spent { IfOk (chain_in 0 filters.now) (λ chain. NeverPart 0 (2 ^ 32) chain → result.reason ≢ spent) }
+    ensures memory { result.reason ≡ no_memory → (size.new ≡ size.old) × (room.new ≡ room.old) }
+{
+    match lint::written(alloc, filters, room, size) {
+        Ok(fault) => fault,
+        Err(AllocError) => Fault::plain(reason::NO_MEMORY),
+    }
 }
 
 /// The text of a number, in ASCII with a zero byte at its end. Gives the bytes that this takes, and writes none of them

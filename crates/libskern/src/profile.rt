@@ -1,9 +1,12 @@
 //! The filter of a container's profile.
-ghost use Rattle.std.specs.Prelude.{◌≡◌, ◌++◌, IfOk};
+ghost use Rattle.std.specs.Prelude.{◌≡◌, ◌≢◌, ◌++◌, IfOk, IsErr};
 ghost use Rattle.sk_profile_json.specs.Capabilities.{all_names, names_of};
-ghost use Rattle.libskern.specs.Profiles.{IsMadeThere, held_names, refusal_number};
+ghost use Rattle.libskern.specs.Faults.{no_memory};
+ghost use Rattle.libskern.specs.Profiles.{AnswersProfile, IsMadeThere, held_names, refusal_number};
 
-use sk_profile_json::{Context, Kernel, Machine, Refusal, capability, made};
+use crate::Fault;
+use crate::writing::{give, say};
+use sk_profile_json::{Context, Kernel, Machine, Refusal, capability, made, refusal_text};
 use std::alloc::{AllocError, Global};
 
 /// Where a profile is to hold.
@@ -18,8 +21,28 @@ pub struct Setting {
     pub runc: bool,
 }
 
-/// The image of the filter that means a profile, where it is to hold, or why it has none.
-pub(crate) fn image_of(
+/// Writes the image of the filter that means a profile, where it is to hold, or why it has none.
+pub(crate) fn written(
+    alloc: Global,
+    profile: &[u8],
+    setting: &Setting,
+    room: &mut [u8],
+    size: &mut usize,
+) -> Result<Fault, AllocError>
+    ensures answered { IfOk result (λ fault. fault.reason ≢ no_memory × AnswersProfile setting.now profile.now room.old fault size.new room.new) }
+    ensures memory { IsErr result → (size.new ≡ size.old) × (room.new ≡ room.old) }
+{
+    match image_of(alloc, profile, setting)? {
+        Ok(image) => Ok(give(&image, room, size)),
+        Err(refusal) => {
+            let what = refusal_text(alloc, refusal)?;
+            Ok(say(Fault::plain(number_of(refusal)), &what, room, size))
+        }
+    }
+}
+
+// The image of the filter that means a profile, where it is to hold, or why it has none.
+fn image_of(
     alloc: Global,
     profile: &[u8],
     setting: &Setting,
@@ -78,16 +101,16 @@ fn with_held<'a>(
     with_held(names, bits / 2, others)
 }
 
-/// The number that tells why a profile has no filter.
-pub(crate) fn number_of(refusal: Refusal) -> u32
+// The number that tells why a profile has no filter.
+fn number_of(refusal: Refusal) -> u32
     ensures number { result ≡ refusal_number refusal }
 {
     match refusal {
         Refusal::TooLong => 2,
         Refusal::NotText => 17,
-        Refusal::NotJson => 18,
+        Refusal::NotJson(_) => 18,
         Refusal::KeyTwice => 19,
-        Refusal::NoMachine | Refusal::Wrong(_) => 20,
+        Refusal::NoMachine | Refusal::NoProfile(_) | Refusal::Wrong(_) => 20,
         Refusal::Clashes(_) => 21,
     }
 }

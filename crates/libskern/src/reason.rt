@@ -6,6 +6,9 @@ ghost use Rattle.libskern.specs.Texts.{text_of};
 /// Nothing is wrong.
 pub(crate) const FINE: u32 = 0;
 
+/// A filter has more than 4096 instructions.
+pub(crate) const TOO_LONG: u32 = 2;
+
 /// The filters before it leave no room for this one.
 pub(crate) const PATH_LIMIT: u32 = 12;
 
@@ -21,11 +24,17 @@ pub(crate) const UNFOLLOWED: u32 = 15;
 /// The steps of a comparison were used up.
 pub(crate) const SPENT: u32 = 16;
 
-/// There is less room than a filter takes.
+/// There is less room than what is to be written takes.
 pub(crate) const NO_ROOM: u32 = 22;
 
+/// A policy's text is wrong.
+pub(crate) const POLICY: u32 = 23;
+
+/// A call gets a less strict verdict than the call that Linux takes it for, or the sign of an int is asked for.
+pub(crate) const WIDE: u32 = 24;
+
 /// The text of each number, from 0 on.
-pub const TEXTS: [&str; 23] = [
+pub const TEXTS: [&str; 25] = [
     "no fault",
     "no instruction",
     "more than 4096 instructions",
@@ -48,7 +57,9 @@ pub const TEXTS: [&str; 23] = [
     "key comes twice in an object of the profile",
     "profile is wrong",
     "entries of the profile clash",
-    "no room for the filter",
+    "not enough room",
+    "policy is wrong",
+    "verdicts change by bits that Linux does not read",
 ];
 
 /// The text of a number, or what is said of one that has none.
