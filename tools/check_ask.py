@@ -7,8 +7,11 @@ and the whole of standard output that it has to end with. `ask` in a command is 
 Prints each row that comes out otherwise, and at last 'N passed, M failed'. A row that needs a privilege to be given up where
 that can't be done is told, and not counted."""
 import errno
+import gzip
+import itertools
 import json
 import os
+import re
 import shutil
 import struct
 import subprocess
@@ -18,6 +21,8 @@ from typing import NamedTuple
 
 ROOT = os.path.dirname(os.path.dirname(os.path.abspath(__file__)))
 SECONDS = 60
+# What proves the program.
+KIT = subprocess.run(["rt", "version"], capture_output=True, text=True, check=True).stdout.split()[0]
 MIB = 1 << 20
 
 
@@ -57,6 +62,23 @@ PROFILE = profile(entry("getpid", "SCMP_ACT_ERRNO"), entry("read", "SCMP_ACT_LOG
                   entry("ptrace", "SCMP_ACT_KILL", excludes={"minKernel": "4.8"}))
 
 
+# Where a profile stands in other documents.
+def configuration(seccomp):
+    process = {"user": {"uid": 0, "gid": 0}, "args": ["sh"], "cwd": "/", "capabilities": {"bounding": ["CAP_KILL"]}, "noNewPrivileges": True}
+    linux = {"namespaces": [{"type": "pid"}], "maskedPaths": ["/proc/kcore"]}
+    return json.dumps({"ociVersion": "1.0.2-dev", "process": process, "root": {"path": "rootfs"}, "linux": {**linux, "seccomp": seccomp}}).encode()
+
+
+def kubernetes(spec):
+    return json.dumps({"apiVersion": "security-profiles-operator.x-k8s.io/v1beta1", "kind": "SeccompProfile", "metadata": {"name": "it"}, "spec": spec}).encode()
+
+
+def inspected(*options):
+    """What docker inspect prints of a container that has these options of security, as far as it has to do with them."""
+    settings = {"NetworkMode": "default", "CapAdd": None, "SecurityOpt": list(options) if options else None, "Privileged": False}
+    return json.dumps([{"Id": "e3b0", "Path": "sh", "State": {"Status": "running"}, "HostConfig": settings}], indent=4).encode()
+
+
 def line(image):
     return f"filter {image.hex()}\n".encode()
 
@@ -84,7 +106,26 @@ FILES = {
     "bad_digits": line(ALLOW) + b"filter 06zz\n",
     "odd_line": b"filter 060000000000ff7\n",
     "no_digits": b"filter\n",
-    "marked": b"\xef\xbb\xbf" + line(ALLOW),
+    # What is no filter, by how it begins: the start of a program, a profile as gzip, Windows' editors and yq write it, what
+    # seccomp_export_pfc(3) writes, and a unit. And what begins nearly so.
+    "elf": b"\x7fELF\x02\x01\x01" + bytes(57), "gzip": gzip.compress(PROFILE, mtime=0), "utf16": PROFILE.decode().encode("utf-16"),
+    "utf16_big": b"\xfe\xff" + PROFILE.decode().encode("utf-16-be"), "yaml": b"defaultAction: SCMP_ACT_ALLOW\nsyscalls: []\n",
+    "yaml_document": b"---\ndefaultAction: SCMP_ACT_ALLOW\n", "manifest": b"apiVersion: security-profiles-operator.x-k8s.io/v1beta1\nkind: SeccompProfile\n",
+    "pseudo_code": b"#\n# pseudo filter code start\n#\n# filter for arch x86_64 (3221225534)\nif ($arch == 3221225534)\n  # default action\n  action ALLOW;\n",
+    "unit": b"[Unit]\nDescription=it\n[Service]\nSystemCallFilter=@system-service\n", "service": b"[Service]\nSystemCallFilter=~@mount\n",
+    "minijail": b"@include /usr/share/policy/common.policy\nread: 1\n", "minijail_default": b"@default kill-thread\nread: 1\n",
+    "policy_of_code": b"#\n# pseudo filter code start\n#\n# filter for a service\ndefault allow\nothers allow\n39 getpid errno/1\n",
+    "elf_nearly": b"\x7fELV" + bytes(60), "gzip_nearly": b"\x1f\x8c" + bytes(62), "dashes": b"--- \ndefault allow\n",
+    # getpid as tcpdump -dd and -ddd write a filter, of which one begins as a profile does; tools/check_forms.py has the other forms.
+    "array": b"{ 0x20, 0, 0, 0x00000000 },\n{ 0x15, 0, 1, 0x00000027 },\n{ 0x6, 0, 0, 0x00050001 },\n{ 0x6, 0, 0, 0x7fff0000 },\n",
+    "array_in_one_line": b"{32, 0, 0, 0}, {21, 0, 1, 39}, {6, 0, 0, 327681}, {6, 0, 0, 2147418112}",
+    "array_marked": b"\xef\xbb\xbf{32, 0, 0, 0}, {21, 0, 1, 39}, {6, 0, 0, 327681}, {6, 0, 0, 2147418112}",
+    "array_cut": b"{ 0x20, 0, 0, 0x00000000 },\n{ 0x15, 0, 1, 0x00000027 },\n{ 0x6, 0, 0, 0x0005", "array_of_three": b"{ 0x20, 0, 0 },\n",
+    "decimals": b"4\n32 0 0 0\n21 0 1 39\n6 0 0 327681\n6 0 0 2147418112\n", "decimals_short": b"5\n32 0 0 0\n21 0 1 39\n6 0 0 327681\n6 0 0 2147418112\n",
+    "decimals_long": b"3\n32 0 0 0\n21 0 1 39\n6 0 0 327681\n6 0 0 2147418112\n", "decimals_none": b"0\n6 0 0 2147418112\n", "decimals_in_one_line": b"2,6 0 0 2147418112,\n",
+    # A byte order mark stands before a text alone, and once.
+    "marked": b"\xef\xbb\xbf" + line(GETPID), "marked_digits": b"\xef\xbb\xbf" + GETPID.hex().encode(), "marked_policy": b"\xef\xbb\xbfdefault allow\nothers allow\n39 getpid errno/1\n",
+    "marked_twice": b"\xef\xbb\xbf\xef\xbb\xbf" + line(GETPID), "half_marked": b"\xef\xbb" + line(GETPID), "mark": b"\xef\xbb\xbf", "raw_marked": b"\xef\xbb\xbf" + GETPID,
     "tab": line(ALLOW).replace(b" ", b"\t"),
     "glued": b"filter060000000000ff7f\n",
     "record": b"record 00\n" + line(ALLOW),
@@ -111,6 +152,7 @@ FILES = {
     "trap": insn(0x06, k=0x00030005).hex().encode(),
     "kill": insn(0x06, k=0x80000000).hex().encode(),
     "argument": insn(0x20, k=16) + insn(0x16),
+    "every_word": b"".join(insn(0x20, k=place) for place in range(0, 64, 4)) + ALLOW,
     # i386 gets errno 1, every other architecture what is allowed.
     "i386": insn(0x20, k=4) + insn(0x15, 0, 1, 0x40000003) + insn(0x06, k=0x00050001) + ALLOW,
     "flag": insn(0x20, k=16) + insn(0x45, 0, 1, 1) + insn(0x06, k=0x00050026) + ALLOW,
@@ -120,12 +162,32 @@ FILES = {
     "log_crlf": b"7 getpid() = 0x7\r\n",
     "log_ends": b"7 +++ exited with 0 +++\n",
     "log_decoded": b'7 read(3, "ab", 64) = 2\n7 close(3) = 0\n',
+    "expected": b"getpid: errno/EPERM\nread, socket: performed\n",
+    "expected_case": b"# What is to stay.\nread\n  refused where args[0] == 1\n",
+    "expected_wrong": b"getpid: errno/EPERM\nread: refuse\n",
+    "expected_i386": b"arch i386\nothers: refused\nread: performed\n",
+    "expected_s390x": b"arch s390x\nread: performed\n",
+    "policy_refused": b"default allow\nread: refused\n",
+    "guarded": insn(0x20, k=4) + insn(0x15, 1, 0, 0xC000003E) + insn(0x06, k=0x80000000) + GETPID,
+    "guarded_argument": insn(0x20, k=4) + insn(0x15, 1, 0, 0xC000003E) + insn(0x06, k=0x80000000) + insn(0x20, k=16) + insn(0x16),
     "profile": PROFILE,
     "profile_blank": b" \t\r\n" + PROFILE.replace(b",", b",\r\n"),
     "profile_marked": b"\xef\xbb\xbf" + PROFILE,
     "profile_nul": PROFILE + b"\0",
     "profile_object": b"{}",
+    # config.json of the OCI runtime specification as `runc spec` writes it, with a profile, and a SeccompProfile of Kubernetes.
+    "configuration": configuration(json.loads(PROFILE)), "kubernetes": kubernetes(json.loads(PROFILE)),
+    "configuration_without": configuration(None), "configuration_wrong": configuration(json.loads(profile(entry("read"), entry("write", "SCMP_ACT_DENY")))),
+    "configuration_number": configuration(7), "kubernetes_base": kubernetes({"baseProfileName": "runtime/default", **json.loads(PROFILE)}),
+    "kubernetes_both": json.dumps({"linux": {"seccomp": json.loads(PROFILE)}, "spec": json.loads(profile())}).encode(),
+    "configuration_twice": b'{"linux": {"seccomp": ' + PROFILE + b'}, "linux": {}}',
+    "profile_seccomp": b'{"seccomp": ' + PROFILE + b"}", "profile_linux": b'{"linux": ' + PROFILE + b"}",
     "profile_open": PROFILE[:-1],
+    "inspected": inspected("no-new-privileges", f"seccomp={PROFILE.decode()}"), "inspected_twice": inspected("seccomp=unconfined", f"seccomp={PROFILE.decode()}"),
+    "inspected_without": inspected(), "inspected_other": inspected("apparmor=docker-default"), "inspected_unconfined": inspected("seccomp=unconfined"),
+    "inspected_builtin": inspected("seccomp=builtin"), "inspected_wrong": inspected("seccomp=/etc/profile.json"), "inspected_entry": inspected(f"seccomp={profile(entry('write', 'SCMP_ACT_DENY')).decode()}"),
+    "profile_comma": b'{\n  "defaultAction": "SCMP_ACT_ALLOW",\n  "syscalls": [],\n}\n', "profile_comment": b'{\n  // all calls\n  "defaultAction": "SCMP_ACT_ALLOW", "syscalls": []}\n',
+    "profile_address": b'{"defaultAction": "SCMP_ACT_ALLOW", "listenerPath": "http://a,]", "syscalls": [}\n',
     "profile_two": PROFILE + PROFILE,
     "profile_latin": PROFILE.replace(b"getpid", b"getp\xefd"),
     "profile_keys": PROFILE[:-1] + b', "defaultAction": "SCMP_ACT_ALLOW"}',
@@ -170,7 +232,7 @@ class Row(NamedTuple):
 GOT = "39 getpid errno/1 EPERM\n"
 LINE = line(GETPID).decode()
 NO_CALL = "holds no call: expected lines as strace -f -X raw -e raw=all writes them"
-NO_FILTER = "holds no filter: expected bytes of struct sock_filter, hexadecimal digits, lines filter HEX, a policy, or a profile in JSON"
+NO_FILTER = "holds no filter: expected bytes of struct sock_filter, hexadecimal digits, lines filter HEX, another form of a filter, a policy, or a profile in JSON"
 
 
 def record(number, first=0, architecture=0xC000003E):
@@ -195,8 +257,48 @@ def flag_path(low, outcome, end, value, verdict):
         + step(end, f"ret {value}", low) + f"  {verdict}\n{verdict} by filter 0 at {end}\n"
 
 
+# The names that may be meant: calls of x86-64 by their numbers, words, and the options of each word, those of several words first.
+with open(f"{ROOT}/docs/ask.bash", encoding="ascii") as completion:
+    CALLS = completion.read().split("_ask_calls='")[1].split("'")[0].split()
+WORDS_OF_ASK = ["calls", "filter", "when", "diff", "expect", "lint", "replay", "why", "show", "arches", "check"]
+OPTIONS = {
+    "--help": WORDS_OF_ASK, "--arch": [it for it in WORDS_OF_ASK if it not in ("filter", "lint", "arches")],
+    **{it: WORDS_OF_ASK for it in ("--cap", "--kernel", "--machine", "--native", "--runc", "--strict")},
+    "--numbers": ["when", "diff", "expect", "lint"], "--call": ["calls", "when"], "--examples": ["calls"], "--to": ["filter"],
+    "--raw": ["filter"], "--smaller": ["filter"], "--dot": ["when"], "--stricter": ["diff"], "--all": ["lint"],
+}
+UNKNOWN = re.compile(r"(?:(\w+): )?no (call|word|option) is named (.*)")
+
+
+def edits(one, other):
+    """How many letters are put in, taken out, changed or swapped with the next between two words, with letters of either word put
+    between swapped ones: by the shortest way from one to the other, looked for in all ways."""
+    cells = {}
+    for i, j in itertools.product(range(len(one) + 1), range(len(other) + 1)):
+        ways = [0] if i == j == 0 else []
+        ways += [cells[i - 1, j] + 1] if i else []
+        ways += [cells[i, j - 1] + 1] if j else []
+        ways += [cells[i - 1, j - 1] + (one[i - 1] != other[j - 1])] if i and j else []
+        ways += [cells[a - 1, b - 1] + (i - a - 1) + 1 + (j - b - 1) for a in range(1, i) for b in range(1, j)
+                 if one[a - 1] == other[j - 1] and one[i - 1] == other[b - 1]]
+        cells[i, j] = min(ways)
+    return cells[len(one), len(other)]
+
+
+def meant(command, complaint):
+    """The question behind a complaint of an unknown name of x86-64, a word or an option: docs/FORMATS.md."""
+    unknown = UNKNOWN.fullmatch(complaint)
+    if not unknown or re.search("--arch[ =](?!x86-64|x86_64|amd64)", command):
+        return ""
+    word, kind, name = unknown.groups()
+    names = {"call": CALLS, "word": WORDS_OF_ASK, "option": [it for it, words in OPTIONS.items() if word in words]}[kind]
+    sought = re.sub("^(SYS_|__NR_)", "", name) if kind == "call" else name.partition("=")[0] if kind == "option" else name
+    near = min(names, key=lambda it: edits(sought, it))
+    return f": did you mean {near}?" if len(sought) <= 64 and edits(sought, near) <= (len(sought) + 2) // 4 else ""
+
+
 def trouble(command, complaint):
-    return Row(command, 2, f"ask: {complaint}\n" if complaint else "", "")
+    return Row(command, 2, f"ask: {complaint}{meant(command, complaint)}\n" if complaint else "", "")
 
 
 def good(command, answer):
@@ -283,7 +385,7 @@ ARCHITECTURES = [
     good("ask when --arch i386 --call read i386", "3 read errno/1 EPERM\n"), good("ask when --arch i386 --call read flag", "3 read\n  allow where (args[0] & 0x1) == 0\n  errno/38 ENOSYS else\n"),
     good("ask when --arch aarch64 --call read i386", "63 read allow\n"), good("ask when --arch i386 --call read --dot i386", "digraph {\n" + leaf(0, "errno/1 EPERM", "khaki") + "}\n"),
     good("ask diff i386 all", "the same on every call\n"), good("ask diff --arch x32 i386 all", "the same on every call\n"),
-    Row("ask diff --arch i386 i386 all | sed -n 1,3p", 1, "", "0 restart_syscall: errno/1 EPERM -> allow\n"
+    Row("ask diff --arch i386 i386 all | sed -n 1,4p", 1, "", "looser:\n0 restart_syscall: errno/1 EPERM -> allow\n"
         f"  record {record(0, 0, 0x40000003)}\n  syscall(SYS_restart_syscall, 0x0, 0x0, 0x0, 0x0, 0x0, 0x0)\n"),
     good("ask diff --stricter --arch i386 all i386", "as strict on every call\n"),
     good("ask why --arch i386 'read(1)' i386", I386_PATH), good("ask why read i386 --arch i386", I386_PATH),
@@ -305,13 +407,57 @@ ARCHITECTURES = [
         "when --arch s390x raw", "diff raw --arch s390x raw", "why --arch s390x read raw", "replay --arch s390x log raw",
         "calls --arch s390x --examples raw", "when --dot --call read raw --arch s390x")],
     *[trouble(f"ask {word} --arch '{name}' raw raw", f"{word}: no architecture is named {name}") for word in ("calls", "when", "diff", "why", "show", "replay")
-      for name in ("I386", "x86_64", "amd64", "", "mips", "any other", "raw")],
+      for name in ("I386", "X86_64", "AMD64", "riscv", "", "mips", "any other", "raw", "scmp_arch_x86", "SCMP_ARCH_MIPS", "SCMP_ARCH_", "x86_64,amd64")],
+    # getrandom(2) by the headers of each architecture
+    *[good(f"ask calls --arch {name} --call getrandom raw", f"{number} getrandom allow\n") for name, number in (
+        ("x86_64", 318), ("amd64", 318), ("SCMP_ARCH_X86_64", 318), ("SCMP_ARCH_X32", 1073742142), ("x86", 355), ("i686", 355), ("SCMP_ARCH_X86", 355),
+        ("arm64", 278), ("SCMP_ARCH_AARCH64", 278), ("SCMP_ARCH_ARM", 384), ("SCMP_ARCH_RISCV64", 278), ("ppc64el", 359), ("powerpc64le", 359),
+        ("SCMP_ARCH_PPC64LE", 359), ("SCMP_ARCH_S390X", 349), ("loong64", 278), ("SCMP_ARCH_LOONGARCH64", 278))],
+    *[good(f"ask calls --arch {name} --call read i386", "3 read errno/1 EPERM\n") for name in ("x86", "i686", "SCMP_ARCH_X86")],
+    trouble("ask when --arch SCMP_ARCH_S390X raw", f"when: {TURNED}"), trouble("ask calls --arch amd64 --arch x86_64 raw", "calls: given twice: --arch"),
     *[trouble(f"ask {word} raw raw --arch", f"{word}: expected a name behind --arch") for word in ("calls", "when", "diff", "why", "show", "replay")],
     *[trouble(f"ask {word} --arch i386 raw", f"{word}: no option is named --arch") for word in ("filter", "arches")],
-    trouble("ask calls --arch i386 --arch i386 raw", "calls: given twice: --arch"), trouble("ask calls --arch=i386 raw", "calls: no option is named --arch=i386"),
-    trouble("ask calls --arch i386 --call getuid32x raw", "no call is named getuid32x"), trouble("ask calls --call getuid32 raw", "no call is named getuid32"),
+    trouble("ask calls --arch i386 --arch i386 raw", "calls: given twice: --arch"),
+    good("ask calls --arch=i386 --call=read i386", "3 read errno/1 EPERM\n"), good("ask why --arch=i386 'read(1)' i386", I386_PATH),
+    trouble("ask calls --arch= raw", "calls: no architecture is named "), trouble("ask calls --arch=i386=arm raw", "calls: no architecture is named i386=arm"),
+    *[trouble(f"ask calls {arches} raw", "calls: given twice: --arch") for arches in ("--arch=arm --arch=arm", "--arch=arm --arch arm", "--arch arm --arch=vax")],
+    *[trouble(f"ask {word} --arch=i386 raw", f"{word}: no option is named --arch=i386") for word in ("filter", "lint", "arches")],
+    trouble("ask calls --arch i386 --call getuid32x raw", "no call is named getuid32x: did you mean getuid32?"), trouble("ask calls --call getuid32 raw", "no call is named getuid32"),
     trouble("ask why --arch aarch64 open raw", "no call is named open"), trouble("ask when --arch riscv64 --call fork raw", "no call is named fork"),
     good("ask calls --arch i386 --call getuid32 raw", "199 getuid32 allow\n"),
+]
+AS_EXPECTED = "as expected on every call\n"
+NOT_REFUSED = "0 read: expected refused -> allow where args[0] == 0x1\n  record " + record(0, 1) + "\n  syscall(SYS_read, 0x1, 0x0, 0x0, 0x0, 0x0, 0x0)\n"
+OTHERS_NOTE = "ask: expected_i386: others: calls of other architectures were not compared: expected --arch\n"
+EXPECTATIONS = [
+    *[good(f"ask expect expected {names}", AS_EXPECTED) for names in ("raw", "all raw", "raw all", "- < raw", "guarded", "profile", "--numbers raw", "--arch x86-64 raw")],
+    good("ask expect - raw < expected", AS_EXPECTED), good("ask expect expected_case trap", AS_EXPECTED),
+    warned("ask expect expected all", difference(39, "getpid", "expected errno/1 EPERM", "allow")),
+    warned("ask expect expected_case all", NOT_REFUSED), warned("ask expect --arch x86-64 expected_case raw", NOT_REFUSED),
+    warned("ask expect expected kill | grep -v '^  '", "0 read: expected performed -> kill_process\n39 getpid: expected errno/1 EPERM -> kill_process\n"
+           "41 socket: expected performed -> kill_process\n"),
+    Row("ask expect expected_i386 all", 0, OTHERS_NOTE, AS_EXPECTED), good("ask expect --arch i386 expected_i386 all", AS_EXPECTED),
+    Row("ask expect expected_i386 i386 | head -n 1", 1, OTHERS_NOTE, "3 read: expected performed -> errno/1 EPERM\n"),
+    good("ask expect --arch aarch64 expected_i386 kill", AS_EXPECTED),
+    trouble("ask expect expected_s390x all", "expect: arguments with their highest byte first are not followed: arch s390x"),
+    trouble("ask expect --arch s390x expected all", f"expect: {TURNED}"),
+    trouble("ask expect", "expect: no POLICY is given"), trouble("ask expect expected", "expect: no FILE is given"),
+    *[trouble(f"ask expect {name} all", f"{name}: holds no expectations: expected the text of a policy") for name in ("raw", "lines", "profile", "empty", "comments")],
+    trouble("ask expect expected_wrong all", "expected_wrong: line 2: refuse: expected a verdict, as allow or errno/EPERM"),
+    trouble("ask expect nofile all", "nofile: no such file"), trouble("ask expect expected nofile", "nofile: no such file"),
+    trouble("ask expect mib_and_one all", f"mib_and_one: has more than {MIB} bytes"),
+    *[trouble(f"ask expect {it} expected all", f"expect: no option is named {it}") for it in ("--call", "--stricter", "--raw", "--smaller", "--all")],
+    *[trouble(f"ask {words} policy_refused", "policy_refused: line 2: refused: expected a verdict of a filter, as allow or errno/EPERM") for words in ("filter", "calls", "diff all")],
+    Row("ask filter --smaller all", 0, "ask: filter: no smaller one was found: 1 instruction\n", line(ALLOW).decode()),
+    Row("ask filter --smaller --raw trap | od -An -tx1", 0, "ask: filter: no smaller one was found: 1 instruction\n", " 06 00 00 00 05 00 03 00\n"),
+    *[trouble(f"ask filter {words}", "filter: calls of other architectures get several verdicts: expected one") for words in (
+        "--smaller raw", "raw --smaller", "--smaller i386", "--raw --smaller flag", "--smaller argument")],
+    good("ask filter --smaller guarded guarded guarded 2> note | ask diff - guarded", "the same on every call\n"),
+    good("ask filter --smaller --raw guarded guarded guarded 2> note | ask diff --arch i386 guarded -", "the same on every call\n"),
+    good("ask filter --smaller guarded guarded guarded 2>&1 > smaller | sed 's/[0-9]* instructions in/N instructions in/'", "ask: filter: N instructions in place of 21\n"),
+    *[trouble(f"ask {word} --smaller raw", f"{word}: no option is named --smaller") for word in ("calls", "when", "diff", "show", "arches")],
+    trouble("ask filter --smaller guarded_argument", "filter: the filters could not be followed"),
+    trouble("ask filter --smaller every_word", "filter: which verdict calls of other architectures get is not known"),
 ]
 NOTE = "ask: profile_noted: entry 2 of syscalls: no call is named opennat: passed over\n"
 OTHERS = "x86-64's part alone: programs of its other architectures are killed"
@@ -319,12 +465,23 @@ PROFILES = [
     *[good(f"ask calls --call getpid {name}", GOT) for name in ("profile", "profile_blank", "- < profile", "/dev/stdin < profile", "<(cat profile)")],
     good("cat profile | ask calls --call getpid -", GOT), good("cat profile | ask calls --call getpid /dev/stdin", GOT),
     good("mkfifo fifo; cat profile > fifo & timeout 20 ask calls --call getpid fifo", GOT),
+    *[good(f"ask calls --call getpid {name}", GOT) for name in ("policy_of_code", "marked", "marked_digits", "marked_policy", "profile_marked")],
+    good("ask expect marked_policy marked 2> note", "as expected on every call\n"),
+    *[good(f"ask calls --call getpid {name}", GOT) for name in ("array", "array_in_one_line", "decimals", "array_marked")],
+    *[good(f"ask filter {name}", f"filter {GETPID.hex()}\n") for name in ("array", "decimals")],
+    *[good(f"ask diff profile {name}", "the same on every call\n") for name in ("profile_marked", "configuration", "kubernetes", "kubernetes_both", "inspected", "inspected_twice")],
+    *[good(f"ask calls --call read --cap sys_admin {name}", "0 read allow\n") for name in ("configuration", "kubernetes")],
     good("ask calls --call read profile", "0 read log\n"), good("ask calls --call ptrace profile", "101 ptrace allow\n"),
     *[good(f"ask calls --call read --cap {caps} profile", "0 read allow\n") for caps in (
+        "kill,sys_admin", "Sys_Admin,CAP_KILL", "docker,cap_sys_admin,kill", "sys_admin,sys_admin", "kill,kill --cap sys_admin,kill",
         "all", "CAP_SYS_ADMIN", "SYS_ADMIN", "sys_admin", "cap_sys_admin", "kill --cap sys_admin", "docker --cap sys_admin", "sys_admin --cap sys_admin")],
-    *[good(f"ask calls --call read --cap {caps} profile", "0 read log\n") for caps in ("docker", "CAP_SYS_NICE", "net_raw --cap kill")],
+    *[good(f"ask calls --call read --cap {caps} profile", "0 read log\n") for caps in ("docker", "CAP_SYS_NICE", "net_raw --cap kill", "net_raw,kill")],
     *[good(f"ask calls --call ptrace --kernel {kernel} profile", f"101 ptrace {verdict}\n") for kernel, verdict in (
-        ("4.8", "allow"), ("4.7", "kill_thread"), ("5.0", "allow"), ("6.12", "allow"), ("3.19", "kill_thread"))],
+        ("4.8", "allow"), ("4.7", "kill_thread"), ("5.0", "allow"), ("6.12", "allow"), ("3.19", "kill_thread"),
+        # Releases as uname(1) -r printed them: Debian 12 and 13, RHEL 7 and 8, Ubuntu 16.04, WSL, and a candidate of Linux.
+        ("6.1.0-13-amd64", "allow"), ("6.12.57+deb13-amd64", "allow"), ("4.18.0-553.el8_10.x86_64", "allow"), ("4.8-rc3", "allow"),
+        ("3.10.0-1160.el7.x86_64", "kill_thread"), ("4.7+", "kill_thread"), ("4.4.0-210-generic", "kill_thread"),
+        ("6.6.87.2-microsoft-standard-WSL2", "allow"), ("4.7.99999999999", "kill_thread"), ("4.7-9.9", "kill_thread"))],
     *[good(f"ask calls --runc --call {nr} profile_runc", f"{nr} {told}\n") for nr, told in (
         (38, "setitimer errno/1 EPERM"), (39, "getpid allow"), (40, "sendfile errno/38 ENOSYS"), (1073741823, "- errno/38 ENOSYS"),
         (1073741824, "- kill_thread"), (2147483647, "- kill_thread"), (2147483648, "- errno/38 ENOSYS"), (3221225471, "- errno/38 ENOSYS"),
@@ -363,13 +520,13 @@ PROFILES = [
     *[good(f"ask diff {pair}", "the same on every call\n") for pair in ("profile profile", "profile_blank profile", "profile - < profile")],
     good("ask diff --cap all <(ask filter --cap all profile) profile", "the same on every call\n"),
     good("ask filter --raw profile | ask diff profile -", "the same on every call\n"), good("ask show profile | head -n 1", "; 0 arch\n"),
-    Row("ask diff profile raw | head -n 1", 1, "", "0 read: log -> allow\n"), good("ask filter profile raw profile | grep -c '^filter '", "3\n"),
+    Row("ask diff profile raw | head -n 2", 1, "", "looser:\n0 read: log -> allow\n"), good("ask filter profile raw profile | grep -c '^filter '", "3\n"),
     good("ask calls --call getpid profile all", GOT), good("ask calls --call getpid all profile", GOT),
     good("ask why getpid profile | tail -n 1 | cut -d' ' -f 1,2", "errno/1 EPERM\n"), good("ask when --call getpid profile", GOT),
     Row("ask replay log profile | head -n 1", 1, "", "1 getpid() errno/1 EPERM\n"), good("ask when --dot --call getpid profile", GETPID_DRAWN),
     good("ask calls --cap all --kernel 6.1 --call getpid raw", GOT), good("ask why --cap docker --kernel 6.1 getpid raw", GETPID_PATH),
     *[Row(f"ask {asking} profile_noted", 0, NOTE, answer) for asking, answer in (("calls --call getpid", GOT), ("when --call getpid", GOT))],
-    Row("ask calls --call getpid profile_noted profile_noted", 0, NOTE * 2, GOT), Row("ask diff profile_noted raw | head -n 1", 1, NOTE, "1073741824-4294967294 -: kill_thread -> allow\n"),
+    Row("ask calls --call getpid profile_noted profile_noted", 0, NOTE * 2, GOT), Row("ask diff profile_noted raw | head -n 2", 1, NOTE, "looser:\n1073741824-4294967294 -: kill_thread -> allow\n"),
     good("ask calls --call getpid profile_noted 2>&-", GOT), good("ask calls --call getpid profile_noted 2> /dev/full", GOT),
     trouble("ask calls --call getpid profile_noted nofile", "nofile: no such file"),
     Row("ask calls --call getpid profile_noted > /dev/full", 2, NOTE + "ask: writing failed\n", ""),
@@ -403,9 +560,9 @@ GOOD = [
     good("ask when --call getpid --dot argument", "digraph {\n" + leaf(0, "not followed", "white") + "}\n"),
     good("ask diff raw digits", "the same on every call\n"), good("ask diff - raw < lines", "the same on every call\n"),
     good("ask diff <(cat raw) <(cat digits)", "the same on every call\n"), good("ask diff --stricter all flag", "as strict on every call\n"),
-    Row("ask diff all raw", 1, "", difference(39, "getpid", "allow", "errno/1 EPERM")),
-    Row("ask diff raw --stricter all", 1, "", difference(39, "getpid", "errno/1 EPERM", "allow")),
-    Row("ask diff flag all | sed -n 1,3p", 1, "", difference(0, "read", "errno/38 ENOSYS", "allow", 1, " where (args[0] & 0x1) == 0x1")),
+    Row("ask diff all raw", 1, "", "stricter:\n" + difference(39, "getpid", "allow", "errno/1 EPERM")),
+    Row("ask diff raw --stricter all", 1, "", "looser:\n" + difference(39, "getpid", "errno/1 EPERM", "allow")),
+    Row("ask diff flag all | sed -n 1,4p", 1, "", "looser:\n" + difference(0, "read", "errno/38 ENOSYS", "allow", 1, " where (args[0] & 0x1) == 0x1")),
     good("ask replay log all", "2 read(0x3, 0x7ffd, 0x40) allow\n1 getpid() allow\n1 line is no call\n"),
     good("ask replay - all < log", "2 read(0x3, 0x7ffd, 0x40) allow\n1 getpid() allow\n1 line is no call\n"),
     good("cat log | ask replay /dev/stdin <(cat all) | head -n 1", "2 read(0x3, 0x7ffd, 0x40) allow\n"),
@@ -449,7 +606,51 @@ GOOD = [
     good("ask lint --help | head -n 1", "usage: ask lint [--all] [--numbers] FILE..\n"),
     good("ask diff --help | head -n 1", "usage: ask diff [--stricter] [--numbers] [--arch ARCH] OLD NEW\n"),
     good("ask --help | head -n 1", "usage: ask WORD ..\n"), good("ask calls --help | head -n 1", "usage: ask calls [--call CALL] [--examples] [--arch ARCH] FILE..\n"),
-    good("ask filter nofile --help | head -n 1", "usage: ask filter [--raw] FILE..\n"),
+    *[good(f"ask {words} | head -n 1", f"usage: ask {usage}\n") for words, usage in (
+        ("-h", "WORD .."), ("arches -h", "arches FILE.."), ("show two -h", "show [--arch ARCH] FILE"), ("show --arch=arm -h", "show [--arch ARCH] FILE"))],
+    trouble("ask calls -hh raw", "calls: no option is named -hh"), trouble("ask calls --help=1 raw", "calls: no option is named --help=1"),
+    trouble("ask calls --call -h raw", "no call is named -h"), trouble("ask calls --h raw", "calls: no option is named --h"),
+    *[good(f"ask --version{names}", f"ask (skern)\nNames of calls: Linux 6.12\nToolchain: {KIT}\n") for names in ("", " raw", " nofile")],
+    *[trouble(f"ask {words}", said) for words, said in (
+        ("--versio", "no word is named --versio"), ("-v", "no word is named -v"), ("--version=1", "no word is named --version=1"),
+        ("calls --version raw", "calls: no option is named --version"))],
+    good("ask filter nofile --help | head -n 1", "usage: ask filter [--to FORM] [--smaller] FILE..\n"),
+    # Forms as tcpdump -dd, bpf_asm, xxd and base64 write them.
+    good("ask filter --to c raw", FILES["array"].decode()), good("ask filter --to=c array_in_one_line | cmp - array", ""),
+    good("ask filter --to bpf_asm raw", "4,32 0 0 0,21 0 1 39,6 0 0 327681,6 0 0 2147418112,\n"),
+    good("ask filter --to base64 raw | cmp - <(base64 -w 0 raw; echo)", ""), good("ask filter --to hex raw", DIGITS + "\n"), good("ask filter --to raw lines | cmp - raw", ""),
+    good("ask filter --to json raw", '[{"code":32,"jt":0,"jf":0,"k":0},\n {"code":21,"jt":0,"jf":1,"k":39},\n'
+         ' {"code":6,"jt":0,"jf":0,"k":327681},\n {"code":6,"jt":0,"jf":0,"k":2147418112}]\n'),
+    good("ask filter --to lines two raw", line(ALLOW).decode() + LINE * 2), good("ask filter --to c --raw raw | cmp - raw", ""), good("ask filter --raw --to hex raw", DIGITS + "\n"),
+    *[good(f"ask filter --to {form} {name} | ask diff {name} -", "the same on every call\n") for form in ("lines", "raw", "hex", "c", "base64", "bpf_asm")
+      for name in ("raw", "policy_of_code", "profile", "profile_i386", "of_two", "all")],
+    Row("ask filter --smaller --to bpf_asm trap", 0, "ask: filter: no smaller one was found: 1 instruction\n", "1,6 0 0 196613,\n"),
+    good("ask filter --smaller --to c guarded guarded 2> note | ask diff guarded -", "the same on every call\n"),
+    *[trouble(f"ask filter --to {form} two", f"filter: the FILEs hold several filters: expected one with --to {form}") for form in ("hex", "c", "base64", "bpf_asm", "json")],
+    *[trouble(f"ask filter {words}", "filter: expected raw, hex, lines, c, base64, bpf_asm or json behind --to") for words in (
+        "--to", "raw --to", "--to vax raw", "--to '' raw", "--to= raw", "--to C raw", "--to --raw raw", "--to=base64=1 raw")],
+    *[trouble(f"ask {word} --to c raw", f"{word}: no option is named --to") for word in ("calls", "when", "diff", "show", "arches", "check")],
+    # Several calls are told of in the order in which they are asked for.
+    good("ask calls --call read --call getpid raw", "0 read allow\n" + GOT), good("ask calls --call getpid --call 0 --call=getpid raw", GOT + "0 read allow\n" + GOT),
+    good("ask calls --call getpid --examples --call read all", f"39 getpid allow\n  allow filter 0 at 0 record {record(39)}\n0 read allow\n  allow filter 0 at 0 record {record(0)}\n"),
+    good("ask when --call read --call socket narrow", "0 read allow\n41 socket\n  errno/22 EINVAL where (args[0] & 0xffffffff) == AF_NETLINK\n  allow else\n"),
+    good("ask when --call getpid --call getpid --dot raw", GETPID_DRAWN * 2), good("ask when --arch i386 --call read --call 39 raw", "3 read allow\n39 mkdir errno/1 EPERM\n"),
+    trouble("ask calls --call read --call mseal2 --call vax raw", "no call is named mseal2"), trouble("ask when --call mseal2 --call read raw", "no call is named mseal2"),
+    # What seccomp(2) takes.
+    good("ask check raw two", f"raw: valid: 4 instructions\ntwo: line 1: valid: 1 instruction\ntwo: line 2: valid: 4 instructions\n"),
+    good("ask check - < array", "-: valid: 4 instructions\n"),
+    good("ask check turned --arch s390x 2> note", "turned: valid: 4 instructions\n"), trouble("ask check \"$(printf 'a\\nb')\"", "a?b: no such file"),
+    *[warned(f"ask check {name}", f"{name.split()[-1]}: {says}\n") for name, says in (
+        ("no_return", "the last instruction is no return"), ("jump", "instruction 0: a jump past the last instruction"), ("raw code", f"line 2: instruction 2: {NO_CODE}"),
+        ("raw jump", "instruction 0: a jump past the last instruction"), ("ragged", "the length is no multiple of 8 bytes: expected instructions as struct sock_filter has them"),
+        ("chain", "line 9: the filters are too long together: expected at most 32768 instructions, with 4 more for each filter before this one"))],
+    trouble("ask check jump empty", f"empty: {NO_FILTER}"), trouble("ask check", "check: no FILE is given"), trouble("ask check jump nofile", "nofile: no such file"),
+    trouble("ask check --call read raw", "check: no option is named --call"),
+    # What is passed over in a profile is trouble.
+    *[good(f"ask calls --strict --call getpid {name}", GOT) for name in ("raw", "profile", "lines", "policy_of_code")],
+    *[Row(f"ask {words}", 2, NOTE, "") for words in ("calls --strict profile_noted", "check profile_noted --strict", "diff raw profile_noted --strict", "filter --strict raw profile_noted",
+                                                    "expect --strict expected profile_noted", "why --strict read profile_noted", "lint --strict profile_noted")],
+    Row("ask check profile_noted 2>&1 > checked | grep -c opennat", 0, "", "1\n"), trouble("ask calls --strict=1 raw", "calls: no option is named --strict=1"),
 ]
 WORDS = [
     trouble("ask", "no word is given; see ask --help"), trouble("ask foo", "no word is named foo"), trouble("ask '' raw", "no word is named "),
@@ -467,7 +668,12 @@ WORDS = [
     trouble("ask diff --call read raw all", "diff: no option is named --call"), trouble("ask diff - - < raw", f"-: {NO_FILTER}"),
     trouble("ask replay", "replay: no LOG is given"), trouble("ask replay log", "replay: no FILE is given"),
     trouble("ask replay -", "replay: no FILE is given"), trouble("ask replay --call read log all", "replay: no option is named --call"),
-    trouble("ask replay -- log all", "replay: no option is named --"),
+    good("ask replay -- log all | wc -l", "3\n"), good("ask calls --call getpid -- raw", GOT), good("ask calls --call getpid all -- raw all", GOT),
+    good("cp raw ./-x; ask calls --call getpid -- -x", GOT), good("cp raw ./--; ask calls --call getpid -- --", GOT),
+    trouble("ask calls --", "calls: no FILE is given"), trouble("ask -- calls raw", "no word is named --"), trouble("ask calls raw -- -- raw", "--: no such file"),
+    *[trouble(f"ask calls -- {name}", f"{name}: no such file") for name in ("--help", "-h", "--call", "--arch=arm")],
+    trouble("ask why -- -1 raw", "no call is named -1"), trouble("ask diff -- raw", "diff: expected two FILEs, OLD and NEW"),
+    trouble("ask calls raw --call --", "no call is named --"), trouble("ask calls raw --cap --", "calls: no capability is named --"),
     trouble("ask arches", "arches: no FILE is given"), trouble("ask arches --call read raw", "arches: no option is named --call"),
     trouble("ask show", "show: no FILE is given"), trouble("ask show --raw raw", "show: no option is named --raw"),
     trouble("ask show --call read raw", "show: no option is named --call"), trouble("ask show raw -x", "show: no option is named -x"),
@@ -493,7 +699,6 @@ WORDS = [
     trouble("ask calls --exmples raw", "calls: no option is named --exmples"), trouble("ask calls --raw raw", "calls: no option is named --raw"),
     trouble("ask filter --examples raw", "filter: no option is named --examples"), trouble("ask calls -x raw", "calls: no option is named -x"),
     trouble("ask calls raw --call", "calls: expected a name or a number behind --call"),
-    trouble("ask calls --call read --call write raw", "calls: given twice: --call"),
     *[trouble(f"ask calls --call '{word}' raw", f"no call is named {word}") for word in (
         "mseal2", "", "010", "00", "-1", "0x", "1e3", "getpid ", "GETPID", "4294967296", "0x100000000", "18446744073709551616")],
     trouble("ask calls --call \"$(printf 'a\\nb')\" raw", "no call is named a?b"),
@@ -506,9 +711,27 @@ WORDS = [
     *[trouble(f"ask calls --cap '{name}' raw", f"calls: no capability is named {name}") for name in (
         "CAP_FOO", "", "CAP_", "CAP", "DOCKER", "All", "none", "sys admin", "CAP_CAP_KILL", "kill ", "--kernel", "0", "raw")],
     *[trouble(f"ask calls --kernel '{version}' raw", "calls: expected a version as 6.1 behind --kernel") for version in (
-        "x", "", "6", "6.", ".1", "6.1.0", "v6.1", "6,1", " 6.1", "-1.0", "6.1-rc1", "99999999999.1")],
+        "x", "", "6", "6.", ".1", "v6.1", "6,1", " 6.1", "-1.0", "99999999999.1", "6..1", "6.-1", "6-1.1", "6+1.1", "6.1 ", "6.1rc1", "6.1_2", "6.x.1")],
     trouble("ask calls --kernel 6.1 --kernel 6.1 raw", "calls: given twice: --kernel"), trouble("ask filter --cap nil --help", "filter: no capability is named nil"),
-    trouble("ask --cap docker calls raw", "no word is named --cap"), trouble("ask calls --cap=docker raw", "calls: no option is named --cap=docker"),
+    *[trouble(f"ask calls --cap '{names}' raw", f"calls: no capability is named {name}") for names, name in (
+        ("kill,", ""), (",kill", ""), ("kill,,setuid", ""), (",", ""), ("kill,nil,vax", "nil"), ("kill, setuid", " setuid"), ("kill;setuid", "kill;setuid"))],
+    trouble("ask --cap docker calls raw", "no word is named --cap"), good("ask calls --cap=docker,kill --call=getpid raw", GOT),
+    good("ask calls --call=read --cap=sys_admin profile", "0 read allow\n"), good("ask calls --machine=x86-64 --kernel=6.1 --call=39 raw", GOT),
+    *[trouble(f"ask calls {option}= raw", says) for option, says in (
+        ("--call", "no call is named "), ("--cap", "calls: no capability is named "), ("--machine", "calls: no machine is named "),
+        ("--kernel", "calls: expected a version as 6.1 behind --kernel"), ("--native", "calls: no option is named --native="), ("--vax", "calls: no option is named --vax="))],
+    *[good(f"ask calls --call {name} raw", GOT) for name in ("SYS_getpid", "__NR_getpid", "getpid", "39", "0x27")],
+    good("ask calls --arch i386 --call SYS_getpid raw | cut -d ' ' -f -2", "20 getpid\n"), good("ask when --call __NR_getpid raw", GOT),
+    *[trouble(f"ask calls --call '{name}' raw", f"no call is named {name}") for name in (
+        "SYS_", "__NR_", "sys_getpid", "SYS_SYS_getpid", "SYS___NR_getpid", "__NR_SYS_getpid", "_NR_getpid", "NR_getpid", "SYSgetpid", "SYS_ getpid", "SYS_Getpid", " SYS_getpid")],
+    good("ask why SYS_getpid raw", GETPID_PATH), good("ask why '__NR_getpid()' raw", GETPID_PATH),
+    *[trouble(f"ask why '{call}' raw", f"no call is named {name}") for call, name in (("SYS_mseal2(1)", "SYS_mseal2"), ("SYS_", "SYS_"), ("sys_getpid()", "sys_getpid"))],
+    *[trouble(f"ask why {words}", f"why: the call stands before the files: {call}") for words, call in (
+        ("raw getpid", "getpid"), ("raw 'getpid()'", "getpid()"), ("raw SYS_getpid", "SYS_getpid"), ("raw 39 every", "39"), ("nofile getpid", "getpid"))],
+    *[trouble(f"ask why {words}", f"no call is named {name}") for words, name in (("raw every", "raw"), ("raw mseal2", "raw"), ("raw every getpid", "raw"), ("raw 'getpid(\"'", "raw"))],
+    trouble("ask calls --call=a=b raw", "no call is named a=b"),
+    trouble("ask when --numbers=1 raw", "when: no option is named --numbers=1"), trouble("ask diff --call=read raw all", "diff: no option is named --call=read"),
+    trouble("ask calls =raw", "=raw: no such file"), trouble("ask calls --cal=read raw", "calls: no option is named --cal=read"),
     trouble("ask calls --runc=1.1 raw", "calls: no option is named --runc=1.1"), trouble("ask filter --run raw", "filter: no option is named --run"),
     trouble("ask --runc", "no word is named --runc"), trouble("ask filter --runc", "filter: no FILE is given"),
 ]
@@ -517,6 +740,8 @@ NO_SUCH, NO_NAME = "expected the name of a call on x86-64, or its number", "read
 NO_LINE, ODD = "expected filter HEX", "has an odd number of hexadecimal digits: expected two for each byte"
 NO_DIGITS = "expected hexadecimal digits behind filter, two for each byte"
 NO_JSON, TOO_LONG = "is no JSON: expected the JSON of a profile, no more than 128 deep", "its filter would have more than 4096 instructions"
+NO_PROFILE = "no seccomp profile: SecurityOpt names none, so docker's own holds, unless its daemon has another or the container is privileged"
+NO_KEY = "is not known: expected defaultAction, defaultErrnoRet, defaultErrno, architectures, archMap, flags, listenerPath, listenerMetadata or syscalls"
 NO_WORD = "no word of struct seccomp_data begins at k: expected a multiple of 4 below 64"
 ONE = [
     ("nofile", "nofile: no such file"), ("''", ": no such file"), ("folder", "folder: is a folder"), (".", ".: is a folder"),
@@ -525,7 +750,7 @@ ONE = [
     ("- <&-", "-: reading failed"), ("- < folder", "-: reading failed"), ("- < odd", f"-: {ODD}"),
     *[(name, f"{name}: {NO_FILTER}") for name in ("empty", "blank", "comments", "mib", "/dev/null")],
     *[(name, f"{name}: line 1: {NO_LINE}") for name in ("tab", "glued", "record")],
-    ("marked", f"marked: line 1: ?: {NO_SUCH}"), ("log", f"log: line 1: {NO_NAME}"),
+    ("marked_twice", f"marked_twice: line 1: ?: {NO_SUCH}"), ("half_marked", f"half_marked: line 1: ?: {NO_SUCH}"), ("log", f"log: line 1: {NO_NAME}"),
     ("word", f"word: line 1: ;: {NO_SUCH}"), ("odd", f"odd: {ODD}"), ("bad_digits", f"bad_digits: line 2: {NO_DIGITS}"),
     ("odd_line", f"odd_line: line 1: {NO_DIGITS}"), ("no_digits", "no_digits: line 1: there is no instruction"),
     ("<(cat empty)", f"/dev/fd/63: {NO_FILTER}"), ("/dev/stdin < word", f"/dev/stdin: line 1: ;: {NO_SUCH}"),
@@ -539,18 +764,35 @@ ONE = [
     ("jump", "jump: instruction 0: a jump past the last instruction"),
     ("unstored", "unstored: instruction 0: loads scratch word 3, which some path there does not store"),
     ("long", "long: there are more than 4096 instructions"),
-    ("profile_marked", f"profile_marked: line 1: ?: {NO_SUCH}"), ("profile_list", f"profile_list: line 1: [: {NO_SUCH}"),
+    *[(name, f"{name}: {says}") for name, says in (
+        ("elf", "is an ELF file: expected a filter, as bytes of struct sock_filter or as a text"), ("gzip", "is compressed: expected what gunzip makes of it"),
+        ("utf16", "is a text in UTF-16: expected UTF-8"), ("utf16_big", "is a text in UTF-16: expected UTF-8"),
+        *[(name, "is YAML: expected JSON, as yq -o json writes it") for name in ("yaml", "yaml_document", "manifest")],
+        ("pseudo_code", "is pseudo code of libseccomp: expected what seccomp_export_bpf(3) writes"),
+        *[(name, "is a unit of systemd: expected a filter, a policy or a profile") for name in ("unit", "service")],
+        *[(name, "is a policy of minijail: expected a filter, as minijail's compile_seccomp_policy.py writes it") for name in ("minijail", "minijail_default")],
+        ("elf_nearly", f"instruction 0: {NO_CODE}"), ("gzip_nearly", f"instruction 0: {NO_CODE}"), ("dashes", f"line 1: ---: {NO_SUCH}"))],
+    ("array_cut", f"array_cut: {NO_JSON}"), ("array_of_three", f"array_of_three: {NO_JSON}"), *[(name, f"{name}: does not have as many rows of decimals as its first number says") for name in ("decimals_short", "decimals_long", "decimals_none", "decimals_in_one_line")],
+    ("mark", f"mark: {NO_FILTER}"), ("raw_marked", "raw_marked: the length is no multiple of 8 bytes: expected instructions as struct sock_filter has them"), ("profile_list", "profile_list: expected an object"),
     ("profile_nul", "profile_nul: the length is no multiple of 8 bytes: expected instructions as struct sock_filter has them"),
     *[(f"profile_{name}", f"profile_{name}: {says}") for name, says in (
         ("object", "defaultAction: missing: expected an action as SCMP_ACT_ERRNO, and not SCMP_ACT_NOTIFY"),
-        ("open", NO_JSON), ("two", NO_JSON), ("latin", "is no text in UTF-8: expected the JSON of a profile"), ("keys", "a key comes twice in one object"),
-        ("unknown", "key 3 is not known: expected defaultAction, defaultErrnoRet, defaultErrno, architectures, archMap, flags, listenerPath, listenerMetadata or syscalls"),
+        ("open", NO_JSON), ("two", NO_JSON), ("address", NO_JSON), ("comma", "line 3, column 17: a comma stands before the bracket that closes: JSON has none there"),
+        ("comment", "line 2, column 3: a comment begins: JSON has none"), ("latin", "is no text in UTF-8: expected the JSON of a profile"), ("keys", "a key comes twice in one object"),
+        ("unknown", f"key 3 {NO_KEY}"), ("seccomp", f"key 1 {NO_KEY}"), ("linux", f"key 1 {NO_KEY}"),
         ("action", "entry 2 of syscalls: action: expected an action as SCMP_ACT_ALLOW"), ("errno", "entry 1 of syscalls: errnoRet: expected a number up to 4094, or beside SCMP_ACT_TRACE up to 65535"),
         ("index", "entry 2 of syscalls: item 2 of args: index: expected the number of an argument, from 0 to 5"),
         ("mask", "entry 1 of syscalls: item 1 of args: valueTwo: expected 0, or beside SCMP_CMP_MASKED_EQ no bit outside of value"),
         ("write", "entry 1 of syscalls: action: who is notified of write is told so by write: expected another action"),
         ("clash", "entries 2 and 3 of syscalls clash: both fit write(0x1, 0x2, 0x0, 0x0, 0x0, 0x0), and they say different things"),
     )],
+    *[(f"inspected_{name}", f"inspected_{name}: {says}") for name, says in (
+        ("without", NO_PROFILE), ("other", NO_PROFILE), ("unconfined", "no seccomp profile: SecurityOpt has seccomp=unconfined, so docker attaches no filter"),
+        ("builtin", "no seccomp profile: SecurityOpt has seccomp=builtin, which is docker's own"),
+        ("wrong", "no seccomp profile: what SecurityOpt has behind seccomp= is no JSON"), ("entry", "entry 1 of syscalls: action: expected an action as SCMP_ACT_ALLOW"))],
+    *[(name, f"{name}: {says}") for name, says in (
+        ("configuration_without", f"key 1 {NO_KEY}"), ("configuration_wrong", "entry 2 of syscalls: action: expected an action as SCMP_ACT_ALLOW"),
+        ("configuration_number", "expected an object"), ("kubernetes_base", f"key 1 {NO_KEY}"), ("configuration_twice", "a key comes twice in one object"))],
     ("profile_long", f"profile_long: {TOO_LONG}"), ("- < profile_keys", "-: a key comes twice in one object"),
     ("chain", "chain: line 9: the filters are too long together: expected at most 32768 instructions, with 4 more for each filter before this one"),
 ]
@@ -572,7 +814,7 @@ MADE = [
     ("mkdir -p deep/er; {ask} deep/er", "deep/er: is a folder"), ("ln -s nowhere link; {ask} link", "link: no such file"),
 ]
 # All that asks something of a chain of FILEs, and of each of two.
-ASKING = ("calls", "calls --examples --call read", "calls --arch i386 --call read", "when --call read", "when --arch aarch64 --call read", "when --dot --call read", "filter", "replay log", "why 'getpid(1)'", "why --arch arm 'getpid(1)'", "show", "arches")
+ASKING = ("calls", "calls --examples --call read", "calls --call read --call getpid", "calls --arch i386 --call read", "when --call read", "when --arch aarch64 --call read", "when --dot --call read", "filter", "replay log", "why 'getpid(1)'", "why --arch arm 'getpid(1)'", "show", "arches")
 
 
 def of_machine(asking, says):
@@ -663,7 +905,7 @@ def judged_error(number, name, command, program):
 def main(words):
     program = os.path.abspath(words[0]) if words else os.path.join(ROOT, "crates/ask/out/ask")
     passed = failed = 0
-    rows = [(row.command, lambda row=row: judged(row, program)) for row in GOOD + ARCHITECTURES + PROFILES + WORDS + UNREAD + REFUSED + STREAMS]
+    rows = [(row.command, lambda row=row: judged(row, program)) for row in GOOD + ARCHITECTURES + EXPECTATIONS + PROFILES + WORDS + UNREAD + REFUSED + STREAMS]
     rows += [(f"errno {it[0]}", lambda it=it: judged_error(*it, program)) for it in error_rows()]
     for name, judge in rows:
         try:

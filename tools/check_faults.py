@@ -172,12 +172,14 @@ def judgements(top: str) -> list[tuple[str, bool, object]]:
     passed = sum(it.told.startswith("refused") for it in PLANTED)
     judged = [(it.name, bool(re.fullmatch(it.told, told.get(f"small/{it.name}", ""))), lines) for it in PLANTED]
     judged += [("the last line", lines[-1:] == [f"{passed} passed, {len(PLANTED) - passed} failed"] and status == 1, lines)]
+    failed = [f"failed: {it}" for it in lines if it.startswith("small/") and ": refused" not in it]
+    judged += [("what failed, once more", lines[-1 - len(failed):-1] == failed and len(failed) == len(PLANTED) - passed, lines)]
     nothing = faults(top, "plain")
     judged += [("a run that tries nothing", nothing == (1, ["0 passed, 0 failed"]), nothing)]
     left_out = faults(top, "above")
     judged += [("a fault in must-fail, without --all", left_out == (1, ["0 passed, 0 failed"]), left_out)]
     unproved = faults(top, "--all", "above")
-    is_told = "the library broken is not proved" in unproved[1][0] and unproved[1][1:] == ["0 passed, 1 failed"]
+    is_told = "the library broken is not proved" in unproved[1][0] and unproved[1][1:] == [f"failed: {unproved[1][0]}", "0 passed, 1 failed"]
     judged += kept(top)
     return [*judged, ("a library that is not proved", is_told and unproved[0] == 1, unproved)]
 

@@ -41,6 +41,7 @@ def apt_in(room, program="apt-get", **more):
 def mirror():
     """Where the machine itself gets Debian's packages. apt-get knows it once it has read the lists of there, which a new machine
     has not."""
+    STORE.mkdir(parents=True, exist_ok=True)
     with tempfile.TemporaryDirectory(dir=STORE) as room:
         apt = apt_in(room)
         ran([*apt, "update"], room)

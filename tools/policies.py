@@ -1,5 +1,6 @@
 """What a policy's text says, told a second time: by the page on the language in docs/FORMATS.md, and not by skern's definitions. A
-text is read into ranges of numbers with what is said of each, and a filter is made of them in the plainest way."""
+text is read into ranges of numbers with what is said of each, and a filter is made of them in the plainest way. So is a text of
+expectations, in which `refused` and `performed` stand beside verdicts, and nothing is expected where nothing is said."""
 import errno
 import re
 import struct
@@ -12,6 +13,8 @@ ACTIONS = {
     "kill_process": 0x80000000, "kill_thread": 0, "trap": 0x30000, "errno": 0x50000, "user_notif": 0x7FC00000, "trace": 0x7FF00000,
     "log": 0x7FFC0000, "allow": 0x7FFF0000,
 }
+# What is expected in place of a verdict.
+REFUSED, PERFORMED, ANYTHING = "refused", "performed", "anything"
 X32_FIRST, X32_LAST = 0x40000000, 0xFFFFFFFE
 LAST = 0xFFFFFFFF
 ALL = (1 << 64) - 1
@@ -70,6 +73,15 @@ class Said(NamedTuple):
 class Policy(NamedTuple):
     said: list[Said]
     others: int
+
+
+class Call(NamedTuple):
+    nr: int
+    ip: int
+    args: tuple[int, ...]
+
+    def register(self, name: str) -> int:
+        return {"nr": self.nr, "ip": self.ip}[name] if name in ("nr", "ip") else self.args[int(name[5])]
 
 
 def is_number(word: str) -> bool:
@@ -218,9 +230,11 @@ class Reader:
         return ("all" if joined == "&&" else "any", found)
 
 
-def verdict(words: list[str]) -> int:
+def verdict(words: list[str], expects: bool = False) -> int | str:
     if not words:
         raise Wrong("no verdict")
+    if expects and words in ([REFUSED], [PERFORMED]):
+        return words[0]
     action, slash, data = words[0].partition("/")
     if action not in ACTIONS or (action == "errno" and not slash):
         raise Wrong(words[0])
@@ -289,44 +303,53 @@ class Row:
         self.otherwise = plain
 
 
-def read_case(row: Row | None, words: list[str]) -> None:
+def read_case(row: Row | None, words: list[str], expects: bool) -> None:
     if row is None or row.is_plain or row.otherwise is not None:
         raise Wrong("a case")
     if words[-1] == "else" and "where" not in words:
-        row.otherwise = verdict(words[:-1])
+        row.otherwise = verdict(words[:-1], expects)
         return
     if "where" not in words:
         raise Wrong(words[-1])
     at = words.index("where")
-    row.cases.append((Reader(words[at + 1:]).condition(), verdict(words[:at])))
+    row.cases.append((Reader(words[at + 1:]).condition(), verdict(words[:at], expects)))
 
 
-def read_row(words: list[str]) -> Row:
-    at = next((at for at, word in enumerate(words) if word.partition("/")[0] in ACTIONS), len(words))
+def begins_verdict(word: str) -> bool:
+    return word.partition("/")[0] in ACTIONS or word in (REFUSED, PERFORMED)
+
+
+def read_row(words: list[str], expects: bool) -> Row:
+    at = next((at for at, word in enumerate(words) if begins_verdict(word)), len(words))
     names, rest = words[:at], words[at:]
     if names and names[-1] == ":":
         names = names[:-1]
-    return Row(calls(names), verdict(rest) if rest else None)
+    return Row(calls(names), verdict(rest, expects) if rest else None)
 
 
-def read(text: str) -> Policy:
+def read(text: str, expects: bool = False) -> Policy:
+    """What the text says, or with `expects` what it expects of verdicts."""
     rows: list[Row] = []
     single: dict[str, int] = {}
     row = None
     for is_case, words in sentences(text):
         if is_case:
-            read_case(row, words)
+            read_case(row, words, expects)
             continue
         if words[0] in ("default", "others"):
             if words[0] in single:
                 raise Wrong(words[0])
-            single[words[0]] = verdict(words[2 if words[1:2] == [":"] else 1:])
+            single[words[0]] = verdict(words[2 if words[1:2] == [":"] else 1:], expects)
             row = None
             continue
-        row = read_row(words)
+        row = read_row(words, expects)
         rows.append(row)
-    if any(it.otherwise is None for it in rows):
-        raise Wrong("no else")
+    for it in rows:
+        if it.otherwise is None and not expects:
+            raise Wrong("no else")
+        it.otherwise = ANYTHING if it.otherwise is None else it.otherwise
+    if expects:
+        return whole(rows, single.get("default", ANYTHING), single.get("others", ANYTHING))
     return whole(rows, single.get("default"), single.get("others", ACTIONS["kill_process"]))
 
 
@@ -347,6 +370,34 @@ def whole(rows: list[Row], default: int | None, others: int) -> Policy:
             filled.append(it)
         at = it.last + 1
     return Policy(filled, others)
+
+
+# ---- what is said of one call
+
+
+def holds(it: Condition, call: Call) -> bool:
+    if isinstance(it, bool):
+        return it
+    if isinstance(it, Comparison):
+        return RELATIONS[it.relation](call.register(it.bits.register) & it.bits.mask, it.number)
+    kind, inside = it
+    return (all if kind == "all" else any)(holds(one, call) for one in inside)
+
+
+def said_of(policy: Policy, call: Call) -> int | str:
+    row = next(it for it in policy.said if it.first <= call.nr <= it.last)
+    return next((value for condition, value in row.cases if holds(condition, call)), row.otherwise)
+
+
+def performs(verdict: int) -> bool:
+    """By seccomp(2) a call is made where the action is SECCOMP_RET_ALLOW or SECCOMP_RET_LOG."""
+    return verdict & 0xFFFF0000 in (ACTIONS["allow"], ACTIONS["log"])
+
+
+def meets(expected: int | str, verdict: int) -> bool:
+    if expected in (REFUSED, PERFORMED):
+        return performs(verdict) == (expected == PERFORMED)
+    return expected in (ANYTHING, verdict)
 
 
 # ---- the filter: one range behind the other

@@ -1,7 +1,8 @@
-"""Random texts of policies: each spelling of a row, a verdict and a condition comes up."""
+"""Random texts of policies and of expectations: each spelling of a row, a verdict and a condition comes up."""
 import random
+import re
 
-from policies import CONSTANTS, NAME_OF, NAMES
+from policies import ALL, CONSTANTS, LAST, NAME_OF, NAMES, PERFORMED, REFUSED, Call, performs, verdict
 
 NUMBERS = (0, 1, 2, 3, 7, 8, 0x10, 0xFF, 0x1000, 0x7FFFFFFF, 0x80000000, 0xFFFFFFFF, 0x100000000, 0x8000000000000000, (1 << 64) - 1)
 VERDICTS = (
@@ -111,6 +112,37 @@ def policy(dice: random.Random) -> str:
     if dice.random() < 0.5:
         rows.insert(dice.randrange(len(rows) + 1), f"others: {dice.choice(VERDICTS)}\n")
     return dice.choice(("", "# A policy.\n\n")) + dice.choice(("", "\n")).join(rows)
+
+
+WRITTEN = re.compile(r"\b(?:allow|log|kill_process|kill_thread|trap|trace|user_notif|errno)\b(?:/\w+)?(?: E[A-Z]+\b)?")
+
+
+def expected(dice: random.Random, written: str, wrong: float) -> str:
+    """What may be expected where a policy has this verdict: of the wrong ones so many."""
+    if dice.random() < wrong:
+        return dice.choice((*VERDICTS, REFUSED, PERFORMED))
+    does = PERFORMED if performs(verdict(written.split())) else REFUSED
+    return dice.choice((written, does, does))
+
+
+def expectations(dice: random.Random, text: str) -> str:
+    """Expectations of a policy with this text: half of the texts expect nothing else than what it says."""
+    wrong = dice.choice((0, 0.1))
+    said = WRITTEN.sub(lambda it: expected(dice, it[0], wrong), text)
+    lines = [it for it in said.splitlines() if not (it.startswith(("default", "others")) or it.endswith(" else")) or dice.random() < 0.6]
+    return "\n".join([*lines, ""])
+
+
+def calls(dice: random.Random, numbers: list[int], count: int) -> list[Call]:
+    """Calls with these numbers and their neighbours, by the numbers that conditions have, and those beside them."""
+    words = [*NUMBERS, *CONSTANTS.values()]
+
+    def word() -> int:
+        return (dice.choice(words) | dice.choice((0, 0, *words))) + dice.choice((-1, 0, 0, 0, 1)) & ALL
+
+    return [
+        Call((dice.choice(numbers) + dice.choice((-1, 0, 0, 0, 1))) & LAST, word(), tuple(word() for _ in range(6))) for _ in range(count)
+    ]
 
 
 def spoiled(dice: random.Random, text: str) -> str:
