@@ -429,7 +429,7 @@ _ask() {
     local word=${COMP_WORDS[COMP_CWORD]} before=${COMP_WORDS[COMP_CWORD - 1]} asked=${COMP_WORDS[1]}
     COMPREPLY=()
     if [ "$COMP_CWORD" -eq 1 ]; then
-        mapfile -t COMPREPLY < <(compgen -W 'calls when diff lint replay why show arches filter --help' -- "$word")
+        mapfile -t COMPREPLY < <(compgen -W 'calls when diff expect lint replay why show arches filter check --help --version' -- "$word")
     elif [ "$before" = --call ] || { [ "$asked" = why ] && [ "$COMP_CWORD" -eq 2 ] && [[ $word != -* ]]; }; then
         mapfile -t COMPREPLY < <(compgen -W "$_ask_calls" -- "$word")
     elif [ "$before" = --cap ]; then
@@ -438,17 +438,20 @@ _ask() {
         mapfile -t COMPREPLY < <(compgen -W 'x86-64 x32 i386 aarch64 arm riscv64 ppc64le s390x loongarch64' -- "$word")
     elif [ "$before" = --machine ]; then
         mapfile -t COMPREPLY < <(compgen -W 'x86-64 aarch64 riscv64 ppc64le loongarch64' -- "$word")
+    elif [ "$before" = --to ]; then
+        mapfile -t COMPREPLY < <(compgen -W 'lines raw hex c base64 bpf_asm json' -- "$word")
     elif [ "$before" = --kernel ]; then
         mapfile -t COMPREPLY < <(compgen -W '5.4 5.10 5.15 6.1 6.6 6.12' -- "$word")
     elif [[ $word == -* ]]; then
         case $asked in
-        calls) mapfile -t COMPREPLY < <(compgen -W '--call --examples --arch --cap --kernel --machine --native --runc --help' -- "$word") ;;
-        when) mapfile -t COMPREPLY < <(compgen -W '--call --dot --numbers --arch --cap --kernel --machine --native --runc --help' -- "$word") ;;
-        diff) mapfile -t COMPREPLY < <(compgen -W '--stricter --numbers --arch --cap --kernel --machine --native --runc --help' -- "$word") ;;
-        lint) mapfile -t COMPREPLY < <(compgen -W '--all --numbers --cap --kernel --machine --native --runc --help' -- "$word") ;;
-        filter) mapfile -t COMPREPLY < <(compgen -W '--raw --cap --kernel --machine --native --runc --help' -- "$word") ;;
-        replay | why | show) mapfile -t COMPREPLY < <(compgen -W '--arch --cap --kernel --machine --native --runc --help' -- "$word") ;;
-        *) mapfile -t COMPREPLY < <(compgen -W '--cap --kernel --machine --native --runc --help' -- "$word") ;;
+        calls) mapfile -t COMPREPLY < <(compgen -W '--call --examples --arch --cap --kernel --machine --native --runc --strict --help' -- "$word") ;;
+        when) mapfile -t COMPREPLY < <(compgen -W '--call --dot --numbers --arch --cap --kernel --machine --native --runc --strict --help' -- "$word") ;;
+        diff) mapfile -t COMPREPLY < <(compgen -W '--stricter --numbers --arch --cap --kernel --machine --native --runc --strict --help' -- "$word") ;;
+        expect) mapfile -t COMPREPLY < <(compgen -W '--numbers --arch --cap --kernel --machine --native --runc --strict --help' -- "$word") ;;
+        lint) mapfile -t COMPREPLY < <(compgen -W '--all --numbers --cap --kernel --machine --native --runc --strict --help' -- "$word") ;;
+        filter) mapfile -t COMPREPLY < <(compgen -W '--to --raw --smaller --cap --kernel --machine --native --runc --strict --help' -- "$word") ;;
+        replay | why | show | check) mapfile -t COMPREPLY < <(compgen -W '--arch --cap --kernel --machine --native --runc --strict --help' -- "$word") ;;
+        *) mapfile -t COMPREPLY < <(compgen -W '--cap --kernel --machine --native --runc --strict --help' -- "$word") ;;
         esac
     else
         compopt -o filenames 2>/dev/null
@@ -456,4 +459,4 @@ _ask() {
     fi
 }
 
-complete -F _ask ask skern-ask
+complete -F _ask ask
