@@ -100,7 +100,8 @@ fn is_concern(one: Concern, other: Concern) -> bool
     }
 }
 
-fn concern_of(part: &Part) -> Concern
+/// Of which concern a part is.
+pub fn concern_of(part: &Part) -> Concern
     ensures concern { result ≡ concern_of part.now }
 {
     match part.outcome {

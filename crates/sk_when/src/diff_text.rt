@@ -178,7 +178,8 @@ fn has_kind(relation: Relation, kind: Kind, part: &Part) -> bool
     is_kind(kind_of(relation, part.outcome), kind)
 }
 
-fn kind_of(relation: Relation, outcome: Outcome) -> Kind
+/// The kind of a difference. Those from expectations are of none of their own.
+pub fn kind_of(relation: Relation, outcome: Outcome) -> Kind
     ensures kind { result ≡ kind_of relation outcome }
 {
     match (outcome, relation) {

@@ -27,10 +27,14 @@ mod showing;
 mod when_engine;
 mod when_text;
 
+pub use concern::{Concern, concern_of, lint_names};
 pub use diff_engine::{Comparison, Finding, diff};
+pub use diff_text::{Kind, kind_of, push_call};
 pub use lines::lines_of;
 pub use lint_engine::{Linted, lint};
+pub use names::{Names, constants_of};
 pub use picture::dot;
+pub use piece::{Calls, Outcome, Part, Piece};
 pub use remarks::Remarks;
 pub use row::ConditionalRow;
 pub use sk_conditions::{Budget, Budgets, Relation};
