@@ -4,7 +4,9 @@ use Rattle.sk_arguments.specs.declared.naming.Naming.TheVariants.{Constants}
 use Rattle.sk_insn.specs.declared.insn.Insn.{Insn}
 use Rattle.sk_when.specs.declared.diff_engine.Finding.{Finding}
 use Rattle.sk_when.specs.declared.diff_engine.Finding.TheVariants.{Holds, Fails, Undecided}
+use Rattle.sk_when.specs.declared.piece.Piece.{Piece}
 use Rattle.sk_when.specs.Lints.{IsLint}
+use Rattle.sk_when.specs.LintText.{lint_text}
 use Rattle.libskern.specs.declared.fault.Fault.{Fault}
 use Rattle.libskern.specs.Faults.{fine, plain, spent, unfollowed}
 use Rattle.libskern.specs.Writing.{IsSaid}
@@ -23,10 +25,10 @@ number_of is_spent Undecided = if is_spent then spent else unfollowed
 pub record IsLinted (programs : List (List Insn)) (room : List ℕ) (fault : Fault) (size : ℕ) (out : List ℕ) : Type 0 where
   pub is_spent : Bool
   pub finding : Finding
-  pub text : List ℕ
+  pub pieces : List Piece
   pub notes : List ℕ
-  pub is : IsLint programs false Constants (λ call. []) is_spent finding text notes
-  pub said : IsSaid (plain (number_of is_spent finding)) text room fault size out
+  pub is : IsLint programs is_spent finding pieces notes
+  pub said : IsSaid (plain (number_of is_spent finding)) (lint_text false Constants (λ call. []) finding pieces) room fault size out
 
 -- or of filters that are refused the fault, with nothing written
 abbrev pub AnswersLint : Result (List (List Insn)) Fault → List ℕ → ℕ → Fault → ℕ → List ℕ → Type 0

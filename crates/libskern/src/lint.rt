@@ -14,7 +14,7 @@ use crate::{Fault, Image, reason};
 use sk_arguments::Naming;
 use sk_filter::Chain;
 use sk_insn::Record;
-use sk_when::{Budgets, Finding, Remarks, lint};
+use sk_when::{Budgets, Finding, Remarks, lint, lint_text};
 use std::alloc::{AllocError, Global};
 
 /// How many rows of numbers may take all the steps of a row.
@@ -65,16 +65,17 @@ fn linted(
     ensures memory { IsErr result → (size.new ≡ size.old) × (room.new ≡ room.old) }
 {
     let mut budgets = Budgets::of_rows(MOST_ROWS);
-    let it = lint(
+    let it = lint(alloc, chain, &mut budgets)?;
+    let text = lint_text(
         alloc,
-        Naming::Constants,
         false,
+        Naming::Constants,
         &Nothing,
-        chain,
-        &mut budgets,
+        it.finding,
+        &it.pieces,
     )?;
     let told = Fault::plain(number_of(budgets.is_spent, it.finding));
-    Ok(say(told, &it.text, room, size))
+    Ok(say(told, &text, room, size))
 }
 
 fn number_of(is_spent: bool, finding: Finding) -> u32

@@ -99,13 +99,13 @@ first_true false true e = cc
 first_true false false e = cc
 
 pub holds_on_every_call : HoldsOnEveryCall
-holds_on_every_call naming architecture relation old new is_spent text it call native below =
-    let none = both_false (list_any is_apart it.pieces) (list_any may_fail it.pieces) it.stands in
-    covers relation old new it.pieces 0 4294967296 it.compared none.1 call native (omega arith) below
+holds_on_every_call architecture relation old new is_spent pieces it call native below =
+    let none = both_false (list_any is_apart pieces) (list_any may_fail pieces) it.stands in
+    covers relation old new pieces 0 4294967296 it.compared none.1 call native (omega arith) below
 
 pub fails_on_a_call : FailsOnACall
-fails_on_a_call naming architecture relation old new is_spent text it =
-    finds relation old new it.pieces 0 4294967296 it.compared (first_true (list_any is_apart it.pieces) (list_any may_fail it.pieces) it.stands)
+fails_on_a_call architecture relation old new is_spent pieces it =
+    finds relation old new pieces 0 4294967296 it.compared (first_true (list_any is_apart pieces) (list_any may_fail pieces) it.stands)
 
 -- pieces of which each part shows a call
 one_of : (a b : Bool) → b ≡ true → (a || b) ≡ true
@@ -130,11 +130,11 @@ false_true false true e = (refl, refl)
 false_true false false e = cc
 
 pub followed_is_decided : FollowedIsDecided
-followed_is_decided naming architecture relation old new finding text follows follows' it =
+followed_is_decided architecture relation old new finding pieces follows follows' it =
     let all = it.decided follows follows' refl in (
       λ undecided.
-          let split = false_true (list_any is_apart it.pieces) (list_any may_fail it.pieces) (sym undecided ∙ it.stands) in
-          true≢false (sym (some_shown it.pieces all split.1) ∙ split.0),
+          let split = false_true (list_any is_apart pieces) (list_any may_fail pieces) (sym undecided ∙ it.stands) in
+          true≢false (sym (some_shown pieces all split.1) ∙ split.0),
       all,
     )
 

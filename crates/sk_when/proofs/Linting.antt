@@ -260,16 +260,16 @@ are_quiet : (pieces : List Piece) → finding.Holds ≡ lint_finding pieces → 
 are_quiet pieces e = none_told (some_has concern.Looser pieces) (some_has concern.Signed pieces) (some_has concern.Undecided pieces) e
 
 pub nowhere_looser : NowhereLooserIsTrue
-nowhere_looser programs valid all naming remark is_spent text notes it call native = by_test (is_asked programs call.nr) refl where
-  quiet : AreQuiet it.pieces
-  quiet = are_quiet it.pieces it.stands
+nowhere_looser programs valid is_spent pieces notes it call native = by_test (is_asked programs call.nr) refl where
+  quiet : AreQuiet pieces
+  quiet = are_quiet pieces it.stands
 
   by_test : (b : Bool) → is_asked programs call.nr ≡ b → relates AsStrict (verdict_of programs (taken_as call)) (verdict_of programs call) ≡ true
   by_test false e =
       ap (λ n. relates AsStrict n (verdict_of programs call)) (unasked programs valid call e) ∙ relates_itself AsStrict (verdict_of programs call) refl
   by_test true e =
       let found = piece_at (IsLinted programs) IsQuiet AreQuiet (λ piece pieces quiet. (quiet_head piece pieces quiet, quiet_tail piece pieces quiet))
-      it.pieces it.linted.holds quiet call.nr (it.linted.each call.nr e) in
+      pieces it.linted.holds quiet call.nr (it.linted.each call.nr e) in
       let piece = found.0 in
       let holds = subst (λ nr. Holds Same (chain_taking nr programs) programs piece) found.1 found.2.1 in
       ap (λ n. relates AsStrict n (verdict_of programs call)) (sym (chains_take_calls programs valid call))
@@ -299,11 +299,11 @@ as_taken programs valid pieces linted still call native = by_test (is_asked prog
       ∙ same_here (chain_taking call.nr programs) programs piece holds found.3.0 found.3.1 call (of_number piece call found.2.0 found.1 native)
 
 pub clean : CleanIsTrue
-clean programs valid all naming remark is_spent text notes it none one other same =
-    let still : AreStill it.pieces = (are_quiet it.pieces it.stands, none) in
-    sym (as_taken programs valid it.pieces it.linted still one same.0.0)
+clean programs valid is_spent pieces notes it none one other same =
+    let still : AreStill pieces = (are_quiet pieces it.stands, none) in
+    sym (as_taken programs valid pieces it.linted still one same.0.0)
     ∙ ap (verdict_of programs) same.1.1
-    ∙ as_taken programs valid it.pieces it.linted still other same.0.1
+    ∙ as_taken programs valid pieces it.linted still other same.0.1
 
 -- ---- filters that are followed
 
@@ -335,9 +335,9 @@ open_somewhere false false true e = refl
 open_somewhere false false false e = cc
 
 pub followed_is_decided : FollowedLintIsDecided
-followed_is_decided programs all naming remark finding text notes follows it undecided =
-    let opened = open_somewhere (some_has concern.Looser it.pieces) (some_has concern.Signed it.pieces) (some_has concern.Undecided it.pieces) (sym undecided ∙ it.stands) in
-    true≢false (sym opened ∙ nowhere_open it.pieces (it.decided follows refl))
+followed_is_decided programs finding pieces notes follows it undecided =
+    let opened = open_somewhere (some_has concern.Looser pieces) (some_has concern.Signed pieces) (some_has concern.Undecided pieces) (sym undecided ∙ it.stands) in
+    true≢false (sym opened ∙ nowhere_open pieces (it.decided follows refl))
 
 -- ---- signs
 

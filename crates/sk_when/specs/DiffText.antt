@@ -21,6 +21,8 @@ use Rattle.sk_terms.specs.Text.{argument_text, condition_text, hexadecimal}
 use Rattle.sk_when.specs.Filling.{filled_behind}
 use Rattle.sk_when.specs.Naming.{constants_of}
 use Rattle.sk_when.specs.declared.names.Names.{Names}
+use Rattle.sk_when.specs.declared.diff_engine.Finding.{Finding}
+use Rattle.sk_when.specs.declared.diff_engine.Finding.TheVariants as finding
 use Rattle.sk_when.specs.declared.piece.Calls.{Calls}
 use Rattle.sk_when.specs.declared.piece.Calls.TheVariants.{Every, Meeting}
 use Rattle.sk_when.specs.declared.piece.Outcome.{Outcome}
@@ -169,3 +171,9 @@ abbrev pub everywhere_text : Relation → List ℕ
 everywhere_text Same = codes "the same on every call\n"
 everywhere_text AsStrict = codes "as strict on every call\n"
 everywhere_text Expected = codes "as expected on every call\n"
+
+-- what is written of a comparison: that the relation holds everywhere, or the differences
+abbrev pub comparison_text : Names → Relation → Finding → List Piece → List ℕ
+comparison_text names relation finding.Holds pieces = everywhere_text relation
+comparison_text names relation finding.Fails pieces = differences_text relation names pieces
+comparison_text names relation finding.Undecided pieces = differences_text relation names pieces

@@ -1,7 +1,6 @@
 -- What `ask lint` answers of a chain, and what that says of every call.
 use Rattle.std.specs.Prelude.{ℕ, ◌≡◌, ◌<◌, Bool, true, false, List}
 use Rattle.std.specs.List.{All}
-use Rattle.sk_arguments.specs.declared.naming.Naming.{Naming}
 use Rattle.sk_arguments.specs.Reading.{kind_of, narrow_numbers}
 use Rattle.sk_insn.specs.declared.insn.Insn.{Insn}
 use Rattle.sk_insn.specs.declared.record.Record.{Record}
@@ -20,36 +19,32 @@ use Rattle.sk_when.specs.declared.piece.Piece.{Piece}
 use Rattle.sk_when.specs.Pieces.{AreDecided, HoldsOf, meets_calls}
 use Rattle.sk_when.specs.Lint.{AreLinted, IsClean, IsNowhereLooser, concern_of, is_int, lint_finding, some_has, upper_of}
 use Rattle.sk_when.specs.LintNotes.{AreNotes}
-use Rattle.sk_when.specs.LintText.{lint_text}
 
--- the pieces of all numbers that are asked about, and this is what is found and written of them; where the filters are followed, and
--- the steps of no number were spent, each part is decided, and each note is there
-pub record IsLint (programs : List (List Insn)) (all : Bool) (naming : Naming) (remark : Record → List ℕ) (is_spent : Bool) (finding : Finding) (text notes : List ℕ) :
-    Type 0 where
-  pub pieces : List Piece
+-- the pieces of all numbers that are asked about, and this is what is found of them; where the filters are followed, and the steps of
+-- no number were spent, each part is decided, and each note is there
+pub record IsLint (programs : List (List Insn)) (is_spent : Bool) (finding : Finding) (pieces : List Piece) (notes : List ℕ) : Type 0 where
   pub linted : AreLinted programs pieces
   pub decided : All AreFollowed programs → is_spent ≡ false → All AreDecided pieces
   pub stands : finding ≡ lint_finding pieces
-  pub says : text ≡ lint_text all naming remark finding pieces
   pub noted : AreNotes programs is_spent narrow_numbers notes
 
 -- where nothing is told, no call gets a verdict that is less strict than that on the call that Linux takes it for
 abbrev pub NowhereLooserIsTrue : Type 0
 NowhereLooserIsTrue =
-    (programs : List (List Insn)) → AllValid programs → (all : Bool) (naming : Naming) (remark : Record → List ℕ) (is_spent : Bool) (text notes : List ℕ)
-    → IsLint programs all naming remark is_spent Holds text notes → IsNowhereLooser programs
+    (programs : List (List Insn)) → AllValid programs → (is_spent : Bool) (pieces : List Piece) (notes : List ℕ)
+    → IsLint programs is_spent Holds pieces notes → IsNowhereLooser programs
 
 -- and where nothing stricter is counted either, calls that are the same one to Linux get the same verdict
 abbrev pub CleanIsTrue : Type 0
 CleanIsTrue =
-    (programs : List (List Insn)) → AllValid programs → (all : Bool) (naming : Naming) (remark : Record → List ℕ) (is_spent : Bool) (text notes : List ℕ)
-    → (it : IsLint programs all naming remark is_spent Holds text notes) → some_has concern.Stricter it.pieces ≡ false → IsClean programs
+    (programs : List (List Insn)) → AllValid programs → (is_spent : Bool) (pieces : List Piece) (notes : List ℕ)
+    → IsLint programs is_spent Holds pieces notes → some_has concern.Stricter pieces ≡ false → IsClean programs
 
 -- filters that are followed are decided, unless steps were spent
 abbrev pub FollowedLintIsDecided : Type 0
 FollowedLintIsDecided =
-    (programs : List (List Insn)) (all : Bool) (naming : Naming) (remark : Record → List ℕ) (finding : Finding) (text notes : List ℕ) → All AreFollowed programs
-    → IsLint programs all naming remark false finding text notes → finding ≡ Undecided → ⊥
+    (programs : List (List Insn)) (finding : Finding) (pieces : List Piece) (notes : List ℕ) → All AreFollowed programs
+    → IsLint programs false finding pieces notes → finding ≡ Undecided → ⊥
 
 -- what is said only of calls that have the sign of an int in an argument's upper half is not left out, though it be stricter
 abbrev pub SignsAreTold : Type 0

@@ -1,7 +1,6 @@
--- What the text of `ask when` says of a chain.
+-- What the rows of `ask when` tell of a chain.
 use Rattle.std.specs.Prelude.{ℕ, ◌≡◌, ◌≢◌, ◌≤◌, Bool, false, List, map, Option, None}
 use Rattle.std.specs.List.{All}
-use Rattle.sk_arguments.specs.declared.naming.Naming.{Naming}
 use Rattle.sk_names.specs.declared.architecture.Architecture.{Architecture}
 use Rattle.sk_insn.specs.declared.insn.Insn.{Insn}
 use Rattle.sk_conditions.specs.Followed.{AreFollowed}
@@ -11,8 +10,6 @@ use Rattle.sk_survey.specs.Surveys.{Tell}
 use Rattle.sk_show.specs.Lines.{first_told, end_told, TellsNamedAlone}
 use Rattle.sk_when.specs.declared.row.ConditionalRow.{ConditionalRow}
 use Rattle.sk_when.specs.Lines.{IsExact, IsMet, IsTold}
-use Rattle.sk_when.specs.Naming.{names_of}
-use Rattle.sk_when.specs.WhenText.{when_text}
 
 abbrev pub row_told : ConditionalRow → Row
 row_told told = told.row
@@ -26,11 +23,6 @@ pub record AreTold (architecture : Architecture) (call : Option ℕ) (programs :
   pub told : All (IsTold programs) all
   pub met : All (IsMet programs) all
   pub exact : All AreFollowed programs → is_spent ≡ false → All (IsExact programs) all
-
--- a text is that of such rows, with numbers written so
-abbrev pub TellsWhen : Naming → Architecture → Option ℕ → List (List Insn) → Bool → List ℕ → Type 0
-TellsWhen naming architecture call programs is_spent text =
-    (rows : List ConditionalRow) × AreTold architecture call programs is_spent rows × (text ≡ when_text (names_of naming architecture) rows)
 
 -- a row of a survey has a number, and its verdicts are among those that it tells
 abbrev pub IsSurveyed : List (List Insn) → Row → Type 0

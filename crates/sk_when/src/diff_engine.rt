@@ -1,16 +1,13 @@
 //! Two chains compared on every call.
-ghost use Rattle.std.specs.Prelude.{◌≡◌, ◌^◌, false, IfOk, string_bytes};
+ghost use Rattle.std.specs.Prelude.{◌≡◌, ◌^◌, false, IfOk};
 ghost use Rattle.std.specs.List.{list_any};
 ghost use Rattle.sk_conditions.specs.Steps.{NeverPart};
 ghost use Rattle.sk_when.specs.Pieces.{is_apart, may_fail, has_parts, finding_of};
-ghost use Rattle.sk_when.specs.Diffs.{IsComparison, text_of};
+ghost use Rattle.sk_when.specs.Diffs.{IsComparison};
 
-use crate::diff_text::{differences_text, everywhere_text};
-use crate::names::Names;
 use crate::piece::{Part, Piece};
 use crate::pieces::pieces;
 use crate::showing::any_shown;
-use sk_arguments::Naming;
 use sk_conditions::{Budgets, Relation};
 use sk_filter::Chain;
 use sk_names::Architecture;
@@ -27,56 +24,30 @@ pub enum Finding {
     Undecided,
 }
 
-/// What was found of two chains, and its text.
+/// What was found of two chains, and the pieces that it was found of.
 #[derive(Drop)]
 pub struct Comparison {
     pub finding: Finding,
-    pub text: String,
+    pub pieces: Vec<Piece>,
 }
 
-/// Compares a new chain with an old one on every call. Both are for the architecture, and calls are told as they are there, with
-/// numbers written so.
+/// Compares a new chain with an old one on every call. Both are for the architecture, on which numbers with a name stand alone.
 /// Where the calls of each row go one way through each filter, no row uses its steps up. How many it takes where they part is not
 /// bounded from above.
 pub fn diff(
     alloc: Global,
-    naming: Naming,
     architecture: Architecture,
     relation: Relation,
     old: &Chain,
     new: &Chain,
     budgets: &mut Budgets,
 ) -> Result<Comparison, AllocError>
-    ensures compared { IfOk result (λ it. IsComparison naming architecture relation old.now new.now budgets.new.is_spent it.finding (string_bytes it.text)) }
+    ensures compared { IfOk result (λ it. IsComparison architecture relation old.now new.now budgets.new.is_spent it.finding it.pieces.items) }
     ensures one_way { NeverPart 0 (2 ^ 32) old.now → NeverPart 0 (2 ^ 32) new.now → budgets.old.is_spent ≡ false → budgets.new.is_spent ≡ false }
 {
     let pieces = pieces(alloc, architecture, relation, old, new, budgets)?;
     let finding = finding_of(&pieces);
-    let names = Names {
-        naming,
-        architecture,
-    };
-    let text = text_of(alloc, names, relation, finding, &pieces)?;
-    Ok(Comparison { finding, text })
-}
-
-fn text_of(
-    alloc: Global,
-    names: Names,
-    relation: Relation,
-    finding: Finding,
-    pieces: &[Piece],
-) -> Result<String, AllocError>
-    ensures text { IfOk result (λ text. string_bytes text ≡ text_of names relation finding pieces.now) }
-{
-    match finding {
-        Finding::Holds => {
-            let mut text = String::new(alloc);
-            text.push_str(everywhere_text(relation))?;
-            Ok(text)
-        }
-        Finding::Fails | Finding::Undecided => differences_text(alloc, relation, names, pieces),
-    }
+    Ok(Comparison { finding, pieces })
 }
 
 fn finding_of(pieces: &[Piece]) -> Finding

@@ -1,8 +1,9 @@
 //! The text of a comparison.
 ghost use Rattle.std.specs.Prelude.{◌≡◌, ◌<◌, ◌++◌, ◌^◌, IfOk, OnOk, string_bytes, codes, flat_map};
 ghost use Rattle.std.specs.List.{list_any};
-ghost use Rattle.sk_when.specs.DiffText.{call_name_text, arguments_text, address_text, call_text, differences_text, section_text, heading, kind_heading, some_has, has_kind, piece_text, kind_text, kind_of, change_of, is_kind, part_text, verdicts_behind, old_text, expected_text, outcome_text, calls_text, head_text, shown_text, record_text, everywhere_text};
+ghost use Rattle.sk_when.specs.DiffText.{call_name_text, arguments_text, address_text, call_text, differences_text, section_text, heading, kind_heading, some_has, has_kind, piece_text, kind_text, kind_of, change_of, is_kind, part_text, verdicts_behind, old_text, expected_text, outcome_text, calls_text, head_text, shown_text, record_text, everywhere_text, comparison_text};
 
+use crate::diff_engine::Finding;
 use crate::filling::push_filled;
 use crate::names::{Names, constants_of};
 use crate::piece::{Calls, Outcome, Part, Piece};
@@ -16,6 +17,27 @@ use sk_terms::push_argument;
 use sk_text::HexDigits;
 use std::alloc::{AllocError, Global};
 use std::fmt::Write;
+
+/// The text of a comparison: that the relation holds on every call, or the differences. Calls have the names that they have on the
+/// architecture, and numbers are written so.
+pub fn comparison_text(
+    alloc: Global,
+    names: Names,
+    relation: Relation,
+    finding: Finding,
+    pieces: &[Piece],
+) -> Result<String, AllocError>
+    ensures text { IfOk result (λ text. string_bytes text ≡ comparison_text names relation finding pieces.now) }
+{
+    match finding {
+        Finding::Holds => {
+            let mut text = String::new(alloc);
+            text.push_str(everywhere_text(relation))?;
+            Ok(text)
+        }
+        Finding::Fails | Finding::Undecided => differences_text(alloc, relation, names, pieces),
+    }
+}
 
 /// What is said where the relation holds on every call.
 pub fn everywhere_text(relation: Relation) -> &'static str

@@ -18,17 +18,17 @@ pub fn followed_rows_have_verdicts()
     ensures law { FollowedRowsHaveVerdicts }
 {}
 
-/// Where it is said that the relation between two chains holds, it does on every call.
+/// Where it is found that the relation between two chains holds, it does on every call.
 pub fn holds_on_every_call()
     ensures law { HoldsOnEveryCall }
 {}
 
-/// Where it is said that it fails, there is a call on which it does.
+/// Where it is found that it fails, there is a call on which it does.
 pub fn fails_on_a_call()
     ensures law { FailsOnACall }
 {}
 
-/// Of two chains that are followed one of these is said, unless the steps of a piece were used up.
+/// Of two chains that are followed one of these is found, unless the steps of a piece were used up.
 pub fn followed_is_decided()
     ensures law { FollowedIsDecided }
 {}

@@ -8,45 +8,36 @@ use crate::concern::lint_finding;
 use crate::diff_engine::Finding;
 use crate::lint_notes::lint_notes;
 use crate::lint_pieces::lint_pieces;
-use crate::lint_text::lint_text;
-use crate::remarks::Remarks;
-use sk_arguments::{Naming, narrow_numbers};
+use crate::piece::Piece;
+use sk_arguments::narrow_numbers;
 use sk_conditions::Budgets;
 use sk_filter::Chain;
 use std::alloc::{AllocError, Global};
 
-/// What was found of a chain: whether something is told, its text, and notes beside it, in whole lines.
+/// What was found of a chain: whether something is told, the pieces of the numbers that are asked about, and notes beside them, in
+/// whole lines.
 #[derive(Drop)]
 pub struct Linted {
     pub finding: Finding,
-    pub text: String,
+    pub pieces: Vec<Piece>,
     pub notes: String,
 }
 
 /// Looks for calls of x86-64 and x32 that are the same one to Linux and get other verdicts, by bits of their arguments that it does
 /// not read. Where the calls of each number go one way through each filter, no number uses its steps up. How many it takes where
 /// they part is not bounded from above.
-pub fn lint<R: Remarks>(
-    alloc: Global,
-    naming: Naming,
-    all: bool,
-    remarks: &R,
-    chain: &Chain,
-    budgets: &mut Budgets,
-) -> Result<Linted, AllocError>
+pub fn lint(alloc: Global, chain: &Chain, budgets: &mut Budgets) -> Result<Linted, AllocError>
     requires limited { IsWithinLimit chain.now }
-    ensures linted { IfOk result (λ it. IsLint chain.now all naming (R.remark remarks.now) budgets.new.is_spent it.finding
-        (string_bytes it.text) (string_bytes it.notes)) }
+    ensures linted { IfOk result (λ it. IsLint chain.now budgets.new.is_spent it.finding it.pieces.items (string_bytes it.notes)) }
     ensures one_way { NeverPart 0 (2 ^ 32) chain.now → budgets.old.is_spent ≡ false → budgets.new.is_spent ≡ false }
 {
     let numbers = narrow_numbers(alloc)?;
     let pieces = lint_pieces(alloc, &numbers, chain, budgets)?;
     let finding = lint_finding(&pieces);
-    let text = lint_text(alloc, all, naming, remarks, finding, &pieces)?;
     let notes = lint_notes(alloc, &numbers, chain, budgets)?;
     Ok(Linted {
         finding,
-        text,
+        pieces,
         notes,
     })
 }

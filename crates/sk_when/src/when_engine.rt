@@ -1,16 +1,13 @@
-//! The engine of `ask when`.
-ghost use Rattle.std.specs.Prelude.{◌≡◌, false, IfOk, map, string_bytes};
+//! Under which conditions on a call each verdict of a chain comes.
+ghost use Rattle.std.specs.Prelude.{◌≡◌, false, IfOk, map};
 ghost use Rattle.std.specs.List.{All};
-ghost use Rattle.sk_when.specs.Telling.{TellsWhen, AreTold, IsSurveyed, row_told};
+ghost use Rattle.sk_when.specs.Telling.{AreTold, IsSurveyed, row_told};
 ghost use Rattle.sk_conditions.specs.Followed.{AreFollowed};
 ghost use Rattle.sk_conditions.specs.Steps.{GoOneWay, NeverPart};
 ghost use Rattle.sk_show.specs.Lines.{end_told, first_told};
 ghost use Rattle.sk_when.specs.Lines.{IsExact, IsMet, IsTold};
 
-use crate::names::Names;
 use crate::row::{ConditionalRow, conditions_of_row};
-use crate::when_text::when_text;
-use sk_arguments::Naming;
 use sk_conditions::Budgets;
 use sk_filter::Chain;
 use sk_names::Architecture;
@@ -18,30 +15,10 @@ use sk_show::rows_of;
 use sk_survey::Row;
 use std::alloc::{AllocError, Global};
 
-/// Tells under which conditions on a call each verdict of the chain comes, for every call or for the one with a number. Calls
-/// have the names that they have on the architecture, and numbers are written so. Where the calls of each row go one way through
-/// each filter, no row uses its steps up. How many it takes where they part is not bounded from above.
-pub fn when(
-    alloc: Global,
-    naming: Naming,
-    architecture: Architecture,
-    chain: &Chain,
-    call: Option<u32>,
-    budgets: &mut Budgets,
-) -> Result<String, AllocError>
-    ensures text { IfOk result (λ text. TellsWhen naming architecture call chain.now budgets.new.is_spent (string_bytes text)) }
-    ensures one_way { NeverPart (first_told call) (end_told call) chain.now → budgets.old.is_spent ≡ false → budgets.new.is_spent ≡ false }
-{
-    let rows = told_rows(alloc, architecture, chain, call, budgets)?;
-    let names = Names {
-        naming,
-        architecture,
-    };
-    when_text(alloc, names, &rows)
-}
-
-/// The rows of the chain's survey with their lines. Where a filter is not followed, or steps are used up, a line may have no verdict,
-/// and then stands for what the survey's row answers.
+/// Tells under which conditions on a call each verdict of the chain comes, for every call or for the one with a number: the rows of
+/// its survey with their lines. Numbers with a name on the architecture stand alone. Where a filter is not followed, or steps are
+/// used up, a line may have no verdict, and then stands for what the survey's row answers. Where the calls of each row go one way
+/// through each filter, no row uses its steps up. How many it takes where they part is not bounded from above.
 pub fn told_rows(
     alloc: Global,
     architecture: Architecture,

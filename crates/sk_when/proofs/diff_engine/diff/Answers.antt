@@ -1,7 +1,5 @@
 use Rattle.std.proofs.Common.{List, ap, sym, subst, ◌∙◌}
 use Rattle.sk_insn.specs.declared.insn.Insn.{Insn}
-use Rattle.sk_when.specs.Diffs.{text_of}
-use Rattle.sk_when.specs.Naming.{names_of}
 use Rattle.sk_when.specs.Pieces.{AreCompared, finding_of}
 use Rattle.sk_when.proofs.EveryCall.{same_holds}
 use Rattle.sk_when.proofs.diff_engine.diff.Goals as goal
@@ -14,7 +12,6 @@ returns c =
     let stands = c.finding_of-finding.ensures.finding ∙ ap finding_of c.deref.ensures.value in
     record {
       compared = record {
-        pieces = pieces;
         compared = told.compared;
         alone = told.alone;
         decided = told.decided;
@@ -23,7 +20,6 @@ returns c =
             stands
             ∙ same_holds c.args.relation reflexive old pieces
             (subst (λ (new : List (List Insn)). AreCompared c.args.relation old new 0 4294967296 pieces) (sym same) told.compared) (told.same reflexive same);
-        says = c.in_ok-text.ensures.text ∙ ap (text_of (names_of c.args.naming c.args.architecture) c.args.relation c.finding_of-finding.result) c.deref-2.ensures.value;
       };
       one_way = c.pieces.ensures.one_way;
     }

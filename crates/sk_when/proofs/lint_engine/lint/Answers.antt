@@ -3,18 +3,16 @@ use Rattle.std.specs.List.{Contains, filter}
 use Rattle.sk_arguments.specs.Reading.{narrow_numbers}
 use Rattle.sk_when.specs.Lint.{is_asked, lint_finding}
 use Rattle.sk_when.specs.LintNotes.{AreNotes}
-use Rattle.sk_when.specs.LintText.{lint_text}
 use Rattle.sk_when.proofs.Linting.{asked_is_narrow, contains_filtered}
 use Rattle.sk_when.proofs.lint_engine.lint.Goals as goal
 
 pub returns-clause-linted : goal.returns-clause-linted
-returns-clause-linted g c =
+returns-clause-linted c =
     let programs = c.args.chain.now in
     let pieces = c.in_ok-pieces.pieces.items in
     let table = c.in_ok-numbers.ensures.all in
     let numbers = c.in_ok-pieces.ensures.numbers ∙ ap (filter (is_asked programs)) (c.deref.ensures.value ∙ table) in
     record {
-      pieces = pieces;
       linted = record {
         numbers = numbers;
         each = λ nr asked.
@@ -24,7 +22,5 @@ returns-clause-linted g c =
       };
       decided = λ all none. c.in_ok-pieces.ensures.decided all (c.lint_notes.ensures.spent none);
       stands = c.lint_finding-finding.ensures.finding ∙ ap lint_finding c.deref-2.ensures.value;
-      says = c.in_ok-text.ensures.text
-          ∙ ap (lint_text c.args.all c.args.naming (g.R.Remarks.remark c.args.remarks.now) c.lint_finding-finding.result) c.deref-3.ensures.value;
-      noted = subst (λ (its : List ℕ). AreNotes programs c.lint_notes.new.budgets.is_spent its (string_bytes c.in_ok-notes.notes)) (c.deref-4.ensures.value ∙ table) c.in_ok-notes.ensures.notes;
+      noted = subst (λ (its : List ℕ). AreNotes programs c.lint_notes.new.budgets.is_spent its (string_bytes c.in_ok-notes.notes)) (c.deref-3.ensures.value ∙ table) c.in_ok-notes.ensures.notes;
     }

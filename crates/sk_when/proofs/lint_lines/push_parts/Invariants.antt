@@ -1,6 +1,6 @@
 use Rattle.std.proofs.Common.{◌≡◌, ◌++◌, string_bytes, flat_map, take}
 use Rattle.sk_when.specs.LintText.{concern_text}
-use Rattle.sk_when.proofs.lint_text.push_parts.Given as goal
+use Rattle.sk_when.proofs.lint_lines.push_parts.Given as goal
 
 abbrev pub invariant-loop-part : goal.invariant-loop-part
 invariant-loop-part g l =

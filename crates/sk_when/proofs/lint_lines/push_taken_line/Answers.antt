@@ -1,7 +1,7 @@
 use Rattle.std.proofs.Common.{◌++◌, List, ℕ, codes, string_bytes, ap, append_assoc, ◌∙◌}
 use Rattle.sk_when.specs.DiffText.{call_text}
 use Rattle.sk_when.specs.LintText.{taken_line}
-use Rattle.sk_when.proofs.lint_text.push_taken_line.Goals as goal
+use Rattle.sk_when.proofs.lint_lines.push_taken_line.Goals as goal
 
 pub returns : goal.returns
 unfolding taken_line

@@ -1,6 +1,6 @@
 use Rattle.std.proofs.Common.{◌≡◌, ◌++◌, string_bytes, flat_map, take}
 use Rattle.sk_when.specs.LintText.{lint_piece_text}
-use Rattle.sk_when.proofs.lint_text.push_pieces.Given as goal
+use Rattle.sk_when.proofs.lint_lines.push_pieces.Given as goal
 
 abbrev pub invariant-loop-piece : goal.invariant-loop-piece
 invariant-loop-piece g l =

@@ -1,7 +1,7 @@
 use Rattle.std.proofs.Common.{◌++◌, List, ℕ, codes, string_bytes, ap, append_assoc, ◌∙◌}
 use Rattle.std.proofs.lemmas.Result.{on_ok_weaker}
 use Rattle.sk_when.specs.LintText.{conditions_text}
-use Rattle.sk_when.proofs.lint_text.push_counted.Goals as goal
+use Rattle.sk_when.proofs.lint_lines.push_counted.Goals as goal
 
 pub returns : goal.returns
 returns c =

@@ -3,7 +3,7 @@ use Rattle.std.proofs.lemmas.Result.{on_ok_weaker}
 use Rattle.sk_survey.specs.Taken.{taken_as}
 use Rattle.sk_when.specs.Lint.{lint_names}
 use Rattle.sk_when.specs.LintText.{taken_line}
-use Rattle.sk_when.proofs.lint_text.push_taken.Goals as goal
+use Rattle.sk_when.proofs.lint_lines.push_taken.Goals as goal
 
 pub returns : goal.returns
 returns g c =
