@@ -150,6 +150,9 @@ replay_text by log chain =
     tally_text by (rows_of by chain (lines_of log)) (events_in by (lines_of log)) (unclear_in by (lines_of log))
 
 -- some call is not performed, or a line is not understood, which may be one that is not
+abbrev pub tally_denies : List Row → ℕ → Bool
+tally_denies rows unclear = list_any (λ row. not (is_performed row)) rows || not (unclear == 0)
+
+-- so it is with the calls and the lines of a log
 abbrev pub replay_denies : Architecture → List ℕ → List (List Insn) → Bool
-replay_denies by log chain =
-    list_any (λ row. not (is_performed row)) (rows_of by chain (lines_of log)) || not (unclear_in by (lines_of log) == 0)
+replay_denies by log chain = tally_denies (rows_of by chain (lines_of log)) (unclear_in by (lines_of log))

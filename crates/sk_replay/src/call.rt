@@ -34,7 +34,7 @@ impl Call {
     }
 
     /// The arguments that the log shows.
-    pub(crate) fn shown_args(&self) -> &[u64]
+    pub fn shown_args(&self) -> &[u64]
         ensures shown { result.now ≡ take self.now.shown self.now.args }
     {
         if self.shown < self.args.len() {

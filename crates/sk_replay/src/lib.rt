@@ -19,8 +19,11 @@ mod word;
 
 pub use answer::Replay;
 pub use argument::number_or_constant;
+pub use call::Call;
 pub use fault::CallFault;
 pub use named::{call_named, plain_number};
 pub use quoted::plain_word;
 pub use replaying::replay;
+pub use row::Row;
+pub use text::{push_call, replay_text};
 pub use word::{call_in, name_part};

@@ -28,7 +28,7 @@ impl Row {
     }
 
     /// Whether the call is performed.
-    pub(crate) fn is_performed(&self) -> bool
+    pub fn is_performed(&self) -> bool
         ensures performed { result ≡ is_performed self.now }
     {
         Action::of(self.value).performs()

@@ -3,6 +3,7 @@ ghost use Rattle.std.specs.Prelude.{◌≡◌, ◌++◌, IfOk, OnOk, codes, fals
 ghost use Rattle.sk_names.specs.Names.{name_on};
 ghost use Rattle.sk_replay.specs.Replaying.{argument_text, arguments_text, name_text, call_text, row_text, one_text, part_text, count_text, tally_text};
 
+use crate::answer::Replay;
 use crate::call::Call;
 use crate::row::Row;
 use sk_filter::push_verdict;
@@ -10,8 +11,25 @@ use sk_names::{Architecture, name};
 use std::alloc::{AllocError, Global};
 use std::fmt::Write;
 
-/// The text of these rows, and of so many lines that are no calls, or are not understood.
-pub(crate) fn replay_text(
+/// The text of a replay of the log of a process of an architecture.
+pub fn replay_text(
+    alloc: Global,
+    architecture: Architecture,
+    replay: &Replay,
+) -> Result<String, AllocError>
+    ensures text { IfOk result (λ text. string_bytes text ≡
+        tally_text architecture replay.now.rows.items replay.now.events replay.now.unclear) }
+{
+    let Replay {
+        rows,
+        events,
+        unclear,
+    } = replay;
+    tally_text(alloc, architecture, rows, *events, *unclear)
+}
+
+// The text of these rows, and of so many lines that are no calls, or are not understood.
+fn tally_text(
     alloc: Global,
     architecture: Architecture,
     rows: &[Row],
@@ -110,8 +128,13 @@ fn push_row(text: &mut String, architecture: Architecture, row: &Row) -> Result<
     text.push_str("\n")
 }
 
+/// Writes a call as strace(1) does.
 #[tactic(auto, unfolding(crate::specs::Replaying::call_text))]
-fn push_call(text: &mut String, architecture: Architecture, call: Call) -> Result<(), AllocError>
+pub fn push_call(
+    text: &mut String,
+    architecture: Architecture,
+    call: Call,
+) -> Result<(), AllocError>
     ensures text { OnOk result (string_bytes text.new ≡ string_bytes text.old ++ call_text architecture call) }
 {
     push_name(text, architecture, call.nr)?;

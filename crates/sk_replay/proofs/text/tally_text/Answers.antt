@@ -1,5 +1,5 @@
 use Rattle.sk_replay.proofs.Parts.{four_parts}
-use Rattle.sk_replay.proofs.text.replay_text.Goals as goal
+use Rattle.sk_replay.proofs.text.tally_text.Goals as goal
 
 pub returns : goal.returns
 returns c = record {
