@@ -1,0 +1,6 @@
+pub mod WorkedValues
+pub mod WorkedDocuments
+pub mod WorkedReplays
+pub mod WorkedWhys
+pub mod Values
+pub mod DocumentValues
