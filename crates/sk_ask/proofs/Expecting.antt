@@ -9,11 +9,12 @@ use Rattle.sk_names.specs.declared.architecture.Architecture.{Architecture}
 use Rattle.sk_arguments.specs.declared.naming.Naming.{Naming}
 use Rattle.sk_profile_json.specs.declared.context.Context.{Context}
 use Rattle.sk_ask.specs.declared.demands.Demands.{Demands}
+use Rattle.sk_ask.specs.declared.printing.Printing.{Printing}
 use Rattle.sk_ask.specs.declared.trouble.Trouble.{Trouble}
 use Rattle.sk_ask.specs.declared.trouble.Trouble.TheVariants.{Refused, Reading, Memory}
 use Rattle.sk_ask.specs.declared.word.Word.TheVariants.{Expect}
 use Rattle.sk_ask.specs.Architectures.{architecture_of}
-use Rattle.sk_ask.specs.Asking.{Question, is_turned, naming_asked, turned_line}
+use Rattle.sk_ask.specs.Asking.{Question, is_turned, naming_asked, printing_asked, turned_line}
 use Rattle.sk_ask.specs.Contexts.{IsContextOf}
 use Rattle.sk_ask.specs.Endings.{Ending, refused}
 use Rattle.sk_ask.specs.Forms.{unmarked}
@@ -41,16 +42,17 @@ is_refused held may_spend asked it names name text others arch line e content de
 
 -- the filters are compared with what it demands
 pub is_compared : (held : List ℕ → Held) (may_spend : ℕ → Bool) (asked : Question) (it : Demands) (names : List (List ℕ)) (name text : List ℕ)
-    (others : List (List ℕ)) (arch : Option Architecture) (context : Context) (ending : Ending) (by : Architecture) (naming : Naming) (notes : List ℕ)
+    (others : List (List ℕ)) (arch : Option Architecture) (context : Context) (ending : Ending) (by : Architecture) (naming : Naming) (printing : Printing) (notes : List ℕ)
     → names ≡ name ∷ others → IsContent 1048576 (held name) text → AreDemands (unmarked text) it → arch ≡ (asked_by asked it).arch → false ≡ is_turned arch
     → IsContextOf (record asked { arch = arch }) context → by ≡ architecture_of arch → naming ≡ naming_asked asked.numbers
+    → printing ≡ printing_asked asked.json
     → notes ≡ others_note name asked.arch it.says_others
-    → OfFiles (record { big_endian = false; strict = asked.strict }) held context others ending (λ read. IsExpect may_spend naming by it.chain read.chain (notes ++ read.notes) ending)
+    → OfFiles (record { big_endian = false; strict = asked.strict }) held context others ending (λ read. IsExpect may_spend naming printing by it.chain read.chain (notes ++ read.notes) ending)
     → OfFirst names ending (λ name others. OfDemands held name ending (λ it. IsExpectOf held may_spend asked name it others ending))
-is_compared held may_spend asked it names name text others arch context ending by naming notes e content demands on turned there b n s told =
+is_compared held may_spend asked it names name text others arch context ending by naming printing notes e content demands on turned there b n p s told =
     let is : is_turned (asked_by asked it).arch ≡ false = subst (λ a. is_turned a ≡ false) on (sym turned) in
     let in_context = subst (λ a. IsContextOf (record asked { arch = a }) context) on there in
-    let known = rw (b, n, s, on) at told in
+    let known = rw (b, n, p, s, on) at told in
     rw e (inl (text, content, inl (it, demands, where_false _ _ _ is (context, in_context, known))))
 
 -- what is made of the policy is not attached

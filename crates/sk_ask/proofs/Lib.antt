@@ -17,3 +17,4 @@ pub mod Orders
 pub mod Commas
 pub mod Told
 pub mod Unchecked
+pub mod Two

@@ -6,14 +6,14 @@ use Rattle.sk_replay.specs.WordCalls.{IsCall}
 use Rattle.sk_ask.specs.Calls.{AreAskedCalls, IsFirstNoCall, IsNoCall, OfAll}
 use Rattle.sk_ask.specs.OtherNames.{bare_name}
 
-pub goes_on : (P : Option ℕ → List ℕ → Type 0) (rest left all : List ℕ) (nr : ℕ) (told telling first : List ℕ) → rest ≡ nr ∷ left → telling ≡ told ++ first → P (Some nr) first → ((more : List ℕ) → OfAll P rest more → OfAll P all (told ++ more)) → (more : List ℕ) → OfAll P left more → OfAll P all (telling ++ more)
+pub goes_on : {T : Type 0} (P : Option ℕ → List T → Type 0) (rest left all : List ℕ) (nr : ℕ) (told telling first : List T) → rest ≡ nr ∷ left → telling ≡ told ++ first → P (Some nr) first → ((more : List T) → OfAll P rest more → OfAll P all (told ++ more)) → (more : List T) → OfAll P left more → OfAll P all (telling ++ more)
 goes_on P rest left all nr told telling first r t p so_far more these =
     let known = rw r at so_far in
     let step = known (first ++ more) (first, more, p, these, refl) in
     rw (t, append_assoc told first more) step
 
-pub is_whole : (P : Option ℕ → List ℕ → Type 0) (rest all told : List ℕ) → length rest ≡ 0 → ((more : List ℕ) → OfAll P rest more → OfAll P all (told ++ more)) → OfAll P all told
-is_whole P [] all told e so_far = subst (λ text. OfAll P all text) (append-nil told) (so_far [] refl)
+pub is_whole : {T : Type 0} (P : Option ℕ → List T → Type 0) (rest all : List ℕ) (told : List T) → length rest ≡ 0 → ((more : List T) → OfAll P rest more → OfAll P all (told ++ more)) → OfAll P all told
+is_whole P [] all told e so_far = subst (λ items. OfAll P all items) (append-nil told) (so_far [] refl)
 is_whole P (nr ∷ rest) all told e so_far = absurd (omega arith)
 
 -- ---- the calls that words ask for

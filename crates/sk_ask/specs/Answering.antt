@@ -7,9 +7,10 @@ use Rattle.sk_profile_json.specs.declared.context.Context.{Context}
 use Rattle.sk_ask.specs.declared.word.TheConstants.{NAMES}
 use Rattle.sk_ask.specs.Nearest.{of_unknown}
 use Rattle.sk_ask.specs.Shelves.{Held}
+use Rattle.sk_ask.specs.declared.printing.Printing.{Printing}
 use Rattle.sk_ask.specs.declared.word.Word.{Word}
 use Rattle.sk_ask.specs.declared.word.Word.TheVariants.{Calls, Filter, When, Diff, Expect, Lint, Replay, Why, Show, Arches, Check}
-use Rattle.sk_ask.specs.Asking.{Question, asked_of, asks_help, asks_version, manner_of, naming_asked, nothing_asked, word_named}
+use Rattle.sk_ask.specs.Asking.{Question, asked_of, asks_help, asks_version, manner_of, naming_asked, nothing_asked, printing_asked, word_named}
 use Rattle.sk_ask.specs.Arches.{TellsArches}
 use Rattle.sk_ask.specs.Architectures.{architecture_of}
 use Rattle.sk_ask.specs.Calls.{OfCalls}
@@ -31,32 +32,32 @@ use Rattle.sk_ask.specs.Whys.{OfMeant, TellsWhyOf}
 -- ---- each word
 
 -- what each word answers of the filters in its files, where the profiles among them are to hold: of the architecture, and of the calls, if
--- some are asked for, with numbers written so. All that is asked stands before it, since a policy can say of which architecture it is
-abbrev pub AnswersQuestion : (List ℕ → Held) → (ℕ → Bool) → Question → Context → Over → Architecture → List ℕ → Naming → Word → List (List ℕ)
-    → Ending → Type 0
-AnswersQuestion held may_spend asked context over by calls naming (Calls examples) names ending =
+-- some are asked for, with numbers written so and all printed so. All that is asked stands before it, since a policy can say of which architecture it is
+abbrev pub AnswersQuestion : (List ℕ → Held) → (ℕ → Bool) → Question → Context → Over → Architecture → List ℕ → Naming → Printing → Word
+    → List (List ℕ) → Ending → Type 0
+AnswersQuestion held may_spend asked context over by calls naming printing (Calls examples) names ending =
     over names ending (λ read.
-    TellsSurvey may_spend by examples calls read.chain read.notes ending)
-AnswersQuestion held may_spend asked context over by calls naming (Filter target smaller) names ending =
+    TellsSurvey may_spend printing by examples calls asked.only read.chain read.notes ending)
+AnswersQuestion held may_spend asked context over by calls naming printing (Filter target smaller) names ending =
     over names ending (λ read. TellsFilter may_spend target smaller read.chain read.found.images read.notes ending)
-AnswersQuestion held may_spend asked context over by calls naming (When dot) names ending =
-    over names ending (λ read. TellsWhenOf may_spend naming by dot calls read.chain read.notes ending)
-AnswersQuestion held may_spend asked context over by calls naming (Diff stricter) names ending =
+AnswersQuestion held may_spend asked context over by calls naming printing (When dot) names ending =
+    over names ending (λ read. TellsWhenOf may_spend naming printing by dot calls asked.only read.chain read.notes ending)
+AnswersQuestion held may_spend asked context over by calls naming printing (Diff stricter) names ending =
     over (take 1 names) ending (λ old.
-    over (drop 1 names) ending (λ new. IsDiff may_spend naming by stricter old.chain new.chain (old.notes ++ new.notes) ending))
-AnswersQuestion held may_spend asked context over by calls naming Expect names ending =
+    over (drop 1 names) ending (λ new. IsDiff may_spend naming printing by stricter old.chain new.chain (old.notes ++ new.notes) ending))
+AnswersQuestion held may_spend asked context over by calls naming printing Expect names ending =
     OfFirst names ending (λ name others. OfDemands held name ending (λ it. IsExpectOf held may_spend asked name it others ending))
-AnswersQuestion held may_spend asked context over by calls naming (Lint all) names ending =
-    over names ending (λ read. TellsLint may_spend naming all context names read ending)
-AnswersQuestion held may_spend asked context over by calls naming Replay names ending =
+AnswersQuestion held may_spend asked context over by calls naming printing (Lint all) names ending =
+    over names ending (λ read. TellsLint may_spend naming printing all context names read ending)
+AnswersQuestion held may_spend asked context over by calls naming printing Replay names ending =
     OfFirst names ending (λ name others. OfLog held name ending (λ log.
-    over others ending (λ read. ComesTo (replayed by name log read.chain read.notes) ending)))
-AnswersQuestion held may_spend asked context over by calls naming Why names ending =
+    over others ending (λ read. ComesTo (replayed printing by name log read.chain read.notes) ending)))
+AnswersQuestion held may_spend asked context over by calls naming printing Why names ending =
     OfFirst names ending (λ word others. OfMeant by word others ending (λ meant.
-    over others ending (λ read. TellsWhyOf by meant read.chain read.notes ending)))
-AnswersQuestion held may_spend asked context over by calls naming Show names ending = over names ending (λ read. Shows by read.chain read.notes ending)
-AnswersQuestion held may_spend asked context over by calls naming Arches names ending = over names ending (λ read. TellsArches read.chain read.notes ending)
-AnswersQuestion held may_spend asked context over by calls naming Check names ending = Checks (manner_of asked) held context names ending
+    over others ending (λ read. TellsWhyOf printing by meant read.chain read.notes ending)))
+AnswersQuestion held may_spend asked context over by calls naming printing Show names ending = over names ending (λ read. Shows by read.chain read.notes ending)
+AnswersQuestion held may_spend asked context over by calls naming printing Arches names ending = over names ending (λ read. TellsArches printing read.chain read.notes ending)
+AnswersQuestion held may_spend asked context over by calls naming printing Check names ending = Checks (manner_of asked) held context names ending
 
 -- ---- all words
 
@@ -66,7 +67,7 @@ AnswersThere held may_spend asked ending =
     (context : Context) × IsContextOf asked context
     × OfCalls (architecture_of asked.arch) asked.calls ending (λ calls.
     AnswersQuestion held may_spend asked context (OfFiles (manner_of asked) held context) (architecture_of asked.arch) calls
-    (naming_asked asked.numbers) asked.word asked.names ending)
+    (naming_asked asked.numbers) (printing_asked asked.json) asked.word asked.names ending)
 
 -- with `--help` among them the words ask how they are used
 abbrev pub AnswersAsked : (List ℕ → Held) → (ℕ → Bool) → Result Question (List ℕ) → Ending → Type 0

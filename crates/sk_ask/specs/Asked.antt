@@ -9,12 +9,14 @@ abbrev pub question_of : Asked → Question
 question_of asked = record {
   word = asked.word;
   calls = map string_bytes asked.calls.items;
+  only = asked.only.items;
   caps = map (λ name. name.now) asked.caps.items;
   kernel = asked.kernel;
   machine = asked.machine;
   arch = asked.arch;
   awaits = asked.awaits;
   numbers = asked.numbers;
+  json = asked.json;
   native = asked.native;
   runc = asked.runc;
   strict = asked.strict;

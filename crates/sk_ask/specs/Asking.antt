@@ -1,6 +1,7 @@
 -- What words ask.
 use Rattle.std.specs.Prelude.{ℕ, ◌==◌, ◌&&◌, ◌||◌, ◌++◌, nat_lt, is_some, not, Bool, true, false, if◌then◌else◌, List, [], ◌∷◌, length, slice_get, filter, map, codes, slice_index, Option, Some, None, Result, Ok, Err}
 use Rattle.std.specs.List.{before_first, after_first, list_any, slice_split}
+use Rattle.std.specs.Char.{to_ascii_uppercase}
 use Rattle.std.specs.Str.{bytes_eq}
 use Rattle.sk_names.specs.declared.architecture.Architecture.{Architecture}
 use Rattle.sk_arguments.specs.declared.naming.Naming.{Naming}
@@ -11,30 +12,36 @@ use Rattle.sk_profile_json.specs.declared.machine.Machine.{Machine as Host}
 use Rattle.sk_profile_json.specs.Capabilities.{capability}
 use Rattle.sk_profile_json.specs.Machines.{machine_named}
 use Rattle.sk_ask.specs.Complaints.{of_word}
-use Rattle.sk_ask.specs.Nearest.{of_unknown}
+use Rattle.sk_ask.specs.Only.{sought_named}
+use Rattle.sk_ask.specs.Nearest.{architecture_names, capability_names, machine_names, of_unknown}
 use Rattle.sk_ask.specs.OtherNames.{architecture_meant, kernel_meant}
 use Rattle.sk_ask.specs.Targets.{target_named}
 use Rattle.sk_ask.specs.declared.word.Valued.{Valued}
 use Rattle.sk_ask.specs.declared.manner.Manner.{Manner}
+use Rattle.sk_ask.specs.declared.printing.Printing.{Printing}
+use Rattle.sk_ask.specs.declared.printing.Printing.TheVariants.{Text, Document}
+use Rattle.sk_ask.specs.declared.only.Sought.{Sought}
 use Rattle.sk_ask.specs.declared.target.Target.{Target}
 use Rattle.sk_ask.specs.declared.target.Target.TheVariants.{Lines, Raw}
-use Rattle.sk_ask.specs.declared.word.Valued.TheVariants.{Call, Cap, Kernel, Machine, Arch, To}
+use Rattle.sk_ask.specs.declared.word.Valued.TheVariants.{Call, Only, Cap, Kernel, Machine, Arch, To}
 use Rattle.sk_ask.specs.declared.word.TheConstants.{OPTIONS}
 use Rattle.sk_ask.specs.declared.word.Word.{Word}
 use Rattle.sk_ask.specs.declared.word.Word.TheVariants.{Calls, Filter, When, Diff, Expect, Lint, Replay, Why, Show, Arches, Check}
 
--- the word, with the options that it alone has; the words behind each `--call`, the capabilities behind each `--cap`, the version behind
--- `--kernel`, the machine behind `--machine`, and the architecture behind `--arch`; the option whose word is awaited; whether there
--- was `--numbers`, `--native`, `--runc`, `--strict` or `--help`; and the names of the files
+-- the word, with the options that it alone has; the words behind each `--call`, the verdicts behind each `--only`, the capabilities
+-- behind each `--cap`, the version behind `--kernel`, the machine behind `--machine`, and the architecture behind `--arch`; the option
+-- whose word is awaited; whether there was `--numbers`, `--json`, `--native`, `--runc`, `--strict` or `--help`; and the names of the files
 pub record Question : Type 0 where
   pub word : Word
   pub calls : List (List ℕ)
+  pub only : List Sought
   pub caps : List (List ℕ)
   pub kernel : Option Version
   pub machine : Option Host
   pub arch : Option Architecture
   pub awaits : Option Valued
   pub numbers : Bool
+  pub json : Bool
   pub native : Bool
   pub runc : Bool
   pub strict : Bool
@@ -46,12 +53,14 @@ abbrev pub nothing_asked : Word → Question
 nothing_asked word = record {
   word = word;
   calls = [];
+  only = [];
   caps = [];
   kernel = None;
   machine = None;
   arch = None;
   awaits = None;
   numbers = false;
+  json = false;
   native = false;
   runc = false;
   strict = false;
@@ -105,6 +114,7 @@ is_option text = slice_index text 0 == 45 && nat_lt 1 (length text)
 
 abbrev pub valued_name : Valued → List ℕ
 valued_name Call = codes "--call"
+valued_name Only = codes "--only"
 valued_name Cap = codes "--cap"
 valued_name Kernel = codes "--kernel"
 valued_name Machine = codes "--machine"
@@ -114,6 +124,7 @@ valued_name To = codes "--to"
 -- what is expected behind one
 abbrev pub value_kind : Valued → List ℕ
 value_kind Call = codes "a name or a number"
+value_kind Only = codes "a verdict as allow or errno/1"
 value_kind Cap = codes "a name"
 value_kind Kernel = codes "a version as 6.1"
 value_kind Machine = codes "a name"
@@ -143,6 +154,7 @@ writes_filters word = false
 abbrev pub valued_named : Word → List ℕ → Option Valued
 valued_named word text =
     if tells_calls word && bytes_eq text (codes "--call") then Some Call
+    else if tells_calls word && bytes_eq text (codes "--only") then Some Only
     else if bytes_eq text (codes "--cap") then Some Cap
     else if bytes_eq text (codes "--kernel") then Some Kernel
     else if bytes_eq text (codes "--machine") then Some Machine
@@ -150,9 +162,10 @@ valued_named word text =
     else if writes_filters word && bytes_eq text (codes "--to") then Some To
     else None
 
--- there may be several calls and capabilities, and the last form is the one that is wanted
+-- there may be several calls, verdicts and capabilities, and the last form is the one that is wanted
 abbrev pub is_given : Valued → Question → Bool
 is_given Call asked = false
+is_given Only asked = false
 is_given Cap asked = false
 is_given Kernel asked = is_some asked.kernel
 is_given Machine asked = is_some asked.machine
@@ -169,8 +182,13 @@ abbrev pub expected_line : Word → Valued → List ℕ
 expected_line word option =
     of_word (word_name word ++ (codes ": expected " ++ (value_kind option ++ codes " behind "))) (valued_name option)
 
+-- what is said of a word that names no capability; these are named in upper case
+abbrev pub no_capability_line : Word → List ℕ → List ℕ
+no_capability_line word text =
+    of_unknown (word_name word ++ codes ": no capability is named ") text (map to_ascii_uppercase text) capability_names
+
 abbrev pub with_caps : Question → List ℕ → Option (List (List ℕ)) → Result Question (List ℕ)
-with_caps asked text None = Err (of_word (word_name asked.word ++ codes ": no capability is named ") text)
+with_caps asked text None = Err (no_capability_line asked.word text)
 with_caps asked text (Some names) = Ok (record asked { caps = asked.caps ++ names; awaits = None })
 
 -- several names stand between commas (44), each as it may stand alone: setpriv(1), which has lists of capabilities so
@@ -183,6 +201,10 @@ with_each_cap asked (name ∷ names) = elim (with_caps asked name (capability na
   | Err line ↦ Err line
   | Ok more ↦ with_each_cap more names
 ]
+
+abbrev pub with_only : Question → Option Sought → Result Question (List ℕ)
+with_only asked None = Err (expected_line asked.word Only)
+with_only asked (Some sought) = Ok (record asked { only = asked.only ++ sought ∷ []; awaits = None })
 
 abbrev pub with_kernel : Question → Option Version → Result Question (List ℕ)
 with_kernel asked None = Err (expected_line asked.word Kernel)
@@ -204,14 +226,15 @@ turned_line word what = of_word (word_name word ++ codes ": arguments with their
 abbrev pub no_machine_line : Word → List ℕ → List ℕ
 no_machine_line word text =
     if is_turned (architecture_named text) then turned_line word (codes "--machine s390x")
-    else of_word (word_name word ++ codes ": no machine is named ") text
+    else of_unknown (word_name word ++ codes ": no machine is named ") text text machine_names
 
 abbrev pub with_machine : Question → List ℕ → Option Host → Result Question (List ℕ)
 with_machine asked text None = Err (no_machine_line asked.word text)
 with_machine asked text (Some machine) = Ok (record asked { machine = Some machine; awaits = None })
 
 abbrev pub with_architecture : Question → List ℕ → Option Architecture → Result Question (List ℕ)
-with_architecture asked text None = Err (of_word (word_name asked.word ++ codes ": no architecture is named ") text)
+with_architecture asked text None =
+    Err (of_unknown (word_name asked.word ++ codes ": no architecture is named ") text text architecture_names)
 with_architecture asked text (Some by) = Ok (record asked { arch = Some by; awaits = None })
 
 abbrev pub with_target : Target → Word → Word
@@ -225,6 +248,7 @@ with_form asked (Some target) = Ok (record asked { word = with_target target ask
 -- the word behind it
 abbrev pub with_value : Valued → Question → List ℕ → Result Question (List ℕ)
 with_value Call asked text = Ok (record asked { calls = asked.calls ++ text ∷ []; awaits = None })
+with_value Only asked text = with_only asked (sought_named text)
 with_value Cap asked text = with_each_cap asked (slice_split is_comma text)
 with_value Kernel asked text = with_kernel asked (kernel_meant text)
 with_value Machine asked text = with_machine asked text (machine_named text)
@@ -261,19 +285,43 @@ tells_conditions Expect = true
 tells_conditions (Lint all) = true
 tells_conditions word = false
 
+-- what these tell can be told by one JSON document
+abbrev pub writes_documents : Word → Bool
+writes_documents (Calls examples) = true
+writes_documents (When dot) = true
+writes_documents (Diff stricter) = true
+writes_documents Expect = true
+writes_documents (Lint all) = true
+writes_documents Replay = true
+writes_documents Why = true
+writes_documents Arches = true
+writes_documents word = false
+
 -- an option that a word has
 abbrev pub has_option : Word → List ℕ → Bool
 has_option word text =
     is_some (valued_named word text) || (is_some (with_own_flag word text) || (list_any (bytes_eq text) shared_flags
-    || (tells_conditions word && bytes_eq text (codes "--numbers"))))
+    || ((tells_conditions word && bytes_eq text (codes "--numbers")) || (writes_documents word && bytes_eq text (codes "--json")))))
 
 unfoldable pub options_of : Word → List (List ℕ)
 options_of word = filter (has_option word) (map (λ name. name.now) OPTIONS)
 
+-- an option that this word has not, and another has
+unfoldable pub is_of_another : Word → List ℕ → Bool
+is_of_another word text = list_any (λ name. bytes_eq name.now text) OPTIONS && not (has_option word text)
+
+-- the options that may be meant: where another word has it, none
+abbrev pub options_meant : Word → List ℕ → List (List ℕ)
+options_meant word text = if is_of_another word text then [] else options_of word
+
+-- an option that a word has not
+abbrev pub no_option_line : Word → List ℕ → List ℕ → List ℕ
+no_option_line word text sought = of_unknown (word_name word ++ codes ": no option is named ") text sought (options_meant word sought)
+
 -- a word that is no option of these is the name of a file
 abbrev pub with_name : Question → List ℕ → Result Question (List ℕ)
 with_name asked text =
-    if is_option text then Err (of_unknown (word_name asked.word ++ codes ": no option is named ") text (before_first is_equals text) (options_of asked.word))
+    if is_option text then Err (no_option_line asked.word text (before_first is_equals text))
     else Ok (record asked { names = asked.names ++ text ∷ [] })
 
 abbrev pub with_name_or_flag : Question → List ℕ → Option Word → Result Question (List ℕ)
@@ -284,6 +332,10 @@ abbrev pub naming_asked : Bool → Naming
 naming_asked true = Numbers
 naming_asked false = Constants
 
+abbrev pub printing_asked : Bool → Printing
+printing_asked true = Document
+printing_asked false = Text
+
 -- or one that several words have: all do, where there may be a profile
 abbrev pub with_flag : Question → List ℕ → Result Question (List ℕ)
 with_flag asked text =
@@ -291,6 +343,7 @@ with_flag asked text =
     else if bytes_eq text (codes "--runc") then Ok (record asked { runc = true })
     else if bytes_eq text (codes "--strict") then Ok (record asked { strict = true })
     else if tells_conditions asked.word && bytes_eq text (codes "--numbers") then Ok (record asked { numbers = true })
+    else if writes_documents asked.word && bytes_eq text (codes "--json") then Ok (record asked { json = true })
     else with_name_or_flag asked text (with_own_flag asked.word text)
 
 -- `--OPTION=WORD` means `--OPTION WORD`: getopt_long(3), which has it as `--arg=param`
@@ -365,10 +418,14 @@ abbrev pub draws : Word → Bool
 draws (When dot) = dot
 draws word = false
 
--- a picture is that of a call
+-- a picture is that of a call, and no document, and has no rows
 abbrev pub drawn : Question → Result Question (List ℕ)
 drawn asked =
-    if draws asked.word && length asked.calls == 0
+    if draws asked.word && asked.json
+    then Err (of_word (word_name asked.word ++ codes ": expected --dot or --json, not both") [])
+    else if draws asked.word && not (length asked.only == 0)
+    then Err (of_word (word_name asked.word ++ codes ": expected --dot or --only, not both") [])
+    else if draws asked.word && length asked.calls == 0
     then Err (of_word (word_name asked.word ++ codes ": expected --call CALL beside ") (codes "--dot"))
     else understood asked
 

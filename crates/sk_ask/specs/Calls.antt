@@ -38,12 +38,12 @@ OfCalls by asked ending P =
 
 -- ---- what is told of calls
 
--- a text has what is told of each of these calls, one behind the other
-abbrev pub OfAll : (Option ℕ → List ℕ → Type 0) → List ℕ → List ℕ → Type 0
-OfAll P [] text = text ≡ []
-OfAll P (nr ∷ calls) text = (first others : List ℕ) × P (Some nr) first × OfAll P calls others × (text ≡ first ++ others)
+-- what is told of each of these calls, one behind the other
+abbrev pub OfAll : {T : Type 0} → (Option ℕ → List T → Type 0) → List ℕ → List T → Type 0
+OfAll P [] items = items ≡ []
+OfAll {T} P (nr ∷ calls) items = (first others : List T) × P (Some nr) first × OfAll P calls others × (items ≡ first ++ others)
 
--- where no call is asked for, it tells of all
-abbrev pub OfEach : (Option ℕ → List ℕ → Type 0) → List ℕ → List ℕ → Type 0
-OfEach P [] text = P None text
-OfEach P (nr ∷ calls) text = OfAll P (nr ∷ calls) text
+-- where no call is asked for, all are told of
+abbrev pub OfEach : {T : Type 0} → (Option ℕ → List T → Type 0) → List ℕ → List T → Type 0
+OfEach P [] items = P None items
+OfEach P (nr ∷ calls) items = OfAll P (nr ∷ calls) items

@@ -1,5 +1,5 @@
 -- What `ask calls` tells: the text of a survey, with verdicts as people read them.
-use Rattle.std.specs.Prelude.{ℕ, ◌≡◌, ◌&&◌, ◌++◌, is_none, not, Bool, true, false, List, [], codes, flat_map, Option, Some, None}
+use Rattle.std.specs.Prelude.{ℕ, ◌≡◌, ◌==◌, ◌&&◌, ◌++◌, length, not, Bool, true, false, List, [], codes, flat_map, Option, Some, None}
 use Rattle.std.specs.List.{All}
 use Rattle.std.specs.Fmt.{decimal}
 use Rattle.hex.specs.Hex.{encode_lower}
@@ -20,9 +20,14 @@ use Rattle.sk_show.specs.Lines.{AreLinesOf, end_told, first_told}
 use Rattle.sk_show.specs.Text.{numbers_text, name_text, answers_text}
 use Rattle.sk_filter.specs.VerdictText.{verdict_text}
 use Rattle.sk_names.specs.declared.architecture.Architecture.{Architecture}
+use Rattle.sk_document.specs.CallsDocument.{calls_document}
+use Rattle.sk_ask.specs.declared.printing.Printing.{Printing}
+use Rattle.sk_ask.specs.declared.printing.Printing.TheVariants.{Text, Document}
 use Rattle.sk_ask.specs.Architectures.{call_on, chain_on}
 use Rattle.sk_ask.specs.Calls.{OfEach}
+use Rattle.sk_ask.specs.declared.only.Sought.{Sought}
 use Rattle.sk_ask.specs.Endings.{Ending, answered}
+use Rattle.sk_ask.specs.Only.{lines_sought}
 use Rattle.sk_ask.specs.Steps.{MayBeSpent, when_steps}
 
 -- one row: its numbers, the name of a single one, and the verdicts
@@ -50,6 +55,10 @@ abbrev pub unseen_text : Bool → List ℕ
 unseen_text true = codes "warning: no filter looks at the architecture: calls of each are judged by their numbers alone\n"
 unseen_text false = []
 
+-- of all calls together it is said where no filter looks at the architecture
+abbrev pub is_unseen : List ℕ → Bool → Bool
+is_unseen calls looks = length calls == 0 && not looks
+
 abbrev pub calls_text : Architecture → List Line → Bool → List ℕ
 calls_text by lines unseen = flat_map (line_text by) lines ++ unseen_text unseen
 
@@ -62,16 +71,15 @@ pub record AreLinesTold (may_spend : ℕ → Bool) (options : Options) (programs
   pub each : All AreFollowed programs → is_spent ≡ false → All (ShowsEach programs) lines
   pub one_way : NeverPart (first_told options.call) (end_told options.call) programs → is_spent ≡ false
 
--- a text tells the lines of a survey of a chain as it is for the architecture, which no filter sees where it is unseen
-abbrev pub IsSurveyText : (ℕ → Bool) → List (List Insn) → Bool → Options → List ℕ → Type 0
-IsSurveyText may_spend chain unseen options text =
-    (lines : List Line) × AreLinesTold may_spend options chain lines
-    × (text ≡ calls_text options.architecture lines (is_none options.call && unseen))
+-- the lines as a text, or as a document, which says of each chain whether a filter looks at the architecture
+abbrev pub calls_printed : Printing → Architecture → Bool → List Line → Bool → List ℕ
+calls_printed Text by looks lines unseen = calls_text by lines unseen
+calls_printed Document by looks lines unseen = calls_document by looks lines
 
--- of all calls, or of those that are asked for
-abbrev pub TellsSurvey : (ℕ → Bool) → Architecture → Bool → List ℕ → List (List Insn) → List ℕ → Ending → Type 0
-TellsSurvey may_spend by examples calls chain notes ending =
-    (text : List ℕ)
-    × OfEach (λ call. IsSurveyText may_spend (chain_on by chain) (not (looks_at_architecture chain))
-    (record { architecture = by; call = call; examples = examples })) calls text
-    × (ending ≡ answered notes text false)
+-- the lines of all calls, or of those that are asked for, which have a verdict that is looked for, of a chain as it is for the architecture
+abbrev pub TellsSurvey : (ℕ → Bool) → Printing → Architecture → Bool → List ℕ → List Sought → List (List Insn) → List ℕ → Ending → Type 0
+TellsSurvey may_spend printing by examples calls only chain notes ending =
+    (lines : List Line)
+    × OfEach (λ call. AreLinesTold may_spend (record { architecture = by; call = call; examples = examples }) (chain_on by chain)) calls lines
+    × (ending ≡ answered notes (calls_printed printing by (looks_at_architecture chain) (lines_sought only lines)
+    (is_unseen calls (looks_at_architecture chain))) false)

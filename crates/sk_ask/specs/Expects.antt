@@ -15,11 +15,12 @@ use Rattle.sk_policy_text.specs.Words.{words_of_text}
 use Rattle.sk_profile_json.specs.declared.context.Context.{Context}
 use Rattle.sk_ask.specs.declared.demands.Demands.{Demands}
 use Rattle.sk_ask.specs.declared.fault.FileFault.TheVariants.{Filter}
+use Rattle.sk_ask.specs.declared.printing.Printing.{Printing}
 use Rattle.sk_ask.specs.declared.trouble.Trouble.{Trouble}
 use Rattle.sk_ask.specs.declared.trouble.Trouble.TheVariants.{Refused, Reading, Memory}
 use Rattle.sk_ask.specs.declared.word.Word.TheVariants.{Expect}
 use Rattle.sk_ask.specs.Architectures.{architecture_of}
-use Rattle.sk_ask.specs.Asking.{Question, is_turned, naming_asked, turned_line}
+use Rattle.sk_ask.specs.Asking.{Question, is_turned, naming_asked, printing_asked, turned_line}
 use Rattle.sk_ask.specs.Comparisons.{IsCompared}
 use Rattle.sk_ask.specs.Complaints.{about}
 use Rattle.sk_ask.specs.Contexts.{IsContextOf}
@@ -85,8 +86,9 @@ abbrev pub not_compared : List ℕ
 not_compared = codes "expect: the filters could not be compared"
 
 -- what the filters answer is compared with what the policy demands
-abbrev pub IsExpect : (ℕ → Bool) → Naming → Architecture → List (List Insn) → List (List Insn) → List ℕ → Ending → Type 0
-IsExpect may_spend naming by demands chain notes ending = IsCompared may_spend naming by Expected not_compared demands chain notes ending
+abbrev pub IsExpect : (ℕ → Bool) → Naming → Printing → Architecture → List (List Insn) → List (List Insn) → List ℕ → Ending → Type 0
+IsExpect may_spend naming printing by demands chain notes ending =
+    IsCompared may_spend naming printing by (codes "expect") Expected not_compared demands chain notes ending
 
 -- of the architecture that is named; where none is, of that of the policy
 abbrev pub asked_by : Question → Demands → Question
@@ -102,7 +104,7 @@ abbrev pub OnArchitecture : (List ℕ → Held) → (ℕ → Bool) → Question 
 OnArchitecture held may_spend asked it notes names ending =
     (context : Context) × IsContextOf asked context
     × OfFiles (record { big_endian = false; strict = asked.strict }) held context names ending (λ read.
-    IsExpect may_spend (naming_asked asked.numbers) (architecture_of asked.arch) it.chain read.chain (notes ++ read.notes) ending)
+    IsExpect may_spend (naming_asked asked.numbers) (printing_asked asked.json) (architecture_of asked.arch) it.chain read.chain (notes ++ read.notes) ending)
 
 -- arguments with their highest byte first are not followed, though the policy tells of them
 abbrev pub IsExpectOf : (List ℕ → Held) → (ℕ → Bool) → Question → List ℕ → Demands → List (List ℕ) → Ending → Type 0

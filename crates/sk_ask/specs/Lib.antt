@@ -5,6 +5,7 @@ pub mod Asked
 pub mod Asking
 pub mod Kinds
 pub mod OtherNames
+pub mod Only
 pub mod Calls
 pub mod CallsText
 pub mod Checks

@@ -13,9 +13,14 @@ use Rattle.sk_profile_json.specs.declared.parting.Parting.{Parting}
 use Rattle.sk_profile_json.specs.Partings.{IsSaidBy, partings_by}
 use Rattle.sk_profile_json.specs.PartingTexts.{parting_text}
 use Rattle.sk_when.specs.declared.diff_engine.Finding.{Finding}
+use Rattle.sk_when.specs.declared.piece.Piece.{Piece}
+use Rattle.sk_when.specs.LintText.{lint_text}
 use Rattle.sk_when.specs.Lints.{IsLint}
+use Rattle.sk_document.specs.LintDocument.{lint_document}
+use Rattle.sk_ask.specs.declared.printing.Printing.{Printing}
+use Rattle.sk_ask.specs.declared.printing.Printing.TheVariants.{Text, Document}
 use Rattle.sk_ask.specs.Complaints.{of_word, shown}
-use Rattle.sk_ask.specs.Concluding.{EndsAs}
+use Rattle.sk_ask.specs.Concluding.{EndsAs, printing_for}
 use Rattle.sk_ask.specs.Endings.{Ending}
 use Rattle.sk_ask.specs.Forms.{unmarked}
 use Rattle.sk_ask.specs.Reading.{Read}
@@ -53,14 +58,21 @@ note_text notes = flat_map (of_word (codes "lint: ")) (lines_of notes)
 
 -- a chain was looked at with the steps that ask gives; where all calls of each row go one way through each filter, the steps of no
 -- row were used up
-abbrev pub IsLinted : (ℕ → Bool) → Naming → Bool → (Record → List ℕ) → List (List Insn) → Finding → List ℕ → List ℕ → Type 0
-IsLinted may_spend naming all remarks chain finding text notes =
-    (is_spent : Bool) × IsLint chain all naming remarks is_spent finding text notes × MayBeSpent may_spend lint_steps is_spent
+abbrev pub IsLinted : (ℕ → Bool) → List (List Insn) → Finding → List Piece → List ℕ → Type 0
+IsLinted may_spend chain finding pieces notes =
+    (is_spent : Bool) × IsLint chain is_spent finding pieces notes × MayBeSpent may_spend lint_steps is_spent
     × (NeverPart 0 (2 ^ 32) chain → is_spent ≡ false)
 
+-- what was found as a text, which may leave out what is stricter, or as a document, which has all
+abbrev pub lint_printed : Printing → Bool → Naming → (Record → List ℕ) → Finding → List Piece → List ℕ
+lint_printed Text all naming remarks finding pieces = lint_text all naming remarks finding pieces
+lint_printed Document all naming remarks finding pieces = lint_document naming remarks finding pieces
+
 -- of the files with these names, which were read, and in which profiles are as they are to hold there
-abbrev pub TellsLint : (ℕ → Bool) → Naming → Bool → Context → List (List ℕ) → Read → Ending → Type 0
-TellsLint may_spend naming all context names read ending =
-    (said : List (List ℕ × Option Profile)) × (finding : Finding) × (text notes : List ℕ) × AreSaid context (zip names read.files) said
-    × IsLinted may_spend naming all (remarks_on said) read.chain finding text notes
-    × EndsAs not_followed finding (read.notes ++ note_text notes) text ending
+abbrev pub TellsLint : (ℕ → Bool) → Naming → Printing → Bool → Context → List (List ℕ) → Read → Ending → Type 0
+TellsLint may_spend naming printing all context names read ending =
+    (said : List (List ℕ × Option Profile)) × (finding : Finding) × (pieces : List Piece) × (notes : List ℕ)
+    × AreSaid context (zip names read.files) said
+    × IsLinted may_spend read.chain finding pieces notes
+    × EndsAs not_followed finding (read.notes ++ note_text notes)
+    (lint_printed (printing_for finding printing) all naming (remarks_on said) finding pieces) ending

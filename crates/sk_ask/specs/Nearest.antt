@@ -1,11 +1,14 @@
 -- The name that may be meant by a word that is none.
-use Rattle.std.specs.Prelude.{ℕ, ◌+◌, ◌/◌, ◌++◌, nat_eq, nat_lt, if◌then◌else◌, List, [], ◌∷◌, length, codes, Option, Some, None}
+use Rattle.std.specs.Prelude.{ℕ, ◌+◌, ◌/◌, ◌++◌, nat_eq, nat_lt, if◌then◌else◌, List, [], ◌∷◌, length, map, codes, Option, Some, None}
 use Rattle.std.specs.List.{filter_map}
-use Rattle.std.specs.Option.{option_or}
+use Rattle.std.specs.Option.{option_or, unwrap_or}
 use Rattle.strsim.specs.Edits.{damerau}
 use Rattle.sk_names.specs.declared.architecture.Architecture.{Architecture}
+use Rattle.sk_names.specs.Architectures.{architectures, text_of}
 use Rattle.sk_names.specs.Names.{name_on}
 use Rattle.sk_names.specs.Numbers.{numbers_on}
+use Rattle.sk_profile_json.specs.Capabilities.{capability}
+use Rattle.sk_profile_json.specs.Machines.{machines, own_of}
 use Rattle.sk_ask.specs.Complaints.{shown}
 use Rattle.sk_ask.specs.OtherNames.{bare_name}
 
@@ -30,6 +33,18 @@ nearest word names = if nat_lt 64 (length word) then None else nearer_than ((len
 -- the names of an architecture's calls
 abbrev pub call_names : Architecture → List (List ℕ)
 call_names by = filter_map (name_on by) (numbers_on by)
+
+-- those of the architectures
+abbrev pub architecture_names : List (List ℕ)
+architecture_names = map text_of architectures
+
+-- those of the capabilities that `--cap all` lends
+abbrev pub capability_names : List (List ℕ)
+capability_names = unwrap_or (capability (codes "all")) []
+
+-- those of the machines that filters of profiles are made for
+abbrev pub machine_names : List (List ℕ)
+machine_names = map (λ machine. text_of (own_of machine)) machines
 
 -- what is said of the name that may be meant
 abbrev pub meant_text : Option (List ℕ) → List ℕ

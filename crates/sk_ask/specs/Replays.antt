@@ -2,7 +2,11 @@
 use Rattle.std.specs.Prelude.{ℕ, ◌⊎◌, ◌==◌, if◌then◌else◌, List, codes}
 use Rattle.sk_insn.specs.declared.insn.Insn.{Insn}
 use Rattle.sk_names.specs.declared.architecture.Architecture.{Architecture}
-use Rattle.sk_replay.specs.Replaying.{replay_text, replay_denies, distinct_calls}
+use Rattle.sk_text.specs.Lines.{lines_of}
+use Rattle.sk_replay.specs.Replaying.{replay_text, replay_denies, distinct_calls, events_in, rows_of, unclear_in}
+use Rattle.sk_document.specs.ReplayDocument.{replay_document}
+use Rattle.sk_ask.specs.declared.printing.Printing.{Printing}
+use Rattle.sk_ask.specs.declared.printing.Printing.TheVariants.{Text, Document}
 use Rattle.sk_ask.specs.Complaints.{about}
 use Rattle.sk_ask.specs.Shelves.{Held, IsContent, IsUnread}
 use Rattle.sk_ask.specs.Endings.{Ending, answered, refused}
@@ -12,12 +16,18 @@ use Rattle.sk_ask.specs.Troubles.{IsTrouble}
 abbrev pub no_call_text : List ℕ
 no_call_text = codes "holds no call: expected lines as strace -f -X raw -e raw=all writes them"
 
+-- the verdicts on the calls of a log as a text, or as a document
+abbrev pub replay_printed : Printing → Architecture → List ℕ → List (List Insn) → List ℕ
+replay_printed Text by log chain = replay_text by log chain
+replay_printed Document by log chain =
+    replay_document by (rows_of by chain (lines_of log)) (events_in by (lines_of log)) (unclear_in by (lines_of log))
+
 -- the verdicts of the chain on the calls of the log with this name, which are of an architecture: no where one of them is not performed, or a line is not
 -- understood; and no answer where there is no call
-abbrev pub replayed : Architecture → List ℕ → List ℕ → List (List Insn) → List ℕ → Ending
-replayed by name log chain notes =
+abbrev pub replayed : Printing → Architecture → List ℕ → List ℕ → List (List Insn) → List ℕ → Ending
+replayed printing by name log chain notes =
     if distinct_calls by log == 0 then refused (about name no_call_text)
-    else answered notes (replay_text by log chain) (replay_denies by log chain)
+    else answered notes (replay_printed printing by log chain) (replay_denies by log chain)
 
 -- what is so of the log in the file with this name, of at most 268435456 bytes; or it is not read
 abbrev pub OfLog : (List ℕ → Held) → List ℕ → Ending → (List ℕ → Type 0) → Type 0

@@ -7,6 +7,9 @@ use Rattle.sk_names.specs.declared.architecture.Architecture.{Architecture}
 use Rattle.sk_replay.specs.CallWords.{call_meant, name_part}
 use Rattle.sk_replay.specs.Faults.{Fault, no_call, fault_text, shown_behind}
 use Rattle.sk_show.specs.PathText.{TellsWhy}
+use Rattle.sk_document.specs.WhyDocument.{IsWhyDocument}
+use Rattle.sk_ask.specs.declared.printing.Printing.{Printing}
+use Rattle.sk_ask.specs.declared.printing.Printing.TheVariants.{Text, Document}
 use Rattle.sk_ask.specs.declared.trouble.Trouble.{Trouble}
 use Rattle.sk_ask.specs.declared.trouble.Trouble.TheVariants.{Refused, Reading, Memory}
 use Rattle.sk_ask.specs.Complaints.{of_word}
@@ -37,9 +40,15 @@ IsFaultOf by word others (Refused line) =
 IsFaultOf by word others (Reading line) = ⊥
 IsFaultOf by word others Memory = ⊤
 
--- a text tells the path of the call through the chain
-abbrev pub TellsWhyOf : Architecture → Record → List (List Insn) → List ℕ → Ending → Type 0
-TellsWhyOf by call chain notes ending = (text : List ℕ) × TellsWhy by chain call text × (ending ≡ answered notes text false)
+-- a text, or a document, tells the path of the call through the chain
+abbrev pub IsWhyPrinted : Printing → Architecture → List (List Insn) → Record → List ℕ → Type 0
+IsWhyPrinted Text by chain call text = TellsWhy by chain call text
+IsWhyPrinted Document by chain call text = IsWhyDocument by chain call text
+
+-- the answer is one that tells it
+abbrev pub TellsWhyOf : Printing → Architecture → Record → List (List Insn) → List ℕ → Ending → Type 0
+TellsWhyOf printing by call chain notes ending =
+    (text : List ℕ) × IsWhyPrinted printing by chain call text × (ending ≡ answered notes text false)
 
 -- what is so of the call that the word before others stands for; or it stands for none
 abbrev pub OfMeant : Architecture → List ℕ → List (List ℕ) → Ending → (Record → Type 0) → Type 0

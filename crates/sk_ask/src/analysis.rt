@@ -13,19 +13,18 @@ ghost use Rattle.sk_ask.specs.Steps.{MayBeSpent};
 ghost use Rattle.sk_when.specs.Diffs.{IsComparison};
 ghost use Rattle.sk_when.specs.Lints.{IsLint};
 ghost use Rattle.sk_when.specs.Picture.{IsPicture};
-ghost use Rattle.sk_when.specs.Telling.{TellsWhen};
+ghost use Rattle.sk_when.specs.Telling.{AreTold};
 
-use sk_arguments::Naming;
 use sk_filter::Chain;
 use sk_insn::Insn;
 use sk_names::Architecture;
 use sk_policy_when::OneFilterFault;
 use sk_show::{Line, Options};
-use sk_when::{Budget, Budgets, Comparison, Linted, Relation, Remarks};
+use sk_when::{Budget, Budgets, Comparison, ConditionalRow, Linted, Relation};
 use std::alloc::{AllocError, Global};
 
 /// Analyses chains, as far as the steps reach that it is given.
-/// Where all calls of each row go one way through each filter, `lines`, `when`, `diff`, `lint` and `one_filter`
+/// Where all calls of each row go one way through each filter, `lines`, `rows`, `diff`, `lint` and `one_filter`
 /// use the steps of no row up.
 pub trait Analysis {
     // Whether it may use up so many steps.
@@ -45,16 +44,15 @@ pub trait Analysis {
         ensures one_way { NeverPart (first_told options.call) (end_told options.call) chain.now → budgets.old.is_spent ≡ false → budgets.new.is_spent ≡ false };
 
     /// Tells under which conditions on a call each verdict of the chain comes.
-    fn when(
+    fn rows(
         &self,
         alloc: Global,
-        naming: Naming,
         architecture: Architecture,
         chain: &Chain,
         call: Option<u32>,
         budgets: &mut Budgets,
-    ) -> Result<String, AllocError>
-        ensures text { IfOk result (λ text. TellsWhen naming architecture call chain.now budgets.new.is_spent (string_bytes text)) }
+    ) -> Result<Vec<ConditionalRow>, AllocError>
+        ensures told { IfOk result (λ rows. AreTold architecture call chain.now budgets.new.is_spent rows.items) }
         ensures spent { budgets.old.is_spent ≡ false → MayBeSpent (may_spend self.now) budgets.old.steps budgets.new.is_spent }
         ensures one_way { NeverPart (first_told call) (end_told call) chain.now → budgets.old.is_spent ≡ false → budgets.new.is_spent ≡ false };
 
@@ -74,29 +72,25 @@ pub trait Analysis {
     fn diff(
         &self,
         alloc: Global,
-        naming: Naming,
         architecture: Architecture,
         relation: Relation,
         old: &Chain,
         new: &Chain,
         budgets: &mut Budgets,
     ) -> Result<Comparison, AllocError>
-        ensures compared { IfOk result (λ it. IsComparison naming architecture relation old.now new.now budgets.new.is_spent it.finding (string_bytes it.text)) }
+        ensures compared { IfOk result (λ it. IsComparison architecture relation old.now new.now budgets.new.is_spent it.finding it.pieces.items) }
         ensures spent { budgets.old.is_spent ≡ false → MayBeSpent (may_spend self.now) budgets.old.steps budgets.new.is_spent }
         ensures one_way { NeverPart 0 (2 ^ 32) old.now → NeverPart 0 (2 ^ 32) new.now → budgets.old.is_spent ≡ false → budgets.new.is_spent ≡ false };
 
     /// Looks for calls of a chain that are the same one to Linux and get other verdicts.
-    fn lint<R: Remarks>(
+    fn lint(
         &self,
         alloc: Global,
-        naming: Naming,
-        all: bool,
-        remarks: &R,
         chain: &Chain,
         budgets: &mut Budgets,
     ) -> Result<Linted, AllocError>
         requires limited { IsWithinLimit chain.now }
-        ensures linted { IfOk result (λ it. IsLint chain.now all naming (R.remark remarks.now) budgets.new.is_spent it.finding (string_bytes it.text) (string_bytes it.notes)) }
+        ensures linted { IfOk result (λ it. IsLint chain.now budgets.new.is_spent it.finding it.pieces.items (string_bytes it.notes)) }
         ensures spent { budgets.old.is_spent ≡ false → MayBeSpent (may_spend self.now) budgets.old.steps budgets.new.is_spent }
         ensures one_way { NeverPart 0 (2 ^ 32) chain.now → budgets.old.is_spent ≡ false → budgets.new.is_spent ≡ false };
 
@@ -134,16 +128,15 @@ impl Analysis for Trees {
         sk_when::lines_of(alloc, options, chain, budgets)
     }
 
-    fn when(
+    fn rows(
         &self,
         alloc: Global,
-        naming: Naming,
         architecture: Architecture,
         chain: &Chain,
         call: Option<u32>,
         budgets: &mut Budgets,
-    ) -> Result<String, AllocError> {
-        sk_when::when(alloc, naming, architecture, chain, call, budgets)
+    ) -> Result<Vec<ConditionalRow>, AllocError> {
+        sk_when::told_rows(alloc, architecture, chain, call, budgets)
     }
 
     fn dot(
@@ -159,26 +152,22 @@ impl Analysis for Trees {
     fn diff(
         &self,
         alloc: Global,
-        naming: Naming,
         architecture: Architecture,
         relation: Relation,
         old: &Chain,
         new: &Chain,
         budgets: &mut Budgets,
     ) -> Result<Comparison, AllocError> {
-        sk_when::diff(alloc, naming, architecture, relation, old, new, budgets)
+        sk_when::diff(alloc, architecture, relation, old, new, budgets)
     }
 
-    fn lint<R: Remarks>(
+    fn lint(
         &self,
         alloc: Global,
-        naming: Naming,
-        all: bool,
-        remarks: &R,
         chain: &Chain,
         budgets: &mut Budgets,
     ) -> Result<Linted, AllocError> {
-        sk_when::lint(alloc, naming, all, remarks, chain, budgets)
+        sk_when::lint(alloc, chain, budgets)
     }
 
     fn one_filter(

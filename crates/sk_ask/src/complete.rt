@@ -1,7 +1,7 @@
 //! Whether all is there that a word of `ask` wants.
 ghost use Rattle.std.specs.Prelude.{◌≡◌, ◌≤◌, IfOk, length, slice_get};
 ghost use Rattle.std.specs.Option.{option_map};
-ghost use Rattle.sk_ask.specs.Asking.{draws, tells_arguments, is_turned, turned_line, ended, complete, understood, named, none_missing, two_named, missing, wanted};
+ghost use Rattle.sk_ask.specs.Asking.{drawn, draws, tells_arguments, is_turned, turned_line, ended, complete, understood, named, none_missing, two_named, missing, wanted};
 ghost use Rattle.sk_ask.specs.Asked.{question_of, Asks, HasNames};
 
 use crate::word::Word;
@@ -30,6 +30,23 @@ fn complete(alloc: Global, asked: Asked) -> Result<Asked, Trouble>
         return Ok(asked);
     }
     let asked = named(alloc, asked)?;
+    drawn(alloc, asked)
+}
+
+// Whether a picture is asked of some call, and no document and no rows beside it.
+fn drawn(alloc: Global, asked: Asked) -> Result<Asked, Trouble>
+    requires named { HasNames asked }
+    ensures exact { Asks result (drawn (question_of asked)) }
+    ensures named { IfOk result HasNames }
+{
+    if draws(asked.word) && asked.json {
+        let what = format!(in alloc; "{}: expected --dot or --json, not both", asked.word.name())?;
+        return Err(Trouble::Refused(of_word(alloc, &what, b"")?));
+    }
+    if draws(asked.word) && !asked.only.is_empty() {
+        let what = format!(in alloc; "{}: expected --dot or --only, not both", asked.word.name())?;
+        return Err(Trouble::Refused(of_word(alloc, &what, b"")?));
+    }
     if draws(asked.word) && asked.calls.is_empty() {
         let what = format!(in alloc; "{}: expected --call CALL beside ", asked.word.name())?;
         return Err(Trouble::Refused(of_word(alloc, &what, b"--dot")?));

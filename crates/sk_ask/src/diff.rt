@@ -29,7 +29,8 @@ impl<A: Analysis> Tells for Diff<'_, A> {
     ghost use Rattle.sk_ask.specs.Diffs.{IsDiff};
 
     ghost tells = { λ it read ending.
-        IsDiff (A.may_spend it.on.analysis.now) it.on.naming it.on.architecture it.stricter it.old.chain read.chain (it.old.notes.items ++ read.notes) ending };
+        IsDiff (A.may_spend it.on.analysis.now) it.on.naming it.on.printing it.on.architecture it.stricter it.old.chain read.chain
+        (it.old.notes.items ++ read.notes) ending };
 
     fn told(self, alloc: Global, filters: Filters) -> Result<Answer, Trouble> {
         let Diff { on, stricter, old } = self;
@@ -39,6 +40,7 @@ impl<A: Analysis> Tells for Diff<'_, A> {
         compared(
             alloc,
             &on,
+            "diff",
             relation,
             NOT_COMPARED,
             old.chain,
@@ -59,7 +61,8 @@ pub fn diff_answer<S: Shelf, A: Analysis>(
 ) -> Result<Answer, Trouble>
     ensures told { OfFiles reader.now.manner (S.held reader.now.shelf.now) reader.now.context.now (take 1 (map string_bytes names.now)) (ending_of result) (λ old.
         OfFiles reader.now.manner (S.held reader.now.shelf.now) reader.now.context.now (drop 1 (map string_bytes names.now)) (ending_of result) (λ new.
-        IsDiff (A.may_spend on.entry.analysis.now) on.entry.naming on.entry.architecture stricter old.chain new.chain (old.notes ++ new.notes) (ending_of result))) }
+        IsDiff (A.may_spend on.entry.analysis.now) on.entry.naming on.entry.printing on.entry.architecture stricter old.chain new.chain
+        (old.notes ++ new.notes) (ending_of result))) }
     ensures counted { CountsReads result reads.old reads.new }
 {
     let (old, new) = sides(names);

@@ -8,33 +8,40 @@ use std::alloc::{AllocError, Global};
 pub trait OfCall: Drop {
     ghost use Rattle.std.specs.Prelude.{ℕ, List, Option};
 
-    // Whether a text tells it of this call.
-    ghost tells: { Self → Option ℕ → List ℕ → Type 0 };
+    /// What it is told by.
+    type Item: Drop;
 
-    /// The text of this call, or of all.
-    fn text(&self, alloc: Global, call: Option<u32>) -> Result<Vec<u8>, AllocError>
-        ensures text { IfOk result (λ text. tells self.now call text.items) };
+    // Whether it is told of this call by these.
+    ghost tells: { Self → Option ℕ → List Self.Item → Type 0 };
+
+    /// What is told of this call, or of all.
+    fn items(&self, alloc: Global, call: Option<u32>) -> Result<Vec<Self::Item>, AllocError>
+        ensures told { IfOk result (λ items. tells self.now call items.items) };
 }
 
-/// The texts of these calls, one behind the other, or where there is none that of all.
-pub fn text_of_each<T: OfCall>(alloc: Global, it: &T, calls: &[u32]) -> Result<Vec<u8>, AllocError>
-    ensures texts { IfOk result (λ text. OfEach (T.tells it.now) calls.now text.items) }
+/// What is told of these calls, one behind the other, or where there is none of all.
+pub fn items_of_each<T: OfCall>(
+    alloc: Global,
+    it: &T,
+    calls: &[u32],
+) -> Result<Vec<T::Item>, AllocError>
+    ensures told { IfOk result (λ items. OfEach (T.tells it.now) calls.now items.items) }
 {
     if calls.is_empty() {
-        return it.text(alloc, None);
+        return it.items(alloc, None);
     }
-    text_of_all(alloc, it, calls)
+    items_of_all(alloc, it, calls)
 }
 
-fn text_of_all<T: OfCall>(alloc: Global, it: &T, calls: &[u32]) -> Result<Vec<u8>, AllocError>
-    ensures texts { IfOk result (λ text. OfAll (T.tells it.now) calls.now text.items) }
+fn items_of_all<T: OfCall>(alloc: Global, it: &T, calls: &[u32]) -> Result<Vec<T::Item>, AllocError>
+    ensures told { IfOk result (λ items. OfAll (T.tells it.now) calls.now items.items) }
 {
-    let mut text = Vec::new(alloc);
+    let mut items = Vec::new(alloc);
     let mut rest = calls;
     while let Some((nr, left)) = rest.split_first() {
-        let first = it.text(alloc, Some(*nr))?;
-        text.extend_from_slice(&first)?;
+        let mut first = it.items(alloc, Some(*nr))?;
+        items.append(&mut first)?;
         rest = left;
     }
-    Ok(text)
+    Ok(items)
 }

@@ -15,6 +15,7 @@ use crate::demands::{Demands, demands_in};
 use crate::form::unmarked;
 use crate::manner::Manner;
 use crate::on::{On, architecture_of, naming_asked};
+use crate::printing::printing_asked;
 use crate::word::Word;
 use crate::words::{Asked, first_name};
 use crate::{Filters, Reader, Shelf, Trouble, about, content};
@@ -40,7 +41,7 @@ impl<A: Analysis> Tells for Expect<'_, A> {
     ghost use Rattle.sk_ask.specs.Expects.{IsExpect};
 
     ghost tells = { λ it read ending.
-        IsExpect (A.may_spend it.on.analysis.now) it.on.naming it.on.architecture it.chain read.chain (it.notes.items ++ read.notes) ending };
+        IsExpect (A.may_spend it.on.analysis.now) it.on.naming it.on.printing it.on.architecture it.chain read.chain (it.notes.items ++ read.notes) ending };
 
     fn told(self, alloc: Global, filters: Filters) -> Result<Answer, Trouble> {
         let Expect {
@@ -52,6 +53,7 @@ impl<A: Analysis> Tells for Expect<'_, A> {
         compared(
             alloc,
             &on,
+            "expect",
             Relation::Expected,
             NOT_COMPARED,
             demands,
@@ -95,6 +97,7 @@ pub fn expect_answer<S: Shelf, A: Analysis>(
         analysis,
         architecture: architecture_of(arch),
         naming: naming_asked(asked.numbers),
+        printing: printing_asked(asked.json),
     };
     let notes = others_note(alloc, name, asked.arch, it.says_others)?;
     let chain = it.chain;

@@ -22,7 +22,8 @@ pub const HELP: &str = "usage: ask WORD ..
 All but filter, arches and check are about the calls of x86-64, or, with --arch ARCH, about those of another architecture: x32, i386,
 aarch64, arm, riscv64, ppc64le, s390x or loongarch64; lint is about those of x86-64 and x32 alone, and expect, where no ARCH is given,
 about those that its POLICY tells of. Names and numbers are those that calls have there. when, diff, expect and lint write numbers by
-the constants of Linux's headers, and with --numbers as they are.
+the constants of Linux's headers, and with --numbers as they are. With --json these, calls, replay, why
+and arches print one JSON document.
 FILE holds raw struct sock_filter, hexadecimal digits, lines filter HEX, a filter in another form, a policy as when writes one, or a
 seccomp profile of docker's or podman's kind in JSON, which may stand in a container's config.json, in a SeccompProfile or in what
 docker inspect prints; the last two stand for their filters. Other forms are arrays of C, with numbers or with BPF_STMT and BPF_JUMP, as strace has them too; decimals of
@@ -46,10 +47,14 @@ Toolchain: rattle-kit-13f
 ";
 
 /// What `ask calls --help` says.
-pub const CALLS_HELP: &str = "usage: ask calls [--call CALL] [--examples] [--arch ARCH] FILE..
+pub const CALLS_HELP: &str =
+    "usage: ask calls [--call CALL] [--only VERDICT] [--examples] [--json] [--arch ARCH] FILE..
 For each call of x86-64, or of ARCH, by its number and its name, the verdicts that the filters in the FILEs can come to.
   --call CALL   only this call: a name or a number, decimal or 0x and hexadecimal; and as often as wanted, in this order
+  --only VERDICT
+                only rows in which this verdict can come, as allow or errno/1; errno alone whatever its data are; or one of several
   --examples    below each line a call for each verdict, or ? where none was found
+  --json        one JSON document in place of the text, whose form is in FORMATS.md
   --arch ARCH   the calls of this architecture: ask --help has their names
 The last line begins with warning where all calls are told and no filter looks at the architecture.
 A FILE may be a profile, and then --cap, --kernel, --machine, --native, --runc and --strict say how it holds: ask --help has them.
@@ -71,35 +76,41 @@ A FILE may be a profile, and then --cap, --kernel, --machine, --native, --runc a
 ";
 
 /// What `ask when --help` says.
-pub const WHEN_HELP: &str = "usage: ask when [--call CALL [--dot]] [--numbers] [--arch ARCH] FILE..
+pub const WHEN_HELP: &str =
+    "usage: ask when [--call CALL [--dot]] [--only VERDICT] [--numbers] [--json] [--arch ARCH] FILE..
 For each call of x86-64, or of ARCH, by its number and its name, the verdicts of the filters in the FILEs, and where arguments
 decide the condition on each as an expression of C over args[0] to args[5], ip, and nr where a line has several numbers.
   --call CALL   only this call: a name or a number, decimal or 0x and hexadecimal; and as often as wanted, in this order
-  --dot         a picture of each call's conditions and verdicts, as text for Graphviz
+  --only VERDICT
+                only rows in which this verdict can come, as allow or errno/1; errno alone whatever its data are; or one of several
+  --dot         a picture of each call's conditions and verdicts, as text for Graphviz, and no JSON
   --numbers     numbers as they are, and no constants of Linux's headers
+  --json        one JSON document in place of the text, whose form is in FORMATS.md
   --arch ARCH   the calls of this architecture: ask --help has their names; s390x is not followed
 A FILE may be a profile, and then --cap, --kernel, --machine, --native, --runc and --strict say how it holds: ask --help has them.
 ";
 
 /// What `ask diff --help` says.
-pub const DIFF_HELP: &str = "usage: ask diff [--stricter] [--numbers] [--arch ARCH] OLD NEW
+pub const DIFF_HELP: &str = "usage: ask diff [--stricter] [--numbers] [--json] [--arch ARCH] OLD NEW
 Whether the filters of two FILEs answer the same to every call of x86-64, or of ARCH, whatever its arguments are; and where not,
 the numbers with the old and the new verdict, and below them a call that shows it. They stand below the lines looser:, stricter: and
 other:, by how strict NEW is there.
   --stricter    whether NEW is at least as strict, by what becomes of the process: an unknown action counts as kill_process
   --numbers     numbers as they are, and no constants of Linux's headers
+  --json        one JSON document in place of the text, whose form is in FORMATS.md
   --arch ARCH   the calls of this architecture: ask --help has their names; s390x is not followed
 A FILE may be a profile, and then --cap, --kernel, --machine, --native, --runc and --strict say how it holds: ask --help has them.
 ";
 
 /// What `ask expect --help` says.
-pub const EXPECT_HELP: &str = "usage: ask expect [--numbers] [--arch ARCH] POLICY FILE..
+pub const EXPECT_HELP: &str = "usage: ask expect [--numbers] [--json] [--arch ARCH] POLICY FILE..
 Whether the verdicts of the filters in the FILEs are as POLICY expects on every call that it tells of, whatever the arguments are; and
 where not, the numbers with what is expected and the verdict, and below them a call that shows it.
 POLICY is a text as ask when writes one, of at most 1048576 bytes. In place of a verdict it may have refused, which expects that the
 call is not performed, or performed, which expects that it is. A verdict is expected as it is, with its number. Where it has no row for
 a number and no line default, no else behind cases, or no line others, it expects nothing.
   --numbers     numbers as they are, and no constants of Linux's headers
+  --json        one JSON document in place of the text, whose form is in FORMATS.md
   --arch ARCH   the calls of this architecture: ask --help has their names; without it of that in POLICY's line arch, else x86-64;
                 s390x is not followed. Calls of other architectures than POLICY's are to get what its line others says
 As an example, where POLICY has the lines
@@ -112,35 +123,38 @@ A FILE may be a profile, and then --cap, --kernel, --machine, --native, --runc a
 ";
 
 /// What `ask lint --help` says.
-pub const LINT_HELP: &str = "usage: ask lint [--all] [--numbers] FILE..
+pub const LINT_HELP: &str = "usage: ask lint [--all] [--numbers] [--json] FILE..
 Which calls of x86-64 and x32 get another verdict of the filters in the FILEs by bits that Linux does not read, as the upper 32 of an
 int: the numbers with the verdict on the calls that Linux takes them for and with their own, the condition on them, a call that shows
 it, what Linux takes that for, and the entries of a profile that compare such bits. Those with a less strict verdict come first.
 What Linux reads is that of 6.12; of calls that it does not have all bits count as read.
   --all         those too whose verdict is as strict or stricter, which else are only counted
   --numbers     numbers as they are, and no constants of Linux's headers
+  --json        one JSON document in place of the text, whose form is in FORMATS.md; it has all of them
 Status 1 where a verdict is less strict, or the condition has an int with its sign, which programs in C do not pass. Notes on what is
 compared and says little go to standard error.
 A FILE may be a profile, and then --cap, --kernel, --machine, --native, --runc and --strict say how it holds: ask --help has them.
 ";
 
 /// What `ask replay --help` says.
-pub const REPLAY_HELP: &str = "usage: ask replay [--arch ARCH] LOG FILE..
+pub const REPLAY_HELP: &str = "usage: ask replay [--json] [--arch ARCH] LOG FILE..
 The calls in LOG, which strace -f -X raw -e raw=all -o LOG COMMAND wrote: each once, with how often it was made and the verdict
 of the filters in the FILEs, those first that are not performed; then how many lines are no calls, or are not understood.
+  --json        one JSON document in place of the text, whose form is in FORMATS.md
   --arch ARCH   the program was one of this architecture: ask --help has their names; s390x is not followed
 Status 1 where a call is not performed, or a line not understood. LOG has at most 268435456 bytes; - is standard input.
 A FILE may be a profile, and then --cap, --kernel, --machine, --native, --runc and --strict say how it holds: ask --help has them.
 ";
 
 /// What `ask why --help` says.
-pub const WHY_HELP: &str = "usage: ask why [--arch ARCH] 'CALL(ARG, ..)' FILE..
+pub const WHY_HELP: &str = "usage: ask why [--json] [--arch ARCH] 'CALL(ARG, ..)' FILE..
 The instructions of each filter that one call of x86-64, or of ARCH, comes to, the newest filter first: the place, the
 instruction, what A and X hold behind it, what a jump compared and where it went; then the verdict, and the filter and the place
 that it comes from.
 CALL is a name or a number, decimal or 0x and hexadecimal; an ARG, of at most six, a number of 64 bits, - and one of at most 2^63, or
 numbers and constants of Linux's headers with | between them, as SOCK_RAW|SOCK_CLOEXEC. A text in double quotes is an address that is
 not 0. Arguments that are not given are 0, and so is the instruction pointer.
+  --json        one JSON document in place of the text, whose form is in FORMATS.md
   --arch ARCH   a call of this architecture: ask --help has their names; s390x is not followed
 A FILE may be a profile, and then --cap, --kernel, --machine, --native, --runc and --strict say how it holds: ask --help has them.
 ";
@@ -155,9 +169,10 @@ A FILE may be a profile, and then --cap, --kernel, --machine, --native, --runc a
 ";
 
 /// What `ask arches --help` says.
-pub const ARCHES_HELP: &str = "usage: ask arches FILE..
+pub const ARCHES_HELP: &str = "usage: ask arches [--json] FILE..
 For each architecture, and for any other, the verdict of the filters in the FILEs on all its calls, or that they are judged call
 by call. The calls of x86-64 are those with numbers below 0x40000000, and those of x32 have the numbers behind, to 0x7fffffff.
+  --json        one JSON document in place of the text, whose form is in FORMATS.md
 Status 1 and a line that begins with warning where calls of i386 or x32, which a Linux of x86-64 takes too, are judged by the
 numbers of x86-64.
 A FILE may be a profile, and then --cap, --kernel, --machine, --native, --runc and --strict say how it holds: ask --help has them.

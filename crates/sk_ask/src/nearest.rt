@@ -3,11 +3,14 @@ ghost use Rattle.std.specs.Prelude.{◌≡◌, if◌then◌else◌, Some, IfOk, 
 ghost use Rattle.std.specs.List.{filter_map};
 ghost use Rattle.std.specs.Option.{option_map};
 ghost use Rattle.sk_names.specs.Names.{name_on};
-ghost use Rattle.sk_ask.specs.Nearest.{call_names, distance, meant_text, nearer_than, nearest, no_call_named, of_unknown};
+ghost use Rattle.sk_names.specs.Architectures.{text_of};
+ghost use Rattle.sk_profile_json.specs.Machines.{own_of};
+ghost use Rattle.sk_ask.specs.Nearest.{architecture_names, call_names, capability_names, distance, machine_names, meant_text, nearer_than, nearest, no_call_named, of_unknown};
 
 use crate::complaint::shown;
 use crate::other_names::bare_name;
 use sk_names::{Architecture, name, numbers};
+use sk_profile_json::{Machine, capability};
 use std::alloc::{AllocError, Global};
 use strsim::generic_damerau_levenshtein;
 
@@ -76,6 +79,51 @@ fn names_of(
         if let Some(name) = name(architecture, *number) {
             names.push(name)?;
         }
+    }
+    Ok(names)
+}
+
+/// The names of all architectures.
+pub(crate) fn architecture_names(alloc: Global) -> Result<Vec<&'static str>, AllocError>
+    ensures names { IfOk result (λ names. map (λ name. name.now) names.items ≡ architecture_names) }
+{
+    texts_of(alloc, &Architecture::ALL)
+}
+
+fn texts_of(alloc: Global, all: &[Architecture]) -> Result<Vec<&'static str>, AllocError>
+    ensures names { IfOk result (λ names. map (λ name. name.now) names.items ≡ map text_of all.now) }
+{
+    let mut names = Vec::new(alloc);
+    for architecture in all {
+        names.push(architecture.text())?;
+    }
+    Ok(names)
+}
+
+/// The names of all machines that filters of profiles are made for.
+pub(crate) fn machine_names(alloc: Global) -> Result<Vec<&'static str>, AllocError>
+    ensures names { IfOk result (λ names. map (λ name. name.now) names.items ≡ machine_names) }
+{
+    own_texts_of(alloc, &Machine::ALL)
+}
+
+fn own_texts_of(alloc: Global, all: &[Machine]) -> Result<Vec<&'static str>, AllocError>
+    ensures names { IfOk result (λ names. map (λ name. name.now) names.items ≡ map (λ machine. text_of (own_of machine)) all.now) }
+{
+    let mut names = Vec::new(alloc);
+    for machine in all {
+        names.push(machine.own().text())?;
+    }
+    Ok(names)
+}
+
+/// The names of all capabilities.
+pub(crate) fn capability_names(alloc: Global) -> Result<Vec<&'static str>, AllocError>
+    ensures names { IfOk result (λ names. map (λ name. name.now) names.items ≡ capability_names) }
+{
+    let mut names = Vec::new(alloc);
+    if let Some(all) = capability(b"all") {
+        names.extend_from_slice(all)?;
     }
     Ok(names)
 }

@@ -6,6 +6,7 @@ ghost use Rattle.sk_ask.specs.Calls.{AreAskedCalls, AreNoCalls};
 
 use crate::nearest::no_call_named;
 use crate::other_names::bare_name;
+use crate::printing::Printing;
 use crate::{Filters, Trouble};
 use sk_arguments::Naming;
 use sk_filter::Chain;
@@ -15,12 +16,13 @@ use sk_replay::call_named;
 use sk_survey::chain_for;
 use std::alloc::{AllocError, Global};
 
-/// What is asked of chains: by which analysis, of which architecture's calls, and how numbers are written.
+/// What is asked of chains: by which analysis, of which architecture's calls, how numbers are written, and how all is printed.
 #[derive(Drop)]
 pub struct On<'a, A> {
     pub analysis: &'a A,
     pub architecture: Architecture,
     pub naming: Naming,
+    pub printing: Printing,
 }
 
 /// The architecture that is asked of.

@@ -6,9 +6,12 @@ ghost use Rattle.sk_ask.specs.Replays.{OfLog, replayed};
 ghost use Rattle.sk_ask.specs.Troubles.{OfFiles, OfFirst};
 
 use crate::answer::{Answer, Tells};
+use crate::printing::Printing;
 use crate::words::first_name;
 use crate::{Filters, MOST_LOG_BYTES, Reader, Shelf, Trouble, about, content};
+use sk_document::replay_document;
 use sk_names::Architecture;
+use sk_replay::replay_text;
 use std::alloc::Global;
 
 /// What is said of a log without a call.
@@ -17,6 +20,7 @@ const NO_CALL: &str = "holds no call: expected lines as strace -f -X raw -e raw=
 /// `ask replay`, behind the file of this name, which holds the log.
 #[derive(Drop)]
 pub struct Replay<'a> {
+    pub printing: Printing,
     pub architecture: Architecture,
     pub name: &'a str,
     pub log: Vec<u8>,
@@ -26,17 +30,21 @@ impl Tells for Replay<'_> {
     ghost use Rattle.sk_ask.specs.Endings.{ComesTo};
     ghost use Rattle.sk_ask.specs.Replays.{replayed};
 
-    ghost tells = { λ it read ending. ComesTo (replayed it.architecture it.name.now it.log.items read.chain read.notes) ending };
+    ghost tells = { λ it read ending. ComesTo (replayed it.printing it.architecture it.name.now it.log.items read.chain read.notes) ending };
 
     fn told(self, alloc: Global, filters: Filters) -> Result<Answer, Trouble> {
         let replay = sk_replay::replay(alloc, self.architecture, &self.log, &filters.chain)?;
-        if replay.calls == 0 {
+        if replay.rows.is_empty() {
             return Err(Trouble::Refused(about(alloc, self.name, NO_CALL)?));
         }
+        let text = match self.printing {
+            Printing::Text => replay_text(alloc, self.architecture, &replay)?.into_bytes(),
+            Printing::Document => replay_document(alloc, self.architecture, &replay)?,
+        };
         Ok(Answer {
-            text: replay.text.into_bytes(),
+            text,
             notes: filters.notes,
-            denies: replay.denies,
+            denies: replay.denies(),
         })
     }
 }
@@ -47,17 +55,19 @@ pub fn replay_answer<S: Shelf>(
     names: &[String],
     reader: &Reader<'_, S>,
     architecture: Architecture,
+    printing: Printing,
     reads: &mut u64,
 ) -> Result<Answer, Trouble>
     requires named { 1 ≤ length names.now }
     ensures told { OfFirst (map string_bytes names.now) (ending_of result) (λ name others. OfLog (S.held reader.now.shelf.now) name (ending_of result) (λ log.
         OfFiles reader.now.manner (S.held reader.now.shelf.now) reader.now.context.now others (ending_of result) (λ read.
-        ComesTo (replayed architecture name log read.chain read.notes) (ending_of result)))) }
+        ComesTo (replayed printing architecture name log read.chain read.notes) (ending_of result)))) }
     ensures counted { CountsReads result reads.old reads.new }
 {
     let (name, files) = first_name(names);
     let log = content(alloc, reader.shelf, reads, name, MOST_LOG_BYTES)?;
     let replay = Replay {
+        printing,
         architecture,
         name,
         log,

@@ -19,6 +19,7 @@ use crate::filter::Filter;
 use crate::lint::lint_answer;
 use crate::manner::manner_of;
 use crate::on::{On, architecture_of, asked_calls, naming_asked};
+use crate::printing::printing_asked;
 use crate::replay::replay_answer;
 use crate::show::Show;
 use crate::when::When;
@@ -52,6 +53,7 @@ pub fn asked_answer<S: Shelf, A: Analysis>(
         analysis,
         architecture,
         naming: naming_asked(asked.numbers),
+        printing: printing_asked(asked.json),
     };
     by_word(
         alloc,
@@ -79,15 +81,17 @@ fn by_word<S: Shelf, A: Analysis>(
     requires manner { reader.now.manner ≡ manner_of (question_of asked.now) }
     ensures told { AnswersQuestion (S.held reader.now.shelf.now) (A.may_spend on.entry.analysis.now) (question_of asked.now) reader.now.context.now
         (OfFiles reader.now.manner (S.held reader.now.shelf.now) reader.now.context.now)
-        on.entry.architecture calls.now on.entry.naming word (map string_bytes names.now) (ending_of result) }
+        on.entry.architecture calls.now on.entry.naming on.entry.printing word (map string_bytes names.now) (ending_of result) }
     ensures counted { CountsReads result reads.old reads.new }
 {
-    let architecture = on.architecture;
+    let (architecture, printing) = (on.architecture, on.printing);
+    let only = asked.only.as_slice();
     match word {
         Word::Calls { examples } => {
             let calls = Calls {
                 on,
                 calls,
+                only,
                 examples,
             };
             reader.answer(alloc, reads, names, calls)
@@ -101,14 +105,22 @@ fn by_word<S: Shelf, A: Analysis>(
             };
             reader.answer(alloc, reads, names, filter)
         }
-        Word::When { dot } => reader.answer(alloc, reads, names, When { on, calls, dot }),
+        Word::When { dot } => {
+            let when = When {
+                on,
+                calls,
+                only,
+                dot,
+            };
+            reader.answer(alloc, reads, names, when)
+        }
         Word::Diff { stricter } => diff_answer(alloc, names, reader, on, stricter, reads),
         Word::Expect => expect_answer(alloc, asked, names, reader.shelf, on.analysis, reads),
         Word::Lint { all } => lint_answer(alloc, names, reader, on, all, reads),
-        Word::Replay => replay_answer(alloc, names, reader, architecture, reads),
-        Word::Why => why_answer(alloc, names, reader, architecture, reads),
+        Word::Replay => replay_answer(alloc, names, reader, architecture, printing, reads),
+        Word::Why => why_answer(alloc, names, reader, architecture, printing, reads),
         Word::Show => reader.answer(alloc, reads, names, Show { architecture }),
-        Word::Arches => reader.answer(alloc, reads, names, Arches),
+        Word::Arches => reader.answer(alloc, reads, names, Arches { printing }),
         Word::Check => check_answer(alloc, names, reader, reads),
     }
 }

@@ -7,35 +7,61 @@ ghost use Rattle.sk_ask.specs.OtherNames.{bare_name};
 ghost use Rattle.sk_ask.specs.Counts.{CountsReads};
 ghost use Rattle.sk_ask.specs.Endings.{ending_of};
 ghost use Rattle.sk_ask.specs.Troubles.{OfFiles, OfFirst};
-ghost use Rattle.sk_ask.specs.Whys.{IsFaultOf, OfMeant, TellsWhyOf, fault_line, no_call_line, other_line};
+ghost use Rattle.sk_ask.specs.Whys.{IsFaultOf, IsWhyPrinted, OfMeant, TellsWhyOf, fault_line, no_call_line, other_line};
 
 use crate::answer::{Answer, Tells};
 use crate::nearest::no_call_named;
 use crate::other_names::bare_name;
+use crate::printing::Printing;
 use crate::words::first_name;
 use crate::{Filters, Reader, Shelf, Trouble, of_word};
+use sk_document::why_document;
+use sk_filter::Chain;
 use sk_insn::Record;
 use sk_names::Architecture;
 use sk_replay::{CallFault, call_in, name_part, plain_word};
+use sk_show::why;
 use std::alloc::{AllocError, Global};
 
 /// `ask why`, behind the call.
 #[derive(Drop)]
 pub struct Why {
+    pub printing: Printing,
     pub architecture: Architecture,
     pub call: Record,
 }
 
 impl Tells for Why {
-    ghost tells = { λ it read ending. TellsWhyOf it.architecture it.call read.chain read.notes ending };
+    ghost tells = { λ it read ending. TellsWhyOf it.printing it.architecture it.call read.chain read.notes ending };
 
     fn told(self, alloc: Global, filters: Filters) -> Result<Answer, Trouble> {
-        let text = sk_show::why(alloc, self.architecture, &filters.chain, &self.call)?;
+        let text = printed(
+            alloc,
+            self.printing,
+            self.architecture,
+            &filters.chain,
+            &self.call,
+        )?;
         Ok(Answer {
-            text: text.into_bytes(),
+            text,
             notes: filters.notes,
             denies: false,
         })
+    }
+}
+
+fn printed(
+    alloc: Global,
+    printing: Printing,
+    architecture: Architecture,
+    chain: &Chain,
+    call: &Record,
+) -> Result<Vec<u8>, AllocError>
+    ensures printed { IfOk result (λ text. IsWhyPrinted printing architecture chain.now call.now text.items) }
+{
+    match printing {
+        Printing::Text => Ok(why(alloc, architecture, chain, call)?.into_bytes()),
+        Printing::Document => why_document(alloc, architecture, chain, call),
     }
 }
 
@@ -45,17 +71,23 @@ pub fn why_answer<S: Shelf>(
     names: &[String],
     reader: &Reader<'_, S>,
     architecture: Architecture,
+    printing: Printing,
     reads: &mut u64,
 ) -> Result<Answer, Trouble>
     requires named { 1 ≤ length names.now }
     ensures told { OfFirst (map string_bytes names.now) (ending_of result) (λ word others. OfMeant architecture word others (ending_of result) (λ call.
         OfFiles reader.now.manner (S.held reader.now.shelf.now) reader.now.context.now others (ending_of result) (λ read.
-        TellsWhyOf architecture call read.chain read.notes (ending_of result)))) }
+        TellsWhyOf printing architecture call read.chain read.notes (ending_of result)))) }
     ensures counted { CountsReads result reads.old reads.new }
 {
     let (word, files) = first_name(names);
     let call = meant(alloc, architecture, word, files)?;
-    reader.answer(alloc, reads, files, Why { architecture, call })
+    let it = Why {
+        printing,
+        architecture,
+        call,
+    };
+    reader.answer(alloc, reads, files, it)
 }
 
 // The call that a word before others stands for.

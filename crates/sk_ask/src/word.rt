@@ -2,7 +2,7 @@
 ghost use Rattle.std.specs.Prelude.{◌≡◌, IfOk, filter, map};
 ghost use Rattle.std.specs.List.{list_any};
 ghost use Rattle.std.specs.Str.{bytes_eq};
-ghost use Rattle.sk_ask.specs.Asking.{asks_help, asks_version, has_option, options_of, shared_flags, valued_name, valued_named, value_kind, tells_calls, tells_conditions, tells_of_one, with_own_flag, with_target, word_named, writes_filters, word_name};
+ghost use Rattle.sk_ask.specs.Asking.{asks_help, asks_version, has_option, is_of_another, options_meant, options_of, shared_flags, valued_name, valued_named, value_kind, tells_calls, tells_conditions, tells_of_one, with_own_flag, with_target, word_named, writes_documents, writes_filters, word_name};
 
 use crate::target::Target;
 use sk_text::is_same;
@@ -41,7 +41,7 @@ pub const NAMES: [&str; 11] = [
 ];
 
 /// The names of all options, those of several words first.
-pub const OPTIONS: [&str; 17] = [
+pub const OPTIONS: [&str; 19] = [
     "--help",
     "--arch",
     "--cap",
@@ -51,7 +51,9 @@ pub const OPTIONS: [&str; 17] = [
     "--runc",
     "--strict",
     "--numbers",
+    "--json",
     "--call",
+    "--only",
     "--examples",
     "--to",
     "--raw",
@@ -156,6 +158,8 @@ impl Word {
 pub enum Valued {
     /// The only call that is asked of.
     Call,
+    /// The only verdict that is looked for.
+    Only,
     /// A capability that is held where profiles are to hold.
     Cap,
     /// The version of the kernel there.
@@ -174,6 +178,7 @@ impl Valued {
     {
         match self {
             Valued::Call => "--call",
+            Valued::Only => "--only",
             Valued::Cap => "--cap",
             Valued::Kernel => "--kernel",
             Valued::Machine => "--machine",
@@ -188,6 +193,7 @@ impl Valued {
     {
         match self {
             Valued::Call => "a name or a number",
+            Valued::Only => "a verdict as allow or errno/1",
             Valued::Cap | Valued::Machine | Valued::Arch => "a name",
             Valued::Kernel => "a version as 6.1",
             Valued::To => "raw, hex, lines, c, base64, bpf_asm or json",
@@ -200,6 +206,8 @@ impl Valued {
     {
         if tells_calls(word) && is_same(name, b"--call") {
             Some(Valued::Call)
+        } else if tells_calls(word) && is_same(name, b"--only") {
+            Some(Valued::Only)
         } else if is_same(name, b"--cap") {
             Some(Valued::Cap)
         } else if is_same(name, b"--kernel") {
@@ -232,7 +240,7 @@ pub(crate) fn asks_version(text: &[u8]) -> bool
 
 // The options that a word has.
 #[tactic(auto, unfolding(crate::specs::Asking::options_of))]
-pub(crate) fn options_of(alloc: Global, word: Word) -> Result<Vec<&'static str>, AllocError>
+fn options_of(alloc: Global, word: Word) -> Result<Vec<&'static str>, AllocError>
     ensures options { IfOk result (λ options. map (λ name. name.now) options.items ≡ options_of word) }
 {
     options_among(alloc, word, &OPTIONS)
@@ -254,6 +262,34 @@ fn options_among(
     Ok(options)
 }
 
+// The options of a word that may be meant by what is none of them.
+pub(crate) fn options_meant(
+    alloc: Global,
+    word: Word,
+    text: &[u8],
+) -> Result<Vec<&'static str>, AllocError>
+    ensures options { IfOk result (λ options. map (λ name. name.now) options.items ≡ options_meant word text.now) }
+{
+    if is_of_another(word, text) {
+        return Ok(Vec::new(alloc));
+    }
+    options_of(alloc, word)
+}
+
+// Whether another word has this option, and this one has not.
+#[tactic(auto, unfolding(crate::specs::Asking::is_of_another))]
+fn is_of_another(word: Word, text: &[u8]) -> bool
+    ensures another { result ≡ is_of_another word text.now }
+{
+    is_one_of(text, &OPTIONS) && !has_option(word, text)
+}
+
+fn is_one_of(text: &[u8], names: &[&'static str]) -> bool
+    ensures among { result ≡ list_any (λ name. bytes_eq name.now text.now) names.now }
+{
+    names.iter().any(|name| is_same(name.as_bytes(), text))
+}
+
 fn has_option(word: Word, text: &[u8]) -> bool
     ensures has { result ≡ has_option word text.now }
 {
@@ -261,6 +297,7 @@ fn has_option(word: Word, text: &[u8]) -> bool
         || word.with_own_flag(text).is_some()
         || is_shared(text)
         || tells_conditions(word) && is_same(text, b"--numbers")
+        || writes_documents(word) && is_same(text, b"--json")
 }
 
 // Whether it is an option without a word behind it that all have.
@@ -286,6 +323,23 @@ pub(crate) fn tells_conditions(word: Word) -> bool
     matches!(
         word,
         Word::When { .. } | Word::Diff { .. } | Word::Expect | Word::Lint { .. }
+    )
+}
+
+// Whether what it tells can be told by a JSON document.
+pub(crate) fn writes_documents(word: Word) -> bool
+    ensures writes { result ≡ writes_documents word }
+{
+    matches!(
+        word,
+        Word::Calls { .. }
+            | Word::When { .. }
+            | Word::Diff { .. }
+            | Word::Expect
+            | Word::Lint { .. }
+            | Word::Replay
+            | Word::Why
+            | Word::Arches
     )
 }
 

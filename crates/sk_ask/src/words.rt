@@ -3,17 +3,18 @@ ghost use Rattle.std.specs.Prelude.{◌≡◌, ◌≤◌, ◌++◌, ◌∷◌, I
 ghost use Rattle.std.specs.List.{before_first, after_first, slice_split};
 ghost use Rattle.sk_profile_json.specs.Capabilities.{capability};
 ghost use Rattle.sk_profile_json.specs.Machines.{machine_named};
-ghost use Rattle.sk_ask.specs.Asking.{asked_of, nothing_asked, ends_options, with_names, with_word, with_free, with_joined_or_flag, with_joined, is_equals, with_valued, with_value, with_caps, with_each_cap, is_comma, with_form, with_kernel, with_machine, with_architecture, with_flag, with_name, is_given, valued_named, expected_line, is_option, no_machine_line, options_of, word_name};
-ghost use Rattle.sk_ask.specs.Nearest.{of_unknown};
+ghost use Rattle.sk_ask.specs.Asking.{asked_of, nothing_asked, ends_options, with_names, with_word, with_free, with_joined_or_flag, with_joined, is_equals, with_valued, with_value, with_caps, with_only, with_each_cap, is_comma, with_form, with_kernel, with_machine, with_architecture, with_flag, with_name, is_given, valued_named, expected_line, is_option, no_capability_line, no_machine_line, no_option_line, word_name};
+ghost use Rattle.sk_ask.specs.Nearest.{architecture_names, of_unknown};
 ghost use Rattle.sk_ask.specs.OtherNames.{architecture_meant};
 ghost use Rattle.sk_ask.specs.Asked.{question_of, Asks, HasNames};
 ghost use Rattle.sk_ask.specs.declared.word.Valued.TheVariants.{Call};
 
 use crate::complete::{ended, is_turned, turned_line};
-use crate::nearest::of_unknown;
+use crate::nearest::{architecture_names, capability_names, machine_names, of_unknown};
+use crate::only::Sought;
 use crate::other_names::{architecture_meant, kernel_meant};
 use crate::target::Target;
-use crate::word::{Valued, Word, asks_help, options_of, tells_conditions};
+use crate::word::{Valued, Word, asks_help, options_meant, tells_conditions, writes_documents};
 use crate::{Trouble, of_word};
 use sk_names::Architecture;
 use sk_profile_json::{Kernel, Machine, capability};
@@ -26,6 +27,8 @@ pub struct Asked {
     pub word: Word,
     /// The words behind each `--call`.
     pub calls: Vec<String>,
+    /// The verdicts behind each `--only`.
+    pub only: Vec<Sought>,
     /// The names of the capabilities behind each `--cap`.
     pub caps: Vec<&'static str>,
     /// The version behind `--kernel`.
@@ -38,6 +41,8 @@ pub struct Asked {
     pub awaits: Option<Valued>,
     /// Numbers are wanted, and no constants.
     pub numbers: bool,
+    /// A JSON document is wanted, and no text.
+    pub json: bool,
     /// The machine's own architecture stands alone.
     pub native: bool,
     /// runc attaches the filter.
@@ -65,12 +70,14 @@ pub fn asked_in(alloc: Global, word: Word, words: &[String]) -> Result<Asked, Tr
     let mut asked = Asked {
         word,
         calls: Vec::new(alloc),
+        only: Vec::new(alloc),
         caps: Vec::new(alloc),
         kernel: None,
         machine: None,
         arch: None,
         awaits: None,
         numbers: false,
+        json: false,
         native: false,
         runc: false,
         strict: false,
@@ -129,6 +136,7 @@ fn with_value(alloc: Global, option: Valued, asked: Asked, text: &str) -> Result
 {
     match option {
         Valued::Call => Ok(with_call(alloc, asked, text)?),
+        Valued::Only => with_only(alloc, asked, Sought::named(text.as_bytes())),
         Valued::Cap => with_each_cap(alloc, asked, text),
         Valued::Kernel => with_kernel(alloc, asked, kernel_meant(text.as_bytes())),
         Valued::Machine => with_machine(alloc, asked, text.as_bytes()),
@@ -146,6 +154,20 @@ fn with_call(alloc: Global, asked: Asked, text: &str) -> Result<Asked, AllocErro
     };
     let call = String::from_str(alloc, text)?;
     asked.calls.push(call)?;
+    Ok(asked)
+}
+
+fn with_only(alloc: Global, asked: Asked, sought: Option<Sought>) -> Result<Asked, Trouble>
+    ensures exact { Asks result (with_only (question_of asked) sought) }
+{
+    let Some(sought) = sought else {
+        return Err(Trouble::Refused(expected_line(alloc, asked.word, Valued::Only)?));
+    };
+    let mut asked = Asked {
+        awaits: None,
+        ..asked
+    };
+    asked.only.push(sought)?;
     Ok(asked)
 }
 
@@ -167,8 +189,7 @@ fn with_caps(alloc: Global, asked: Asked, text: &[u8]) -> Result<Asked, Trouble>
     ensures exact { Asks result (with_caps (question_of asked) text.now (capability text.now)) }
 {
     let Some(names) = capability(text) else {
-        let what = format!(in alloc; "{}: no capability is named ", asked.word.name())?;
-        return Err(Trouble::Refused(of_word(alloc, &what, text)?));
+        return Err(Trouble::Refused(no_capability_line(alloc, asked.word, text)?));
     };
     let mut asked = Asked {
         awaits: None,
@@ -176,6 +197,15 @@ fn with_caps(alloc: Global, asked: Asked, text: &[u8]) -> Result<Asked, Trouble>
     };
     asked.caps.extend_from_slice(names)?;
     Ok(asked)
+}
+
+// What is said of a word that names no capability.
+fn no_capability_line(alloc: Global, word: Word, text: &[u8]) -> Result<Vec<u8>, AllocError>
+    ensures line { IfOk result (λ line. line.items ≡ no_capability_line word text.now) }
+{
+    let what = format!(in alloc; "{}: no capability is named ", word.name())?;
+    let sought = text.to_ascii_uppercase(alloc)?;
+    of_unknown(alloc, &what, text, &sought, &capability_names(alloc)?)
 }
 
 fn with_kernel(alloc: Global, asked: Asked, kernel: Option<Kernel>) -> Result<Asked, Trouble>
@@ -213,7 +243,7 @@ fn no_machine_line(alloc: Global, word: Word, text: &[u8]) -> Result<Vec<u8>, Al
         return turned_line(alloc, word, b"--machine s390x");
     }
     let what = format!(in alloc; "{}: no machine is named ", word.name())?;
-    of_word(alloc, &what, text)
+    of_unknown(alloc, &what, text, text, &machine_names(alloc)?)
 }
 
 fn with_architecture(alloc: Global, asked: Asked, text: &[u8]) -> Result<Asked, Trouble>
@@ -221,14 +251,22 @@ fn with_architecture(alloc: Global, asked: Asked, text: &[u8]) -> Result<Asked, 
 {
     let arch = architecture_meant(text);
     if arch.is_none() {
-        let what = format!(in alloc; "{}: no architecture is named ", asked.word.name())?;
-        return Err(Trouble::Refused(of_word(alloc, &what, text)?));
+        return Err(Trouble::Refused(no_architecture_line(alloc, asked.word, text)?));
     }
     Ok(Asked {
         arch,
         awaits: None,
         ..asked
     })
+}
+
+// What is said of a word that names no architecture.
+fn no_architecture_line(alloc: Global, word: Word, text: &[u8]) -> Result<Vec<u8>, AllocError>
+    ensures line { IfOk result (λ line.
+        line.items ≡ of_unknown (word_name word ++ codes ": no architecture is named ") text.now text.now architecture_names) }
+{
+    let what = format!(in alloc; "{}: no architecture is named ", word.name())?;
+    of_unknown(alloc, &what, text, text, &architecture_names(alloc)?)
 }
 
 fn with_form(alloc: Global, asked: Asked, target: Option<Target>) -> Result<Asked, Trouble>
@@ -317,7 +355,7 @@ fn is_given(option: Valued, asked: &Asked) -> bool
     ensures given { result ≡ is_given option (question_of asked.now) }
 {
     match option {
-        Valued::Call | Valued::Cap => false,
+        Valued::Call | Valued::Only | Valued::Cap => false,
         Valued::Kernel => asked.kernel.is_some(),
         Valued::Machine => asked.machine.is_some(),
         Valued::Arch => asked.arch.is_some(),
@@ -352,6 +390,12 @@ fn with_flag(alloc: Global, asked: Asked, text: &String) -> Result<Asked, Troubl
             ..asked
         });
     }
+    if writes_documents(asked.word) && is_same(text.as_bytes(), b"--json") {
+        return Ok(Asked {
+            json: true,
+            ..asked
+        });
+    }
     match asked.word.with_own_flag(text.as_bytes()) {
         Some(word) => Ok(Asked { word, ..asked }),
         None => with_name(alloc, asked, text),
@@ -371,8 +415,7 @@ fn with_name(alloc: Global, asked: Asked, text: &String) -> Result<Asked, Troubl
 
 // The line that says that this is no option of a word.
 fn no_option_line(alloc: Global, word: Word, text: &str) -> Result<Vec<u8>, AllocError>
-    ensures line { IfOk result (λ line. line.items ≡ of_unknown (word_name word ++ codes ": no option is named ") text.now (before_first is_equals text.now)
-        (options_of word)) }
+    ensures line { IfOk result (λ line. line.items ≡ no_option_line word text.now (before_first is_equals text.now)) }
 {
     let what = format!(in alloc; "{}: no option is named ", word.name())?;
     let sought = before_equals(text).as_bytes();
@@ -381,7 +424,7 @@ fn no_option_line(alloc: Global, word: Word, text: &str) -> Result<Vec<u8>, Allo
         &what,
         text.as_bytes(),
         sought,
-        &options_of(alloc, word)?,
+        &options_meant(alloc, word, sought)?,
     )
 }
 

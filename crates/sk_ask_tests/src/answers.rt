@@ -45,6 +45,20 @@ const ANSWERS: &[(&str, &str)] = &[
         "when --numbers --call socket wide",
         "41 socket\n  errno/22 EINVAL where args[0] == 0x10 && args[2] == 0x9\n  allow else\n",
     ),
+    (
+        "calls --call getpid --only errno --call read getpid",
+        "39 getpid errno/1 EPERM\n",
+    ),
+    (
+        "calls --only=errno/EPERM --only trap/5 --call 39 getpid",
+        "39 getpid errno/1 EPERM\n",
+    ),
+    ("calls --only errno/2 --call getpid getpid", ""),
+    (
+        "when flag --only errno/38 --call 0",
+        "0 read\n  allow where (args[0] & 0x1) == 0\n  errno/38 ENOSYS else\n",
+    ),
+    ("when flag --call 0 --only trap", ""),
     ("diff getpid getpid", "the same on every call\n"),
     ("diff all --stricter getpid", "as strict on every call\n"),
     (

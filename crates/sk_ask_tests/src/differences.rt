@@ -3,7 +3,7 @@ use crate::whens::chain_of;
 use sk_arguments::Naming;
 use sk_filter::Chain;
 use sk_names::Architecture;
-use sk_when::{Budgets, Comparison, Finding, Relation, diff};
+use sk_when::{Budgets, Comparison, Finding, Names, Relation, comparison_text, diff};
 use std::alloc::{AllocError, Global};
 use std::test::Fail;
 
@@ -36,22 +36,28 @@ fn lines_that_begin(text: &str, start: &str) -> usize {
         .count()
 }
 
+// What is found of all calls of x86-64, and its text.
 fn compared(
     alloc: Global,
     relation: Relation,
     old: &Chain,
     new: &Chain,
-) -> Result<Comparison, AllocError> {
+) -> Result<(Finding, String), AllocError> {
+    let names = Names {
+        naming: Naming::Constants,
+        architecture: Architecture::X86_64,
+    };
     let budgets = &mut Budgets::of_rows(1);
-    diff(
+    let Comparison { finding, pieces } = diff(
         alloc,
-        Naming::Constants,
-        Architecture::X86_64,
+        names.architecture,
         relation,
         old,
         new,
         budgets,
-    )
+    )?;
+    let text = comparison_text(alloc, names, relation, finding, &pieces)?;
+    Ok((finding, text))
 }
 
 // 6 is the one number of which they say otherwise: of no other way through both filters there is a call.
@@ -60,20 +66,19 @@ fn the_one_call_is_shown(rt: HostRuntime) -> Result<(), Fail> {
     let alloc = rt.alloc();
     let old = chain_of(alloc, AT_MOST_FIVE)?;
     let new = chain_of(alloc, AT_MOST_SIX)?;
-    let looser = compared(alloc, Relation::AsStrict, &old, &new)?;
-    let stricter = compared(alloc, Relation::AsStrict, &new, &old)?;
-    let text = looser.text.as_str();
+    let (looser, text) = compared(alloc, Relation::AsStrict, &old, &new)?;
+    let (stricter, everywhere) = compared(alloc, Relation::AsStrict, &new, &old)?;
     assert_eq!(rt;
         (
-            looser.finding,
+            looser,
             text.starts_with("looser:\n39 getpid: errno/1 EPERM -> allow where "),
             text.contains("\n  syscall(SYS_getpid, 0x6, "),
-            lines_that_begin(text, ""),
+            lines_that_begin(&text, ""),
         ),
         (Finding::Fails, true, true, 5)
     );
     assert_eq!(rt;
-        (stricter.finding, stricter.text.as_str()),
+        (stricter, everywhere.as_str()),
         (Finding::Holds, "as strict on every call\n")
     );
     Ok(())
@@ -84,15 +89,14 @@ fn the_one_call_is_shown(rt: HostRuntime) -> Result<(), Fail> {
 fn many_numbers_are_decided(rt: HostRuntime) -> Result<(), Fail> {
     let alloc = rt.alloc();
     let (old, new) = (one_of_many(alloc, 16)?, one_of_many(alloc, 24)?);
-    let told = compared(alloc, Relation::Same, &old, &new)?;
-    let text = told.text.as_str();
+    let (finding, text) = compared(alloc, Relation::Same, &old, &new)?;
     assert_eq!(rt;
         (
-            told.finding,
+            finding,
             text.starts_with("looser:\n39 getpid: errno/1 EPERM -> allow where "),
             text.contains("\nstricter:\n39 getpid: allow -> errno/1 EPERM where "),
             text.contains("undecided"),
-            lines_that_begin(text, "39 getpid: ") == lines_that_begin(text, "  record ")
+            lines_that_begin(&text, "39 getpid: ") == lines_that_begin(&text, "  record ")
         ),
         (Finding::Fails, true, true, false, true)
     );

@@ -55,6 +55,7 @@ const FILES: &[(&str, &[u8])] = &[
     ),
     ("cut", b"7 getpid() = 0x7\n7 read(0x3, 0x7f\n"),
     ("empty", b""),
+    ("wanted", b"read: performed\n"),
     (
         "sixteen",
         b"filter 060000000000ff7f\nfilter 060000000000ff7f\nfilter 060000000000ff7f\nfilter 060000000000ff7f\nfilter 060000000000ff7f\nfilter 060000000000ff7f\nfilter 060000000000ff7f\nfilter 060000000000ff7f\nfilter 060000000000ff7f\nfilter 060000000000ff7f\nfilter 060000000000ff7f\nfilter 060000000000ff7f\nfilter 060000000000ff7f\nfilter 060000000000ff7f\nfilter 060000000000ff7f\nfilter 060000000000ff7f",

@@ -4,7 +4,7 @@ use sk_filter::{Chain, check};
 use sk_insn::read_insns;
 use sk_names::Architecture;
 use sk_policy_text::{Expectations, expectations, made, refusal_text};
-use sk_when::{Budgets, Comparison, Finding, Relation, diff};
+use sk_when::{Budgets, Comparison, Finding, Names, Relation, comparison_text, diff};
 use std::alloc::Global;
 use std::test::Fail;
 
@@ -121,7 +121,8 @@ fn expected(alloc: Global, text: &str) -> Result<Expectations, Fail> {
     }
 }
 
-fn compared(alloc: Global, wanted: &str, policy: &str) -> Result<Comparison, Fail> {
+// What is found of all calls of the text's architecture, and its text.
+fn compared(alloc: Global, wanted: &str, policy: &str) -> Result<(Finding, String), Fail> {
     let expected = expected(alloc, wanted)?;
     let Ok(image) = made(alloc, policy.as_bytes()) else {
         return Err(Fail::from("no filter"));
@@ -129,34 +130,38 @@ fn compared(alloc: Global, wanted: &str, policy: &str) -> Result<Comparison, Fai
     let audit = expected.architecture.audit();
     let old = sk_survey::chain_for(alloc, &chain_of(alloc, &expected.image)?, audit)?;
     let new = sk_survey::chain_for(alloc, &chain_of(alloc, &image)?, audit)?;
-    let comparison = diff(
+    let names = Names {
+        naming: Naming::Constants,
+        architecture: expected.architecture,
+    };
+    let (relation, budgets) = (Relation::Expected, &mut Budgets::of_rows(1));
+    let Comparison { finding, pieces } = diff(
         alloc,
-        Naming::Constants,
-        expected.architecture,
-        Relation::Expected,
+        names.architecture,
+        relation,
         &old,
         &new,
-        &mut Budgets::of_rows(1),
+        budgets,
     )?;
-    Ok(comparison)
+    let text = comparison_text(alloc, names, relation, finding, &pieces)?;
+    Ok((finding, text))
 }
 
 #[test]
 fn expectations_of_policies(rt: HostRuntime) -> Result<(), Fail> {
     for (wanted, policy, first, failures) in ROWS {
-        let comparison = compared(rt.alloc(), wanted, policy)?;
+        let (found, text) = compared(rt.alloc(), wanted, policy)?;
         let finding = if *failures == 0 {
             Finding::Holds
         } else {
             Finding::Fails
         };
-        let text = comparison.text.as_str();
         let told = text
             .split('\n')
             .filter(|line| line.contains(": expected "))
             .count();
         assert_eq!(rt;
-            (comparison.finding, text.split('\n').next(), told),
+            (found, text.split('\n').next(), told),
             (finding, Some(*first), *failures),
             "{wanted} of {policy}"
         );

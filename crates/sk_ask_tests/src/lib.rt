@@ -11,6 +11,8 @@ mod arguments;
 #[cfg(test)]
 mod differences;
 #[cfg(test)]
+mod documents;
+#[cfg(test)]
 mod ends;
 #[cfg(test)]
 mod expectations;

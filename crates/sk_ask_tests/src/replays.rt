@@ -1,7 +1,7 @@
 //! Logs of strace(1), each with the text and the sums of its replay through one filter.
 use crate::whens::chain_of;
 use sk_names::Architecture;
-use sk_replay::replay;
+use sk_replay::{replay, replay_text};
 use std::test::Fail;
 
 /// A filter that answers EPERM to read, whose number is 0, and allows every other call.
@@ -81,8 +81,9 @@ fn logs(rt: HostRuntime) -> Result<(), Fail> {
     let chain = chain_of(rt.alloc(), NO_READ)?;
     for &(architecture, log, text, denies, calls) in LOGS {
         let answer = replay(rt.alloc(), architecture, log, &chain)?;
+        let written = replay_text(rt.alloc(), architecture, &answer)?;
         assert_eq!(rt;
-            (answer.text.as_str(), answer.denies, answer.calls),
+            (written.as_str(), answer.denies(), answer.rows.len()),
             (text, denies, calls)
         );
     }

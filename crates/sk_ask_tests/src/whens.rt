@@ -3,8 +3,8 @@ use sk_arguments::Naming;
 use sk_asm::assemble;
 use sk_filter::{Chain, check};
 use sk_names::Architecture;
-use sk_when::{Budget, Budgets, dot, when};
-use std::alloc::Global;
+use sk_when::{Budget, Budgets, Names, dot, told_rows, when_text};
+use std::alloc::{AllocError, Global};
 use std::test::Fail;
 
 /// The chain of one filter, from its text.
@@ -17,6 +17,19 @@ pub fn chain_of(alloc: Global, text: &[u8]) -> Result<Chain, Fail> {
         Ok(chain) => Ok(chain),
         Err((_, _, fault)) => Err(Fail::from(fault)),
     }
+}
+
+// The text for one call or for all, where so many rows may take all the steps of a row.
+fn told(
+    alloc: Global,
+    names: Names,
+    chain: &Chain,
+    call: Option<u32>,
+    most: u32,
+) -> Result<String, AllocError> {
+    let budgets = &mut Budgets::of_rows(most);
+    let rows = told_rows(alloc, names.architecture, chain, call, budgets)?;
+    when_text(alloc, names, &rows)
 }
 
 /// clone(2) with a flag that makes a namespace has an error.
@@ -88,15 +101,11 @@ fn small_filters(rt: HostRuntime) -> Result<(), Fail> {
     let alloc = rt.alloc();
     for (program, nr, wanted) in ROWS {
         let chain = chain_of(alloc, program)?;
-        let budgets = &mut Budgets::of_rows(1);
-        let text = when(
-            alloc,
-            Naming::Numbers,
-            Architecture::X86_64,
-            &chain,
-            Some(*nr),
-            budgets,
-        )?;
+        let names = Names {
+            naming: Naming::Numbers,
+            architecture: Architecture::X86_64,
+        };
+        let text = told(alloc, names, &chain, Some(*nr), 1)?;
         assert_eq!(rt; text.as_str(), *wanted, "at {wanted:?}");
     }
     Ok(())
@@ -124,15 +133,11 @@ fn constants(rt: HostRuntime) -> Result<(), Fail> {
     let alloc = rt.alloc();
     for (architecture, program, nr, wanted) in CONSTANTS {
         let chain = chain_of(alloc, program)?;
-        let budgets = &mut Budgets::of_rows(1);
-        let text = when(
-            alloc,
-            Naming::Constants,
-            *architecture,
-            &chain,
-            Some(*nr),
-            budgets,
-        )?;
+        let names = Names {
+            naming: Naming::Constants,
+            architecture: *architecture,
+        };
+        let text = told(alloc, names, &chain, Some(*nr), 1)?;
         assert_eq!(rt; text.as_str(), *wanted, "at {wanted:?}");
     }
     Ok(())
@@ -153,15 +158,11 @@ fn names(rt: HostRuntime) -> Result<(), Fail> {
     let alloc = rt.alloc();
     let chain = chain_of(alloc, b"ret allow")?;
     for (architecture, nr, wanted) in NAMES {
-        let budgets = &mut Budgets::of_rows(1);
-        let text = when(
-            alloc,
-            Naming::Constants,
-            *architecture,
-            &chain,
-            Some(*nr),
-            budgets,
-        )?;
+        let names = Names {
+            naming: Naming::Constants,
+            architecture: *architecture,
+        };
+        let text = told(alloc, names, &chain, Some(*nr), 1)?;
         assert_eq!(rt; text.as_str(), *wanted, "at {wanted:?}");
     }
     Ok(())
@@ -187,15 +188,11 @@ fn numbers_of_a_row(rt: HostRuntime) -> Result<(), Fail> {
     let alloc = rt.alloc();
     for (program, wanted) in RANGES {
         let chain = chain_of(alloc, program)?;
-        let budgets = &mut Budgets::of_rows(1000);
-        let text = when(
-            alloc,
-            Naming::Constants,
-            Architecture::X86_64,
-            &chain,
-            None,
-            budgets,
-        )?;
+        let names = Names {
+            naming: Naming::Constants,
+            architecture: Architecture::X86_64,
+        };
+        let text = told(alloc, names, &chain, None, 1000)?;
         assert!(rt; text.as_str().ends_with(wanted), "at {wanted:?}");
     }
     Ok(())

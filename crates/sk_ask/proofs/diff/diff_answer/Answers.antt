@@ -28,6 +28,6 @@ returns-clause-told g c =
     c.sides.ensures.old c.in_ok-old.ensures.read in
     let told =
     subst (λ (names : List (List ℕ)). OfFiles reader.manner held reader.context.now names end
-    (λ new. IsDiff may_spend c.args.on.naming c.args.on.architecture c.args.stricter old.chain new.chain (old.notes.items ++ new.notes) end))
+    (λ new. IsDiff may_spend c.args.on.naming c.args.on.printing c.args.on.architecture c.args.stricter old.chain new.chain (old.notes.items ++ new.notes) end))
     c.sides.ensures.new c.answer.ensures.told in
     inl (read_of old, read, told)

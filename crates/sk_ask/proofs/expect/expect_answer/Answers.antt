@@ -18,7 +18,7 @@ returns-clause-told g c =
     let may_spend = g.A.Analysis.may_spend c.args.analysis.now in
     let demands = rw (c.unmarked.ensures.text, c.deref.ensures.value) at c.in_ok-it.ensures.demands in
     is_compared held may_spend (question_of c.args.asked.now) c.in_ok-it.it _ _ _ _ c.arch_by-arch.result c.context_on-context.result
-    (ending_of c.answer.result) c.architecture_of.result c.naming_asked.result c.in_ok-notes.notes.items
+    (ending_of c.answer.result) c.architecture_of.result c.naming_asked.result c.printing_asked.result c.in_ok-notes.notes.items
     c.first_name.ensures.names c.in_ok-text.ensures.content demands c.arch_by-arch.ensures.arch c.if-is_turned.ensures.turned
-    c.context_on-context.ensures.context c.architecture_of.ensures.architecture c.naming_asked.ensures.naming c.in_ok-notes.ensures.note
+    c.context_on-context.ensures.context c.architecture_of.ensures.architecture c.naming_asked.ensures.naming c.printing_asked.ensures.printing c.in_ok-notes.ensures.note
     c.answer.ensures.told

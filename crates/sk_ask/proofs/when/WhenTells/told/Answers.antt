@@ -3,5 +3,5 @@ use Rattle.sk_ask.proofs.when.WhenTells.told.Goals as goal
 
 pub returns-clause-told : goal.returns-clause-told
 returns-clause-told g c =
-    let texts = rw c.in_ok-chain.ensures.chain at c.in_ok-text_of_each.ensures.texts in
-    inl (c.in_ok-text_of_each.field-0.items, texts, rw c.in_ok-chain.ensures.notes refl)
+    let text = rw c.in_ok-chain.ensures.chain at c.in_ok-text_of.ensures.text in
+    inl (c.in_ok-text_of.field-0.items, text, rw c.in_ok-chain.ensures.notes refl)
