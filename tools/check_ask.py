@@ -264,10 +264,15 @@ WORDS_OF_ASK = ["calls", "filter", "when", "diff", "expect", "lint", "replay", "
 OPTIONS = {
     "--help": WORDS_OF_ASK, "--arch": [it for it in WORDS_OF_ASK if it not in ("filter", "lint", "arches")],
     **{it: WORDS_OF_ASK for it in ("--cap", "--kernel", "--machine", "--native", "--runc", "--strict")},
-    "--numbers": ["when", "diff", "expect", "lint"], "--call": ["calls", "when"], "--examples": ["calls"], "--to": ["filter"],
+    "--numbers": ["when", "diff", "expect", "lint"], "--json": [it for it in WORDS_OF_ASK if it not in ("filter", "show", "check")], "--call": ["calls", "when"], "--only": ["calls", "when"], "--examples": ["calls"], "--to": ["filter"],
     "--raw": ["filter"], "--smaller": ["filter"], "--dot": ["when"], "--stricter": ["diff"], "--all": ["lint"],
 }
-UNKNOWN = re.compile(r"(?:(\w+): )?no (call|word|option) is named (.*)")
+# Capabilities by their numbers, architectures, and machines whose programs profiles are for.
+with open("/usr/include/linux/capability.h", encoding="ascii") as header:
+    CAPABILITIES = re.findall(r"#define (CAP_\w+)\s+\d+$", header.read(), re.MULTILINE)
+NAMED_ARCHITECTURES = ["x86-64", "x32", "i386", "aarch64", "arm", "riscv64", "ppc64le", "s390x", "loongarch64"]
+NAMED_MACHINES = ["x86-64", "aarch64", "riscv64", "ppc64le", "loongarch64"]
+UNKNOWN = re.compile(r"(?:(\w+): )?no (call|word|option|capability|architecture|machine) is named (.*)")
 
 
 def edits(one, other):
@@ -286,13 +291,16 @@ def edits(one, other):
 
 
 def meant(command, complaint):
-    """The question behind a complaint of an unknown name of x86-64, a word or an option: docs/FORMATS.md."""
+    """The question behind a complaint of an unknown name, of calls one of x86-64: docs/FORMATS.md."""
     unknown = UNKNOWN.fullmatch(complaint)
-    if not unknown or re.search("--arch[ =](?!x86-64|x86_64|amd64)", command):
+    if not unknown or unknown[2] == "call" and re.search("--arch[ =](?!x86-64|x86_64|amd64)", command):
         return ""
     word, kind, name = unknown.groups()
-    names = {"call": CALLS, "word": WORDS_OF_ASK, "option": [it for it, words in OPTIONS.items() if word in words]}[kind]
-    sought = re.sub("^(SYS_|__NR_)", "", name) if kind == "call" else name.partition("=")[0] if kind == "option" else name
+    names = {"call": CALLS, "word": WORDS_OF_ASK, "option": [it for it, words in OPTIONS.items() if word in words],
+             "capability": CAPABILITIES, "architecture": NAMED_ARCHITECTURES, "machine": NAMED_MACHINES}[kind]
+    sought = {"call": re.sub("^(SYS_|__NR_)", "", name), "option": name.partition("=")[0], "capability": name.upper()}.get(kind, name)
+    if kind == "option" and sought in OPTIONS and word not in OPTIONS[sought]:
+        return ""
     near = min(names, key=lambda it: edits(sought, it))
     return f": did you mean {near}?" if len(sought) <= 64 and edits(sought, near) <= (len(sought) + 2) // 4 else ""
 
@@ -590,11 +598,11 @@ GOOD = [
     good(f"echo {EACH_WORD.hex()} | ask arches -", arches("allow", "allow", "allow", NOT_FOLLOWED)),
     warned(f"echo {MASKED.hex()} | ask arches -", arches(BY_CALL, BY_CALL, BY_CALL) + JUDGED_I386),
     warned(f"echo {MASKED_EXECVE.hex()} | ask arches -", arches(BY_CALL, BY_CALL, BY_CALL) + JUDGED_I386 + JUDGED_X32),
-    good("ask arches --help | head -n 1", "usage: ask arches FILE..\n"),
+    good("ask arches --help | head -n 1", "usage: ask arches [--json] FILE..\n"),
     good("ask show --help | head -n 1", "usage: ask show [--arch ARCH] FILE\n"), good("ask show two --help | head -n 1", "usage: ask show [--arch ARCH] FILE\n"),
-    good("ask why --help | head -n 1", "usage: ask why [--arch ARCH] 'CALL(ARG, ..)' FILE..\n"),
-    good("ask replay --help | head -n 1", "usage: ask replay [--arch ARCH] LOG FILE..\n"),
-    good("ask when --help | head -n 1", "usage: ask when [--call CALL [--dot]] [--numbers] [--arch ARCH] FILE..\n"),
+    good("ask why --help | head -n 1", "usage: ask why [--json] [--arch ARCH] 'CALL(ARG, ..)' FILE..\n"),
+    good("ask replay --help | head -n 1", "usage: ask replay [--json] [--arch ARCH] LOG FILE..\n"),
+    good("ask when --help | head -n 1", "usage: ask when [--call CALL [--dot]] [--numbers] [--json] [--arch ARCH] FILE..\n"),
     warned("ask lint wide | grep -v record", LET_THROUGH), warned("ask lint --numbers wide | grep -v record", LET_THROUGH.replace("AF_NETLINK", "0x10").replace("NETLINK_ROUTE", "0x0")),
     good("ask lint narrow", CLEAN), good("ask lint wide narrow", CLEAN), good("ask lint raw", CLEAN),
     good("ask lint only", AS_STRICT + "as strict or stricter by such bits: 1 condition (--all shows it)\n"),
@@ -603,11 +611,11 @@ GOOD = [
     good("ask why 'open(\"a, b)|\", O_RDONLY)' wide | tail -n 1", "allow by filter 0 at 7\n"),
     good("ask when --call socket narrow", "41 socket\n  errno/22 EINVAL where (args[0] & 0xffffffff) == AF_NETLINK\n  allow else\n"),
     good("ask when --numbers --call socket narrow", "41 socket\n  errno/22 EINVAL where (args[0] & 0xffffffff) == 0x10\n  allow else\n"),
-    good("ask lint --help | head -n 1", "usage: ask lint [--all] [--numbers] FILE..\n"),
-    good("ask diff --help | head -n 1", "usage: ask diff [--stricter] [--numbers] [--arch ARCH] OLD NEW\n"),
-    good("ask --help | head -n 1", "usage: ask WORD ..\n"), good("ask calls --help | head -n 1", "usage: ask calls [--call CALL] [--examples] [--arch ARCH] FILE..\n"),
+    good("ask lint --help | head -n 1", "usage: ask lint [--all] [--numbers] [--json] FILE..\n"),
+    good("ask diff --help | head -n 1", "usage: ask diff [--stricter] [--numbers] [--json] [--arch ARCH] OLD NEW\n"),
+    good("ask --help | head -n 1", "usage: ask WORD ..\n"), good("ask calls --help | head -n 1", "usage: ask calls [--call CALL] [--examples] [--json] [--arch ARCH] FILE..\n"),
     *[good(f"ask {words} | head -n 1", f"usage: ask {usage}\n") for words, usage in (
-        ("-h", "WORD .."), ("arches -h", "arches FILE.."), ("show two -h", "show [--arch ARCH] FILE"), ("show --arch=arm -h", "show [--arch ARCH] FILE"))],
+        ("-h", "WORD .."), ("arches -h", "arches [--json] FILE.."), ("show two -h", "show [--arch ARCH] FILE"), ("show --arch=arm -h", "show [--arch ARCH] FILE"))],
     trouble("ask calls -hh raw", "calls: no option is named -hh"), trouble("ask calls --help=1 raw", "calls: no option is named --help=1"),
     trouble("ask calls --call -h raw", "no call is named -h"), trouble("ask calls --h raw", "calls: no option is named --h"),
     *[good(f"ask --version{names}", f"ask (skern)\nNames of calls: Linux 6.12\nToolchain: {KIT}\n") for names in ("", " raw", " nofile")],
@@ -696,6 +704,20 @@ WORDS = [
         "open(\"a)", "open(\"a\", \"b)")],
     trouble("ask why \"$(printf 'read(1\\t)')\" nofile", wrong(1, "1?")),
     trouble("ask calls", "calls: no FILE is given"), trouble("ask filter --raw", "filter: no FILE is given"),
+    # Rows in which a verdict can come.
+    *[good(f"ask calls --only {verdict} --call read --call getpid raw", GOT) for verdict in ("errno", "errno/1", "errno/EPERM", "trap --only errno")],
+    *[good(f"ask {word} --only {verdict} --call getpid raw", "") for word in ("calls", "when") for verdict in ("allow", "errno/2", "trap/1", "kill_process")],
+    good("ask when --only allow --call read flag", "0 read\n  allow where (args[0] & 0x1) == 0\n  errno/38 ENOSYS else\n"),
+    *[trouble(f"ask {word} --only '{verdict}' raw", f"{word}: expected a verdict as allow or errno/1 behind --only") for word in ("calls", "when")
+      for verdict in ("", "Allow", "errno/", "errno/4096", "trap/65536", "refused", "errno/1 EPERM", "unknown", "/1")],
+    trouble("ask calls raw --only", "calls: expected a verdict as allow or errno/1 behind --only"),
+    trouble("ask when --dot --only allow --call read raw", "when: expected --dot or --only, not both"),
+    trouble("ask diff --only allow raw raw", "diff: no option is named --only"),
+    # An option of another word means none of this one's.
+    *[trouble(f"ask filter {option} raw", f"filter: no option is named {option}") for option in ("--call", "--call=read", "--json", "--stricter", "--cal")],
+    *[trouble(f"ask filter --cap {name} raw", f"filter: no capability is named {name}") for name in ("cap_sys_admni", "CAP_SYS_ADMN", "cap_bfp", "sys_admni")],
+    *[trouble(f"ask show --arch {name} raw", f"show: no architecture is named {name}") for name in ("x86-46", "arch64", "amr", "risc64", "s390")],
+    *[trouble(f"ask lint --machine {name} raw", f"lint: no machine is named {name}") for name in ("x86-46", "arch64", "amr", "i368", "ppc64")],
     trouble("ask calls --exmples raw", "calls: no option is named --exmples"), trouble("ask calls --raw raw", "calls: no option is named --raw"),
     trouble("ask filter --examples raw", "filter: no option is named --examples"), trouble("ask calls -x raw", "calls: no option is named -x"),
     trouble("ask calls raw --call", "calls: expected a name or a number behind --call"),
