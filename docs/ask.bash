@@ -432,6 +432,8 @@ _ask() {
         mapfile -t COMPREPLY < <(compgen -W 'calls when diff expect lint replay why show arches filter check --help --version' -- "$word")
     elif [ "$before" = --call ] || { [ "$asked" = why ] && [ "$COMP_CWORD" -eq 2 ] && [[ $word != -* ]]; }; then
         mapfile -t COMPREPLY < <(compgen -W "$_ask_calls" -- "$word")
+    elif [ "$before" = --only ]; then
+        mapfile -t COMPREPLY < <(compgen -W 'kill_process kill_thread trap errno user_notif trace log allow' -- "$word")
     elif [ "$before" = --cap ]; then
         mapfile -t COMPREPLY < <(compgen -W "$_ask_capabilities" -- "$word")
     elif [ "$before" = --arch ]; then
@@ -444,13 +446,15 @@ _ask() {
         mapfile -t COMPREPLY < <(compgen -W '5.4 5.10 5.15 6.1 6.6 6.12' -- "$word")
     elif [[ $word == -* ]]; then
         case $asked in
-        calls) mapfile -t COMPREPLY < <(compgen -W '--call --examples --arch --cap --kernel --machine --native --runc --strict --help' -- "$word") ;;
-        when) mapfile -t COMPREPLY < <(compgen -W '--call --dot --numbers --arch --cap --kernel --machine --native --runc --strict --help' -- "$word") ;;
-        diff) mapfile -t COMPREPLY < <(compgen -W '--stricter --numbers --arch --cap --kernel --machine --native --runc --strict --help' -- "$word") ;;
-        expect) mapfile -t COMPREPLY < <(compgen -W '--numbers --arch --cap --kernel --machine --native --runc --strict --help' -- "$word") ;;
-        lint) mapfile -t COMPREPLY < <(compgen -W '--all --numbers --cap --kernel --machine --native --runc --strict --help' -- "$word") ;;
+        calls) mapfile -t COMPREPLY < <(compgen -W '--call --only --examples --json --arch --cap --kernel --machine --native --runc --strict --help' -- "$word") ;;
+        when) mapfile -t COMPREPLY < <(compgen -W '--call --only --dot --json --numbers --arch --cap --kernel --machine --native --runc --strict --help' -- "$word") ;;
+        diff) mapfile -t COMPREPLY < <(compgen -W '--stricter --json --numbers --arch --cap --kernel --machine --native --runc --strict --help' -- "$word") ;;
+        expect) mapfile -t COMPREPLY < <(compgen -W '--json --numbers --arch --cap --kernel --machine --native --runc --strict --help' -- "$word") ;;
+        lint) mapfile -t COMPREPLY < <(compgen -W '--all --json --numbers --cap --kernel --machine --native --runc --strict --help' -- "$word") ;;
+        arches) mapfile -t COMPREPLY < <(compgen -W '--json --cap --kernel --machine --native --runc --strict --help' -- "$word") ;;
         filter) mapfile -t COMPREPLY < <(compgen -W '--to --raw --smaller --cap --kernel --machine --native --runc --strict --help' -- "$word") ;;
-        replay | why | show | check) mapfile -t COMPREPLY < <(compgen -W '--arch --cap --kernel --machine --native --runc --strict --help' -- "$word") ;;
+        replay | why) mapfile -t COMPREPLY < <(compgen -W '--json --arch --cap --kernel --machine --native --runc --strict --help' -- "$word") ;;
+        show | check) mapfile -t COMPREPLY < <(compgen -W '--arch --cap --kernel --machine --native --runc --strict --help' -- "$word") ;;
         *) mapfile -t COMPREPLY < <(compgen -W '--cap --kernel --machine --native --runc --strict --help' -- "$word") ;;
         esac
     else
