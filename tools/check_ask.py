@@ -602,7 +602,7 @@ GOOD = [
     good("ask show --help | head -n 1", "usage: ask show [--arch ARCH] FILE\n"), good("ask show two --help | head -n 1", "usage: ask show [--arch ARCH] FILE\n"),
     good("ask why --help | head -n 1", "usage: ask why [--json] [--arch ARCH] 'CALL(ARG, ..)' FILE..\n"),
     good("ask replay --help | head -n 1", "usage: ask replay [--json] [--arch ARCH] LOG FILE..\n"),
-    good("ask when --help | head -n 1", "usage: ask when [--call CALL [--dot]] [--numbers] [--json] [--arch ARCH] FILE..\n"),
+    good("ask when --help | head -n 1", "usage: ask when [--call CALL [--dot]] [--only VERDICT] [--numbers] [--json] [--arch ARCH] FILE..\n"),
     warned("ask lint wide | grep -v record", LET_THROUGH), warned("ask lint --numbers wide | grep -v record", LET_THROUGH.replace("AF_NETLINK", "0x10").replace("NETLINK_ROUTE", "0x0")),
     good("ask lint narrow", CLEAN), good("ask lint wide narrow", CLEAN), good("ask lint raw", CLEAN),
     good("ask lint only", AS_STRICT + "as strict or stricter by such bits: 1 condition (--all shows it)\n"),
@@ -613,7 +613,7 @@ GOOD = [
     good("ask when --numbers --call socket narrow", "41 socket\n  errno/22 EINVAL where (args[0] & 0xffffffff) == 0x10\n  allow else\n"),
     good("ask lint --help | head -n 1", "usage: ask lint [--all] [--numbers] [--json] FILE..\n"),
     good("ask diff --help | head -n 1", "usage: ask diff [--stricter] [--numbers] [--json] [--arch ARCH] OLD NEW\n"),
-    good("ask --help | head -n 1", "usage: ask WORD ..\n"), good("ask calls --help | head -n 1", "usage: ask calls [--call CALL] [--examples] [--json] [--arch ARCH] FILE..\n"),
+    good("ask --help | head -n 1", "usage: ask WORD ..\n"), good("ask calls --help | head -n 1", "usage: ask calls [--call CALL] [--only VERDICT] [--examples] [--json] [--arch ARCH] FILE..\n"),
     *[good(f"ask {words} | head -n 1", f"usage: ask {usage}\n") for words, usage in (
         ("-h", "WORD .."), ("arches -h", "arches [--json] FILE.."), ("show two -h", "show [--arch ARCH] FILE"), ("show --arch=arm -h", "show [--arch ARCH] FILE"))],
     trouble("ask calls -hh raw", "calls: no option is named -hh"), trouble("ask calls --help=1 raw", "calls: no option is named --help=1"),

@@ -11,6 +11,10 @@ mod arguments;
 #[cfg(test)]
 mod differences;
 #[cfg(test)]
+mod document_paths;
+#[cfg(test)]
+mod document_values;
+#[cfg(test)]
 mod documents;
 #[cfg(test)]
 mod ends;

@@ -10,12 +10,8 @@ mod document;
 pub mod laws;
 mod lint;
 mod numbers;
-#[cfg(test)]
-mod path_tests;
 mod replay;
 mod terms;
-#[cfg(test)]
-mod tests;
 mod verdict;
 mod when;
 mod why;

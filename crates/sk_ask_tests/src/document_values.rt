@@ -1,7 +1,9 @@
 //! A small document of each word, from values that are put together by hand.
-use crate::{arches_document, calls_document, comparison_document, lint_document, when_document};
 use sk_arguments::Naming;
 use sk_conditions::{Numbers, Verdicts};
+use sk_document::{
+    arches_document, calls_document, comparison_document, lint_document, when_document,
+};
 use sk_insn::{ALLOW, Record};
 use sk_names::Architecture;
 use sk_show::{Example, Line, Shown};

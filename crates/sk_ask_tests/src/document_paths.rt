@@ -1,6 +1,6 @@
 //! A small document of a replay and one of a path, from a log and a filter.
-use crate::{replay_document, why_document};
 use sk_asm::assemble;
+use sk_document::{replay_document, why_document};
 use sk_filter::{Chain, check};
 use sk_insn::Record;
 use sk_names::Architecture;
