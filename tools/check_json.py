@@ -15,7 +15,10 @@ import re
 import subprocess
 import sys
 
-import jsonschema
+try:
+    from jsonschema import Draft202012Validator
+except ImportError:
+    Draft202012Validator = None
 
 from check_calls import COMPARISONS, PROGRAM, ROOT, judge, results
 from check_conditions import BREAK, Call, borders, meets
@@ -215,7 +218,13 @@ def differing_conditions(document: dict, dice: random.Random) -> list[str]:
     return problems
 
 
-def compared(words: list[str], validator: jsonschema.Draft202012Validator, dice: random.Random) -> None:
+def misshapen(document: dict, schema: dict) -> list[str]:
+    """Where a document has not the schema's form."""
+    found = Draft202012Validator(schema).iter_errors(document) if Draft202012Validator else []
+    return [f"{it.json_path}: {it.message[:200]}" for it in itertools.islice(found, 3)]
+
+
+def compared(words: list[str], schema: dict, dice: random.Random) -> None:
     """Words without --json, and with it."""
     status, text, notes = ask(words)
     status_there, printed, notes_there = ask([words[0], "--json", *words[1:]])
@@ -226,7 +235,7 @@ def compared(words: list[str], validator: jsonschema.Draft202012Validator, dice:
     problems = [] if (status, notes) == (status_there, notes_there) else [f"status {status_there} and not {status}, or {notes_there!r} and not {notes!r}"]
     try:
         document = json.loads(printed)
-        problems += [f"{it.json_path}: {it.message[:200]}" for it in validator.iter_errors(document)][:3]
+        problems += misshapen(document, schema)
         if not printed.endswith("}\n") or printed.count("\n") != 1:
             problems.append("it is not one line")
         # A constant is no word of the language in which the texts of conditions are tried.
@@ -260,10 +269,12 @@ def questions(files: list[str]) -> list[list[str]]:
 def main() -> int:
     files = sys.argv[1:] or sorted(f"{FILTERS}/{it}" for it in os.listdir(FILTERS) if it.endswith(".hex"))
     with open(SCHEMA, encoding="utf-8") as text:
-        validator = jsonschema.Draft202012Validator(json.load(text))
+        schema = json.load(text)
+    if not Draft202012Validator:
+        print("left out: the form of each document: python has no jsonschema")
     dice = random.Random(1)
     for words in questions(files):
-        compared(words, validator, dice)
+        compared(words, schema, dice)
     for words, line in TROUBLE:
         status, text, said = ask([*words, files[0]])
         judge([] if (status, text) == (2, "") and said.startswith(line) else [f"status {status}, {text[:100]!r}, {said!r}"], f"ask {' '.join(words)}")
