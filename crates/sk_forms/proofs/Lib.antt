@@ -1,3 +1,4 @@
+pub mod Beginnings
 pub mod Cuts
 pub mod Putting
 pub mod Joining

@@ -1,5 +1,5 @@
 -- Names in filters written for C: macros of linux/filter.h, fields of `struct seccomp_data`, and constants of Linux's headers.
-use Rattle.std.specs.Prelude.{ℕ, Bool, true, false, if◌then◌else◌, List, codes, position, slice_get, ◌==◌, Option, Some, None}
+use Rattle.std.specs.Prelude.{ℕ, Bool, true, false, if◌then◌else◌, List, codes, position, slice_get, ◌==◌, ◌||◌, [], ◌∷◌, Option, Some, None}
 use Rattle.std.specs.Option.{option_and_then, option_or}
 use Rattle.std.specs.List.{slice_split}
 use Rattle.std.specs.Str.{bytes_eq}
@@ -46,6 +46,11 @@ all_numbers = NUMBERS.now
 -- the number of the first name that is this one
 unfoldable pub constant_named : List ℕ → Option ℕ
 constant_named text = option_and_then (slice_get all_numbers) (position (λ name. bytes_eq name text) all_names)
+
+-- the first byte of each of the names is `A`, `B`, `S`, `X` or `_`
+unfoldable pub may_be_constant : List ℕ → Bool
+may_be_constant [] = false
+may_be_constant (first ∷ rest) = first == 65 || first == 66 || first == 83 || first == 88 || first == 95
 
 -- the first of these that there is
 abbrev pub name_from : Option Word → Option ℕ → Option ℕ → Name

@@ -1,7 +1,7 @@
 //! Names that stand in filters written for C.
 ghost use Rattle.std.specs.Prelude.{◌≡◌, position, slice_get};
 ghost use Rattle.std.specs.Str.{bytes_eq};
-ghost use Rattle.sk_forms.specs.Names.{all_names, all_numbers, constant_named, field_named, macro_named, name_of, names_in, same_word, word_named};
+ghost use Rattle.sk_forms.specs.Names.{all_names, all_numbers, constant_named, field_named, macro_named, may_be_constant, name_of, names_in, same_word, word_named};
 
 use sk_text::is_same;
 
@@ -128,10 +128,21 @@ fn number_at(place: usize) -> Option<u32>
     nth_number(NUMBERS, place)
 }
 
-#[tactic(auto, unfolding(crate::specs::Names::constant_named))]
+// Whether a word begins as one of the names does. Most words of a profile do not, so that nobody looks for them.
+#[tactic(auto, unfolding(crate::specs::Names::may_be_constant))]
+fn may_be_constant(word: &[u8]) -> bool
+    ensures may_be { result ≡ may_be_constant word.now }
+{
+    matches!(word.first(), Some(b'A' | b'B' | b'S' | b'X' | b'_'))
+}
+
+#[tactic(auto, unfolding(crate::specs::Names::constant_named), using(crate::proofs::Beginnings::no_constant))]
 fn constant_named(word: &[u8]) -> Option<u32>
     ensures number { result ≡ constant_named word.now }
 {
+    if !may_be_constant(word) {
+        return None;
+    }
     number_at(place_named(word)?)
 }
 
