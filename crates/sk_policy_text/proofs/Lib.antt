@@ -31,3 +31,4 @@ pub mod WorkedBounds
 pub mod Plain
 pub mod Completing
 pub mod WorkedExpecting
+pub mod DecidingCases

@@ -23,3 +23,4 @@ pub mod PolicySizes
 pub mod PolicyTexts
 pub mod WorkedPolicies
 pub mod WorkedSizes
+pub mod PolicyDeciding

@@ -51,7 +51,8 @@ fn arch_in(sentence: &Sentence<'_>) -> Option<Architecture>
     }
 }
 
-fn default_in(sentence: &Sentence<'_>) -> Option<u32>
+/// The verdict of numbers that no row has, where a sentence says one.
+pub(crate) fn default_in(sentence: &Sentence<'_>) -> Option<u32>
     ensures verdict { result ≡ default_in sentence.now }
 {
     match sentence {
@@ -60,7 +61,8 @@ fn default_in(sentence: &Sentence<'_>) -> Option<u32>
     }
 }
 
-fn others_in(sentence: &Sentence<'_>) -> Option<u32>
+/// The verdict of calls of other architectures, where a sentence says one.
+pub(crate) fn others_in(sentence: &Sentence<'_>) -> Option<u32>
     ensures verdict { result ≡ others_in sentence.now }
 {
     match sentence {

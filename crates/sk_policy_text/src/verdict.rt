@@ -130,8 +130,9 @@ fn is_name_of(word: &[u8], expectation: Expectation) -> bool
     }
 }
 
+/// The value that a word asks for, by an action and its data.
 #[tactic(auto, unfolding(crate::specs::Verdicts::action_value))]
-fn action_value(word: &[u8]) -> Option<u32>
+pub fn action_value(word: &[u8]) -> Option<u32>
     ensures value { result ≡ action_value word.now }
 {
     let action = action_in(word)?;

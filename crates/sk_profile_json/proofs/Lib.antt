@@ -17,3 +17,5 @@ pub mod Seeing
 pub mod WorkedSlipRows
 pub mod Behind
 pub mod WorkedInspectedRows
+pub mod Deciders
+pub mod WorkedDecidingRows

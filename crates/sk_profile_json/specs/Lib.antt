@@ -32,3 +32,5 @@ pub mod WorkedInspected
 pub mod Partings
 pub mod PartingTexts
 pub mod WorkedPartings
+pub mod Deciding
+pub mod WorkedDeciding

@@ -5,6 +5,8 @@ ghost use Rattle.sk_profile_json.specs.WorkedSlips.{WorkedSlips};
 ghost use Rattle.sk_profile_json.specs.Wholes.{RulesAreGood};
 ghost use Rattle.sk_profile_json.specs.PartingTexts.{NarrowMasksCompareLow, OperatorsAreRead};
 ghost use Rattle.sk_profile_json.specs.WorkedPartings.{WorkedPartings};
+ghost use Rattle.sk_profile_json.specs.Deciding.{DecidersDecide};
+ghost use Rattle.sk_profile_json.specs.WorkedDeciding.{WorkedDeciding};
 
 /// The definition gives the profiles and the faults that were worked out by hand.
 pub fn worked_profiles()
@@ -44,4 +46,16 @@ pub fn operators_are_read()
 #[tactic(auto, using(crate::proofs::Narrowing::masks_compare_low))]
 pub fn narrow_masks_compare_low()
     ensures law { NarrowMasksCompareLow }
+{}
+
+/// What decides on calls is what was worked out by hand.
+#[tactic(auto, using(crate::proofs::WorkedDecidingRows::worked_deciding))]
+pub fn worked_deciding()
+    ensures law { WorkedDeciding }
+{}
+
+/// What of a profile decides on a call says what the profile says of it.
+#[tactic(auto, using(crate::proofs::Deciders::deciders_decide))]
+pub fn deciders_decide()
+    ensures law { DecidersDecide }
 {}

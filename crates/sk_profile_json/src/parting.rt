@@ -31,7 +31,8 @@ pub fn partings(
     partings_if(alloc, profile.default, one, other, part)
 }
 
-fn part_for(parts: &[Part], arch: u32) -> Option<&Part>
+/// The part for an architecture.
+pub(crate) fn part_for(parts: &[Part], arch: u32) -> Option<&Part>
     ensures first { option_map (λ part. part_of part.now) result ≡ find (is_of arch) (map part_of parts.now) }
 {
     for part in parts {
@@ -93,14 +94,15 @@ fn each_once(partings: Vec<Parting>) -> Vec<Parting>
     partings
 }
 
-fn is_narrow(part: &Part, nr: u32) -> bool
+/// Whether arguments of the calls with a number have 32 bits.
+pub(crate) fn is_narrow(part: &Part, nr: u32) -> bool
     ensures narrow { result ≡ is_narrow (part_of part.now) nr }
 {
     part.narrow || 0x4000_0000 <= nr
 }
 
-// The call as its conditions see it.
-fn seen(narrow: bool, call: &Record) -> Record
+/// The call as its conditions see it.
+pub(crate) fn seen(narrow: bool, call: &Record) -> Record
     ensures seen { result ≡ seen narrow call.now }
 {
     if narrow {
@@ -175,7 +177,8 @@ fn parting_for(default: u32, one: &Record, other: &Record, rule: &Rule) -> Optio
     }
 }
 
-fn is_for(default: u32, nr: u32, rule: &Rule) -> bool
+/// Whether a rule is for a number, and says something else than the default.
+pub(crate) fn is_for(default: u32, nr: u32, rule: &Rule) -> bool
     ensures is { result ≡ is_for default nr (rule_of rule.now) }
 {
     rule.number == nr && rule.value != default
@@ -209,7 +212,8 @@ fn parts(condition: &Condition, one: &Record, other: &Record) -> bool
     holds(condition, one) != holds(condition, other)
 }
 
-fn all_hold(conditions: &[Condition], call: &Record) -> bool
+/// Whether conditions hold of a call.
+pub(crate) fn all_hold(conditions: &[Condition], call: &Record) -> bool
     ensures all { result ≡ all_hold conditions.now call.now }
 {
     let Some((first, others)) = conditions.split_first() else {
