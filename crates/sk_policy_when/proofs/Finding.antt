@@ -22,7 +22,7 @@ use Rattle.sk_policy_when.specs.Texts.{AreEnds, AreLines, AreRows, AreSentences,
 abbrev pub saids : List Stated → List Said
 saids text = map (λ (it : Stated). said it.sentence) text
 
-nothing_said : (by : Architecture) (it : Said) → sentence_in by [] ≡ Ok it → ⊥
+pub nothing_said : (by : Architecture) (it : Said) → sentence_in by [] ≡ Ok it → ⊥
 unfolding said_by line row item
 nothing_said by it h = cc
 

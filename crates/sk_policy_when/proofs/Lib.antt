@@ -20,3 +20,6 @@ pub mod Counting
 pub mod OtherVerdicts
 pub mod Ruled
 pub mod Answering
+mod AllowingSentences
+pub mod Allowed
+pub mod AllowingExamples

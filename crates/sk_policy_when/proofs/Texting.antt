@@ -46,7 +46,7 @@ nothing : (more : List Word) → texts_of more ≡ [] → more ≡ []
 nothing [] h = refl
 nothing (word ∷ more) h = cc
 
-read_line : (by : Architecture) (text : List ℕ) (where_ : Place) (it : Said) (Are : List Said → Type 0) → AreClean text → BeginsWith (words_of_line text)
+pub read_line : (by : Architecture) (text : List ℕ) (where_ : Place) (it : Said) (Are : List Said → Type 0) → AreClean text → BeginsWith (words_of_line text)
     → (if begins_blank text then place.Case else place.Row) ≡ where_ → begins where_ ≡ true
     → ((number : ℕ) → sentence_in by (placed number where_ (words_of_line text)) ≡ Ok it) → Are (it ∷ []) → ReadsAs by (text ++ (10 ∷ [])) Are
 read_line by text where_ it Are clean starts is begins_it reads are =
@@ -63,7 +63,7 @@ read_line by text where_ it Are clean starts is begins_it reads are =
 
 -- ---- rows
 
-row_line : (by : Architecture) (first last value : ℕ) → first ≤ last → last < 2 ^ 32 → IsSayableValue (Some value)
+pub row_line : (by : Architecture) (first last value : ℕ) → first ≤ last → last < 2 ^ 32 → IsSayableValue (Some value)
     → ReadsAs by (numbers_text first last ++ (codes " " ++ (name_text by first last ++ (codes " " ++ (verdict_text value ++ (10 ∷ []))))))
     (AreEnds (record { first = first; last = last }) [] (Some value))
 row_line by first last value le small named =

@@ -107,7 +107,7 @@ behind_others : (front parts : List Part) (it : Part) → Contains parts it → 
 behind_others [] parts it there = there
 behind_others (first ∷ front) parts it there = let more = behind_others front parts it there in (suc more.0, omega (arith, more.1), more.2)
 
-later : (it : Stated) (text : List Stated) (call : Record) (value : ℕ) → RowSays (parts_of text) call value → RowSays (parts_of (it ∷ text)) call value
+pub later : (it : Stated) (text : List Stated) (call : Record) (value : ℕ) → RowSays (parts_of text) call value → RowSays (parts_of (it ∷ text)) call value
 later it text call value says =
     record { part = says.part; there = behind_others (parts_at it.sentence it.line text) (parts_of text) says.part says.there; has = says.has; says = says.says }
 
@@ -125,7 +125,7 @@ behind_them (first ∷ front) rest (it ∷ text) call value is =
     let more = behind_them front rest text call value others in
     record { left = more.left; are = more.are; says = λ h. later it text call value (more.says h) }
 
-part_says : (it : Stated) (text : List Stated) (range : Range) (verdict : Option ℕ) (call : Record) (value : ℕ) → said it.sentence ≡ Row (range ∷ []) verdict
+pub part_says : (it : Stated) (text : List Stated) (range : Range) (verdict : Option ℕ) (call : Record) (value : ℕ) → said it.sentence ≡ Row (range ∷ []) verdict
     → range.first ≤ call.nr → call.nr ≤ range.last → SaysRow verdict (sentences_of text) call value → RowSays (parts_of (it ∷ text)) call value
 part_says it text range verdict call value is low high says = by_sentence it.sentence is
   where

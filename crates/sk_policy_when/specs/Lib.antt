@@ -4,3 +4,5 @@ pub mod Texts
 pub mod Smaller
 pub mod OneFilterFaults
 pub mod WorkedSmaller
+pub mod Allowing
+pub mod WorkedAllowing

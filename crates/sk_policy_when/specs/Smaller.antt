@@ -1,5 +1,5 @@
 -- One filter in place of a chain of filters: seccomp(2), "If multiple filters exist, they are all executed".
-use Rattle.std.specs.Prelude.{ℕ, ◌≡◌, ◌≢◌, ◌+◌, ◌==◌, ◌<◌, ◌^◌, ◌||◌, Bool, false, IsSome, if◌then◌else◌, List, Option, Some, None}
+use Rattle.std.specs.Prelude.{ℕ, ◌≡◌, ◌≢◌, ◌+◌, ◌==◌, ◌<◌, ◌^◌, ◌||◌, Bool, false, IsSome, if◌then◌else◌, List, Option, None}
 use Rattle.std.specs.List.{All, list_all}
 use Rattle.std.specs.Option.{option_map_or}
 use Rattle.sk_names.specs.declared.architecture.Architecture.{Architecture}

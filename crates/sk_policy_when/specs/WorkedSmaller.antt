@@ -1,5 +1,5 @@
 -- Which verdict calls of other architectures share, worked out by hand.
-use Rattle.std.specs.Prelude.{◌≡◌, true, false, List, [], ◌∷◌, Some, None}
+use Rattle.std.specs.Prelude.{◌≡◌, true, false, [], ◌∷◌, Some, None}
 use Rattle.sk_names.specs.declared.architecture.Architecture.{Architecture}
 use Rattle.sk_names.specs.declared.architecture.Architecture.TheVariants.{X86_64, X32, I386, Aarch64}
 use Rattle.sk_survey.specs.declared.answered.Answered.{Answered}

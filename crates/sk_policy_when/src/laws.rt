@@ -1,4 +1,6 @@
 //! Laws on the rows of `ask when` and policies, and on their texts. The contract of each function is the law.
+ghost use Rattle.sk_policy_when.specs.Allowing.{AllowingFits, AllowingIsPolicy, AllowingLogs, AllowingMakesFilters, AllowingSays};
+ghost use Rattle.sk_policy_when.specs.WorkedAllowing.{AllowingWorks};
 ghost use Rattle.sk_policy_when.specs.Again.{RowsComeBack, FiltersComeBack, ArchitecturesComeBack, RowsAreRules};
 ghost use Rattle.sk_policy_when.specs.Smaller.{OthersGetOne};
 ghost use Rattle.sk_policy_when.specs.WorkedSmaller.{OthersWork};
@@ -67,4 +69,40 @@ pub fn others_get_one()
 /// Which verdict they share, worked out by hand.
 pub fn worked_others()
     ensures law { OthersWork }
+{}
+
+/// The least policy of some numbers, worked out by hand.
+#[tactic(auto, using(crate::proofs::AllowingExamples::allowing_works))]
+pub fn worked_allowing()
+    ensures law { AllowingWorks }
+{}
+
+/// Whoever reads the least policy of some numbers finds that it allows the calls with these, and no others.
+#[tactic(auto, using(crate::proofs::Allowed::allowing_says))]
+pub fn allowing_says()
+    ensures law { AllowingSays }
+{}
+
+/// It is a policy: nothing is wrong with it.
+#[tactic(auto, using(crate::proofs::Allowed::allowing_is_policy))]
+pub fn allowing_is_policy()
+    ensures law { AllowingIsPolicy }
+{}
+
+/// Its filter is not too long, if there are not too many numbers.
+#[tactic(auto, using(crate::proofs::Allowed::allowing_fits))]
+pub fn allowing_fits()
+    ensures law { AllowingFits }
+{}
+
+/// And each filter that is made of it allows the calls with these numbers, and no others.
+#[tactic(auto, using(crate::proofs::Allowed::allowing_makes_filters))]
+pub fn allowing_makes_filters()
+    ensures law { AllowingMakesFilters }
+{}
+
+/// So a filter that is made of the numbers of logs allows their calls, and no number that none of them has.
+#[tactic(auto, using(crate::proofs::Allowed::allowing_logs))]
+pub fn allowing_logs()
+    ensures law { AllowingLogs }
 {}

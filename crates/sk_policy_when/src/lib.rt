@@ -1,10 +1,12 @@
 //! What `ask when` tells of filters, made a filter again: one that answers each call as a chain of them does.
 #![tactic(auto)]
 
+mod allowing;
 pub mod laws;
 mod others;
 mod rules;
 mod smaller;
 
+pub use allowing::allow_text;
 pub use others::others_verdict;
 pub use smaller::{OneFilterFault, one_filter};
